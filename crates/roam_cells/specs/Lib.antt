@@ -1,0 +1,5 @@
+pub mod Width
+pub mod Glyph
+pub mod Kept
+pub mod Place
+pub mod Whole
