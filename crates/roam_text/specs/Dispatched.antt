@@ -1,0 +1,32 @@
+-- What a dispatched byte gives, with the parameters and intermediate bytes that the reader lends.
+use Rattle.std.specs.Prelude.{ℕ, Bool, true, false, List, [], ◌∷◌, Option, None, Some}
+use Rattle.roam_text.specs.declared.functions.Function.{Function}
+use Rattle.roam_text.specs.declared.functions.Function.TheVariants.{Print as FunctionPrint, C0 as FunctionC0, C1 as FunctionC1, Esc as FunctionEsc, Csi as FunctionCsi}
+use Rattle.roam_text.specs.declared.functions.Dispatch.{Dispatch}
+use Rattle.roam_text.specs.declared.functions.Dispatch.TheVariants.{Print, C0, C1, Esc, Csi}
+use Rattle.roam_text.specs.declared.functions.Dispatched.{Dispatched}
+use Rattle.roam_text.specs.declared.functions.Dispatched.TheVariants.{Nothing, One, AfterReplacement}
+
+-- the function of a dispatch, with these parameters and intermediate bytes
+abbrev pub function_of : Dispatch → List ℕ → List ℕ → Function
+function_of (Print c) params inter = FunctionPrint c
+function_of (C0 b) params inter = FunctionC0 b
+function_of (C1 b) params inter = FunctionC1 b
+function_of (Esc last) params inter = FunctionEsc (record { items = inter }) last
+function_of (Csi mark last) params inter = FunctionCsi mark (record { items = params }) (record { items = inter }) last
+
+-- the function of a dispatch, if there is one
+abbrev pub answered : Option Dispatch → List ℕ → List ℕ → List Function
+answered None params inter = []
+answered (Some d) params inter = function_of d params inter ∷ []
+
+-- U+FFFD is printed, or falls into a control string
+abbrev pub replaced : Bool → List Function
+replaced true = FunctionPrint 0xFFFD ∷ []
+replaced false = []
+
+-- the functions of what a byte dispatched
+abbrev pub dispatched : Dispatched → List ℕ → List ℕ → List Function
+dispatched Nothing params inter = []
+dispatched (One d) params inter = function_of d params inter ∷ []
+dispatched (AfterReplacement d) params inter = FunctionPrint 0xFFFD ∷ function_of d params inter ∷ []
