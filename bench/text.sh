@@ -1,0 +1,22 @@
+#!/usr/bin/env bash
+# bench/text.sh [MEGABYTES [TIMES]]: MB/s of roam_text's reader beside a C loop with one table look-up a byte, on four seeded inputs.
+# It writes to a temporary folder outside the repository. It needs rt, cc and python3.
+set -eu
+here=$(cd "$(dirname "$0")" && pwd)
+megabytes=${1:-1}
+times=${2:-100}
+folder=$(mktemp -d)
+trap 'rm -rf "$folder"' EXIT
+
+cc -O2 -o "$folder/table" "$here/text_table.c"
+python3 "$here/text_inputs.py" "$folder" "$megabytes"
+(cd "$here/../crates/text_speed" && rt run >"$folder/build" 2>&1) || { cat "$folder/build" >&2; exit 1; }
+program=$here/../crates/text_speed/out/text_speed
+
+printf '%-8s %10s %10s %10s %15s %11s\n' input table dispatch next dispatch/table next/table
+for input in prose colours cursor mixed; do
+  { "$folder/table" "$folder/$input" "$times"; "$program" "$folder/$input" "$times"; } | awk -v input="$input" '
+    { speed[$1] = $2 * $3 / $4 }
+    END { printf "%-8s %10.0f %10.0f %10.0f %15.2f %11.2f\n", input, speed["table"], speed["dispatch"], speed["next"],
+          speed["dispatch"] / speed["table"], speed["next"] / speed["table"] }'
+done

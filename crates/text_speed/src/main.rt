@@ -1,0 +1,112 @@
+//! Measures how fast a reader takes bytes: `text_speed FILE TIMES` reads the file that many times in each of two ways, and prints for
+//! each its name, the bytes read and the microseconds that passed. Without words it reads a short text, and prints nothing.
+#![tactic(auto)]
+
+use anyhow::{Context, bail};
+use roam_text::{Dispatch, Dispatched, Out, Reader};
+use std::time::Instant;
+use std::{env, fs};
+
+/// Bytes of a piece, as a terminal is given them.
+const PIECE: usize = 1024;
+
+// A number that depends on all that was dispatched, so that no work can be left out.
+fn weight(reader: &Reader, dispatch: Dispatch) -> u64 {
+    match dispatch {
+        Dispatch::Print(c) => u64::from(c as u32),
+        Dispatch::C0(code) | Dispatch::C1(code) => u64::from(code),
+        Dispatch::Esc { last } => u64::from(last),
+        Dispatch::Csi { mark: _, last } => {
+            let mut sum = u64::from(last);
+            for number in reader.parameters() {
+                sum = sum.wrapping_add(u64::from(*number));
+            }
+            sum
+        }
+    }
+}
+
+// Reads a piece as a terminal does: runs of printable ASCII at once, and the rest byte by byte.
+fn dispatch_piece(reader: &mut Reader, piece: &[u8]) -> u64 {
+    let mut sum: u64 = 0;
+    let mut at = 0;
+    while at < piece.len() {
+        at += reader.plain_run(&piece[at..]);
+        if at < piece.len() {
+            let value = match reader.dispatch(piece[at]) {
+                Dispatched::Nothing => 0,
+                Dispatched::One(dispatch) => weight(reader, dispatch),
+                Dispatched::AfterReplacement(dispatch) => weight(reader, dispatch).wrapping_add(1),
+            };
+            sum = sum.wrapping_add(value);
+            at += 1;
+        }
+    }
+    sum
+}
+
+// Reads a piece byte by byte, as whole functions.
+fn next_piece(reader: &mut Reader, piece: &[u8]) -> u64 {
+    let mut sum: u64 = 0;
+    for byte in piece {
+        match reader.next(*byte) {
+            Out::Nothing => {}
+            Out::One(_) => sum = sum.wrapping_add(1),
+            Out::Two(_, _) => sum = sum.wrapping_add(2),
+        }
+    }
+    sum
+}
+
+fn dispatch_all(bytes: &[u8], times: u32) -> u64 {
+    let mut reader = Reader::new();
+    let mut sum: u64 = 0;
+    for _ in 0..times {
+        for piece in bytes.chunks(PIECE) {
+            sum = sum.wrapping_add(dispatch_piece(&mut reader, piece));
+        }
+    }
+    sum
+}
+
+fn next_all(bytes: &[u8], times: u32) -> u64 {
+    let mut reader = Reader::new();
+    let mut sum: u64 = 0;
+    for _ in 0..times {
+        for piece in bytes.chunks(PIECE) {
+            sum = sum.wrapping_add(next_piece(&mut reader, piece));
+        }
+    }
+    sum
+}
+
+fn measure(rt: &HostRuntime, bytes: &[u8], times: u32) -> anyhow::Result<()> {
+    let start = Instant::now(rt)?;
+    let sum = dispatch_all(bytes, times);
+    let dispatched = start.elapsed(rt)?.as_micros();
+    let start = Instant::now(rt)?;
+    let count = next_all(bytes, times);
+    let answered = start.elapsed(rt)?.as_micros();
+    let read = bytes.len() as u64;
+    println!(rt; "dispatch {read} {times} {dispatched} {sum}")?;
+    println!(rt; "next {read} {times} {answered} {count}")?;
+    Ok(())
+}
+
+fn main(rt: HostRuntime) -> anyhow::Result<()> {
+    let mut words = env::args(&rt)?;
+    words.next();
+    let Some(path) = words.next() else {
+        let text = b"abc \x1B[1;31mred\x1B[m\r\n\x1B[2;3Hcaf\xC3\xA9\r\n".as_slice();
+        if dispatch_all(text, 1000) == 0 || next_all(text, 1000) == 0 {
+            bail!("the text gave nothing");
+        }
+        return Ok(());
+    };
+    let times = match words.next() {
+        Some(word) => word.parse::<u32>().ok().context("TIMES is no number")?,
+        None => 1,
+    };
+    let bytes = fs::read(&rt, &path)?;
+    measure(&rt, &bytes, times)
+}
