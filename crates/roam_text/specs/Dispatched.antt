@@ -4,6 +4,7 @@ use Rattle.roam_text.specs.declared.functions.Function.{Function}
 use Rattle.roam_text.specs.declared.functions.Function.TheVariants.{Print as FunctionPrint, C0 as FunctionC0, C1 as FunctionC1, Esc as FunctionEsc, Csi as FunctionCsi}
 use Rattle.roam_text.specs.declared.functions.Dispatch.{Dispatch}
 use Rattle.roam_text.specs.declared.functions.Dispatch.TheVariants.{Print, C0, C1, Esc, Csi}
+use Rattle.roam_text.specs.declared.parsers.Parser.{Parser}
 use Rattle.roam_text.specs.declared.functions.Dispatched.{Dispatched}
 use Rattle.roam_text.specs.declared.functions.Dispatched.TheVariants.{Nothing, One, AfterReplacement}
 
@@ -16,9 +17,13 @@ function_of (Esc last) params inter = FunctionEsc (record { items = inter }) las
 function_of (Csi mark last) params inter = FunctionCsi mark (record { items = params }) (record { items = inter }) last
 
 -- the function of a dispatch, if there is one
-abbrev pub answered : Option Dispatch → List ℕ → List ℕ → List Function
-answered None params inter = []
-answered (Some d) params inter = function_of d params inter ∷ []
+abbrev pub functions_with : Option Dispatch → List ℕ → List ℕ → List Function
+functions_with None params inter = []
+functions_with (Some d) params inter = function_of d params inter ∷ []
+
+-- the function that a parser answered, with what it keeps of the sequence
+abbrev pub answered : Option Dispatch → Parser → List Function
+answered d p = functions_with d p.sequence.params p.sequence.inter
 
 -- U+FFFD is printed, or falls into a control string
 abbrev pub replaced : Bool → List Function
