@@ -5,7 +5,7 @@ use Rattle.roam_text.specs.declared.functions.Function.TheVariants.{Print}
 use Rattle.roam_text.specs.declared.parsers.Phase.{Phase}
 use Rattle.roam_text.specs.declared.parsers.Phase.TheVariants.{Ground, InEscapeSequence, InControlSequence, InControlString}
 use Rattle.roam_text.specs.declared.parsers.Sequence.{Sequence}
-use Rattle.roam_text.specs.Log.{Sign, Character, character}
+use Rattle.roam_text.specs.Log.{Sign, Character}
 use Rattle.roam_text.specs.Functions.{functions}
 use Rattle.roam_text.specs.Residual.{given_in}
 use Rattle.roam_text.proofs.Fronts.{functions-step}

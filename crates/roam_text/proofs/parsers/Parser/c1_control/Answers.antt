@@ -1,10 +1,10 @@
 use Rattle.std.proofs.Common.{◌∙◌, ap, sym}
 use Rattle.roam_text.specs.Functions.{c1_control}
-use Rattle.roam_text.specs.Residual.{all_of, control_sequence_from}
+use Rattle.roam_text.specs.Residual.{all_of}
 use Rattle.roam_text.proofs.Entries.{control_sequence-entry}
 use Rattle.roam_text.proofs.parsers.Parser.c1_control.Goals as goal
 
 pub returns-in-SequenceIntroducer : goal.returns-in-SequenceIntroducer
 returns-in-SequenceIntroducer c rest =
     ap (λ k. all_of (c1_control k rest)) c.in-SequenceIntroducer.is ∙ control_sequence-entry rest
-    ∙ sym (ap (λ q. all_of (control_sequence_from q rest)) c.clear.ensures)
+    ∙ sym (c.begin_control_sequence.ensures rest)
