@@ -4,6 +4,9 @@ ghost use Rattle.std.specs.Prelude.{◌≡◌, ◌==◌, ◌<◌, ◌≤◌, Lis
 use crate::functions::{INTERMEDIATES, PARAMETERS};
 use std::marker::Model;
 
+/// The most bytes of a character in UTF-8.
+pub const LONGEST: usize = 4;
+
 /// The parameters of a control sequence so far.
 #[derive(Drop)]
 pub struct ParameterList {
@@ -122,6 +125,70 @@ impl IntermediateList {
     pub fn as_slice(&self) -> &[u8]
         ensures value { result.now ≡ self.now }
         ensures fits { length result.now ≤ INTERMEDIATES }
+    {
+        &self.bytes[..self.count]
+    }
+}
+
+/// The bytes of a character so far.
+#[derive(Drop)]
+pub struct ByteList {
+    bytes: [u8; LONGEST],
+    count: usize,
+}
+
+impl Model for ByteList {
+    ghost Value = { List ℕ };
+
+    ghost view = { λ i. take i.count i.bytes };
+
+    ghost invariant = { λ i. (i.count ≤ 4) × (length i.bytes ≡ 4) };
+}
+
+impl ByteList {
+    pub fn new() -> Self
+        ensures { result ≡ [] }
+    {
+        ByteList {
+            bytes: [0; LONGEST],
+            count: 0,
+        }
+    }
+
+    #[inline]
+    pub fn is_empty(&self) -> bool
+        ensures { result ≡ (length self.now == 0) }
+    {
+        self.count == 0
+    }
+
+    #[inline]
+    pub fn len(&self) -> usize
+        ensures value { result ≡ length self.now }
+    {
+        self.count
+    }
+
+    #[inline]
+    pub fn push(&mut self, byte: u8)
+        requires { length self.old < LONGEST }
+        ensures { self.new ≡ self.old ++ byte ∷ [] }
+    {
+        self.bytes[self.count] = byte;
+        self.count += 1;
+    }
+
+    #[inline]
+    pub fn clear(&mut self)
+        ensures { self.new ≡ [] }
+    {
+        self.count = 0;
+    }
+
+    #[inline]
+    pub fn as_slice(&self) -> &[u8]
+        ensures value { result.now ≡ self.now }
+        ensures fits { length result.now ≤ LONGEST }
     {
         &self.bytes[..self.count]
     }
