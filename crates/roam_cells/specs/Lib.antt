@@ -1,5 +1,7 @@
 pub mod Width
 pub mod Glyph
 pub mod Kept
+pub mod Limits
 pub mod Place
-pub mod Whole
+pub mod WellFormed
+pub mod Screenshot

@@ -1,0 +1,11 @@
+use Rattle.std.proofs.Common.{rules}
+use Rattle.std.specs.Prelude.{IsTrue}
+use Rattle.roam_cells.specs.Screenshot.{IsScreenshot, blank_screenshot}
+use Rattle.roam_cells.proofs.Screens.{blank_is_screenshot}
+use Rattle.roam_cells.proofs.shots.Shot.blank.Goals as goal
+
+pub invariant_of-result : goal.invariant_of-result
+invariant_of-result c =
+    let yes : IsTrue c.is_size.result = search rules in
+    let blank : IsScreenshot (blank_screenshot c.args.rows c.args.cols) = blank_is_screenshot c.args.rows c.args.cols (c.is_size.ensures.size.0 yes) in
+    search (rules, blank)

@@ -1,0 +1,61 @@
+use Rattle.std.specs.Prelude.{◌≡◌, ℕ, ◌+◌, ◌-◌, ◌*◌, ◌≤◌, Bool, true, false, ◌&&◌, nat_le, Option, Some, None, List, length, replicate, slice_index_or, slice_range, EachIndex, if◌then◌else◌}
+use Rattle.std.specs.List.{flat_map}
+use Rattle.roam_cells.specs.Glyph.{Glyph, blank}
+use Rattle.roam_cells.specs.Limits.{IsSize}
+use Rattle.roam_cells.specs.Place.{cell_at, AreWhole}
+
+-- a screen as it is shown: its size, its cells in reading order, the cursor's row and column from 1 (as in CUP, ECMA-48 8.3.21), and whether the cursor is visible
+pub record Screenshot : Type 0 where
+  pub rows : ℕ
+  pub cols : ℕ
+  pub cells : List Glyph
+  pub cursor_row : ℕ
+  pub cursor_col : ℕ
+  pub visible : Bool
+
+-- a row and a column, both from 1, that a screen of this size has
+pub record IsPlace (rows cols row col : ℕ) : Type 0 where
+  pub row_from : 1 ≤ row
+  pub row_to : row ≤ rows
+  pub col_from : 1 ≤ col
+  pub col_to : col ≤ cols
+
+-- no cell is guarded: a guard is no part of what is shown
+abbrev pub AreUnguarded : List Glyph → Type 0
+AreUnguarded cells = EachIndex cells (λ k. (slice_index_or cells k blank).guarded ≡ false)
+
+-- what is true of each screen that is shown
+pub record IsScreenshot (s : Screenshot) : Type 0 where
+  pub size : IsSize s.rows s.cols
+  pub count : length s.cells ≡ s.rows * s.cols
+  pub cursor : IsPlace s.rows s.cols s.cursor_row s.cursor_col
+  pub whole : AreWhole s.rows s.cols s.cells
+  pub unguarded : AreUnguarded s.cells
+
+-- spaces in the default style, and a visible cursor in the first row and column
+abbrev pub blank_screenshot : ℕ → ℕ → Screenshot
+blank_screenshot rows cols =
+    record {
+      rows = rows;
+      cols = cols;
+      cells = replicate (rows * cols) blank;
+      cursor_row = 1;
+      cursor_col = 1;
+      visible = true;
+    }
+
+-- whether a screen of this size has a row and a column, both from 1
+abbrev pub is_place : ℕ → ℕ → ℕ → ℕ → Bool
+is_place rows cols row col = (nat_le 1 row && nat_le row rows) && (nat_le 1 col && nat_le col cols)
+
+-- the cell at a row and a column, both from 1, where the screen has them
+abbrev pub shown_at : Screenshot → ℕ → ℕ → Option Glyph
+shown_at s row col = if is_place s.rows s.cols row col then Some (cell_at s.cols s.cells (row - 1) (col - 1)) else None
+
+-- the cells of a row, from 0
+abbrev pub row_of : ℕ → List Glyph → ℕ → List Glyph
+row_of cols cells r = slice_range cells (r * cols) ((r + 1) * cols)
+
+-- the code points of a row, from 0, cell by cell; a right half has none
+abbrev pub row_text : ℕ → List Glyph → ℕ → List ℕ
+row_text cols cells r = flat_map (λ (g : Glyph). g.points) (row_of cols cells r)
