@@ -1,8 +1,8 @@
-use Rattle.std.specs.Prelude.{◌≡◌, ℕ, ◌+◌, ◌-◌, ◌*◌, ◌≤◌, Bool, true, false, ◌&&◌, nat_le, Option, Some, None, List, length, replicate, slice_index_or, slice_range, EachIndex, if◌then◌else◌}
+use Rattle.std.specs.Prelude.{◌≡◌, ℕ, ◌+◌, ◌*◌, ◌≤◌, Bool, true, false, List, length, replicate, slice_index_or, slice_range, EachIndex}
 use Rattle.std.specs.List.{flat_map}
 use Rattle.roam_cells.specs.Glyph.{Glyph, blank}
 use Rattle.roam_cells.specs.Limits.{IsSize}
-use Rattle.roam_cells.specs.Place.{cell_at, AreWhole}
+use Rattle.roam_cells.specs.Place.{AreWhole}
 
 -- a screen as it is shown: its size, its cells in reading order, the cursor's row and column from 1 (as in CUP, ECMA-48 8.3.21), and whether the cursor is visible
 pub record Screenshot : Type 0 where
@@ -43,14 +43,6 @@ blank_screenshot rows cols =
       cursor_col = 1;
       visible = true;
     }
-
--- whether a screen of this size has a row and a column, both from 1
-abbrev pub is_place : ℕ → ℕ → ℕ → ℕ → Bool
-is_place rows cols row col = (nat_le 1 row && nat_le row rows) && (nat_le 1 col && nat_le col cols)
-
--- the cell at a row and a column, both from 1, where the screen has them
-abbrev pub shown_at : Screenshot → ℕ → ℕ → Option Glyph
-shown_at s row col = if is_place s.rows s.cols row col then Some (cell_at s.cols s.cells (row - 1) (col - 1)) else None
 
 -- the cells of a row, from 0
 abbrev pub row_of : ℕ → List Glyph → ℕ → List Glyph
