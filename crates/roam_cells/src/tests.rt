@@ -294,6 +294,10 @@ fn refused_memory_leaves_a_screen(rt: HostRuntime) {
             return;
         }
     };
+    match Shot::blank(alloc, 2, 8) {
+        Ok(blank) => assert!(rt; !blank.is_same(&shot)),
+        Err(fault) => assert_eq!(rt; fault, Fault::OutOfMemory),
+    }
     match shot.copy(alloc) {
         Ok(copy) => assert!(rt; copy.is_same(&shot)),
         Err(fault) => assert_eq!(rt; fault, Fault::OutOfMemory),
