@@ -1,3 +1,5 @@
+ghost use Rattle.std.specs.Prelude.{◌≡◌, IfSome};
+
 use crate::columns::is_joiner;
 use crate::limits::is_size;
 use crate::*;
@@ -213,27 +215,33 @@ fn sizes_of_a_blank_screen(rt: HostRuntime) {
     }
 }
 
-// A screen of 2 by 8 that begins with these cells.
-fn screen_of(alloc: Global, front: &[Cell], visible: bool) -> Result<Option<Shot>, Fault> {
+// The screen of 2 by 8 with these cells, or `None` where they make none.
+fn screen_of(cells: Vec<Cell>) -> Option<Shot>
+    ensures cells { IfSome result (λ shot. shot.cells ≡ cells.items) }
+{
+    if cells.len() != 16 || !is_well_formed(&cells, 8) || !are_unguarded(&cells) {
+        return None;
+    }
+    Some(Shot::new(2, 8, cells, (1, 6), false))
+}
+
+// The screen of 2 by 8 that begins with these cells, or a blank one.
+fn screen_from(alloc: Global, front: &[Cell]) -> Result<Shot, Fault> {
     let mut cells = Vec::new(alloc);
     cells.extend_from_slice(front)?;
     for _ in front.len()..16 {
         cells.push(Cell::blank())?;
     }
-    if cells.len() != 16 || !is_well_formed(&cells, 8) || !are_unguarded(&cells) {
-        return Ok(None);
-    }
-    Ok(Some(Shot::new(2, 8, cells, (1, 6), visible)))
-}
-
-// The screen that begins with these cells, or a blank one.
-fn sample(alloc: Global) -> Result<Shot, Fault> {
-    let half = Cell::right_half(Style::default(), false);
-    let a = Cell::ascii(b'a', bold(), false);
-    match screen_of(alloc, &[wide(), half, a, wide(), half], false)? {
+    match screen_of(cells) {
         Some(shot) => Ok(shot),
         None => Shot::blank(alloc, 2, 8),
     }
+}
+
+fn sample(alloc: Global) -> Result<Shot, Fault> {
+    let half = Cell::right_half(Style::default(), false);
+    let a = Cell::ascii(b'a', bold(), false);
+    screen_from(alloc, &[wide(), half, a, wide(), half])
 }
 
 #[test]
@@ -253,7 +261,7 @@ fn a_screen_of_cells(rt: HostRuntime) -> Result<(), Fail> {
     assert!(rt; !copy.is_same(&Shot::blank(alloc, 2, 8)?));
     assert!(rt; !Shot::blank(alloc, 2, 8)?.is_same(&Shot::blank(alloc, 2, 9)?));
     let half = Cell::right_half(Style::default(), false);
-    assert!(rt; screen_of(alloc, &[half], true)?.is_none());
+    assert!(rt; screen_from(alloc, &[half])?.is_same(&Shot::blank(alloc, 2, 8)?));
     Ok(())
 }
 
