@@ -1,9 +1,11 @@
 -- Screens as values: blank ones, and when two lists of cells are one.
-use Rattle.std.proofs.Common.{◌≡◌, ℕ, ◌+◌, ◌*◌, ◌/◌, ◌%◌, ◌<◌, List, false, eqb, length, get_or, replicate, sym, ap, ◌∙◌, arith}
+use Rattle.std.proofs.Common.{◌≡◌, ℕ, ◌+◌, ◌*◌, ◌/◌, ◌%◌, ◌<◌, List, [], ◌∷◌, true, false, not, ◌&&◌, eqb, refl, subst, length, get_or, replicate, sym, ap, ◌∙◌, arith}
+use Rattle.std.specs.Char.{IsScalar}
 use Rattle.std.proofs.lemmas.Bool.{false≢true}
+use Rattle.std.proofs.lemmas.List.Elements.{All-from_get_or}
 use Rattle.std.proofs.lemmas.List.{same_lists, get_or_default, get_or-replicate, length-replicate}
 use Rattle.std.proofs.Math.Nat.{mul-div_cancel, mod-add-div'}
-use Rattle.roam_cells.specs.Glyph.{Glyph, is_wide, is_right_half, blank}
+use Rattle.roam_cells.specs.Glyph.{Glyph, IsShown, is_wide, is_right_half, blank}
 use Rattle.roam_cells.specs.Limits.{IsSize}
 use Rattle.roam_cells.specs.Place.{cell_at, AreWhole}
 use Rattle.roam_cells.specs.Screenshot.{IsScreenshot, blank_screenshot}
@@ -24,6 +26,14 @@ blank_whole rows cols =
       half = λ r c p q h. absurd (false≢true (ap is_right_half (sym (blank_at rows cols r c p q)) ∙ h));
     }
 
+-- a space is what some cell shows
+space_shown : IsShown (32 ∷ [])
+space_shown =
+    record {
+      text = ap (λ w. not (eqb w 0) && true && true) width-space;
+      scalars = All-from_get_or IsScalar (32 ∷ []) 0 (λ k h. let e : k ≡ 0 = omega arith in subst (λ (j : ℕ). IsScalar (get_or (32 ∷ []) j 0)) (sym e) refl);
+    }
+
 pub blank_is_screenshot : (rows cols : ℕ) → IsSize rows cols → IsScreenshot (blank_screenshot rows cols)
 blank_is_screenshot rows cols size =
     let count = length-replicate (rows * cols) blank in
@@ -33,6 +43,7 @@ blank_is_screenshot rows cols size =
       cursor = record { row_from = omega arith; row_to = omega (arith, size.least_rows); col_from = omega arith; col_to = omega (arith, size.least_columns) };
       whole = blank_whole rows cols;
       unguarded = λ k h. ap (λ (g : Glyph). g.guarded) (get_or-replicate (rows * cols) k blank blank (omega (arith, count, h)));
+      shown = λ k h. subst (λ (g : Glyph). IsShown g.points) (sym (get_or-replicate (rows * cols) k blank blank (omega (arith, count, h)))) space_shown;
     }
 
 -- lists with the same cell at each place are one

@@ -1,6 +1,6 @@
 use Rattle.std.specs.Prelude.{◌≡◌, ℕ, ◌+◌, ◌*◌, ◌≤◌, Bool, true, false, List, length, replicate, slice_index_or, slice_range, EachIndex}
 use Rattle.std.specs.List.{flat_map}
-use Rattle.roam_cells.specs.Glyph.{Glyph, blank}
+use Rattle.roam_cells.specs.Glyph.{Glyph, IsShown, blank}
 use Rattle.roam_cells.specs.Limits.{IsSize}
 use Rattle.roam_cells.specs.Place.{AreWhole}
 
@@ -24,6 +24,10 @@ pub record IsPlace (rows cols row col : ℕ) : Type 0 where
 abbrev pub AreUnguarded : List Glyph → Type 0
 AreUnguarded cells = EachIndex cells (λ k. (slice_index_or cells k blank).guarded ≡ false)
 
+-- each cell has the code points of some cell
+abbrev pub AreShown : List Glyph → Type 0
+AreShown cells = EachIndex cells (λ k. IsShown (slice_index_or cells k blank).points)
+
 -- what is true of each screen that is shown
 pub record IsScreenshot (s : Screenshot) : Type 0 where
   pub size : IsSize s.rows s.cols
@@ -31,6 +35,7 @@ pub record IsScreenshot (s : Screenshot) : Type 0 where
   pub cursor : IsPlace s.rows s.cols s.cursor_row s.cursor_col
   pub whole : AreWhole s.rows s.cols s.cells
   pub unguarded : AreUnguarded s.cells
+  pub shown : AreShown s.cells
 
 -- spaces in the default style, and a visible cursor in the first row and column
 abbrev pub blank_screenshot : ℕ → ℕ → Screenshot
