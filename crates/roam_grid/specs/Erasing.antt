@@ -1,0 +1,36 @@
+use Rattle.std.specs.Prelude.{ℕ, ◌+◌, Bool, true, false, ◌&&◌, ◌||◌, ◌==◌, nat_lt, nat_le, if◌then◌else◌}
+use Rattle.roam_cells.specs.Glyph.{blank}
+use Rattle.roam_grid.specs.Row.{blanked}
+use Rattle.roam_grid.specs.Places.{Source, From, Fresh, in_row}
+use Rattle.roam_grid.specs.Screen.{Screen, mapped}
+use Rattle.roam_grid.specs.declared.erasing.Extent.{Extent}
+use Rattle.roam_grid.specs.declared.erasing.Extent.TheVariants.{ToEnd, ToStart, All}
+
+-- the columns of a row, from one on and before another, that an extent round a column names
+abbrev pub line_from : Extent → ℕ → ℕ
+line_from ToEnd col = col
+line_from ToStart col = 0
+line_from All col = 0
+
+abbrev pub line_to : Extent → ℕ → ℕ → ℕ
+line_to ToEnd cols col = cols
+line_to ToStart cols col = col + 1
+line_to All cols col = cols
+
+-- whether a place is in reading order from a row and a column on, up to them, or anywhere
+abbrev pub is_in_page : Extent → ℕ → ℕ → ℕ → ℕ → Bool
+is_in_page ToEnd row col r c = nat_lt row r || ((r == row) && nat_le col c)
+is_in_page ToStart row col r c = nat_lt r row || ((r == row) && nat_le c col)
+is_in_page All row col r c = true
+
+-- the places that an extent names become blank
+abbrev pub page_blanked : Extent → ℕ → ℕ → ℕ → ℕ → Source
+page_blanked extent row col r c = if is_in_page extent row col r c then Fresh blank else From r c
+
+-- ED (ECMA-48 8.3.39): guarded cells too
+unfoldable pub erased_in_page : Extent → Screen → Screen
+erased_in_page extent s = record (mapped (page_blanked extent s.row s.col) s) { pending = false }
+
+-- EL (ECMA-48 8.3.41): guarded cells too
+unfoldable pub erased_in_line : Extent → Screen → Screen
+erased_in_line extent s = record (mapped (in_row s.row (blanked (line_from extent s.col) (line_to extent s.cols s.col))) s) { pending = false }

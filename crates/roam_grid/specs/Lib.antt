@@ -1,0 +1,10 @@
+pub mod Row
+pub mod Places
+pub mod Halves
+pub mod Turned
+pub mod Screen
+pub mod Cursor
+pub mod Writing
+pub mod Erasing
+pub mod Stops
+pub mod Kept

@@ -1,0 +1,80 @@
+use Rattle.std.specs.Prelude.{ℕ, ◌+◌, ◌-◌, ◌*◌, ◌<◌, ◌≤◌, Bool, true, false, not, ◌&&◌, ◌==◌, nat_lt, List, [], ◌∷◌, ◌++◌, length, slice_index, slice_set, if◌then◌else◌}
+use Rattle.roam_cells.specs.Glyph.{Glyph, is_wide, is_right_half, is_cell_text}
+use Rattle.roam_cells.specs.Place.{cell_at}
+use Rattle.roam_grid.specs.Row.{written}
+use Rattle.roam_grid.specs.Places.{in_row}
+use Rattle.roam_grid.specs.Screen.{Screen, mapped, first_scrolled_up}
+use Rattle.roam_grid.specs.Cursor.{carried, indexed}
+use Rattle.roam_grid.specs.declared.writing.Writing.{Writing}
+
+-- the columns that a cell takes
+abbrev pub columns : Glyph → ℕ
+columns x = if is_wide x then 2 else 1
+
+-- to the first column of the next row
+unfoldable pub wrapped : Screen → Screen
+wrapped s = indexed (carried s)
+
+-- a pending wrap is done (DECAWM, VT220 Programmer Reference)
+unfoldable pub settled : Screen → Screen
+settled s = if s.pending then wrapped s else s
+
+-- a cell of two columns in the last column goes to the next row, and without DECAWM one column to the left
+unfoldable pub with_room : ℕ → Writing → Screen → Screen
+with_room width w s =
+    if ((width == 2) && (s.col + 1 == s.cols)) then (if w.wraps then wrapped s else record s { col = s.cols - 2 })
+    else s
+
+-- the cell is written at the cursor, with its right half where it is wide
+unfoldable pub inked : Glyph → Screen → Screen
+inked x s = mapped (in_row s.row (written x s.col)) s
+
+-- the cursor goes a number of columns to the right; past the last column it stays there, with a wrap pending under DECAWM
+unfoldable pub advanced : ℕ → Writing → Screen → Screen
+advanced n w s =
+    if nat_lt (s.col + n) s.cols then record s { col = s.col + n }
+    else record s { col = s.cols - 1; pending = w.wraps }
+
+-- a cell of one or two columns is written
+unfoldable pub put_on : Glyph → Writing → Screen → Screen
+put_on x w s = advanced (columns x) w (inked x (with_room (columns x) w (settled s)))
+
+-- whether writing a cell of so many columns first scrolls a row out at the top margin
+unfoldable pub leaves_row : ℕ → Writing → Screen → Bool
+leaves_row width w s = (s.row == s.bottom) && (if s.pending then true else (width == 2) && (s.col + 1 == s.cols) && w.wraps)
+
+-- the place of the first row after a cell is written
+unfoldable pub first_put : Glyph → Writing → Screen → ℕ → ℕ
+first_put x w s first = if leaves_row (columns x) w s then first_scrolled_up 1 s first else first
+
+-- cells are written one after another
+unfoldable pub put_all : List Glyph → Writing → Screen → Screen
+put_all [] w s = s
+put_all (x ∷ xs) w s = put_all xs w (put_on x w s)
+
+-- the place of the first row after that
+unfoldable pub first_put_all : List Glyph → Writing → Screen → ℕ → ℕ
+first_put_all [] w s first = first
+first_put_all (x ∷ xs) w s first = first_put_all xs w (put_on x w s) (first_put x w s first)
+
+-- printable ASCII: each byte is 20 to 7E
+abbrev pub ArePrintable : List ℕ → Type 0
+ArePrintable bytes = (k : ℕ) → k < length bytes → (0x20 ≤ slice_index bytes k) × (slice_index bytes k < 0x7F)
+
+-- a cell with one more code point, where that makes a cell: it is of width 0 and at most the third
+abbrev pub with_point : ℕ → Glyph → Glyph
+with_point c x = if is_cell_text (x.points ++ c ∷ []) then record x { points = x.points ++ c ∷ [] } else x
+
+-- the column before the cursor, and with a wrap pending the cursor's
+abbrev pub joined_column : Screen → ℕ
+joined_column s = if s.pending then s.col else s.col - 1
+
+-- the column of the cell that a character of width 0 joins: of a pair the left half's
+abbrev pub base_column : Screen → ℕ
+base_column s = if is_right_half (cell_at s.cols s.cells s.row (joined_column s)) then joined_column s - 1 else joined_column s
+
+-- a character of width 0 joins the cell before the cursor; in the first column with no wrap pending it is dropped (this project's profile)
+unfoldable pub joined_on : ℕ → Screen → Screen
+joined_on c s =
+    if (not s.pending && (s.col == 0)) then s
+    else record s { cells = slice_set s.cells (s.row * s.cols + base_column s) (with_point c (cell_at s.cols s.cells s.row (base_column s))) }
