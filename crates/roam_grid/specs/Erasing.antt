@@ -17,6 +17,17 @@ line_to ToEnd cols col = cols
 line_to ToStart cols col = col + 1
 line_to All cols col = cols
 
+-- the rows that it names whole, from one on and before another
+abbrev pub page_from : Extent → ℕ → ℕ
+page_from ToEnd row = row + 1
+page_from ToStart row = 0
+page_from All row = 0
+
+abbrev pub page_to : Extent → ℕ → ℕ → ℕ
+page_to ToEnd rows row = rows
+page_to ToStart rows row = row
+page_to All rows row = rows
+
 -- whether a place is in reading order from a row and a column on, up to them, or anywhere
 abbrev pub is_in_page : Extent → ℕ → ℕ → ℕ → ℕ → Bool
 is_in_page ToEnd row col r c = nat_lt row r || ((r == row) && nat_le col c)

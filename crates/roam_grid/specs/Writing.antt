@@ -65,16 +65,17 @@ ArePrintable bytes = (k : ℕ) → k < length bytes → (0x20 ≤ slice_index by
 abbrev pub with_point : ℕ → Glyph → Glyph
 with_point c x = if is_cell_text (x.points ++ c ∷ []) then record x { points = x.points ++ c ∷ [] } else x
 
--- the column before the cursor, and with a wrap pending the cursor's
-abbrev pub joined_column : Screen → ℕ
-joined_column s = if s.pending then s.col else s.col - 1
+-- the column of the cell that joins what follows a column: of a pair the left half's
+abbrev pub base_column : ℕ → List Glyph → ℕ → ℕ → ℕ
+base_column cols cells row col = if is_right_half (cell_at cols cells row col) then col - 1 else col
 
--- the column of the cell that a character of width 0 joins: of a pair the left half's
-abbrev pub base_column : Screen → ℕ
-base_column s = if is_right_half (cell_at s.cols s.cells s.row (joined_column s)) then joined_column s - 1 else joined_column s
+-- the cells after a character of width 0 has joined the one in a column
+abbrev pub joined_in : ℕ → List Glyph → ℕ → ℕ → ℕ → List Glyph
+joined_in cols cells row col c =
+    slice_set cells (row * cols + base_column cols cells row col) (with_point c (cell_at cols cells row (base_column cols cells row col)))
 
--- a character of width 0 joins the cell before the cursor; in the first column with no wrap pending it is dropped (this project's profile)
+-- a character of width 0 joins the cell before the cursor, and with a wrap pending the cursor's; in the first column with no wrap pending it is dropped (this project's profile)
 unfoldable pub joined_on : ℕ → Screen → Screen
 joined_on c s =
     if (not s.pending && (s.col == 0)) then s
-    else record s { cells = slice_set s.cells (s.row * s.cols + base_column s) (with_point c (cell_at s.cols s.cells s.row (base_column s))) }
+    else record s { cells = joined_in s.cols s.cells s.row (if s.pending then s.col else s.col - 1) c }

@@ -2,7 +2,7 @@ ghost use Rattle.std.specs.Prelude.{◌≡◌, ◌<◌, ◌≤◌, length};
 ghost use Rattle.roam_grid.specs.Row.{IsWholeRow, row_moved, blanked};
 ghost use Rattle.roam_grid.specs.Places.{moved, in_row};
 ghost use Rattle.roam_grid.specs.Turned.{IsTurned, in_order};
-ghost use Rattle.roam_grid.specs.Erasing.{line_from, line_to, page_blanked};
+ghost use Rattle.roam_grid.specs.Erasing.{line_from, line_to, page_from, page_to, page_blanked};
 
 use crate::grids::Grid;
 use crate::halves::part_twice;
@@ -16,6 +16,36 @@ pub enum Extent {
     ToEnd,
     ToStart,
     All,
+}
+
+impl Extent {
+    /// The columns that it names of the row of a column, from one on and before another.
+    fn columns(self, cols: usize, col: usize) -> (usize, usize)
+        requires col_in { col < cols }
+        ensures from { result.0 ≡ line_from self col }
+        ensures to { result.1 ≡ line_to self cols col }
+        ensures some { (result.0 < result.1) × (result.1 ≤ cols) }
+    {
+        match self {
+            Extent::ToEnd => (col, cols),
+            Extent::ToStart => (0, col + 1),
+            Extent::All => (0, cols),
+        }
+    }
+
+    /// The rows that it names whole, from one on and before another.
+    fn rows(self, rows: usize, row: usize) -> (usize, usize)
+        requires row_in { row < rows }
+        ensures from { result.0 ≡ page_from self row }
+        ensures to { result.1 ≡ page_to self rows row }
+        ensures range { (result.0 ≤ result.1) × (result.1 ≤ rows) }
+    {
+        match self {
+            Extent::ToEnd => (row + 1, rows),
+            Extent::ToStart => (0, row),
+            Extent::All => (0, rows),
+        }
+    }
 }
 
 /// Blanks the columns of a row from one on and before another.
@@ -47,11 +77,7 @@ pub fn erase_line(buffer: &mut [Cell], shape: Shape, row: usize, col: usize, ext
     ensures after { in_order shape.cols shape.first buffer.new ≡ moved shape.rows shape.cols (in_order shape.cols shape.first buffer.old) (in_row row (blanked (line_from extent col) (line_to extent shape.cols col))) }
     ensures turned { IsTurned shape.rows shape.cols shape.first buffer.new }
 {
-    let (from, to) = match extent {
-        Extent::ToEnd => (col, shape.cols),
-        Extent::ToStart => (0, col + 1),
-        Extent::All => (0, shape.cols),
-    };
+    let (from, to) = extent.columns(shape.cols, col);
     erase_columns(buffer, shape, row, from, to);
 }
 
@@ -63,11 +89,8 @@ pub fn erase_page(buffer: &mut [Cell], shape: Shape, row: usize, col: usize, ext
     ensures turned { IsTurned shape.rows shape.cols shape.first buffer.new }
 {
     erase_line(buffer, shape, row, col, extent);
-    match extent {
-        Extent::ToEnd => blank_rows(buffer, shape, row + 1, shape.rows),
-        Extent::ToStart => blank_rows(buffer, shape, 0, row),
-        Extent::All => blank_rows(buffer, shape, 0, shape.rows),
-    }
+    let (from, to) = extent.rows(shape.rows, row);
+    blank_rows(buffer, shape, from, to);
 }
 
 impl Grid {

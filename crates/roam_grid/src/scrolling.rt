@@ -5,7 +5,7 @@ ghost use Rattle.roam_grid.specs.Screen.{scrolled_up, scrolled_down, first_scrol
 
 use crate::grids::Grid;
 use crate::rows::{blank_rows, lift_rows, lower_rows};
-use crate::shapes::Shape;
+use crate::shapes::{Shape, bring_back};
 use roam_cells::Cell;
 
 /// Scrolls the whole screen up by n: answers the place of its new first row, and writes the rows that come in alone.
@@ -18,8 +18,7 @@ pub fn turn_up(buffer: &mut [Cell], shape: Shape, n: usize) -> usize
     ensures kept { KeepsRows shape.rows shape.cols shape.first n shape.rows buffer.old buffer.new }
 {
     let n = n.min(shape.rows);
-    let next = shape.first + n;
-    let first = if next < shape.rows { next } else { next - shape.rows };
+    let first = bring_back(shape.rows, shape.first + n);
     blank_rows(buffer, Shape { first, ..shape }, shape.rows - n, shape.rows);
     first
 }
@@ -33,8 +32,7 @@ pub fn turn_down(buffer: &mut [Cell], shape: Shape, n: usize) -> usize
     ensures kept { KeepsRows shape.rows shape.cols shape.first 0 (shape.rows - n) buffer.old buffer.new }
 {
     let n = n.min(shape.rows);
-    let next = shape.first + (shape.rows - n);
-    let first = if next < shape.rows { next } else { next - shape.rows };
+    let first = bring_back(shape.rows, shape.first + (shape.rows - n));
     blank_rows(buffer, Shape { first, ..shape }, 0, n);
     first
 }

@@ -18,7 +18,14 @@ impl Shape {
         ensures place { result ≡ brought_back self.rows (self.first + i) }
         ensures low { result < self.rows }
     {
-        let at = self.first + i;
-        if at < self.rows { at } else { at - self.rows }
+        bring_back(self.rows, self.first + i)
     }
+}
+
+/// Brings a row number that goes round once back below the number of rows.
+#[inline]
+pub fn bring_back(rows: usize, at: usize) -> usize
+    ensures row { result ≡ brought_back rows at }
+{
+    if at < rows { at } else { at - rows }
 }

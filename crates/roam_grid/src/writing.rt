@@ -1,9 +1,10 @@
-ghost use Rattle.std.specs.Prelude.{◌≡◌, ◌+◌, ◌*◌, ◌<◌, ◌≤◌, true, false, length, slice_set, if◌then◌else◌};
+ghost use Rattle.std.specs.Prelude.{◌≡◌, ◌+◌, ◌-◌, ◌*◌, ◌<◌, ◌≤◌, true, false, length, slice_set, if◌then◌else◌};
 ghost use Rattle.roam_cells.specs.Glyph.{is_wide, is_right_half};
 ghost use Rattle.roam_cells.specs.Place.{cell_at};
-ghost use Rattle.roam_grid.specs.Row.{IsWholeRow, row_moved, written};
+ghost use Rattle.roam_grid.specs.Row.{IsWholeRow, glyph_at, row_moved, written};
 ghost use Rattle.roam_grid.specs.Places.{moved, in_row};
 ghost use Rattle.roam_grid.specs.Turned.{IsTurned, in_order};
+ghost use Rattle.roam_grid.specs.Writing.{with_point, joined_in};
 
 use crate::grids::Grid;
 use crate::halves::part_twice;
@@ -51,6 +52,46 @@ pub fn write_in(buffer: &mut [Cell], shape: Shape, row: usize, col: usize, cell:
     write(&mut buffer[start..start + shape.cols], col, cell);
 }
 
+/// A cell with one more code point, or the same cell where that makes none.
+fn with_point(cell: Cell, c: char) -> Cell
+    ensures cell { result ≡ with_point c cell }
+{
+    let chars = cell.chars();
+    let count = chars.len();
+    let mut points = ['\0'; 4];
+    points[..count].copy_from_slice(chars);
+    points[count] = c;
+    match Cell::of(&points[..count + 1], cell.style(), cell.guard()) {
+        Some(joined) => joined,
+        None => cell,
+    }
+}
+
+/// Joins a character of width 0 to the cell in a column of a row of the screen, of a pair to the left half.
+pub fn join_in(buffer: &mut [Cell], shape: Shape, row: usize, col: usize, c: char)
+    requires turned { IsTurned shape.rows shape.cols shape.first buffer.old }
+    requires on_screen { (row < shape.rows) × (col < shape.cols) }
+    ensures after { in_order shape.cols shape.first buffer.new ≡ joined_in shape.cols (in_order shape.cols shape.first buffer.old) row col c }
+    ensures turned { IsTurned shape.rows shape.cols shape.first buffer.new }
+{
+    let start = shape.place(row) * shape.cols;
+    let base = base_column(&buffer[start..start + shape.cols], col);
+    let cell = buffer[start + base];
+    buffer[start + base] = with_point(cell, c);
+}
+
+/// The column of a row that what follows a column joins: of a pair the left half's.
+fn base_column(row: &[Cell], col: usize) -> usize
+    requires col_in { col < length row.now }
+    requires whole { IsWholeRow row.now }
+    ensures base { result ≡ (if is_right_half (glyph_at row.now col) then col - 1 else col) }
+    ensures low { result ≤ col }
+    ensures no_half { is_right_half (glyph_at row.now result) ≡ false }
+{
+    let cell = row[col];
+    if cell.is_right_half() { col - 1 } else { col }
+}
+
 impl Grid {
     ghost use Rattle.roam_grid.specs.Writing.{columns, wrapped, settled, with_room, inked, advanced, put_on, leaves_row, first_put, joined_on};
     ghost use Rattle.roam_grid.specs.Cursor.{first_indexed};
@@ -79,10 +120,20 @@ impl Grid {
     }
 
     /// Joins a character of width 0 to the cell before the cursor, or with a wrap pending to the cursor's; a fourth code point, and one that has no cell before it, is dropped.
+    #[tactic(auto, unfolding(crate::specs::Writing::joined_on))]
     pub fn join(&mut self, c: char)
         ensures screen { self.new.screen ≡ joined_on c self.old.screen }
         ensures first { self.new.first ≡ self.old.first }
     {
+        if !self.pending && self.col == 0 {
+            return;
+        }
+        let col = if self.pending {
+            self.col
+        } else {
+            self.col - 1
+        };
+        join_in(&mut self.cells, self.shape, self.row, col, c);
     }
 
     #[inline]
