@@ -116,7 +116,7 @@ range_misses : (from to c : ℕ) → in_range from to c ≡ false → (c < from)
 range_misses from to c h = grind (arith, common_steps)
 
 -- cells of one column are written over a range that has a column
-abbrev over : (ℕ → Glyph) → ℕ → ℕ → ℕ → RowSource
+abbrev pub over : (ℕ → Glyph) → ℕ → ℕ → ℕ → RowSource
 over f from to c = cond (in_range from to c) (Ink (f c)) (Column c)
 
 -- no cell is wide or a right half

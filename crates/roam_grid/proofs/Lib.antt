@@ -6,3 +6,6 @@ pub mod Vertical
 pub mod Lifting
 pub mod Inking
 pub mod Pages
+pub mod Puts
+pub mod Runs
+pub mod Joins

@@ -6,7 +6,7 @@ use Rattle.std.proofs.lemmas.Grind.{common_steps}
 use borrow.Rule.Slice.PartMut.{put_mid}
 use Rattle.roam_cells.specs.Glyph.{Glyph, is_wide, is_right_half, right_of, blank}
 use Rattle.roam_cells.specs.Place.{cell_at, AreWhole}
-use Rattle.roam_cells.proofs.Places.{table_is, row_from}
+use Rattle.roam_cells.proofs.Places.{table_is, get_or-table, row_from}
 use Rattle.roam_grid.specs.Row.{RowSource, Column, Ink, glyph_at, IsWholeRow, row_taken, are_neighbours, mended, row_moved, row_moved_at}
 use Rattle.roam_grid.specs.Places.{Source, From, Fresh, taken, are_joined, moved, moved_at, at_row, in_row}
 use Rattle.roam_grid.specs.Turned.{IsTurned, in_order, brought_back}
@@ -46,7 +46,7 @@ joined_at R (Column c) (Ink y) = refl
 joined_at R (Ink x) (Column d) = refl
 joined_at R (Ink x) (Ink y) = refl
 
-module _ (rows cols R : ℕ) (cells row new : List Glyph) (len : length row ≡ cols) (row_is : (c : ℕ) → c < cols → glyph_at row c ≡ cell_at cols cells R c) where
+module _ (rows cols R : ℕ) (cells row : List Glyph) (len : length row ≡ cols) (row_is : (c : ℕ) → c < cols → glyph_at row c ≡ cell_at cols cells R c) where
   taken_at : (x : RowSource) → InRow cols x → row_taken row x ≡ taken cols cells (at_row R x)
   taken_at (Column d) h = row_is d h
   taken_at (Ink x) h = refl
@@ -60,11 +60,18 @@ module _ (rows cols R : ℕ) (cells row new : List Glyph) (len : length row ≡ 
       ∙ ap (λ b. mended (taken cols cells (at_row R x)) (ltb (c + 1) cols && b) (ltb 0 c && are_neighbours z x)) (joined_at R x y)
       ∙ ap (λ b. mended (taken cols cells (at_row R x)) (ltb (c + 1) cols && are_joined (at_row R x) (at_row R y)) (ltb 0 c && b)) (joined_at R z x)
 
-  pub moved_in_row : (one : ℕ → RowSource) → ((c : ℕ) → c < cols → InRow cols (one c)) → AreWhole rows cols cells → length new ≡ rows * cols
+  pub moved_here : (one : ℕ → RowSource) → ((c : ℕ) → c < cols → InRow cols (one c)) → R < rows → (c : ℕ) → c < cols
+      → cell_at cols (moved rows cols cells (in_row R one)) R c ≡ glyph_at (row_moved row one) c
+  moved_here one stays R_in c q =
+      get_or-table rows cols (moved_at cols cells (in_row R one)) R c blank R_in q
+      ∙ shown_by cols cells (in_row R one) R c (at_row R (one c)) (at_row R (one (c + 1))) (at_row R (one (c - 1))) (in_here R c one) (in_here R (c + 1) one) (in_here R (c - 1) one)
+      ∙ sym (row_at (length row) (row_moved_at row one) c (omega (arith, len)) ∙ shown_at c (one c) (one (c + 1)) (one (c - 1)) (stays c q))
+
+  pub moved_in_row : (new : List Glyph) (one : ℕ → RowSource) → ((c : ℕ) → c < cols → InRow cols (one c)) → AreWhole rows cols cells → length new ≡ rows * cols
       → ((c : ℕ) → c < cols → cell_at cols new R c ≡ glyph_at (row_moved row one) c)
       → ((r c : ℕ) → r < rows → c < cols → r ≢ R → cell_at cols new r c ≡ cell_at cols cells r c)
       → new ≡ moved rows cols cells (in_row R one)
-  moved_in_row one stays whole size here others =
+  moved_in_row new one stays whole size here others =
       let source = in_row R one in
       table_is rows cols (moved_at cols cells source) new size (λ r c p q.
       elim (cases_eq r R) [
@@ -139,7 +146,7 @@ module _ (rows cols first R a m : ℕ) (buffer : List Glyph) (turned : IsTurned 
   fits = rw a_is (omega (arith, m_is, turned.size, row_from cols (brought_back rows (first + R) + 1) rows 0 (omega (arith, back_below rows first R turned.first_in R_in))))
 
   -- what it holds before an operation
-  row_before : (c : ℕ) → c < cols → glyph_at (take m (drop a buffer)) c ≡ cell_at cols (in_order cols first buffer) R c
+  pub row_before : (c : ℕ) → c < cols → glyph_at (take m (drop a buffer)) c ≡ cell_at cols (in_order cols first buffer) R c
   row_before c q =
       part_at a m c buffer (omega (arith, m_is)) ∙ ap (λ j. get_or buffer (j + c) blank) a_is
       ∙ sym (turned_at rows cols first buffer R c turned.size turned.first_in R_in q)
@@ -172,7 +179,7 @@ module _ (rows cols first R a m : ℕ) (buffer : List Glyph) (turned : IsTurned 
     pub lifted : (one : ℕ → RowSource) → ((c : ℕ) → c < cols → InRow cols (one c)) → ys ≡ row_moved (take m (drop a buffer)) one
         → in_order cols first (put_mid a m buffer ys) ≡ moved rows cols (in_order cols first buffer) (in_row R one)
     lifted one stays ys_is =
-        moved_in_row rows cols R (in_order cols first buffer) (take m (drop a buffer)) (in_order cols first (put_mid a m buffer ys)) length-slice row_before one stays turned.whole
+        moved_in_row rows cols R (in_order cols first buffer) (take m (drop a buffer)) length-slice row_before (in_order cols first (put_mid a m buffer ys)) one stays turned.whole
         (length-in_order cols first (put_mid a m buffer ys) ∙ put_len)
         (λ c q. row_after c q ∙ ap (λ l. glyph_at l c) ys_is) rest_after
 

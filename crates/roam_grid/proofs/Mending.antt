@@ -1,5 +1,5 @@
 -- What mending leaves as it is, and what it makes.
-use Rattle.std.proofs.Common.{◌≡◌, ℕ, ◌+◌, ◌<◌, Bool, true, false, not, ◌&&◌, cond, eqb, ltb, List, [], ◌∷◌, refl, sym, ap, ◌∙◌, arith}
+use Rattle.std.proofs.Common.{◌≡◌, ℕ, ◌+◌, ◌<◌, ◌≤◌, Bool, true, false, not, ◌&&◌, cond, eqb, ltb, leb, List, [], ◌∷◌, refl, sym, ap, ◌∙◌, arith}
 use Rattle.std.proofs.lemmas.Bool.{false≢true}
 use Rattle.std.proofs.lemmas.Grind.{common_steps}
 use Rattle.roam_cells.specs.Width.{width-space}
@@ -64,6 +64,9 @@ and_right false b h = absurd (false≢true h)
 
 pub ltb-means : (a b : ℕ) → ltb a b ≡ true → a < b
 ltb-means a b h = grind (arith, common_steps)
+
+pub leb-means : (a b : ℕ) → leb a b ≡ true → a ≤ b
+leb-means a b h = grind (arith, common_steps)
 
 pub means-ltb : (a b : ℕ) → a < b → ltb a b ≡ true
 means-ltb a b h = grind (arith, common_steps)

@@ -4,7 +4,7 @@ use Rattle.roam_cells.specs.Place.{cell_at}
 use Rattle.roam_grid.specs.Row.{written}
 use Rattle.roam_grid.specs.Places.{in_row}
 use Rattle.roam_grid.specs.Screen.{Screen, mapped, first_scrolled_up}
-use Rattle.roam_grid.specs.Cursor.{carried, indexed}
+use Rattle.roam_grid.specs.Cursor.{carried, indexed, first_indexed}
 use Rattle.roam_grid.specs.declared.writing.Writing.{Writing}
 
 -- the columns that a cell takes
@@ -19,11 +19,19 @@ wrapped s = indexed (carried s)
 unfoldable pub settled : Screen → Screen
 settled s = if s.pending then wrapped s else s
 
+-- the place of the first row after that
+unfoldable pub first_settled : Screen → ℕ → ℕ
+first_settled s first = if s.pending then first_indexed s first else first
+
 -- a cell of two columns in the last column goes to the next row, and without DECAWM one column to the left
 unfoldable pub with_room : ℕ → Writing → Screen → Screen
 with_room width w s =
     if ((width == 2) && (s.col + 1 == s.cols)) then (if w.wraps then wrapped s else record s { col = s.cols - 2 })
     else s
+
+-- the place of the first row after that
+unfoldable pub first_with_room : ℕ → Writing → Screen → ℕ → ℕ
+first_with_room width w s first = if ((width == 2) && (s.col + 1 == s.cols) && w.wraps) then first_indexed s first else first
 
 -- the cell is written at the cursor, with its right half where it is wide
 unfoldable pub inked : Glyph → Screen → Screen
@@ -77,5 +85,6 @@ joined_in cols cells row col c =
 -- a character of width 0 joins the cell before the cursor, and with a wrap pending the cursor's; in the first column with no wrap pending it is dropped (this project's profile)
 unfoldable pub joined_on : ℕ → Screen → Screen
 joined_on c s =
-    if (not s.pending && (s.col == 0)) then s
-    else record s { cells = joined_in s.cols s.cells s.row (if s.pending then s.col else s.col - 1) c }
+    if s.pending then record s { cells = joined_in s.cols s.cells s.row s.col c }
+    else if (s.col == 0) then s
+    else record s { cells = joined_in s.cols s.cells s.row (s.col - 1) c }

@@ -62,6 +62,7 @@ impl Grid {
     }
 
     /// What is true of every grid.
+    #[inline]
     pub fn facts(&self)
         ensures screen { IsScreen self.now.screen }
         ensures order { IsInOrder self.now }

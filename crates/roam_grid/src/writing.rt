@@ -1,4 +1,4 @@
-ghost use Rattle.std.specs.Prelude.{◌≡◌, ◌+◌, ◌-◌, ◌*◌, ◌<◌, ◌≤◌, true, false, length, slice_set, if◌then◌else◌};
+ghost use Rattle.std.specs.Prelude.{◌≡◌, ◌+◌, ◌-◌, ◌*◌, ◌<◌, ◌≤◌, true, false, ℕ, length, slice_set, if◌then◌else◌};
 ghost use Rattle.roam_cells.specs.Glyph.{is_wide, is_right_half};
 ghost use Rattle.roam_cells.specs.Place.{cell_at};
 ghost use Rattle.roam_grid.specs.Row.{IsWholeRow, glyph_at, row_moved, written};
@@ -56,6 +56,7 @@ pub fn write_in(buffer: &mut [Cell], shape: Shape, row: usize, col: usize, cell:
 fn with_point(cell: Cell, c: char) -> Cell
     ensures cell { result ≡ with_point c cell }
 {
+    cell.facts();
     let chars = cell.chars();
     let count = chars.len();
     let mut points = ['\0'; 4];
@@ -93,7 +94,7 @@ fn base_column(row: &[Cell], col: usize) -> usize
 }
 
 impl Grid {
-    ghost use Rattle.roam_grid.specs.Writing.{columns, wrapped, settled, with_room, inked, advanced, put_on, leaves_row, first_put, joined_on};
+    ghost use Rattle.roam_grid.specs.Writing.{columns, wrapped, settled, first_settled, with_room, first_with_room, inked, advanced, put_on, leaves_row, first_put, joined_on};
     ghost use Rattle.roam_grid.specs.Cursor.{first_indexed};
 
     /// Whether a `put` of a cell of so many columns first scrolls a row out at the top margin.
@@ -112,6 +113,7 @@ impl Grid {
         ensures screen { self.new.screen ≡ put_on cell writing self.old.screen }
         ensures first { self.new.first ≡ first_put cell writing self.old.screen self.old.first }
     {
+        self.facts();
         self.settle();
         self.make_room(cell, writing);
         self.ink(cell);
@@ -125,32 +127,30 @@ impl Grid {
         ensures screen { self.new.screen ≡ joined_on c self.old.screen }
         ensures first { self.new.first ≡ self.old.first }
     {
-        if !self.pending && self.col == 0 {
-            return;
+        if self.pending {
+            join_in(&mut self.cells, self.shape, self.row, self.col, c);
+        } else if self.col != 0 {
+            join_in(&mut self.cells, self.shape, self.row, self.col - 1, c);
         }
-        let col = if self.pending {
-            self.col
-        } else {
-            self.col - 1
-        };
-        join_in(&mut self.cells, self.shape, self.row, col, c);
     }
 
     #[inline]
-    #[tactic(auto, unfolding(crate::specs::Writing::wrapped))]
+    #[tactic(auto, unfolding(crate::specs::Writing::wrapped, crate::specs::Cursor::indexed, crate::specs::Cursor::first_indexed, crate::specs::Cursor::carried, crate::specs::Screen::first_scrolled_up))]
     fn wrap(&mut self)
         ensures screen { self.new.screen ≡ wrapped self.old.screen }
         ensures first { self.new.first ≡ first_indexed self.old.screen self.old.first }
+        ensures place { (self.new.screen.col ≡ 0) × (self.new.screen.pending ≡ false) × (self.new.screen.cols ≡ self.old.screen.cols) }
     {
         self.carriage_return();
         self.index();
     }
 
     #[inline]
-    #[tactic(auto, unfolding(crate::specs::Writing::settled))]
+    #[tactic(auto, unfolding(crate::specs::Writing::settled, crate::specs::Writing::first_settled))]
     pub(crate) fn settle(&mut self)
         ensures screen { self.new.screen ≡ settled self.old.screen }
-        ensures first { self.new.first ≡ (if self.old.screen.pending then first_indexed self.old.screen self.old.first else self.old.first) }
+        ensures first { self.new.first ≡ first_settled self.old.screen self.old.first }
+        ensures settled { self.new.screen.pending ≡ false }
     {
         if self.pending {
             self.wrap();
@@ -158,11 +158,15 @@ impl Grid {
     }
 
     #[inline]
-    #[tactic(auto, unfolding(crate::specs::Writing::with_room))]
+    #[tactic(auto, unfolding(crate::specs::Writing::with_room, crate::specs::Writing::first_with_room))]
     fn make_room(&mut self, cell: Cell, writing: Writing)
+        requires settled { self.old.screen.pending ≡ false }
         ensures screen { self.new.screen ≡ with_room (columns cell) writing self.old.screen }
+        ensures first { self.new.first ≡ first_with_room (columns cell) writing self.old.screen self.old.first }
+        ensures room { columns cell + self.new.screen.col ≤ self.new.screen.cols }
     {
-        if cell.is_wide() && self.col + 1 == self.shape.cols {
+        let last = self.col + 1 == self.shape.cols;
+        if last && cell.is_wide() {
             if writing.wraps {
                 self.wrap();
             } else {
@@ -185,7 +189,7 @@ impl Grid {
     #[inline]
     #[tactic(auto, unfolding(crate::specs::Writing::advanced))]
     pub(crate) fn advance(&mut self, columns: usize, writing: Writing)
-        requires few { columns ≤ self.old.screen.cols }
+        requires few { columns ≤ 250 }
         ensures screen { self.new.screen ≡ advanced columns writing self.old.screen }
         ensures first { self.new.first ≡ self.old.first }
     {

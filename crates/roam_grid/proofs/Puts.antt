@@ -1,0 +1,102 @@
+-- The steps of writing a cell.
+use Rattle.std.proofs.Common.{◌≡◌, ℕ, ◌+◌, ◌-◌, ◌<◌, ◌≤◌, Bool, true, false, ◌&&◌, cond, eqb, List, refl, sym, ap, ◌∙◌, arith}
+use Rattle.std.proofs.lemmas.Bool.{false≢true}
+use Rattle.std.proofs.lemmas.Grind.{common_steps}
+use Rattle.roam_cells.specs.Glyph.{Glyph}
+use Rattle.roam_grid.specs.Screen.{Screen, scrolled_up, first_scrolled_up}
+use Rattle.roam_grid.specs.Cursor.{carried, indexed, first_indexed}
+use Rattle.roam_grid.specs.Writing.{columns, wrapped, settled, first_settled, with_room, first_with_room, inked, advanced, leaves_row, put_on, first_put}
+use Rattle.roam_grid.specs.declared.writing.Writing.{Writing}
+
+abbrev pub Placed : ℕ → Screen → Type 0
+Placed n s = (s.col ≡ 0) × (s.pending ≡ false) × (s.cols ≡ n)
+
+one_of : (n : ℕ) (b d : Bool) (x y z : Screen) → Placed n x → Placed n y → Placed n z → Placed n (cond b x (cond d y z))
+one_of n true d x y z p q r = p
+one_of n false true x y z p q r = q
+one_of n false false x y z p q r = r
+
+-- after a wrap the cursor is in the first column
+pub wrapped_place : (s : Screen) → Placed s.cols (wrapped s)
+unfolding wrapped carried indexed scrolled_up
+wrapped_place s = one_of s.cols (eqb s.row s.bottom) (eqb (s.row + 1) s.rows) _ _ _ (refl, refl, refl) (refl, refl, refl) (refl, refl, refl)
+
+settled_by : (s : Screen) (p : Bool) → s.pending ≡ p → (settled s).pending ≡ false
+unfolding settled
+settled_by s true e = ap (λ b. (cond b (wrapped s) s).pending) e ∙ (wrapped_place s).1
+settled_by s false e = ap (λ b. (cond b (wrapped s) s).pending) e ∙ e
+
+-- no wrap pends once one is done
+pub settled_none : (s : Screen) → (settled s).pending ≡ false
+settled_none s = settled_by s s.pending refl
+
+pub settled_same : (s : Screen) → s.pending ≡ false → settled s ≡ s
+unfolding settled
+settled_same s e = ap (λ b. cond b (wrapped s) s) e
+
+pub first_settled_same : (s : Screen) (first : ℕ) → s.pending ≡ false → first_settled s first ≡ first
+unfolding first_settled
+first_settled_same s first e = ap (λ b. cond b (first_indexed s first) first) e
+
+and_false : (a b : Bool) → (a && false && b) ≡ false
+and_false true b = refl
+and_false false b = refl
+
+cond_and : {X : Type 0} (a b : Bool) (x y : X) → cond a (cond b x y) y ≡ cond (b && a) x y
+cond_and true true x y = refl
+cond_and true false x y = refl
+cond_and false true x y = refl
+cond_and false false x y = refl
+
+and_true : (b : Bool) → (b && true) ≡ b
+and_true true = refl
+and_true false = refl
+
+not_last : (c n m : ℕ) → c ≡ 0 → n ≡ m → 4 ≤ m → eqb (c + 1) n ≡ false
+not_last c n m p q h = grind (arith, common_steps)
+
+module _ (n : ℕ) (w : Writing) (s : Screen) (first : ℕ) (wide : 4 ≤ s.cols) where
+  abbrev tests : Bool
+  tests = eqb n 2 && eqb (s.col + 1) s.cols && w.wraps
+
+  by_pending : (p : Bool) → s.pending ≡ p → first_with_room n w (settled s) (first_settled s first) ≡ cond (leaves_row n w s) (first_scrolled_up 1 s first) first
+  unfolding first_with_room first_settled settled leaves_row first_indexed
+  by_pending true e =
+      let t = wrapped s in
+      let place = wrapped_place s in
+      ap (λ b. first_with_room n w (cond b t s) (cond b (first_indexed s first) first)) e
+      ∙ ap (λ b. cond (eqb n 2 && b && w.wraps) (first_indexed t (first_indexed s first)) (first_indexed s first)) (not_last t.col t.cols s.cols place.0 place.2 wide)
+      ∙ ap (λ b. cond b (first_indexed t (first_indexed s first)) (first_indexed s first)) (and_false (eqb n 2) w.wraps)
+      ∙ sym (ap (λ b. cond (eqb s.row s.bottom && cond b true tests) (first_scrolled_up 1 s first) first) e ∙ ap (λ b. cond b (first_scrolled_up 1 s first) first) (and_true (eqb s.row s.bottom)))
+  by_pending false e =
+      ap (λ b. first_with_room n w (cond b (wrapped s) s) (cond b (first_indexed s first) first)) e
+      ∙ cond_and tests (eqb s.row s.bottom) (first_scrolled_up 1 s first) first
+      ∙ sym (ap (λ b. cond (eqb s.row s.bottom && cond b true tests) (first_scrolled_up 1 s first) first) e)
+
+  -- the first row goes on where a row leaves
+  pub first_steps : first_with_room n w (settled s) (first_settled s first) ≡ cond (leaves_row n w s) (first_scrolled_up 1 s first) first
+  first_steps = by_pending s.pending refl
+
+settled_cols_by : (s : Screen) (p : Bool) → s.pending ≡ p → (settled s).cols ≡ s.cols
+unfolding settled
+settled_cols_by s true e = ap (λ b. (cond b (wrapped s) s).cols) e ∙ (wrapped_place s).2
+settled_cols_by s false e = ap (λ b. (cond b (wrapped s) s).cols) e
+
+-- a pending wrap may be done before
+pub put_settled : (x : Glyph) (w : Writing) (s : Screen) → put_on x w (settled s) ≡ put_on x w s
+unfolding put_on
+put_settled x w s = ap (λ t. advanced (columns x) w (inked x (with_room (columns x) w t))) (settled_same (settled s) (settled_none s))
+
+pub first_put_settled : (x : Glyph) (w : Writing) (s : Screen) (first : ℕ) → 4 ≤ s.cols → first_put x w (settled s) (first_settled s first) ≡ first_put x w s first
+unfolding first_put
+first_put_settled x w s first wide =
+    let n = columns x in
+    let next = first_settled s first in
+    let none = settled_none s in
+    sym (first_steps n w (settled s) next (omega (arith, settled_cols_by s s.pending refl)))
+    ∙ ap (λ t. first_with_room n w t (first_settled (settled s) next)) (settled_same (settled s) none)
+    ∙ ap (λ f. first_with_room n w (settled s) f) (first_settled_same (settled s) next none)
+    ∙ first_steps n w s first wide
+
+pub settled_cols : (s : Screen) → (settled s).cols ≡ s.cols
+settled_cols s = settled_cols_by s s.pending refl
