@@ -9,3 +9,4 @@ pub mod Pages
 pub mod Puts
 pub mod Runs
 pub mod Joins
+pub mod Starting

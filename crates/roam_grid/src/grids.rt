@@ -139,7 +139,14 @@ fn stops_at_start() -> [bool; 250]
 {
     let mut stops = [false; 250];
     for c in 0..250 {
-        stops[c] = 0 < c && c % 8 == 0;
+        stops[c] = is_start_stop(c);
     }
     stops
+}
+
+/// Whether a column, from 0, has a tab stop at the start.
+fn is_start_stop(c: usize) -> bool
+    ensures stop { result ≡ is_start_stop c }
+{
+    0 < c && c % 8 == 0
 }

@@ -1,10 +1,6 @@
-use Rattle.std.proofs.Common.{◌≡◌, ℕ, ◌+◌, ◌<◌, Bool, true, false, ◌&&◌, sym, ap, ◌∙◌, arith, length, get_or, map}
-use Rattle.std.specs.List.{range_with_len}
-use Rattle.std.proofs.lemmas.List.{same_lists, get_or_default}
-use Rattle.std.proofs.lemmas.List.FromFn.{length-map-range_with_len, get_or-map-range_with_len}
-use Rattle.roam_grid.specs.Stops.{start_stops, is_start_stop}
+use Rattle.std.proofs.Common.{◌≡◌, ℕ, ◌<◌, arith}
+use Rattle.roam_grid.proofs.Starting.{stops_are}
 use Rattle.roam_grid.proofs.grids.stops_at_start.Goals as goal
 
 pub returns : goal.returns
-unfolding start_stops
-returns c = ?
+returns c = record { stops = stops_are c.loop-c.stops c.loop-c.invariant.len (λ k h. c.loop-c.invariant.set k (omega (arith, c.loop-c-test.false))) }
