@@ -6,6 +6,7 @@ use Rattle.std.proofs.lemmas.List.{same_lists, get_or_default, length-replicate,
 use Rattle.std.proofs.lemmas.List.FromFn.{length-map-range_with_len, get_or-map-range_with_len}
 use Rattle.roam_cells.specs.Glyph.{Glyph, is_wide, is_right_half, blank}
 use Rattle.roam_cells.specs.Place.{cell_at, AreWhole}
+use Rattle.roam_cells.specs.declared.limits.TheConstants.{MOST_ROWS, MOST_COLUMNS}
 use Rattle.roam_cells.proofs.Places.{place_below}
 use Rattle.roam_grid.specs.Stops.{start_stops, is_start_stop}
 use Rattle.roam_grid.specs.Turned.{IsTurned, in_order}
@@ -24,12 +25,12 @@ blank_whole rows cols = record {
 pub unturned : (cols : ℕ) (cells : List Glyph) → in_order cols 0 cells ≡ cells
 unturned cols cells = search rules
 
-pub blank_turned : (rows cols : ℕ) (cells : List Glyph) → 2 ≤ rows → rows ≤ 100 → cols ≤ 250 → cells ≡ replicate (rows * cols) blank → IsTurned rows cols 0 cells
+pub blank_turned : (rows cols : ℕ) (cells : List Glyph) → 0 < rows → rows ≤ MOST_ROWS → cols ≤ MOST_COLUMNS → cells ≡ replicate (rows * cols) blank → IsTurned rows cols 0 cells
 blank_turned rows cols cells a b c e = record {
   rows_in = b;
   cols_in = c;
   size = ap length e ∙ length-replicate (rows * cols) blank;
-  first_in = omega arith;
+  first_in = a;
   whole = rw (e, unturned cols (replicate (rows * cols) blank)) (blank_whole rows cols);
 }
 

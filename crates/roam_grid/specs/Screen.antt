@@ -1,5 +1,6 @@
-use Rattle.std.specs.Prelude.{◌≡◌, ℕ, ◌+◌, ◌-◌, ◌*◌, ◌<◌, ◌≤◌, Bool, true, false, ◌&&◌, ◌==◌, nat_le, replicate, List, length, if◌then◌else◌}
+use Rattle.std.specs.Prelude.{◌≡◌, ℕ, ◌+◌, ◌-◌, ◌*◌, ◌<◌, ◌≤◌, Bool, true, false, ◌&&◌, ◌==◌, replicate, List, length, if◌then◌else◌}
 use Rattle.roam_cells.specs.Glyph.{Glyph, blank}
+use Rattle.roam_cells.specs.Limits.{IsSize}
 use Rattle.roam_cells.specs.Place.{AreWhole}
 use Rattle.roam_grid.specs.Places.{Source, moved, up, down}
 use Rattle.roam_grid.specs.Turned.{in_order, turned_up, turned_down}
@@ -23,14 +24,9 @@ pub record GridView : Type 0 where
   pub buffer : List Glyph
   pub first : ℕ
 
--- whether rows and columns are in the limits
-abbrev pub is_size : ℕ → ℕ → Bool
-is_size rows cols = nat_le 2 rows && nat_le rows 100 && nat_le 4 cols && nat_le cols 250
-
 -- the size is in the limits, the cursor and the margins are on the screen, a wrap pends in the last column alone, and each column that may be has its stop or none
 pub record IsFrame (s : Screen) : Type 0 where
-  pub rows_in : (2 ≤ s.rows) × (s.rows ≤ 100)
-  pub cols_in : (4 ≤ s.cols) × (s.cols ≤ 250)
+  pub size : IsSize s.rows s.cols
   pub row_in : s.row < s.rows
   pub col_in : s.col < s.cols
   pub pends : s.pending ≡ true → s.col + 1 ≡ s.cols

@@ -1,6 +1,7 @@
 use Rattle.std.specs.Prelude.{◌≡◌, ◌≢◌, ℕ, ◌+◌, ◌-◌, ◌*◌, ◌<◌, ◌≤◌, Bool, nat_lt, min, List, ◌++◌, take, drop, length, if◌then◌else◌}
 use Rattle.roam_cells.specs.Glyph.{Glyph, blank}
 use Rattle.roam_cells.specs.Place.{cell_at, AreWhole}
+use Rattle.roam_cells.specs.declared.limits.TheConstants.{MOST_ROWS, MOST_COLUMNS}
 
 -- a row number brought back below the number of rows: the remainder, of a number below twice the rows
 abbrev pub brought_back : ℕ → ℕ → ℕ
@@ -19,8 +20,8 @@ turned_down rows n first = brought_back rows (first + (rows - min n rows))
 
 -- a buffer of whole rows, with the place of the first
 pub record IsTurned (rows cols first : ℕ) (buffer : List Glyph) : Type 0 where
-  pub rows_in : rows ≤ 100
-  pub cols_in : cols ≤ 250
+  pub rows_in : rows ≤ MOST_ROWS
+  pub cols_in : cols ≤ MOST_COLUMNS
   pub size : length buffer ≡ rows * cols
   pub first_in : first < rows
   pub whole : AreWhole rows cols (in_order cols first buffer)

@@ -1,9 +1,11 @@
-ghost use Rattle.std.specs.Prelude.{◌≡◌, ◌↔◌, ℕ, ◌+◌, ◌*◌, ◌<◌, ◌≤◌, ◌⊎◌, true, false, Bool, List, length, IfOk, IfErr, IsErrOf, slice_range, slice_index};
+ghost use Rattle.std.specs.Prelude.{◌≡◌, ◌↔◌, ℕ, ◌+◌, ◌*◌, ◌<◌, ◌≤◌, ◌⊎◌, true, false, length, IsTrue, IfOk, IfErr, IsErrOf, slice_range};
+ghost use Rattle.roam_cells.specs.Limits.{IsSize};
 ghost use Rattle.roam_grid.specs.Turned.{brought_back};
 ghost use Rattle.roam_grid.specs.Stops.{start_stops, is_start_stop};
-ghost use Rattle.roam_grid.specs.Screen.{IsScreen, IsInOrder, is_size, start};
+ghost use Rattle.roam_grid.specs.Screen.{IsScreen, IsInOrder, start};
 
 use crate::shapes::Shape;
+use roam_cells::limits::{LEAST_COLUMNS, LEAST_ROWS, MOST_COLUMNS, MOST_ROWS};
 use roam_cells::{Cell, Fault};
 use std::alloc::Global;
 use std::marker::Model;
@@ -39,10 +41,10 @@ impl Grid {
     pub fn new(alloc: Global, rows: usize, cols: usize) -> Result<Self, Fault>
         ensures screen { IfOk result (λ g. g.screen ≡ start rows cols) }
         ensures first { IfOk result (λ g. g.first ≡ 0) }
-        ensures bad_size { IsErrOf result Fault.BadSize ↔ (is_size rows cols ≡ false) }
+        ensures bad_size { IsErrOf result Fault.BadSize ↔ (¬ IsSize rows cols) }
         ensures err { IfErr result (λ e. (e ≡ Fault.BadSize) ⊎ (e ≡ Fault.OutOfMemory)) }
     {
-        if rows < 2 || 100 < rows || cols < 4 || 250 < cols {
+        if !is_size(rows, cols) {
             return Err(Fault::BadSize);
         }
         Ok(Grid {
@@ -131,6 +133,16 @@ impl Grid {
     {
         (self.top, self.bottom)
     }
+}
+
+/// Whether a screen may have this size, in rows and columns.
+fn is_size(rows: usize, cols: usize) -> bool
+    ensures size { IsTrue result ↔ IsSize rows cols }
+{
+    if rows < LEAST_ROWS as usize || rows > MOST_ROWS as usize {
+        return false;
+    }
+    LEAST_COLUMNS as usize <= cols && cols <= MOST_COLUMNS as usize
 }
 
 /// The tab stops at the start.

@@ -14,3 +14,5 @@ pub mod running;
 pub mod scrolling;
 pub mod shapes;
 pub mod writing;
+#[cfg(test)]
+mod tests;

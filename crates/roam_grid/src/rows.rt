@@ -4,6 +4,7 @@ ghost use Rattle.roam_grid.specs.Turned.{AreBlanked, AreLifted, AreLowered, in_o
 
 use crate::shapes::Shape;
 use roam_cells::Cell;
+use roam_cells::limits::{MOST_COLUMNS, MOST_ROWS};
 
 /// Blanks the cells from one index on and before another.
 pub fn blank_between(cells: &mut [Cell], start: usize, end: usize)
@@ -18,7 +19,7 @@ pub fn blank_between(cells: &mut [Cell], start: usize, end: usize)
 
 /// Blanks rows of the screen, from one on and before another.
 pub fn blank_rows(buffer: &mut [Cell], shape: Shape, from: usize, to: usize)
-    requires sizes { (shape.rows ≤ 100) × (shape.cols ≤ 250) }
+    requires sizes { (shape.rows ≤ MOST_ROWS) × (shape.cols ≤ MOST_COLUMNS) }
     requires size { length buffer.old ≡ shape.rows * shape.cols }
     requires rows_in { (shape.first < shape.rows) × (from ≤ to) × (to ≤ shape.rows) }
     ensures len { length buffer.new ≡ length buffer.old }
@@ -32,7 +33,7 @@ pub fn blank_rows(buffer: &mut [Cell], shape: Shape, from: usize, to: usize)
 
 /// Moves rows of the screen up by n where neither they nor those n below go past the buffer's end.
 pub fn lift_stretch(buffer: &mut [Cell], shape: Shape, from: usize, to: usize, n: usize)
-    requires sizes { (shape.rows ≤ 100) × (shape.cols ≤ 250) }
+    requires sizes { (shape.rows ≤ MOST_ROWS) × (shape.cols ≤ MOST_COLUMNS) }
     requires size { length buffer.old ≡ shape.rows * shape.cols }
     requires rows_in { (shape.first < shape.rows) × (from ≤ to) × (to + n ≤ shape.rows) }
     requires target { from < to → brought_back shape.rows (shape.first + from) + (to - from) ≤ shape.rows }
@@ -50,7 +51,7 @@ pub fn lift_stretch(buffer: &mut [Cell], shape: Shape, from: usize, to: usize, n
 
 /// Moves rows of the screen down by n where neither they nor those n above go past the buffer's end.
 pub fn lower_stretch(buffer: &mut [Cell], shape: Shape, from: usize, to: usize, n: usize)
-    requires sizes { (shape.rows ≤ 100) × (shape.cols ≤ 250) }
+    requires sizes { (shape.rows ≤ MOST_ROWS) × (shape.cols ≤ MOST_COLUMNS) }
     requires size { length buffer.old ≡ shape.rows * shape.cols }
     requires rows_in { (shape.first < shape.rows) × (n ≤ from) × (from ≤ to) × (to ≤ shape.rows) }
     requires target { from < to → brought_back shape.rows (shape.first + from) + (to - from) ≤ shape.rows }
@@ -68,7 +69,7 @@ pub fn lower_stretch(buffer: &mut [Cell], shape: Shape, from: usize, to: usize, 
 
 /// Moves rows of the screen up by n, in the stretches that lie together in the buffer, the top one first.
 pub fn lift_rows(buffer: &mut [Cell], shape: Shape, from: usize, to: usize, n: usize)
-    requires sizes { (shape.rows ≤ 100) × (shape.cols ≤ 250) }
+    requires sizes { (shape.rows ≤ MOST_ROWS) × (shape.cols ≤ MOST_COLUMNS) }
     requires size { length buffer.old ≡ shape.rows * shape.cols }
     requires rows_in { (shape.first < shape.rows) × (from ≤ to) × (to + n ≤ shape.rows) }
     ensures len { length buffer.new ≡ length buffer.old }
@@ -84,7 +85,7 @@ pub fn lift_rows(buffer: &mut [Cell], shape: Shape, from: usize, to: usize, n: u
 
 /// Moves rows of the screen down by n, in the stretches that lie together in the buffer, the bottom one first.
 pub fn lower_rows(buffer: &mut [Cell], shape: Shape, from: usize, to: usize, n: usize)
-    requires sizes { (shape.rows ≤ 100) × (shape.cols ≤ 250) }
+    requires sizes { (shape.rows ≤ MOST_ROWS) × (shape.cols ≤ MOST_COLUMNS) }
     requires size { length buffer.old ≡ shape.rows * shape.cols }
     requires rows_in { (shape.first < shape.rows) × (n ≤ from) × (from ≤ to) × (to ≤ shape.rows) }
     ensures len { length buffer.new ≡ length buffer.old }

@@ -1,6 +1,8 @@
 ghost use Rattle.std.specs.Prelude.{◌≡◌, ◌+◌, ◌<◌, ◌≤◌};
 ghost use Rattle.roam_grid.specs.Turned.{brought_back};
 
+use roam_cells::limits::MOST_ROWS;
+
 /// The rows and columns of a screen, and the row of its buffer that it begins with.
 #[derive(Clone, Copy)]
 pub struct Shape {
@@ -13,7 +15,7 @@ impl Shape {
     /// The row of the buffer that row i of the screen is, both from 0.
     #[inline]
     pub fn place(self, i: usize) -> usize
-        requires rows { (self.first < self.rows) × (self.rows ≤ 100) }
+        requires rows { (self.first < self.rows) × (self.rows ≤ MOST_ROWS) }
         requires row { i < self.rows }
         ensures place { result ≡ brought_back self.rows (self.first + i) }
         ensures low { result < self.rows }

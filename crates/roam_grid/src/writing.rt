@@ -10,6 +10,7 @@ use crate::grids::Grid;
 use crate::halves::part_twice;
 use crate::shapes::Shape;
 use roam_cells::Cell;
+use roam_cells::limits::MOST_COLUMNS;
 
 /// The modes that writing depends on.
 #[derive(Clone, Copy)]
@@ -189,7 +190,7 @@ impl Grid {
     #[inline]
     #[tactic(auto, unfolding(crate::specs::Writing::advanced))]
     pub(crate) fn advance(&mut self, columns: usize, writing: Writing)
-        requires few { columns ≤ 250 }
+        requires few { columns ≤ MOST_COLUMNS }
         ensures screen { self.new.screen ≡ advanced columns writing self.old.screen }
         ensures first { self.new.first ≡ self.old.first }
     {

@@ -13,10 +13,10 @@ returns-then-is_right_half-clause-parted c =
     let col = c.args.col in
     let right = c.index-row-col.result in
     let left = c.index-row-col-then-is_right_half.result in
-    let half : is_right_half right ≡ true = sym (c.is_right_half.ensures) ∙ c.if-is_right_half.true in
+    let half : is_right_half right ≡ true = sym (c.is_right_half.ensures.half) ∙ c.if-is_right_half.true in
     let right_is : right ≡ glyph_at s col = get_or_read s col right (omega arith) c.index-row-col.is blank in
     let left_is : left ≡ glyph_at s (col - 1) = get_or_read s (col - 1) left (omega arith) c.index-row-col-then-is_right_half.is blank in
-    rw (c.space_in.ensures, c.space_in-then-is_right_half.ensures) (part_is col s right left c.if-col-gt0.true c.if-col-row.true c.requires.whole half right_is left_is)
+    rw (c.space_in.ensures.cell, c.space_in-then-is_right_half.ensures.cell) (part_is col s right left c.if-col-gt0.true c.if-col-row.true c.requires.whole half right_is left_is)
 
 pub returns-then-is_right_half-clause-whole : goal.returns-then-is_right_half-clause-whole
 returns-then-is_right_half-clause-whole c = parted_whole (cut_at c.args.col) c.args.row.now _ c.requires.whole (returns-then-is_right_half-clause-parted c)
@@ -24,4 +24,4 @@ returns-then-is_right_half-clause-whole c = parted_whole (cut_at c.args.col) c.a
 pub returns-else-is_right_half-clause-parted : goal.returns-else-is_right_half-clause-parted
 returns-else-is_right_half-clause-parted c =
     part_none c.args.col c.args.row.now c.requires.whole
-    (λ p q. ap is_right_half (sym (get_or_read c.args.row.now c.args.col c.index-row-col.result q c.index-row-col.is blank)) ∙ sym (c.is_right_half.ensures) ∙ c.if-is_right_half.false)
+    (λ p q. ap is_right_half (sym (get_or_read c.args.row.now c.args.col c.index-row-col.result q c.index-row-col.is blank)) ∙ sym (c.is_right_half.ensures.half) ∙ c.if-is_right_half.false)

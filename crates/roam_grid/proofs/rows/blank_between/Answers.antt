@@ -11,7 +11,7 @@ returns c =
     let size = a.end - a.start in
     let part : length (take size (drop a.start xs)) ≡ size = simp (length-take, length-drop) (omega arith) in
     let fresh : c.fill.new.self ≡ replicate size blank =
-    c.fill.ensures.after (λ y e. e) ∙ ap (λ n. replicate n c.blank.result) part ∙ ap (replicate size) c.blank.ensures in
+    c.fill.ensures.after (λ y e. e) ∙ ap (λ n. replicate n c.blank.result) part ∙ ap (replicate size) c.blank.ensures.cell in
     let is : put_mid a.start size xs c.fill.new.self ≡ put_mid a.start size xs (replicate size blank) = ap (put_mid a.start size xs) fresh in
     record {
       len = ap length is ∙ length-filled a.start size xs blank (omega arith);

@@ -8,9 +8,9 @@ pub returns-then-is_wide-clause-after : goal.returns-then-is_wide-clause-after
 returns-then-is_wide-clause-after c =
     let a = c.args in
     let q = c.requires in
-    let wide : is_wide a.cell ≡ true = sym (c.is_wide.ensures) ∙ c.if-is_wide.true in
+    let wide : is_wide a.cell ≡ true = sym (c.is_wide.ensures.wide) ∙ c.if-is_wide.true in
     let P = c.part_twice.new.row in
-    let half : c.right_half.result ≡ right_of a.cell = rw (c.style.ensures, c.guard.ensures) at c.right_half.ensures in
+    let half : c.right_half.result ≡ right_of a.cell = rw (c.style.ensures.style, c.guard.ensures.guard) at c.right_half.ensures.cell in
     ap (set (set P a.col a.cell) (a.col + 1)) half
     ∙ written_wide a.col a.row.now P a.cell q.whole c.part_twice.ensures.parted (q.room wide) wide q.no_half
 
@@ -19,7 +19,7 @@ returns-else-is_wide-clause-after c =
     let a = c.args in
     let q = c.requires in
     let p = c.part_twice-else-is_wide in
-    let narrow : is_wide a.cell ≡ false = sym (c.is_wide.ensures) ∙ c.if-is_wide.false in
+    let narrow : is_wide a.cell ≡ false = sym (c.is_wide.ensures.wide) ∙ c.if-is_wide.false in
     written_narrow a.col a.row.now p.new.row a.cell q.whole p.ensures.parted q.col_in narrow q.no_half
 
 pub returns-then-is_wide-clause-whole : goal.returns-then-is_wide-clause-whole

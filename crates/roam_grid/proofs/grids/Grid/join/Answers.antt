@@ -10,7 +10,7 @@ invariant_of-self c =
     let new = c.join_in.new.buffer in
     let cells : (with_items f.cells new).items ≡ new = with_items_is f.cells new (omega (arith, c.deref_mut.ensures.len, c.join_in.auto.buffer)) in
     record {
-      frame = record { rows_in = frame.rows_in; cols_in = frame.cols_in; row_in = frame.row_in; col_in = frame.col_in; pends = frame.pends; margins = frame.margins; stops = frame.stops };
+      frame = record { size = frame.size; row_in = frame.row_in; col_in = frame.col_in; pends = frame.pends; margins = frame.margins; stops = frame.stops };
       turned = rw cells c.join_in.ensures.turned;
     }
 
@@ -21,6 +21,6 @@ invariant_of-self-then-self-ne0 c =
     let new = c.join_in-then-self-ne0.new.buffer in
     let cells : (with_items f.cells new).items ≡ new = with_items_is f.cells new (omega (arith, c.deref_mut-then-self-ne0.ensures.len, c.join_in-then-self-ne0.auto.buffer)) in
     record {
-      frame = record { rows_in = frame.rows_in; cols_in = frame.cols_in; row_in = frame.row_in; col_in = frame.col_in; pends = frame.pends; margins = frame.margins; stops = frame.stops };
+      frame = record { size = frame.size; row_in = frame.row_in; col_in = frame.col_in; pends = frame.pends; margins = frame.margins; stops = frame.stops };
       turned = rw cells c.join_in-then-self-ne0.ensures.turned;
     }

@@ -12,4 +12,4 @@ returns-clause-first c =
     c.advance.ensures.first ∙ c.ink.ensures.first ∙ c.make_room.ensures.first
     ∙ ap (λ t. first_with_room n a.writing t c.settle.new.self.first) c.settle.ensures.screen
     ∙ ap (first_with_room n a.writing (settled s)) c.settle.ensures.first
-    ∙ first_steps n a.writing s a.self.now.first c.facts.ensures.screen.frame.cols_in.0
+    ∙ first_steps n a.writing s a.self.now.first c.facts.ensures.screen.frame.size.least_columns

@@ -22,7 +22,7 @@ loop-at-preserved c =
     let within : at + m ≤ length a.bytes.now = omega (arith, c.min-count.ensures, c.loop-at-test.true) in
     let split : inked_bytes a.pen (drop at a.bytes.now) ≡ now ++ rest = bytes_split a.pen a.bytes.now at m (at + m - at) (omega arith) in
     let some : 0 < length now = omega (arith, length-bytes a.pen part, bytes_some a.bytes.now at m (at + m - at) (omega arith) within) in
-    let wide : 4 ≤ s.cols = omega (arith, settled_cols s, ap (λ (v : Screen). v.cols) c.settle.ensures.screen, ap (λ (v : GridView). v.screen.cols) c.self.view_is, c.self.invariant.frame.cols_in) in
+    let wide : 4 ≤ s.cols = omega (arith, settled_cols s, ap (λ (v : Screen). v.cols) c.settle.ensures.screen, ap (λ (v : GridView). v.screen.cols) c.self.view_is, c.self.invariant.frame.size.least_columns) in
     let seg : c.put_segment.new.self.screen ≡ put_all now w s =
     c.put_segment.ensures.screen ∙ ap (put_all now w) c.settle.ensures.screen ∙ put_all_settled now w s some in
     let seg' : c.put_segment.new.self.first ≡ first_put_all now w s l.self.first =
