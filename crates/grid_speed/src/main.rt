@@ -1,0 +1,111 @@
+//! Measures how fast a grid is written and scrolled: `grid_speed MILLIONS` writes that many million characters in each of several ways,
+//! and prints for each its name, rows, columns, cells and microseconds. Without words it does a moment's work, and prints nothing.
+#![tactic(auto)]
+
+ghost use Rattle.std.specs.Prelude.{◌≤◌};
+
+use anyhow::{Context, bail};
+use roam_cells::{Cell, Style};
+use roam_grid::{Grid, Writing};
+use std::env;
+use std::time::Instant;
+
+const WRITING: Writing = Writing { wraps: true };
+
+/// Bytes of a run: more than a row of either size.
+const RUN: usize = 1000;
+
+// Characters one by one, with a scroll at each row's end.
+fn write_singly(grid: &mut Grid, count: u64) {
+    let cell = Cell::ascii(b'a', Style::default(), false);
+    for _ in 0..count {
+        grid.put(cell, WRITING);
+    }
+}
+
+// The same by runs.
+fn write_runs(grid: &mut Grid, count: u64) {
+    let bytes = [b'a'; RUN];
+    let pen = Cell::blank();
+    for _ in 0..count / RUN as u64 {
+        grid.put_run(pen, &bytes, WRITING);
+    }
+}
+
+// Scrolls by one row between margins one row from the edges, on a screen whose first row stands in the middle of the buffer.
+fn scroll_within(grid: &mut Grid, times: u64) {
+    grid.scroll_up(grid.rows() / 2);
+    let bottom = grid.rows().saturating_sub(2);
+    if 1 < bottom && bottom < grid.rows() {
+        grid.set_margins(1, bottom);
+    }
+    for _ in 0..times {
+        grid.scroll_up(1);
+    }
+}
+
+// The move of as many rows in one flat list, and the blank row: what a scroll between those margins is without an index.
+fn move_flat(cells: &mut [Cell], rows: usize, cols: usize, times: u64)
+    requires size { (rows ≤ 100) × (cols ≤ 250) }
+{
+    if rows < 4 || cells.len() != rows * cols {
+        return;
+    }
+    for _ in 0..times {
+        cells.copy_within(2 * cols..(rows - 1) * cols, cols);
+        cells[(rows - 2) * cols..(rows - 1) * cols].fill(Cell::blank());
+    }
+}
+
+fn measure(rt: &HostRuntime, rows: usize, cols: usize, count: u64) -> anyhow::Result<()>
+    requires size { (rows ≤ 100) × (cols ≤ 250) }
+{
+    let mut grid = Grid::new(rt.alloc(), rows, cols)?;
+    let start = Instant::now(rt)?;
+    write_singly(&mut grid, count);
+    let singly = start.elapsed(rt)?.as_micros();
+    println!(rt; "put {rows} {cols} {count} {singly}")?;
+
+    let start = Instant::now(rt)?;
+    write_runs(&mut grid, count);
+    let runs = start.elapsed(rt)?.as_micros();
+    println!(rt; "run {rows} {cols} {count} {runs}")?;
+
+    let screen = rows as u64 * cols as u64;
+    if screen == 0 {
+        bail!("an empty screen");
+    }
+    let times = (count / screen).saturating_mul(20);
+    let start = Instant::now(rt)?;
+    scroll_within(&mut grid, times);
+    let scrolls = start.elapsed(rt)?.as_micros();
+    println!(rt; "scroll {rows} {cols} {times} {scrolls}")?;
+
+    let mut cells = vec![in rt.alloc(); Cell::blank(); rows * cols]?;
+    let start = Instant::now(rt)?;
+    move_flat(&mut cells, rows, cols, times);
+    let flat = start.elapsed(rt)?.as_micros();
+    println!(rt; "flat {rows} {cols} {times} {flat}")?;
+    let (row, col) = grid.cursor();
+    println!(rt; "end {row} {col} {}", cells.len())?;
+    Ok(())
+}
+
+fn main(rt: HostRuntime) -> anyhow::Result<()> {
+    let mut words = env::args(&rt)?;
+    words.next();
+    let Some(word) = words.next() else {
+        let mut grid = Grid::new(rt.alloc(), 24, 80)?;
+        write_singly(&mut grid, 10_000);
+        write_runs(&mut grid, 10_000);
+        scroll_within(&mut grid, 10);
+        if grid.cursor() != (24, 80) {
+            bail!("the cursor is not where 20,000 characters leave it");
+        }
+        return Ok(());
+    };
+    let millions = word.parse::<u16>().ok().context("MILLIONS is no number")?;
+    let count = u64::from(millions) * 1_000_000;
+    measure(&rt, 24, 80, count)?;
+    measure(&rt, 100, 250, count)
+}
