@@ -1,11 +1,11 @@
 #!/usr/bin/env bash
 # bench/grid.sh [MILLIONS [ROUNDS]]: how fast a grid takes characters one by one and by runs, with scrolling, and how fast it scrolls
-# between margins beside a plain move in one flat list, at 24 by 80 and at 100 by 250. The best of the rounds counts for each, since
+# between margins beside a plain move in one flat list, at 24 by 80 and at 100 by 250. The best slice of all rounds counts for each, since
 # other work on the machine only slows one down. It needs rt.
 set -eu
 here=$(cd "$(dirname "$0")" && pwd)
 millions=${1:-50}
-rounds=${2:-5}
+rounds=${2:-3}
 folder=$(mktemp -d)
 trap 'rm -rf "$folder"' EXIT
 

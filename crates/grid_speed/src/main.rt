@@ -1,5 +1,6 @@
-//! Measures how fast a grid is written and scrolled: `grid_speed MILLIONS` writes that many million characters in each of several ways,
-//! and prints for each its name, rows, columns, cells and microseconds. Without words it does a moment's work, and prints nothing.
+//! Measures how fast a grid is written and scrolled: `grid_speed MILLIONS` writes that many million characters in ten slices, and for
+//! each slice and way prints its name, rows, columns, characters (or scrolls) and microseconds. Without words it does a moment's work,
+//! and prints nothing.
 #![tactic(auto)]
 
 ghost use Rattle.std.specs.Prelude.{◌≤◌};
@@ -11,6 +12,9 @@ use std::env;
 use std::time::Instant;
 
 const WRITING: Writing = Writing { wraps: true };
+
+/// The slices that the characters are written in.
+const SLICES: u64 = 10;
 
 /// Bytes of a run: more than a row of either size.
 const RUN: usize = 1000;
@@ -105,7 +109,11 @@ fn main(rt: HostRuntime) -> anyhow::Result<()> {
         return Ok(());
     };
     let millions = word.parse::<u16>().ok().context("MILLIONS is no number")?;
-    let count = u64::from(millions) * 1_000_000;
-    measure(&rt, 24, 80, count)?;
-    measure(&rt, 100, 250, count)
+    // In slices, one size after the other, so that other work on the machine slows neither alone.
+    let count = u64::from(millions) * 1_000_000 / SLICES;
+    for _ in 0..SLICES {
+        measure(&rt, 24, 80, count)?;
+        measure(&rt, 100, 250, count)?;
+    }
+    Ok(())
 }
