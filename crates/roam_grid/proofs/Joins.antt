@@ -1,5 +1,5 @@
 -- A character that joins a cell.
-use Rattle.std.proofs.Common.{◌≡◌, ◌≢◌, ℕ, ◌+◌, ◌-◌, ◌*◌, ◌<◌, ◌≤◌, inl, inr, Bool, true, false, not, ◌&&◌, cond, eqb, leb, List, [], ◌∷◌, ◌++◌, take, drop, set, length, get_or, Option, Some, None, refl, sym, ap, ◌∙◌, arith, length-append, length-take, length-drop, length-set, get_or-set_same, get_or-set_other}
+use Rattle.std.proofs.Common.{◌≡◌, ◌≢◌, ℕ, ◌+◌, ◌-◌, ◌*◌, ◌<◌, ◌≤◌, inl, inr, Bool, true, false, not, ◌&&◌, cond, eqb, leb, List, [], ◌∷◌, ◌++◌, take, drop, set, length, get_or, Some, None, refl, sym, ap, ◌∙◌, arith, length-append, length-take, length-drop, length-set, get_or-set_same, get_or-set_other}
 use Rattle.std.proofs.lemmas.Bool.{false≢true, cases_eq}
 use Rattle.std.proofs.lemmas.List.{same_lists, get_or-take, get_or_append_left, get_or-append_right}
 use Rattle.std.proofs.lemmas.Nat.{same_from_place}
@@ -10,7 +10,7 @@ use Rattle.roam_cells.proofs.Places.{table_is, place_below}
 use Rattle.roam_cells.specs.Width.{width_of}
 use Rattle.roam_grid.proofs.Mending.{and_right, leb-means}
 use Rattle.roam_grid.specs.Turned.{IsTurned, in_order, brought_back}
-use Rattle.roam_grid.specs.Writing.{with_point, base_column, joined_in}
+use Rattle.roam_grid.specs.Writing.{with_point}
 use Rattle.roam_grid.proofs.Turning.{turned_at, length-in_order, back_apart, back_below}
 
 pub at_end : (xs zs : List ℕ) (n c : ℕ) → n ≡ length xs → 0 < length zs → take (n + 1) (set (xs ++ zs) n c) ≡ xs ++ c ∷ []
@@ -103,14 +103,16 @@ module _ (rows cols R B : ℕ) (old new : List Glyph) (y : Glyph) (R_in : R < ro
         ];
     half = λ r c p q w.
         let apart : r ≡ R → c ≡ B → ⊥ = λ a b. false≢true (sym same.1 ∙ sym (ap is_right_half (replaced_at r c a b)) ∙ w) in
-        let pair = whole.half r c p q (ap is_right_half (sym (others r c p q apart)) ∙ w) in
-        (pair.0, elim (cases_eq r R) [
-          | inl a ↦ elim (cases_eq (c - 1) B) [
-            | inl b ↦ ap is_wide (replaced_at r (c - 1) a b) ∙ same.0 ∙ sym (ap is_wide (ap (λ j. cell_at cols old j (c - 1)) a ∙ ap (cell_at cols old R) b)) ∙ pair.1
-            | inr b ↦ ap is_wide (others r (c - 1) p (omega arith) (λ e f. b f)) ∙ pair.1
-          ]
-          | inr a ↦ ap is_wide (others r (c - 1) p (omega arith) (λ e f. a e)) ∙ pair.1
-        ]);
+        let pair = whole.half r c p q (ap is_right_half (sym (others r c p q apart)) ∙ w) in (
+          pair.0,
+          elim (cases_eq r R) [
+            | inl a ↦ elim (cases_eq (c - 1) B) [
+              | inl b ↦ ap is_wide (replaced_at r (c - 1) a b) ∙ same.0 ∙ sym (ap is_wide (ap (λ j. cell_at cols old j (c - 1)) a ∙ ap (cell_at cols old R) b)) ∙ pair.1
+              | inr b ↦ ap is_wide (others r (c - 1) p (omega arith) (λ e f. b f)) ∙ pair.1
+            ]
+            | inr a ↦ ap is_wide (others r (c - 1) p (omega arith) (λ e f. a e)) ∙ pair.1
+          ],
+        );
   }
 
 -- one cell of the buffer is replaced

@@ -8,9 +8,9 @@ use Rattle.roam_cells.specs.Glyph.{Glyph, is_wide, is_right_half, right_of, blan
 use Rattle.roam_cells.specs.Place.{cell_at, AreWhole}
 use Rattle.roam_cells.proofs.Places.{table_is, get_or-table, row_from}
 use Rattle.roam_grid.specs.Row.{RowSource, Column, Ink, glyph_at, IsWholeRow, row_taken, are_neighbours, mended, row_moved, row_moved_at}
-use Rattle.roam_grid.specs.Places.{Source, From, Fresh, taken, are_joined, moved, moved_at, at_row, in_row}
+use Rattle.roam_grid.specs.Places.{From, taken, are_joined, moved, moved_at, at_row, in_row}
 use Rattle.roam_grid.specs.Turned.{IsTurned, in_order, brought_back}
-use Rattle.roam_grid.proofs.Columns.{row_at, length-row}
+use Rattle.roam_grid.proofs.Columns.{row_at}
 use Rattle.roam_grid.proofs.Vertical.{row_stays, shown, shown_by}
 use Rattle.roam_grid.proofs.Turning.{turned_at, length-in_order, others_stay, back_below}
 

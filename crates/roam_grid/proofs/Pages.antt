@@ -1,11 +1,11 @@
 -- Part of the screen that becomes blank: part of a row, and the rows below or above it.
-use Rattle.std.proofs.Common.{◌≡◌, ◌≢◌, ℕ, ◌+◌, ◌-◌, ◌*◌, ◌<◌, ◌≤◌, ◌⊎◌, inl, inr, Bool, true, false, ◌&&◌, ◌||◌, cond, eqb, ltb, leb, List, length, refl, sym, ap, ◌∙◌, arith}
+use Rattle.std.proofs.Common.{◌≡◌, ◌≢◌, ℕ, ◌+◌, ◌-◌, ◌*◌, ◌<◌, ◌≤◌, ◌⊎◌, inl, inr, Bool, true, false, ◌&&◌, cond, ltb, leb, List, length, refl, sym, ap, ◌∙◌, arith}
 use Rattle.std.proofs.lemmas.Bool.{cases_lt, cases_eq}
 use Rattle.std.proofs.lemmas.Grind.{common_steps}
 use Rattle.roam_cells.specs.Glyph.{Glyph, blank}
-use Rattle.roam_cells.specs.Place.{cell_at, AreWhole}
+use Rattle.roam_cells.specs.Place.{cell_at}
 use Rattle.roam_cells.proofs.Places.{table_is, get_or-table}
-use Rattle.roam_grid.specs.Row.{RowSource, Column, Ink, mended, blanked}
+use Rattle.roam_grid.specs.Row.{Column, Ink, mended, blanked}
 use Rattle.roam_grid.specs.Places.{Source, From, Fresh, taken, are_joined, moved, moved_at, at_row, in_row}
 use Rattle.roam_grid.specs.Turned.{AreBlanked}
 use Rattle.roam_grid.specs.Erasing.{line_from, line_to, page_from, page_to, is_in_page, page_blanked}

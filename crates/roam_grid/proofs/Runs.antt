@@ -1,17 +1,17 @@
 -- Cells of one column that are written one after another.
-use Rattle.std.proofs.Common.{◌≡◌, ◌≢◌, ℕ, zero, suc, ◌+◌, ◌-◌, ◌*◌, ◌<◌, ◌≤◌, ◌⊎◌, inl, inr, Bool, true, false, not, ◌&&◌, cond, eqb, ltb, leb, List, [], ◌∷◌, ◌++◌, take, drop, length-take, length-drop, length, map, get_or, refl, sym, ap, ◌∙◌, arith}
+use Rattle.std.proofs.Common.{◌≡◌, ◌≢◌, ℕ, zero, suc, ◌+◌, ◌-◌, ◌<◌, ◌≤◌, inl, inr, Bool, true, false, not, ◌&&◌, cond, eqb, ltb, leb, List, [], ◌∷◌, ◌++◌, take, drop, length-take, length-drop, length, map, get_or, refl, sym, ap, ◌∙◌, arith}
 use Rattle.std.specs.List.{range_with_len}
-use Rattle.std.proofs.lemmas.Bool.{false≢true, cases_lt, cases_eq}
+use Rattle.std.proofs.lemmas.Bool.{false≢true, cases_eq}
 use Rattle.std.proofs.lemmas.List.{same_lists, get_or-drop, map-append, take-append-drop}
 use Rattle.std.proofs.lemmas.Grind.{common_steps}
-use Rattle.roam_cells.specs.Glyph.{Glyph, is_wide, is_right_half, right_of, blank, ascii_in}
+use Rattle.roam_cells.specs.Glyph.{Glyph, is_wide, right_of, blank, ascii_in}
 use Rattle.roam_cells.specs.Place.{cell_at, AreWhole}
 use Rattle.roam_cells.proofs.Places.{table_is, get_or-table, length-table}
 use Rattle.roam_grid.specs.Row.{RowSource, Column, Ink, glyph_at, IsWholeRow, mended, row_taken, row_moved, row_moved_at, written, written_run}
 use Rattle.roam_grid.specs.Places.{From, moved, moved_at, at_row, in_row}
 use Rattle.roam_grid.specs.Halves.{AreParted, cut_twice}
 use Rattle.roam_grid.specs.Screen.{Screen, mapped, first_scrolled_up}
-use Rattle.roam_grid.specs.Writing.{columns, wrapped, settled, first_settled, with_room, inked, advanced, leaves_row, put_on, first_put, put_all, first_put_all}
+use Rattle.roam_grid.specs.Writing.{columns, settled, first_settled, with_room, inked, advanced, leaves_row, put_on, first_put, put_all, first_put_all}
 use Rattle.roam_grid.specs.declared.writing.Writing.{Writing}
 use Rattle.roam_grid.proofs.Mending.{mended_same, mended-mended, is_wide-blank}
 use Rattle.roam_grid.proofs.Columns.{row_is, row_at, length-row, in_column}
@@ -255,10 +255,10 @@ put_all_is (h ∷ gs) g w s first narrow none fits row_in whole =
     (run_in_row s.cols s.col (g ∷ [])) (run_in_row s.cols (s.col + 1) (h ∷ gs)) (run_in_row s.cols s.col (g ∷ h ∷ gs)) one_whole
     (row_run_after s.col g (h ∷ gs) row narrow (omega arith) row_is_whole) in (
       ap (put_all (h ∷ gs) w) step ∙ later.0
-      ∙ ap (λ (xs : List Glyph). advanced (length (h ∷ gs)) w (record t { cells = xs })) after
-      ∙ ap (λ k. cond (ltb k s.cols) (record s { cells = moved s.rows s.cols s.cells (in_row R (written_run (g ∷ h ∷ gs) s.col)); col = k })
-      (record s { cells = moved s.rows s.cols s.cells (in_row R (written_run (g ∷ h ∷ gs) s.col)); col = s.cols - 1; pending = w.wraps })) (omega arith),
-      ap (λ u. first_put_all (h ∷ gs) w u (first_put g w s first)) step ∙ ap (first_put_all (h ∷ gs) w t) (first_one g w s first (narrow 0).0 none) ∙ later.1
+          ∙ ap (λ (xs : List Glyph). advanced (length (h ∷ gs)) w (record t { cells = xs })) after
+          ∙ ap (λ k. cond (ltb k s.cols) (record s { cells = moved s.rows s.cols s.cells (in_row R (written_run (g ∷ h ∷ gs) s.col)); col = k })
+          (record s { cells = moved s.rows s.cols s.cells (in_row R (written_run (g ∷ h ∷ gs) s.col)); col = s.cols - 1; pending = w.wraps })) (omega arith),
+      ap (λ u. first_put_all (h ∷ gs) w u (first_put g w s first)) step ∙ ap (first_put_all (h ∷ gs) w t) (first_one g w s first (narrow 0).0 none) ∙ later.1,
     )
 
 pub put_some_is : (gs : List Glyph) (w : Writing) (s : Screen) (first : ℕ) → 0 < length gs → AreNarrow gs → s.pending ≡ false → s.col + length gs ≤ s.cols

@@ -1,10 +1,10 @@
 -- Rows that go up and down, and rows that become blank.
-use Rattle.std.proofs.Common.{◌≡◌, ℕ, ◌+◌, ◌-◌, ◌*◌, ◌<◌, ◌≤◌, ◌⊎◌, Bool, true, false, ◌&&◌, cond, ltb, min, inl, inr, List, length, sym, ap, ◌∙◌, subst, arith}
-use Rattle.std.proofs.lemmas.Bool.{false≢true, cases_lt, cases_eq}
+use Rattle.std.proofs.Common.{◌≡◌, ℕ, ◌+◌, ◌-◌, ◌*◌, ◌<◌, ◌≤◌, ◌⊎◌, true, ◌&&◌, ltb, min, inl, inr, List, length, sym, ap, ◌∙◌, arith}
+use Rattle.std.proofs.lemmas.Bool.{false≢true, cases_lt}
 use Rattle.std.proofs.lemmas.Grind.{common_steps}
 use Rattle.roam_cells.specs.Glyph.{Glyph, is_wide, is_right_half, right_of, blank}
 use Rattle.roam_cells.specs.Place.{cell_at, AreWhole}
-use Rattle.roam_cells.proofs.Places.{table_is, get_or-table}
+use Rattle.roam_cells.proofs.Places.{table_is}
 use Rattle.roam_grid.specs.Row.{mended}
 use Rattle.roam_grid.specs.Places.{Source, From, Fresh, taken, are_joined, moved, moved_at, up, down}
 use Rattle.roam_grid.specs.Turned.{IsTurned, KeepsRows, in_order, brought_back, AreBlanked, AreLifted, AreLowered}

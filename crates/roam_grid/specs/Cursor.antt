@@ -1,4 +1,4 @@
-use Rattle.std.specs.Prelude.{ℕ, ◌+◌, ◌-◌, Bool, true, false, ◌==◌, nat_lt, min, max, if◌then◌else◌}
+use Rattle.std.specs.Prelude.{ℕ, ◌+◌, ◌-◌, false, ◌==◌, nat_lt, min, max, if◌then◌else◌}
 use Rattle.roam_grid.specs.Screen.{Screen, scrolled_up, first_scrolled_up}
 
 -- one column to the left, not past the first (BS, ECMA-48 8.3.5)

@@ -13,6 +13,6 @@ pub mod rows;
 pub mod running;
 pub mod scrolling;
 pub mod shapes;
-pub mod writing;
 #[cfg(test)]
 mod tests;
+pub mod writing;

@@ -43,7 +43,14 @@ pub fn write_run(row: &mut [Cell], col: usize, pen: Cell, bytes: &[u8])
 
 /// Writes ASCII cells beside each other into a row of the screen, in the style and guard of a pen.
 #[inline]
-pub fn write_run_in(buffer: &mut [Cell], shape: Shape, row: usize, col: usize, pen: Cell, bytes: &[u8])
+pub fn write_run_in(
+    buffer: &mut [Cell],
+    shape: Shape,
+    row: usize,
+    col: usize,
+    pen: Cell,
+    bytes: &[u8],
+)
     requires turned { IsTurned shape.rows shape.cols shape.first buffer.old }
     requires on_screen { (row < shape.rows) × (col + length bytes.now ≤ shape.cols) }
     requires some { 0 < length bytes.now }

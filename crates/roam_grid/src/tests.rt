@@ -128,7 +128,13 @@ const ROWS: [Row; 31] = [
     Row {
         name: "the first of three lines is scrolled out",
         size: (2, 8),
-        acts: &[Act::Type("a"), Act::NewLine, Act::Type("b"), Act::NewLine, Act::Type("c")],
+        acts: &[
+            Act::Type("a"),
+            Act::NewLine,
+            Act::Type("b"),
+            Act::NewLine,
+            Act::Type("c"),
+        ],
         shows: &["b       ", "c       "],
         cursor: (2, 2),
         pending: false,
@@ -208,7 +214,11 @@ const ROWS: [Row; 31] = [
     Row {
         name: "EL at a pending wrap",
         size: (2, 8),
-        acts: &[Act::Type("abcdefgh"), Act::Line(Extent::ToEnd), Act::Type("x")],
+        acts: &[
+            Act::Type("abcdefgh"),
+            Act::Line(Extent::ToEnd),
+            Act::Type("x"),
+        ],
         shows: &["abcdefgx", "        "],
         cursor: (1, 8),
         pending: true,
@@ -217,7 +227,9 @@ const ROWS: [Row; 31] = [
         name: "CUD stops at the bottom margin",
         size: (6, 8),
         acts: &[Act::Margins(2, 4), Act::Go(1, 1), Act::Down(9999)],
-        shows: &["        ", "        ", "        ", "        ", "        ", "        "],
+        shows: &[
+            "        ", "        ", "        ", "        ", "        ", "        ",
+        ],
         cursor: (4, 1),
         pending: false,
     },
@@ -225,22 +237,41 @@ const ROWS: [Row; 31] = [
         name: "CUD below the bottom margin stops at the last row",
         size: (6, 8),
         acts: &[Act::Margins(2, 4), Act::Go(5, 1), Act::Down(9999)],
-        shows: &["        ", "        ", "        ", "        ", "        ", "        "],
+        shows: &[
+            "        ", "        ", "        ", "        ", "        ", "        ",
+        ],
         cursor: (6, 1),
         pending: false,
     },
     Row {
         name: "CUU stops at the top margin, and above it at the first row",
         size: (6, 8),
-        acts: &[Act::Margins(3, 5), Act::Go(4, 1), Act::Up(9), Act::Type("a"), Act::Go(2, 1), Act::Up(9), Act::Type("b")],
-        shows: &["b       ", "        ", "a       ", "        ", "        ", "        "],
+        acts: &[
+            Act::Margins(3, 5),
+            Act::Go(4, 1),
+            Act::Up(9),
+            Act::Type("a"),
+            Act::Go(2, 1),
+            Act::Up(9),
+            Act::Type("b"),
+        ],
+        shows: &[
+            "b       ", "        ", "a       ", "        ", "        ", "        ",
+        ],
         cursor: (1, 2),
         pending: false,
     },
     Row {
         name: "CUF and CUB stop at the edges",
         size: (2, 8),
-        acts: &[Act::Right(usize::MAX), Act::Type("z"), Act::Left(3), Act::Type("y"), Act::Left(usize::MAX), Act::Type("x")],
+        acts: &[
+            Act::Right(usize::MAX),
+            Act::Type("z"),
+            Act::Left(3),
+            Act::Type("y"),
+            Act::Left(usize::MAX),
+            Act::Type("x"),
+        ],
         shows: &["x   y  z", "        "],
         cursor: (1, 2),
         pending: false,
@@ -257,17 +288,35 @@ const ROWS: [Row; 31] = [
         name: "LF on the bottom margin scrolls between the margins",
         size: (6, 8),
         acts: &[
-            Act::Type("a"), Act::NewLine, Act::Type("b"), Act::NewLine, Act::Type("c"), Act::NewLine, Act::Type("d"), Act::NewLine, Act::Type("e"),
-            Act::Margins(2, 4), Act::Go(4, 1), Act::NewLine,
+            Act::Type("a"),
+            Act::NewLine,
+            Act::Type("b"),
+            Act::NewLine,
+            Act::Type("c"),
+            Act::NewLine,
+            Act::Type("d"),
+            Act::NewLine,
+            Act::Type("e"),
+            Act::Margins(2, 4),
+            Act::Go(4, 1),
+            Act::NewLine,
         ],
-        shows: &["a       ", "c       ", "d       ", "        ", "e       ", "        "],
+        shows: &[
+            "a       ", "c       ", "d       ", "        ", "e       ", "        ",
+        ],
         cursor: (4, 1),
         pending: false,
     },
     Row {
         name: "LF on the last row below the margins",
         size: (3, 8),
-        acts: &[Act::Margins(1, 2), Act::Go(3, 1), Act::Type("a"), Act::NewLine, Act::Type("b")],
+        acts: &[
+            Act::Margins(1, 2),
+            Act::Go(3, 1),
+            Act::Type("a"),
+            Act::NewLine,
+            Act::Type("b"),
+        ],
         shows: &["        ", "        ", "b       "],
         cursor: (3, 2),
         pending: false,
@@ -276,17 +325,35 @@ const ROWS: [Row; 31] = [
         name: "rows go up between the margins, and down again",
         size: (6, 8),
         acts: &[
-            Act::Type("a"), Act::NewLine, Act::Type("b"), Act::NewLine, Act::Type("c"), Act::NewLine, Act::Type("d"), Act::NewLine, Act::Type("e"),
-            Act::Margins(2, 5), Act::ScrollUp(2), Act::ScrollUp(0), Act::ScrollDown(1),
+            Act::Type("a"),
+            Act::NewLine,
+            Act::Type("b"),
+            Act::NewLine,
+            Act::Type("c"),
+            Act::NewLine,
+            Act::Type("d"),
+            Act::NewLine,
+            Act::Type("e"),
+            Act::Margins(2, 5),
+            Act::ScrollUp(2),
+            Act::ScrollUp(0),
+            Act::ScrollDown(1),
         ],
-        shows: &["a       ", "        ", "d       ", "e       ", "        ", "        "],
+        shows: &[
+            "a       ", "        ", "d       ", "e       ", "        ", "        ",
+        ],
         cursor: (5, 2),
         pending: false,
     },
     Row {
         name: "more rows than there are go out",
         size: (2, 8),
-        acts: &[Act::Type("a"), Act::ScrollDown(9999), Act::Type("b"), Act::ScrollUp(9999)],
+        acts: &[
+            Act::Type("a"),
+            Act::ScrollDown(9999),
+            Act::Type("b"),
+            Act::ScrollUp(9999),
+        ],
         shows: &["        ", "        "],
         cursor: (1, 3),
         pending: false,
@@ -302,7 +369,15 @@ const ROWS: [Row; 31] = [
     Row {
         name: "ED from the cursor on, in a wide character",
         size: (3, 8),
-        acts: &[Act::Type("ab\u{4E2D}"), Act::NewLine, Act::Type("cd"), Act::NewLine, Act::Type("ef"), Act::Go(1, 4), Act::Page(Extent::ToEnd)],
+        acts: &[
+            Act::Type("ab\u{4E2D}"),
+            Act::NewLine,
+            Act::Type("cd"),
+            Act::NewLine,
+            Act::Type("ef"),
+            Act::Go(1, 4),
+            Act::Page(Extent::ToEnd),
+        ],
         shows: &["ab      ", "        ", "        "],
         cursor: (1, 4),
         pending: false,
@@ -310,7 +385,12 @@ const ROWS: [Row; 31] = [
     Row {
         name: "ED of all takes guarded cells too",
         size: (2, 8),
-        acts: &[Act::Guarded("ab"), Act::NewLine, Act::Type("c"), Act::Page(Extent::All)],
+        acts: &[
+            Act::Guarded("ab"),
+            Act::NewLine,
+            Act::Type("c"),
+            Act::Page(Extent::All),
+        ],
         shows: &["        ", "        "],
         cursor: (2, 2),
         pending: false,
@@ -318,7 +398,14 @@ const ROWS: [Row; 31] = [
     Row {
         name: "EL to the cursor and of all",
         size: (2, 8),
-        acts: &[Act::Type("abcd"), Act::Go(1, 2), Act::Line(Extent::ToStart), Act::Go(2, 1), Act::Type("xyz"), Act::Line(Extent::All)],
+        acts: &[
+            Act::Type("abcd"),
+            Act::Go(1, 2),
+            Act::Line(Extent::ToStart),
+            Act::Go(2, 1),
+            Act::Type("xyz"),
+            Act::Line(Extent::All),
+        ],
         shows: &["  cd    ", "        "],
         cursor: (2, 4),
         pending: false,
@@ -350,7 +437,11 @@ const ROWS: [Row; 31] = [
     Row {
         name: "a run parts the wide characters at its ends",
         size: (2, 8),
-        acts: &[Act::Type("\u{4E2D}\u{4E2D}\u{4E2D}"), Act::Go(1, 2), Act::Run("abcd")],
+        acts: &[
+            Act::Type("\u{4E2D}\u{4E2D}\u{4E2D}"),
+            Act::Go(1, 2),
+            Act::Run("abcd"),
+        ],
         shows: &[" abcd   ", "        "],
         cursor: (1, 6),
         pending: false,
@@ -385,7 +476,12 @@ fn acts_leave_their_screens(rt: HostRuntime) -> Result<(), Fail> {
             for i in 0..row.shows.len() {
                 if i < grid.rows() {
                     let text = text_of(rt.alloc(), grid.row(i))?;
-                    assert_eq!(rt; text.as_str(), row.shows[i], "{}, row {i}, turned {turns}", row.name);
+                    assert_eq!(rt;
+                        text.as_str(),
+                        row.shows[i],
+                        "{}, row {i}, turned {turns}",
+                        row.name
+                    );
                 }
             }
             assert_eq!(rt; grid.cursor(), row.cursor, "{}, turned {turns}", row.name);
@@ -397,7 +493,14 @@ fn acts_leave_their_screens(rt: HostRuntime) -> Result<(), Fail> {
 
 #[test]
 fn sizes_in_the_limits_alone_are_made(rt: HostRuntime) -> Result<(), Fail> {
-    for (rows, cols) in [(1, 8), (101, 8), (2, 3), (2, 251), (0, 0), (usize::MAX, usize::MAX)] {
+    for (rows, cols) in [
+        (1, 8),
+        (101, 8),
+        (2, 3),
+        (2, 251),
+        (0, 0),
+        (usize::MAX, usize::MAX),
+    ] {
         match Grid::new(rt.alloc(), rows, cols) {
             Ok(_) => assert!(rt; false, "{rows} by {cols}"),
             Err(fault) => assert_eq!(rt; fault, Fault::BadSize, "{rows} by {cols}"),
@@ -453,7 +556,10 @@ fn a_row_leaves_where_a_character_scrolls(rt: HostRuntime) -> Result<(), Fail> {
     let staying = Writing { wraps: false };
     let mut grid = Grid::new(rt.alloc(), 2, 8)?;
     play(&mut grid, &[Act::Go(1, 8)]);
-    assert!(rt; !grid.leaves(2, wrapping), "the row above is not the bottom margin");
+    assert!(rt;
+        !grid.leaves(2, wrapping),
+        "the row above is not the bottom margin"
+    );
     play(&mut grid, &[Act::Go(2, 7), Act::Type("a")]);
     assert!(rt; !grid.leaves(1, wrapping), "one column is left");
     assert!(rt; grid.leaves(2, wrapping), "two columns are wanted");

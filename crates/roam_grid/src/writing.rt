@@ -103,7 +103,8 @@ impl Grid {
     pub fn leaves(&self, width: usize, writing: Writing) -> bool
         ensures leaves { result ≡ leaves_row width writing self.now.screen }
     {
-        self.row == self.bottom && (self.pending || width == 2 && self.col + 1 == self.shape.cols && writing.wraps)
+        self.row == self.bottom
+            && (self.pending || width == 2 && self.col + 1 == self.shape.cols && writing.wraps)
     }
 
     /// Writes a cell of one or two columns at the cursor (DECAWM, VT220 Programmer Reference).

@@ -1,4 +1,4 @@
-use Rattle.std.proofs.Common.{◌≡◌, ◌∙◌, sym, subst, ℕ}
+use Rattle.std.proofs.Common.{◌∙◌}
 use Rattle.roam_grid.specs.Turned.{AreBlanked, in_order}
 use Rattle.roam_grid.specs.Erasing.{page_from, page_to}
 use Rattle.roam_grid.proofs.Turning.{length-in_order}

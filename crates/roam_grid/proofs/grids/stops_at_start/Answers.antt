@@ -1,4 +1,4 @@
-use Rattle.std.proofs.Common.{◌≡◌, ℕ, ◌<◌, arith}
+use Rattle.std.proofs.Common.{arith}
 use Rattle.roam_grid.proofs.Starting.{stops_are}
 use Rattle.roam_grid.proofs.grids.stops_at_start.Goals as goal
 

@@ -1,5 +1,5 @@
-use Rattle.std.proofs.Common.{◌≡◌, ◌∙◌, ap}
-use Rattle.roam_grid.specs.Writing.{columns, settled, first_settled, first_with_room, first_put}
+use Rattle.std.proofs.Common.{◌∙◌, ap}
+use Rattle.roam_grid.specs.Writing.{columns, settled, first_with_room, first_put}
 use Rattle.roam_grid.proofs.Puts.{first_steps}
 use Rattle.roam_grid.proofs.grids.Grid.put.Goals as goal
 

@@ -1,6 +1,5 @@
-use Rattle.std.proofs.Common.{◌≡◌, ◌∙◌, ◌++◌, ◌+◌, ◌-◌, ◌<◌, ◌≤◌, ap, sym, arith, length, map, take, drop, List, ℕ}
-use Rattle.std.proofs.lemmas.List.{map-append, take_all}
-use Rattle.roam_grid.specs.Writing.{settled, first_settled, put_all, first_put_all}
+use Rattle.std.proofs.Common.{◌≡◌, ◌∙◌, ◌++◌, ◌+◌, ◌-◌, ◌<◌, ◌≤◌, ap, sym, arith, length, take, drop, List, ℕ}
+use Rattle.roam_grid.specs.Writing.{settled, put_all, first_put_all}
 use Rattle.roam_grid.specs.Screen.{Screen, GridView}
 use Rattle.roam_grid.proofs.Puts.{settled_cols}
 use Rattle.roam_grid.proofs.Inking.{inked_bytes, length-bytes}

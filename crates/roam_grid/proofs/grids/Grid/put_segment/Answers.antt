@@ -1,4 +1,4 @@
-use Rattle.std.proofs.Common.{◌≡◌, ◌∙◌, sym, ap, arith, map, length}
+use Rattle.std.proofs.Common.{◌≡◌, ◌∙◌, sym, ap, arith, length}
 use Rattle.roam_grid.specs.Row.{written_run}
 use Rattle.roam_grid.specs.Places.{in_row}
 use Rattle.roam_grid.specs.Screen.{mapped}
