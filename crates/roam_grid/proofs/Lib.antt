@@ -10,3 +10,4 @@ pub mod Puts
 pub mod Runs
 pub mod Joins
 pub mod Starting
+pub mod Worked
