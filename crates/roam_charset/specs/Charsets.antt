@@ -19,6 +19,6 @@ character_of Ascii c = c
 character_of UnitedKingdom c = if c == 0x23 then 0xA3 else c
 character_of DecSpecialGraphics c = special_graphic c
 
--- sets have the codes 2/1 to 7/14; every other character is itself (ECMA-35, section 6.3; no set of 96)
+-- sets have the codes 2/1 to 7/14; every other character is itself (ECMA-35: sets of 94 characters)
 unfoldable pub mapped_by : Charset → ℕ → ℕ
 mapped_by set c = if (nat_le 0x21 c && nat_le c 0x7E) then character_of set c else c

@@ -15,7 +15,7 @@ pub enum Charset {
     DecSpecialGraphics,
 }
 
-// What DEC Special Graphics has at 5/15 to 7/14 (VT220 Programmer Reference, table 2-4).
+// What DEC Special Graphics has at 5/15 to 7/14 (VT220 Programmer Reference, chapter 2).
 static SPECIAL_GRAPHICS: [char; 32] = [
     '\u{0020}', '\u{25C6}', '\u{2592}', '\u{2409}', '\u{240C}', '\u{240D}', '\u{240A}', '\u{00B0}',
     '\u{00B1}', '\u{2424}', '\u{240B}', '\u{2518}', '\u{2510}', '\u{250C}', '\u{2514}', '\u{253C}',

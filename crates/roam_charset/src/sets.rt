@@ -5,7 +5,7 @@ ghost use Rattle.roam_charset.specs.Sets.{started, designated, set_in, in_use, s
 
 use crate::charsets::Charset;
 
-/// A code element, to which a set can be designated (ECMA-35, section 6.2).
+/// A code element, to which a set can be designated (ECMA-35).
 #[derive(Clone, Copy, Debug, PartialEq, Eq)]
 pub enum Element {
     G0,
@@ -63,14 +63,14 @@ impl Sets {
         }
     }
 
-    /// Invokes an element until the next locking shift (ECMA-35, section 9.3: LS0 to LS3).
+    /// Invokes an element until the next locking shift (LS0 to LS3: ECMA-48, sections 8.3.75 to 8.3.80).
     pub fn shift(&mut self, element: Element)
         ensures shifted { self.new ≡ record self.old { locked = element } }
     {
         self.locked = element;
     }
 
-    /// Invokes an element for the next printed character alone (ECMA-35, section 9.4: SS2, SS3).
+    /// Invokes an element for the next printed character alone (SS2, SS3: ECMA-48, sections 8.3.141 and 8.3.142).
     pub fn single_shift(&mut self, element: Element)
         ensures shifted { self.new ≡ record self.old { single = Some element } }
     {
