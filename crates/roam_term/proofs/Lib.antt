@@ -1,0 +1,5 @@
+pub mod Lists
+pub mod Runs
+pub mod Prints
+pub mod Showing
+pub mod Queue

@@ -1,0 +1,96 @@
+-- Text that is printed at once.
+use Rattle.std.proofs.Common.{◌≡◌, ◌≤◌, ◌<◌, ℕ, zero, suc, ◌-◌, ◌==◌, Bool, true, false, List, [], ◌∷◌, ◌++◌, map, length, get_or, Option, Some, None, refl, sym, ap, ◌∙◌, arith}
+use Rattle.std.specs.Prelude.{if◌then◌else◌, unwrap_or, nat_le, ◌&&◌}
+use Rattle.roam_cells.specs.Glyph.{Glyph}
+use Rattle.roam_cells.specs.Width.{width_of}
+use Rattle.roam_cells.proofs.Ascii.{ascii_width}
+use Rattle.roam_charset.specs.Charsets.{mapped_by}
+use Rattle.roam_charset.specs.Sets.{set_in, in_use, spent}
+use Rattle.roam_charset.specs.declared.charsets.Charset.TheVariants.{Ascii}
+use Rattle.roam_charset.specs.declared.sets.Sets.{Sets}
+use Rattle.roam_text.specs.declared.functions.Function.{Function}
+use Rattle.roam_text.specs.declared.functions.Function.TheVariants.{Print}
+use Rattle.roam_text.specs.Functions.{ArePlain}
+use Rattle.roam_grid.specs.Screen.{Screen}
+use Rattle.roam_grid.specs.Writing.{put_on, put_all, joined_on}
+use Rattle.roam_term.specs.Terminal.{Live, glyph_in, writing_under, written, printed_on, printed_all, changed, answer, lived, answered}
+use Rattle.roam_term.proofs.Lists.{append-nil}
+
+pub changed-print : (b : ℕ) (l : Live) → changed (Print b) l ≡ printed_on b l
+unfolding changed
+changed-print b l = refl
+
+pub answer-print : (b : ℕ) (l : Live) → answer (Print b) l ≡ []
+unfolding answer
+answer-print b l = refl
+
+-- a printed character answers nothing, and a function after it answers what it does there
+pub answered-after : (b : ℕ) (f : Function) (l : Live) → answered l (Print b ∷ f ∷ []) ≡ answer f (printed_on b l)
+answered-after b f l =
+    ap (λ a. a ++ (answer f (changed (Print b) l) ++ [])) (answer-print b l)
+    ∙ append-nil (answer f (changed (Print b) l)) ∙ ap (answer f) (changed-print b l)
+
+pub lived-prints : (l : Live) (bs : List ℕ) → lived l (map Print bs) ≡ printed_all l bs
+lived-prints l [] = refl
+lived-prints l (b ∷ bs) = lived-prints (changed (Print b) l) bs ∙ ap (λ k. printed_all k bs) (changed-print b l)
+
+pub answered-prints : (l : Live) (bs : List ℕ) → answered l (map Print bs) ≡ []
+answered-prints l [] = refl
+answered-prints l (b ∷ bs) =
+    ap (λ a. a ++ answered (changed (Print b) l) (map Print bs)) (answer-print b l) ∙ answered-prints (changed (Print b) l) bs
+
+-- ---- printable ASCII in ASCII
+
+pub plain_at : (bs : List ℕ) (i : ℕ) → ArePlain bs → i < length bs → (0x20 ≤ get_or bs i 0) × (get_or bs i 0 < 0x7F)
+plain_at [] i plain h = absurd (omega arith)
+plain_at (b ∷ bs) zero plain h = (plain.0, plain.1)
+plain_at (b ∷ bs) (suc i) plain h = plain_at bs i plain.2 (omega arith)
+
+either_way : (b : Bool) (c : ℕ) → (if b then c else c) ≡ c
+either_way true c = refl
+either_way false c = refl
+
+mapped-ascii : (sets : Sets) (b : ℕ) → set_in sets.locked sets ≡ Ascii → sets.single ≡ None → mapped_by (in_use sets) b ≡ b
+unfolding mapped_by
+mapped-ascii sets b locked single =
+    let set : in_use sets ≡ Ascii = ap (λ o. set_in (unwrap_or o sets.locked) sets) single ∙ locked in
+    ap (λ k. mapped_by k b) set ∙ either_way (nat_le 0x21 b && nat_le b 0x7E) b
+
+spent-none : (sets : Sets) → sets.single ≡ None → spent sets ≡ sets
+spent-none sets single i = record { g0 = sets.g0; g1 = sets.g1; g2 = sets.g2; g3 = sets.g3; locked = sets.locked; single = sym single i }
+
+-- printable ASCII is written as it is
+printed-plain : (b : ℕ) (s : Live) → 0x20 ≤ b → b < 0x7F → set_in s.sets.locked s.sets ≡ Ascii → s.sets.single ≡ None
+    → printed_on b s ≡ record s { screen = put_on (glyph_in b s.pen) (writing_under s.modes) s.screen; printed = Some b }
+unfolding printed_on
+printed-plain b s low high locked single =
+    ap (λ c. written c (record s { sets = spent s.sets })) (mapped-ascii s.sets b locked single)
+    ∙ ap (λ k. written b (record s { sets = k })) (spent-none s.sets single)
+    ∙ ap
+    (λ w.
+    if w == 0 then record s { screen = joined_on b s.screen }
+    else record s { screen = put_on (glyph_in b s.pen) (writing_under s.modes) s.screen; printed = Some b })
+    (ascii_width b low high)
+
+-- the last character of a run
+pub last_printed : Option ℕ → List ℕ → Option ℕ
+last_printed o [] = o
+last_printed o (b ∷ bs) = last_printed (Some b) bs
+
+more : (n : ℕ) → suc (suc n) - 1 ≡ suc (suc n - 1)
+more n = omega arith
+
+-- a run is written cell by cell
+pub printed-run : (s : Live) (bs : List ℕ) → ArePlain bs → set_in s.sets.locked s.sets ≡ Ascii → s.sets.single ≡ None
+    → printed_all s bs ≡ record s { screen = put_all (map (λ b. glyph_in b s.pen) bs) (writing_under s.modes) s.screen; printed = last_printed s.printed bs }
+unfolding put_all last_printed
+printed-run s [] plain locked single = refl
+printed-run s (b ∷ bs) plain locked single =
+    ap (λ k. printed_all k bs) (printed-plain b s plain.0 plain.1 locked single)
+    ∙ printed-run (record s { screen = put_on (glyph_in b s.pen) (writing_under s.modes) s.screen; printed = Some b }) bs plain.2 locked single
+
+pub last_printed-is : (o : Option ℕ) (bs : List ℕ) → 0 < length bs → last_printed o bs ≡ Some (get_or bs (length bs - 1) 0)
+unfolding last_printed
+last_printed-is o [] h = absurd (omega arith)
+last_printed-is o (b ∷ []) h = refl
+last_printed-is o (b ∷ c ∷ bs) h = last_printed-is (Some b) (c ∷ bs) (omega arith) ∙ ap Some (ap (λ i. get_or (b ∷ c ∷ bs) i 0) (sym (more (length bs))))

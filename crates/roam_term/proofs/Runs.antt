@@ -1,0 +1,96 @@
+-- Functions one after another.
+use Rattle.std.proofs.Common.{◌≡◌, ℕ, ◌-◌, zero, suc, List, [], ◌∷◌, ◌++◌, map, drop, length, refl, sym, ap, ◌∙◌, append_assoc, subst}
+use Rattle.roam_cells.specs.Glyph.{Glyph}
+use Rattle.roam_text.specs.declared.functions.Function.{Function}
+use Rattle.roam_text.specs.Log.{Item, Byte}
+use Rattle.roam_text.specs.Functions.{functions_of}
+use Rattle.roam_text.specs.Stands.{Stands}
+use Rattle.roam_term.specs.Terminal.{Live, Terminal, changed, answer, left, last_of, after, run, lived, answered, started, term, reports}
+use Rattle.roam_term.specs.Stands.{TermView, Shows, Gains, Fed}
+use Rattle.roam_term.proofs.Lists.{append-nil, map-append}
+
+pub run-append : (lines : ℕ) (t : Terminal) (fs gs : List Function) → run lines t (fs ++ gs) ≡ run lines (run lines t fs) gs
+run-append lines t [] gs = refl
+run-append lines t (f ∷ fs) gs = run-append lines (after lines f t) fs gs
+
+-- what lives depends on what lived alone
+pub run-live : (lines : ℕ) (t : Terminal) (fs : List Function) → (run lines t fs).live ≡ lived t.live fs
+run-live lines t [] = refl
+run-live lines t (f ∷ fs) = run-live lines (after lines f t) fs
+
+-- and what was answered before stays in front
+pub run-answers : (lines : ℕ) (t : Terminal) (fs : List Function) → (run lines t fs).answers ≡ t.answers ++ answered t.live fs
+run-answers lines t [] = sym (append-nil t.answers)
+run-answers lines t (f ∷ fs) = run-answers lines (after lines f t) fs ∙ append_assoc t.answers (answer f t.live) (answered (changed f t.live) fs)
+
+drop-nil : (n : ℕ) → drop n [] ≡ let none : List (List Glyph) = [] in none
+drop-nil zero = refl
+drop-nil (suc n) = refl
+
+-- no row is kept
+kept-none : (lines : ℕ) (f : Function) (t : Terminal) → t.history ≡ [] → (after lines f t).history ≡ []
+unfolding left
+kept-none lines f t none = ap (λ h. last_of lines (h ++ [])) none ∙ drop-nil (0 - lines)
+
+pub run-history : (lines : ℕ) (t : Terminal) (fs : List Function) → t.history ≡ [] → (run lines t fs).history ≡ []
+run-history lines t [] none = none
+run-history lines t (f ∷ fs) none = run-history lines (after lines f t) fs (kept-none lines f t none)
+
+-- the reader's clauses, and what the functions changed and answered
+module _ (old new : TermView) (bs : List ℕ) (out : List Function)
+    (reads : (log : List Item) → Stands old.reader log → Stands new.reader (log ++ map Byte bs))
+    (gained : (log : List Item) → Stands old.reader log → functions_of (log ++ map Byte bs) ≡ functions_of log ++ out)
+    (live : new.live ≡ lived old.live out)
+    (waiting : new.waiting ≡ old.waiting ++ answered old.live out) where
+  later : (rows cols lines : ℕ) (log : List Item) → Stands old.reader log → term rows cols lines (log ++ map Byte bs) ≡ run lines (term rows cols lines log) out
+  unfolding term
+  later rows cols lines log stands = ap (run lines (started rows cols)) (gained log stands) ∙ run-append lines (started rows cols) (functions_of log) out
+
+  pub fed-out : Fed old new bs
+  unfolding reports
+  fed-out = record {
+    stands = λ rows cols lines log shows. record {
+      reads = reads log shows.reads;
+      live =
+          live ∙ ap (λ l. lived l out) shows.live ∙ sym (run-live lines (term rows cols lines log) out)
+          ∙ sym (ap (λ (t : Terminal). t.live) (later rows cols lines log shows.reads));
+    };
+    gains = λ rows cols lines log shows. record {
+      more = answered old.live out;
+      answers =
+          ap (λ (t : Terminal). t.answers) (later rows cols lines log shows.reads)
+          ∙ run-answers lines (term rows cols lines log) out
+          ∙ sym (ap (λ l. (term rows cols lines log).answers ++ answered l out) shows.live);
+      queue = waiting;
+    };
+  }
+
+pub fed-none : (t : TermView) → Fed t t []
+fed-none t = record {
+  stands = λ rows cols lines log shows. subst (λ l. Shows t rows cols lines l) (sym (append-nil log)) shows;
+  gains = λ rows cols lines log shows. record {
+    more = [];
+    answers = ap (reports rows cols lines) (append-nil log) ∙ sym (append-nil (reports rows cols lines log));
+    queue = sym (append-nil t.waiting);
+  };
+}
+
+together : (log : List Item) (xs ys : List ℕ) → (log ++ map Byte xs) ++ map Byte ys ≡ log ++ map Byte (xs ++ ys)
+together log xs ys = append_assoc log (map Byte xs) (map Byte ys) ∙ sym (ap (λ l. log ++ l) (map-append Byte xs ys))
+
+-- one piece after another
+pub fed-then : (a b c : TermView) (xs ys : List ℕ) → Fed a b xs → Fed b c ys → Fed a c (xs ++ ys)
+fed-then a b c xs ys p q = record {
+  stands = λ rows cols lines log shows.
+      subst (λ l. Shows c rows cols lines l) (together log xs ys) (q.stands rows cols lines (log ++ map Byte xs) (p.stands rows cols lines log shows));
+  gains = λ rows cols lines log shows.
+      let first = p.gains rows cols lines log shows in
+      let second = q.gains rows cols lines (log ++ map Byte xs) (p.stands rows cols lines log shows) in
+      record {
+        more = first.more ++ second.more;
+        answers =
+            sym (ap (reports rows cols lines) (together log xs ys)) ∙ second.answers ∙ ap (λ l. l ++ second.more) first.answers
+            ∙ append_assoc (reports rows cols lines log) first.more second.more;
+        queue = second.queue ∙ ap (λ l. l ++ second.more) first.queue ∙ append_assoc a.waiting first.more second.more;
+      };
+}

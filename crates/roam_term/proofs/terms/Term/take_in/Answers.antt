@@ -1,0 +1,22 @@
+use Rattle.std.proofs.Common.{◌++◌, sym, ap, ◌∙◌}
+use Rattle.roam_text.specs.Dispatched.{function_of}
+use Rattle.roam_term.specs.Terminal.{changed, answer}
+use Rattle.roam_term.proofs.Prints.{changed-print, answered-after}
+use Rattle.roam_term.proofs.terms.Term.take_in.Goals as goal
+
+pub returns-in-AfterReplacement-clause-live : goal.returns-in-AfterReplacement-clause-live
+returns-in-AfterReplacement-clause-live c =
+    let reader = c.self.inside.reader in
+    rw (← c.self.view_is, c.in-AfterReplacement.is)
+    (c.perform-in-AfterReplacement.ensures.live
+    ∙ ap (changed (function_of c.in-AfterReplacement.dispatch reader.parameters reader.intermediates))
+    (c.print.ensures.printed ∙ sym (changed-print 0xFFFD c.self.inside.canvas)))
+
+pub returns-in-AfterReplacement-clause-waiting : goal.returns-in-AfterReplacement-clause-waiting
+returns-in-AfterReplacement-clause-waiting c =
+    let reader = c.self.inside.reader in
+    let f = function_of c.in-AfterReplacement.dispatch reader.parameters reader.intermediates in
+    rw (← c.self.view_is, c.in-AfterReplacement.is)
+    (c.perform-in-AfterReplacement.ensures.waiting
+    ∙ ap (λ l. c.self.inside.output ++ answer f l) c.print.ensures.printed
+    ∙ sym (ap (λ a. c.self.inside.output ++ a) (answered-after 0xFFFD f c.self.inside.canvas)))

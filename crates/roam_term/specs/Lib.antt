@@ -1,0 +1,5 @@
+pub mod Commands
+pub mod Screens
+pub mod Terminal
+pub mod Picture
+pub mod Stands

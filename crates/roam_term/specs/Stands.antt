@@ -1,0 +1,38 @@
+-- What a terminal stands for.
+use Rattle.std.specs.Prelude.{◌≡◌, ℕ, ◌+◌, ◌*◌, ◌≤◌, List, ◌++◌, map, length}
+use Rattle.roam_cells.specs.Limits.{IsSize}
+use Rattle.roam_text.specs.Log.{Item, Byte}
+use Rattle.roam_text.specs.Stands.{Stands, View}
+use Rattle.roam_term.specs.Terminal.{Live, term, reports}
+
+-- what contracts see of a terminal: its reader, what lives, and the answered bytes that wait
+pub record TermView : Type 0 where
+  pub reader : View
+  pub live : Live
+  pub waiting : List ℕ
+
+-- the sizes and the numbers of lines that a terminal may have
+pub record IsTermSize (rows cols lines : ℕ) : Type 0 where
+  pub screen : IsSize rows cols
+  pub history : lines ≤ 500
+
+-- the terminal is what a size, a number of lines and a log make
+pub record Shows (t : TermView) (rows cols lines : ℕ) (log : List Item) : Type 0 where
+  pub reads : Stands t.reader log
+  pub live : t.live ≡ (term rows cols lines log).live
+
+-- a piece is accepted: it is short, and each of its bytes has 12 free bytes in the queue
+pub record IsAccepted (waiting piece : List ℕ) : Type 0 where
+  pub short : length piece ≤ 1024
+  pub room : length waiting + 12 * length piece ≤ 65536
+
+-- the queue grew by what the answers gained from one log to a later one
+pub record Gains (old new : List ℕ) (rows cols lines : ℕ) (log later : List Item) : Type 0 where
+  pub more : List ℕ
+  pub answers : reports rows cols lines later ≡ reports rows cols lines log ++ more
+  pub queue : new ≡ old ++ more
+
+-- a piece makes one terminal of another: for every log that the old one stood for, the new one stands for it followed by the piece
+pub record Fed (old new : TermView) (piece : List ℕ) : Type 0 where
+  pub stands : (rows cols lines : ℕ) (log : List Item) → Shows old rows cols lines log → Shows new rows cols lines (log ++ map Byte piece)
+  pub gains : (rows cols lines : ℕ) (log : List Item) → Shows old rows cols lines log → Gains old.waiting new.waiting rows cols lines log (log ++ map Byte piece)

@@ -1,0 +1,20 @@
+//! The terminal of a pane: bytes go in, a screen comes out.
+//!
+//! The model is a VT220 with the control functions of ECMA-48 (5th edition), in this project's profile: `specs/Commands.antt`
+//! is the table of functions, `specs/Terminal.antt` the state and what each of them makes of it. A function that the table
+//! doesn't list has no effect. Deviations from the VT220: erasing reaches guarded cells too where the function isn't
+//! selective, SUB shows no error character, and replies are seven-bit.
+#![tactic(auto)]
+
+pub mod canvases;
+pub mod commands;
+pub mod modes;
+pub mod moving;
+pub mod outputs;
+pub mod pens;
+pub mod pictures;
+pub mod terms;
+#[cfg(test)]
+mod tests;
+
+pub use terms::{MOST_LINES, MOST_PIECE, Term};

@@ -1,0 +1,73 @@
+//! The answered bytes that wait to be taken.
+ghost use Rattle.std.specs.Prelude.{◌≡◌, ◌+◌, ◌-◌, ◌<◌, ◌≤◌, ◌++◌, [], length, min, take, drop, IfOk};
+
+use circular_buffer::HeapCircularBuffer;
+use std::alloc::{AllocError, Global};
+use std::marker::Model;
+
+/// The most answered bytes that wait.
+pub const MOST_OUTPUT: usize = 65536;
+
+/// A queue of answered bytes, whose memory is made with it.
+#[derive(Drop)]
+pub struct Output {
+    bytes: HeapCircularBuffer<u8>,
+}
+
+impl Model for Output {
+    ghost use Rattle.std.specs.Prelude.{◌≡◌, ◌≤◌, List, ℕ, length};
+
+    ghost Value = { List ℕ };
+
+    ghost view = { λ o. o.bytes.items };
+
+    ghost invariant = { λ o. (o.bytes.capacity ≡ 65536) × (length o.bytes.items ≤ 65536) };
+}
+
+// Writes bytes from a place on, as many as fit, and tells how many.
+fn fill(out: &mut [u8], at: usize, bytes: &[u8]) -> usize
+    requires inside { at ≤ length out.old }
+    ensures count { result ≡ min (length bytes.now) (length out.old - at) }
+    ensures bytes { out.new ≡ take at out.old ++ (take result bytes.now ++ drop (at + result) out.old) }
+{
+    let count = bytes.len().min(out.len() - at);
+    out[at..at + count].copy_from_slice(&bytes[..count]);
+    count
+}
+
+impl Output {
+    /// An empty queue with room for 65,536 bytes; refuses want of memory.
+    pub fn new(alloc: Global) -> Result<Self, AllocError>
+        ensures empty { IfOk result (λ o. o ≡ []) }
+    {
+        let bytes = HeapCircularBuffer::with_capacity(alloc, MOST_OUTPUT)?;
+        Ok(Output { bytes })
+    }
+
+    /// How many bytes wait.
+    pub fn len(&self) -> usize
+        ensures len { result ≡ length self.now }
+        ensures most { result ≤ 65536 }
+    {
+        self.bytes.len()
+    }
+
+    /// Copies the first bytes that wait, as many as fit, and tells how many.
+    pub fn copy_to(&self, out: &mut [u8]) -> usize
+        ensures count { result ≡ min (length self.now) (length out.old) }
+        ensures bytes { out.new ≡ take result self.now ++ drop result out.old }
+    {
+        let (front, back) = self.bytes.as_slices();
+        let first = fill(out, 0, front);
+        first + fill(out, first, back)
+    }
+
+    /// Takes the first n bytes off the queue.
+    pub fn drop_front(&mut self, n: usize)
+        requires waiting { n ≤ length self.old }
+        ensures waiting { self.new ≡ drop n self.old }
+    {
+        let left = self.bytes.len() - n;
+        self.bytes.truncate_front(left);
+    }
+}

@@ -1,0 +1,198 @@
+//! A pane's terminal.
+ghost use Rattle.std.specs.Prelude.{◌≡◌, ◌⊎◌, ◌+◌, ◌*◌, ◌≤◌, ◌<◌, ◌↔◌, ◌++◌, ℕ, List, [], ◌∷◌, length, min, take, drop, IfOk, IfErr, OnOk, OnErr, IsOk, IsErrOf, IsOkUnless};
+ghost use Rattle.roam_text.specs.Log.{Item};
+ghost use Rattle.roam_text.specs.Dispatched.{function_of, dispatched};
+ghost use Rattle.roam_term.specs.Picture.{picture};
+ghost use Rattle.roam_term.specs.Terminal.{changed, answer, lived, answered, reports};
+ghost use Rattle.roam_term.specs.Stands.{Shows, Fed, IsTermSize, IsAccepted};
+
+use crate::canvases::Canvas;
+use crate::commands::command_of;
+use crate::outputs::{MOST_OUTPUT, Output};
+use crate::pictures::draw;
+use roam_cells::limits::is_size;
+use roam_cells::{Fault, Shot};
+use roam_text::{Dispatch, Dispatched, REPLACEMENT, Reader};
+use std::alloc::Global;
+use std::marker::Model;
+
+/// The longest piece of `Term::feed`, in bytes.
+pub const MOST_PIECE: usize = 1024;
+
+/// The most lines of history.
+pub const MOST_LINES: u16 = 500;
+
+// One byte completes at most two functions. The first of two prints, so one answer comes of a byte at most, and the longest
+// answer of a VT220 in this profile has 12 bytes at most: DA's second answer has 11, a report of the cursor 10.
+const MOST_ANSWER: usize = 12;
+
+/// The terminal of a pane: the bytes that it is fed make a screen, and its answers wait in a queue of 65,536 bytes.
+#[derive(Drop)]
+pub struct Term {
+    reader: Reader,
+    canvas: Canvas,
+    output: Output,
+}
+
+impl Model for Term {
+    ghost use Rattle.roam_term.specs.Stands.{TermView};
+
+    ghost Value = { TermView };
+
+    ghost view = { λ t. record { reader = t.reader; live = t.canvas; waiting = t.output } };
+}
+
+impl Term {
+    /// A terminal that has read nothing, of 2 to 100 rows and 4 to 250 columns, with up to 500 lines of history, of which
+    /// none is kept. Refuses another size or number of lines, and want of memory.
+    pub fn new(alloc: Global, rows: u16, cols: u16, lines: u16) -> Result<Self, Fault>
+        ensures stands { IfOk result (λ t. Shows t rows cols lines []) }
+        ensures waiting { IfOk result (λ t. t.waiting ≡ []) }
+        ensures silent { IfOk result (λ _. (r c l : ℕ) → reports r c l [] ≡ []) }
+        ensures size { OnOk result (IsTermSize rows cols lines) }
+        ensures bad_size { IsErrOf result Fault.BadSize ↔ (¬ IsTermSize rows cols lines) }
+        ensures faults { IfErr result (λ e. (e ≡ Fault.BadSize) ⊎ (e ≡ Fault.OutOfMemory)) }
+    {
+        if !is_size(rows, cols) || MOST_LINES < lines {
+            return Err(Fault::BadSize);
+        }
+        let canvas = Canvas::new(alloc, rows, cols)?;
+        let output = Output::new(alloc)?;
+        Ok(Term {
+            reader: Reader::new(),
+            canvas,
+            output,
+        })
+    }
+
+    // Does what one function asks for, whose parameters and intermediate bytes the reader lends.
+    #[inline]
+    fn perform(&mut self, dispatch: Dispatch)
+        ensures live { self.new.live ≡ changed (function_of dispatch self.old.reader.parameters self.old.reader.intermediates) self.old.live }
+        ensures waiting { self.new.waiting ≡ self.old.waiting ++ answer (function_of dispatch self.old.reader.parameters self.old.reader.intermediates) self.old.live }
+        ensures short { length self.new.waiting ≤ length self.old.waiting + MOST_ANSWER }
+        ensures reader { self.new.reader ≡ self.old.reader }
+    {
+        let command = command_of(
+            dispatch,
+            self.reader.parameters(),
+            self.reader.intermediates(),
+        );
+        self.canvas.perform(command);
+    }
+
+    #[inline]
+    fn take_in(&mut self, step: Dispatched)
+        ensures live { self.new.live ≡ lived self.old.live (dispatched step self.old.reader.parameters self.old.reader.intermediates) }
+        ensures waiting { self.new.waiting ≡ self.old.waiting ++ answered self.old.live (dispatched step self.old.reader.parameters self.old.reader.intermediates) }
+        ensures short { length self.new.waiting ≤ length self.old.waiting + MOST_ANSWER }
+        ensures reader { self.new.reader ≡ self.old.reader }
+    {
+        match step {
+            Dispatched::Nothing => {}
+            Dispatched::One(dispatch) => self.perform(dispatch),
+            Dispatched::AfterReplacement(dispatch) => {
+                self.canvas.print(REPLACEMENT);
+                self.perform(dispatch);
+            }
+        }
+    }
+
+    #[inline]
+    fn feed_byte(&mut self, byte: u8)
+        ensures fed { Fed self.old self.new (byte ∷ []) }
+        ensures short { length self.new.waiting ≤ length self.old.waiting + MOST_ANSWER }
+    {
+        let step = self.reader.dispatch(byte);
+        self.take_in(step);
+    }
+
+    // Prints the printable ASCII at the front of a piece at once, where it shows itself, and tells how many bytes that were.
+    #[inline]
+    fn feed_plain(&mut self, piece: &[u8]) -> usize
+        ensures within { result ≤ length piece.now }
+        ensures fed { Fed self.old self.new (take result piece.now) }
+        ensures waiting { self.new.waiting ≡ self.old.waiting }
+    {
+        if !self.canvas.prints_ascii() {
+            return 0;
+        }
+        let count = self.reader.plain_run(piece);
+        if count == 0 {
+            return 0;
+        }
+        self.canvas.print_run(&piece[..count]);
+        count
+    }
+
+    fn feed_each(&mut self, piece: &[u8])
+        ensures fed { Fed self.old self.new piece.now }
+        ensures short { length self.new.waiting ≤ length self.old.waiting + MOST_ANSWER * length piece.now }
+    {
+        let mut at = 0;
+        while at < piece.len() {
+            let count = self.feed_plain(&piece[at..]);
+            at += count;
+            if at < piece.len() {
+                self.feed_byte(piece[at]);
+                at += 1;
+            }
+        }
+    }
+
+    /// Reads a piece of at most 1,024 bytes, of any content and cut anywhere. Refuses, in this order, a longer piece as
+    /// `TooLong`, and as `Busy` one for whose bytes the output queue hasn't 12 free bytes each; a refused piece changes
+    /// nothing. It takes no memory.
+    pub fn feed(&mut self, piece: &[u8]) -> Result<(), Fault>
+        ensures ok { IsOk result ↔ IsAccepted self.old.waiting piece.now }
+        ensures fed { OnOk result (Fed self.old self.new piece.now) }
+        ensures err { OnErr result (self.new ≡ self.old) }
+        ensures too_long { IsErrOf result Fault.TooLong ↔ (1024 < length piece.now) }
+        ensures faults { IfErr result (λ e. (e ≡ Fault.TooLong) ⊎ (e ≡ Fault.Busy)) }
+    {
+        if MOST_PIECE < piece.len() {
+            return Err(Fault::TooLong);
+        }
+        if MOST_OUTPUT - self.output.len() < MOST_ANSWER * piece.len() {
+            return Err(Fault::Busy);
+        }
+        self.feed_each(piece);
+        Ok(())
+    }
+
+    /// How many answered bytes wait.
+    pub fn output_len(&self) -> usize
+        ensures len { result ≡ length self.now.waiting }
+        ensures most { result ≤ 65536 }
+    {
+        self.output.len()
+    }
+
+    /// Copies the first answered bytes that wait, as many as fit, and tells how many.
+    pub fn copy_output(&self, out: &mut [u8]) -> usize
+        ensures count { result ≡ min (length self.now.waiting) (length out.old) }
+        ensures bytes { out.new ≡ take result self.now.waiting ++ drop result out.old }
+    {
+        self.output.copy_to(out)
+    }
+
+    /// Takes the first n answered bytes off the queue, at most all that wait.
+    pub fn take_output(&mut self, n: usize)
+        requires waiting { n ≤ length self.old.waiting }
+        ensures waiting { self.new.waiting ≡ drop n self.old.waiting }
+        ensures stands { (rows cols lines : ℕ) (log : List Item) → Shows self.old rows cols lines log → Shows self.new rows cols lines log }
+    {
+        self.output.drop_front(n);
+    }
+
+    /// The screen as it is shown, scrolled back by up to `view` rows of the history; while none is kept, every view shows the
+    /// screen alone. Refuses want of memory.
+    pub fn shot(&self, alloc: Global, view: u16) -> Result<Shot, Fault>
+        ensures picture { IfOk result (λ shot. (rows cols lines : ℕ) (log : List Item) → Shows self.now rows cols lines log → shot ≡ picture rows cols lines log view) }
+        ensures fault { IsOkUnless result Fault.OutOfMemory }
+    {
+        self.canvas.facts();
+        let shot = draw(alloc, &self.canvas)?;
+        Ok(shot)
+    }
+}
