@@ -1,0 +1,30 @@
+//! Why a run ends with status 1.
+use roam_cells::Fault;
+use thiserror::Error;
+
+/// Why a run of the program failed; its text stands after `roam: ` on standard error.
+#[derive(Clone, Copy, Debug, PartialEq, Eq, Error)]
+pub enum RunFault {
+    /// The terminal refused.
+    #[error("{0}")]
+    Core(Fault),
+
+    /// The input could not be read, or didn't end within the reads that a run makes.
+    #[error("read failed")]
+    Read,
+
+    /// The output could not be written.
+    #[error("write failed")]
+    Write,
+}
+
+impl From<Fault> for RunFault {
+    ghost use Rattle.std.specs.Prelude.{◌≡◌};
+    ghost use Rattle.roam.specs.declared.faults.RunFault.TheVariants.{Core};
+
+    ghost from_gives = { λ fault e. e ≡ Core fault };
+
+    fn from(fault: Fault) -> RunFault {
+        RunFault::Core(fault)
+    }
+}

@@ -1,0 +1,144 @@
+//! `roam show`: feeds what a reader gives to a terminal, and writes the screen that it makes and what it answered.
+ghost use Rattle.std.specs.Prelude.{◌≡◌, ◌≢◌, ◌⊎◌, ◌++◌, ℕ, List, [], OnOk, IfOk, IfErr, IsErrOf, IsOkUnless, map, string_bytes};
+ghost use Rattle.std.specs.Io.KnownBytes.{Consumes, IsAtEnd, Appends, Keeps};
+ghost use Rattle.roam_text.specs.Log.{Item, Byte};
+ghost use Rattle.roam_term.specs.Terminal.{reports};
+ghost use Rattle.roam_term.specs.Stands.{Shows, IsTermSize};
+ghost use Rattle.roam.specs.ShowText.{row_line, screen_text, output_line, show_text};
+
+use crate::faults::RunFault;
+use roam_cells::{Fault, Shot};
+use roam_term::{MOST_LINES, MOST_PIECE, Term};
+use std::alloc::{AllocError, Global};
+use std::io::{Read, Write};
+
+/// How many reads a run makes at most; the end has to be seen within them.
+const MOST_READS: u32 = 16_777_216;
+
+// Reads to the end and feeds each piece; what the terminal answered goes into `report`.
+fn feed_all<R: Read>(
+    alloc: Global,
+    term: &mut Term,
+    report: &mut Vec<u8>,
+    reader: &mut R,
+) -> Result<(), RunFault>
+    requires waiting { term.old.waiting ≡ [] }
+    requires report { (rows cols lines : ℕ) → report.old.items ≡ reports rows cols lines [] }
+    ensures fed { OnOk result ((log : List ℕ) × Consumes (R.remaining reader.old) (R.remaining reader.new) log
+        × IsAtEnd (R.remaining reader.new)
+        × ((rows cols lines : ℕ) → Shows term.old rows cols lines [] →
+        (Shows term.new rows cols lines (map Byte log)) × (report.new.items ≡ reports rows cols lines (map Byte log)))) }
+    ensures err { IfErr result (λ e. (e ≡ RunFault.Read) ⊎ (e ≡ RunFault.Core Fault.OutOfMemory)) }
+{
+    let mut piece = [0u8; MOST_PIECE];
+    for _ in 0..MOST_READS {
+        let Ok(count) = reader.read(&mut piece) else {
+            return Err(RunFault::Read);
+        };
+        if count == 0 {
+            return Ok(());
+        }
+        term.feed(&piece[..count])?;
+        take_report(alloc, term, report)?;
+    }
+    Err(RunFault::Read)
+}
+
+// Moves what the terminal answered to the end of the report.
+fn take_report(alloc: Global, term: &mut Term, report: &mut Vec<u8>) -> Result<(), Fault>
+    ensures waiting { OnOk result (term.new.waiting ≡ []) }
+    ensures report { OnOk result (report.new.items ≡ report.old.items ++ term.old.waiting) }
+    ensures stands { (rows cols lines : ℕ) (log : List Item) → Shows term.old rows cols lines log → Shows term.new rows cols lines log }
+    ensures fault { IsOkUnless result Fault.OutOfMemory }
+{
+    let mut out = vec![in alloc; 0u8; term.output_len()]?;
+    let count = term.copy_output(&mut out);
+    term.take_output(count);
+    report.extend_from_slice(&out)?;
+    Ok(())
+}
+
+// Adds a row between bars.
+fn push_row(text: &mut String, row: &[char]) -> Result<(), AllocError>
+    ensures text { OnOk result (string_bytes text.new ≡ string_bytes text.old ++ row_line row.now) }
+{
+    text.push('|')?;
+    for c in row {
+        text.push(*c)?;
+    }
+    text.push_str("|\n")
+}
+
+// Adds each row, then the cursor's line.
+fn push_screen(alloc: Global, text: &mut String, shot: &Shot) -> Result<(), Fault>
+    ensures text { OnOk result (string_bytes text.new ≡ string_bytes text.old ++ screen_text shot.now) }
+    ensures fault { IsOkUnless result Fault.OutOfMemory }
+{
+    for row in 0..shot.rows() {
+        let chars = shot.row_text(alloc, row)?;
+        push_row(text, &chars)?;
+    }
+    let (row, col) = shot.cursor();
+    let state = if shot.visible() { "shown" } else { "hidden" };
+    write!(text, "cursor {row} {col} {state}\n")?;
+    Ok(())
+}
+
+// Adds the line of what the terminal answered.
+fn push_output(alloc: Global, text: &mut String, report: &[u8]) -> Result<(), AllocError>
+    ensures text { OnOk result (string_bytes text.new ≡ string_bytes text.old ++ output_line report.now) }
+{
+    if report.is_empty() {
+        return text.push_str("output -\n");
+    }
+    let digits = hex::encode(alloc, report)?;
+    text.push_str("output ")?;
+    text.push_str(digits.as_str())?;
+    text.push('\n')
+}
+
+// The text of a terminal's screen and of what it answered.
+fn text_of(alloc: Global, term: &Term, report: &[u8]) -> Result<String, Fault>
+    ensures text { IfOk result (λ text. (rows cols : ℕ) (log : List ℕ) → Shows term.now rows cols MOST_LINES (map Byte log) →
+        report.now ≡ reports rows cols MOST_LINES (map Byte log) → string_bytes text ≡ show_text rows cols log) }
+    ensures fault { IsOkUnless result Fault.OutOfMemory }
+{
+    let shot = term.shot(alloc, 0)?;
+    let mut text = String::new(alloc);
+    push_screen(alloc, &mut text, &shot)?;
+    push_output(alloc, &mut text, report)?;
+    Ok(text)
+}
+
+/// Feeds a terminal of this size with all that the reader gives, and writes its screen, row by row between bars, its cursor,
+/// and what it answered in hexadecimal. Refuses another size than 2 to 100 rows and 4 to 250 columns, and want of memory; a
+/// reader that fails, or that hasn't ended after 16,777,216 reads, is `Read`; a writer that fails is `Write`.
+pub fn run_show<R: Read, W: Write>(
+    alloc: Global,
+    rows: u16,
+    cols: u16,
+    reader: &mut R,
+    writer: &mut W,
+) -> Result<(), RunFault>
+    // The reader came to its end, and what was written is the text for all bytes read.
+    ensures shown { OnOk result ((log : List ℕ) × Consumes (R.remaining reader.old) (R.remaining reader.new) log
+        × IsAtEnd (R.remaining reader.new)
+        × Appends (W.contents writer.old) (W.contents writer.new) (show_text rows cols log)) }
+    ensures size { OnOk result (IsTermSize rows cols MOST_LINES) }
+    ensures bad_size { IsErrOf result (RunFault.Core Fault.BadSize) → ¬ IsTermSize rows cols MOST_LINES }
+    // No other fault of the terminal comes, but want of memory.
+    ensures faults { (fault : Fault) → IsErrOf result (RunFault.Core fault) → (fault ≡ Fault.BadSize) ⊎ (fault ≡ Fault.OutOfMemory) }
+    ensures unwritten { IfErr result (λ e. e ≢ RunFault.Write → Keeps (W.contents writer.old) (W.contents writer.new)) }
+{
+    let mut term = Term::new(alloc, rows, cols, MOST_LINES)?;
+    let mut report = Vec::new(alloc);
+    feed_all(alloc, &mut term, &mut report, reader)?;
+    let text = text_of(alloc, &term, &report)?;
+    if writer.write_all(text.as_bytes()).is_err() {
+        return Err(RunFault::Write);
+    }
+    match writer.flush() {
+        Ok(()) => Ok(()),
+        Err(_) => Err(RunFault::Write),
+    }
+}
