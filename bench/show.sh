@@ -11,7 +11,7 @@ roam=$top/crates/roam/out/roam
 [ -x "$roam" ] || make -C "$top" >&2
 work=$(mktemp -d)
 trap 'rm -rf "$work"' EXIT
-python3 "$here/show_inputs.py" "$work/inputs" "$mb"
+python3 "$here/inputs.py" "$work/inputs" "$mb" prose cjk colours redraw log
 cc -O2 -o "$work/meter" "$here/show_meter.c"
 vterm=-
 if cc -O2 -o "$work/vterm" "$here/show_vterm.c" -lvterm 2> "$work/cc"; then

@@ -8,7 +8,7 @@ import os
 import subprocess
 import sys
 
-NAMES = ("lines", "cjk", "colours", "redraw", "log")
+NAMES = ("prose", "cjk", "colours", "redraw", "log")
 SIZES = (("24", "80"), ("100", "250"))
 
 

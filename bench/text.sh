@@ -11,7 +11,7 @@ folder=$(mktemp -d)
 trap 'rm -rf "$folder"' EXIT
 
 cc -O2 -o "$folder/table" "$here/text_table.c"
-python3 "$here/text_inputs.py" "$folder" "$megabytes"
+python3 "$here/inputs.py" "$folder" "$megabytes" prose colours cursor mixed
 (cd "$here/../crates/text_speed" && rt run >"$folder/build" 2>&1) || { cat "$folder/build" >&2; exit 1; }
 program=$here/../crates/text_speed/out/text_speed
 

@@ -127,9 +127,9 @@ static ROWS: [Row; 33] = [
         text: "|a\u{301}\u{301}       |\n|        |\ncursor 1 2 shown\noutput -\n",
     },
     Row {
-        name: "a line feed inside a control sequence acts at once; the sequence does nothing that is listed",
-        input: b"a\x1B[2\nCb",
-        text: "|a       |\n| b      |\ncursor 2 3 shown\noutput -\n",
+        name: "a line feed inside a control sequence acts before it",
+        input: b"a\x1B[2\n;3Hb",
+        text: "|a       |\n|  b     |\ncursor 2 4 shown\noutput -\n",
     },
     Row {
         name: "a broken character is U+FFFD, and the byte after it is read",

@@ -1,12 +1,16 @@
 #!/usr/bin/env python3
-"""Seeded inputs for a reader of terminal bytes: text_inputs.py FOLDER MEGABYTES.
+"""Seeded inputs for the benchmarks: inputs.py FOLDER MEGABYTES KIND..
 
-The same size gives the same bytes on every machine: only Random.randrange, choice and random are used.
+Each kind makes one file of its name, a stream of bytes as a program in raw mode writes it (CR LF line ends). The same size
+gives the same bytes on every machine.
 
-prose     words in lines of up to 120 characters, CR LF at their ends
+prose     words in lines of up to 120 characters, so that about a third of them wraps at 80 columns
 colours   a new rendition (SGR) every 1 to 6 characters, with 1 to 10 parameters
 cursor    full-screen drawing: cursor positions, erasures, edits and short words
 mixed     Latin with accents, Cyrillic, Greek, Chinese, box drawing and emoji in UTF-8
+cjk       Chinese, kana, Hangul, Cyrillic, and Latin with combining marks
+redraw    full-screen frames addressed by CUP, with EL and ED
+log       time, coloured level and text a line, and bursts of short lines: it scrolls all the time
 """
 import os
 import random
@@ -21,13 +25,16 @@ CYRILLIC = [chr(c) for c in range(0x0410, 0x0450)]
 GREEK = [chr(c) for c in range(0x03B1, 0x03CA)]
 CHINESE = [chr(c) for c in range(0x4E00, 0x4E00 + 3000)]
 BOXES = [chr(c) for c in range(0x2500, 0x2580)]
+KANA = [chr(c) for c in range(0x3041, 0x3097)]
+HANGUL = [chr(c) for c in range(0xAC00, 0xAC00 + 2000)]
+MARKS = [chr(c) for c in range(0x0300, 0x0334)]
 EMOJI = [chr(c) for c in range(0x1F600, 0x1F640)]
 
 
-def words(random_source, width):
+def words(r, width):
     text = ""
     while len(text) < width:
-        text += random_source.choice(WORDS) + " "
+        text += r.choice(WORDS) + " "
     return text[:width]
 
 
@@ -75,16 +82,44 @@ def mixed(r):
     return "".join(r.choice(letters) if r.random() < 0.85 else " " for _ in range(r.randrange(5, 60))) + "\r\n"
 
 
+def cjk(r):
+    count = r.randrange(5, 60)
+    kind = r.randrange(5)
+    if kind == 4:
+        return "".join(r.choice(LATIN) + (r.choice(MARKS) if r.random() < 0.4 else "") for _ in range(count)) + "\r\n"
+    return "".join(r.choice((CHINESE, KANA, HANGUL, CYRILLIC)[kind]) for _ in range(count)) + "\r\n"
+
+
+def redraw(r):
+    text = f"{ESC}[H{ESC}[J"
+    for _ in range(20):
+        text += f"{ESC}[{r.randrange(1, 25)};{r.randrange(1, 40)}H{words(r, r.randrange(5, 40))}{ESC}[K"
+    for _ in range(40):
+        text += f"{ESC}[{r.randrange(1, 25)};{r.randrange(1, 78)}H{words(r, 3)}"
+    return text
+
+
+def log(r):
+    level, colour = r.choice((("DEBUG", 36), ("INFO", 32), ("WARN", 33), ("ERROR", 31)))
+    burst = "y\r\n" * r.randrange(50) if r.random() < 0.02 else ""
+    time = f"2026-{r.randrange(1, 13):02d}-{r.randrange(1, 29):02d}T{r.randrange(24):02d}:{r.randrange(60):02d}"
+    return f"{burst}{time} {ESC}[{colour}m{level:5}{ESC}[0m {words(r, r.randrange(10, 110))}\r\n"
+
+
+KINDS = {kind.__name__: kind for kind in (prose, colours, cursor, mixed, cjk, redraw, log)}
+
+
 def main():
     folder, size = sys.argv[1], int(float(sys.argv[2]) * 1_000_000)
-    for kind in (prose, colours, cursor, mixed):
-        r = random.Random(kind.__name__)
+    os.makedirs(folder, exist_ok=True)
+    for name in sys.argv[3:]:
+        r = random.Random(name)
         pieces, have = [], 0
         while have < size:
-            piece = kind(r).encode()
+            piece = KINDS[name](r).encode()
             pieces.append(piece)
             have += len(piece)
-        with open(os.path.join(folder, kind.__name__), "wb") as file:
+        with open(os.path.join(folder, name), "wb") as file:
             file.write(b"".join(pieces)[:size])
 
 
