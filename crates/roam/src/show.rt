@@ -1,5 +1,5 @@
 //! `roam show`: feeds what a reader gives to a terminal, and writes the screen that it makes and what it answered.
-ghost use Rattle.std.specs.Prelude.{◌≡◌, ◌≢◌, ◌⊎◌, ◌++◌, ℕ, List, [], OnOk, IfOk, IfErr, IsErrOf, IsOkUnless, map, string_bytes};
+ghost use Rattle.std.specs.Prelude.{◌≡◌, ◌≢◌, ◌⊎◌, ◌↔◌, ◌++◌, ℕ, List, [], OnOk, IfOk, IfErr, IsErrOf, IsOkUnless, map, string_bytes};
 ghost use Rattle.std.specs.Io.KnownBytes.{Consumes, IsAtEnd, Appends, Keeps};
 ghost use Rattle.roam_text.specs.Log.{Item, Byte};
 ghost use Rattle.roam_term.specs.Terminal.{reports};
@@ -125,7 +125,7 @@ pub fn run_show<R: Read, W: Write>(
         × IsAtEnd (R.remaining reader.new)
         × Appends (W.contents writer.old) (W.contents writer.new) (show_text rows cols log)) }
     ensures size { OnOk result (IsTermSize rows cols MOST_LINES) }
-    ensures bad_size { IsErrOf result (RunFault.Core Fault.BadSize) → ¬ IsTermSize rows cols MOST_LINES }
+    ensures bad_size { IsErrOf result (RunFault.Core Fault.BadSize) ↔ (¬ IsTermSize rows cols MOST_LINES) }
     // No other fault of the terminal comes, but want of memory.
     ensures faults { (fault : Fault) → IsErrOf result (RunFault.Core fault) → (fault ≡ Fault.BadSize) ⊎ (fault ≡ Fault.OutOfMemory) }
     ensures unwritten { IfErr result (λ e. e ≢ RunFault.Write → Keeps (W.contents writer.old) (W.contents writer.new)) }
