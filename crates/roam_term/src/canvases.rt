@@ -1,5 +1,5 @@
 //! What lives of a terminal: its screens, its pen, its modes, its sets.
-ghost use Rattle.std.specs.Prelude.{◌≡◌, ◌≤◌, ◌<◌, IfOk, IfErr, None, Some, IsTrue, length};
+ghost use Rattle.std.specs.Prelude.{◌≡◌, ◌≤◌, ◌<◌, ◌↔◌, IfOk, IfErr, None, Some, IsTrue, length};
 ghost use Rattle.roam_cells.specs.Limits.{IsSize};
 ghost use Rattle.roam_charset.specs.Sets.{set_in};
 ghost use Rattle.roam_grid.specs.Screen.{IsScreen};
@@ -105,8 +105,7 @@ impl Canvas {
     /// Whether printable ASCII prints itself.
     #[inline]
     pub fn prints_ascii(&self) -> bool
-        ensures set { IsTrue result → set_in self.now.sets.locked self.now.sets ≡ Charset.Ascii }
-        ensures single { IsTrue result → self.now.sets.single ≡ None }
+        ensures ascii { IsTrue result ↔ ((set_in self.now.sets.locked self.now.sets ≡ Charset.Ascii) × (self.now.sets.single ≡ None)) }
     {
         self.sets.is_ascii()
     }
