@@ -6,12 +6,12 @@ sources := $(shell find crates crates.txt -path '*/out' -prune -o -type f -print
 
 all: $(program)
 
-# Only a proved program is built: this proves the crates that it stands on side by side, over what earlier runs kept, and
-# then the program, which it runs once with --help.
+# Only a proved program is built: this proves the crates side by side, over what earlier runs kept, then builds the program and
+# runs it once, with --help. What the tools say is shown where they fail.
 $(program): $(sources)
-	@echo "roam: rt proves each crate that the program stands on; nothing is printed until that is done" >&2
-	rt all check
-	cd crates/roam && rt run -- --help > /dev/null
+	@echo "roam: proving every crate and building the program; nothing more is said until that is done"
+	@log=$$(mktemp) && if rt all check > $$log 2>&1 && (cd crates/roam && rt run -- --help) >> $$log 2>&1; then rm $$log; \
+	else cat $$log >&2; rm $$log; exit 1; fi
 	@touch $@
 
 # Every proof from nothing, the must-fail edits, the tests and the programs.
