@@ -21,9 +21,9 @@ blank_at rows cols r c p q = get_or-replicate (rows * cols) (r * cols + c) blank
 
 pub blank_whole : (rows cols : ℕ) → AreWhole rows cols (replicate (rows * cols) blank)
 blank_whole rows cols =
-    record {
-      wide = λ r c p q w. absurd (false≢true (sym is_wide-blank ∙ ap is_wide (sym (blank_at rows cols r c p q)) ∙ w));
-      half = λ r c p q h. absurd (false≢true (ap is_right_half (sym (blank_at rows cols r c p q)) ∙ h));
+    λ r p c q. record {
+      wide = λ w. absurd (false≢true (sym is_wide-blank ∙ ap is_wide (sym (blank_at rows cols r c p q)) ∙ w));
+      half = λ h. absurd (false≢true (ap is_right_half (sym (blank_at rows cols r c p q)) ∙ h));
     }
 
 -- a space is what some cell shows

@@ -1,9 +1,8 @@
 use Rattle.std.specs.Prelude.{ℕ, ◌≤◌}
-use Rattle.roam_cells.specs.declared.limits.TheConstants.{LEAST_ROWS, MOST_ROWS, LEAST_COLUMNS, MOST_COLUMNS}
 
 -- a size that a screen may have, in rows and columns (this project's profile)
 pub record IsSize (rows cols : ℕ) : Type 0 where
-  pub least_rows : LEAST_ROWS ≤ rows
-  pub most_rows : rows ≤ MOST_ROWS
-  pub least_columns : LEAST_COLUMNS ≤ cols
-  pub most_columns : cols ≤ MOST_COLUMNS
+  pub least_rows : 2 ≤ rows
+  pub most_rows : rows ≤ 100
+  pub least_columns : 4 ≤ cols
+  pub most_columns : cols ≤ 250

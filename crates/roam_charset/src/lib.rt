@@ -8,8 +8,6 @@
 
 pub mod charsets;
 pub mod sets;
-#[cfg(test)]
-mod tests;
 
 pub use charsets::Charset;
 pub use sets::{Element, Sets};

@@ -1,5 +1,5 @@
 use Rattle.std.proofs.Common.{◌∙◌, ap, sym}
-use Rattle.roam_text.specs.Functions.{c1_control}
+use Rattle.roam_text.specs.EscapeSequences.{c1_control}
 use Rattle.roam_text.specs.Residual.{all_of}
 use Rattle.roam_text.proofs.Entries.{control_sequence-entry}
 use Rattle.roam_text.proofs.parsers.Parser.c1_control.Goals as goal
