@@ -1,0 +1,12 @@
+pub mod Row
+pub mod Places
+pub mod Halves
+pub mod Turned
+pub mod Rows
+pub mod Writing
+pub mod Erasing
+pub mod Editing
+pub mod Scrolling
+pub mod Sizing
+pub mod Vertical
+pub mod Kept

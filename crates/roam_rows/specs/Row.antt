@@ -1,0 +1,39 @@
+use Rattle.std.specs.Prelude.{ℕ, ◌+◌, ◌-◌, Bool, false, not, ◌&&◌, ◌==◌, nat_lt, List, length, map, if◌then◌else◌}
+use Rattle.std.specs.List.{range_with_len}
+use Rattle.roam_cells.specs.Glyph.{Glyph, is_wide, is_right_half, space_in}
+use Rattle.roam_cells.specs.Place.{glyph_at}
+
+-- where a column of a row takes its cell: from a column of the same row, or a cell that is new there
+pub data RowSource : Type 0 where
+  Column : ℕ → RowSource
+  Fresh : Glyph → RowSource
+
+-- what a source of a row holds
+abbrev pub row_taken : List Glyph → RowSource → Glyph
+row_taken row (Column c) = glyph_at row c
+row_taken row (Fresh x) = x
+
+-- whether two sources are a column and the next, or a new wide cell and a new right half
+abbrev pub are_neighbours : RowSource → RowSource → Bool
+are_neighbours (Column c) (Column d) = d == c + 1
+are_neighbours (Column c) (Fresh y) = false
+are_neighbours (Fresh x) (Column d) = false
+are_neighbours (Fresh x) (Fresh y) = is_wide x && is_right_half y
+
+-- a half whose other half is not beside it becomes a space in its own style and guard (this project's profile)
+abbrev pub mended : Glyph → Bool → Bool → Glyph
+mended x has_right has_left =
+    if (is_wide x && not has_right) then space_in x
+    else if (is_right_half x && not has_left) then space_in x
+    else x
+
+-- what a column shows where each column takes what the map says
+abbrev pub row_moved_at : List Glyph → (ℕ → RowSource) → ℕ → Glyph
+row_moved_at row one c =
+    mended (row_taken row (one c))
+    (nat_lt (c + 1) (length row) && are_neighbours (one c) (one (c + 1)))
+    (nat_lt 0 c && are_neighbours (one (c - 1)) (one c))
+
+-- a row after a map of its columns
+abbrev pub row_moved : List Glyph → (ℕ → RowSource) → List Glyph
+row_moved row one = map (row_moved_at row one) (range_with_len 0 (length row))
