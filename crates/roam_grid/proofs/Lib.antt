@@ -1,13 +1,7 @@
-pub mod Mending
-pub mod Columns
-pub mod Parting
-pub mod Turning
-pub mod Vertical
-pub mod Lifting
-pub mod Inking
+pub mod Guards
 pub mod Pages
 pub mod Puts
 pub mod Runs
-pub mod Joins
 pub mod Starting
+pub mod Stops
 pub mod Worked

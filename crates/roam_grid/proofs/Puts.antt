@@ -2,9 +2,10 @@
 use Rattle.std.proofs.Common.{◌≡◌, ℕ, ◌+◌, ◌≤◌, Bool, true, false, ◌&&◌, cond, eqb, refl, sym, ap, ◌∙◌, arith}
 use Rattle.std.proofs.lemmas.Grind.{common_steps}
 use Rattle.roam_cells.specs.Glyph.{Glyph}
-use Rattle.roam_grid.specs.Screen.{Screen, scrolled_up, first_scrolled_up}
+use Rattle.roam_grid.specs.Screen.{Screen}
+use Rattle.roam_grid.specs.Scrolling.{scrolled_up, first_scrolled_up}
 use Rattle.roam_grid.specs.Cursor.{carried, indexed, first_indexed}
-use Rattle.roam_grid.specs.Writing.{columns, wrapped, settled, first_settled, with_room, first_with_room, inked, advanced, leaves_row, put_on, first_put}
+use Rattle.roam_grid.specs.Writing.{columns, wrapped, settled, first_settled, with_room, first_with_room, made_way, inked, advanced, leaves_row, put_on, first_put}
 use Rattle.roam_grid.specs.declared.writing.Writing.{Writing}
 
 abbrev pub Placed : ℕ → Screen → Type 0
@@ -84,7 +85,7 @@ settled_cols_by s false e = ap (λ b. (cond b (wrapped s) s).cols) e
 -- a pending wrap may be done before
 pub put_settled : (x : Glyph) (w : Writing) (s : Screen) → put_on x w (settled s) ≡ put_on x w s
 unfolding put_on
-put_settled x w s = ap (λ t. advanced (columns x) w (inked x (with_room (columns x) w t))) (settled_same (settled s) (settled_none s))
+put_settled x w s = ap (λ t. advanced (columns x) w (inked x (made_way (columns x) w (with_room (columns x) w t)))) (settled_same (settled s) (settled_none s))
 
 pub first_put_settled : (x : Glyph) (w : Writing) (s : Screen) (first : ℕ) → 4 ≤ s.cols → first_put x w (settled s) (first_settled s first) ≡ first_put x w s first
 unfolding first_put

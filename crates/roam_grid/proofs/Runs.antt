@@ -5,19 +5,22 @@ use Rattle.std.proofs.lemmas.Bool.{false≢true, cases_eq}
 use Rattle.std.proofs.lemmas.List.{same_lists, get_or-drop, map-append, take-append-drop}
 use Rattle.std.proofs.lemmas.Grind.{common_steps}
 use Rattle.roam_cells.specs.Glyph.{Glyph, is_wide, right_of, blank, ascii_in}
-use Rattle.roam_cells.specs.Place.{cell_at, AreWhole}
+use Rattle.roam_cells.specs.Place.{cell_at, AreWhole, glyph_at, IsWholeRow}
 use Rattle.roam_cells.proofs.Places.{table_is, get_or-table, length-table}
-use Rattle.roam_grid.specs.Row.{RowSource, Column, Ink, glyph_at, IsWholeRow, mended, row_taken, row_moved, row_moved_at, written, written_run}
-use Rattle.roam_grid.specs.Places.{From, moved, moved_at, at_row, in_row}
-use Rattle.roam_grid.specs.Halves.{AreParted, cut_twice}
-use Rattle.roam_grid.specs.Screen.{Screen, mapped, first_scrolled_up}
-use Rattle.roam_grid.specs.Writing.{columns, settled, first_settled, with_room, inked, advanced, leaves_row, put_on, first_put, put_all, first_put_all}
+use Rattle.roam_rows.specs.Row.{RowSource, Column, Fresh, mended, row_taken, row_moved, row_moved_at}
+use Rattle.roam_rows.specs.Editing.{inserted}
+use Rattle.roam_rows.specs.Writing.{written, written_run}
+use Rattle.roam_rows.specs.Places.{From, moved, moved_at, at_row, in_row}
+use Rattle.roam_rows.specs.Halves.{AreParted, cut_twice}
+use Rattle.roam_grid.specs.Screen.{Screen, mapped}
+use Rattle.roam_grid.specs.Scrolling.{first_scrolled_up}
+use Rattle.roam_grid.specs.Writing.{columns, settled, first_settled, with_room, made_way, inked, advanced, leaves_row, put_on, first_put, put_all, first_put_all}
 use Rattle.roam_grid.specs.declared.writing.Writing.{Writing}
-use Rattle.roam_grid.proofs.Mending.{mended_same, mended-mended, is_wide-blank}
-use Rattle.roam_grid.proofs.Columns.{row_is, row_at, length-row, in_column}
-use Rattle.roam_grid.proofs.Inking.{IsNarrow, in_range, over, over_agrees, over_whole, inked_bytes}
-use Rattle.roam_grid.proofs.Vertical.{row_stays}
-use Rattle.roam_grid.proofs.Lifting.{InRow, in_row_or, in_other, moved_here, row_whole, put_whole}
+use Rattle.roam_rows.proofs.Mending.{mended_same, mended-mended, is_wide-blank}
+use Rattle.roam_rows.proofs.Columns.{row_is, row_at, length-row, in_column, agrees_there, InRow}
+use Rattle.roam_rows.proofs.Inking.{IsNarrow, in_range, over, over_agrees, over_whole, inked_bytes}
+use Rattle.roam_rows.proofs.Vertical.{row_stays}
+use Rattle.roam_rows.proofs.Lifting.{in_row_or, in_other, moved_here, row_whole, put_whole}
 use Rattle.roam_grid.proofs.Pages.{moved_same}
 use Rattle.roam_grid.proofs.Puts.{settled_same, put_settled, first_put_settled}
 
@@ -40,14 +43,15 @@ module _ (f : ℕ → Glyph) (from to : ℕ) (row : List Glyph) (narrow : (c : �
   shows c q =
       row_at (length row) (row_moved_at row (over f from to)) c q
       ∙ sym (in_column (cut_twice from to) row parted_row whole parted_is c (over f from to c) (over f from to (c + 1)) (over f from to (c - 1))
-      (over_agrees f (length row) from to c (narrow c) q some (in_range from to c) refl))
+      (agrees_there row (cut_twice from to) c (over f from to c) (over f from to (c + 1)) (over f from to (c - 1))
+      (over_agrees f (length row) from to c (narrow c) q some (in_range from to c) refl)))
 
   over_in : (c : ℕ) → c < length row → in_range from to c ≡ true → glyph_at (row_moved row (over f from to)) c ≡ f c
-  over_in c q h = shows c q ∙ ap (λ b. row_taken parted_row (cond b (Ink (f c)) (Column c))) h
+  over_in c q h = shows c q ∙ ap (λ b. row_taken parted_row (cond b (Fresh (f c)) (Column c))) h
 
   over_out : (c : ℕ) → c < length row → in_range from to c ≡ false
       → glyph_at (row_moved row (over f from to)) c ≡ mended (glyph_at row c) (not (cut_twice from to (c + 1))) (not (cut_twice from to c))
-  over_out c q h = shows c q ∙ ap (λ b. row_taken parted_row (cond b (Ink (f c)) (Column c))) h ∙ parted_is.each c q
+  over_out c q h = shows c q ∙ ap (λ b. row_taken parted_row (cond b (Fresh (f c)) (Column c))) h ∙ parted_is.each c q
 
 grows : (a n c : ℕ) → in_range (a + 1) (a + 1 + n) c ≡ true → in_range a (a + suc n) c ≡ true
 grows a n c h = grind (arith, common_steps)
@@ -186,16 +190,16 @@ run_row_whole a gs row narrow whole = over_whole (λ c. glyph_at gs (c - a)) a (
 -- one cell of one column is a run of one
 written_one : (a c : ℕ) (g : Glyph) → is_wide g ≡ false → written g a c ≡ written_run (g ∷ []) a c
 written_one a c g narrow =
-    ap (λ w. cond (eqb c a) (Ink g) (cond (w && eqb c (a + 1)) (Ink (right_of g)) (Column c))) narrow ∙ by_test (eqb c a) refl
+    ap (λ w. cond (eqb c a) (Fresh g) (cond (w && eqb c (a + 1)) (Fresh (right_of g)) (Column c))) narrow ∙ by_test (eqb c a) refl
   where
-    by_test : (b : Bool) → eqb c a ≡ b → cond (eqb c a) (Ink g) (Column c) ≡ cond (leb a c && ltb c (a + 1)) (Ink (glyph_at (g ∷ []) (c - a))) (Column c)
+    by_test : (b : Bool) → eqb c a ≡ b → cond (eqb c a) (Fresh g) (Column c) ≡ cond (leb a c && ltb c (a + 1)) (Fresh (glyph_at (g ∷ []) (c - a))) (Column c)
     by_test true h =
         let e : (leb a c && ltb c (a + 1)) ≡ true = grind (arith, common_steps) in
         let z : c - a ≡ 0 = only a c e in
-        ap (λ b. cond b (Ink g) (Column c)) h ∙ ap (λ j. Ink (glyph_at (g ∷ []) j)) (sym z) ∙ sym (ap (λ b. cond b (Ink (glyph_at (g ∷ []) (c - a))) (Column c)) e)
+        ap (λ b. cond b (Fresh g) (Column c)) h ∙ ap (λ j. Fresh (glyph_at (g ∷ []) j)) (sym z) ∙ sym (ap (λ b. cond b (Fresh (glyph_at (g ∷ []) (c - a))) (Column c)) e)
     by_test false h =
         let e : (leb a c && ltb c (a + 1)) ≡ false = grind (arith, common_steps) in
-        ap (λ b. cond b (Ink g) (Column c)) h ∙ sym (ap (λ b. cond b (Ink (glyph_at (g ∷ []) (c - a))) (Column c)) e)
+        ap (λ b. cond b (Fresh g) (Column c)) h ∙ sym (ap (λ b. cond b (Fresh (glyph_at (g ∷ []) (c - a))) (Column c)) e)
 
 same_in_row : (R : ℕ) (one two : ℕ → RowSource) (r c : ℕ) → one c ≡ two c → in_row R one r c ≡ in_row R two r c
 same_in_row R one two r c e = ap (λ x. cond (eqb r R) (at_row R x) (From r c)) e
@@ -207,12 +211,13 @@ moved_one rows cols R a g cells narrow =
     ∙ moved_same cols cells (in_row R (written g a)) (in_row R (written_run (g ∷ []) a)) r c q (λ d h. same_in_row R (written g a) (written_run (g ∷ []) a) r d (written_one a d g narrow)))
 
 -- one cell of one column, with no wrap pending
-put_one : (g : Glyph) (w : Writing) (s : Screen) → is_wide g ≡ false → s.pending ≡ false
+put_one : (g : Glyph) (w : Writing) (s : Screen) → w.inserts ≡ false → is_wide g ≡ false → s.pending ≡ false
     → put_on g w s ≡ advanced 1 w (mapped (in_row s.row (written_run (g ∷ []) s.col)) s)
-unfolding put_on with_room inked
-put_one g w s narrow none =
-    ap (λ t. advanced (columns g) w (inked g (with_room (columns g) w t))) (settled_same s none)
-    ∙ ap (λ v. advanced (cond v 2 1) w (inked g (with_room (cond v 2 1) w s))) narrow
+unfolding put_on with_room made_way inked
+put_one g w s over narrow none =
+    ap (λ t. advanced (columns g) w (inked g (made_way (columns g) w (with_room (columns g) w t)))) (settled_same s none)
+    ∙ ap (λ v. advanced (cond v 2 1) w (inked g (made_way (cond v 2 1) w (with_room (cond v 2 1) w s)))) narrow
+    ∙ ap (λ b. advanced 1 w (inked g (cond b (mapped (in_row s.row (inserted s.col 1)) s) s))) over
     ∙ ap (λ (xs : List Glyph). advanced 1 w (record s { cells = xs })) (moved_one s.rows s.cols s.row s.col g s.cells narrow)
 
 and_none : (a : Bool) → (a && false) ≡ false
@@ -233,13 +238,13 @@ goes_on n w s h =
     ap (λ b. cond b (record s { col = s.col + n }) (record s { col = s.cols - 1; pending = w.wraps })) e
 
 -- cells of one column put one after another in one row are written at once
-pub put_all_is : (gs : List Glyph) (g : Glyph) (w : Writing) (s : Screen) (first : ℕ) → AreNarrow (g ∷ gs) → s.pending ≡ false → s.col + length (g ∷ gs) ≤ s.cols
+pub put_all_is : (gs : List Glyph) (g : Glyph) (w : Writing) (s : Screen) (first : ℕ) → w.inserts ≡ false → AreNarrow (g ∷ gs) → s.pending ≡ false → s.col + length (g ∷ gs) ≤ s.cols
     → s.row < s.rows → AreWhole s.rows s.cols s.cells
     → (put_all (g ∷ gs) w s ≡ advanced (length (g ∷ gs)) w (mapped (in_row s.row (written_run (g ∷ gs) s.col)) s))
     × (first_put_all (g ∷ gs) w s first ≡ first)
 unfolding put_all first_put_all advanced
-put_all_is [] g w s first narrow none fits row_in whole = (put_one g w s (narrow 0).0 none, first_one g w s first (narrow 0).0 none)
-put_all_is (h ∷ gs) g w s first narrow none fits row_in whole =
+put_all_is [] g w s first over narrow none fits row_in whole = (put_one g w s over (narrow 0).0 none, first_one g w s first (narrow 0).0 none)
+put_all_is (h ∷ gs) g w s first over narrow none fits row_in whole =
     let one = written_run (g ∷ []) s.col in
     let R = s.row in
     let row = row_of s.cols s.cells R in
@@ -247,9 +252,9 @@ put_all_is (h ∷ gs) g w s first narrow none fits row_in whole =
     let alone : AreNarrow (g ∷ []) = one_narrow g (narrow 0) in
     let one_whole = run_row_whole s.col (g ∷ []) row alone row_is_whole in
     let t : Screen = record s { cells = moved s.rows s.cols s.cells (in_row R one); col = s.col + 1 } in
-    let step : put_on g w s ≡ t = put_one g w s (narrow 0).0 none ∙ goes_on 1 w (mapped (in_row R one) s) (omega arith) in
+    let step : put_on g w s ≡ t = put_one g w s over (narrow 0).0 none ∙ goes_on 1 w (mapped (in_row R one) s) (omega arith) in
     let t_whole = in_row_whole s.rows s.cols R s.cells whole row_in one (run_in_row s.cols s.col (g ∷ [])) one_whole in
-    let later = put_all_is gs h w t first (λ k. narrow (suc k)) none (omega arith) row_in t_whole in
+    let later = put_all_is gs h w t first over (λ k. narrow (suc k)) none (omega arith) row_in t_whole in
     let after : moved s.rows s.cols (moved s.rows s.cols s.cells (in_row R one)) (in_row R (written_run (h ∷ gs) (s.col + 1))) ≡ moved s.rows s.cols s.cells (in_row R (written_run (g ∷ h ∷ gs) s.col)) =
     in_row_after s.rows s.cols R s.cells one (written_run (h ∷ gs) (s.col + 1)) (written_run (g ∷ h ∷ gs) s.col) whole row_in
     (run_in_row s.cols s.col (g ∷ [])) (run_in_row s.cols (s.col + 1) (h ∷ gs)) (run_in_row s.cols s.col (g ∷ h ∷ gs)) one_whole
@@ -261,12 +266,12 @@ put_all_is (h ∷ gs) g w s first narrow none fits row_in whole =
       ap (λ u. first_put_all (h ∷ gs) w u (first_put g w s first)) step ∙ ap (first_put_all (h ∷ gs) w t) (first_one g w s first (narrow 0).0 none) ∙ later.1,
     )
 
-pub put_some_is : (gs : List Glyph) (w : Writing) (s : Screen) (first : ℕ) → 0 < length gs → AreNarrow gs → s.pending ≡ false → s.col + length gs ≤ s.cols
+pub put_some_is : (gs : List Glyph) (w : Writing) (s : Screen) (first : ℕ) → w.inserts ≡ false → 0 < length gs → AreNarrow gs → s.pending ≡ false → s.col + length gs ≤ s.cols
     → s.row < s.rows → AreWhole s.rows s.cols s.cells
     → (put_all gs w s ≡ advanced (length gs) w (mapped (in_row s.row (written_run gs s.col)) s))
     × (first_put_all gs w s first ≡ first)
-put_some_is [] w s first pos narrow none fits row_in whole = absurd (omega arith)
-put_some_is (g ∷ gs) w s first pos narrow none fits row_in whole = put_all_is gs g w s first narrow none fits row_in whole
+put_some_is [] w s first over pos narrow none fits row_in whole = absurd (omega arith)
+put_some_is (g ∷ gs) w s first over pos narrow none fits row_in whole = put_all_is gs g w s first over narrow none fits row_in whole
 
 -- a run in two parts
 pub put_all-append : (xs ys : List Glyph) (w : Writing) (s : Screen) → put_all (xs ++ ys) w s ≡ put_all ys w (put_all xs w s)

@@ -1,12 +1,12 @@
--- Worked rows of the cursor, the first row and the tab stops compute from the definitions; those of cells are in src/tests.rt, since
+-- Worked rows of the cursor, the first row and the tab stops compute from the definitions; those of cells are in the tests, since
 -- a character's width is opaque here.
-use Rattle.std.proofs.Common.{◌≡◌, ℕ, Bool, true, false, List, refl}
+use Rattle.std.proofs.Common.{◌≡◌, ℕ, true, false, refl}
 use Rattle.std.specs.Prelude.{slice_index_or}
-use Rattle.roam_grid.specs.Stops.{start_stops}
-use Rattle.roam_grid.specs.Screen.{Screen, start, with_margins, first_scrolled_up, first_scrolled_down}
-use Rattle.roam_grid.specs.Cursor.{moved_to, moved_up, moved_down, first_indexed}
+use Rattle.roam_grid.specs.Tabs.{start_stops}
+use Rattle.roam_grid.specs.Screen.{start}
+use Rattle.roam_grid.specs.Scrolling.{with_margins, first_scrolled_up, first_scrolled_down}
+use Rattle.roam_grid.specs.Cursor.{moved_to, moved_up, moved_down}
 use Rattle.roam_grid.specs.Writing.{leaves_row}
-use Rattle.roam_grid.specs.declared.writing.Writing.{Writing}
 
 pub once : ℕ → ℕ
 unfolding first_scrolled_up
@@ -51,11 +51,11 @@ unfolding moved_to
 past_edges = refl
 
 -- a wide cell in the last column of the bottom margin scrolls a row out, but not without DECAWM
-pub wide_leaves : leaves_row 2 (record { wraps = true }) (moved_to 1 7 (start 2 8)) ≡ true
+pub wide_leaves : leaves_row 2 (record { wraps = true; inserts = false }) (moved_to 1 7 (start 2 8)) ≡ true
 unfolding leaves_row moved_to
 wide_leaves = refl
 
-pub wide_stays : leaves_row 2 (record { wraps = false }) (moved_to 1 7 (start 2 8)) ≡ false
+pub wide_stays : leaves_row 2 (record { wraps = false; inserts = false }) (moved_to 1 7 (start 2 8)) ≡ false
 unfolding leaves_row moved_to
 wide_stays = refl
 

@@ -1,5 +1,7 @@
-use Rattle.std.specs.Prelude.{ℕ, ◌+◌, ◌-◌, false, ◌==◌, nat_lt, min, max, if◌then◌else◌}
-use Rattle.roam_grid.specs.Screen.{Screen, scrolled_up, first_scrolled_up}
+-- Moves of the cursor.
+use Rattle.std.specs.Prelude.{ℕ, ◌+◌, ◌-◌, Bool, false, ◌&&◌, ◌==◌, nat_lt, min, max, if◌then◌else◌}
+use Rattle.roam_grid.specs.Screen.{Screen}
+use Rattle.roam_grid.specs.Scrolling.{scrolled_up, first_scrolled_up, scrolled_down, first_scrolled_down}
 
 -- one column to the left, not past the first (BS, ECMA-48 8.3.5)
 unfoldable pub backspaced : Screen → Screen
@@ -9,7 +11,8 @@ backspaced s = record s { col = s.col - 1; pending = false }
 unfoldable pub carried : Screen → Screen
 carried s = record s { col = 0; pending = false }
 
--- one row down; on the bottom margin the rows between the margins go up, and on the last row below it nothing moves (IND; LF, ECMA-48 8.3.74)
+-- one row down; on the bottom margin the rows between the margins go up, and on the last row below it nothing moves (IND, VT220 Programmer
+-- Reference; LF, ECMA-48 8.3.74)
 unfoldable pub indexed : Screen → Screen
 indexed s =
     if (s.row == s.bottom) then record (scrolled_up 1 s) { pending = false }
@@ -47,3 +50,24 @@ moved_right n s = record s { col = min (s.col + n) (s.cols - 1); pending = false
 -- n columns to the left, not past the first (CUB, ECMA-48 8.3.18)
 unfoldable pub moved_left : ℕ → Screen → Screen
 moved_left n s = record s { col = s.col - n; pending = false }
+
+-- no wrap is pending
+unfoldable pub wrap_cleared : Screen → Screen
+wrap_cleared s = record s { pending = false }
+
+-- one row up; on the top margin the rows between the margins go down, and on the first row above it nothing moves (RI, VT220
+-- Programmer Reference)
+unfoldable pub reverse_indexed : Screen → Screen
+reverse_indexed s =
+    if (s.row == s.top) then record (scrolled_down 1 s) { pending = false }
+    else record s { row = s.row - 1; pending = false }
+
+-- the place of the first row after RI
+unfoldable pub first_reverse_indexed : Screen → ℕ → ℕ
+first_reverse_indexed s first = if (s.row == s.top) then first_scrolled_down 1 s first else first
+
+-- to a row and a column from 0, at most the last ones, with a wrap pending where it was kept as pending and the column is the last (DECRC,
+-- VT220 Programmer Reference; this project's profile)
+unfoldable pub restored : ℕ → ℕ → Bool → Screen → Screen
+restored row col pending s =
+    record s { row = min row (s.rows - 1); col = min col (s.cols - 1); pending = pending && (min col (s.cols - 1) + 1 == s.cols) }

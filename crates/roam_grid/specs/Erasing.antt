@@ -1,7 +1,10 @@
-use Rattle.std.specs.Prelude.{ℕ, ◌+◌, Bool, true, false, ◌&&◌, ◌||◌, ◌==◌, nat_lt, nat_le, if◌then◌else◌}
-use Rattle.roam_cells.specs.Glyph.{blank}
-use Rattle.roam_grid.specs.Row.{blanked}
-use Rattle.roam_grid.specs.Places.{Source, From, Fresh, in_row}
+-- What erasures blank: from the cursor to the end, from the start to the cursor, or all, of the screen or of the cursor's row.
+use Rattle.std.specs.Prelude.{ℕ, ◌+◌, Bool, true, false, not, ◌&&◌, ◌||◌, ◌==◌, nat_lt, nat_le, List, if◌then◌else◌}
+use Rattle.roam_cells.specs.Glyph.{Glyph, blank}
+use Rattle.roam_cells.specs.Screenshot.{row_of}
+use Rattle.roam_cells.specs.Place.{cell_at}
+use Rattle.roam_rows.specs.Erasing.{blanked, unguarded_blanked}
+use Rattle.roam_rows.specs.Places.{Source, From, Fresh, in_row}
 use Rattle.roam_grid.specs.Screen.{Screen, mapped}
 use Rattle.roam_grid.specs.declared.erasing.Extent.{Extent}
 use Rattle.roam_grid.specs.declared.erasing.Extent.TheVariants.{ToEnd, ToStart, All}
@@ -44,4 +47,21 @@ erased_in_page extent s = record (mapped (page_blanked extent s.row s.col) s) { 
 
 -- EL (ECMA-48 8.3.41): guarded cells too
 unfoldable pub erased_in_line : Extent → Screen → Screen
-erased_in_line extent s = record (mapped (in_row s.row (blanked (line_from extent s.col) (line_to extent s.cols s.col))) s) { pending = false }
+erased_in_line extent s =
+    record (mapped (in_row s.row (blanked (line_from extent s.col) (line_to extent s.cols s.col))) s) { pending = false }
+
+-- those of the places that an extent names become blank that aren't guarded
+abbrev pub page_unguarded_blanked : Extent → ℕ → List Glyph → ℕ → ℕ → ℕ → ℕ → Source
+page_unguarded_blanked extent cols cells row col r c =
+    if (is_in_page extent row col r c && not (cell_at cols cells r c).guarded) then Fresh blank else From r c
+
+-- DECSED (VT220 Programmer Reference): guarded cells stay
+unfoldable pub erased_selectively_in_page : Extent → Screen → Screen
+erased_selectively_in_page extent s = record (mapped (page_unguarded_blanked extent s.cols s.cells s.row s.col) s) { pending = false }
+
+-- DECSEL (VT220 Programmer Reference): guarded cells stay
+unfoldable pub erased_selectively_in_line : Extent → Screen → Screen
+erased_selectively_in_line extent s =
+    record
+    (mapped (in_row s.row (unguarded_blanked (row_of s.cols s.cells s.row) (line_from extent s.col) (line_to extent s.cols s.col))) s)
+    { pending = false }

@@ -1,13 +1,14 @@
-use Rattle.roam_grid.specs.Turned.{IsTurned, in_order}
+-- What a grid's fields stand for, and what is true of them.
 use Rattle.roam_grid.specs.Screen.{Screen, GridView, IsFrame}
 use Rattle.roam_grid.specs.declared.grids.Grid.TheInside.{Inside}
 
+-- the screen that the fields stand for: its size and cells are those of the rows
 abbrev pub screen_of : Inside → Screen
 screen_of a =
     record {
-      rows = a.shape.rows;
-      cols = a.shape.cols;
-      cells = in_order a.shape.cols a.shape.first a.cells.items;
+      rows = a.ring.rows;
+      cols = a.ring.cols;
+      cells = a.ring.cells;
       row = a.row;
       col = a.col;
       pending = a.pending;
@@ -16,10 +17,10 @@ screen_of a =
       stops = a.stops;
     }
 
+-- what contracts see of the fields
 abbrev pub view_of : Inside → GridView
-view_of a = record { screen = screen_of a; buffer = a.cells.items; first = a.shape.first }
+view_of a = record { screen = screen_of a; first = a.ring.first }
 
 -- what is true of the fields of every grid
-pub record IsKept (a : Inside) : Type 0 where
-  pub frame : IsFrame (screen_of a)
-  pub turned : IsTurned a.shape.rows a.shape.cols a.shape.first a.cells.items
+abbrev pub IsKept : Inside → Type 0
+IsKept a = IsFrame (screen_of a)

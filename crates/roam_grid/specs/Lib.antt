@@ -1,10 +1,10 @@
-pub mod Row
-pub mod Places
-pub mod Halves
-pub mod Turned
+pub mod Tabs
 pub mod Screen
+pub mod Scrolling
 pub mod Cursor
+pub mod Tabbing
 pub mod Writing
 pub mod Erasing
-pub mod Stops
+pub mod Editing
+pub mod Frames
 pub mod Kept

@@ -1,9 +1,11 @@
-use Rattle.std.specs.Prelude.{ℕ, ◌+◌, ◌-◌, ◌*◌, ◌<◌, ◌≤◌, Bool, true, ◌&&◌, ◌==◌, nat_lt, List, [], ◌∷◌, ◌++◌, length, slice_index, slice_set, if◌then◌else◌}
-use Rattle.roam_cells.specs.Glyph.{Glyph, is_wide, is_right_half, is_cell_text}
-use Rattle.roam_cells.specs.Place.{cell_at}
-use Rattle.roam_grid.specs.Row.{written}
-use Rattle.roam_grid.specs.Places.{in_row}
-use Rattle.roam_grid.specs.Screen.{Screen, mapped, first_scrolled_up}
+-- Writing characters at the cursor.
+use Rattle.std.specs.Prelude.{ℕ, ◌+◌, ◌-◌, Bool, true, ◌&&◌, ◌==◌, nat_lt, List, [], ◌∷◌, if◌then◌else◌}
+use Rattle.roam_cells.specs.Glyph.{Glyph, is_wide}
+use Rattle.roam_rows.specs.Places.{in_row}
+use Rattle.roam_rows.specs.Editing.{inserted}
+use Rattle.roam_rows.specs.Writing.{written, joined}
+use Rattle.roam_grid.specs.Screen.{Screen, mapped}
+use Rattle.roam_grid.specs.Scrolling.{first_scrolled_up}
 use Rattle.roam_grid.specs.Cursor.{carried, indexed, first_indexed}
 use Rattle.roam_grid.specs.declared.writing.Writing.{Writing}
 
@@ -33,6 +35,10 @@ with_room width w s =
 unfoldable pub first_with_room : ℕ → Writing → Screen → ℕ → ℕ
 first_with_room width w s first = if ((width == 2) && (s.col + 1 == s.cols) && w.wraps) then first_indexed s first else first
 
+-- under IRM blanks come in where the cell will stand (ECMA-48 section 7.2.10; ICH, 8.3.64)
+unfoldable pub made_way : ℕ → Writing → Screen → Screen
+made_way width w s = if w.inserts then mapped (in_row s.row (inserted s.col width)) s else s
+
 -- the cell is written at the cursor, with its right half where it is wide
 unfoldable pub inked : Glyph → Screen → Screen
 inked x s = mapped (in_row s.row (written x s.col)) s
@@ -45,7 +51,7 @@ advanced n w s =
 
 -- a cell of one or two columns is written
 unfoldable pub put_on : Glyph → Writing → Screen → Screen
-put_on x w s = advanced (columns x) w (inked x (with_room (columns x) w (settled s)))
+put_on x w s = advanced (columns x) w (inked x (made_way (columns x) w (with_room (columns x) w (settled s))))
 
 -- whether writing a cell of so many columns first scrolls a row out at the top margin
 unfoldable pub leaves_row : ℕ → Writing → Screen → Bool
@@ -65,26 +71,14 @@ unfoldable pub first_put_all : List Glyph → Writing → Screen → ℕ → ℕ
 first_put_all [] w s first = first
 first_put_all (x ∷ xs) w s first = first_put_all xs w (put_on x w s) (first_put x w s first)
 
--- printable ASCII: each byte is 20 to 7E
-abbrev pub ArePrintable : List ℕ → Type 0
-ArePrintable bytes = (k : ℕ) → k < length bytes → (0x20 ≤ slice_index bytes k) × (slice_index bytes k < 0x7F)
+-- the cells after a code point has joined the character in a column of the cursor's row
+abbrev pub joined_in : ℕ → ℕ → Screen → Screen
+joined_in col c s = record s { cells = (joined s.row col c (record { rows = s.rows; cols = s.cols; cells = s.cells; first = 0 })).cells }
 
--- a cell with one more code point, where that makes a cell: it is of width 0 and at most the third
-abbrev pub with_point : ℕ → Glyph → Glyph
-with_point c x = if is_cell_text (x.points ++ c ∷ []) then record x { points = x.points ++ c ∷ [] } else x
-
--- the column of the cell that joins what follows a column: of a pair the left half's
-abbrev pub base_column : ℕ → List Glyph → ℕ → ℕ → ℕ
-base_column cols cells row col = if is_right_half (cell_at cols cells row col) then col - 1 else col
-
--- the cells after a character of width 0 has joined the one in a column
-abbrev pub joined_in : ℕ → List Glyph → ℕ → ℕ → ℕ → List Glyph
-joined_in cols cells row col c =
-    slice_set cells (row * cols + base_column cols cells row col) (with_point c (cell_at cols cells row (base_column cols cells row col)))
-
--- a character of width 0 joins the cell before the cursor, and with a wrap pending the cursor's; in the first column with no wrap pending it is dropped (this project's profile)
+-- a character of width 0 joins the cell before the cursor, and with a wrap pending the cursor's; in the first column with no wrap pending
+-- it is dropped (this project's profile)
 unfoldable pub joined_on : ℕ → Screen → Screen
 joined_on c s =
-    if s.pending then record s { cells = joined_in s.cols s.cells s.row s.col c }
+    if s.pending then joined_in s.col c s
     else if (s.col == 0) then s
-    else record s { cells = joined_in s.cols s.cells s.row (s.col - 1) c }
+    else joined_in (s.col - 1) c s

@@ -1,5 +1,7 @@
+//! Moves of the cursor.
 ghost use Rattle.std.specs.Prelude.{◌≡◌};
-ghost use Rattle.roam_grid.specs.Cursor.{backspaced, carried, indexed, first_indexed, moved_to, moved_up, moved_down, moved_right, moved_left};
+ghost use Rattle.roam_grid.specs.Cursor.{backspaced, carried, indexed, first_indexed, moved_to, moved_up, moved_down, moved_right, moved_left, wrap_cleared, reverse_indexed, first_reverse_indexed, restored};
+ghost use Rattle.roam_grid.specs.Screen.{IsSameSize};
 
 use crate::grids::Grid;
 
@@ -9,6 +11,7 @@ impl Grid {
     pub fn backspace(&mut self)
         ensures screen { self.new.screen ≡ backspaced self.old.screen }
         ensures first { self.new.first ≡ self.old.first }
+        ensures size { IsSameSize self.old.screen self.new.screen }
     {
         self.col = self.col.saturating_sub(1);
         self.pending = false;
@@ -20,24 +23,27 @@ impl Grid {
     pub fn carriage_return(&mut self)
         ensures screen { self.new.screen ≡ carried self.old.screen }
         ensures first { self.new.first ≡ self.old.first }
+        ensures size { IsSameSize self.old.screen self.new.screen }
     {
         self.col = 0;
         self.pending = false;
     }
 
-    /// One row down, and on the bottom margin the rows between the margins up (IND; LF, ECMA-48 8.3.74).
+    /// One row down, and on the bottom margin the rows between the margins up (IND, VT220 Programmer
+    /// Reference; LF, ECMA-48 8.3.74).
     #[inline]
-    #[tactic(auto, unfolding(crate::specs::Cursor::indexed, crate::specs::Cursor::first_indexed, crate::specs::Screen::scrolled_up, crate::specs::Screen::first_scrolled_up))]
+    #[tactic(auto, unfolding(crate::specs::Cursor::indexed, crate::specs::Cursor::first_indexed))]
     pub fn index(&mut self)
         ensures screen { self.new.screen ≡ indexed self.old.screen }
         ensures first { self.new.first ≡ first_indexed self.old.screen self.old.first }
+        ensures size { IsSameSize self.old.screen self.new.screen }
     {
-        self.pending = false;
         if self.row == self.bottom {
             self.scroll_up(1);
-        } else if self.row + 1 != self.shape.rows {
+        } else if self.row + 1 != self.ring.rows() {
             self.row += 1;
         }
+        self.pending = false;
     }
 
     /// To a row and a column from 0, at most the last ones (CUP, ECMA-48 8.3.21).
@@ -45,9 +51,10 @@ impl Grid {
     pub fn move_to(&mut self, row: usize, col: usize)
         ensures screen { self.new.screen ≡ moved_to row col self.old.screen }
         ensures first { self.new.first ≡ self.old.first }
+        ensures size { IsSameSize self.old.screen self.new.screen }
     {
-        self.row = row.min(self.shape.rows - 1);
-        self.col = col.min(self.shape.cols - 1);
+        self.row = row.min(self.ring.rows() - 1);
+        self.col = col.min(self.ring.cols() - 1);
         self.pending = false;
     }
 
@@ -56,6 +63,7 @@ impl Grid {
     pub fn move_up(&mut self, n: usize)
         ensures screen { self.new.screen ≡ moved_up n self.old.screen }
         ensures first { self.new.first ≡ self.old.first }
+        ensures size { IsSameSize self.old.screen self.new.screen }
     {
         let above = self.row.saturating_sub(n);
         self.row = if self.row < self.top {
@@ -71,9 +79,10 @@ impl Grid {
     pub fn move_down(&mut self, n: usize)
         ensures screen { self.new.screen ≡ moved_down n self.old.screen }
         ensures first { self.new.first ≡ self.old.first }
+        ensures size { IsSameSize self.old.screen self.new.screen }
     {
         let last = if self.bottom < self.row {
-            self.shape.rows - 1
+            self.ring.rows() - 1
         } else {
             self.bottom
         };
@@ -86,8 +95,9 @@ impl Grid {
     pub fn move_right(&mut self, n: usize)
         ensures screen { self.new.screen ≡ moved_right n self.old.screen }
         ensures first { self.new.first ≡ self.old.first }
+        ensures size { IsSameSize self.old.screen self.new.screen }
     {
-        self.col += n.min(self.shape.cols - 1 - self.col);
+        self.col += n.min(self.ring.cols() - 1 - self.col);
         self.pending = false;
     }
 
@@ -96,8 +106,48 @@ impl Grid {
     pub fn move_left(&mut self, n: usize)
         ensures screen { self.new.screen ≡ moved_left n self.old.screen }
         ensures first { self.new.first ≡ self.old.first }
+        ensures size { IsSameSize self.old.screen self.new.screen }
     {
         self.col = self.col.saturating_sub(n);
         self.pending = false;
+    }
+
+    /// No wrap is pending any more.
+    #[tactic(auto, unfolding(crate::specs::Cursor::wrap_cleared))]
+    pub fn clear_wrap(&mut self)
+        ensures screen { self.new.screen ≡ wrap_cleared self.old.screen }
+        ensures first { self.new.first ≡ self.old.first }
+        ensures size { IsSameSize self.old.screen self.new.screen }
+    {
+        self.pending = false;
+    }
+
+    /// One row up, and on the top margin the rows between the margins down (RI, VT220 Programmer Reference).
+    #[tactic(auto, unfolding(crate::specs::Cursor::reverse_indexed, crate::specs::Cursor::first_reverse_indexed))]
+    pub fn reverse_index(&mut self)
+        ensures screen { self.new.screen ≡ reverse_indexed self.old.screen }
+        ensures first { self.new.first ≡ first_reverse_indexed self.old.screen self.old.first }
+        ensures size { IsSameSize self.old.screen self.new.screen }
+    {
+        if self.row == self.top {
+            self.scroll_down(1);
+        } else {
+            self.row = self.row.saturating_sub(1);
+        }
+        self.pending = false;
+    }
+
+    /// To a row and a column from 0, at most the last ones; a wrap pends where it was kept as pending and the column is the last (DECRC,
+    /// VT220 Programmer Reference).
+    #[tactic(auto, unfolding(crate::specs::Cursor::restored))]
+    pub fn restore(&mut self, row: usize, col: usize, pending: bool)
+        ensures screen { self.new.screen ≡ restored row col pending self.old.screen }
+        ensures first { self.new.first ≡ self.old.first }
+        ensures size { IsSameSize self.old.screen self.new.screen }
+    {
+        self.ring.facts();
+        self.row = row.min(self.ring.rows() - 1);
+        self.col = col.min(self.ring.cols() - 1);
+        self.pending = pending && self.col + 1 == self.ring.cols();
     }
 }

@@ -1,21 +1,22 @@
-ghost use Rattle.std.specs.Prelude.{◌≡◌, ◌↔◌, ℕ, ◌+◌, ◌*◌, ◌<◌, ◌≤◌, ◌⊎◌, true, false, length, IsTrue, IfOk, IfErr, IsErrOf, slice_range};
+//! The grid: what it holds, and what it tells.
+ghost use Rattle.std.specs.Prelude.{◌≡◌, ◌↔◌, ℕ, ◌+◌, ◌-◌, ◌*◌, ◌<◌, ◌≤◌, ◌⊎◌, ◌++◌, true, false, length, replicate, IsTrue, IfOk, IfErr, IsErrOf};
+ghost use Rattle.roam_cells.specs.Glyph.{blank};
 ghost use Rattle.roam_cells.specs.Limits.{IsSize};
-ghost use Rattle.roam_grid.specs.Turned.{brought_back};
-ghost use Rattle.roam_grid.specs.Stops.{start_stops, is_start_stop};
-ghost use Rattle.roam_grid.specs.Screen.{IsScreen, IsInOrder, start};
+ghost use Rattle.roam_cells.specs.Screenshot.{row_of};
+ghost use Rattle.roam_rows.specs.Rows.{AreRows, buffer_of};
+ghost use Rattle.roam_grid.specs.Screen.{IsScreen, rows_of, start};
 
-use crate::shapes::Shape;
+use crate::tabs::stops_at_start;
 use roam_cells::limits::{LEAST_COLUMNS, LEAST_ROWS, MOST_COLUMNS, MOST_ROWS};
 use roam_cells::{Cell, Fault};
+use roam_rows::Ring;
 use std::alloc::Global;
 use std::marker::Model;
 
 /// One screen of cells, with a cursor, margins and tab stops.
 #[derive(Drop)]
 pub struct Grid {
-    pub(crate) shape: Shape,
-    // the rows of the screen, from row `shape.first` on and round to it
-    pub(crate) cells: Vec<Cell>,
+    pub(crate) ring: Ring,
     pub(crate) row: usize,
     pub(crate) col: usize,
     pub(crate) pending: bool,
@@ -37,7 +38,8 @@ impl Model for Grid {
 }
 
 impl Grid {
-    /// A blank screen of 2 to 100 rows and 4 to 250 columns, the cursor at its start, with full margins and the tab stops of the start; refuses other sizes, and want of memory.
+    /// A blank screen of 2 to 100 rows and 4 to 250 columns, the cursor at its start, with full margins and the tab stops of the start;
+    /// refuses other sizes, and want of memory.
     pub fn new(alloc: Global, rows: usize, cols: usize) -> Result<Self, Fault>
         ensures screen { IfOk result (λ g. g.screen ≡ start rows cols) }
         ensures first { IfOk result (λ g. g.first ≡ 0) }
@@ -48,12 +50,7 @@ impl Grid {
             return Err(Fault::BadSize);
         }
         Ok(Grid {
-            shape: Shape {
-                rows,
-                cols,
-                first: 0,
-            },
-            cells: vec![in alloc; Cell::blank(); rows * cols]?,
+            ring: Ring::new(alloc, rows, cols)?,
             row: 0,
             col: 0,
             pending: false,
@@ -67,48 +64,59 @@ impl Grid {
     #[inline]
     pub fn facts(&self)
         ensures screen { IsScreen self.now.screen }
-        ensures order { IsInOrder self.now }
+        ensures rows { AreRows (rows_of self.now) }
     {
-        let _ = &self.shape;
+        self.ring.facts();
     }
 
     /// The number of rows.
+    #[inline]
     pub fn rows(&self) -> usize
         ensures rows { result ≡ self.now.screen.rows }
     {
-        self.shape.rows
+        self.ring.rows()
     }
 
     /// The number of columns.
+    #[inline]
     pub fn cols(&self) -> usize
         ensures cols { result ≡ self.now.screen.cols }
     {
-        self.shape.cols
+        self.ring.cols()
     }
 
     /// The cells of row i, from 0.
     pub fn row(&self, i: usize) -> &[Cell]
         requires row_in { i < self.now.screen.rows }
-        ensures row { result.now ≡ slice_range self.now.screen.cells (i * self.now.screen.cols) ((i + 1) * self.now.screen.cols) }
+        ensures row { result.now ≡ row_of self.now.screen.cols self.now.screen.cells i }
         ensures len { length result.now ≡ self.now.screen.cols }
-        ensures through { result.now ≡ slice_range self.now.buffer (brought_back self.now.screen.rows (self.now.first + i) * self.now.screen.cols) ((brought_back self.now.screen.rows (self.now.first + i) + 1) * self.now.screen.cols) }
     {
-        let at = self.shape.place(i);
-        &self.cells[at * self.shape.cols..(at + 1) * self.shape.cols]
+        self.ring.row(i)
     }
 
-    /// All cells, from the buffer's first row on: row i of the screen is the buffer's row `first` + i, brought back below the number of rows.
-    pub fn buffer(&self) -> &[Cell]
-        ensures buffer { result.now ≡ self.now.buffer }
+    /// The cells of row i, from 0, but for blank ones at its end.
+    pub fn front_of_row(&self, i: usize) -> &[Cell]
+        requires row_in { i < self.now.screen.rows }
+        ensures row { row_of self.now.screen.cols self.now.screen.cells i
+            ≡ result.now ++ replicate (self.now.screen.cols - length result.now) blank }
+        ensures few { length result.now ≤ self.now.screen.cols }
     {
-        &self.cells
+        self.ring.front_of_row(i)
+    }
+
+    /// All cells, from the buffer's first row on: row i of the screen is the buffer's row `first` + i, brought back below the number of
+    /// rows.
+    pub fn buffer(&self) -> &[Cell]
+        ensures buffer { result.now ≡ buffer_of (rows_of self.now) }
+    {
+        self.ring.buffer()
     }
 
     /// The row of the buffer that the screen begins with, from 0.
     pub fn first(&self) -> usize
         ensures first { result ≡ self.now.first }
     {
-        self.shape.first
+        self.ring.first()
     }
 
     /// The row and the column of the cursor, from 1.
@@ -116,6 +124,7 @@ impl Grid {
         ensures row { result.0 ≡ self.now.screen.row + 1 }
         ensures col { result.1 ≡ self.now.screen.col + 1 }
     {
+        self.ring.facts();
         (self.row + 1, self.col + 1)
     }
 
@@ -133,32 +142,22 @@ impl Grid {
     {
         (self.top, self.bottom)
     }
+
+    /// How many columns there are from the cursor's on.
+    pub fn room(&self) -> usize
+        ensures room { result + self.now.screen.col ≡ self.now.screen.cols }
+        ensures some { 0 < result }
+    {
+        self.ring.cols() - self.col
+    }
 }
 
 /// Whether a screen may have this size, in rows and columns.
-fn is_size(rows: usize, cols: usize) -> bool
+pub fn is_size(rows: usize, cols: usize) -> bool
     ensures size { IsTrue result ↔ IsSize rows cols }
 {
     if rows < LEAST_ROWS as usize || rows > MOST_ROWS as usize {
         return false;
     }
     LEAST_COLUMNS as usize <= cols && cols <= MOST_COLUMNS as usize
-}
-
-/// The tab stops at the start.
-fn stops_at_start() -> [bool; 250]
-    ensures stops { result ≡ start_stops }
-{
-    let mut stops = [false; 250];
-    for c in 0..250 {
-        stops[c] = is_start_stop(c);
-    }
-    stops
-}
-
-/// Whether a column, from 0, has a tab stop at the start.
-fn is_start_stop(c: usize) -> bool
-    ensures stop { result ≡ is_start_stop c }
-{
-    0 < c && c % 8 == 0
 }

@@ -1,18 +1,18 @@
-//! One screen of cells, with a cursor, margins and tab stops; its rows go round in one buffer.
+//! One screen of cells, with a cursor, margins and tab stops, over rows that go round in one buffer.
 #![tactic(auto)]
 
+mod cursor;
+mod editing;
+mod erasing;
+mod frames;
+mod grids;
+mod running;
+mod scrolling;
+mod tabbing;
+mod tabs;
+mod writing;
+
 pub use erasing::Extent;
+pub use frames::Fitted;
 pub use grids::Grid;
 pub use writing::Writing;
-
-pub mod cursor;
-pub mod erasing;
-pub mod grids;
-pub mod halves;
-pub mod rows;
-pub mod running;
-pub mod scrolling;
-pub mod shapes;
-#[cfg(test)]
-mod tests;
-pub mod writing;

@@ -9,7 +9,7 @@ returns-clause-first c =
     let a = c.args in
     let s = a.self.now.screen in
     let n = columns a.cell in
-    c.advance.ensures.first ∙ c.ink.ensures.first ∙ c.make_room.ensures.first
+    c.advance.ensures.first ∙ c.ink.ensures.first ∙ c.make_way.ensures.first ∙ c.make_room.ensures.first
     ∙ ap (λ t. first_with_room n a.writing t c.settle.new.self.first) c.settle.ensures.screen
     ∙ ap (first_with_room n a.writing (settled s)) c.settle.ensures.first
     ∙ first_steps n a.writing s a.self.now.first c.facts.ensures.screen.frame.size.least_columns

@@ -1,9 +1,9 @@
 use Rattle.std.proofs.Common.{◌≡◌, ◌∙◌, sym, ap, arith, length}
-use Rattle.roam_grid.specs.Row.{written_run}
-use Rattle.roam_grid.specs.Places.{in_row}
+use Rattle.roam_rows.specs.Writing.{written_run}
+use Rattle.roam_rows.specs.Places.{in_row}
 use Rattle.roam_grid.specs.Screen.{mapped}
 use Rattle.roam_grid.specs.Writing.{advanced}
-use Rattle.roam_grid.proofs.Inking.{inked_bytes, bytes_narrow, length-bytes}
+use Rattle.roam_rows.proofs.Inking.{inked_bytes, bytes_narrow, length-bytes}
 use Rattle.roam_grid.proofs.Runs.{put_some_is}
 use Rattle.roam_grid.proofs.grids.Grid.put_segment.Goals as goal
 
@@ -16,7 +16,7 @@ returns-clause-screen c =
     let e : length gs ≡ length a.bytes.now = length-bytes a.pen a.bytes.now in
     let f = c.facts.ensures.screen in
     c.advance.ensures.screen ∙ ap (advanced (length a.bytes.now) a.writing) c.ink_run.ensures.screen ∙ sym (ap (λ n. advanced n a.writing (mapped (in_row s.row (written_run gs s.col)) s)) e)
-    ∙ sym (put_some_is gs a.writing s a.self.now.first (omega (arith, e, q.some)) (bytes_narrow a.pen a.bytes.now q.printable) q.settled (omega (arith, e, q.fits)) f.frame.row_in f.whole).0
+    ∙ sym (put_some_is gs a.writing s a.self.now.first q.over (omega (arith, e, q.some)) (bytes_narrow a.pen a.bytes.now q.printable) q.settled (omega (arith, e, q.fits)) f.frame.row_in f.whole).0
 
 pub returns-clause-first : goal.returns-clause-first
 returns-clause-first c =
@@ -27,4 +27,4 @@ returns-clause-first c =
     let e : length gs ≡ length a.bytes.now = length-bytes a.pen a.bytes.now in
     let f = c.facts.ensures.screen in
     c.advance.ensures.first ∙ c.ink_run.ensures.first
-    ∙ sym (put_some_is gs a.writing s a.self.now.first (omega (arith, e, q.some)) (bytes_narrow a.pen a.bytes.now q.printable) q.settled (omega (arith, e, q.fits)) f.frame.row_in f.whole).1
+    ∙ sym (put_some_is gs a.writing s a.self.now.first q.over (omega (arith, e, q.some)) (bytes_narrow a.pen a.bytes.now q.printable) q.settled (omega (arith, e, q.fits)) f.frame.row_in f.whole).1

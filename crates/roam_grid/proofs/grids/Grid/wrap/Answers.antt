@@ -1,6 +1,7 @@
-use Rattle.std.proofs.Common.{◌≡◌, ◌∙◌, sym, ap, subst}
+use Rattle.std.proofs.Common.{◌≡◌, ℕ, ◌∙◌, refl, sym, ap, subst}
 use Rattle.roam_grid.specs.Screen.{Screen}
-use Rattle.roam_grid.specs.Cursor.{indexed}
+use Rattle.roam_grid.specs.Scrolling.{first_scrolled_up}
+use Rattle.roam_grid.specs.Cursor.{carried, indexed, first_indexed}
 use Rattle.roam_grid.specs.Writing.{wrapped}
 use Rattle.roam_grid.proofs.Puts.{wrapped_place, Placed}
 use Rattle.roam_grid.proofs.grids.Grid.wrap.Goals as goal
@@ -11,3 +12,14 @@ returns-clause-place c =
     let s = c.args.self.now.screen in
     let is : c.index.new.self.screen ≡ wrapped s = c.index.ensures.screen ∙ ap indexed c.carriage_return.ensures.screen in
     subst (λ (t : Screen). Placed s.cols t) (sym is) (wrapped_place s)
+
+-- the first row goes on after CR as it does without it
+first_indexed-carried : (s : Screen) (first : ℕ) → first_indexed (carried s) first ≡ first_indexed s first
+unfolding carried first_indexed first_scrolled_up
+first_indexed-carried s first = refl
+
+pub returns-clause-first : goal.returns-clause-first
+returns-clause-first c =
+    let s = c.args.self.now.screen in
+    c.index.ensures.first ∙ ap (λ t. first_indexed t c.carriage_return.new.self.first) c.carriage_return.ensures.screen
+    ∙ ap (first_indexed (carried s)) c.carriage_return.ensures.first ∙ first_indexed-carried s c.args.self.now.first

@@ -1,0 +1,19 @@
+use Rattle.std.proofs.Common.{◌∙◌, false, ap}
+use Rattle.roam_rows.specs.Rows.{Rows}
+use Rattle.roam_grid.specs.Erasing.{erased_in_page, line_to, page_to}
+use Rattle.roam_grid.specs.Kept.{screen_of}
+use Rattle.roam_grid.proofs.Pages.{page_erased}
+use Rattle.roam_grid.proofs.grids.Grid.erase_in_page.Goals as goal
+
+pub returns-clause-screen : goal.returns-clause-screen
+unfolding erased_in_page
+returns-clause-screen c =
+    let f = c.self.inside in
+    let e = c.args.extent in
+    let line = c.columns-left in
+    let page = c.rows-top in
+    rw (← c.self.view_is)
+    (ap (λ (v : Rows). screen_of (record f { ring = v; pending = false }))
+    (page_erased e f.row f.col line.result.0 line.result.1 page.result.0 page.result.1 f.ring c.erase.new.self c.blank_rows.new.self c.facts-2.ensures.rows
+    line.ensures.from (line.ensures.to ∙ ap (λ k. line_to e k f.col) c.cols-cols.ensures.cols) page.ensures.from (page.ensures.to ∙ ap (λ k. page_to e k f.row) c.rows-rows.ensures.rows)
+    c.erase.ensures.ring c.blank_rows.ensures.ring))

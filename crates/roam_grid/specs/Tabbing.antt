@@ -1,0 +1,24 @@
+-- What tabs make of a screen.
+use Rattle.std.specs.Prelude.{ℕ, ◌-◌, true, false, replicate, slice_set}
+use Rattle.roam_grid.specs.Screen.{Screen}
+use Rattle.roam_grid.specs.Tabs.{stops_on, stops_back}
+
+-- to the nth stop after the cursor, else to the last column (HT, ECMA-48 8.3.60; CHT, 8.3.10)
+unfoldable pub tabbed : ℕ → Screen → Screen
+tabbed n s = record s { col = stops_on n (s.cols - 1) s.stops s.col; pending = false }
+
+-- to the nth stop before the cursor, else to the first column (CBT, ECMA-48 8.3.7)
+unfoldable pub back_tabbed : ℕ → Screen → Screen
+back_tabbed n s = record s { col = stops_back n s.stops s.col; pending = false }
+
+-- a stop in the cursor's column (HTS, ECMA-48 8.3.62)
+unfoldable pub stop_set : Screen → Screen
+stop_set s = record s { stops = slice_set s.stops s.col true }
+
+-- none in the cursor's column (TBC, ECMA-48 8.3.154)
+unfoldable pub stop_cleared : Screen → Screen
+stop_cleared s = record s { stops = slice_set s.stops s.col false }
+
+-- none at all (TBC)
+unfoldable pub stops_cleared : Screen → Screen
+stops_cleared s = record s { stops = replicate 250 false }
