@@ -1,0 +1,3 @@
+pub mod Refitting
+pub mod Pushing
+pub mod Worked

@@ -1,0 +1,4 @@
+pub mod Limits
+pub mod Lines
+pub mod Histories
+pub mod Fitting
