@@ -1,8 +1,6 @@
 -- Text that is printed at once.
-use Rattle.std.proofs.Common.{◌≡◌, ◌≤◌, ◌<◌, ℕ, zero, suc, ◌-◌, ◌==◌, Bool, true, false, List, [], ◌∷◌, ◌++◌, map, length, get_or, Option, Some, None, refl, sym, ap, ◌∙◌, arith}
+use Rattle.std.proofs.Common.{◌≡◌, ◌≤◌, ◌<◌, ℕ, zero, suc, ◌-◌, ◌==◌, Bool, true, false, List, [], ◌∷◌, ◌++◌, map, length, get_or, Option, Some, None, refl, sym, ap, ◌∙◌, arith, replicate}
 use Rattle.std.specs.Prelude.{if◌then◌else◌, unwrap_or, nat_le, ◌&&◌}
-use Rattle.roam_cells.specs.Glyph.{Glyph}
-use Rattle.roam_cells.specs.Width.{width_of}
 use Rattle.roam_cells.proofs.Ascii.{ascii_width}
 use Rattle.roam_charset.specs.Charsets.{mapped_by}
 use Rattle.roam_charset.specs.Sets.{set_in, in_use, spent}
@@ -11,7 +9,9 @@ use Rattle.roam_charset.specs.declared.sets.Sets.{Sets}
 use Rattle.roam_text.specs.declared.functions.Function.{Function}
 use Rattle.roam_text.specs.declared.functions.Function.TheVariants.{Print}
 use Rattle.roam_text.specs.Functions.{ArePlain}
+use Rattle.roam_grid.specs.declared.writing.Writing.{Writing}
 use Rattle.roam_grid.specs.Screen.{Screen}
+use Rattle.roam_cells.specs.Glyph.{Glyph}
 use Rattle.roam_grid.specs.Writing.{put_on, put_all, joined_on}
 use Rattle.roam_term.specs.Terminal.{Live, glyph_in, writing_under, written, printed_on, printed_all, changed, answer, lived, answered}
 use Rattle.roam_term.proofs.Lists.{append-nil}
@@ -94,3 +94,12 @@ unfolding last_printed
 last_printed-is o [] h = absurd (omega arith)
 last_printed-is o (b ∷ []) h = refl
 last_printed-is o (b ∷ c ∷ bs) h = last_printed-is (Some b) (c ∷ bs) (omega arith) ∙ ap Some (ap (λ i. get_or (b ∷ c ∷ bs) i 0) (sym (more (length bs))))
+
+-- a cell that is written so many times is written once, and then one time less
+pub put_step : (g : Glyph) (w : Writing) (s : Screen) (n m : ℕ) → n ≡ suc m → put_all (replicate n g) w s ≡ put_all (replicate m g) w (put_on g w s)
+unfolding put_all
+put_step g w s n m e = ap (λ k. put_all (replicate k g) w s) e
+
+pub put_none : (g : Glyph) (w : Writing) (s : Screen) (n : ℕ) → n ≡ 0 → put_all (replicate n g) w s ≡ s
+unfolding put_all
+put_none g w s n e = ap (λ k. put_all (replicate k g) w s) e

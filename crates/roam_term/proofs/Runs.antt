@@ -1,12 +1,12 @@
 -- Functions one after another.
-use Rattle.std.proofs.Common.{◌≡◌, ℕ, ◌-◌, zero, suc, List, [], ◌∷◌, ◌++◌, map, drop, length, refl, sym, ap, ◌∙◌, append_assoc, subst}
+use Rattle.std.proofs.Common.{◌≡◌, ℕ, ◌-◌, zero, suc, List, [], ◌∷◌, ◌++◌, map, drop, refl, sym, ap, ◌∙◌, append_assoc, subst}
 use Rattle.roam_cells.specs.Glyph.{Glyph}
 use Rattle.roam_text.specs.declared.functions.Function.{Function}
 use Rattle.roam_text.specs.Log.{Item, Byte}
 use Rattle.roam_text.specs.Functions.{functions_of}
 use Rattle.roam_text.specs.Stands.{Stands}
-use Rattle.roam_term.specs.Terminal.{Live, Terminal, changed, answer, left, last_of, after, run, lived, answered, started, term, reports}
-use Rattle.roam_term.specs.Stands.{TermView, Shows, Gains, Fed}
+use Rattle.roam_term.specs.Terminal.{Terminal, changed, answer, left, last_of, after, run, lived, answered, started, term, reports}
+use Rattle.roam_term.specs.Stands.{TermView, Shows, Fed}
 use Rattle.roam_term.proofs.Lists.{append-nil, map-append}
 
 pub run-append : (lines : ℕ) (t : Terminal) (fs gs : List Function) → run lines t (fs ++ gs) ≡ run lines (run lines t fs) gs

@@ -1,5 +1,5 @@
 -- What a terminal shows.
-use Rattle.std.proofs.Common.{◌≡◌, ◌≤◌, ◌<◌, ℕ, ◌+◌, ◌*◌, ◌-◌, Bool, true, false, List, [], ◌∷◌, ◌++◌, map, take, drop, take_all, length, get_or, slice_range, refl, sym, ap, ◌∙◌, arith}
+use Rattle.std.proofs.Common.{◌≡◌, ◌<◌, ℕ, ◌+◌, ◌*◌, ◌-◌, Bool, true, false, List, [], ◌++◌, map, take, drop, take_all, length, slice_range, refl, sym, ap, ◌∙◌, arith}
 use Rattle.std.specs.Prelude.{◌&&◌, nat_le, min, if◌then◌else◌}
 use Rattle.std.proofs.lemmas.Bool.Decides.{nat_tests}
 use Rattle.std.proofs.lemmas.List.{get_or-map, length-map}
@@ -8,11 +8,11 @@ use Rattle.roam_text.specs.Log.{Item}
 use Rattle.roam_text.specs.Functions.{functions_of}
 use Rattle.roam_cells.specs.Glyph.{Glyph, blank, is_wide, is_right_half, right_of}
 use Rattle.roam_cells.specs.Place.{cell_at, AreWhole}
-use Rattle.roam_cells.specs.Screenshot.{Screenshot, AreUnguarded}
+use Rattle.roam_cells.specs.Screenshot.{AreUnguarded}
 use Rattle.roam_cells.proofs.Places.{place_below}
 use Rattle.roam_grid.specs.Screen.{IsScreen}
-use Rattle.roam_term.specs.Terminal.{Live, Terminal, started, run, term}
-use Rattle.roam_term.specs.Picture.{shown, rows_in_view, picture_with, picture, picture_of, picture_alone}
+use Rattle.roam_term.specs.Terminal.{Live, started, term}
+use Rattle.roam_term.specs.Picture.{shown, picture_with, picture, picture_of, picture_alone}
 use Rattle.roam_term.proofs.Runs.{run-history}
 use Rattle.roam_term.proofs.Lists.{map-append}
 
@@ -60,16 +60,16 @@ module _ (reversed : Bool) (rows cols : ℕ) (cells : List Glyph) (size : length
 
   -- halves stay beside each other
   pub shown_whole : AreWhole rows cols cells → AreWhole rows cols (map (shown reversed) cells)
-  shown_whole whole = record {
-    wide = λ r c p q wide.
+  shown_whole whole = λ r p c q. record {
+    wide = λ wide.
         let was : is_wide (cell_at cols cells r c) ≡ true = sym (ap is_wide (shown_at r c p q)) ∙ wide in
-        let beside = whole.wide r c p q was in (
+        let beside = (whole r p c q).wide was in (
           beside.0,
           shown_at r (c + 1) p beside.0 ∙ ap (shown reversed) beside.1 ∙ sym (ap right_of (shown_at r c p q)),
         );
-    half = λ r c p q half.
+    half = λ half.
         let was : is_right_half (cell_at cols cells r c) ≡ true = sym (ap is_right_half (shown_at r c p q)) ∙ half in
-        let beside = whole.half r c p q was in
+        let beside = (whole r p c q).half was in
         (beside.0, ap is_wide (shown_at r (c - 1) p (omega (arith, q))) ∙ beside.1);
   }
 

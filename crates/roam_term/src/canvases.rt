@@ -1,15 +1,26 @@
 //! What lives of a terminal: its screens, its pen, its modes, its sets.
-ghost use Rattle.std.specs.Prelude.{◌≡◌, ◌≤◌, ◌<◌, ◌↔◌, IfOk, IfErr, None, Some, IsTrue, length};
+ghost use Rattle.std.specs.Prelude.{◌≡◌, ◌≤◌, ◌<◌, ◌+◌, ◌++◌, ◌↔◌, IfOk, IfErr, None, Some, IsTrue, length, fold, replicate, false};
+ghost use Rattle.roam_cells.specs.Glyph.{is_right_half};
 ghost use Rattle.roam_cells.specs.Limits.{IsSize};
 ghost use Rattle.roam_charset.specs.Sets.{set_in};
-ghost use Rattle.roam_grid.specs.Screen.{IsScreen};
+ghost use Rattle.roam_grid.specs.Screen.{IsSameSize, IsScreen};
+ghost use Rattle.roam_grid.specs.Writing.{put_all};
 ghost use Rattle.roam_text.specs.Functions.{ArePlain};
-ghost use Rattle.roam_term.specs.Terminal.{printed_on, printed_all, performed, shifted, started_live, writing_under};
+ghost use Rattle.roam_term.specs.Commands.{forgets};
+ghost use Rattle.roam_term.specs.Terminal.{printed_on, printed_all, mode_set, private_mode_set, kept_of, saved_on, restored_to, soft_reset, reset, repeated, set_by, performed, remembering, answered_by, started_live, writing_under};
 
-use crate::commands::{Command, Shift};
+use crate::alternates::is_alternate_mode;
+use crate::commands::Command;
+use crate::edits::edit_by;
+use crate::erasures::erase_by;
 use crate::modes::Modes;
-use crate::moving::{erase_by, move_by};
+use crate::motions::move_by;
+use crate::outputs::Output;
 use crate::pens::{Pen, Saved};
+use crate::renditions::restyled;
+use crate::reports::answer_to;
+use crate::settings::{Setting, follow_private_mode, set_margins};
+use crate::shifts::shift_by;
 use roam_cells::{Cell, Fault};
 use roam_charset::{Charset, Sets};
 use roam_grid::{Grid, Writing};
@@ -19,15 +30,15 @@ use std::marker::Model;
 /// The screens of a terminal with all that its functions depend on.
 #[derive(Drop)]
 pub struct Canvas {
-    grid: Grid,
-    other: Grid,
-    alternate: bool,
-    pen: Pen,
-    modes: Modes,
-    sets: Sets,
-    saved: Option<Saved>,
-    saved_alternate: Option<Saved>,
-    printed: Option<char>,
+    pub(crate) grid: Grid,
+    pub(crate) other: Grid,
+    pub(crate) alternate: bool,
+    pub(crate) pen: Pen,
+    pub(crate) modes: Modes,
+    pub(crate) sets: Sets,
+    pub(crate) saved: Option<Saved>,
+    pub(crate) saved_alternate: Option<Saved>,
+    pub(crate) printed: Option<char>,
 }
 
 impl Model for Canvas {
@@ -36,17 +47,10 @@ impl Model for Canvas {
     ghost Value = { Live };
 
     ghost view = { λ c. record { screen = c.grid.screen; other = c.other.screen.cells; alternate = c.alternate; pen = c.pen; modes = c.modes; sets = c.sets; saved = c.saved; saved_alternate = c.saved_alternate; printed = c.printed } };
-}
 
-// Designates a set, or invokes one.
-fn shift_by(sets: &mut Sets, shift: Shift)
-    ensures shifted { sets.new ≡ shifted shift sets.old }
-{
-    match shift {
-        Shift::Locking(element) => sets.shift(element),
-        Shift::Single(element) => sets.single_shift(element),
-        Shift::Designation(element, set) => sets.designate(element, set),
-    }
+    ghost use Rattle.roam_grid.specs.Screen.{IsSameSize};
+
+    ghost invariant = { λ c. IsSameSize c.grid.screen c.other.screen };
 }
 
 // What writing depends on.
@@ -56,6 +60,18 @@ fn writing_under(modes: Modes) -> Writing
 {
     Writing {
         wraps: modes.autowrap,
+        inserts: modes.insert,
+    }
+}
+
+// Writes a cell so many times.
+fn put_times(grid: &mut Grid, cell: Cell, n: u16, writing: Writing)
+    requires no_half { is_right_half cell ≡ false }
+    ensures screen { grid.new.screen ≡ put_all (replicate n cell) writing grid.old.screen }
+    ensures size { IsSameSize grid.old.screen grid.new.screen }
+{
+    for _ in 0..n {
+        grid.put(cell, writing);
     }
 }
 
@@ -140,17 +156,184 @@ impl Canvas {
         self.printed = Some(bytes[bytes.len() - 1] as char);
     }
 
-    /// Does what a command asks for. It takes no memory.
-    pub fn perform(&mut self, command: Command)
-        ensures performed { self.new ≡ performed command self.old }
+    fn set_mode(&mut self, on: bool, number: u16)
+        ensures set { self.new ≡ mode_set on self.old number }
+    {
+        self.modes.set(on, number);
+    }
+
+    fn set_modes(&mut self, on: bool, numbers: &[u16])
+        ensures set { self.new ≡ fold (mode_set on) self.old numbers.now }
+    {
+        for number in numbers {
+            self.set_mode(on, *number);
+        }
+    }
+
+    fn set_private_mode(&mut self, on: bool, number: u16)
+        ensures set { self.new ≡ private_mode_set on self.old number }
+    {
+        if is_alternate_mode(number) {
+            self.choose_screen(on, number);
+            return;
+        }
+        self.modes.set_private(on, number);
+        follow_private_mode(&mut self.grid, on, number);
+    }
+
+    fn set_private_modes(&mut self, on: bool, numbers: &[u16])
+        ensures set { self.new ≡ fold (private_mode_set on) self.old numbers.now }
+    {
+        for number in numbers {
+            self.set_private_mode(on, *number);
+        }
+    }
+
+    // What DECRC restores on the screen that is shown.
+    fn kept(&self) -> Saved
+        ensures kept { result ≡ kept_of self.now }
+    {
+        let slot = if self.alternate {
+            self.saved_alternate
+        } else {
+            self.saved
+        };
+        match slot {
+            Some(kept) => kept,
+            None => Saved::new(),
+        }
+    }
+
+    // DECSC
+    pub(crate) fn save(&mut self)
+        ensures saved { self.new ≡ saved_on self.old }
+    {
+        let (row, col) = self.grid.cursor();
+        let kept = Saved {
+            row: row - 1,
+            col: col - 1,
+            pending: self.grid.pending(),
+            pen: self.pen,
+            sets: self.sets,
+            origin: self.modes.origin,
+        };
+        if self.alternate {
+            self.saved_alternate = Some(kept);
+        } else {
+            self.saved = Some(kept);
+        }
+    }
+
+    // DECRC
+    pub(crate) fn restore(&mut self)
+        ensures restored { self.new ≡ restored_to (kept_of self.old) self.old }
+    {
+        let kept = self.kept();
+        self.grid
+            .restore(kept.row, kept.col, kept.pending && self.modes.autowrap);
+        self.pen = kept.pen;
+        self.sets = kept.sets;
+        self.modes.origin = kept.origin;
+    }
+
+    // DECSTR
+    fn soft_reset(&mut self)
+        ensures reset { self.new ≡ soft_reset self.old }
+    {
+        self.grid.facts();
+        let bottom = self.grid.rows() - 1;
+        self.grid.set_margins(0, bottom);
+        self.pen = Pen::new();
+        self.modes.soft_reset();
+        self.sets = Sets::new();
+        self.saved = None;
+        self.saved_alternate = None;
+    }
+
+    // RIS
+    fn reset(&mut self)
+        ensures reset { self.new ≡ reset self.old }
+    {
+        self.grid.restart();
+        self.other.facts();
+        self.other.blank_all();
+        self.alternate = false;
+        self.pen = Pen::new();
+        self.modes = Modes::new();
+        self.sets = Sets::new();
+        self.saved = None;
+        self.saved_alternate = None;
+        self.printed = None;
+    }
+
+    // REP
+    fn repeat(&mut self, n: u16)
+        ensures repeated { self.new ≡ repeated n self.old.printed self.old }
+    {
+        if let Some(c) = self.printed {
+            if let Some(cell) = Cell::of(&[c], self.pen.style, self.pen.guard) {
+                put_times(&mut self.grid, cell, n, writing_under(self.modes));
+            }
+        }
+    }
+
+    fn set(&mut self, setting: Setting, params: &[u16])
+        ensures set { self.new ≡ set_by setting params.now self.old }
+    {
+        match setting {
+            Setting::Mode(on) => self.set_modes(on, params),
+            Setting::PrivateMode(on) => self.set_private_modes(on, params),
+            Setting::Rendition => self.pen.style = restyled(self.pen.style, params),
+            Setting::Margins(top, bottom) => {
+                set_margins(&mut self.grid, top, bottom, self.modes.origin)
+            }
+            Setting::Guard(on) => self.pen.guard = on,
+            Setting::Keypad(application) => self.modes.application_keypad = application,
+            Setting::Save => self.save(),
+            Setting::Restore => self.restore(),
+            Setting::SoftReset => self.soft_reset(),
+            Setting::Reset => self.reset(),
+            Setting::SetStop => self.grid.set_stop(),
+            Setting::ClearStop => self.grid.clear_stop(),
+            Setting::ClearStops => self.grid.clear_stops(),
+        }
+    }
+
+    // Does what a command asks for, but for what REP remembers.
+    fn act(&mut self, command: Command, params: &[u16])
+        ensures performed { self.new ≡ performed command params.now self.old }
     {
         match command {
-            Command::Prints(c) => return self.print(c),
             Command::Nothing => {}
+            Command::Prints(c) => self.print(c),
             Command::Moves(motion) => move_by(&mut self.grid, motion, self.modes),
             Command::Erases(erasure) => erase_by(&mut self.grid, erasure),
+            Command::Edits(edit) => edit_by(&mut self.grid, edit),
             Command::Shifts(shift) => shift_by(&mut self.sets, shift),
+            Command::Sets(setting) => self.set(setting, params),
+            Command::Reports(_) => {}
+            Command::Repeats(n) => self.repeat(n),
         }
-        self.printed = None;
+    }
+
+    /// Does what a command asks for, whose parameters are lent. It takes no memory.
+    pub fn perform(&mut self, command: Command, params: &[u16])
+        ensures performed { self.new ≡ remembering (forgets command) (performed command params.now self.old) }
+    {
+        self.act(command, params);
+        if command.forgets() {
+            self.printed = None;
+        }
+    }
+
+    /// Answers what a command asks for, on the state before it.
+    pub fn answer(&self, command: Command, output: &mut Output)
+        requires room { length output.old + 12 ≤ 65536 }
+        ensures answered { output.new ≡ output.old ++ answered_by command self.now }
+        ensures short { length output.new ≤ length output.old + 12 }
+    {
+        if let Command::Reports(report) = command {
+            answer_to(report, &self.grid, self.modes, output);
+        }
     }
 }

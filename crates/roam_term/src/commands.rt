@@ -1,122 +1,84 @@
 //! What a function asks for, by the table of control functions.
-ghost use Rattle.std.specs.Prelude.{◌≡◌, drop};
+ghost use Rattle.std.specs.Prelude.{◌≡◌};
 ghost use Rattle.roam_text.specs.Dispatched.{function_of};
-ghost use Rattle.roam_term.specs.Commands.{first, c0_command, c1_command, locking_shift, element_of, charset_of, escape_command, extent_of, erasure_in_page, erasure_in_line, plain_sequence, sequence_command, command_of};
+ghost use Rattle.roam_term.specs.Commands.{c0_command, c1_command, marked_escape, escape_command, plain_command, marked_command, intermediate_command, sequence_command, command_of, forgets};
 
-use roam_charset::{Charset, Element};
-use roam_grid::Extent;
+use crate::edits::{Edit, edit_of, hash_edit};
+use crate::erasures::{Erasure, erasure_of, private_erasure};
+use crate::motions::{Motion, c0_motion, c1_motion, motion_of};
+use crate::parameters::first_count;
+use crate::reports::{Report, private_report, report_of, secondary_report};
+use crate::settings::{
+    Setting, c1_setting, escape_setting, exclaimed_setting, private_setting, quoted_setting,
+    setting_of,
+};
+use crate::shifts::{Shift, c0_shift, c1_shift, designation_of, locking_shift};
 use roam_text::Dispatch;
 
-/// Where the cursor goes. Rows and columns count from 1.
-#[derive(Clone, Copy, Debug, PartialEq, Eq)]
-pub enum Motion {
-    Backspace,
-    CarriageReturn,
-    LineFeed,
-    Index,
-    NextLine,
-    Position(u16, u16),
-}
-
-/// What becomes blank.
-#[derive(Clone, Copy, Debug, PartialEq, Eq)]
-pub enum Erasure {
-    InPage(Extent),
-    InLine(Extent),
-}
-
-/// What changes of the graphic sets.
-#[derive(Clone, Copy, Debug, PartialEq, Eq)]
-pub enum Shift {
-    Locking(Element),
-    Single(Element),
-    Designation(Element, Charset),
-}
-
 /// What a function asks for; a function that isn't listed asks for nothing.
-#[derive(Clone, Copy, Debug, PartialEq, Eq)]
+#[derive(Clone, Copy)]
 pub enum Command {
     Nothing,
     Prints(char),
     Moves(Motion),
     Erases(Erasure),
+    Edits(Edit),
     Shifts(Shift),
+    Sets(Setting),
+    Reports(Report),
+    /// The last printed character so many times more.
+    Repeats(u16),
 }
 
-// The first parameter; none is 0.
-fn first(params: &[u16]) -> u16
-    ensures first { result ≡ first params.now }
-{
-    match params {
-        [] => 0,
-        [param, ..] => *param,
-    }
-}
-
-fn second(params: &[u16]) -> u16
-    ensures second { result ≡ first (drop 1 params.now) }
-{
-    match params {
-        [_, param, ..] => *param,
-        _ => 0,
+impl Command {
+    /// Whether REP forgets its character by this command.
+    #[inline]
+    pub fn forgets(self) -> bool
+        ensures forgets { result ≡ forgets self }
+    {
+        match self {
+            Command::Prints(_) | Command::Repeats(_) => false,
+            _ => true,
+        }
     }
 }
 
 fn c0_command(code: u8) -> Command
     ensures command { result ≡ c0_command code }
 {
-    match code {
-        0x08 => Command::Moves(Motion::Backspace),
-        0x0A | 0x0B | 0x0C => Command::Moves(Motion::LineFeed),
-        0x0D => Command::Moves(Motion::CarriageReturn),
-        0x0E => Command::Shifts(Shift::Locking(Element::G1)),
-        0x0F => Command::Shifts(Shift::Locking(Element::G0)),
-        _ => Command::Nothing,
+    if let Some(motion) = c0_motion(code) {
+        return Command::Moves(motion);
+    }
+    match c0_shift(code) {
+        Some(shift) => Command::Shifts(shift),
+        None => Command::Nothing,
     }
 }
 
 fn c1_command(code: u8) -> Command
     ensures command { result ≡ c1_command code }
 {
-    match code {
-        0x84 => Command::Moves(Motion::Index),
-        0x85 => Command::Moves(Motion::NextLine),
-        0x8E => Command::Shifts(Shift::Single(Element::G2)),
-        0x8F => Command::Shifts(Shift::Single(Element::G3)),
-        _ => Command::Nothing,
+    if let Some(motion) = c1_motion(code) {
+        return Command::Moves(motion);
+    }
+    if let Some(shift) = c1_shift(code) {
+        return Command::Shifts(shift);
+    }
+    match c1_setting(code) {
+        Some(setting) => Command::Sets(setting),
+        None => Command::Nothing,
     }
 }
 
-fn locking_shift(last: u8) -> Command
-    ensures command { result ≡ locking_shift last }
+fn marked_escape(intermediate: u8, last: u8) -> Command
+    ensures command { result ≡ marked_escape intermediate last }
 {
-    match last {
-        b'n' => Command::Shifts(Shift::Locking(Element::G2)),
-        b'o' => Command::Shifts(Shift::Locking(Element::G3)),
-        _ => Command::Nothing,
+    if let Some(shift) = designation_of(intermediate, last) {
+        return Command::Shifts(shift);
     }
-}
-
-fn element_of(intermediate: u8) -> Option<Element>
-    ensures element { result ≡ element_of intermediate }
-{
-    match intermediate {
-        b'(' => Some(Element::G0),
-        b')' => Some(Element::G1),
-        b'*' => Some(Element::G2),
-        b'+' => Some(Element::G3),
-        _ => None,
-    }
-}
-
-fn charset_of(last: u8) -> Option<Charset>
-    ensures charset { result ≡ charset_of last }
-{
-    match last {
-        b'0' => Some(Charset::DecSpecialGraphics),
-        b'A' => Some(Charset::UnitedKingdom),
-        b'B' => Some(Charset::Ascii),
-        _ => None,
+    match hash_edit(intermediate, last) {
+        Some(edit) => Command::Edits(edit),
+        None => Command::Nothing,
     }
 }
 
@@ -124,39 +86,83 @@ fn escape_command(intermediates: &[u8], last: u8) -> Command
     ensures command { result ≡ escape_command intermediates.now last }
 {
     match intermediates {
-        [] => locking_shift(last),
-        [intermediate] => match (element_of(*intermediate), charset_of(last)) {
-            (Some(element), Some(set)) => Command::Shifts(Shift::Designation(element, set)),
-            _ => Command::Nothing,
+        [] => {
+            if let Some(shift) = locking_shift(last) {
+                return Command::Shifts(shift);
+            }
+            match escape_setting(last) {
+                Some(setting) => Command::Sets(setting),
+                None => Command::Nothing,
+            }
+        }
+        [intermediate] => marked_escape(*intermediate, last),
+        _ => Command::Nothing,
+    }
+}
+
+fn plain_command(params: &[u16], last: u8) -> Command
+    ensures command { result ≡ plain_command params.now last }
+{
+    if let Some(setting) = setting_of(params, last) {
+        return Command::Sets(setting);
+    }
+    if let Some(motion) = motion_of(params, last) {
+        return Command::Moves(motion);
+    }
+    if let Some(erasure) = erasure_of(params, last) {
+        return Command::Erases(erasure);
+    }
+    if let Some(edit) = edit_of(params, last) {
+        return Command::Edits(edit);
+    }
+    if let Some(report) = report_of(params, last) {
+        return Command::Reports(report);
+    }
+    match last {
+        // REP
+        b'b' => Command::Repeats(first_count(params)),
+        _ => Command::Nothing,
+    }
+}
+
+fn private_command(params: &[u16], last: u8) -> Command
+    ensures command { result ≡ marked_command 0x3F params.now last }
+{
+    if let Some(setting) = private_setting(last) {
+        return Command::Sets(setting);
+    }
+    if let Some(erasure) = private_erasure(params, last) {
+        return Command::Erases(erasure);
+    }
+    match private_report(params, last) {
+        Some(report) => Command::Reports(report),
+        None => Command::Nothing,
+    }
+}
+
+fn marked_command(marker: u8, params: &[u16], last: u8) -> Command
+    ensures command { result ≡ marked_command marker params.now last }
+{
+    match marker {
+        b'?' => private_command(params, last),
+        b'>' => match secondary_report(params, last) {
+            Some(report) => Command::Reports(report),
+            None => Command::Nothing,
         },
         _ => Command::Nothing,
     }
 }
 
-fn extent_of(param: u16) -> Option<Extent>
-    ensures extent { result ≡ extent_of param }
+fn intermediate_command(intermediate: u8, params: &[u16], last: u8) -> Command
+    ensures command { result ≡ intermediate_command intermediate params.now last }
 {
-    match param {
-        0 => Some(Extent::ToEnd),
-        1 => Some(Extent::ToStart),
-        2 => Some(Extent::All),
-        _ => None,
-    }
-}
-
-fn plain_sequence(params: &[u16], last: u8) -> Command
-    ensures command { result ≡ plain_sequence params.now last }
-{
-    match last {
-        b'H' | b'f' => {
-            Command::Moves(Motion::Position(first(params).max(1), second(params).max(1)))
-        }
-        b'J' => match extent_of(first(params)) {
-            Some(extent) => Command::Erases(Erasure::InPage(extent)),
+    match intermediate {
+        b'!' => match exclaimed_setting(last) {
+            Some(setting) => Command::Sets(setting),
             None => Command::Nothing,
         },
-        b'K' => match extent_of(first(params)) {
-            Some(extent) => Command::Erases(Erasure::InLine(extent)),
+        b'"' => match quoted_setting(params, last) {
+            Some(setting) => Command::Sets(setting),
             None => Command::Nothing,
         },
         _ => Command::Nothing,
@@ -166,15 +172,16 @@ fn plain_sequence(params: &[u16], last: u8) -> Command
 fn sequence_command(marker: Option<u8>, params: &[u16], intermediates: &[u8], last: u8) -> Command
     ensures command { result ≡ sequence_command marker params.now intermediates.now last }
 {
-    match marker {
-        None => {
-            if intermediates.is_empty() {
-                plain_sequence(params, last)
-            } else {
-                Command::Nothing
-            }
-        }
-        Some(_) => Command::Nothing,
+    match intermediates {
+        [] => match marker {
+            None => plain_command(params, last),
+            Some(marker) => marked_command(marker, params, last),
+        },
+        [intermediate] => match marker {
+            None => intermediate_command(*intermediate, params, last),
+            Some(_) => Command::Nothing,
+        },
+        _ => Command::Nothing,
     }
 }
 

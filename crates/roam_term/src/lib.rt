@@ -6,15 +6,21 @@
 //! selective, SUB shows no error character, and replies are seven-bit.
 #![tactic(auto)]
 
-pub mod canvases;
-pub mod commands;
-pub mod modes;
-pub mod moving;
-pub mod outputs;
-pub mod pens;
-pub mod pictures;
-pub mod terms;
-#[cfg(test)]
-mod tests;
+mod alternates;
+mod canvases;
+mod commands;
+mod edits;
+mod erasures;
+mod modes;
+mod motions;
+mod outputs;
+mod parameters;
+mod pens;
+mod pictures;
+mod renditions;
+mod reports;
+mod settings;
+mod shifts;
+mod terms;
 
 pub use terms::{MOST_LINES, MOST_PIECE, Term};

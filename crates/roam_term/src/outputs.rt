@@ -1,7 +1,8 @@
 //! The answered bytes that wait to be taken.
-ghost use Rattle.std.specs.Prelude.{◌≡◌, ◌+◌, ◌-◌, ◌<◌, ◌≤◌, ◌++◌, [], length, min, take, drop, IfOk};
+ghost use Rattle.std.specs.Prelude.{◌≡◌, ◌+◌, ◌-◌, ◌<◌, ◌≤◌, ◌++◌, [], length, min, take, drop, IfOk, decimal};
 
 use circular_buffer::HeapCircularBuffer;
+use itoa::Buffer;
 use std::alloc::{AllocError, Global};
 use std::marker::Model;
 
@@ -50,6 +51,24 @@ impl Output {
         ensures most { result ≤ 65536 }
     {
         self.bytes.len()
+    }
+
+    /// Appends bytes for which there is room. It takes no memory.
+    pub fn push(&mut self, bytes: &[u8])
+        requires room { length self.old + length bytes.now ≤ 65536 }
+        ensures waiting { self.new ≡ self.old ++ bytes.now }
+    {
+        self.bytes.fill_from_slice(bytes);
+    }
+
+    /// Appends a number in decimal.
+    pub fn push_number(&mut self, n: u16)
+        requires room { length self.old + 5 ≤ 65536 }
+        ensures waiting { self.new ≡ self.old ++ decimal n }
+        ensures short { n < 1000 → length self.new ≤ length self.old + 3 }
+    {
+        let mut buffer = Buffer::new();
+        self.push(buffer.format(n).as_bytes());
     }
 
     /// Copies the first bytes that wait, as many as fit, and tells how many.

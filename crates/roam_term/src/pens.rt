@@ -1,6 +1,6 @@
 //! What printed characters look like, and what DECSC keeps.
 ghost use Rattle.std.specs.Prelude.{◌≡◌};
-ghost use Rattle.roam_term.specs.Terminal.{plain_pen};
+ghost use Rattle.roam_term.specs.Pens.{plain_pen, nothing_saved};
 
 use roam_cells::Style;
 use roam_charset::Sets;
@@ -31,6 +31,22 @@ impl Pen {
         Pen {
             style: Style::default(),
             guard: false,
+        }
+    }
+}
+
+impl Saved {
+    /// What DECRC restores where nothing is saved: the start's values.
+    pub fn new() -> Self
+        ensures saved { result ≡ nothing_saved }
+    {
+        Saved {
+            row: 0,
+            col: 0,
+            pending: false,
+            pen: Pen::new(),
+            sets: Sets::new(),
+            origin: false,
         }
     }
 }

@@ -2,12 +2,13 @@
 ghost use Rattle.std.specs.Prelude.{◌≡◌, ◌⊎◌, ◌+◌, ◌*◌, ◌≤◌, ◌<◌, ◌↔◌, ◌++◌, ℕ, List, [], ◌∷◌, length, min, take, drop, IfOk, IfErr, OnOk, OnErr, IsOk, IsErrOf, IsOkUnless};
 ghost use Rattle.roam_text.specs.Log.{Item};
 ghost use Rattle.roam_text.specs.Dispatched.{function_of, dispatched};
+ghost use Rattle.roam_term.specs.Commands.{command_of, parameters_of};
 ghost use Rattle.roam_term.specs.Picture.{picture};
 ghost use Rattle.roam_term.specs.Terminal.{changed, answer, lived, answered, reports};
 ghost use Rattle.roam_term.specs.Stands.{Shows, Fed, IsTermSize, IsAccepted};
 
 use crate::canvases::Canvas;
-use crate::commands::command_of;
+use crate::commands::{Command, command_of};
 use crate::outputs::{MOST_OUTPUT, Output};
 use crate::pictures::draw;
 use roam_cells::limits::is_size;
@@ -22,9 +23,28 @@ pub const MOST_PIECE: usize = 1024;
 /// The most lines of history.
 pub const MOST_LINES: u16 = 500;
 
-// One byte completes at most two functions. The first of two prints, so one answer comes of a byte at most, and the longest
-// answer of a VT220 in this profile has 12 bytes at most: DA's second answer has 11, a report of the cursor 10.
+// One byte completes at most two functions. The first of two prints, so one answer comes of a byte at most. The longest have 10 bytes:
+// DA's second answer, and a report of the cursor at row 100 and column 250; 12 leave room for a larger screen.
 const MOST_ANSWER: usize = 12;
+
+// What a dispatched function asks for, with what the reader lends.
+#[inline]
+fn requested(reader: &Reader, dispatch: Dispatch) -> Command
+    ensures command { result ≡ command_of (function_of dispatch reader.now.parameters reader.now.intermediates) }
+{
+    command_of(dispatch, reader.parameters(), reader.intermediates())
+}
+
+// The parameters of a dispatched function, which the reader lends.
+#[inline]
+fn parameters_of(reader: &Reader, dispatch: Dispatch) -> &[u16]
+    ensures parameters { result.now ≡ parameters_of (function_of dispatch reader.now.parameters reader.now.intermediates) }
+{
+    match dispatch {
+        Dispatch::Csi { .. } => reader.parameters(),
+        _ => &[],
+    }
+}
 
 /// The terminal of a pane: the bytes that it is fed make a screen, and its answers wait in a queue of 65,536 bytes.
 #[derive(Drop)]
@@ -65,24 +85,24 @@ impl Term {
         })
     }
 
-    // Does what one function asks for, whose parameters and intermediate bytes the reader lends.
+    // Answers what one function asks for and does it; its parameters and intermediate bytes the reader lends.
     #[inline]
     fn perform(&mut self, dispatch: Dispatch)
+        requires room { length self.old.waiting + MOST_ANSWER ≤ MOST_OUTPUT }
         ensures live { self.new.live ≡ changed (function_of dispatch self.old.reader.parameters self.old.reader.intermediates) self.old.live }
         ensures waiting { self.new.waiting ≡ self.old.waiting ++ answer (function_of dispatch self.old.reader.parameters self.old.reader.intermediates) self.old.live }
         ensures short { length self.new.waiting ≤ length self.old.waiting + MOST_ANSWER }
         ensures reader { self.new.reader ≡ self.old.reader }
     {
-        let command = command_of(
-            dispatch,
-            self.reader.parameters(),
-            self.reader.intermediates(),
-        );
-        self.canvas.perform(command);
+        let command = requested(&self.reader, dispatch);
+        self.canvas.answer(command, &mut self.output);
+        self.canvas
+            .perform(command, parameters_of(&self.reader, dispatch));
     }
 
     #[inline]
     fn take_in(&mut self, step: Dispatched)
+        requires room { length self.old.waiting + MOST_ANSWER ≤ MOST_OUTPUT }
         ensures live { self.new.live ≡ lived self.old.live (dispatched step self.old.reader.parameters self.old.reader.intermediates) }
         ensures waiting { self.new.waiting ≡ self.old.waiting ++ answered self.old.live (dispatched step self.old.reader.parameters self.old.reader.intermediates) }
         ensures short { length self.new.waiting ≤ length self.old.waiting + MOST_ANSWER }
@@ -100,6 +120,7 @@ impl Term {
 
     #[inline]
     fn feed_byte(&mut self, byte: u8)
+        requires room { length self.old.waiting + MOST_ANSWER ≤ MOST_OUTPUT }
         ensures fed { Fed self.old self.new (byte ∷ []) }
         ensures short { length self.new.waiting ≤ length self.old.waiting + MOST_ANSWER }
     {
@@ -125,18 +146,53 @@ impl Term {
         count
     }
 
+    // Prints the graphic character from U+00A0 up at the front of a piece at once, and tells how many bytes it took.
+    #[inline]
+    fn feed_whole(&mut self, piece: &[u8]) -> usize
+        ensures within { result ≤ length piece.now }
+        ensures fed { Fed self.old self.new (take result piece.now) }
+        ensures waiting { self.new.waiting ≡ self.old.waiting }
+    {
+        match self.reader.whole_character(piece) {
+            Some((c, size)) => {
+                self.canvas.print(c);
+                size
+            }
+            None => 0,
+        }
+    }
+
+    // Reads as much of the front of a piece as goes by one way, and tells how many bytes that were.
+    #[inline]
+    fn feed_front(&mut self, piece: &[u8]) -> usize
+        requires some { 0 < length piece.now }
+        requires room { length self.old.waiting + MOST_ANSWER ≤ MOST_OUTPUT }
+        ensures some { 0 < result }
+        ensures within { result ≤ length piece.now }
+        ensures fed { Fed self.old self.new (take result piece.now) }
+        ensures short { length self.new.waiting ≤ length self.old.waiting + MOST_ANSWER * result }
+    {
+        let plain = self.feed_plain(piece);
+        if 0 < plain {
+            return plain;
+        }
+        let whole = self.feed_whole(piece);
+        if 0 < whole {
+            return whole;
+        }
+        self.feed_byte(piece[0]);
+        1
+    }
+
     fn feed_each(&mut self, piece: &[u8])
+        requires room { length self.old.waiting + MOST_ANSWER * length piece.now ≤ MOST_OUTPUT }
         ensures fed { Fed self.old self.new piece.now }
         ensures short { length self.new.waiting ≤ length self.old.waiting + MOST_ANSWER * length piece.now }
     {
         let mut at = 0;
         while at < piece.len() {
-            let count = self.feed_plain(&piece[at..]);
+            let count = self.feed_front(&piece[at..]);
             at += count;
-            if at < piece.len() {
-                self.feed_byte(piece[at]);
-                at += 1;
-            }
         }
     }
 

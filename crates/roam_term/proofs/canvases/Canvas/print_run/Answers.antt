@@ -1,4 +1,4 @@
-use Rattle.std.proofs.Common.{◌≡◌, [], ◌∷◌, map, ◌∙◌, sym, ap}
+use Rattle.std.proofs.Common.{[], ◌∷◌, map, ◌∙◌, sym, ap}
 use Rattle.roam_cells.specs.Glyph.{ascii_in}
 use Rattle.roam_grid.specs.Writing.{put_all}
 use Rattle.roam_term.proofs.Prints.{plain_at, printed-run, last_printed-is}

@@ -1,4 +1,4 @@
-use Rattle.std.proofs.Common.{[], ◌++◌, map, take, sym, ap, ◌∙◌}
+use Rattle.std.proofs.Common.{◌++◌, map, take, sym, ap, ◌∙◌}
 use Rattle.roam_text.specs.declared.functions.Function.TheVariants.{Print}
 use Rattle.roam_term.proofs.Lists.{append-nil}
 use Rattle.roam_term.proofs.Runs.{fed-out, fed-none}

@@ -1,0 +1,6 @@
+use Rattle.std.proofs.Common.{◌≡◌, take, fold}
+use Rattle.roam_term.specs.Terminal.{mode_set}
+use Rattle.roam_term.proofs.canvases.Canvas.set_modes.Given as goal
+
+abbrev pub invariant-loop-number : goal.invariant-loop-number
+invariant-loop-number l = l.self ≡ fold (mode_set l.on) l.initial.self (take l.number-index l.numbers)

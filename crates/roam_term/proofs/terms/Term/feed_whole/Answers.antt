@@ -1,0 +1,16 @@
+use Rattle.std.proofs.Common.{[], ◌∷◌, ◌++◌, take, sym, ap, ◌∙◌}
+use Rattle.roam_text.specs.declared.functions.Function.TheVariants.{Print}
+use Rattle.roam_term.proofs.Lists.{append-nil}
+use Rattle.roam_term.proofs.Runs.{fed-out}
+use Rattle.roam_term.proofs.Prints.{lived-prints, answered-prints}
+use Rattle.roam_term.proofs.terms.Term.feed_whole.Goals as goal
+
+pub returns-in-Some-clause-fed : goal.returns-in-Some-clause-fed
+returns-in-Some-clause-fed c =
+    let bs = take c.in-Some.size c.args.piece.now in
+    let live = c.self.inside.canvas in
+    let waiting = c.self.inside.output in
+    rw (← c.self.view_is)
+    (fed-out _ _ bs (Print c.in-Some.c ∷ []) c.in-Some.ensures.stands c.in-Some.ensures.gained
+    (c.print.ensures.printed ∙ sym (lived-prints live (c.in-Some.c ∷ [])))
+    (sym (ap (λ a. waiting ++ a) (answered-prints live (c.in-Some.c ∷ [])) ∙ append-nil waiting)))

@@ -1,0 +1,14 @@
+-- What printed characters look like, and what DECSC keeps.
+use Rattle.std.specs.Prelude.{false}
+use Rattle.roam_cells.specs.Glyph.{default_style}
+use Rattle.roam_charset.specs.Sets.{started}
+use Rattle.roam_term.specs.declared.pens.Pen.{Pen}
+use Rattle.roam_term.specs.declared.pens.Saved.{Saved}
+
+-- the default rendition, unguarded
+abbrev pub plain_pen : Pen
+plain_pen = record { style = default_style; guard = false }
+
+-- what DECRC restores where nothing is saved: the start's values (this project's profile)
+abbrev pub nothing_saved : Saved
+nothing_saved = record { row = 0; col = 0; pending = false; pen = plain_pen; sets = started; origin = false }

@@ -1,0 +1,63 @@
+//! The main and the alternate screen.
+ghost use Rattle.std.specs.Prelude.{◌≡◌};
+ghost use Rattle.roam_term.specs.Terminal.{is_alternate_mode, switched, blanked, alternate_shown, main_shown, screen_chosen};
+
+use crate::canvases::Canvas;
+use std::mem;
+
+/// Whether a private mode chooses the screen that is shown: 47, 1047 and 1049 of xterm.
+pub fn is_alternate_mode(number: u16) -> bool
+    ensures alternate { result ≡ is_alternate_mode number }
+{
+    number == 47 || number == 1047 || number == 1049
+}
+
+impl Canvas {
+    // Shows the screen that wasn't shown; cursor, margins and tab stops stay, and no wrap pends.
+    fn switch(&mut self)
+        ensures switched { self.new ≡ switched self.old }
+    {
+        mem::swap(&mut self.grid, &mut self.other);
+        self.grid.take_frame(&self.other);
+        self.alternate = !self.alternate;
+    }
+
+    fn show_alternate(&mut self, number: u16)
+        ensures shown { self.new ≡ alternate_shown number self.old }
+    {
+        if number == 1049 {
+            self.save();
+            self.switch();
+            self.grid.blank_all();
+        } else {
+            self.switch();
+        }
+    }
+
+    fn show_main(&mut self, number: u16)
+        ensures shown { self.new ≡ main_shown number self.old }
+    {
+        match number {
+            1047 => {
+                self.grid.blank_all();
+                self.switch();
+            }
+            1049 => {
+                self.switch();
+                self.restore();
+            }
+            _ => self.switch(),
+        }
+    }
+
+    /// Shows the alternate or the main screen, by a mode that chooses it; where that one is shown already, nothing happens.
+    pub fn choose_screen(&mut self, alternate: bool, number: u16)
+        ensures chosen { self.new ≡ screen_chosen alternate number self.old }
+    {
+        if alternate && !self.alternate {
+            self.show_alternate(number);
+        } else if !alternate && self.alternate {
+            self.show_main(number);
+        }
+    }
+}
