@@ -1,0 +1,46 @@
+-- An act sender: the acts that were typed and aren't known to have arrived (this project's profile).
+use Rattle.std.specs.Prelude.{◌≡◌, ℕ, ◌+◌, ◌-◌, ◌^◌, ◌<◌, ◌≤◌, List, [], ◌∷◌, ◌++◌, length, take, drop, nat_lt, nat_le, if◌then◌else◌}
+use Rattle.roam_acts.specs.declared.acts.Act.{Act}
+
+-- the number of the last act that is acknowledged, and the acts after it
+pub record Typing : Type 0 where
+  pub acked : ℕ
+  pub acts : List Act
+
+-- nothing was typed
+abbrev pub start : Typing
+start = record { acked = 0; acts = [] }
+
+-- the number of the last act that was typed; acts are numbered from 1
+abbrev pub last_number : Typing → ℕ
+last_number s = s.acked + length s.acts
+
+-- one more act was typed
+abbrev pub typed : Typing → Act → Typing
+typed s act = record s { acts = s.acts ++ act ∷ [] }
+
+-- 1,024 acts are unacknowledged
+abbrev pub IsFull : Typing → Type 0
+IsFull s = length s.acts ≡ 1024
+
+-- there is room for an act, and its number would be 2^62
+abbrev pub IsSpent : Typing → Type 0
+IsSpent s = (length s.acts < 1024) × (last_number s + 1 ≡ 2 ^ 62)
+
+-- the acts up to a number are dropped, where that number was typed and isn't acknowledged
+abbrev pub acked_to : Typing → ℕ → Typing
+acked_to s number =
+    if nat_le number s.acked then s
+    else if nat_lt (last_number s) number then s
+    else record { acked = number; acts = drop (number - s.acked) s.acts }
+
+-- a sender stands for all acts that were typed, the first under the number 1: the acknowledged ones and, after them, those that it holds
+pub record HasTyped (s : Typing) (all : List Act) : Type 0 where
+  pub known : s.acked ≤ length all
+  pub held : s.acts ≡ drop s.acked all
+
+-- acts as they follow one another among all that were typed, from a number on
+pub record IsStretch (all : List Act) (first : ℕ) (acts : List Act) : Type 0 where
+  pub low : 1 ≤ first
+  pub count : ℕ
+  pub is : acts ≡ take count (drop (first - 1) all)
