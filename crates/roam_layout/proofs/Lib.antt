@@ -1,0 +1,6 @@
+pub mod Covering
+pub mod Counting
+pub mod Growing
+pub mod Keeping
+pub mod Texts
+pub mod Rows
