@@ -1,0 +1,167 @@
+-- Rows that no run names stay, and a base brought to a size has whole characters.
+use Rattle.std.proofs.Common.{◌≡◌, ℕ, zero, suc, ◌+◌, ◌-◌, ◌*◌, ◌/◌, ◌<◌, ◌≤◌, Bool, true, false, cond, eqb, ltb, ◌&&◌, List, [], ◌∷◌, length, get_or, drop, set, Some, refl, sym, ap, subst, ◌∙◌, arith, inl, inr}
+use Rattle.std.specs.Prelude.{◌⊎◌, ◌↔◌, option_and_then, slice_range}
+use Rattle.std.proofs.Math.Nat.{mul-le-mul_right, mod-add-div'}
+use Rattle.std.proofs.lemmas.Bool.{cases_lt, false≢true, ltb-true, eq-eqb}
+use Rattle.std.proofs.lemmas.List.{get_or-set_other, get_or-take, get_or-drop, length-drop, length-take-le}
+use Rattle.std.proofs.lemmas.Nat.{mod_below}
+use Rattle.std.proofs.lemmas.Option.{option_and_then_some}
+use Rattle.roam_cells.specs.Glyph.{Glyph, is_wide, is_right_half, right_of, space_in, blank, is_wide_text, is_empty_text}
+use Rattle.roam_cells.specs.Place.{cell_at, IsWholeAt, IsWholeLine, AreWhole}
+use Rattle.roam_cells.specs.Screenshot.{Screenshot, IsScreenshot}
+use Rattle.roam_cells.proofs.Places.{get_or-table, place_of}
+use Rattle.roam_cells.proofs.Screens.{is_wide-blank}
+use Rattle.roam_update.specs.CellText.{Front, cell_read, cells_read}
+use Rattle.roam_update.specs.Put.{cells_put}
+use Rattle.roam_update.specs.Runs.{placed}
+use Rattle.roam_update.specs.Sizes.{sized, sized_at}
+use Rattle.roam_update.proofs.Sizing.{kept_at}
+
+-- ---- cells outside a run
+
+cells_count : (n : ℕ) (text : List ℕ) (cs : Front (List Glyph)) → cells_read n text ≡ Some cs → length cs.value ≡ n
+unfolding cells_read
+cells_count zero text cs e = let none : record { value = []; rest = text } ≡ cs = cc in sym (ap (λ (f : Front (List Glyph)). length f.value) none)
+cells_count (suc n) text cs e =
+    option_and_then_some
+    (λ c. option_and_then (λ more. Some (record { value = c.value ∷ more.value; rest = more.rest })) (cells_read n c.rest)) (cell_read text) cs e (λ c f g.
+    option_and_then_some (λ (more : Front (List Glyph)). Some (record { value = c.value ∷ more.value; rest = more.rest })) (cells_read n c.rest) cs g (λ more h k.
+    let same : record { value = c.value ∷ more.value; rest = more.rest } ≡ cs = cc in
+    sym (ap (λ (f : Front (List Glyph)). length f.value) same) ∙ ap suc (cells_count n c.rest more h)))
+
+placed_outside : (cells : List Glyph) (k : ℕ) (gs : List Glyph) (i : ℕ) → (i < k) ⊎ (k + length gs ≤ i) → get_or (placed cells k gs) i blank ≡ get_or cells i blank
+unfolding placed
+placed_outside cells k [] i h = refl
+placed_outside cells k (g ∷ gs) i h =
+    let other : ¬ (i ≡ k) = λ e. elim h [ inl p ↦ absurd (omega (arith, p, e)) | inr p ↦ absurd (omega (arith, p, e)) ] in
+    let next : (i < k + 1) ⊎ (k + 1 + length gs ≤ i) = elim h [ inl p ↦ inl (omega (arith, p)) | inr p ↦ inr (omega (arith, p)) ] in
+    placed_outside (set cells k g) (k + 1) gs i next ∙ get_or-set_other cells k i g blank other
+
+pub put_outside : (n first : ℕ) (cells : List Glyph) (text : List ℕ) (r : Front (List Glyph)) (i : ℕ) → cells_put n first cells text ≡ Some r
+    → (i < first) ⊎ (first + n ≤ i) → get_or r.value i blank ≡ get_or cells i blank
+put_outside n first cells text r i e h =
+    option_and_then_some (λ (cs : Front (List Glyph)). Some (record { value = placed cells first cs.value; rest = cs.rest })) (cells_read n text) r e (λ cs f g.
+    let same : record { value = placed cells first cs.value; rest = cs.rest } ≡ r = cc in
+    let count = cells_count n text cs f in
+    let far : (i < first) ⊎ (first + length cs.value ≤ i) = elim h [ inl p ↦ inl p | inr p ↦ inr (omega (arith, p, count)) ] in
+    sym (ap (λ (x : Front (List Glyph)). get_or x.value i blank) same) ∙ placed_outside cells first cs.value i far)
+
+-- a row before the first and one behind the last that a run names
+pub row_outside : (first len cols r c : ℕ) → 0 < cols → 0 < len → c < cols → (r < first / cols) ⊎ ((first + len - 1) / cols < r) → (r * cols + c < first) ⊎ (first + len ≤ r * cols + c)
+row_outside first len cols r c some any in_row h =
+    elim h [
+      | inl p ↦
+          let up : (r + 1) * cols ≤ first / cols * cols = mul-le-mul_right cols (omega (arith, p)) in
+          let all = mod-add-div' first cols in
+          inl (omega (arith, up, all, in_row))
+      | inr p ↦
+          let last = first + len - 1 in
+          let down : (last / cols + 1) * cols ≤ r * cols = mul-le-mul_right cols (omega (arith, p)) in
+          let all = mod-add-div' last cols in
+          let rest = mod_below last cols some in
+          inr (omega (arith, down, all, rest, any))
+    ]
+
+-- the rows that a run names
+pub rows_named : (first len cols rows : ℕ) → 0 < cols → 1 ≤ len → first + len ≤ rows * cols → (first / cols ≤ (first + len - 1) / cols) × ((first + len - 1) / cols < rows)
+rows_named first len cols rows some any fits =
+    let last = first + len - 1 in
+    let below = place_of rows cols last (omega (arith, any, fits)) in
+    let rise : first / cols ≤ last / cols = elim (cases_lt (last / cols) (first / cols)) [
+      | inl p ↦
+          let up : (last / cols + 1) * cols ≤ first / cols * cols = mul-le-mul_right cols (omega (arith, p)) in
+          let one = mod-add-div' first cols in
+          let two = mod-add-div' last cols in
+          let rest = mod_below last cols some in
+          absurd (omega (arith, up, one, two, rest, any))
+      | inr p ↦ p
+    ] in
+    (rise, below.0)
+
+-- ---- rows
+
+-- what is said of a row's columns is said of any other row with the same cells
+pub line_like : (cols : ℕ) (a b : ℕ → Glyph) → ((c : ℕ) → c < cols → a c ≡ b c) → IsWholeLine cols a → IsWholeLine cols b
+line_like cols a b like h c p =
+    record {
+      wide = λ w.
+          let both = (h c p).wide (ap is_wide (like c p) ∙ w) in
+          (both.0, sym (like (c + 1) both.0) ∙ both.1 ∙ ap right_of (like c p));
+      half = λ w.
+          let both = (h c p).half (ap is_right_half (like c p) ∙ w) in
+          (both.0, sym (ap is_wide (like (c - 1) (omega (arith, p)))) ∙ both.1);
+    }
+
+pub row_count : (row cols : ℕ) (cells : List Glyph) → (row + 1) * cols ≤ length cells → length (slice_range cells (row * cols) (row * cols + cols)) ≡ 1 * cols
+row_count row cols cells h =
+    let wide : row * cols + cols - row * cols ≡ 1 * cols = omega arith in
+    length-take-le (row * cols + cols - row * cols) (drop (row * cols) cells) (omega (arith, length-drop (row * cols) cells, h)) ∙ wide
+
+row_at : (row cols : ℕ) (cells : List Glyph) (c : ℕ) → c < cols → cell_at cols (slice_range cells (row * cols) (row * cols + cols)) 0 c ≡ cell_at cols cells row c
+row_at row cols cells c p =
+    let wide : row * cols + cols - row * cols ≡ cols = omega arith in
+    let z : 0 * cols + c ≡ c = omega arith in
+    ap (λ (k : ℕ). get_or (slice_range cells (row * cols) (row * cols + cols)) k blank) z
+    ∙ get_or-take (row * cols + cols - row * cols) (drop (row * cols) cells) c blank (omega (arith, p, wide)) ∙ get_or-drop (row * cols) cells c blank
+
+pub one_row : (row cols : ℕ) (cells : List Glyph) → AreWhole 1 cols (slice_range cells (row * cols) (row * cols + cols)) ↔ IsWholeLine cols (cell_at cols cells row)
+one_row row cols cells =
+    let part = slice_range cells (row * cols) (row * cols + cols) in (
+      λ h. line_like cols (cell_at cols part 0) (cell_at cols cells row) (row_at row cols cells) (h 0 (omega arith)),
+      λ h r p.
+          let e : 0 ≡ r = omega arith in
+          subst (λ (k : ℕ). IsWholeLine cols (cell_at cols part k)) e
+          (line_like cols (cell_at cols cells row) (cell_at cols part 0) (λ c q. sym (row_at row cols cells c q)) h),
+    )
+
+-- ---- a base brought to a size
+
+module _ (cols : ℕ) (s : Screenshot) (h : IsScreenshot s) where
+  abbrev old : ℕ → ℕ → Glyph
+  old r c = cell_at s.cols s.cells r c
+
+  wide_no_half : (ps : List ℕ) → is_empty_text ps ≡ true → is_wide_text ps ≡ false
+  wide_no_half [] e = refl
+  wide_no_half (p ∷ ps) e = absurd (false≢true e)
+
+  -- a cell that is wide or a right half was there, and was not cut
+  module _ (r c : ℕ) where
+    was_there : (x y z : Bool) → ltb r s.rows ≡ x → ltb c s.cols ≡ y → (eqb (c + 1) cols && is_wide (old r c)) ≡ z
+        → (P : Glyph → Type 0) → (P (space_in (old r c)) → ⊥) → (P blank → ⊥) → P (cond (x && y) (cond z (space_in (old r c)) (old r c)) blank)
+        → (r < s.rows) × (c < s.cols) × ((eqb (c + 1) cols && is_wide (old r c)) ≡ false) × P (old r c)
+    was_there true true true a b e P no_space no_blank h = absurd (no_space h)
+    was_there true true false a b e P no_space no_blank h = (ltb-true r s.rows a, ltb-true c s.cols b, e, h)
+    was_there true false z a b e P no_space no_blank h = absurd (no_blank h)
+    was_there false y z a b e P no_space no_blank h = absurd (no_blank h)
+
+    found : (P : Glyph → Type 0) → (P (space_in (old r c)) → ⊥) → (P blank → ⊥) → P (sized_at cols s r c)
+        → (r < s.rows) × (c < s.cols) × ((eqb (c + 1) cols && is_wide (old r c)) ≡ false) × P (old r c)
+    found P no_space no_blank h = was_there (ltb r s.rows) (ltb c s.cols) (eqb (c + 1) cols && is_wide (old r c)) refl refl refl P no_space no_blank h
+
+  narrow_space : (g : Glyph) → is_wide (space_in g) ≡ true → ⊥
+  narrow_space g e = false≢true (sym is_wide-blank ∙ e)
+
+  not_last : (c : ℕ) (b : Bool) → b ≡ true → (eqb (c + 1) cols && b) ≡ false → ¬ (c + 1 ≡ cols)
+  not_last c b w e n = false≢true (sym e ∙ ap (λ (x : Bool). eqb (c + 1) cols && x) w ∙ ap (λ (x : Bool). x && true) (eq-eqb (c + 1) cols n))
+
+  whole_at : (r c : ℕ) → c < cols → IsWholeAt cols (sized_at cols s r) c
+  whole_at r c p =
+      record {
+        wide = λ w.
+            let f = found r c (λ g. is_wide g ≡ true) (narrow_space (old r c)) (λ e. false≢true (sym is_wide-blank ∙ e)) w in
+            let both = (h.whole r f.0 c f.1).wide f.3 in
+            let n = not_last c (is_wide (old r c)) f.3 f.2 in
+            let room : c + 1 < cols = omega (arith, p, n) in
+            let narrow : is_wide (old r (c + 1)) ≡ false = ap is_wide both.1 in
+            let here : sized_at cols s r c ≡ old r c = kept_at cols s r c f.0 f.1 (λ e. absurd (n e)) in
+            (room, kept_at cols s r (c + 1) f.0 both.0 (λ e. narrow) ∙ both.1 ∙ ap right_of (sym here));
+        half = λ w.
+            let f = found r c (λ g. is_right_half g ≡ true) false≢true false≢true w in
+            let both = (h.whole r f.0 c f.1).half f.3 in
+            let back : c - 1 + 1 ≡ c = omega (arith, both.0) in
+            (both.0, ap is_wide (kept_at cols s r (c - 1) f.0 (omega (arith, f.1)) (λ e. absurd (omega (arith, e, back, p)))) ∙ both.1);
+      }
+
+pub sized_whole : (rows cols : ℕ) (s : Screenshot) → IsScreenshot s → AreWhole rows cols (sized rows cols s)
+sized_whole rows cols s h r p =
+    line_like cols (sized_at cols s r) (cell_at cols (sized rows cols s) r) (λ c q. sym (get_or-table rows cols (sized_at cols s) r c blank p q)) (λ c q. whole_at cols s h r c q)

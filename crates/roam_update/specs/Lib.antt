@@ -1,0 +1,9 @@
+pub mod Same
+pub mod Runs
+pub mod Sizes
+pub mod CellText
+pub mod ChangeText
+pub mod Put
+pub mod Marks
+pub mod Tested
+pub mod Shots

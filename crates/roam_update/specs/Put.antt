@@ -1,0 +1,22 @@
+-- Reading the text of runs and putting them into their places at once.
+use Rattle.std.specs.Prelude.{ℕ, List, length, drop, Option, Some, option_and_then}
+use Rattle.roam_cells.specs.Glyph.{Glyph}
+use Rattle.roam_update.specs.Runs.{placed, patched}
+use Rattle.roam_update.specs.CellText.{Front, cells_read}
+use Rattle.roam_update.specs.ChangeText.{runs_read}
+use Rattle.roam_update.specs.Sizes.{sized}
+use Rattle.roam_update.specs.declared.change_text.Head.{Head}
+use Rattle.roam_cells.specs.Screenshot.{Screenshot}
+
+-- the cells after n cells of a text stand from a place on, and the rest of the text
+abbrev pub cells_put : ℕ → ℕ → List Glyph → List ℕ → Option (Front (List Glyph))
+cells_put n first cells text =
+    option_and_then (λ cs. Some (record { value = placed cells first cs.value; rest = cs.rest })) (cells_read n text)
+
+-- the cells after the n runs of a text, from a least place on, replace what they name
+abbrev pub runs_put : ℕ → ℕ → List Glyph → List ℕ → Option (List Glyph)
+runs_put n least cells text = option_and_then (λ runs. Some (patched cells runs)) (runs_read n least (length cells) text)
+
+-- the cells of a base brought to a head's size, after the runs behind the head in a text replace what they name
+abbrev pub cells_by : Screenshot → Head → List ℕ → Option (List Glyph)
+cells_by base h text = runs_put h.runs 0 (sized h.rows h.cols base) (drop 13 text)

@@ -1,0 +1,60 @@
+-- Runs of cells in reading order: where cells differ from a base, and what runs make of a base.
+-- Nothing here knows how a cell is spelled or how rows are kept.
+use Rattle.std.specs.Prelude.{ℕ, ◌+◌, ◌≤◌, ◌<◌, Bool, true, false, ◌⊎◌, List, [], ◌∷◌, length, slice_set, if◌then◌else◌}
+use Rattle.roam_cells.specs.Glyph.{Glyph}
+use Rattle.roam_update.specs.Same.{same}
+
+-- cells that stand one after the other, in reading order, from a place on; places count from 0
+pub record Run : Type 0 where
+  pub first : ℕ
+  pub cells : List Glyph
+
+-- the cells up to the first place that does not differ
+unfoldable pub lead : List Glyph → List Glyph → List Glyph
+lead [] cs = []
+lead (b ∷ bs) [] = []
+lead (b ∷ bs) (c ∷ cs) = if same b c then [] else c ∷ lead bs cs
+
+-- the runs that begin at place k or later; inside a run none begins before a place that does not differ
+unfoldable pub runs_from : Bool → ℕ → List Glyph → List Glyph → List Run
+runs_from inside k [] cs = []
+runs_from inside k (b ∷ bs) [] = []
+runs_from inside k (b ∷ bs) (c ∷ cs) =
+    if same b c then runs_from false (k + 1) bs cs
+    else if inside then runs_from true (k + 1) bs cs
+    else record { first = k; cells = c ∷ lead bs cs } ∷ runs_from true (k + 1) bs cs
+
+-- the maximal runs of the places where cells differ from a base
+abbrev pub runs_between : List Glyph → List Glyph → List Run
+runs_between base cells = runs_from false 0 base cells
+
+-- a run names a place where one of its cells stands
+pub record IsNamedBy (k : ℕ) (run : Run) : Type 0 where
+  pub from : run.first ≤ k
+  pub to : k < run.first + length run.cells
+
+-- one of the runs names the place
+unfoldable pub IsNamed : ℕ → List Run → Type 0
+IsNamed k [] = ⊥
+IsNamed k (run ∷ runs) = IsNamedBy k run ⊎ IsNamed k runs
+
+-- a run of one cell or more that begins at `least` or later and ends before `end`
+pub record IsWithin (least end : ℕ) (run : Run) : Type 0 where
+  pub from : least ≤ run.first
+  pub some : 1 ≤ length run.cells
+  pub to : run.first + length run.cells ≤ end
+
+-- runs that rise and do not touch, from `least` on and before `end`: a place that no run names stands between each two
+unfoldable pub AreApart : ℕ → ℕ → List Run → Type 0
+AreApart least end [] = Unit {0}
+AreApart least end (run ∷ runs) = IsWithin least end run × AreApart (run.first + length run.cells + 1) end runs
+
+-- these cells stand from place k on
+unfoldable pub placed : List Glyph → ℕ → List Glyph → List Glyph
+placed cells k [] = cells
+placed cells k (g ∷ gs) = placed (slice_set cells k g) (k + 1) gs
+
+-- the runs replace what they name
+unfoldable pub patched : List Glyph → List Run → List Glyph
+patched cells [] = cells
+patched cells (run ∷ runs) = patched (placed cells run.first run.cells) runs

@@ -1,0 +1,18 @@
+-- The cells of a screen brought to a size.
+use Rattle.std.specs.Prelude.{ℕ, ◌+◌, ◌==◌, ◌&&◌, nat_lt, List, if◌then◌else◌}
+use Rattle.roam_cells.specs.Glyph.{Glyph, is_wide, space_in, blank}
+use Rattle.roam_cells.specs.Place.{cell_at, table}
+use Rattle.roam_cells.specs.Screenshot.{Screenshot}
+
+-- what stands at a row and a column, from 0: the cell that stood there, a wide one in the last column as a space in its style;
+-- a blank where none stood
+abbrev pub sized_at : ℕ → Screenshot → ℕ → ℕ → Glyph
+sized_at cols s r c =
+    if nat_lt r s.rows && nat_lt c s.cols then
+    (if (c + 1 == cols) && is_wide (cell_at s.cols s.cells r c) then space_in (cell_at s.cols s.cells r c)
+    else cell_at s.cols s.cells r c)
+    else blank
+
+-- the cells of a screen brought to a number of rows and of columns: places keep their row and column (this project's profile)
+abbrev pub sized : ℕ → ℕ → Screenshot → List Glyph
+sized rows cols s = table rows cols (sized_at cols s)

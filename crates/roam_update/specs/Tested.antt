@@ -1,0 +1,43 @@
+-- Whether a value is a screen that is shown, as a test that computes.
+use Rattle.std.specs.Prelude.{ℕ, zero, suc, ◌+◌, ◌-◌, ◌*◌, Bool, true, ◌&&◌, ◌==◌, nat_le, nat_lt, not, length, List, if◌then◌else◌}
+use Rattle.std.specs.List.{list_all}
+use Rattle.roam_cells.specs.Glyph.{Glyph, is_wide, is_right_half, right_of, is_text}
+use Rattle.roam_cells.specs.Place.{cell_at}
+use Rattle.roam_cells.specs.Screenshot.{Screenshot}
+use Rattle.roam_update.specs.CellText.{is_scalar}
+use Rattle.roam_update.specs.Same.{same}
+
+-- whether a test answers yes for each number below n
+unfoldable pub all_below : ℕ → (ℕ → Bool) → Bool
+all_below zero test = true
+all_below (suc n) test = all_below n test && test n
+
+-- whether a screen may have this size
+abbrev pub is_size : ℕ → ℕ → Bool
+is_size rows cols = nat_le 2 rows && (nat_le rows 100 && (nat_le 4 cols && nat_le cols 250))
+
+-- whether a screen of this size has the row and the column, both from 1
+abbrev pub is_place : ℕ → ℕ → ℕ → ℕ → Bool
+is_place rows cols row col = nat_le 1 row && (nat_le row rows && (nat_le 1 col && nat_le col cols))
+
+-- whether a wide cell there is followed by its right half, and a right half there follows a wide cell
+abbrev pub is_whole_at : ℕ → (ℕ → Glyph) → ℕ → Bool
+is_whole_at cols at c =
+    if is_wide (at c) then nat_lt (c + 1) cols && same (at (c + 1)) (right_of (at c))
+    else if is_right_half (at c) then nat_lt 0 c && is_wide (at (c - 1))
+    else true
+
+-- whether each row has whole characters
+abbrev pub are_whole : ℕ → ℕ → List Glyph → Bool
+are_whole rows cols cells = all_below rows (λ r. all_below cols (λ c. is_whole_at cols (cell_at cols cells r) c))
+
+-- whether a cell has the code points of some cell, and no guard
+abbrev pub is_plain : Glyph → Bool
+is_plain g = is_text g.points && (list_all is_scalar g.points && not g.guarded)
+
+-- whether it is true of a value what is true of each screen that is shown
+abbrev pub is_screenshot : Screenshot → Bool
+is_screenshot s =
+    is_size s.rows s.cols
+    && (is_place s.rows s.cols s.cursor_row s.cursor_col
+    && ((length s.cells == s.rows * s.cols) && (are_whole s.rows s.cols s.cells && list_all is_plain s.cells)))

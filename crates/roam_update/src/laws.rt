@@ -1,0 +1,52 @@
+//! Laws of changes, over every base, screen and text. Each stands on a function with an empty body.
+
+ghost use Rattle.std.specs.Prelude.{All, ◌≡◌, ℕ, ◌≤◌, ◌<◌, ◌*◌, ◌↔◌, List, Some, length, IsTrue};
+ghost use Rattle.roam_cells.specs.Glyph.{Glyph};
+ghost use Rattle.roam_cells.specs.Place.{glyph_at};
+ghost use Rattle.roam_cells.specs.Screenshot.{Screenshot, IsScreenshot, row_of};
+ghost use Rattle.roam_update.specs.ChangeText.{Change, IsChange, Spells, change_text, change_read};
+ghost use Rattle.roam_update.specs.Runs.{AreApart, IsNamed, runs_between};
+ghost use Rattle.roam_update.specs.Shots.{Makes, applied, change_to, difference};
+ghost use Rattle.roam_update.specs.Sizes.{sized};
+ghost use Rattle.roam_update.specs.Tested.{is_screenshot};
+
+/// The change that leads to a screen has at most 650,013 bytes.
+#[tactic(auto, using(crate::proofs::Bounds::most))]
+pub fn most_bytes()
+    ensures most { (base s : Screenshot) → IsScreenshot s → length (difference base s) ≤ 650013 }
+{}
+
+/// The change that leads from a base to a screen names exactly the places at which the screen differs from the base
+/// brought to its size, in runs that rise and do not touch: each of them is maximal.
+pub fn named_places()
+    ensures named { (base s : Screenshot) (k : ℕ) → IsScreenshot s → k < length s.cells
+        → (IsNamed k (change_to base s).runs ↔ (¬ (glyph_at (sized s.rows s.cols base) k ≡ glyph_at s.cells k))) }
+    ensures apart { (base s : Screenshot) → IsScreenshot s → AreApart 0 (s.rows * s.cols) (change_to base s).runs }
+{}
+
+/// The grammar both ways: what a change spells is read as that change, what is read is a change that spells the text, and two
+/// changes with one text are one.
+#[tactic(auto, using(crate::proofs::ChangeAgain::change_again, crate::proofs::ChangeSpelled::one_change))]
+pub fn grammar()
+    ensures again { (x : Change) → IsChange x → change_read (change_text x) ≡ Some x }
+    ensures spelled { (text : List ℕ) (x : Change) → All (λ (b : ℕ). b < 256) text → change_read text ≡ Some x → Spells x text }
+    ensures one { (x y : Change) → IsChange x → IsChange y → change_text x ≡ change_text y → x ≡ y }
+{}
+
+/// A text makes a screen of a base exactly where it spells a change whose result is a screen that is shown, and then that one;
+/// the test that decides it answers yes exactly for such screens.
+#[tactic(auto, using(crate::proofs::Testing::screenshot_is, crate::proofs::Testing::is_screenshot_of))]
+pub fn made_screens()
+    ensures made { (base s : Screenshot) (text : List ℕ) → All (λ (b : ℕ). b < 256) text
+        → (applied base text ≡ Some s ↔ Makes base text s) }
+    ensures tested { (s : Screenshot) → (IsTrue (is_screenshot s) ↔ IsScreenshot s) }
+{}
+
+/// Where the width stays, a row that is below both numbers of rows is the old row itself; and a screen brought to its own
+/// size has its own cells.
+#[tactic(auto, using(crate::proofs::Sizing::row_stays, crate::proofs::Sizing::sized_same))]
+pub fn kept_rows()
+    ensures row { (s : Screenshot) (rows r : ℕ) → IsScreenshot s → r < rows → r < s.rows
+        → row_of s.cols (sized rows s.cols s) r ≡ row_of s.cols s.cells r }
+    ensures same { (s : Screenshot) → IsScreenshot s → sized s.rows s.cols s ≡ s.cells }
+{}

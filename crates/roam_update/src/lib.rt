@@ -1,0 +1,13 @@
+//! States that are kept alike at two ends by changes, and the change of a screen.
+#![tactic(auto)]
+
+pub use synced::Synced;
+
+mod cell_text;
+mod change_text;
+pub mod laws;
+mod marks;
+mod runs;
+mod shots;
+mod sizes;
+mod synced;

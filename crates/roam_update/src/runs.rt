@@ -1,0 +1,42 @@
+//! The stretches in which two lists of cells are the same, and those in which they differ.
+
+ghost use Rattle.std.specs.Prelude.{◌≡◌, ℕ, ◌≤◌, ◌<◌, length};
+ghost use Rattle.roam_cells.specs.Place.{glyph_at};
+
+use roam_cells::Cell;
+
+/// The first place from one on at which the cells differ, or their number where none does.
+pub fn next_difference(base: &[Cell], cells: &[Cell], from: usize) -> usize
+    requires same { length base.now ≡ length cells.now }
+    requires inside { from ≤ length cells.now }
+    ensures range { (from ≤ result) × (result ≤ length cells.now) }
+    ensures skipped { (k : ℕ) → from ≤ k → k < result → glyph_at base.now k ≡ glyph_at cells.now k }
+    ensures differs { result < length cells.now → ¬ (glyph_at base.now result ≡ glyph_at cells.now result) }
+{
+    let mut place = from;
+    while place < cells.len() {
+        if !base[place].is_same(&cells[place]) {
+            return place;
+        }
+        place += 1;
+    }
+    place
+}
+
+/// The first place from one on at which the cells are the same, or their number where they are so nowhere.
+pub fn next_same(base: &[Cell], cells: &[Cell], from: usize) -> usize
+    requires same { length base.now ≡ length cells.now }
+    requires inside { from ≤ length cells.now }
+    ensures range { (from ≤ result) × (result ≤ length cells.now) }
+    ensures skipped { (k : ℕ) → from ≤ k → k < result → ¬ (glyph_at base.now k ≡ glyph_at cells.now k) }
+    ensures same { result < length cells.now → glyph_at base.now result ≡ glyph_at cells.now result }
+{
+    let mut place = from;
+    while place < cells.len() {
+        if base[place].is_same(&cells[place]) {
+            return place;
+        }
+        place += 1;
+    }
+    place
+}
