@@ -1,0 +1,51 @@
+-- What a receiver holds, and how an instruction changes it.
+use Rattle.std.specs.Prelude.{◌≡◌, ℕ, ◌<◌, List, [], ◌∷◌, ◌++◌, length, filter, Option, Some, None, is_none, nat_le, ◌==◌, if◌then◌else◌}
+use Rattle.roam_sync.specs.declared.receivers.Pair.{Pair}
+use Rattle.roam_sync.specs.declared.receivers.Step.{Step}
+use Rattle.roam_sync.specs.declared.receivers.Step.TheVariants as step
+
+-- the newest pair, and those before it
+pub record Receiving (S : Type 0) : Type 0 where
+  pub earlier : List (Pair S)
+  pub newest : Pair S
+
+-- all pairs, numbers rising
+abbrev pub pairs : {S : Type 0} → Receiving S → List (Pair S)
+pairs r = r.earlier ++ r.newest ∷ []
+
+abbrev pub start : {S : Type 0} → S → Receiving S
+start state = record { earlier = []; newest = record { number = 0; state = state } }
+
+-- the number of the first pair, or n where there is none
+abbrev pub first_number : {S : Type 0} → List (Pair S) → ℕ → ℕ
+first_number [] n = n
+first_number (p ∷ ps) n = p.number
+
+-- the numbers rise up to n
+abbrev pub AreBelow : {S : Type 0} → List (Pair S) → ℕ → Type 0
+AreBelow [] n = Unit {0}
+AreBelow (p ∷ ps) n = (p.number < first_number ps n) × AreBelow ps n
+
+-- the state that is held with this number
+abbrev pub state_at : {S : Type 0} → ℕ → List (Pair S) → Option S
+state_at n [] = None
+state_at n (p ∷ ps) = if p.number == n then Some p.state else state_at n ps
+
+abbrev pub from_floor : {S : Type 0} → ℕ → List (Pair S) → List (Pair S)
+from_floor floor ps = filter (λ p. nat_le floor p.number) ps
+
+-- what an instruction meets
+abbrev pub step_for : {S : Type 0} → Receiving S → ℕ → ℕ → ℕ → Step
+step_for r old new floor =
+    if nat_le new r.newest.number then step.Old
+    else if is_none (state_at old (pairs r)) then step.Gap
+    else if nat_le 8 (length (from_floor floor (pairs r))) then step.Gap
+    else step.New
+
+-- A new state is taken: the change is applied to the state with the number old, and pairs below floor are dropped.
+pub record Takes {S : Type 0} (applied : S → List ℕ → Option S) (r : Receiving S) (old new floor : ℕ) (change : List ℕ) (r' : Receiving S) : Type 0 where
+  pub base : S
+  pub held : state_at old (pairs r) ≡ Some base
+  pub leads : applied base change ≡ Some r'.newest.state
+  pub number : r'.newest.number ≡ new
+  pub earlier : r'.earlier ≡ from_floor floor (pairs r)
