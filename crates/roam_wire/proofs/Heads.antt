@@ -1,0 +1,224 @@
+-- Datagrams: what is read has this text, what has this text is read, and two datagrams with one text are one.
+use Rattle.std.proofs.Common.{◌≡◌, ℕ, ◌+◌, ◌^◌, ◌<◌, ◌≤◌, Bool, true, false, not, ◌||◌, cond, eqb, ltb, List, ◌∷◌, ◌++◌, length, get_or, drop, Option, Some, None, Result, Ok, Err, refl, sym, ap, ◌∙◌, arith, lit<}
+use Rattle.std.proofs.lemmas.Bool.{le-ltb, or_parts, not-false, eqb-true, eqb-false, ltb-false}
+use Rattle.std.proofs.lemmas.Bool.Decides.{nat_tests}
+use Rattle.std.proofs.lemmas.List.{length-append}
+use Rattle.byteorder.specs.Endian.{big_bytes, big_number}
+use Rattle.byteorder.specs.Numbers.{big_number-reads_back, big_from-lt}
+use Rattle.roam_cells.specs.declared.faults.Reason.{Reason}
+use Rattle.roam_cells.specs.declared.faults.Reason.TheVariants.{Magic, Version, Length, Fragment}
+use Rattle.roam_acts.proofs.Fields.{IsBytes, IsBytes-drop}
+use Rattle.roam_wire.specs.declared.datagrams.Kind.{Kind}
+use Rattle.roam_wire.specs.declared.datagrams.Kind.TheVariants.{ToClient, ToServer}
+use Rattle.roam_wire.specs.declared.headers.Header.{Header}
+use Rattle.roam_wire.specs.Datagrams.{DatagramValue, IsDatagram, datagram_text, header_of, header_text, tag_of}
+use Rattle.roam_wire.specs.Headers.{header_at, kind_tagged, is_bad_length, is_bad_fragment, piece_fault, kind_unless, checked, datagram_with, datagram_if, datagram_at}
+use Rattle.roam_wire.proofs.Numbers.{number, byte, back_8, back_2}
+
+-- ---- the header's text
+
+-- the first 42 bytes are the header's text
+pub header_takes : (bytes : List ℕ) → 42 ≤ length bytes → IsBytes bytes → bytes ≡ header_text (header_at bytes) ++ drop 42 bytes
+header_takes bytes long fits =
+    number 2 0 bytes back_2 (omega arith) fits
+    ∙ ap (λ (t : List ℕ). big_bytes 2 (big_number 2 bytes) ++ t) (byte 2 bytes (omega arith)
+    ∙ ap (λ (t : List ℕ). get_or bytes 2 0 ∷ t) (byte 3 bytes (omega arith)
+    ∙ ap (λ (t : List ℕ). get_or bytes 3 0 ∷ t) (number 8 4 bytes back_8 (omega arith) fits
+    ∙ ap (λ (t : List ℕ). big_bytes 8 (big_number 8 (drop 4 bytes)) ++ t) (number 8 12 bytes back_8 (omega arith) fits
+    ∙ ap (λ (t : List ℕ). big_bytes 8 (big_number 8 (drop 12 bytes)) ++ t) (number 8 20 bytes back_8 (omega arith) fits
+    ∙ ap (λ (t : List ℕ). big_bytes 8 (big_number 8 (drop 20 bytes)) ++ t) (number 8 28 bytes back_8 (omega arith) fits
+    ∙ ap (λ (t : List ℕ). big_bytes 8 (big_number 8 (drop 28 bytes)) ++ t) (number 2 36 bytes back_2 (omega arith) fits
+    ∙ ap (λ (t : List ℕ). big_bytes 2 (big_number 2 (drop 36 bytes)) ++ t) (number 2 38 bytes back_2 (omega arith) fits
+    ∙ ap (λ (t : List ℕ). big_bytes 2 (big_number 2 (drop 38 bytes)) ++ t) (number 2 40 bytes back_2 (omega arith) fits)))))))))
+
+-- what has a header's text
+record FitsHeader (h : Header) : Type 0 where
+  magic : h.magic < 2 ^ 16
+  session : h.session < 2 ^ 64
+  client : h.client < 2 ^ 64
+  number : h.number < 2 ^ 64
+  id : h.id < 2 ^ 64
+  index : h.index < 2 ^ 16
+  count : h.count < 2 ^ 16
+  len : h.len < 2 ^ 16
+
+-- the header's text is read again, whatever follows
+header_again : (h : Header) (rest : List ℕ) → FitsHeader h → header_at (header_text h ++ rest) ≡ h
+header_again h rest fits =
+    let all = header_text h ++ rest in
+    let magic : big_number 2 all ≡ h.magic = big_number-reads_back 2 h.magic (drop 2 all) fits.magic in
+    let session : big_number 8 (drop 4 all) ≡ h.session = big_number-reads_back 8 h.session (drop 12 all) fits.session in
+    let client : big_number 8 (drop 12 all) ≡ h.client = big_number-reads_back 8 h.client (drop 20 all) fits.client in
+    let number : big_number 8 (drop 20 all) ≡ h.number = big_number-reads_back 8 h.number (drop 28 all) fits.number in
+    let id : big_number 8 (drop 28 all) ≡ h.id = big_number-reads_back 8 h.id (drop 36 all) fits.id in
+    let index : big_number 2 (drop 36 all) ≡ h.index = big_number-reads_back 2 h.index (drop 38 all) fits.index in
+    let count : big_number 2 (drop 38 all) ≡ h.count = big_number-reads_back 2 h.count (drop 40 all) fits.count in
+    let len : big_number 2 (drop 40 all) ≡ h.len = big_number-reads_back 2 h.len rest fits.len in
+    λ i. record { magic = magic i; version = h.version; kind = h.kind; session = session i; client = client i; number = number i; id = id i; index = index i; count = count i; len = len i }
+
+-- ---- the tests on a header
+
+-- what is true of a header without a fault
+record Passes (h : Header) (rest : ℕ) (kind : Kind) : Type 0 where
+  magic : h.magic ≡ 0x524D
+  version : h.version ≡ 1
+  tag : tag_of kind ≡ h.kind
+  len : h.len ≡ rest
+  piece : (1 ≤ h.len) × (h.len ≤ 1200)
+  number : (1 ≤ h.number) × (h.number < 2 ^ 62)
+  id : (1 ≤ h.id) × (h.id < 2 ^ 62)
+  count : (1 ≤ h.count) × (h.count ≤ 1024)
+  index : h.index < h.count
+  whole : h.index + 1 < h.count → h.len ≡ 1200
+
+abbrev a_kind : Kind → Result Kind Reason
+a_kind kind = Ok kind
+
+err_or : (b : Bool) (r : Reason) (x : Result Kind Reason) (kind : Kind) → cond b (Err r) x ≡ a_kind kind → (b ≡ false) × (x ≡ a_kind kind)
+err_or true r x kind e = absurd cc
+err_or false r x kind e = (refl, e)
+
+some_or : (b : Bool) (r : Reason) (x : Option Reason) → cond b (Some r) x ≡ None → (b ≡ false) × (x ≡ None)
+some_or true r x e = absurd cc
+some_or false r x e = (refl, e)
+
+unless : (fault : Option Reason) (o : Option Kind) (kind : Kind) → kind_unless fault o ≡ a_kind kind → (fault ≡ None) × (o ≡ Some kind)
+unless None None kind e = absurd cc
+unless (Some r) None kind e = absurd cc
+unless (Some r) (Some k) kind e = absurd cc
+unless None (Some k) kind e = (refl, cc)
+
+tagged : (tag : ℕ) (kind : Kind) → kind_tagged tag ≡ Some kind → tag_of kind ≡ tag
+tagged tag kind e = by (eqb tag 1) refl (eqb tag 2) refl e
+  where
+    by : (a : Bool) → eqb tag 1 ≡ a → (b : Bool) → eqb tag 2 ≡ b → cond a (Some ToClient) (cond b (Some ToServer) None) ≡ Some kind → tag_of kind ≡ tag
+    by true is b at e = let same : ToClient ≡ kind = cc in ap tag_of (sym same) ∙ sym (eqb-true tag 1 is)
+    by false is true at e = let same : ToServer ≡ kind = cc in ap tag_of (sym same) ∙ sym (eqb-true tag 2 at)
+    by false is false at e = absurd cc
+
+tagged_again : (kind : Kind) → kind_tagged (tag_of kind) ≡ Some kind
+tagged_again ToClient = refl
+tagged_again ToServer = refl
+
+passes : (h : Header) (rest : ℕ) (kind : Kind) → checked h rest ≡ a_kind kind → Passes h rest kind
+passes h rest kind e =
+    let magic = err_or (not (eqb h.magic 0x524D)) Magic _ kind e in
+    let version = err_or (not (eqb h.version 1)) Version _ kind magic.1 in
+    let both = unless (piece_fault h rest) (kind_tagged h.kind) kind version.1 in
+    let length = some_or (is_bad_length h rest) Length _ both.0 in
+    let fragment = some_or (is_bad_fragment h) Fragment _ length.1 in
+    let parts = or_parts (eqb h.len 0 || ltb 1200 h.len) (not (eqb h.len rest)) length.0 in
+    let within = or_parts (eqb h.len 0) (ltb 1200 h.len) parts.0 in
+    let nonzero : h.len ≡ 0 → ⊥ = eqb-false h.len 0 within.0 in
+    let high : h.len ≤ 1200 = ltb-false 1200 h.len within.1 in
+    record {
+      magic = eqb-true _ _ (not-false _ magic.0);
+      version = eqb-true _ _ (not-false _ version.0);
+      tag = tagged h.kind kind both.1;
+      len = eqb-true h.len rest (not-false _ parts.1);
+      piece = (omega arith, high);
+      number = grind (arith, nat_tests, fragment.0);
+      id = grind (arith, nat_tests, fragment.0);
+      count = grind (arith, nat_tests, fragment.0);
+      index = grind (arith, nat_tests, fragment.0);
+      whole = grind (arith, nat_tests, fragment.0);
+    }
+
+no_fault : (h : Header) (rest : ℕ) (kind : Kind) → Passes h rest kind → piece_fault h rest ≡ None
+no_fault h rest kind p = grind (arith, nat_tests)
+
+pass_again : (h : Header) (rest : ℕ) (kind : Kind) → Passes h rest kind → checked h rest ≡ a_kind kind
+pass_again h rest kind p =
+    let is_kind : kind_tagged h.kind ≡ Some kind = ap kind_tagged (sym p.tag) ∙ tagged_again kind in
+    rw (p.magic, p.version, is_kind, no_fault h rest kind p) refl
+
+-- ---- the grammar
+
+-- what is read has this text
+pub found : (bytes : List ℕ) (kind : Kind) → 42 ≤ length bytes → IsBytes bytes → checked (header_at bytes) (length (drop 42 bytes)) ≡ Ok kind
+    → IsDatagram (datagram_with (header_at bytes) (drop 42 bytes) kind) × (bytes ≡ datagram_text (datagram_with (header_at bytes) (drop 42 bytes) kind))
+found bytes kind long fits e =
+    let h = header_at bytes in
+    let p = passes h (length (drop 42 bytes)) kind e in
+    let len = p.len in
+    let same : h ≡ header_of (datagram_with h (drop 42 bytes) kind) = λ i. record h { magic = p.magic i; kind = sym p.tag i; len = p.len i } in (
+      record {
+        version = p.version;
+        session = big_from-lt 0 8 (drop 4 bytes) (IsBytes-drop 4 bytes fits);
+        client = big_from-lt 0 8 (drop 12 bytes) (IsBytes-drop 12 bytes fits);
+        number = p.number;
+        id = p.id;
+        count = p.count;
+        index = p.index;
+        len = (omega (arith, p.piece, len), omega (arith, p.piece, len));
+        whole = λ lt. sym p.len ∙ p.whole lt;
+      },
+      header_takes bytes long fits ∙ ap (λ (x : Header). header_text x ++ drop 42 bytes) same,
+    )
+
+abbrev pub a_datagram : DatagramValue → Result DatagramValue Reason
+a_datagram d = Ok d
+
+-- what has this text is read
+pub again : (d : DatagramValue) → IsDatagram d → datagram_at (datagram_text d) ≡ a_datagram d
+again d is =
+    let h = header_of d in
+    let bytes = datagram_text d in
+    let fits : FitsHeader h = record {
+      magic = lit< tt;
+      session = is.session;
+      client = is.client;
+      number = omega (arith, is.number.1);
+      id = omega (arith, is.id.1);
+      index = omega (arith, is.index, is.count.1);
+      count = omega (arith, is.count.1);
+      len = omega (arith, is.len.1);
+    } in
+    let there : header_at bytes ≡ h = header_again h d.payload fits in
+    let p : Passes h (length d.payload) d.kind = record {
+      magic = refl;
+      version = is.version;
+      tag = refl;
+      len = refl;
+      piece = is.len;
+      number = is.number;
+      id = is.id;
+      count = is.count;
+      index = is.index;
+      whole = is.whole;
+    } in
+    let clean : checked (header_at bytes) (length d.payload) ≡ Ok d.kind =
+    ap (λ (x : Header). checked x (length d.payload)) there ∙ pass_again h (length d.payload) d.kind p in
+    let whole : ltb (length bytes) 42 ≡ false = le-ltb _ _ (omega (arith, length-append (header_text h) d.payload)) in
+    rw whole (ap (datagram_if (header_at bytes) d.payload) clean ∙ ap (λ (x : Header). a_datagram (datagram_with x d.payload d.kind)) there)
+
+-- two datagrams with one text are one
+pub one_datagram : (d e : DatagramValue) → IsDatagram d → IsDatagram e → datagram_text d ≡ datagram_text e → d ≡ e
+one_datagram d e is_d is_e same =
+    let both : a_datagram d ≡ a_datagram e = sym (again d is_d) ∙ ap datagram_at same ∙ again e is_e in
+    cc
+
+-- ---- what a call has found
+
+long_at : (bytes : List ℕ) (r : Result Kind Reason) → 42 ≤ length bytes → checked (header_at bytes) (length (drop 42 bytes)) ≡ r
+    → datagram_at bytes ≡ datagram_if (header_at bytes) (drop 42 bytes) r
+long_at bytes r long e =
+    let whole : ltb (length bytes) 42 ≡ false = le-ltb _ _ long in
+    rw whole (ap (datagram_if (header_at bytes) (drop 42 bytes)) e)
+
+abbrev a_reason : Reason → Result Kind Reason
+a_reason r = Err r
+
+-- bytes with a fault are the text of no datagram
+pub refused : (bytes : List ℕ) (r : Reason) → 42 ≤ length bytes → checked (header_at bytes) (length (drop 42 bytes)) ≡ Err r
+    → (d : DatagramValue) → IsDatagram d → bytes ≡ datagram_text d → ⊥
+refused bytes r long e d is text =
+    let both : datagram_if (header_at bytes) (drop 42 bytes) (a_reason r) ≡ a_datagram d = sym (long_at bytes (a_reason r) long e) ∙ ap datagram_at text ∙ again d is in
+    absurd cc
+
+-- bytes without a fault are the text of one datagram alone
+pub read_as : (bytes : List ℕ) (kind : Kind) → 42 ≤ length bytes → checked (header_at bytes) (length (drop 42 bytes)) ≡ Ok kind
+    → (d : DatagramValue) → IsDatagram d → bytes ≡ datagram_text d → datagram_with (header_at bytes) (drop 42 bytes) kind ≡ d
+read_as bytes kind long e d is text =
+    let both : datagram_if (header_at bytes) (drop 42 bytes) (a_kind kind) ≡ a_datagram d = sym (long_at bytes (a_kind kind) long e) ∙ ap datagram_at text ∙ again d is in
+    cc

@@ -1,0 +1,103 @@
+-- The definitions at worked rows.
+use Rattle.std.proofs.Common.{◌≡◌, ℕ, suc, zero, List, [], ◌∷◌, ◌++◌, replicate, drop, take, Some, None, Ok, Err, refl}
+use Rattle.roam_acts.specs.declared.acts.Act.TheVariants.{Close, Next}
+use Rattle.roam_cells.specs.declared.faults.Reason.TheVariants.{Short, Magic, Version, Length}
+use Rattle.roam_wire.specs.declared.datagrams.Kind.TheVariants.{ToServer}
+use Rattle.roam_wire.specs.Cutting.{cut_within}
+use Rattle.roam_wire.specs.Datagrams.{DatagramValue, datagram_text}
+use Rattle.roam_wire.specs.Gatherers.{Gathering, Old, Part, Piece, Whole, gather, nothing}
+use Rattle.roam_wire.specs.Headers.{datagram_at}
+use Rattle.roam_wire.specs.Instructions.{down_text, up_text}
+use Rattle.roam_wire.specs.Arrivals.{answer_to, gathered_of}
+
+-- the first datagram of a client: a state of number 0, the first act numbered 1, no acts
+abbrev first : DatagramValue
+first =
+    record {
+      version = 1;
+      kind = ToServer;
+      session = 1;
+      client = 0xA1;
+      number = 1;
+      id = 1;
+      index = 0;
+      count = 1;
+      payload = up_text (record { acked = 0; first = 1; acts = [] });
+    }
+
+abbrev nulls : ℕ → List ℕ
+nulls n = replicate n 0
+
+abbrev head : ℕ → List ℕ
+head version = 0x52 ∷ 0x4D ∷ version ∷ 2 ∷ nulls 7 ++ 1 ∷ nulls 7 ++ 0xA1 ∷ nulls 7 ++ 1 ∷ nulls 7 ++ 1 ∷ 0 ∷ 0 ∷ 0 ∷ 1 ∷ 0 ∷ 18 ∷ []
+
+abbrev body : List ℕ
+body = nulls 15 ++ 1 ∷ 0 ∷ 0 ∷ []
+
+text : datagram_text first ≡ head 1 ++ body
+text = refl
+
+read : datagram_at (head 1 ++ body) ≡ Ok first
+read = refl
+
+short : datagram_at (take 41 (head 1)) ≡ Err Short
+short = refl
+
+cut_off : datagram_at (head 1 ++ drop 1 body) ≡ Err Length
+cut_off = refl
+
+other_version : datagram_at (head 3 ++ body) ≡ Err Version
+other_version = refl
+
+-- the letters are told before the version
+other_letters : datagram_at (0x53 ∷ drop 1 (head 3) ++ body) ≡ Err Magic
+other_letters = refl
+
+down : down_text (record { old = 0; new = 5; floor = 0; acked = 258; change = 7 ∷ [] }) ≡ nulls 15 ++ 5 ∷ nulls 14 ++ 1 ∷ 2 ∷ 7 ∷ []
+down = refl
+
+up : up_text (record { acked = 3; first = 256; acts = Next ∷ Close ∷ [] }) ≡ nulls 7 ++ 3 ∷ nulls 6 ++ 1 ∷ 0 ∷ 0 ∷ 2 ∷ 0x14 ∷ 0x12 ∷ []
+up = refl
+
+cut_in_threes : cut_within 3 7 (1 ∷ 2 ∷ 3 ∷ 4 ∷ 5 ∷ 6 ∷ 7 ∷ []) ≡ (1 ∷ 2 ∷ 3 ∷ []) ∷ (4 ∷ 5 ∷ 6 ∷ []) ∷ (7 ∷ []) ∷ []
+cut_in_threes = refl
+
+-- two pieces, the second first
+abbrev piece : ℕ → ℕ → ℕ → List ℕ → Piece
+piece id index count payload = record { id = id; index = index; count = count; payload = payload }
+
+abbrev half : Gathering
+half = record { id = 1; pieces = None ∷ Some (3 ∷ []) ∷ [] }
+
+second_first : gather nothing (piece 1 1 2 (3 ∷ [])) ≡ Some (Part, half)
+second_first = refl
+
+then_whole : gather half (piece 1 0 2 (1 ∷ 2 ∷ [])) ≡ Some (Whole (1 ∷ 2 ∷ 3 ∷ []), record { id = 1; pieces = Some (1 ∷ 2 ∷ []) ∷ Some (3 ∷ []) ∷ [] })
+then_whole = refl
+
+again : gather half (piece 1 1 2 (3 ∷ [])) ≡ Some (Old, half)
+again = refl
+
+other_count : gather half (piece 1 0 3 (1 ∷ [])) ≡ None
+other_count = refl
+
+anew : gather half (piece 2 0 1 (9 ∷ [])) ≡ Some (Whole (9 ∷ []), record { id = 2; pieces = Some (9 ∷ []) ∷ [] })
+anew = refl
+
+-- what a new gatherer answers after others arrived, the latest first
+abbrev cuts : ℕ → List (List ℕ)
+cuts zero = []
+cuts (suc zero) = (1 ∷ 2 ∷ []) ∷ (3 ∷ []) ∷ []
+cuts (suc (suc n)) = (9 ∷ []) ∷ []
+
+abbrev arrived : List Piece
+arrived = piece 1 1 2 (3 ∷ []) ∷ piece 1 1 2 (3 ∷ []) ∷ []
+
+held : gathered_of arrived ≡ half
+held = refl
+
+last_missing : answer_to cuts arrived (piece 1 0 2 (1 ∷ 2 ∷ [])) ≡ Whole (1 ∷ 2 ∷ 3 ∷ [])
+last_missing = refl
+
+too_late : answer_to cuts (piece 2 0 1 (9 ∷ []) ∷ arrived) (piece 1 0 2 (1 ∷ 2 ∷ [])) ≡ Old
+too_late = refl

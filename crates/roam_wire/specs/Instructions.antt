@@ -1,0 +1,57 @@
+-- Instructions: the one text of each (this project's profile). Numbers are big-endian.
+use Rattle.std.specs.Prelude.{ℕ, ◌^◌, ◌<◌, ◌≤◌, List, ◌++◌, length, nat_lt, if◌then◌else◌}
+use Rattle.std.specs.List.{All}
+use Rattle.byteorder.specs.Endian.{big_bytes}
+use Rattle.roam_acts.specs.declared.acts.Act.{Act}
+use Rattle.roam_acts.specs.Acts.{IsAct}
+use Rattle.roam_acts.specs.Bytes.{acts_text}
+use Rattle.roam_cells.specs.declared.faults.Reason.{Reason}
+use Rattle.roam_cells.specs.declared.faults.Reason.TheVariants.{Short, Length}
+use Rattle.roam_wire.specs.declared.instructions.Down.{Down}
+use Rattle.roam_wire.specs.declared.instructions.Up.{Up}
+
+-- what an instruction to a client says
+pub record DownValue : Type 0 where
+  pub old : ℕ
+  pub new : ℕ
+  pub floor : ℕ
+  pub acked : ℕ
+  pub change : List ℕ
+
+abbrev pub down_value : Down → DownValue
+down_value d = record { old = d.old; new = d.new; floor = d.floor; acked = d.acked; change = d.change.items }
+
+-- its text
+abbrev pub down_text : DownValue → List ℕ
+down_text d = big_bytes 8 d.old ++ (big_bytes 8 d.new ++ (big_bytes 8 d.floor ++ (big_bytes 8 d.acked ++ d.change)))
+
+-- what has a text: a floor at most the old number, that at most the new one, each number below 2^62
+pub record IsDown (d : DownValue) : Type 0 where
+  pub floor : d.floor ≤ d.old
+  pub old : d.old ≤ d.new
+  pub new : d.new < 2 ^ 62
+  pub acked : d.acked < 2 ^ 62
+
+-- what an instruction to the server says
+pub record UpValue : Type 0 where
+  pub acked : ℕ
+  pub first : ℕ
+  pub acts : List Act
+
+abbrev pub up_value : Up → UpValue
+up_value u = record { acked = u.acked; first = u.first; acts = u.acts.items }
+
+-- its text
+abbrev pub up_text : UpValue → List ℕ
+up_text u = big_bytes 8 u.acked ++ (big_bytes 8 u.first ++ (big_bytes 2 (length u.acts) ++ acts_text u.acts))
+
+-- what has a text: both numbers below 2^62, acts numbered from 1, at most 64 of them, each in its ranges
+pub record IsUp (u : UpValue) : Type 0 where
+  pub acked : u.acked < 2 ^ 62
+  pub first : (1 ≤ u.first) × (u.first < 2 ^ 62)
+  pub count : length u.acts ≤ 64
+  pub acts : All IsAct u.acts
+
+-- the reason for which bytes are no instruction that has so many before its change or its acts
+abbrev pub reason_for : ℕ → List ℕ → Reason
+reason_for head bytes = if nat_lt (length bytes) head then Short else Length

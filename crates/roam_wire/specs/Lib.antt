@@ -1,0 +1,7 @@
+pub mod Datagrams
+pub mod Headers
+pub mod Instructions
+pub mod Cutting
+pub mod Pieces
+pub mod Gatherers
+pub mod Arrivals

@@ -1,0 +1,102 @@
+//! The header of a datagram as plain numbers, and the tests on them in the order of their reasons.
+ghost use Rattle.std.specs.Prelude.{◌≡◌, ◌≤◌, length};
+ghost use Rattle.roam_wire.specs.Headers.{header_at, is_version, is_bad_length, is_bad_fragment, piece_fault, checked};
+
+use crate::cutting::{PIECE, PIECES};
+use crate::datagrams::{Kind, VERSION};
+use crate::instructions::NUMBERS;
+use byteorder::{BigEndian, ByteOrder};
+use roam_cells::Reason;
+
+// The two letters that stand first, RM.
+pub(crate) const MAGIC: u16 = 0x524D;
+
+// How many bytes a header has.
+pub(crate) const HEADER: usize = 42;
+
+// The numbers of a datagram's first 42 bytes, whatever they are.
+#[derive(Clone, Copy)]
+pub(crate) struct Header {
+    pub magic: u16,
+    pub version: u8,
+    pub kind: u8,
+    pub session: u64,
+    pub client: u64,
+    pub number: u64,
+    pub id: u64,
+    pub index: u16,
+    pub count: u16,
+    pub len: u16,
+}
+
+impl Header {
+    // The numbers at their places.
+    pub(crate) fn read(bytes: &[u8]) -> Header
+        requires whole { 42 ≤ length bytes.now }
+        ensures header { result ≡ header_at bytes.now }
+    {
+        Header {
+            magic: BigEndian::read_u16(bytes),
+            version: bytes[2],
+            kind: bytes[3],
+            session: BigEndian::read_u64(bytes.split_at(4).1),
+            client: BigEndian::read_u64(bytes.split_at(12).1),
+            number: BigEndian::read_u64(bytes.split_at(20).1),
+            id: BigEndian::read_u64(bytes.split_at(28).1),
+            index: BigEndian::read_u16(bytes.split_at(36).1),
+            count: BigEndian::read_u16(bytes.split_at(38).1),
+            len: BigEndian::read_u16(bytes.split_at(40).1),
+        }
+    }
+
+    fn has_bad_length(&self, rest: usize) -> bool
+        ensures test { result ≡ is_bad_length self.now rest }
+    {
+        let len = self.len as usize;
+        len == 0 || len > PIECE || len != rest
+    }
+
+    fn has_bad_fragment(&self) -> bool
+        ensures test { result ≡ is_bad_fragment self.now }
+    {
+        if self.count == 0 || self.count as usize > PIECES || self.index >= self.count {
+            return true;
+        }
+        if self.index + 1 < self.count && self.len as usize != PIECE {
+            return true;
+        }
+        self.number == 0 || self.number >= NUMBERS || self.id == 0 || self.id >= NUMBERS
+    }
+
+    // The first fault after the direction, before this many bytes.
+    fn piece_fault(&self, rest: usize) -> Option<Reason>
+        ensures fault { result ≡ piece_fault self.now rest }
+    {
+        if self.has_bad_length(rest) {
+            Some(Reason::Length)
+        } else if self.has_bad_fragment() {
+            Some(Reason::Fragment)
+        } else {
+            None
+        }
+    }
+
+    // The direction that the header tells before this many bytes, or the first fault.
+    pub(crate) fn check(&self, rest: usize) -> Result<Kind, Reason>
+        ensures checked { result ≡ checked self.now rest }
+    {
+        if self.magic != MAGIC {
+            return Err(Reason::Magic);
+        }
+        if self.version != VERSION {
+            return Err(Reason::Version);
+        }
+        let Some(kind) = Kind::tagged(self.kind) else {
+            return Err(Reason::Kind);
+        };
+        match self.piece_fault(rest) {
+            Some(fault) => Err(fault),
+            None => Ok(kind),
+        }
+    }
+}

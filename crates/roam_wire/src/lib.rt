@@ -1,0 +1,15 @@
+//! Datagrams and the instructions that they carry in pieces: their texts in both directions, cutting and gathering.
+#![tactic(auto)]
+
+pub mod cutting;
+pub mod datagrams;
+pub mod gatherers;
+mod headers;
+pub mod instructions;
+pub mod laws;
+mod pieces;
+
+pub use cutting::cut;
+pub use datagrams::{Datagram, Kind, VERSION, read_datagram, write_datagram};
+pub use gatherers::{Gathered, Gatherer};
+pub use instructions::{Down, Up, read_down, read_up, write_down, write_up};
