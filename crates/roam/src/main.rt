@@ -3,16 +3,13 @@
 //! `roam show --rows R --cols C` feeds standard input to a terminal and prints the screen that it makes.
 #![tactic(auto)]
 
-mod faults;
-mod show;
 #[cfg(test)]
 mod tests;
 mod words;
 
-use crate::faults::RunFault;
-use crate::show::run_show;
 use crate::words::{Refusal, Request, read_words};
 use roam_cells::Fault;
+use roam_show::{RunFault, run_show};
 use std::env::Env;
 use std::io::ErrorKind;
 use std::process::ExitCode;

@@ -1,6 +1,6 @@
 use Rattle.std.proofs.Common.{◌≡◌, ◌++◌, string_bytes}
-use Rattle.roam.specs.ShowText.{first_rows}
-use Rattle.roam.proofs.show.push_screen.Given as goal
+use Rattle.roam_show.specs.ShowText.{first_rows}
+use Rattle.roam_show.proofs.show.push_screen.Given as goal
 
 abbrev pub invariant-loop-row : goal.invariant-loop-row
 invariant-loop-row l = string_bytes l.text ≡ string_bytes l.initial.text ++ first_rows l.row l.shot.cols l.shot.cells

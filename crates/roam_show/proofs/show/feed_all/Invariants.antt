@@ -3,7 +3,7 @@ use Rattle.std.specs.Io.KnownBytes.{Consumes}
 use Rattle.roam_text.specs.Log.{Byte}
 use Rattle.roam_term.specs.Terminal.{reports}
 use Rattle.roam_term.specs.Stands.{Shows}
-use Rattle.roam.proofs.show.feed_all.Given as goal
+use Rattle.roam_show.proofs.show.feed_all.Given as goal
 
 abbrev pub invariant-loop : goal.invariant-loop
 invariant-loop g l = (log : List ℕ) × Consumes (g.R.Read.remaining l.initial.reader) (g.R.Read.remaining l.reader) log

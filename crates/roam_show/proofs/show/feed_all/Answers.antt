@@ -3,8 +3,8 @@ use Rattle.std.proofs.KnownBytes.{Consumes-nil, Consumes-trans}
 use Rattle.roam_text.specs.Log.{Byte}
 use Rattle.roam_term.specs.Terminal.{reports}
 use Rattle.roam_term.specs.Stands.{Shows}
-use Rattle.roam.proofs.ShowLaws.{map-append}
-use Rattle.roam.proofs.show.feed_all.Goals as goal
+use Rattle.roam_show.proofs.ShowLaws.{map-append}
+use Rattle.roam_show.proofs.show.feed_all.Goals as goal
 
 pub loop-init : goal.loop-init
 loop-init g c = ([], Consumes-nil _, λ rows cols lines h. (h, c.requires.report rows cols lines), c.requires.waiting)

@@ -1,8 +1,8 @@
 use Rattle.std.proofs.Common.{◌≡◌, ◌++◌, append-nil, append_assoc, ◌∙◌, ap, sym, string_bytes}
 use Rattle.roam_cells.specs.Screenshot.{row_text}
-use Rattle.roam.specs.ShowText.{first_rows, row_line}
-use Rattle.roam.proofs.ShowLaws.{first_rows-none, first_rows-more}
-use Rattle.roam.proofs.show.push_screen.Goals as goal
+use Rattle.roam_show.specs.ShowText.{first_rows, row_line}
+use Rattle.roam_show.proofs.ShowLaws.{first_rows-none, first_rows-more}
+use Rattle.roam_show.proofs.show.push_screen.Goals as goal
 
 pub loop-row-init : goal.loop-row-init
 loop-row-init c = sym (ap (λ t. string_bytes c.args.text.now ++ t) (first_rows-none _ _) ∙ append-nil _)

@@ -5,7 +5,7 @@ use Rattle.std.proofs.lemmas.Str.{encodes-append}
 use Rattle.roam_cells.specs.Glyph.{Glyph}
 use Rattle.roam_cells.specs.Screenshot.{row_text}
 use Rattle.roam_text.specs.Log.{Item, Byte}
-use Rattle.roam.specs.ShowText.{first_rows, row_line}
+use Rattle.roam_show.specs.ShowText.{first_rows, row_line}
 
 -- one more character
 pub encoded_more : (xs : List ℕ) (i d : ℕ) → i < length xs → encode_utf8_all (take (i + 1) xs) ≡ encode_utf8_all (take i xs) ++ encode_utf8 (get_or xs i d)

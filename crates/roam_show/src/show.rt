@@ -4,7 +4,7 @@ ghost use Rattle.std.specs.Io.KnownBytes.{Consumes, IsAtEnd, Appends, Keeps};
 ghost use Rattle.roam_text.specs.Log.{Item, Byte};
 ghost use Rattle.roam_term.specs.Terminal.{reports};
 ghost use Rattle.roam_term.specs.Stands.{Shows, IsTermSize};
-ghost use Rattle.roam.specs.ShowText.{row_line, screen_text, output_line, show_text};
+ghost use Rattle.roam_show.specs.ShowText.{row_line, screen_text, output_line, show_text};
 
 use crate::faults::RunFault;
 use roam_cells::{Fault, Shot};
@@ -99,8 +99,8 @@ fn push_output(alloc: Global, text: &mut String, report: &[u8]) -> Result<(), Al
 
 // The text of a terminal's screen and of what it answered.
 fn text_of(alloc: Global, term: &Term, report: &[u8]) -> Result<String, Fault>
-    ensures text { IfOk result (λ text. (rows cols : ℕ) (log : List ℕ) → Shows term.now rows cols MOST_LINES (map Byte log) →
-        report.now ≡ reports rows cols MOST_LINES (map Byte log) → string_bytes text ≡ show_text rows cols log) }
+    ensures text { IfOk result (λ text. (rows cols : ℕ) (log : List ℕ) → Shows term.now rows cols 500 (map Byte log) →
+        report.now ≡ reports rows cols 500 (map Byte log) → string_bytes text ≡ show_text rows cols log) }
     ensures fault { IsOkUnless result Fault.OutOfMemory }
 {
     let shot = term.shot(alloc, 0)?;
@@ -124,8 +124,8 @@ pub fn run_show<R: Read, W: Write>(
     ensures shown { OnOk result ((log : List ℕ) × Consumes (R.remaining reader.old) (R.remaining reader.new) log
         × IsAtEnd (R.remaining reader.new)
         × Appends (W.contents writer.old) (W.contents writer.new) (show_text rows cols log)) }
-    ensures size { OnOk result (IsTermSize rows cols MOST_LINES) }
-    ensures bad_size { IsErrOf result (RunFault.Core Fault.BadSize) ↔ (¬ IsTermSize rows cols MOST_LINES) }
+    ensures size { OnOk result (IsTermSize rows cols 500) }
+    ensures bad_size { IsErrOf result (RunFault.Core Fault.BadSize) ↔ (¬ IsTermSize rows cols 500) }
     // No other fault of the terminal comes, but want of memory.
     ensures faults { (fault : Fault) → IsErrOf result (RunFault.Core fault) → (fault ≡ Fault.BadSize) ⊎ (fault ≡ Fault.OutOfMemory) }
     ensures unwritten { IfErr result (λ e. e ≢ RunFault.Write → Keeps (W.contents writer.old) (W.contents writer.new)) }

@@ -6,7 +6,6 @@ use Rattle.roam_cells.specs.Screenshot.{Screenshot, row_text}
 use Rattle.roam_text.specs.Log.{Byte}
 use Rattle.roam_term.specs.Terminal.{reports}
 use Rattle.roam_term.specs.Picture.{picture}
-use Rattle.roam_term.specs.declared.terms.TheConstants.{MOST_LINES}
 
 -- a row's characters in UTF-8 between bars
 abbrev pub row_line : List ℕ → List ℕ
@@ -31,4 +30,4 @@ output_line (b ∷ bs) = codes "output " ++ encode_lower (b ∷ bs) ++ 10 ∷ []
 
 -- the text for the bytes of a pane, on a terminal of this size with all lines of history, not scrolled back
 unfoldable pub show_text : ℕ → ℕ → List ℕ → List ℕ
-show_text rows cols log = screen_text (picture rows cols MOST_LINES (map Byte log) 0) ++ output_line (reports rows cols MOST_LINES (map Byte log))
+show_text rows cols log = screen_text (picture rows cols 500 (map Byte log) 0) ++ output_line (reports rows cols 500 (map Byte log))

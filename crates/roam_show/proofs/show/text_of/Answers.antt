@@ -1,8 +1,8 @@
 use Rattle.std.proofs.Common.{◌++◌, map, ◌∙◌, ap}
 use Rattle.roam_text.specs.Log.{Byte}
 use Rattle.roam_term.specs.Picture.{picture}
-use Rattle.roam.specs.ShowText.{show_text, screen_text, output_line}
-use Rattle.roam.proofs.show.text_of.Goals as goal
+use Rattle.roam_show.specs.ShowText.{show_text, screen_text, output_line}
+use Rattle.roam_show.proofs.show.text_of.Goals as goal
 
 pub returns-clause-text : goal.returns-clause-text
 unfolding show_text
