@@ -11,7 +11,10 @@ use roam_grid::{Grid, Writing};
 use std::env;
 use std::time::Instant;
 
-const WRITING: Writing = Writing { wraps: true };
+const WRITING: Writing = Writing {
+    wraps: true,
+    inserts: false,
+};
 
 /// The slices that the characters are written in.
 const SLICES: u64 = 10;
