@@ -1,22 +1,40 @@
-# `make` proves and builds the program; `make test` is the whole gate. Both need the kit's `rt` on the PATH, and nothing else.
+# `make` proves what the program stands on and builds it; `make test` is the whole gate; `make bench` runs the benchmarks.
+# All need the kit's `rt` on the PATH; the benchmarks a C compiler and Python too.
 program := crates/roam/out/roam
-sources := $(shell find crates crates.txt -path '*/out' -prune -o -type f -print)
+below := $(shell tools/crates_below roam | cut -d' ' -f1)
+libraries := $(filter-out roam,$(below))
+sources = $(shell find crates/$(1)/src crates/$(1)/specs crates/$(1)/proofs -type f 2> /dev/null)
+proved = $(patsubst %,crates/%/out/proved,$(1))
 
-.PHONY: all test clean
+.PHONY: all test bench clean
 
-all: $(program)
+# As many crates side by side as there are processors. Each prints a line as it is proved.
+all:
+	@$(MAKE) -s --no-print-directory -j "$$(nproc)" crates/roam/out/built
 
-# Only a proved program is built: this proves the crates side by side, over what earlier runs kept, then builds the program and
-# runs it once, with --help. What the tools say is shown where they fail.
-$(program): $(sources)
-	@echo "roam: proving every crate and building the program; nothing more is said until that is done"
-	@log=$$(mktemp) && if rt all check > $$log 2>&1 && (cd crates/roam && rt run -- --help) >> $$log 2>&1; then rm $$log; \
-	else cat $$log >&2; rm $$log; exit 1; fi
+# A crate is proved once those are that it stands on.
+define crate
+crates/$(1)/out/proved: crates.txt $(call sources,$(1)) $(call proved,$(shell tools/crates_below $(1) | tail -n 1 | cut -s -d' ' -f2-))
+	@tools/prove $(1)
+endef
+$(foreach name,$(libraries),$(eval $(call crate,$(name))))
+
+# Only a proved program is built. It is run once, with --help; the stamp comes last, so that a broken build is never taken for one.
+crates/roam/out/built: crates.txt $(call sources,roam) $(call proved,$(libraries))
+	@mkdir -p crates/roam/out
+	@cd crates/roam && if ! rt run -- --help > out/log 2>&1; then cat out/log >&2; exit 1; fi
 	@touch $@
+	@echo "roam: the program is proved and built"
 
 # Every proof from nothing, the must-fail edits, the tests and the programs.
 test:
 	rt ci
+
+bench: all
+	bench/text.sh
+	bench/grid.sh
+	bench/show.sh
+	bench/wire.sh
 
 clean:
 	rm -rf crates/*/out
