@@ -64,37 +64,53 @@ fn move_flat(cells: &mut [Cell], rows: usize, cols: usize, times: u64)
     }
 }
 
+// A line of the output: what was done, on which size, how often, and the microseconds since the start.
+fn report(rt: &HostRuntime, way: &str, size: (usize, usize), count: u64, start: Instant) -> anyhow::Result<()> {
+    let micros = start.elapsed(rt)?.as_micros();
+    println!(rt; "{way} {} {} {count} {micros}", size.0, size.1)?;
+    Ok(())
+}
+
+fn measure_writing(rt: &HostRuntime, grid: &mut Grid, count: u64) -> anyhow::Result<()> {
+    let size = (grid.rows(), grid.cols());
+    let start = Instant::now(rt)?;
+    write_singly(grid, count);
+    report(rt, "put", size, count, start)?;
+    let start = Instant::now(rt)?;
+    write_runs(grid, count);
+    report(rt, "run", size, count, start)
+}
+
+fn measure_scrolling(rt: &HostRuntime, grid: &mut Grid, times: u64) -> anyhow::Result<()> {
+    let size = (grid.rows(), grid.cols());
+    let start = Instant::now(rt)?;
+    scroll_within(grid, times);
+    report(rt, "scroll", size, times, start)
+}
+
+fn measure_flat(rt: &HostRuntime, size: (usize, usize), times: u64) -> anyhow::Result<()>
+    requires size { (size.0 ≤ 100) × (size.1 ≤ 250) }
+{
+    let mut cells = vec![in rt.alloc(); Cell::blank(); size.0 * size.1]?;
+    let start = Instant::now(rt)?;
+    move_flat(&mut cells, size.0, size.1, times);
+    report(rt, "flat", size, times, start)
+}
+
 fn measure(rt: &HostRuntime, rows: usize, cols: usize, count: u64) -> anyhow::Result<()>
     requires size { (rows ≤ 100) × (cols ≤ 250) }
 {
     let mut grid = Grid::new(rt.alloc(), rows, cols)?;
-    let start = Instant::now(rt)?;
-    write_singly(&mut grid, count);
-    let singly = start.elapsed(rt)?.as_micros();
-    println!(rt; "put {rows} {cols} {count} {singly}")?;
-
-    let start = Instant::now(rt)?;
-    write_runs(&mut grid, count);
-    let runs = start.elapsed(rt)?.as_micros();
-    println!(rt; "run {rows} {cols} {count} {runs}")?;
-
+    measure_writing(rt, &mut grid, count)?;
     let screen = rows as u64 * cols as u64;
     if screen == 0 {
         bail!("an empty screen");
     }
     let times = (count / screen).saturating_mul(20);
-    let start = Instant::now(rt)?;
-    scroll_within(&mut grid, times);
-    let scrolls = start.elapsed(rt)?.as_micros();
-    println!(rt; "scroll {rows} {cols} {times} {scrolls}")?;
-
-    let mut cells = vec![in rt.alloc(); Cell::blank(); rows * cols]?;
-    let start = Instant::now(rt)?;
-    move_flat(&mut cells, rows, cols, times);
-    let flat = start.elapsed(rt)?.as_micros();
-    println!(rt; "flat {rows} {cols} {times} {flat}")?;
+    measure_scrolling(rt, &mut grid, times)?;
+    measure_flat(rt, (rows, cols), times)?;
     let (row, col) = grid.cursor();
-    println!(rt; "end {row} {col} {}", cells.len())?;
+    println!(rt; "end {row} {col}")?;
     Ok(())
 }
 
