@@ -65,7 +65,13 @@ fn move_flat(cells: &mut [Cell], rows: usize, cols: usize, times: u64)
 }
 
 // A line of the output: what was done, on which size, how often, and the microseconds since the start.
-fn report(rt: &HostRuntime, way: &str, size: (usize, usize), count: u64, start: Instant) -> anyhow::Result<()> {
+fn report(
+    rt: &HostRuntime,
+    way: &str,
+    size: (usize, usize),
+    count: u64,
+    start: Instant,
+) -> anyhow::Result<()> {
     let micros = start.elapsed(rt)?.as_micros();
     println!(rt; "{way} {} {} {count} {micros}", size.0, size.1)?;
     Ok(())

@@ -1,10 +1,10 @@
 //! Datagrams, instructions, cutting and gathering: rows of bytes put together by hand.
+use roam_acts::Act;
+use roam_cells::{Fault, Reason};
 use roam_wire::{
     Datagram, Down, Gathered, Gatherer, Kind, Up, cut, read_datagram, read_down, read_up,
     write_datagram, write_down, write_up,
 };
-use roam_acts::Act;
-use roam_cells::{Fault, Reason};
 use std::alloc::Global;
 use std::test::*;
 

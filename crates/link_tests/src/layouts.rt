@@ -1,8 +1,8 @@
 //! Rows of layouts: acts one after another, with what each is answered and what then stands.
-use roam_layout::{Layout, PaneSize, Rect, Way};
 use itoa::Buffer;
 use roam_acts::{Act, read_act};
 use roam_cells::Fault;
+use roam_layout::{Layout, PaneSize, Rect, Way};
 use std::alloc::Global;
 use std::test::*;
 

@@ -1,52 +1,10 @@
--- Erasures: which function asks for which, and what they make of a screen.
-use Rattle.std.specs.Prelude.{ℕ, ◌==◌, max, if◌then◌else◌, List, Option, Some, None}
+-- Erasures: what they make of a screen.
+use Rattle.std.specs.Prelude.{max}
 use Rattle.roam_grid.specs.Screen.{Screen}
 use Rattle.roam_grid.specs.Erasing.{erased_in_page, erased_in_line, erased_selectively_in_page, erased_selectively_in_line}
 use Rattle.roam_grid.specs.Editing.{cells_erased}
-use Rattle.roam_grid.specs.declared.erasing.Extent.{Extent}
-use Rattle.roam_grid.specs.declared.erasing.Extent.TheVariants.{ToEnd, ToStart, All}
-use Rattle.roam_term.specs.declared.erasures.Erasure.{Erasure}
-use Rattle.roam_term.specs.declared.erasures.Erasure.TheVariants.{InPage, InLine, SelectivelyInPage, SelectivelyInLine, Cells}
-use Rattle.roam_term.specs.Parameters.{first, count}
-
--- what a parameter of ED and EL selects (ECMA-48, sections 8.3.39 and 8.3.41); another one selects nothing
-abbrev pub extent_of : ℕ → Option Extent
-extent_of p =
-    if p == 0 then Some ToEnd
-    else if p == 1 then Some ToStart
-    else if p == 2 then Some All
-    else None
-
-abbrev pub in_page : Option Extent → Option Erasure
-in_page (Some extent) = Some (InPage extent)
-in_page None = None
-
-abbrev pub in_line : Option Extent → Option Erasure
-in_line (Some extent) = Some (InLine extent)
-in_line None = None
-
--- ED, EL, ECH (ECMA-48, sections 8.3.39, 8.3.41 and 8.3.38)
-abbrev pub erasure_of : List ℕ → ℕ → Option Erasure
-erasure_of params b =
-    if b == 0x4A then in_page (extent_of (first params))
-    else if b == 0x4B then in_line (extent_of (first params))
-    else if b == 0x58 then Some (Cells (count (first params)))
-    else None
-
-abbrev pub selectively_in_page : Option Extent → Option Erasure
-selectively_in_page (Some extent) = Some (SelectivelyInPage extent)
-selectively_in_page None = None
-
-abbrev pub selectively_in_line : Option Extent → Option Erasure
-selectively_in_line (Some extent) = Some (SelectivelyInLine extent)
-selectively_in_line None = None
-
--- DECSED, DECSEL (VT220 Programmer Reference), after the private marker ?
-abbrev pub private_erasure : List ℕ → ℕ → Option Erasure
-private_erasure params b =
-    if b == 0x4A then selectively_in_page (extent_of (first params))
-    else if b == 0x4B then selectively_in_line (extent_of (first params))
-    else None
+use Rattle.roam_controls.specs.declared.erasures.Erasure.{Erasure}
+use Rattle.roam_controls.specs.declared.erasures.Erasure.TheVariants.{InPage, InLine, SelectivelyInPage, SelectivelyInLine, Cells}
 
 abbrev pub erased_by : Erasure → Screen → Screen
 erased_by (InPage extent) s = erased_in_page extent s

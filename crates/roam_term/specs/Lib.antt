@@ -1,14 +1,11 @@
-pub mod Parameters
 pub mod Motions
 pub mod Edits
 pub mod Erasures
 pub mod Shifts
-pub mod Renditions
 pub mod Modes
 pub mod Pens
 pub mod Settings
 pub mod Reports
-pub mod Commands
 pub mod Terminal
 pub mod Picture
 pub mod Stands

@@ -1,6 +1,6 @@
 //! The terminal of a pane: bytes go in, a screen comes out.
 //!
-//! The model is a VT220 with the control functions of ECMA-48 (5th edition), in this project's profile: `specs/Commands.antt`
+//! The model is a VT220 with the control functions of ECMA-48 (5th edition), in this project's profile: `roam_controls`
 //! is the table of functions, `specs/Terminal.antt` the state and what each of them makes of it. A function that the table
 //! doesn't list has no effect. Deviations from the VT220: erasing reaches guarded cells too where the function isn't
 //! selective, SUB shows no error character, and replies are seven-bit.
@@ -8,16 +8,13 @@
 
 mod alternates;
 mod canvases;
-mod commands;
 mod edits;
 mod erasures;
 mod modes;
 mod motions;
 mod outputs;
-mod parameters;
 mod pens;
 mod pictures;
-mod renditions;
 mod reports;
 mod settings;
 mod shifts;

@@ -2,17 +2,17 @@
 ghost use Rattle.std.specs.Prelude.{◌≡◌, ◌⊎◌, ◌+◌, ◌*◌, ◌≤◌, ◌<◌, ◌↔◌, ◌++◌, ℕ, List, [], ◌∷◌, length, min, take, drop, IfOk, IfErr, OnOk, OnErr, IsOk, IsErrOf, IsOkUnless};
 ghost use Rattle.roam_text.specs.Log.{Item};
 ghost use Rattle.roam_text.specs.Dispatched.{function_of, dispatched};
-ghost use Rattle.roam_term.specs.Commands.{command_of, parameters_of};
+ghost use Rattle.roam_controls.specs.Commands.{command_of, parameters_of};
 ghost use Rattle.roam_term.specs.Picture.{picture};
 ghost use Rattle.roam_term.specs.Terminal.{changed, answer, lived, answered, reports};
 ghost use Rattle.roam_term.specs.Stands.{Shows, Fed, IsTermSize, IsAccepted};
 
 use crate::canvases::Canvas;
-use crate::commands::{Command, command_of};
 use crate::outputs::{MOST_OUTPUT, Output};
 use crate::pictures::draw;
 use roam_cells::limits::is_size;
 use roam_cells::{Fault, Shot};
+use roam_controls::{Command, command_of};
 use roam_text::{Dispatch, Dispatched, REPLACEMENT, Reader};
 use std::alloc::Global;
 use std::marker::Model;

@@ -63,7 +63,10 @@ fn type_character(grid: &mut Grid, c: char, guard: bool, writing: Writing) {
 }
 
 fn play(grid: &mut Grid, acts: &[Act]) {
-    let mut writing = Writing { wraps: true, inserts: false };
+    let mut writing = Writing {
+        wraps: true,
+        inserts: false,
+    };
     for act in acts {
         match *act {
             Act::Type(text) => {
@@ -534,7 +537,14 @@ fn the_first_row_goes_round(rt: HostRuntime) -> Result<(), Fail> {
     assert_eq!(rt; grid.first(), 1);
     // Ten lines on three rows: seven scroll.
     for k in 0..10u8 {
-        grid.put_run(Cell::blank(), &[b'0' + k], Writing { wraps: true, inserts: false });
+        grid.put_run(
+            Cell::blank(),
+            &[b'0' + k],
+            Writing {
+                wraps: true,
+                inserts: false,
+            },
+        );
         if k < 9 {
             grid.carriage_return();
             grid.index();
@@ -551,8 +561,14 @@ fn the_first_row_goes_round(rt: HostRuntime) -> Result<(), Fail> {
 
 #[test]
 fn a_row_leaves_where_a_character_scrolls(rt: HostRuntime) -> Result<(), Fail> {
-    let wrapping = Writing { wraps: true, inserts: false };
-    let staying = Writing { wraps: false, inserts: false };
+    let wrapping = Writing {
+        wraps: true,
+        inserts: false,
+    };
+    let staying = Writing {
+        wraps: false,
+        inserts: false,
+    };
     let mut grid = Grid::new(rt.alloc(), 2, 8)?;
     play(&mut grid, &[Act::Go(1, 8)]);
     assert!(rt;

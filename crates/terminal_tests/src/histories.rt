@@ -2,8 +2,8 @@
 ghost use Rattle.std.specs.Prelude.{IsTrue};
 ghost use Rattle.roam_cells.specs.Place.{IsWholeRow};
 
-use roam_history::{Fitted, History, MOST_LINES, laws};
 use roam_cells::{Cell, Fault, Style, is_well_formed};
+use roam_history::{Fitted, History, MOST_LINES, laws};
 use std::alloc::{AllocError, Global};
 use std::test::Fail;
 

@@ -2,9 +2,9 @@
 ghost use Rattle.std.specs.Prelude.{◌≡◌, IsTrue};
 ghost use Rattle.roam_rows.specs.Writing.{ArePrintable};
 
-use roam_rows::{Fitted, Ring, laws};
 use roam_cells::limits::is_size;
 use roam_cells::{Cell, Style, width};
+use roam_rows::{Fitted, Ring, laws};
 use std::alloc::{AllocError, Global};
 use std::test::Fail;
 

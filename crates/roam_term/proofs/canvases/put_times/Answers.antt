@@ -1,4 +1,4 @@
-use Rattle.std.proofs.Common.{◌≡◌, ◌∙◌, ◌-◌, ◌+◌, ◌<◌, replicate, sym, ap, arith}
+use Rattle.std.proofs.Common.{◌∙◌, ◌-◌, ◌+◌, replicate, sym, ap, arith}
 use Rattle.roam_grid.specs.Writing.{put_all}
 use Rattle.roam_term.proofs.Prints.{put_step, put_none}
 use Rattle.roam_term.proofs.canvases.put_times.Goals as goal

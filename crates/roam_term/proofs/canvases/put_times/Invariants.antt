@@ -1,4 +1,4 @@
-use Rattle.std.proofs.Common.{◌≡◌, ◌-◌, ◌≤◌, replicate}
+use Rattle.std.proofs.Common.{◌≡◌, ◌-◌, replicate}
 use Rattle.roam_grid.specs.Screen.{IsSameSize}
 use Rattle.roam_grid.specs.Writing.{put_all}
 use Rattle.roam_term.proofs.canvases.put_times.Given as goal

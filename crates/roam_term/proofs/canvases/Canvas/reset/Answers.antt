@@ -1,4 +1,4 @@
-use Rattle.std.proofs.Common.{◌≡◌, ◌∙◌, ◌*◌, List, None, false, length, replicate, sym, ap}
+use Rattle.std.proofs.Common.{◌≡◌, ◌∙◌, List, None, false, length, replicate, sym, ap}
 use Rattle.roam_cells.specs.Glyph.{Glyph, blank}
 use Rattle.roam_charset.specs.declared.sets.Sets.{Sets}
 use Rattle.roam_grid.specs.Screen.{Screen}
@@ -7,7 +7,7 @@ use Rattle.roam_term.specs.declared.modes.Modes.{Modes}
 use Rattle.roam_term.specs.declared.pens.Pen.{Pen}
 use Rattle.roam_term.specs.Modes.{started_modes}
 use Rattle.roam_term.specs.Pens.{plain_pen}
-use Rattle.roam_term.specs.Terminal.{Live, reset}
+use Rattle.roam_term.specs.Terminal.{Live}
 use Rattle.roam_term.proofs.canvases.Canvas.reset.Goals as goal
 
 with_all : Screen → List Glyph → Pen → Modes → Sets → Live

@@ -2,7 +2,7 @@ use Rattle.std.proofs.Common.{◌≡◌, ◌∙◌, List, ℕ, false, not, ap}
 use Rattle.roam_cells.specs.Glyph.{Glyph}
 use Rattle.roam_grid.specs.Screen.{Screen, GridView, IsSameSize}
 use Rattle.roam_grid.specs.Frames.{framed_as}
-use Rattle.roam_term.specs.Terminal.{Live, switched}
+use Rattle.roam_term.specs.Terminal.{Live}
 use Rattle.roam_term.proofs.canvases.Canvas.switch.Goals as goal
 
 of_size : Screen → List Glyph → ℕ → ℕ → Screen

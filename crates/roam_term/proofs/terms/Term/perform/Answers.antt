@@ -1,6 +1,6 @@
 use Rattle.std.proofs.Common.{◌++◌, ap, ◌∙◌}
 use Rattle.roam_text.specs.Dispatched.{function_of}
-use Rattle.roam_term.specs.Commands.{command_of, forgets}
+use Rattle.roam_controls.specs.Commands.{command_of, forgets}
 use Rattle.roam_term.specs.Terminal.{changed, answer, answered_by, performed, remembering}
 use Rattle.roam_term.proofs.terms.Term.perform.Goals as goal
 

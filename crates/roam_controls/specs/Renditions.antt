@@ -4,11 +4,11 @@ use Rattle.roam_cells.specs.Glyph.{default_style}
 use Rattle.roam_cells.specs.declared.styles.Style.{Style}
 use Rattle.roam_cells.specs.declared.styles.Colour.{Colour}
 use Rattle.roam_cells.specs.declared.styles.Colour.TheVariants.{Default, Index}
-use Rattle.roam_term.specs.declared.renditions.Layer.{Layer}
-use Rattle.roam_term.specs.declared.renditions.Layer.TheVariants.{Foreground, Background}
-use Rattle.roam_term.specs.declared.renditions.Awaited.{Awaited}
-use Rattle.roam_term.specs.declared.renditions.Awaited.TheVariants.{Aspect, ColourSpace, ColourIndex, Components, Nothing}
-use Rattle.roam_term.specs.declared.renditions.Rendition.{Rendition}
+use Rattle.roam_controls.specs.declared.renditions.Layer.{Layer}
+use Rattle.roam_controls.specs.declared.renditions.Layer.TheVariants.{Foreground, Background}
+use Rattle.roam_controls.specs.declared.renditions.Awaited.{Awaited}
+use Rattle.roam_controls.specs.declared.renditions.Awaited.TheVariants.{Aspect, ColourSpace, ColourIndex, Components, Nothing}
+use Rattle.roam_controls.specs.declared.renditions.Rendition.{Rendition}
 
 abbrev pub coloured : Layer → Colour → Style → Style
 coloured Foreground colour g = record g { foreground = colour }

@@ -2,21 +2,21 @@
 use Rattle.std.specs.Prelude.{ℕ, ◌==◌, if◌then◌else◌, Bool, true, false, List, [], ◌∷◌, Option, Some, None}
 use Rattle.roam_text.specs.declared.functions.Function.{Function}
 use Rattle.roam_text.specs.declared.functions.Function.TheVariants.{Print, C0, C1, Esc, Csi, Size}
-use Rattle.roam_term.specs.declared.commands.Command.{Command}
-use Rattle.roam_term.specs.declared.commands.Command.TheVariants.{Nothing, Prints, Moves, Erases, Edits, Shifts, Sets, Reports, Repeats}
-use Rattle.roam_term.specs.declared.motions.Motion.{Motion}
-use Rattle.roam_term.specs.declared.edits.Edit.{Edit}
-use Rattle.roam_term.specs.declared.erasures.Erasure.{Erasure}
-use Rattle.roam_term.specs.declared.shifts.Shift.{Shift}
-use Rattle.roam_term.specs.declared.settings.Setting.{Setting}
-use Rattle.roam_term.specs.declared.reports.Report.{Report}
-use Rattle.roam_term.specs.Motions.{c0_motion, c1_motion, motion_of}
-use Rattle.roam_term.specs.Edits.{edit_of, hash_edit}
-use Rattle.roam_term.specs.Erasures.{erasure_of, private_erasure}
-use Rattle.roam_term.specs.Parameters.{first, count}
-use Rattle.roam_term.specs.Shifts.{c0_shift, c1_shift, locking_shift, designation_of}
-use Rattle.roam_term.specs.Settings.{c1_setting, setting_of, private_setting, quoted_setting, exclaimed_setting, escape_setting}
-use Rattle.roam_term.specs.Reports.{report_of, private_report, secondary_report}
+use Rattle.roam_controls.specs.declared.commands.Command.{Command}
+use Rattle.roam_controls.specs.declared.commands.Command.TheVariants.{Nothing, Prints, Moves, Erases, Edits, Shifts, Sets, Reports, Repeats}
+use Rattle.roam_controls.specs.declared.motions.Motion.{Motion}
+use Rattle.roam_controls.specs.declared.edits.Edit.{Edit}
+use Rattle.roam_controls.specs.declared.erasures.Erasure.{Erasure}
+use Rattle.roam_controls.specs.declared.shifts.Shift.{Shift}
+use Rattle.roam_controls.specs.declared.settings.Setting.{Setting}
+use Rattle.roam_controls.specs.declared.reports.Report.{Report}
+use Rattle.roam_controls.specs.Motions.{c0_motion, c1_motion, motion_of}
+use Rattle.roam_controls.specs.Edits.{edit_of, hash_edit}
+use Rattle.roam_controls.specs.Erasures.{erasure_of, private_erasure}
+use Rattle.roam_controls.specs.Parameters.{first, count}
+use Rattle.roam_controls.specs.Shifts.{c0_shift, c1_shift, locking_shift, designation_of}
+use Rattle.roam_controls.specs.Settings.{c1_setting, setting_of, private_setting, quoted_setting, exclaimed_setting, escape_setting}
+use Rattle.roam_controls.specs.Reports.{report_of, private_report, secondary_report}
 
 -- what a group asks for, and else another command
 abbrev pub or_move : Option Motion → Command → Command

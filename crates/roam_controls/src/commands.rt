@@ -1,7 +1,7 @@
 //! What a function asks for, by the table of control functions.
 ghost use Rattle.std.specs.Prelude.{◌≡◌};
 ghost use Rattle.roam_text.specs.Dispatched.{function_of};
-ghost use Rattle.roam_term.specs.Commands.{c0_command, c1_command, marked_escape, escape_command, plain_command, marked_command, intermediate_command, sequence_command, command_of, forgets};
+ghost use Rattle.roam_controls.specs.Commands.{c0_command, c1_command, marked_escape, escape_command, plain_command, marked_command, intermediate_command, sequence_command, command_of, forgets};
 
 use crate::edits::{Edit, edit_of, hash_edit};
 use crate::erasures::{Erasure, erasure_of, private_erasure};

@@ -1,6 +1,6 @@
 //! The parameters of a control sequence.
 ghost use Rattle.std.specs.Prelude.{◌≡◌};
-ghost use Rattle.roam_term.specs.Parameters.{first, second, count};
+ghost use Rattle.roam_controls.specs.Parameters.{first, second, count};
 
 /// The first parameter; none is 0 (ECMA-48, section 5.4.2).
 pub fn first(params: &[u16]) -> u16

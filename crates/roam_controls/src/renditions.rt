@@ -1,6 +1,6 @@
 //! SGR: select graphic rendition.
 ghost use Rattle.std.specs.Prelude.{◌≡◌};
-ghost use Rattle.roam_term.specs.Renditions.{coloured, with_colour, ended, with_aspect, with_parameter, styled};
+ghost use Rattle.roam_controls.specs.Renditions.{coloured, with_colour, ended, with_aspect, with_parameter, styled};
 
 use roam_cells::{Colour, Style};
 

@@ -1,0 +1,9 @@
+pub mod Parameters
+pub mod Motions
+pub mod Edits
+pub mod Erasures
+pub mod Shifts
+pub mod Renditions
+pub mod Settings
+pub mod Reports
+pub mod Commands

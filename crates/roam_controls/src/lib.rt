@@ -1,0 +1,24 @@
+//! The table of control functions: what each function of ECMA-48 (5th edition) and of the VT220 asks for, in this project's profile.
+//!
+//! A function becomes a `Command`, a small value by groups; who performs it never sees a number of the table. A function that the
+//! table doesn't list asks for nothing. `restyled` is SGR, a fold over its parameters.
+#![tactic(auto)]
+
+mod commands;
+mod edits;
+mod erasures;
+mod motions;
+mod parameters;
+mod renditions;
+mod reports;
+mod settings;
+mod shifts;
+
+pub use commands::{Command, command_of};
+pub use edits::Edit;
+pub use erasures::Erasure;
+pub use motions::Motion;
+pub use renditions::restyled;
+pub use reports::Report;
+pub use settings::Setting;
+pub use shifts::Shift;
