@@ -13,7 +13,10 @@ use Rattle.roam_grid.specs.declared.writing.Writing.{Writing}
 use Rattle.roam_grid.specs.Screen.{Screen}
 use Rattle.roam_cells.specs.Glyph.{Glyph}
 use Rattle.roam_grid.specs.Writing.{put_on, put_all, joined_on}
-use Rattle.roam_term.specs.Terminal.{Live, glyph_in, writing_under, written, printed_on, printed_all, changed, answer, lived, answered}
+use Rattle.roam_history.specs.Histories.{Scrollback}
+use Rattle.roam_term.specs.Leaving.{left_by_put, left_by_puts}
+use Rattle.roam_term.specs.Terminal.{Live, glyph_in, writing_under, written, printed_on, printed_all, changed, answer, lived, kept_by, answered, kept, left, on_main, with_rows, left_by_character}
+use Rattle.roam_term.proofs.Scrollback.{main_none, main_then, few_kept}
 use Rattle.roam_term.proofs.Lists.{append-nil}
 
 pub changed-print : (b : ℕ) (l : Live) → changed (Print b) l ≡ printed_on b l
@@ -94,6 +97,30 @@ unfolding last_printed
 last_printed-is o [] h = absurd (omega arith)
 last_printed-is o (b ∷ []) h = refl
 last_printed-is o (b ∷ c ∷ bs) h = last_printed-is (Some b) (c ∷ bs) (omega arith) ∙ ap Some (ap (λ i. get_or (b ∷ c ∷ bs) i 0) (sym (more (length bs))))
+
+-- the row that a printed character makes leave
+pub kept-print : (b : ℕ) (l : Live) (h : Scrollback) → kept (Print b) l h ≡ with_rows (on_main l.alternate (left_by_character (mapped_by (in_use l.sets) b) l)) h
+unfolding kept left
+kept-print b l h = refl
+
+left-plain : (b : ℕ) (s : Live) → 0x20 ≤ b → b < 0x7F → set_in s.sets.locked s.sets ≡ Ascii → s.sets.single ≡ None
+    → left_by_character (mapped_by (in_use s.sets) b) s ≡ left_by_put (glyph_in b s.pen) (writing_under s.modes) s.screen
+left-plain b s low high locked single =
+    ap (λ c. left_by_character c s) (mapped-ascii s.sets b locked single)
+    ∙ ap (λ w. if w == 0 then [] else left_by_put (glyph_in b s.pen) (writing_under s.modes) s.screen) (ascii_width b low high)
+
+-- and those of a run
+pub kept-run : (s : Live) (bs : List ℕ) (h : Scrollback) → ArePlain bs → set_in s.sets.locked s.sets ≡ Ascii → s.sets.single ≡ None → length h.rows ≤ h.lines
+    → kept_by s (map Print bs) h ≡ with_rows (on_main s.alternate (left_by_puts (map (λ b. glyph_in b s.pen) bs) (writing_under s.modes) s.screen)) h
+kept-run s [] h plain locked single few = sym (main_none s.alternate h few)
+kept-run s (b ∷ bs) h plain locked single few =
+    let next : Live = record s { screen = put_on (glyph_in b s.pen) (writing_under s.modes) s.screen; printed = Some b } in
+    let row = left_by_put (glyph_in b s.pen) (writing_under s.modes) s.screen in
+    ap (λ k. kept_by (changed (Print b) s) (map Print bs) k)
+    (kept-print b s h ∙ ap (λ rows. with_rows (on_main s.alternate rows) h) (left-plain b s plain.0 plain.1 locked single))
+    ∙ ap (λ l. kept_by l (map Print bs) (with_rows (on_main s.alternate row) h)) (changed-print b s ∙ printed-plain b s plain.0 plain.1 locked single)
+    ∙ kept-run next bs (with_rows (on_main s.alternate row) h) plain.2 locked single (few_kept (on_main s.alternate row) h)
+    ∙ main_then s.alternate row (left_by_puts (map (λ b. glyph_in b s.pen) bs) (writing_under s.modes) next.screen) h
 
 -- a cell that is written so many times is written once, and then one time less
 pub put_step : (g : Glyph) (w : Writing) (s : Screen) (n m : ℕ) → n ≡ suc m → put_all (replicate n g) w s ≡ put_all (replicate m g) w (put_on g w s)

@@ -1,50 +1,42 @@
 -- Functions one after another.
-use Rattle.std.proofs.Common.{◌≡◌, ℕ, ◌-◌, zero, suc, List, [], ◌∷◌, ◌++◌, map, drop, refl, sym, ap, ◌∙◌, append_assoc, subst}
-use Rattle.roam_cells.specs.Glyph.{Glyph}
+use Rattle.std.proofs.Common.{◌≡◌, ℕ, List, [], ◌∷◌, ◌++◌, map, refl, sym, ap, ◌∙◌, append_assoc, subst}
 use Rattle.roam_text.specs.declared.functions.Function.{Function}
 use Rattle.roam_text.specs.Log.{Item, Byte}
 use Rattle.roam_text.specs.Functions.{functions_of}
 use Rattle.roam_text.specs.Stands.{Stands}
-use Rattle.roam_term.specs.Terminal.{Terminal, changed, answer, left, last_of, after, run, lived, answered, started, term, reports}
+use Rattle.roam_term.specs.Terminal.{Terminal, changed, answer, after, run, lived, kept_by, answered, started, term, reports}
 use Rattle.roam_term.specs.Stands.{TermView, Shows, Fed}
 use Rattle.roam_term.proofs.Lists.{append-nil, map-append}
 
-pub run-append : (lines : ℕ) (t : Terminal) (fs gs : List Function) → run lines t (fs ++ gs) ≡ run lines (run lines t fs) gs
-run-append lines t [] gs = refl
-run-append lines t (f ∷ fs) gs = run-append lines (after lines f t) fs gs
+pub run-append : (t : Terminal) (fs gs : List Function) → run t (fs ++ gs) ≡ run (run t fs) gs
+run-append t [] gs = refl
+run-append t (f ∷ fs) gs = run-append (after f t) fs gs
 
 -- what lives depends on what lived alone
-pub run-live : (lines : ℕ) (t : Terminal) (fs : List Function) → (run lines t fs).live ≡ lived t.live fs
-run-live lines t [] = refl
-run-live lines t (f ∷ fs) = run-live lines (after lines f t) fs
+pub run-live : (t : Terminal) (fs : List Function) → (run t fs).live ≡ lived t.live fs
+run-live t [] = refl
+run-live t (f ∷ fs) = run-live (after f t) fs
+
+-- and the history on the history and on what lived
+pub run-history : (t : Terminal) (fs : List Function) → (run t fs).history ≡ kept_by t.live fs t.history
+run-history t [] = refl
+run-history t (f ∷ fs) = run-history (after f t) fs
 
 -- and what was answered before stays in front
-pub run-answers : (lines : ℕ) (t : Terminal) (fs : List Function) → (run lines t fs).answers ≡ t.answers ++ answered t.live fs
-run-answers lines t [] = sym (append-nil t.answers)
-run-answers lines t (f ∷ fs) = run-answers lines (after lines f t) fs ∙ append_assoc t.answers (answer f t.live) (answered (changed f t.live) fs)
-
-drop-nil : (n : ℕ) → drop n [] ≡ let none : List (List Glyph) = [] in none
-drop-nil zero = refl
-drop-nil (suc n) = refl
-
--- no row is kept
-kept-none : (lines : ℕ) (f : Function) (t : Terminal) → t.history ≡ [] → (after lines f t).history ≡ []
-unfolding left
-kept-none lines f t none = ap (λ h. last_of lines (h ++ [])) none ∙ drop-nil (0 - lines)
-
-pub run-history : (lines : ℕ) (t : Terminal) (fs : List Function) → t.history ≡ [] → (run lines t fs).history ≡ []
-run-history lines t [] none = none
-run-history lines t (f ∷ fs) none = run-history lines (after lines f t) fs (kept-none lines f t none)
+pub run-answers : (t : Terminal) (fs : List Function) → (run t fs).answers ≡ t.answers ++ answered t.live fs
+run-answers t [] = sym (append-nil t.answers)
+run-answers t (f ∷ fs) = run-answers (after f t) fs ∙ append_assoc t.answers (answer f t.live) (answered (changed f t.live) fs)
 
 -- the reader's clauses, and what the functions changed and answered
 module _ (old new : TermView) (bs : List ℕ) (out : List Function)
     (reads : (log : List Item) → Stands old.reader log → Stands new.reader (log ++ map Byte bs))
     (gained : (log : List Item) → Stands old.reader log → functions_of (log ++ map Byte bs) ≡ functions_of log ++ out)
     (live : new.live ≡ lived old.live out)
+    (history : new.history ≡ kept_by old.live out old.history)
     (waiting : new.waiting ≡ old.waiting ++ answered old.live out) where
-  later : (rows cols lines : ℕ) (log : List Item) → Stands old.reader log → term rows cols lines (log ++ map Byte bs) ≡ run lines (term rows cols lines log) out
+  later : (rows cols lines : ℕ) (log : List Item) → Stands old.reader log → term rows cols lines (log ++ map Byte bs) ≡ run (term rows cols lines log) out
   unfolding term
-  later rows cols lines log stands = ap (run lines (started rows cols)) (gained log stands) ∙ run-append lines (started rows cols) (functions_of log) out
+  later rows cols lines log stands = ap (run (started rows cols lines)) (gained log stands) ∙ run-append (started rows cols lines) (functions_of log) out
 
   pub fed-out : Fed old new bs
   unfolding reports
@@ -52,14 +44,18 @@ module _ (old new : TermView) (bs : List ℕ) (out : List Function)
     stands = λ rows cols lines log shows. record {
       reads = reads log shows.reads;
       live =
-          live ∙ ap (λ l. lived l out) shows.live ∙ sym (run-live lines (term rows cols lines log) out)
+          live ∙ ap (λ l. lived l out) shows.live ∙ sym (run-live (term rows cols lines log) out)
           ∙ sym (ap (λ (t : Terminal). t.live) (later rows cols lines log shows.reads));
+      history =
+          history ∙ ap (λ l. kept_by l out old.history) shows.live ∙ ap (kept_by (term rows cols lines log).live out) shows.history
+          ∙ sym (run-history (term rows cols lines log) out)
+          ∙ sym (ap (λ (t : Terminal). t.history) (later rows cols lines log shows.reads));
     };
     gains = λ rows cols lines log shows. record {
       more = answered old.live out;
       answers =
           ap (λ (t : Terminal). t.answers) (later rows cols lines log shows.reads)
-          ∙ run-answers lines (term rows cols lines log) out
+          ∙ run-answers (term rows cols lines log) out
           ∙ sym (ap (λ l. (term rows cols lines log).answers ++ answered l out) shows.live);
       queue = waiting;
     };

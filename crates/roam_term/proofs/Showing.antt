@@ -1,56 +1,41 @@
 -- What a terminal shows.
-use Rattle.std.proofs.Common.{◌≡◌, ◌<◌, ℕ, ◌+◌, ◌*◌, ◌-◌, Bool, true, false, List, [], ◌++◌, map, take, drop, take_all, length, slice_range, refl, sym, ap, ◌∙◌, arith}
-use Rattle.std.specs.Prelude.{◌&&◌, nat_le, min, if◌then◌else◌}
-use Rattle.std.proofs.lemmas.Bool.Decides.{nat_tests}
-use Rattle.std.proofs.lemmas.List.{get_or-map, length-map}
+use Rattle.std.proofs.Common.{◌≡◌, ◌<◌, ◌≤◌, ℕ, ◌+◌, ◌*◌, ◌-◌, Bool, true, List, ◌++◌, map, min, take, drop, length, length-drop, slice_range, sym, ap, ◌∙◌, arith}
+use Rattle.std.specs.Prelude.{All}
+use Rattle.std.proofs.lemmas.List.{get_or-map, length-map, take_min}
+use Rattle.std.proofs.lemmas.List.Elements.{All-drop}
 use Rattle.std.proofs.Math.Seq.{take-add}
 use Rattle.roam_text.specs.Log.{Item}
-use Rattle.roam_text.specs.Functions.{functions_of}
 use Rattle.roam_cells.specs.Glyph.{Glyph, blank, is_wide, is_right_half, right_of}
 use Rattle.roam_cells.specs.Place.{cell_at, AreWhole}
 use Rattle.roam_cells.specs.Screenshot.{AreUnguarded}
 use Rattle.roam_cells.proofs.Places.{place_below}
-use Rattle.roam_grid.specs.Screen.{IsScreen}
-use Rattle.roam_term.specs.Terminal.{Live, started, term}
-use Rattle.roam_term.specs.Picture.{shown, picture_with, picture, picture_of, picture_alone}
-use Rattle.roam_term.proofs.Runs.{run-history}
+use Rattle.roam_history.specs.Histories.{Scrollback, IsRow}
+use Rattle.roam_term.specs.Terminal.{Live, term}
+use Rattle.roam_term.specs.Picture.{shown, picture, picture_of}
 use Rattle.roam_term.proofs.Lists.{map-append}
+use Rattle.roam_term.proofs.Views.{flat, view_is}
 
-none_in_view : (b : Bool) (view : ℕ) → (if b then 0 else min view 0) ≡ 0
-none_in_view true view = refl
-none_in_view false view = omega arith
-
-and-true : (b : Bool) → (b && true) ≡ b
-and-true true = refl
-and-true false = refl
-
-on_screen : (row rows : ℕ) → row < rows → nat_le (row + 1 + 0) rows ≡ true
-on_screen row rows h = grind (arith, nat_tests)
-
--- with no history, every view shows the screen alone
-alone : (l : Live) (answers : List ℕ) (view : ℕ) → IsScreen l.screen → picture_of (record { live = l; history = []; answers = answers }) view ≡ picture_alone l
-alone l answers view is = ap (λ v. picture_with v (record { live = l; history = []; answers = answers })) (none_in_view l.alternate view) ∙ unscrolled where
-  unscrolled : picture_with 0 (record { live = l; history = []; answers = answers }) ≡ picture_alone l
-  unscrolled i = record {
-    rows = l.screen.rows;
-    cols = l.screen.cols;
-    cells = map (shown l.modes.reverse_screen) (take_all (l.screen.rows * l.screen.cols) l.screen.cells (omega (arith, is.size)) i);
-    cursor_row = (let e : min (l.screen.row + 1 + 0) l.screen.rows ≡ l.screen.row + 1 = omega (arith, is.frame.row_in) in e) i;
-    cursor_col = l.screen.col + 1;
-    visible = (ap (λ b. l.modes.cursor_visible && b) (on_screen l.screen.row l.screen.rows is.frame.row_in) ∙ and-true l.modes.cursor_visible) i;
-  }
-
-no_history : (rows cols lines : ℕ) (log : List Item) → (term rows cols lines log).history ≡ []
-unfolding term
-no_history rows cols lines log = run-history lines (started rows cols) (functions_of log) refl
-
--- what a log shows is what lives shows
-pub picture_is : (rows cols lines : ℕ) (log : List Item) (view : ℕ) (l : Live) → l ≡ (term rows cols lines log).live → IsScreen l.screen
-    → picture_alone l ≡ picture rows cols lines log view
+-- what a log shows is what lives and the history show
+pub picture_is : (rows cols lines : ℕ) (log : List Item) (view : ℕ) (l : Live) (h : Scrollback) → l ≡ (term rows cols lines log).live
+    → h ≡ (term rows cols lines log).history → picture_of l h view ≡ picture rows cols lines log view
 unfolding picture
-picture_is rows cols lines log view l live is =
-    sym (alone l (term rows cols lines log).answers view is)
-    ∙ ap (λ t. picture_of t view) (λ i. record { live = live i; history = sym (no_history rows cols lines log) i; answers = (term rows cols lines log).answers })
+picture_is rows cols lines log view l h live history =
+    ap (λ x. picture_of x h view) live ∙ ap (λ x. picture_of (term rows cols lines log).live x view) history
+
+-- the rows of a view, those of the history first
+pub view_parts : (reversed : Bool) (cols r v : ℕ) (rows : List (List Glyph)) (cells : List Glyph) → All (IsRow cols) rows → v ≤ length rows
+    → map (shown reversed) (flat (take (min r v) (drop (length rows - v) rows))) ++ map (shown reversed) (take ((r - min r v) * cols) cells)
+    ≡ map (shown reversed) (take (r * cols) (flat (drop (length rows - v) rows) ++ cells))
+view_parts reversed cols r v rows cells each fits =
+    let last = drop (length rows - v) rows in
+    let len : length last ≡ v = length-drop (length rows - v) rows ∙ omega arith in
+    let left : r - min r v ≡ r - length last = omega (arith, len) in
+    sym (map-append (shown reversed) (flat (take (min r v) last)) (take ((r - min r v) * cols) cells))
+    ∙ ap (map (shown reversed))
+    (ap (λ n. flat (take (min r n) last) ++ take ((r - min r v) * cols) cells) (sym len)
+    ∙ ap (λ l. flat l ++ take ((r - min r v) * cols) cells) (take_min r last)
+    ∙ ap (λ n. flat (take r last) ++ take (n * cols) cells) left
+    ∙ sym (view_is cols r last cells (All-drop (IsRow cols) (length rows - v) rows each)))
 
 -- ---- cells as they are shown
 

@@ -6,6 +6,7 @@ pub mod Modes
 pub mod Pens
 pub mod Settings
 pub mod Reports
+pub mod Leaving
 pub mod Terminal
 pub mod Picture
 pub mod Stands

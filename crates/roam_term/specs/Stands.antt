@@ -1,14 +1,16 @@
 -- What a terminal stands for.
 use Rattle.std.specs.Prelude.{◌≡◌, ℕ, ◌+◌, ◌*◌, ◌≤◌, List, ◌++◌, map, length}
 use Rattle.roam_cells.specs.Limits.{IsSize}
+use Rattle.roam_history.specs.Histories.{Scrollback}
 use Rattle.roam_text.specs.Log.{Item, Byte}
 use Rattle.roam_text.specs.Stands.{Stands, View}
 use Rattle.roam_term.specs.Terminal.{Live, term, reports}
 
--- what contracts see of a terminal: its reader, what lives, and the answered bytes that wait
+-- what contracts see of a terminal: its reader, what lives, the history, and the answered bytes that wait
 pub record TermView : Type 0 where
   pub reader : View
   pub live : Live
+  pub history : Scrollback
   pub waiting : List ℕ
 
 -- the sizes and the numbers of lines that a terminal may have
@@ -20,6 +22,7 @@ pub record IsTermSize (rows cols lines : ℕ) : Type 0 where
 pub record Shows (t : TermView) (rows cols lines : ℕ) (log : List Item) : Type 0 where
   pub reads : Stands t.reader log
   pub live : t.live ≡ (term rows cols lines log).live
+  pub history : t.history ≡ (term rows cols lines log).history
 
 -- a piece is accepted: it is short, and each of its bytes has 12 free bytes in the queue
 pub record IsAccepted (waiting piece : List ℕ) : Type 0 where

@@ -1,17 +1,21 @@
 -- The state of a terminal, and what one function makes of it.
-use Rattle.std.specs.Prelude.{ℕ, ◌-◌, ◌*◌, ◌==◌, ◌++◌, ◌&&◌, ◌||◌, not, Bool, false, unwrap_or, if◌then◌else◌, List, [], ◌∷◌, length, drop, fold, replicate, Option, Some, None}
+use Rattle.std.specs.Prelude.{ℕ, ◌-◌, ◌*◌, ◌==◌, ◌++◌, ◌&&◌, ◌||◌, not, Bool, false, unwrap_or, if◌then◌else◌, List, [], ◌∷◌, length, fold, replicate, Option, Some, None}
 use Rattle.roam_cells.specs.Glyph.{Glyph, blank}
 use Rattle.roam_cells.specs.Width.{width_of}
 use Rattle.roam_charset.specs.Charsets.{mapped_by}
 use Rattle.roam_charset.specs.Sets.{started as started_sets, in_use, spent}
 use Rattle.roam_charset.specs.declared.sets.Sets.{Sets as GraphicSets}
 use Rattle.roam_text.specs.declared.functions.Function.{Function}
+use Rattle.roam_text.specs.declared.functions.Function.TheVariants.{Print, C0, C1, Esc, Csi, Size}
 use Rattle.roam_text.specs.Log.{Item}
 use Rattle.roam_text.specs.Functions.{functions_of}
 use Rattle.roam_grid.specs.Screen.{Screen, start}
 use Rattle.roam_grid.specs.Writing.{put_on, put_all, joined_on}
 use Rattle.roam_grid.specs.Cursor.{restored}
-use Rattle.roam_grid.specs.Frames.{restarted, all_blank}
+use Rattle.roam_grid.specs.Frames.{restarted, all_blank, leaving, resized}
+use Rattle.roam_rows.specs.Sizing.{sized}
+use Rattle.roam_history.specs.Histories.{Scrollback, empty, keeping}
+use Rattle.roam_history.specs.Fitting.{refitted}
 use Rattle.roam_grid.specs.Scrolling.{with_margins}
 use Rattle.roam_grid.specs.Tabbing.{stop_set, stop_cleared, stops_cleared}
 use Rattle.roam_grid.specs.declared.writing.Writing.{Writing}
@@ -25,6 +29,7 @@ use Rattle.roam_term.specs.declared.pens.Saved.{Saved}
 use Rattle.roam_controls.specs.Commands.{command_of, parameters_of, forgets}
 use Rattle.roam_term.specs.Edits.{edited_by}
 use Rattle.roam_term.specs.Erasures.{erased_by}
+use Rattle.roam_term.specs.Leaving.{top_rows, left_by_put, left_by_puts, left_by_motion, left_by_edit}
 use Rattle.roam_term.specs.Modes.{started_modes, with_mode, with_private_mode, soft_reset_modes}
 use Rattle.roam_term.specs.Motions.{moved_by}
 use Rattle.roam_term.specs.Pens.{plain_pen, nothing_saved}
@@ -49,10 +54,10 @@ pub record Live : Type 0 where
   -- the character that REP repeats
   pub printed : Option ℕ
 
--- the state of a terminal: what lives, the rows that left at the top, the oldest first, and all bytes answered
+-- the state of a terminal: what lives, the last rows that left at the top, and all bytes answered
 pub record Terminal : Type 0 where
   pub live : Live
-  pub history : List (List Glyph)
+  pub history : Scrollback
   pub answers : List ℕ
 
 -- ---- printing
@@ -232,35 +237,107 @@ answered_by (Shifts shift) s = []
 answered_by (Sets setting) s = []
 answered_by (Repeats n) s = []
 
+-- ---- another size
+
+-- another size of the screen that is shown, after rows have left at its top so that the cursor's row stays; the other one is cut or padded at
+-- the bottom and the right (this project's profile)
+abbrev pub sized_to : ℕ → ℕ → Live → Live
+sized_to rows cols s =
+    record s {
+      screen = resized rows cols (leaving rows s.screen) (record { screen = s.screen; first = 0 });
+      other = (sized rows cols 0 (record { rows = s.screen.rows; cols = s.screen.cols; cells = s.other; first = 0 })).cells;
+      printed = None;
+    }
+
+-- ---- the rows that leave for the history
+
+-- those of the main screen alone
+abbrev pub on_main : Bool → List (List Glyph) → List (List Glyph)
+on_main alternate rows = if alternate then [] else rows
+
+-- a character as its set has it
+abbrev pub left_by_character : ℕ → Live → List (List Glyph)
+left_by_character c s = if width_of c == 0 then [] else left_by_put (glyph_in c s.pen) (writing_under s.modes) s.screen
+
+-- REP
+abbrev pub left_by_repeat : ℕ → Option ℕ → Live → List (List Glyph)
+left_by_repeat n None s = []
+left_by_repeat n (Some c) s =
+    if width_of c == 0 then []
+    else left_by_puts (replicate n (glyph_in c s.pen)) (writing_under s.modes) s.screen
+
+-- the rows that a command makes leave the screen that is shown
+abbrev pub left_by : Command → Live → List (List Glyph)
+left_by (Prints c) s = left_by_character (mapped_by (in_use s.sets) c) s
+left_by (Moves motion) s = left_by_motion motion s.screen
+left_by (Edits edit) s = left_by_edit edit s.screen
+left_by (Repeats n) s = left_by_repeat n s.printed s
+left_by Nothing s = []
+left_by (Erases erasure) s = []
+left_by (Shifts shift) s = []
+left_by (Sets setting) s = []
+left_by (Reports report) s = []
+
 -- ---- one function, and all of them
 
+-- what a command makes of what lives
+abbrev pub commanded : Command → List ℕ → Live → Live
+commanded command params s = remembering (forgets command) (performed command params s)
+
+-- what a function makes of what lives
 unfoldable pub changed : Function → Live → Live
-changed f s = remembering (forgets (command_of f)) (performed (command_of f) (parameters_of f) s)
+changed (Size rows cols) s = sized_to rows cols s
+changed (Print c) s = commanded (command_of (Print c)) (parameters_of (Print c)) s
+changed (C0 b) s = commanded (command_of (C0 b)) (parameters_of (C0 b)) s
+changed (C1 b) s = commanded (command_of (C1 b)) (parameters_of (C1 b)) s
+changed (Esc inter b) s = commanded (command_of (Esc inter b)) (parameters_of (Esc inter b)) s
+changed (Csi marker params inter b) s = commanded (command_of (Csi marker params inter b)) (parameters_of (Csi marker params inter b)) s
 
 -- what a function answers, on the state before it
 unfoldable pub answer : Function → Live → List ℕ
 answer f s = answered_by (command_of f) s
 
--- the rows that a function makes leave for the history: no row is kept
+-- the rows that a function makes leave for the history, the oldest first, on the state before it
 unfoldable pub left : Function → Live → List (List Glyph)
-left f s = []
+left (Size rows cols) s = on_main s.alternate (top_rows (leaving rows s.screen) s.screen)
+left (Print c) s = on_main s.alternate (left_by (command_of (Print c)) s)
+left (C0 b) s = on_main s.alternate (left_by (command_of (C0 b)) s)
+left (C1 b) s = on_main s.alternate (left_by (command_of (C1 b)) s)
+left (Esc inter b) s = on_main s.alternate (left_by (command_of (Esc inter b)) s)
+left (Csi marker params inter b) s = on_main s.alternate (left_by (command_of (Csi marker params inter b)) s)
 
--- the last rows, at most so many
-abbrev pub last_of : ℕ → List (List Glyph) → List (List Glyph)
-last_of lines rows = drop (length rows - lines) rows
+-- rows come in as the newest, and the last are kept
+abbrev pub with_rows : List (List Glyph) → Scrollback → Scrollback
+with_rows rows h = keeping h.lines h.cols (h.rows ++ rows)
 
-abbrev pub after : ℕ → Function → Terminal → Terminal
-after lines f t =
-    record { live = changed f t.live; history = last_of lines (t.history ++ left f t.live); answers = t.answers ++ answer f t.live }
+-- a size brings the kept rows to its columns
+abbrev pub fitted_by : Function → Scrollback → Scrollback
+fitted_by (Size rows cols) h = refitted cols h
+fitted_by (Print c) h = h
+fitted_by (C0 b) h = h
+fitted_by (C1 b) h = h
+fitted_by (Esc inter b) h = h
+fitted_by (Csi marker params inter b) h = h
 
-abbrev pub run : ℕ → Terminal → List Function → Terminal
-run lines t [] = t
-run lines t (f ∷ fs) = run lines (after lines f t) fs
+-- the history after a function, of the state before it
+unfoldable pub kept : Function → Live → Scrollback → Scrollback
+kept f s h = fitted_by f (with_rows (left f s) h)
 
--- what functions one after another make of what lives, and what they answer
+abbrev pub after : Function → Terminal → Terminal
+after f t = record { live = changed f t.live; history = kept f t.live t.history; answers = t.answers ++ answer f t.live }
+
+abbrev pub run : Terminal → List Function → Terminal
+run t [] = t
+run t (f ∷ fs) = run (after f t) fs
+
+-- what functions one after another make of what lives and of the history, and what they answer
 abbrev pub lived : Live → List Function → Live
 lived l [] = l
 lived l (f ∷ fs) = lived (changed f l) fs
+
+abbrev pub kept_by : Live → List Function → Scrollback → Scrollback
+kept_by l [] h = h
+kept_by l (f ∷ fs) h = kept_by (changed f l) fs (kept f l h)
 
 abbrev pub answered : Live → List Function → List ℕ
 answered l [] = []
@@ -282,12 +359,12 @@ started_live rows cols =
       printed = None;
     }
 
-abbrev pub started : ℕ → ℕ → Terminal
-started rows cols = record { live = started_live rows cols; history = []; answers = [] }
+abbrev pub started : ℕ → ℕ → ℕ → Terminal
+started rows cols lines = record { live = started_live rows cols; history = empty lines cols; answers = [] }
 
 -- the terminal that a log makes, of a size and with so many lines of history
 unfoldable pub term : ℕ → ℕ → ℕ → List Item → Terminal
-term rows cols lines log = run lines (started rows cols) (functions_of log)
+term rows cols lines log = run (started rows cols lines) (functions_of log)
 
 -- all that was answered to a log
 unfoldable pub reports : ℕ → ℕ → ℕ → List Item → List ℕ

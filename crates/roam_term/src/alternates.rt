@@ -1,5 +1,6 @@
 //! The main and the alternate screen.
 ghost use Rattle.std.specs.Prelude.{◌≡◌};
+ghost use Rattle.roam_grid.specs.Screen.{IsSameSize};
 ghost use Rattle.roam_term.specs.Terminal.{is_alternate_mode, switched, blanked, alternate_shown, main_shown, screen_chosen};
 
 use crate::canvases::Canvas;
@@ -16,6 +17,7 @@ impl Canvas {
     // Shows the screen that wasn't shown; cursor, margins and tab stops stay, and no wrap pends.
     fn switch(&mut self)
         ensures switched { self.new ≡ switched self.old }
+        ensures size { IsSameSize self.old.screen self.new.screen }
     {
         mem::swap(&mut self.grid, &mut self.other);
         self.grid.take_frame(&self.other);
@@ -24,6 +26,7 @@ impl Canvas {
 
     fn show_alternate(&mut self, number: u16)
         ensures shown { self.new ≡ alternate_shown number self.old }
+        ensures size { IsSameSize self.old.screen self.new.screen }
     {
         if number == 1049 {
             self.save();
@@ -36,6 +39,7 @@ impl Canvas {
 
     fn show_main(&mut self, number: u16)
         ensures shown { self.new ≡ main_shown number self.old }
+        ensures size { IsSameSize self.old.screen self.new.screen }
     {
         match number {
             1047 => {
@@ -53,6 +57,7 @@ impl Canvas {
     /// Shows the alternate or the main screen, by a mode that chooses it; where that one is shown already, nothing happens.
     pub fn choose_screen(&mut self, alternate: bool, number: u16)
         ensures chosen { self.new ≡ screen_chosen alternate number self.old }
+        ensures size { IsSameSize self.old.screen self.new.screen }
     {
         if alternate && !self.alternate {
             self.show_alternate(number);

@@ -1,17 +1,19 @@
 //! What lives of a terminal: its screens, its pen, its modes, its sets.
-ghost use Rattle.std.specs.Prelude.{◌≡◌, ◌≤◌, ◌<◌, ◌+◌, ◌++◌, ◌↔◌, IfOk, IfErr, None, Some, IsTrue, length, fold, replicate, false};
-ghost use Rattle.roam_cells.specs.Glyph.{is_right_half};
+ghost use Rattle.std.specs.Prelude.{◌≡◌, ◌≤◌, ◌<◌, ◌+◌, ◌++◌, ◌↔◌, IfOk, IfErr, None, Some, IsTrue, length, fold, map};
 ghost use Rattle.roam_cells.specs.Limits.{IsSize};
-ghost use Rattle.roam_charset.specs.Sets.{set_in};
+ghost use Rattle.roam_charset.specs.Charsets.{mapped_by};
+ghost use Rattle.roam_charset.specs.Sets.{set_in, in_use};
 ghost use Rattle.roam_grid.specs.Screen.{IsSameSize, IsScreen};
-ghost use Rattle.roam_grid.specs.Writing.{put_all};
 ghost use Rattle.roam_text.specs.Functions.{ArePlain};
-ghost use Rattle.roam_controls.specs.Commands.{forgets};
-ghost use Rattle.roam_term.specs.Terminal.{printed_on, printed_all, mode_set, private_mode_set, kept_of, saved_on, restored_to, soft_reset, reset, repeated, set_by, performed, remembering, answered_by, started_live, writing_under};
+ghost use Rattle.roam_text.specs.declared.functions.Function.{Function};
+ghost use Rattle.roam_term.specs.Terminal.{printed_on, printed_all, mode_set, private_mode_set, kept_of, saved_on, restored_to, soft_reset, reset, repeated, set_by, performed, commanded, answered_by, started_live, writing_under, on_main, with_rows, left_by, left_by_character, left_by_repeat, kept_by};
 
 use crate::alternates::is_alternate_mode;
 use crate::edits::edit_by;
 use crate::erasures::erase_by;
+use crate::leaving::{
+    leave_by_edit, leave_by_motion, leave_by_put, put_run, put_times, stays, take_top_rows,
+};
 use crate::modes::Modes;
 use crate::motions::move_by;
 use crate::outputs::Output;
@@ -23,6 +25,7 @@ use roam_cells::{Cell, Fault};
 use roam_charset::{Charset, Sets};
 use roam_controls::{Command, Setting, restyled};
 use roam_grid::{Grid, Writing};
+use roam_history::History;
 use std::alloc::Global;
 use std::marker::Model;
 
@@ -63,17 +66,6 @@ fn writing_under(modes: Modes) -> Writing
     }
 }
 
-// Writes a cell so many times.
-fn put_times(grid: &mut Grid, cell: Cell, n: u16, writing: Writing)
-    requires no_half { is_right_half cell ≡ false }
-    ensures screen { grid.new.screen ≡ put_all (replicate n cell) writing grid.old.screen }
-    ensures size { IsSameSize grid.old.screen grid.new.screen }
-{
-    for _ in 0..n {
-        grid.put(cell, writing);
-    }
-}
-
 impl Canvas {
     /// Two blank screens, as a terminal starts; refuses want of memory.
     pub fn new(alloc: Global, rows: u16, cols: u16) -> Result<Self, Fault>
@@ -110,6 +102,13 @@ impl Canvas {
         &self.grid
     }
 
+    /// Whether the alternate screen is shown.
+    pub fn is_alternate(&self) -> bool
+        ensures alternate { result ≡ self.now.alternate }
+    {
+        self.alternate
+    }
+
     /// The modes.
     pub fn modes(&self) -> Modes
         ensures modes { result ≡ self.now.modes }
@@ -125,44 +124,66 @@ impl Canvas {
         self.sets.is_ascii()
     }
 
-    /// Prints a character: one of width 0 joins the cell before it.
+    /// Prints a character: one of width 0 joins the cell before it. The row that leaves comes into the history.
     #[inline]
     #[tactic(auto, unfolding(crate::specs::Terminal::printed_on))]
-    pub fn print(&mut self, c: char)
+    pub fn print(&mut self, c: char, history: &mut History)
+        requires cols { history.old.cols ≡ self.old.screen.cols }
         ensures printed { self.new ≡ printed_on c self.old }
+        ensures history { history.new ≡ with_rows (on_main self.old.alternate (left_by_character (mapped_by (in_use self.old.sets) c) self.old)) history.old }
+        ensures size { IsSameSize self.old.screen self.new.screen }
     {
         let c = self.sets.map(c);
         match Cell::of(&[c], self.pen.style, self.pen.guard) {
             Some(cell) => {
-                self.grid.put(cell, writing_under(self.modes));
+                let writing = writing_under(self.modes);
+                leave_by_put(&self.grid, cell, writing, self.alternate, history);
+                self.grid.put(cell, writing);
                 self.printed = Some(c);
             }
-            None => self.grid.join(c),
+            None => {
+                stays(history);
+                self.grid.join(c);
+            }
         }
     }
 
-    /// Prints a run of printable ASCII that shows itself.
+    /// Prints a run of printable ASCII that shows itself. The rows that leave come into the history.
     #[inline]
-    pub fn print_run(&mut self, bytes: &[u8])
+    pub fn print_run(&mut self, bytes: &[u8], history: &mut History)
         requires some { 0 < length bytes.now }
         requires plain { ArePlain bytes.now }
         requires set { set_in self.old.sets.locked self.old.sets ≡ Charset.Ascii }
         requires single { self.old.sets.single ≡ None }
+        requires cols { history.old.cols ≡ self.old.screen.cols }
         ensures printed { self.new ≡ printed_all self.old bytes.now }
+        ensures history { history.new ≡ kept_by self.old (map Function.Print bytes.now) history.old }
+        ensures cols { history.new.cols ≡ history.old.cols }
+        ensures size { IsSameSize self.old.screen self.new.screen }
     {
+        history.facts();
         let pen = Cell::ascii(b' ', self.pen.style, self.pen.guard);
-        self.grid.put_run(pen, bytes, writing_under(self.modes));
+        put_run(
+            &mut self.grid,
+            pen,
+            bytes,
+            writing_under(self.modes),
+            self.alternate,
+            history,
+        );
         self.printed = Some(bytes[bytes.len() - 1] as char);
     }
 
     fn set_mode(&mut self, on: bool, number: u16)
         ensures set { self.new ≡ mode_set on self.old number }
+        ensures size { IsSameSize self.old.screen self.new.screen }
     {
         self.modes.set(on, number);
     }
 
     fn set_modes(&mut self, on: bool, numbers: &[u16])
         ensures set { self.new ≡ fold (mode_set on) self.old numbers.now }
+        ensures size { IsSameSize self.old.screen self.new.screen }
     {
         for number in numbers {
             self.set_mode(on, *number);
@@ -171,6 +192,7 @@ impl Canvas {
 
     fn set_private_mode(&mut self, on: bool, number: u16)
         ensures set { self.new ≡ private_mode_set on self.old number }
+        ensures size { IsSameSize self.old.screen self.new.screen }
     {
         if is_alternate_mode(number) {
             self.choose_screen(on, number);
@@ -182,6 +204,7 @@ impl Canvas {
 
     fn set_private_modes(&mut self, on: bool, numbers: &[u16])
         ensures set { self.new ≡ fold (private_mode_set on) self.old numbers.now }
+        ensures size { IsSameSize self.old.screen self.new.screen }
     {
         for number in numbers {
             self.set_private_mode(on, *number);
@@ -206,6 +229,7 @@ impl Canvas {
     // DECSC
     pub(crate) fn save(&mut self)
         ensures saved { self.new ≡ saved_on self.old }
+        ensures size { IsSameSize self.old.screen self.new.screen }
     {
         let (row, col) = self.grid.cursor();
         let kept = Saved {
@@ -226,6 +250,7 @@ impl Canvas {
     // DECRC
     pub(crate) fn restore(&mut self)
         ensures restored { self.new ≡ restored_to (kept_of self.old) self.old }
+        ensures size { IsSameSize self.old.screen self.new.screen }
     {
         let kept = self.kept();
         self.grid
@@ -238,6 +263,7 @@ impl Canvas {
     // DECSTR
     fn soft_reset(&mut self)
         ensures reset { self.new ≡ soft_reset self.old }
+        ensures size { IsSameSize self.old.screen self.new.screen }
     {
         self.grid.facts();
         let bottom = self.grid.rows() - 1;
@@ -252,6 +278,7 @@ impl Canvas {
     // RIS
     fn reset(&mut self)
         ensures reset { self.new ≡ reset self.old }
+        ensures size { IsSameSize self.old.screen self.new.screen }
     {
         self.grid.restart();
         self.other.facts();
@@ -266,18 +293,24 @@ impl Canvas {
     }
 
     // REP
-    fn repeat(&mut self, n: u16)
+    fn repeat(&mut self, n: u16, history: &mut History)
+        requires cols { history.old.cols ≡ self.old.screen.cols }
         ensures repeated { self.new ≡ repeated n self.old.printed self.old }
+        ensures history { history.new ≡ with_rows (on_main self.old.alternate (left_by_repeat n self.old.printed self.old)) history.old }
+        ensures size { IsSameSize self.old.screen self.new.screen }
     {
+        stays(history);
         if let Some(c) = self.printed {
             if let Some(cell) = Cell::of(&[c], self.pen.style, self.pen.guard) {
-                put_times(&mut self.grid, cell, n, writing_under(self.modes));
+                let writing = writing_under(self.modes);
+                put_times(&mut self.grid, cell, n, writing, self.alternate, history);
             }
         }
     }
 
     fn set(&mut self, setting: Setting, params: &[u16])
         ensures set { self.new ≡ set_by setting params.now self.old }
+        ensures size { IsSameSize self.old.screen self.new.screen }
     {
         match setting {
             Setting::Mode(on) => self.set_modes(on, params),
@@ -299,27 +332,40 @@ impl Canvas {
     }
 
     // Does what a command asks for, but for what REP remembers.
-    fn act(&mut self, command: Command, params: &[u16])
+    fn act(&mut self, command: Command, params: &[u16], history: &mut History)
+        requires cols { history.old.cols ≡ self.old.screen.cols }
         ensures performed { self.new ≡ performed command params.now self.old }
+        ensures history { history.new ≡ with_rows (on_main self.old.alternate (left_by command self.old)) history.old }
+        ensures size { IsSameSize self.old.screen self.new.screen }
     {
+        stays(history);
         match command {
             Command::Nothing => {}
-            Command::Prints(c) => self.print(c),
-            Command::Moves(motion) => move_by(&mut self.grid, motion, self.modes),
+            Command::Prints(c) => self.print(c, history),
+            Command::Moves(motion) => {
+                leave_by_motion(&self.grid, motion, self.alternate, history);
+                move_by(&mut self.grid, motion, self.modes);
+            }
             Command::Erases(erasure) => erase_by(&mut self.grid, erasure),
-            Command::Edits(edit) => edit_by(&mut self.grid, edit),
+            Command::Edits(edit) => {
+                leave_by_edit(&self.grid, edit, self.alternate, history);
+                edit_by(&mut self.grid, edit);
+            }
             Command::Shifts(shift) => shift_by(&mut self.sets, shift),
             Command::Sets(setting) => self.set(setting, params),
             Command::Reports(_) => {}
-            Command::Repeats(n) => self.repeat(n),
+            Command::Repeats(n) => self.repeat(n, history),
         }
     }
 
-    /// Does what a command asks for, whose parameters are lent. It takes no memory.
-    pub fn perform(&mut self, command: Command, params: &[u16])
-        ensures performed { self.new ≡ remembering (forgets command) (performed command params.now self.old) }
+    /// Does what a command asks for, whose parameters are lent; the rows that leave come into the history. It takes no memory.
+    pub fn perform(&mut self, command: Command, params: &[u16], history: &mut History)
+        requires cols { history.old.cols ≡ self.old.screen.cols }
+        ensures performed { self.new ≡ commanded command params.now self.old }
+        ensures history { history.new ≡ with_rows (on_main self.old.alternate (left_by command self.old)) history.old }
+        ensures size { IsSameSize self.old.screen self.new.screen }
     {
-        self.act(command, params);
+        self.act(command, params, history);
         if command.forgets() {
             self.printed = None;
         }

@@ -10,6 +10,8 @@ mod alternates;
 mod canvases;
 mod edits;
 mod erasures;
+pub mod laws;
+mod leaving;
 mod modes;
 mod motions;
 mod outputs;

@@ -1,10 +1,13 @@
 //! A terminal's screen as it is shown.
-ghost use Rattle.std.specs.Prelude.{◌≡◌, ◌++◌, map, IfOk, IsOkUnless};
-ghost use Rattle.roam_term.specs.Picture.{shown, shown_style, picture_alone};
+ghost use Rattle.std.specs.Prelude.{◌≡◌, ◌≤◌, ◌<◌, ◌+◌, ◌*◌, ◌++◌, List, [], slice_index_or, map, take, drop, length, IfOk, IsOkUnless};
+ghost use Rattle.std.specs.List.{flat_map};
+ghost use Rattle.roam_cells.specs.Glyph.{Glyph};
+ghost use Rattle.roam_term.specs.Picture.{shown, shown_style, rows_in_view, cells_in_view, picture_of};
 
 use crate::canvases::Canvas;
 use roam_cells::{Cell, Fault, Shot, Style};
 use roam_grid::Grid;
+use roam_history::History;
 use std::alloc::{AllocError, Global};
 
 // A style with its reverse flag turned where the whole screen is reversed.
@@ -45,33 +48,101 @@ fn show_row(cells: &mut Vec<Cell>, row: &[Cell], reversed: bool) -> Result<(), A
     Ok(())
 }
 
-// The cells of a screen as they are shown, in reading order.
-fn shown_cells(alloc: Global, grid: &Grid, reversed: bool) -> Result<Vec<Cell>, AllocError>
-    ensures cells { IfOk result (λ v. v.items ≡ map (shown reversed) grid.now.screen.cells) }
+// How many rows of the history a view shows.
+fn rows_in_view(canvas: &Canvas, history: &History, view: u16) -> usize
+    ensures rows { result ≡ rows_in_view canvas.now history.now view }
+{
+    if canvas.is_alternate() {
+        0
+    } else {
+        usize::from(view).min(history.len())
+    }
+}
+
+fn kept_row(history: &History, i: usize) -> &[Cell]
+    requires within { i < length history.now.rows }
+    ensures row { result.now ≡ slice_index_or history.now.rows i [] }
+{
+    history.row(i).unwrap()
+}
+
+// Rows of the history as they are shown, the oldest first.
+fn show_history(
+    cells: &mut Vec<Cell>,
+    history: &History,
+    from: usize,
+    count: usize,
+    reversed: bool,
+) -> Result<(), AllocError>
+    requires within { from + count ≤ length history.now.rows }
+    ensures cells { IfOk result (λ _. cells.new.items ≡ cells.old.items
+        ++ map (shown reversed) (flat_map (λ (row : List Glyph). row) (take count (drop from history.now.rows)))) }
+{
+    history.facts();
+    for i in 0..count {
+        show_row(cells, kept_row(history, from + i), reversed)?;
+    }
+    Ok(())
+}
+
+// The first rows of the screen as they are shown.
+fn show_screen(
+    cells: &mut Vec<Cell>,
+    grid: &Grid,
+    count: usize,
+    reversed: bool,
+) -> Result<(), AllocError>
+    requires within { count ≤ grid.now.screen.rows }
+    ensures cells { IfOk result (λ _. cells.new.items ≡ cells.old.items
+        ++ map (shown reversed) (take (count * grid.now.screen.cols) grid.now.screen.cells)) }
 {
     grid.facts();
-    let mut cells = Vec::with_capacity(alloc, grid.rows() * grid.cols())?;
-    for i in 0..grid.rows() {
-        show_row(&mut cells, grid.row(i), reversed)?;
+    for i in 0..count {
+        show_row(cells, grid.row(i), reversed)?;
     }
+    Ok(())
+}
+
+// The last v rows of the history, and below them the screen, as far as they fit, as they are shown.
+fn shown_cells(
+    alloc: Global,
+    canvas: &Canvas,
+    history: &History,
+    v: usize,
+) -> Result<Vec<Cell>, AllocError>
+    requires cols { history.now.cols ≡ canvas.now.screen.cols }
+    requires within { v ≤ length history.now.rows }
+    ensures cells { IfOk result (λ cells. cells.items ≡ map (shown canvas.now.modes.reverse_screen) (cells_in_view v canvas.now history.now)) }
+{
+    canvas.facts();
+    history.facts();
+    let grid = canvas.grid();
+    let reversed = canvas.modes().reverse_screen;
+    let count = grid.rows().min(v);
+    let mut cells = Vec::with_capacity(alloc, grid.rows() * grid.cols())?;
+    show_history(&mut cells, history, history.len() - v, count, reversed)?;
+    show_screen(&mut cells, grid, grid.rows() - count, reversed)?;
     Ok(cells)
 }
 
-/// The screen as it is shown; refuses want of memory.
-pub fn draw(alloc: Global, canvas: &Canvas) -> Result<Shot, Fault>
-    ensures shown { IfOk result (λ shot. shot ≡ picture_alone canvas.now) }
+/// The screen as it is shown, scrolled back by a view; refuses want of memory.
+pub fn draw(alloc: Global, canvas: &Canvas, history: &History, view: u16) -> Result<Shot, Fault>
+    requires cols { history.now.cols ≡ canvas.now.screen.cols }
+    ensures shown { IfOk result (λ shot. shot ≡ picture_of canvas.now history.now view) }
     ensures fault { IsOkUnless result Fault.OutOfMemory }
 {
     canvas.facts();
+    history.facts();
+    let v = rows_in_view(canvas, history, view);
+    let cells = shown_cells(alloc, canvas, history, v)?;
     let grid = canvas.grid();
-    let modes = canvas.modes();
-    let cells = shown_cells(alloc, grid, modes.reverse_screen)?;
     let (row, col) = grid.cursor();
+    let visible = canvas.modes().cursor_visible && row + v <= grid.rows();
     Ok(Shot::new(
         grid.rows() as u16,
         grid.cols() as u16,
         cells,
-        (row as u16, col as u16),
-        modes.cursor_visible,
+        ((row + v).min(grid.rows()) as u16, col as u16),
+        visible,
     ))
 }

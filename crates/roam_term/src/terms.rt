@@ -4,7 +4,7 @@ ghost use Rattle.roam_text.specs.Log.{Item};
 ghost use Rattle.roam_text.specs.Dispatched.{function_of, dispatched};
 ghost use Rattle.roam_controls.specs.Commands.{command_of, parameters_of};
 ghost use Rattle.roam_term.specs.Picture.{picture};
-ghost use Rattle.roam_term.specs.Terminal.{changed, answer, lived, answered, reports};
+ghost use Rattle.roam_term.specs.Terminal.{changed, kept, answer, lived, kept_by, answered};
 ghost use Rattle.roam_term.specs.Stands.{Shows, Fed, IsTermSize, IsAccepted};
 
 use crate::canvases::Canvas;
@@ -13,6 +13,7 @@ use crate::pictures::draw;
 use roam_cells::limits::is_size;
 use roam_cells::{Fault, Shot};
 use roam_controls::{Command, command_of};
+use roam_history::History;
 use roam_text::{Dispatch, Dispatched, REPLACEMENT, Reader};
 use std::alloc::Global;
 use std::marker::Model;
@@ -51,6 +52,7 @@ fn parameters_of(reader: &Reader, dispatch: Dispatch) -> &[u16]
 pub struct Term {
     reader: Reader,
     canvas: Canvas,
+    history: History,
     output: Output,
 }
 
@@ -59,16 +61,19 @@ impl Model for Term {
 
     ghost Value = { TermView };
 
-    ghost view = { λ t. record { reader = t.reader; live = t.canvas; waiting = t.output } };
+    ghost view = { λ t. record { reader = t.reader; live = t.canvas; history = t.history; waiting = t.output } };
+
+    ghost use Rattle.std.specs.Prelude.{◌≡◌};
+
+    ghost invariant = { λ t. t.history.cols ≡ t.canvas.screen.cols };
 }
 
 impl Term {
-    /// A terminal that has read nothing, of 2 to 100 rows and 4 to 250 columns, with up to 500 lines of history, of which
-    /// none is kept. Refuses another size or number of lines, and want of memory.
+    /// A terminal that has read nothing, of 2 to 100 rows and 4 to 250 columns, with up to 500 lines of history.
+    /// Refuses another size or number of lines, and want of memory.
     pub fn new(alloc: Global, rows: u16, cols: u16, lines: u16) -> Result<Self, Fault>
         ensures stands { IfOk result (λ t. Shows t rows cols lines []) }
         ensures waiting { IfOk result (λ t. t.waiting ≡ []) }
-        ensures silent { IfOk result (λ _. (r c l : ℕ) → reports r c l [] ≡ []) }
         ensures size { OnOk result (IsTermSize rows cols lines) }
         ensures bad_size { IsErrOf result Fault.BadSize ↔ (¬ IsTermSize rows cols lines) }
         ensures faults { IfErr result (λ e. (e ≡ Fault.BadSize) ⊎ (e ≡ Fault.OutOfMemory)) }
@@ -77,10 +82,12 @@ impl Term {
             return Err(Fault::BadSize);
         }
         let canvas = Canvas::new(alloc, rows, cols)?;
+        let history = History::new(alloc, usize::from(lines), usize::from(cols))?;
         let output = Output::new(alloc)?;
         Ok(Term {
             reader: Reader::new(),
             canvas,
+            history,
             output,
         })
     }
@@ -90,20 +97,22 @@ impl Term {
     fn perform(&mut self, dispatch: Dispatch)
         requires room { length self.old.waiting + MOST_ANSWER ≤ MOST_OUTPUT }
         ensures live { self.new.live ≡ changed (function_of dispatch self.old.reader.parameters self.old.reader.intermediates) self.old.live }
+        ensures history { self.new.history ≡ kept (function_of dispatch self.old.reader.parameters self.old.reader.intermediates) self.old.live self.old.history }
         ensures waiting { self.new.waiting ≡ self.old.waiting ++ answer (function_of dispatch self.old.reader.parameters self.old.reader.intermediates) self.old.live }
         ensures short { length self.new.waiting ≤ length self.old.waiting + MOST_ANSWER }
         ensures reader { self.new.reader ≡ self.old.reader }
     {
         let command = requested(&self.reader, dispatch);
         self.canvas.answer(command, &mut self.output);
-        self.canvas
-            .perform(command, parameters_of(&self.reader, dispatch));
+        let params = parameters_of(&self.reader, dispatch);
+        self.canvas.perform(command, params, &mut self.history);
     }
 
     #[inline]
     fn take_in(&mut self, step: Dispatched)
         requires room { length self.old.waiting + MOST_ANSWER ≤ MOST_OUTPUT }
         ensures live { self.new.live ≡ lived self.old.live (dispatched step self.old.reader.parameters self.old.reader.intermediates) }
+        ensures history { self.new.history ≡ kept_by self.old.live (dispatched step self.old.reader.parameters self.old.reader.intermediates) self.old.history }
         ensures waiting { self.new.waiting ≡ self.old.waiting ++ answered self.old.live (dispatched step self.old.reader.parameters self.old.reader.intermediates) }
         ensures short { length self.new.waiting ≤ length self.old.waiting + MOST_ANSWER }
         ensures reader { self.new.reader ≡ self.old.reader }
@@ -112,7 +121,7 @@ impl Term {
             Dispatched::Nothing => {}
             Dispatched::One(dispatch) => self.perform(dispatch),
             Dispatched::AfterReplacement(dispatch) => {
-                self.canvas.print(REPLACEMENT);
+                self.canvas.print(REPLACEMENT, &mut self.history);
                 self.perform(dispatch);
             }
         }
@@ -142,7 +151,7 @@ impl Term {
         if count == 0 {
             return 0;
         }
-        self.canvas.print_run(&piece[..count]);
+        self.canvas.print_run(&piece[..count], &mut self.history);
         count
     }
 
@@ -155,7 +164,7 @@ impl Term {
     {
         match self.reader.whole_character(piece) {
             Some((c, size)) => {
-                self.canvas.print(c);
+                self.canvas.print(c, &mut self.history);
                 size
             }
             None => 0,
@@ -241,14 +250,13 @@ impl Term {
         self.output.drop_front(n);
     }
 
-    /// The screen as it is shown, scrolled back by up to `view` rows of the history; while none is kept, every view shows the
-    /// screen alone. Refuses want of memory.
+    /// The screen as it is shown, scrolled back by up to `view` rows of the history; the alternate screen isn't scrolled back. Refuses
+    /// want of memory.
     pub fn shot(&self, alloc: Global, view: u16) -> Result<Shot, Fault>
         ensures picture { IfOk result (λ shot. (rows cols lines : ℕ) (log : List Item) → Shows self.now rows cols lines log → shot ≡ picture rows cols lines log view) }
         ensures fault { IsOkUnless result Fault.OutOfMemory }
     {
-        self.canvas.facts();
-        let shot = draw(alloc, &self.canvas)?;
+        let shot = draw(alloc, &self.canvas, &self.history, view)?;
         Ok(shot)
     }
 }

@@ -1,24 +1,37 @@
-use Rattle.std.proofs.Common.{◌≤◌, ◌++◌, ◌*◌, map, take, take_all, ap, ◌∙◌, arith}
-use Rattle.std.proofs.Math.Nat.{mul-le-mul_right}
+use Rattle.std.proofs.Common.{◌≡◌, Bool, ◌*◌, ◌-◌, ◌++◌, map, min, take, drop, length, ap, ◌∙◌, subst}
+use Rattle.std.specs.Prelude.{All}
+use Rattle.roam_grid.specs.Screen.{Screen}
+use Rattle.roam_history.specs.Histories.{IsRow}
+use Rattle.roam_term.specs.declared.modes.Modes.{Modes}
 use Rattle.roam_term.specs.Picture.{shown}
-use Rattle.roam_term.proofs.Showing.{rows-more}
+use Rattle.roam_term.proofs.Views.{flat}
+use Rattle.roam_term.proofs.Showing.{view_parts}
 use Rattle.roam_term.proofs.pictures.shown_cells.Goals as goal
-
-pub loop-i-preserved : goal.loop-i-preserved
-loop-i-preserved c =
-    let screen = c.args.grid.now.screen in
-    let show = map (shown c.args.reversed) in
-    c.in_ok-show_row.ensures.cells
-    ∙ ap (λ cells. cells ++ show c.row.result.now) c.loop-i.invariant
-    ∙ ap (λ row. show (take (c.loop-i.i * screen.cols) screen.cells) ++ show row) c.row.ensures.row
-    ∙ rows-more c.args.reversed screen.cells c.loop-i.i screen.cols
 
 pub returns : goal.returns
 returns c =
-    let screen = c.args.grid.now.screen in
-    let rows : screen.rows ≤ c.loop-i.i = omega (arith, c.loop-i-test.false, c.rows-i-end.ensures.rows) in
+    let l = c.args.canvas.now in
+    let h = c.args.history.now in
+    let v = c.args.v in
+    let each : All (IsRow l.screen.cols) h.rows = subst (λ n. All (IsRow n) h.rows) c.requires.cols c.facts-2.ensures.scrollback.each in
+    let count = c.min-count.result in
+    let left = c.rows-3.result - count in
+    let rows = drop (length h.rows - v) h.rows in
+    let screen_rows : c.grid-grid.result.now.screen.rows ≡ l.screen.rows = ap (λ (s : Screen). s.rows) c.grid-grid.ensures.screen in
+    let count_is : count ≡ min l.screen.rows v = c.min-count.ensures ∙ ap (λ n. min n v) (c.rows.ensures.rows ∙ screen_rows) in
+    let left_is : left ≡ l.screen.rows - min l.screen.rows v = ap (λ n. n - count) (c.rows-3.ensures.rows ∙ screen_rows) ∙ ap (λ n. l.screen.rows - n) count_is in
+    let history : c.show_history.new.cells.items ≡ map (shown c.modes-reversed.result.reverse_screen) (flat (take count rows)) =
+    c.in_ok-show_history.ensures.cells
+    ∙ ap (λ before. before ++ map (shown c.modes-reversed.result.reverse_screen) (flat (take count (drop (c.len.result - v) h.rows)))) c.in_ok-cells.ensures.items
+    ∙ ap (λ n. map (shown c.modes-reversed.result.reverse_screen) (flat (take count (drop (n - v) h.rows)))) c.len.ensures.len in
     record {
       cells =
-          c.loop-i.invariant
-          ∙ ap (map (shown c.args.reversed)) (take_all (c.loop-i.i * screen.cols) screen.cells (omega (arith, mul-le-mul_right screen.cols rows, c.facts.ensures.screen.size)));
+          c.in_ok-show_screen.ensures.cells
+          ∙ ap (λ front. front ++ map (shown c.modes-reversed.result.reverse_screen) (take (left * c.grid-grid.result.now.screen.cols) c.grid-grid.result.now.screen.cells)) history
+          ∙ ap (λ (b : Bool). map (shown b) (flat (take count rows)) ++ map (shown b) (take (left * c.grid-grid.result.now.screen.cols) c.grid-grid.result.now.screen.cells))
+          (ap (λ (m : Modes). m.reverse_screen) c.modes-reversed.ensures.modes)
+          ∙ ap (λ (s : Screen). map (shown l.modes.reverse_screen) (flat (take count rows)) ++ map (shown l.modes.reverse_screen) (take (left * s.cols) s.cells)) c.grid-grid.ensures.screen
+          ∙ ap (λ n. map (shown l.modes.reverse_screen) (flat (take n rows)) ++ map (shown l.modes.reverse_screen) (take (left * l.screen.cols) l.screen.cells)) count_is
+          ∙ ap (λ n. map (shown l.modes.reverse_screen) (flat (take (min l.screen.rows v) rows)) ++ map (shown l.modes.reverse_screen) (take (n * l.screen.cols) l.screen.cells)) left_is
+          ∙ view_parts l.modes.reverse_screen l.screen.cols l.screen.rows v h.rows l.screen.cells each c.requires.within;
     }

@@ -1,11 +1,17 @@
 use Rattle.std.proofs.Common.{[], ◌∷◌, map, ◌∙◌, sym, ap}
 use Rattle.roam_cells.specs.Glyph.{ascii_in}
 use Rattle.roam_grid.specs.Writing.{put_all}
-use Rattle.roam_term.proofs.Prints.{plain_at, printed-run, last_printed-is}
+use Rattle.roam_history.specs.Histories.{Scrollback}
+use Rattle.roam_term.specs.Leaving.{left_by_puts}
+use Rattle.roam_term.specs.Terminal.{Live, glyph_in, writing_under, on_main, with_rows}
+use Rattle.roam_term.proofs.Prints.{plain_at, printed-run, last_printed-is, kept-run}
 use Rattle.roam_term.proofs.canvases.Canvas.print_run.Goals as goal
 
 pub put_run-requires : goal.put_run-requires
-put_run-requires c = record { printable = λ k h. plain_at c.args.bytes.now k c.requires.plain h }
+put_run-requires c = record {
+  printable = λ k h. plain_at c.args.bytes.now k c.requires.plain h;
+  cols = c.requires.cols ∙ ap (λ (l : Live). l.screen.cols) (sym c.self.view_is);
+}
 
 pub returns : goal.returns
 returns c =
@@ -29,4 +35,13 @@ returns c =
             printed = sym (last_printed-is was.printed bytes c.requires.some) i;
           })
           ∙ sym (printed-run c.args.self.now bytes c.requires.plain c.requires.set c.requires.single);
+      history =
+          c.put_run.ensures.history
+          ∙ ap (λ pen. with_rows (on_main was.alternate (left_by_puts (map (λ b. ascii_in b pen) bytes) c.writing_under.result was.grid.screen)) c.args.history.now) c.ascii-pen.ensures.cell
+          ∙ ap (λ w. with_rows (on_main was.alternate (left_by_puts (map (λ b. ascii_in b (record { points = 32 ∷ []; style = was.pen.style; guarded = was.pen.guard })) bytes) w was.grid.screen)) c.args.history.now)
+          c.writing_under.ensures.writing
+          ∙ ap (λ (l : Live). with_rows (on_main l.alternate (left_by_puts (map (λ b. glyph_in b l.pen) bytes) (writing_under l.modes) l.screen)) c.args.history.now) c.self.view_is
+          ∙ sym (kept-run c.args.self.now bytes c.args.history.now c.requires.plain c.requires.set c.requires.single c.facts.ensures.scrollback.few);
+      cols = ap (λ (h : Scrollback). h.cols) c.put_run.ensures.history;
+      size = rw (← c.self.view_is) (record { rows = c.put_run.ensures.size.rows; cols = c.put_run.ensures.size.cols });
     }

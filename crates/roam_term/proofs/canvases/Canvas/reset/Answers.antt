@@ -29,4 +29,5 @@ returns c =
           ∙ ap (λ x. with_all (restarted f.grid.screen) (replicate (length f.other.screen.cells) blank) x m g) c.new-self-inside.ensures.pen
           ∙ ap (λ x. with_all (restarted f.grid.screen) (replicate (length f.other.screen.cells) blank) plain_pen x g) c.new-self-inside-2.ensures.modes
           ∙ ap (λ x. with_all (restarted f.grid.screen) (replicate (length f.other.screen.cells) blank) plain_pen started_modes x) c.new-self-inside-3.ensures.started);
+      size = rw (← c.self.view_is) (record { rows = c.restart.ensures.size.rows; cols = c.restart.ensures.size.cols });
     }

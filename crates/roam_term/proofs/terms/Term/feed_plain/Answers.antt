@@ -16,4 +16,5 @@ returns-clause-fed c =
     rw (← c.self.view_is)
     (fed-out _ _ bs (map Print bs) c.plain_run-count.ensures.stands c.plain_run-count.ensures.gained
     (c.print_run.ensures.printed ∙ sym (lived-prints live bs))
+    c.print_run.ensures.history
     (sym (ap (λ a. waiting ++ a) (answered-prints live bs) ∙ append-nil waiting)))

@@ -1,18 +1,30 @@
-use Rattle.std.proofs.Common.{◌++◌, ap, ◌∙◌}
+use Rattle.std.proofs.Common.{◌++◌, sym, ap, ◌∙◌}
 use Rattle.roam_text.specs.Dispatched.{function_of}
-use Rattle.roam_controls.specs.Commands.{command_of, forgets}
-use Rattle.roam_term.specs.Terminal.{changed, answer, answered_by, performed, remembering}
+use Rattle.roam_controls.specs.Commands.{command_of}
+use Rattle.roam_term.specs.Terminal.{answer, answered_by, commanded, left_by, on_main, with_rows}
+use Rattle.roam_term.proofs.Dispatches.{changed-dispatch, kept-dispatch}
 use Rattle.roam_term.proofs.terms.Term.perform.Goals as goal
 
 pub returns-clause-live : goal.returns-clause-live
-unfolding changed
 returns-clause-live c =
     let reader = c.self.inside.reader in
+    let live = c.self.inside.canvas in
     let f = function_of c.args.dispatch reader.parameters reader.intermediates in
     rw (← c.self.view_is)
     (c.perform.ensures.performed
-    ∙ ap (λ k. remembering (forgets k) (performed k c.parameters_of.result.now c.self.inside.canvas)) c.requested-command.ensures.command
-    ∙ ap (λ p. remembering (forgets (command_of f)) (performed (command_of f) p c.self.inside.canvas)) c.parameters_of.ensures.parameters)
+    ∙ ap (λ k. commanded k c.parameters_of-params.result.now live) c.requested-command.ensures.command
+    ∙ ap (λ p. commanded (command_of f) p live) c.parameters_of-params.ensures.parameters
+    ∙ sym (changed-dispatch c.args.dispatch reader.parameters reader.intermediates live))
+
+pub returns-clause-history : goal.returns-clause-history
+returns-clause-history c =
+    let reader = c.self.inside.reader in
+    let live = c.self.inside.canvas in
+    let history = c.self.inside.history in
+    rw (← c.self.view_is)
+    (c.perform.ensures.history
+    ∙ ap (λ k. with_rows (on_main live.alternate (left_by k live)) history) c.requested-command.ensures.command
+    ∙ sym (kept-dispatch c.args.dispatch reader.parameters reader.intermediates live history))
 
 pub returns-clause-waiting : goal.returns-clause-waiting
 unfolding answer

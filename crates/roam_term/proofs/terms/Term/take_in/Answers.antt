@@ -1,7 +1,7 @@
 use Rattle.std.proofs.Common.{◌++◌, sym, ap, ◌∙◌}
 use Rattle.roam_text.specs.Dispatched.{function_of}
-use Rattle.roam_term.specs.Terminal.{changed, answer}
-use Rattle.roam_term.proofs.Prints.{changed-print, answered-after}
+use Rattle.roam_term.specs.Terminal.{changed, kept, answer}
+use Rattle.roam_term.proofs.Prints.{changed-print, kept-print, answered-after}
 use Rattle.roam_term.proofs.terms.Term.take_in.Goals as goal
 
 pub returns-in-AfterReplacement-clause-live : goal.returns-in-AfterReplacement-clause-live
@@ -11,6 +11,15 @@ returns-in-AfterReplacement-clause-live c =
     (c.perform-in-AfterReplacement.ensures.live
     ∙ ap (changed (function_of c.in-AfterReplacement.dispatch reader.parameters reader.intermediates))
     (c.print.ensures.printed ∙ sym (changed-print 0xFFFD c.self.inside.canvas)))
+
+pub returns-in-AfterReplacement-clause-history : goal.returns-in-AfterReplacement-clause-history
+returns-in-AfterReplacement-clause-history c =
+    let reader = c.self.inside.reader in
+    let f = function_of c.in-AfterReplacement.dispatch reader.parameters reader.intermediates in
+    rw (← c.self.view_is, c.in-AfterReplacement.is)
+    (c.perform-in-AfterReplacement.ensures.history
+    ∙ ap (λ l. kept f l c.print.new.history) (c.print.ensures.printed ∙ sym (changed-print 0xFFFD c.self.inside.canvas))
+    ∙ ap (kept f (changed _ c.self.inside.canvas)) (c.print.ensures.history ∙ sym (kept-print 0xFFFD c.self.inside.canvas c.self.inside.history)))
 
 pub returns-in-AfterReplacement-clause-waiting : goal.returns-in-AfterReplacement-clause-waiting
 returns-in-AfterReplacement-clause-waiting c =

@@ -1,0 +1,111 @@
+-- What a terminal shows: rows of the history, and below them the screen.
+use Rattle.std.proofs.Common.{◌≡◌, ◌<◌, ◌≤◌, ℕ, zero, suc, ◌+◌, ◌*◌, ◌-◌, List, [], ◌∷◌, ◌++◌, take, length, get_or, length-append, replicate, refl, sym, ap, ◌∙◌, append_assoc, arith, subst}
+use Rattle.std.specs.Prelude.{All}
+use Rattle.std.specs.List.{flat_map}
+use Rattle.std.proofs.lemmas.List.{get_or_append_left, get_or-append_right, get_or-take, length-take-le, length-replicate}
+use Rattle.std.proofs.lemmas.List.Edits.{get_or-between}
+use Rattle.std.proofs.Math.Seq.{take-append-add}
+use Rattle.roam_cells.specs.Glyph.{Glyph, blank, is_wide, is_right_half, right_of}
+use Rattle.roam_cells.specs.Place.{cell_at, glyph_at, IsWholeLine, IsWholeRow, AreWhole}
+use Rattle.roam_cells.specs.Screenshot.{row_of}
+use Rattle.roam_cells.proofs.Places.{place_below}
+use Rattle.roam_history.specs.Histories.{IsRow}
+use Rattle.roam_history.specs.Lines.{with_blanks}
+use Rattle.roam_term.proofs.Lists.{append-nil}
+
+-- the cells of rows, one row after another
+abbrev pub flat : List (List Glyph) → List Glyph
+flat rows = flat_map (λ (row : List Glyph). row) rows
+
+-- one more row
+pub flat-more : (rows : List (List Glyph)) (row : List Glyph) → flat (rows ++ row ∷ []) ≡ flat rows ++ row
+flat-more [] row = append-nil row
+flat-more (first ∷ rows) row = ap (λ l. first ++ l) (flat-more rows row) ∙ sym (append_assoc first (flat rows) row)
+
+each_later : (cols : ℕ) (row : List Glyph) (rows : List (List Glyph)) → All (IsRow cols) (row ∷ rows) → All (IsRow cols) rows
+each_later cols row rows each = λ k d h. each (suc k) d (omega (arith, h))
+
+-- as many cells as so many rows have are whole rows of the history, and then whole rows of the screen
+pub view_is : (cols r : ℕ) (rows : List (List Glyph)) (cells : List Glyph) → All (IsRow cols) rows
+    → take (r * cols) (flat rows ++ cells) ≡ flat (take r rows) ++ take ((r - length rows) * cols) cells
+view_is cols zero [] cells each = refl
+view_is cols zero (row ∷ rows) cells each =
+    let none : 0 * cols ≡ 0 = omega arith in
+    let left : 0 - length (row ∷ rows) ≡ 0 = omega arith in
+    ap (λ n. take n (flat (row ∷ rows) ++ cells)) none ∙ sym (ap (λ n. take (n * cols) cells) left ∙ ap (λ n. take n cells) none)
+view_is cols (suc r) [] cells each = ap (λ n. take (n * cols) cells) (omega arith)
+view_is cols (suc r) (row ∷ rows) cells each =
+    let size : suc r * cols ≡ length row + r * cols = omega (arith, (each 0 row (omega arith)).count) in
+    let left : r - length rows ≡ suc r - length (row ∷ rows) = omega arith in
+    ap (take (suc r * cols)) (append_assoc row (flat rows) cells) ∙ ap (λ n. take n (row ++ (flat rows ++ cells))) size
+    ∙ take-append-add row (flat rows ++ cells) (r * cols) ∙ ap (λ l. row ++ l) (view_is cols r rows cells (each_later cols row rows each))
+    ∙ sym (append_assoc row (flat (take r rows)) (take ((r - length rows) * cols) cells))
+    ∙ ap (λ n. flat (take (suc r) (row ∷ rows)) ++ take (n * cols) cells) left
+
+-- what a line is depends on its own columns alone
+line_same : (cols : ℕ) (f g : ℕ → Glyph) → ((c : ℕ) → c < cols → g c ≡ f c) → IsWholeLine cols f → IsWholeLine cols g
+line_same cols f g same whole c q = record {
+  wide = λ wide.
+      let pair = (whole c q).wide (sym (ap is_wide (same c q)) ∙ wide) in
+      (pair.0, same (c + 1) pair.0 ∙ pair.1 ∙ sym (ap right_of (same c q)));
+  half = λ half.
+      let pair = (whole c q).half (sym (ap is_right_half (same c q)) ∙ half) in
+      (pair.0, ap is_wide (same (c - 1) (omega (arith, q))) ∙ pair.1);
+}
+
+-- a row above whole rows
+row_above : (cols r : ℕ) (row cells : List Glyph) → IsRow cols row → AreWhole r cols cells → AreWhole (suc r) cols (row ++ cells)
+row_above cols r row cells is whole zero p =
+    line_same cols (glyph_at row) (cell_at cols (row ++ cells) 0)
+    (λ c q. let at : 0 * cols + c ≡ c = omega arith in ap (λ k. get_or (row ++ cells) k blank) at ∙ get_or_append_left row cells blank c (omega (arith, is.count, q)))
+    (subst (λ (n : ℕ). IsWholeLine n (glyph_at row)) is.count is.whole)
+row_above cols r row cells is whole (suc i) p =
+    line_same cols (cell_at cols cells i) (cell_at cols (row ++ cells) (suc i))
+    (λ c q.
+    let at : suc i * cols + c - length row ≡ i * cols + c = omega (arith, is.count) in
+    get_or-append_right row cells (length row) (suc i * cols + c) blank refl (omega (arith, is.count)) ∙ ap (λ k. get_or cells k blank) at)
+    (whole i (omega arith))
+
+-- rows of the history above whole rows
+rows_above : (cols r : ℕ) (rows : List (List Glyph)) (cells : List Glyph) → All (IsRow cols) rows → AreWhole r cols cells → AreWhole (length rows + r) cols (flat rows ++ cells)
+rows_above cols r [] cells each whole = subst (λ (n : ℕ). AreWhole n cols cells) (omega arith) whole
+rows_above cols r (row ∷ rows) cells each whole =
+    let more : suc (length rows + r) ≡ length (row ∷ rows) + r = omega arith in
+    subst (λ (l : List Glyph). AreWhole (length (row ∷ rows) + r) cols l) (sym (append_assoc row (flat rows) cells))
+    (subst (λ (n : ℕ). AreWhole n cols (row ++ (flat rows ++ cells))) more (row_above cols (length rows + r) row (flat rows ++ cells) (each 0 row (omega arith)) (rows_above cols r rows cells (each_later cols row rows each) whole)))
+
+length-flat : (cols : ℕ) (rows : List (List Glyph)) → All (IsRow cols) rows → length (flat rows) ≡ length rows * cols
+length-flat cols [] each = omega arith
+length-flat cols (row ∷ rows) each = length-append row (flat rows) ∙ omega (arith, (each 0 row (omega arith)).count, length-flat cols rows (each_later cols row rows each))
+
+-- as many whole rows as fit
+module _ (cols r : ℕ) (rows : List (List Glyph)) (cells : List Glyph) (each : All (IsRow cols) rows) (size : length cells ≡ r * cols) where
+  abbrev pub all : List Glyph
+  all = flat rows ++ cells
+
+  enough : r * cols ≤ length all
+  enough =
+      let both : length all ≡ length (flat rows) + length cells = length-append (flat rows) cells in
+      let rest : length cells ≡ r * cols = size in
+      omega (arith, both, rest)
+
+  pub view_size : length (take (r * cols) all) ≡ r * cols
+  view_size = length-take-le (r * cols) all enough
+
+  pub view_whole : AreWhole r cols cells → AreWhole r cols (take (r * cols) all)
+  view_whole whole = λ i p.
+      line_same cols (cell_at cols all i) (cell_at cols (take (r * cols) all) i)
+      (λ c q. get_or-take (r * cols) all (i * cols + c) blank (place_below r cols i c p q))
+      (rows_above cols r rows cells each whole i (omega arith))
+
+-- ---- a row of a screen
+
+-- the columns in use of a whole row, with blanks after them
+pub front_whole : (rows cols i : ℕ) (cells front : List Glyph) → AreWhole rows cols cells → i < rows → length front ≤ cols
+    → row_of cols cells i ≡ with_blanks cols front → IsWholeRow (with_blanks cols front)
+front_whole rows cols i cells front whole p few is =
+    let len : length (with_blanks cols front) ≡ cols =
+    length-append front (replicate (cols - length front) blank) ∙ omega (arith, length-replicate (cols - length front) blank) in
+    subst (λ (n : ℕ). IsWholeLine n (glyph_at (with_blanks cols front))) (sym len)
+    (line_same cols (cell_at cols cells i) (glyph_at (with_blanks cols front))
+    (λ c q. ap (λ l. glyph_at l c) (sym is) ∙ get_or-between cells (i * cols) ((i + 1) * cols) c blank (omega arith)) (whole i p))

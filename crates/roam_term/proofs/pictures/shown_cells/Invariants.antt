@@ -1,6 +1,0 @@
-use Rattle.std.proofs.Common.{◌≡◌, ◌*◌, map, take}
-use Rattle.roam_term.specs.Picture.{shown}
-use Rattle.roam_term.proofs.pictures.shown_cells.Given as goal
-
-abbrev pub invariant-loop-i : goal.invariant-loop-i
-invariant-loop-i l = l.cells.items ≡ map (shown l.reversed) (take (l.i * l.grid.screen.cols) l.grid.screen.cells)

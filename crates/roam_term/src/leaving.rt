@@ -1,0 +1,182 @@
+//! The rows that leave the screen at its top, which the history takes before they are gone.
+ghost use Rattle.std.specs.Prelude.{◌≡◌, ◌+◌, ◌≤◌, ◌<◌, [], replicate, false, length, map, take, if◌then◌else◌};
+ghost use Rattle.roam_cells.specs.Glyph.{is_right_half, ascii_in};
+ghost use Rattle.roam_grid.specs.Screen.{IsSameSize};
+ghost use Rattle.roam_grid.specs.Writing.{settled, put_all};
+ghost use Rattle.roam_rows.specs.Writing.{ArePrintable};
+ghost use Rattle.roam_term.specs.Leaving.{top_rows, left_by_put, left_by_puts, left_by_motion, left_by_edit};
+ghost use Rattle.roam_term.specs.Terminal.{on_main, with_rows};
+
+use roam_cells::Cell;
+use roam_controls::{Edit, Motion};
+use roam_grid::{Grid, Writing};
+use roam_history::History;
+
+/// What is true of every history: where no row comes in, it stays.
+pub fn stays(history: &History)
+    ensures stays { with_rows [] history.now ≡ history.now }
+{
+    history.facts();
+}
+
+/// The first n rows of a screen come in.
+pub fn take_top_rows(grid: &Grid, n: usize, history: &mut History)
+    requires cols { history.old.cols ≡ grid.now.screen.cols }
+    requires few { n ≤ grid.now.screen.rows }
+    ensures history { history.new ≡ with_rows (top_rows n grid.now.screen) history.old }
+{
+    stays(history);
+    grid.facts();
+    for i in 0..n {
+        history.push_front(grid.front_of_row(i));
+    }
+}
+
+// The first row comes in where it leaves.
+fn take_first_row(grid: &Grid, leaves: bool, history: &mut History)
+    requires cols { history.old.cols ≡ grid.now.screen.cols }
+    ensures history { history.new ≡ with_rows (if leaves then top_rows 1 grid.now.screen else []) history.old }
+{
+    stays(history);
+    grid.facts();
+    if leaves {
+        take_top_rows(grid, 1, history);
+    }
+}
+
+/// What a cell makes leave that will be written.
+#[inline]
+pub fn leave_by_put(
+    grid: &Grid,
+    cell: Cell,
+    writing: Writing,
+    alternate: bool,
+    history: &mut History,
+)
+    requires cols { history.old.cols ≡ grid.now.screen.cols }
+    ensures history { history.new ≡ with_rows (on_main alternate (left_by_put cell writing grid.now.screen)) history.old }
+{
+    let (top, _) = grid.margins();
+    let columns = if cell.is_wide() { 2 } else { 1 };
+    let leaves = !alternate && top == 0 && grid.leaves(columns, writing);
+    take_first_row(grid, leaves, history);
+}
+
+/// What a move makes leave that will be done.
+#[inline]
+pub fn leave_by_motion(grid: &Grid, motion: Motion, alternate: bool, history: &mut History)
+    requires cols { history.old.cols ≡ grid.now.screen.cols }
+    ensures history { history.new ≡ with_rows (on_main alternate (left_by_motion motion grid.now.screen)) history.old }
+{
+    stays(history);
+    grid.facts();
+    match motion {
+        Motion::LineFeed | Motion::Index | Motion::NextLine => {
+            let (row, _) = grid.cursor();
+            let (top, bottom) = grid.margins();
+            let leaves = !alternate && top == 0 && row == bottom + 1;
+            take_first_row(grid, leaves, history);
+        }
+        _ => {}
+    }
+}
+
+/// What an edit makes leave that will be done.
+pub fn leave_by_edit(grid: &Grid, edit: Edit, alternate: bool, history: &mut History)
+    requires cols { history.old.cols ≡ grid.now.screen.cols }
+    ensures history { history.new ≡ with_rows (on_main alternate (left_by_edit edit grid.now.screen)) history.old }
+{
+    stays(history);
+    grid.facts();
+    if let Edit::ScrollUp(n) = edit {
+        let (top, bottom) = grid.margins();
+        if !alternate && top == 0 {
+            take_top_rows(grid, usize::from(n).min(bottom + 1), history);
+        }
+    }
+}
+
+/// Writes a cell so many times; what it makes leave comes in.
+pub fn put_times(
+    grid: &mut Grid,
+    cell: Cell,
+    n: u16,
+    writing: Writing,
+    alternate: bool,
+    history: &mut History,
+)
+    requires no_half { is_right_half cell ≡ false }
+    requires cols { history.old.cols ≡ grid.old.screen.cols }
+    ensures screen { grid.new.screen ≡ put_all (replicate n cell) writing grid.old.screen }
+    ensures history { history.new ≡ with_rows (on_main alternate (left_by_puts (replicate n cell) writing grid.old.screen)) history.old }
+    ensures size { IsSameSize grid.old.screen grid.new.screen }
+{
+    for _ in 0..n {
+        leave_by_put(grid, cell, writing, alternate, history);
+        grid.put(cell, writing);
+    }
+    stays(history);
+}
+
+// How many columns are left of the row that the next character of one column is written in.
+fn columns_left(grid: &Grid) -> usize
+    ensures left { (settled grid.now.screen).col + result ≡ (settled grid.now.screen).cols }
+    ensures some { 0 < result }
+{
+    grid.facts();
+    if grid.pending() {
+        grid.cols()
+    } else {
+        grid.room()
+    }
+}
+
+// Writes as much of the front of a run as no row leaves after its first character, and tells how many bytes that were.
+#[inline]
+fn put_front(
+    grid: &mut Grid,
+    pen: Cell,
+    bytes: &[u8],
+    writing: Writing,
+    alternate: bool,
+    history: &mut History,
+) -> usize
+    requires some { 0 < length bytes.now }
+    requires printable { ArePrintable bytes.now }
+    requires cols { history.old.cols ≡ grid.old.screen.cols }
+    ensures some { 0 < result }
+    ensures within { result ≤ length bytes.now }
+    ensures screen { grid.new.screen ≡ put_all (map (λ byte. ascii_in byte pen) (take result bytes.now)) writing grid.old.screen }
+    ensures history { history.new ≡ with_rows (on_main alternate (left_by_puts (map (λ byte. ascii_in byte pen) (take result bytes.now)) writing grid.old.screen)) history.old }
+    ensures size { IsSameSize grid.old.screen grid.new.screen }
+{
+    let mut cell = pen;
+    cell.set_ascii(bytes[0]);
+    leave_by_put(grid, cell, writing, alternate, history);
+    let count = bytes.len().min(columns_left(grid));
+    grid.put_run(pen, &bytes[..count], writing);
+    count
+}
+
+/// Writes printable ASCII bytes in the style and guard of a pen, as many at once as fit a row; what they make leave comes in.
+pub fn put_run(
+    grid: &mut Grid,
+    pen: Cell,
+    bytes: &[u8],
+    writing: Writing,
+    alternate: bool,
+    history: &mut History,
+)
+    requires printable { ArePrintable bytes.now }
+    requires cols { history.old.cols ≡ grid.old.screen.cols }
+    ensures screen { grid.new.screen ≡ put_all (map (λ byte. ascii_in byte pen) bytes.now) writing grid.old.screen }
+    ensures history { history.new ≡ with_rows (on_main alternate (left_by_puts (map (λ byte. ascii_in byte pen) bytes.now) writing grid.old.screen)) history.old }
+    ensures size { IsSameSize grid.old.screen grid.new.screen }
+{
+    let mut at = 0;
+    while at < bytes.len() {
+        let count = put_front(grid, pen, &bytes[at..], writing, alternate, history);
+        at += count;
+    }
+    stays(history);
+}
