@@ -1,4 +1,5 @@
 pub mod Parameters
+pub mod Modes
 pub mod Motions
 pub mod Edits
 pub mod Erasures

@@ -7,6 +7,7 @@
 mod commands;
 mod edits;
 mod erasures;
+mod modes;
 mod motions;
 mod parameters;
 mod renditions;
@@ -17,6 +18,7 @@ mod shifts;
 pub use commands::{Command, command_of};
 pub use edits::Edit;
 pub use erasures::Erasure;
+pub use modes::Modes;
 pub use motions::Motion;
 pub use renditions::restyled;
 pub use reports::Report;

@@ -8,6 +8,7 @@ ghost use Rattle.roam_show.specs.ShowText.{row_line, screen_text, output_line, s
 
 use crate::faults::RunFault;
 use roam_cells::{Fault, Shot};
+use roam_term::laws::nothing_read_answers_nothing;
 use roam_term::{MOST_LINES, MOST_PIECE, Term};
 use std::alloc::{AllocError, Global};
 use std::io::{Read, Write};
@@ -131,6 +132,7 @@ pub fn run_show<R: Read, W: Write>(
     ensures unwritten { IfErr result (λ e. e ≢ RunFault.Write → Keeps (W.contents writer.old) (W.contents writer.new)) }
 {
     let mut term = Term::new(alloc, rows, cols, MOST_LINES)?;
+    nothing_read_answers_nothing();
     let mut report = Vec::new(alloc);
     feed_all(alloc, &mut term, &mut report, reader)?;
     let text = text_of(alloc, &term, &report)?;

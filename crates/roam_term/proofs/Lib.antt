@@ -3,6 +3,7 @@ pub mod Runs
 pub mod Scrollback
 pub mod Prints
 pub mod Dispatches
+pub mod Resizes
 pub mod Views
 pub mod Showing
 pub mod Queue

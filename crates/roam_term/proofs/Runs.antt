@@ -5,7 +5,7 @@ use Rattle.roam_text.specs.Log.{Item, Byte}
 use Rattle.roam_text.specs.Functions.{functions_of}
 use Rattle.roam_text.specs.Stands.{Stands}
 use Rattle.roam_term.specs.Terminal.{Terminal, changed, answer, after, run, lived, kept_by, answered, started, term, reports}
-use Rattle.roam_term.specs.Stands.{TermView, Shows, Fed}
+use Rattle.roam_term.specs.Stands.{TermView, Shows, Follows, Fed}
 use Rattle.roam_term.proofs.Lists.{append-nil, map-append}
 
 pub run-append : (t : Terminal) (fs gs : List Function) → run t (fs ++ gs) ≡ run (run t fs) gs
@@ -28,19 +28,19 @@ run-answers t [] = sym (append-nil t.answers)
 run-answers t (f ∷ fs) = run-answers (after f t) fs ∙ append_assoc t.answers (answer f t.live) (answered (changed f t.live) fs)
 
 -- the reader's clauses, and what the functions changed and answered
-module _ (old new : TermView) (bs : List ℕ) (out : List Function)
-    (reads : (log : List Item) → Stands old.reader log → Stands new.reader (log ++ map Byte bs))
-    (gained : (log : List Item) → Stands old.reader log → functions_of (log ++ map Byte bs) ≡ functions_of log ++ out)
+module _ (old new : TermView) (items : List Item) (out : List Function)
+    (reads : (log : List Item) → Stands old.reader log → Stands new.reader (log ++ items))
+    (gained : (log : List Item) → Stands old.reader log → functions_of (log ++ items) ≡ functions_of log ++ out)
     (live : new.live ≡ lived old.live out)
     (history : new.history ≡ kept_by old.live out old.history)
     (waiting : new.waiting ≡ old.waiting ++ answered old.live out) where
-  later : (rows cols lines : ℕ) (log : List Item) → Stands old.reader log → term rows cols lines (log ++ map Byte bs) ≡ run (term rows cols lines log) out
+  later : (rows cols lines : ℕ) (log : List Item) → Stands old.reader log → term rows cols lines (log ++ items) ≡ run (term rows cols lines log) out
   unfolding term
   later rows cols lines log stands = ap (run (started rows cols lines)) (gained log stands) ∙ run-append (started rows cols lines) (functions_of log) out
 
-  pub fed-out : Fed old new bs
+  pub follows-out : Follows old new items
   unfolding reports
-  fed-out = record {
+  follows-out = record {
     stands = λ rows cols lines log shows. record {
       reads = reads log shows.reads;
       live =

@@ -2,7 +2,6 @@ pub mod Motions
 pub mod Edits
 pub mod Erasures
 pub mod Shifts
-pub mod Modes
 pub mod Pens
 pub mod Settings
 pub mod Reports
@@ -10,3 +9,5 @@ pub mod Leaving
 pub mod Terminal
 pub mod Picture
 pub mod Stands
+pub mod Keys
+pub mod Sizes

@@ -3,7 +3,7 @@ use Rattle.std.specs.Prelude.{ℕ, ◌+◌, ◌-◌, min, Bool, if◌then◌else
 use Rattle.roam_grid.specs.Screen.{Screen}
 use Rattle.roam_grid.specs.Tabbing.{tabbed, back_tabbed}
 use Rattle.roam_grid.specs.Cursor.{backspaced, carried, indexed, reverse_indexed, moved_to, moved_up, moved_down, moved_right, moved_left}
-use Rattle.roam_term.specs.declared.modes.Modes.{Modes}
+use Rattle.roam_controls.specs.declared.modes.Modes.{Modes}
 use Rattle.roam_controls.specs.declared.motions.Motion.{Motion}
 use Rattle.roam_controls.specs.declared.motions.Motion.TheVariants.{Backspace, CarriageReturn, LineFeed, Index, NextLine, Up, Down, Right, Left, NextLines, PreviousLines, Column, Row, Position, ReverseIndex, Tab, BackTab}
 

@@ -1,7 +1,7 @@
 -- Reports: what is answered.
 use Rattle.std.specs.Prelude.{ℕ, ◌+◌, ◌-◌, Bool, if◌then◌else◌, List, ◌++◌, ◌∷◌, codes, decimal}
 use Rattle.roam_grid.specs.Screen.{Screen}
-use Rattle.roam_term.specs.declared.modes.Modes.{Modes}
+use Rattle.roam_controls.specs.declared.modes.Modes.{Modes}
 use Rattle.roam_controls.specs.declared.reports.Report.{Report}
 use Rattle.roam_controls.specs.declared.reports.Report.TheVariants.{Status, CursorPosition, Printer, PrimaryAttributes, SecondaryAttributes}
 

@@ -1,8 +1,8 @@
 -- What a terminal stands for.
-use Rattle.std.specs.Prelude.{◌≡◌, ℕ, ◌+◌, ◌*◌, ◌≤◌, List, ◌++◌, map, length}
+use Rattle.std.specs.Prelude.{◌≡◌, ℕ, ◌+◌, ◌*◌, ◌≤◌, List, [], ◌∷◌, ◌++◌, map, length}
 use Rattle.roam_cells.specs.Limits.{IsSize}
 use Rattle.roam_history.specs.Histories.{Scrollback}
-use Rattle.roam_text.specs.Log.{Item, Byte}
+use Rattle.roam_text.specs.Log.{Item, Byte, Resized}
 use Rattle.roam_text.specs.Stands.{Stands, View}
 use Rattle.roam_term.specs.Terminal.{Live, term, reports}
 
@@ -35,7 +35,15 @@ pub record Gains (old new : List ℕ) (rows cols lines : ℕ) (log later : List 
   pub answers : reports rows cols lines later ≡ reports rows cols lines log ++ more
   pub queue : new ≡ old ++ more
 
--- a piece makes one terminal of another: for every log that the old one stood for, the new one stands for it followed by the piece
-pub record Fed (old new : TermView) (piece : List ℕ) : Type 0 where
-  pub stands : (rows cols lines : ℕ) (log : List Item) → Shows old rows cols lines log → Shows new rows cols lines (log ++ map Byte piece)
-  pub gains : (rows cols lines : ℕ) (log : List Item) → Shows old rows cols lines log → Gains old.waiting new.waiting rows cols lines log (log ++ map Byte piece)
+-- items make one terminal of another: for every log that the old one stood for, the new one stands for it followed by the items
+pub record Follows (old new : TermView) (items : List Item) : Type 0 where
+  pub stands : (rows cols lines : ℕ) (log : List Item) → Shows old rows cols lines log → Shows new rows cols lines (log ++ items)
+  pub gains : (rows cols lines : ℕ) (log : List Item) → Shows old rows cols lines log → Gains old.waiting new.waiting rows cols lines log (log ++ items)
+
+-- a piece makes one terminal of another
+abbrev pub Fed : TermView → TermView → List ℕ → Type 0
+Fed old new piece = Follows old new (map Byte piece)
+
+-- and so does a size
+abbrev pub Sized : TermView → TermView → ℕ → ℕ → Type 0
+Sized old new rows cols = Follows old new (Resized rows cols ∷ [])

@@ -23,14 +23,14 @@ use Rattle.roam_controls.specs.declared.commands.Command.{Command}
 use Rattle.roam_controls.specs.declared.commands.Command.TheVariants.{Nothing, Prints, Moves, Erases, Edits, Shifts, Sets, Reports, Repeats}
 use Rattle.roam_controls.specs.declared.settings.Setting.{Setting}
 use Rattle.roam_controls.specs.declared.settings.Setting.TheVariants.{Mode, PrivateMode, Rendition, Margins, Guard, Keypad, Save, Restore, SoftReset, Reset, SetStop, ClearStop, ClearStops}
-use Rattle.roam_term.specs.declared.modes.Modes.{Modes}
+use Rattle.roam_controls.specs.declared.modes.Modes.{Modes}
 use Rattle.roam_term.specs.declared.pens.Pen.{Pen}
 use Rattle.roam_term.specs.declared.pens.Saved.{Saved}
 use Rattle.roam_controls.specs.Commands.{command_of, parameters_of, forgets}
 use Rattle.roam_term.specs.Edits.{edited_by}
 use Rattle.roam_term.specs.Erasures.{erased_by}
 use Rattle.roam_term.specs.Leaving.{top_rows, left_by_put, left_by_puts, left_by_motion, left_by_edit}
-use Rattle.roam_term.specs.Modes.{started_modes, with_mode, with_private_mode, soft_reset_modes}
+use Rattle.roam_controls.specs.Modes.{started_modes, with_mode, with_private_mode, soft_reset_modes}
 use Rattle.roam_term.specs.Motions.{moved_by}
 use Rattle.roam_term.specs.Pens.{plain_pen, nothing_saved}
 use Rattle.roam_controls.specs.Renditions.{styled}

@@ -14,7 +14,6 @@ use crate::erasures::erase_by;
 use crate::leaving::{
     leave_by_edit, leave_by_motion, leave_by_put, put_run, put_times, stays, take_top_rows,
 };
-use crate::modes::Modes;
 use crate::motions::move_by;
 use crate::outputs::Output;
 use crate::pens::{Pen, Saved};
@@ -23,7 +22,7 @@ use crate::settings::{follow_private_mode, set_margins};
 use crate::shifts::shift_by;
 use roam_cells::{Cell, Fault};
 use roam_charset::{Charset, Sets};
-use roam_controls::{Command, Setting, restyled};
+use roam_controls::{Command, Modes, Setting, restyled};
 use roam_grid::{Grid, Writing};
 use roam_history::History;
 use std::alloc::Global;

@@ -1,6 +1,7 @@
 //! The rows that leave the screen at its top, which the history takes before they are gone.
 ghost use Rattle.std.specs.Prelude.{◌≡◌, ◌+◌, ◌≤◌, ◌<◌, [], replicate, false, length, map, take, if◌then◌else◌};
 ghost use Rattle.roam_cells.specs.Glyph.{is_right_half, ascii_in};
+ghost use Rattle.roam_grid.specs.Frames.{leaving};
 ghost use Rattle.roam_grid.specs.Screen.{IsSameSize};
 ghost use Rattle.roam_grid.specs.Writing.{settled, put_all};
 ghost use Rattle.roam_rows.specs.Writing.{ArePrintable};
@@ -93,6 +94,18 @@ pub fn leave_by_edit(grid: &Grid, edit: Edit, alternate: bool, history: &mut His
         if !alternate && top == 0 {
             take_top_rows(grid, usize::from(n).min(bottom + 1), history);
         }
+    }
+}
+
+/// What another number of rows makes leave, so that the cursor's row stays.
+pub fn leave_by_size(grid: &Grid, rows: usize, alternate: bool, history: &mut History)
+    requires some { 0 < rows }
+    requires cols { history.old.cols ≡ grid.now.screen.cols }
+    ensures history { history.new ≡ with_rows (on_main alternate (top_rows (leaving rows grid.now.screen) grid.now.screen)) history.old }
+{
+    stays(history);
+    if !alternate {
+        take_top_rows(grid, grid.leaving(rows), history);
     }
 }
 

@@ -4,8 +4,7 @@ ghost use Rattle.roam_grid.specs.Cursor.{carried, indexed, moved_to};
 ghost use Rattle.roam_grid.specs.Screen.{IsSameSize};
 ghost use Rattle.roam_term.specs.Motions.{row_under, homed, moved_by};
 
-use crate::modes::Modes;
-use roam_controls::Motion;
+use roam_controls::{Modes, Motion};
 use roam_grid::Grid;
 
 // A row from 1 as a row from 0; under DECOM it counts from the top margin and stops at the bottom margin.

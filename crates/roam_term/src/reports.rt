@@ -2,9 +2,8 @@
 ghost use Rattle.std.specs.Prelude.{◌≡◌, ◌+◌, ◌≤◌, ◌++◌, length};
 ghost use Rattle.roam_term.specs.Reports.{reported_row, answer_to};
 
-use crate::modes::Modes;
 use crate::outputs::Output;
-use roam_controls::Report;
+use roam_controls::{Modes, Report};
 use roam_grid::Grid;
 
 // The cursor's row from 1, under DECOM from the top margin.

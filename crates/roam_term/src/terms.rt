@@ -50,10 +50,10 @@ fn parameters_of(reader: &Reader, dispatch: Dispatch) -> &[u16]
 /// The terminal of a pane: the bytes that it is fed make a screen, and its answers wait in a queue of 65,536 bytes.
 #[derive(Drop)]
 pub struct Term {
-    reader: Reader,
-    canvas: Canvas,
-    history: History,
-    output: Output,
+    pub(crate) reader: Reader,
+    pub(crate) canvas: Canvas,
+    pub(crate) history: History,
+    pub(crate) output: Output,
 }
 
 impl Model for Term {

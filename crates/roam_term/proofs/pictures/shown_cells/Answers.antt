@@ -2,7 +2,7 @@ use Rattle.std.proofs.Common.{◌≡◌, Bool, ◌*◌, ◌-◌, ◌++◌, map, 
 use Rattle.std.specs.Prelude.{All}
 use Rattle.roam_grid.specs.Screen.{Screen}
 use Rattle.roam_history.specs.Histories.{IsRow}
-use Rattle.roam_term.specs.declared.modes.Modes.{Modes}
+use Rattle.roam_controls.specs.declared.modes.Modes.{Modes}
 use Rattle.roam_term.specs.Picture.{shown}
 use Rattle.roam_term.proofs.Views.{flat}
 use Rattle.roam_term.proofs.Showing.{view_parts}

@@ -3,9 +3,9 @@ use Rattle.roam_cells.specs.Glyph.{Glyph, blank}
 use Rattle.roam_charset.specs.declared.sets.Sets.{Sets}
 use Rattle.roam_grid.specs.Screen.{Screen}
 use Rattle.roam_grid.specs.Frames.{all_blank, restarted}
-use Rattle.roam_term.specs.declared.modes.Modes.{Modes}
+use Rattle.roam_controls.specs.declared.modes.Modes.{Modes}
 use Rattle.roam_term.specs.declared.pens.Pen.{Pen}
-use Rattle.roam_term.specs.Modes.{started_modes}
+use Rattle.roam_controls.specs.Modes.{started_modes}
 use Rattle.roam_term.specs.Pens.{plain_pen}
 use Rattle.roam_term.specs.Terminal.{Live}
 use Rattle.roam_term.proofs.canvases.Canvas.reset.Goals as goal

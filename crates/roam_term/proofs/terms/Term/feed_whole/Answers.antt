@@ -1,7 +1,8 @@
-use Rattle.std.proofs.Common.{[], ◌∷◌, ◌++◌, take, sym, ap, ◌∙◌}
+use Rattle.std.proofs.Common.{[], ◌∷◌, ◌++◌, map, take, sym, ap, ◌∙◌}
+use Rattle.roam_text.specs.Log.{Byte}
 use Rattle.roam_text.specs.declared.functions.Function.TheVariants.{Print}
 use Rattle.roam_term.proofs.Lists.{append-nil}
-use Rattle.roam_term.proofs.Runs.{fed-out}
+use Rattle.roam_term.proofs.Runs.{follows-out}
 use Rattle.roam_term.proofs.Prints.{lived-prints, kept-print, answered-prints}
 use Rattle.roam_term.proofs.terms.Term.feed_whole.Goals as goal
 
@@ -11,7 +12,7 @@ returns-in-Some-clause-fed c =
     let live = c.self.inside.canvas in
     let waiting = c.self.inside.output in
     rw (← c.self.view_is)
-    (fed-out _ _ bs (Print c.in-Some.c ∷ []) c.in-Some.ensures.stands c.in-Some.ensures.gained
+    (follows-out _ _ (map Byte bs) (Print c.in-Some.c ∷ []) c.in-Some.ensures.stands c.in-Some.ensures.gained
     (c.print.ensures.printed ∙ sym (lived-prints live (c.in-Some.c ∷ [])))
     (c.print.ensures.history ∙ sym (kept-print c.in-Some.c live c.self.inside.history))
     (sym (ap (λ a. waiting ++ a) (answered-prints live (c.in-Some.c ∷ [])) ∙ append-nil waiting)))

@@ -1,6 +1,6 @@
 //! Modes: what is switched on.
 ghost use Rattle.std.specs.Prelude.{◌≡◌};
-ghost use Rattle.roam_term.specs.Modes.{started_modes, with_mode, with_private_mode, soft_reset_modes};
+ghost use Rattle.roam_controls.specs.Modes.{started_modes, with_mode, with_private_mode, soft_reset_modes};
 
 /// The modes of a terminal (ECMA-48, section 7; VT220 Programmer Reference, chapter 4).
 #[derive(Clone, Copy)]

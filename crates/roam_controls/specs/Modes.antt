@@ -1,6 +1,6 @@
 -- Modes: which are set at the start, and which a number sets (ECMA-48, section 7; VT220 Programmer Reference, chapter 4).
 use Rattle.std.specs.Prelude.{ℕ, ◌==◌, Bool, true, false, if◌then◌else◌}
-use Rattle.roam_term.specs.declared.modes.Modes.{Modes}
+use Rattle.roam_controls.specs.declared.modes.Modes.{Modes}
 
 -- autowrap and a visible cursor; all else is reset
 abbrev pub started_modes : Modes

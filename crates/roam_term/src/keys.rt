@@ -1,0 +1,42 @@
+//! What a keyboard sends to a terminal's output.
+ghost use Rattle.std.specs.Prelude.{◌≡◌, ◌+◌, ◌≤◌, ◌↔◌, ◌++◌, ℕ, List, length, IsOk, OnOk, OnErr, IsOkUnless};
+ghost use Rattle.roam_acts.specs.Sent.{sent};
+ghost use Rattle.roam_text.specs.Log.{Item};
+ghost use Rattle.roam_term.specs.Keys.{key_modes};
+ghost use Rattle.roam_term.specs.Stands.{Shows};
+
+use crate::outputs::MOST_OUTPUT;
+use crate::terms::Term;
+use roam_acts::{Key, KeyModes};
+use roam_cells::Fault;
+use roam_controls::Modes;
+
+fn key_modes(modes: Modes) -> KeyModes
+    ensures modes { result ≡ key_modes modes }
+{
+    KeyModes {
+        application_cursor: modes.cursor_keys,
+        application_keypad: modes.application_keypad,
+        new_line: modes.newline,
+    }
+}
+
+impl Term {
+    /// Puts the bytes that a key sends under the terminal's modes behind what waits. Refuses them as `Busy` where the queue hasn't as
+    /// many free bytes, and changes nothing then. It takes no memory.
+    pub fn key(&mut self, key: &Key) -> Result<(), Fault>
+        ensures ok { IsOk result ↔ (length self.old.waiting + length (sent (key_modes self.old.live.modes) key.now) ≤ 65536) }
+        ensures waiting { OnOk result (self.new.waiting ≡ self.old.waiting ++ sent (key_modes self.old.live.modes) key.now) }
+        ensures stands { OnOk result ((rows cols lines : ℕ) (log : List Item) → Shows self.old rows cols lines log → Shows self.new rows cols lines log) }
+        ensures err { OnErr result (self.new ≡ self.old) }
+        ensures fault { IsOkUnless result Fault.Busy }
+    {
+        let sent = key.sent(key_modes(self.canvas.modes()));
+        let bytes = sent.as_slice();
+        if MOST_OUTPUT - self.output.len() < bytes.len() {
+            return Err(Fault::Busy);
+        }
+        self.output.push(bytes);
+        Ok(())
+    }
+}
