@@ -15,5 +15,3 @@ mod readers;
 mod rows;
 #[cfg(test)]
 mod sets;
-#[cfg(test)]
-mod terms;
