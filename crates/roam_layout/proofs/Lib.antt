@@ -4,3 +4,4 @@ pub mod Growing
 pub mod Keeping
 pub mod Texts
 pub mod Rows
+pub mod FaceRows
