@@ -1,6 +1,6 @@
 -- The face at worked rows: 4 by 17, split to the right, the panes showing ab and cd.
-use Rattle.std.proofs.Common.{◌≡◌, ℕ, pos, List, [], ◌∷◌, ◌++◌, replicate, true, refl, lit<}
-use Rattle.std.specs.Prelude.{◌-◌, ◌+◌, ◌==◌, if◌then◌else◌, slice_set, codes}
+use Rattle.std.proofs.Common.{◌≡◌, ℕ, pos, List, ◌∷◌, ◌++◌, replicate, true, refl, lit<}
+use Rattle.std.specs.Prelude.{◌==◌, if◌then◌else◌, slice_set, codes}
 use Rattle.std.proofs.lemmas.Fmt.{decimal_digit}
 use Rattle.std.specs.List.{flat_map}
 use Rattle.roam_cells.specs.Glyph.{Glyph, blank, default_style}
@@ -8,7 +8,7 @@ use Rattle.roam_cells.specs.Screenshot.{Screenshot}
 use Rattle.roam_layout.specs.Trees.{One, Two}
 use Rattle.roam_layout.specs.Layouts.{Plan, start}
 use Rattle.roam_layout.specs.Faces.{character, face, face_row}
-use Rattle.roam_layout.specs.declared.rects.Way.TheVariants.{Right, Down}
+use Rattle.roam_layout.specs.declared.rects.Way.TheVariants.{Right}
 
 abbrev halves : Plan
 halves = record (start 4 17) { tree = Two Right (pos 0) (One 1) (One 2); focus = 2 }

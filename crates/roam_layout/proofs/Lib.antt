@@ -4,4 +4,8 @@ pub mod Growing
 pub mod Keeping
 pub mod Texts
 pub mod Rows
+pub mod Places
+pub mod Pieces
+pub mod Beside
+pub mod Facing
 pub mod FaceRows

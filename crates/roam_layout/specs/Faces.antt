@@ -1,9 +1,9 @@
 -- The face of a session: what its panes show, the borders between them, and the status text (this project's profile).
-use Rattle.std.specs.Prelude.{◌≡◌, ℕ, ◌+◌, ◌-◌, Bool, true, false, ◌==◌, List, [], ◌∷◌, ◌++◌, map, drop, replicate, slice_index, Option, Some, None, if◌then◌else◌}
+use Rattle.std.specs.Prelude.{◌≡◌, ℕ, ◌+◌, ◌-◌, true, false, ◌==◌, List, [], ◌∷◌, ◌++◌, map, drop, replicate, slice_index, Option, Some, None, if◌then◌else◌}
 use Rattle.std.specs.List.{range_with_len, All}
 use Rattle.roam_cells.specs.Glyph.{Glyph, blank, default_style}
 use Rattle.roam_cells.specs.Place.{cell_at, table}
-use Rattle.roam_cells.specs.Screenshot.{Screenshot, row_of}
+use Rattle.roam_cells.specs.Screenshot.{Screenshot, blank_screenshot, row_of}
 use Rattle.roam_cells.specs.declared.styles.Style.{Style}
 use Rattle.roam_layout.specs.Rects.{spot, within, inside}
 use Rattle.roam_layout.specs.Layouts.{Plan, area, panes, edges}
@@ -85,6 +85,11 @@ picture_size x = record { pane = x.0; rows = x.1.rows; cols = x.1.cols }
 -- a list has a picture for each of these panes, in their order, and of their sizes
 abbrev pub ArePictures : List (ℕ × Rect) → List (ℕ × Screenshot) → Type 0
 ArePictures panes shots = map picture_size shots ≡ map size_of panes
+
+-- the picture of a pane in a list; a blank one where the list has none
+abbrev pub picture_in : List (ℕ × Screenshot) → ℕ → Screenshot
+picture_in [] p = blank_screenshot 2 4
+picture_in (x ∷ xs) p = if x.0 == p then x.1 else picture_in xs p
 
 -- the pictures in a list are these
 abbrev pub Show : (ℕ → Screenshot) → List (ℕ × Screenshot) → Type 0
