@@ -25,7 +25,7 @@ pub times_closed : (k p : ℕ) (t : Shape) → times k (closed p t) ≤ times k 
 times_closed k p (One q) = omega arith
 times_closed k p (Two w g a b) =
     one_of_four (λ t. times k t ≤ times k a + times k b) (is_one p a) (is_one p b) (has p a) b a (Two w g (closed p a) b)
-        (Two w g a (closed p b))
+    (Two w g a (closed p b))
     (omega arith) (omega arith) (omega (arith, times_closed k p a)) (omega (arith, times_closed k p b))
 
 -- what isn't in a tree is in it no times
@@ -52,8 +52,11 @@ from n (One q) = cond (nat_le n q) 1 0
 from n (Two w g a b) = from n a + from n b
 
 from_one : (n q : ℕ) → cond (nat_le (n + 1) q) 1 0 + cond (q == n) 1 0 ≤ cond (nat_le n q) 1 0
-from_one n q = elim (cases_lt q n) [ inl below ↦ grind (arith, nat_tests) | inr above ↦ elim
-    (cases_lt n q) [ inl more ↦ grind (arith, nat_tests) | inr same ↦ grind (arith, nat_tests) ] ]
+from_one n q = elim (cases_lt q n) [
+  | inl below ↦ grind (arith, nat_tests)
+  | inr above ↦ elim
+      (cases_lt n q) [ inl more ↦ grind (arith, nat_tests) | inr same ↦ grind (arith, nat_tests) ]
+]
 
 from_more : (n : ℕ) (t : Shape) → from (n + 1) t + times n t ≤ from n t
 from_more n (One q) = from_one n q
@@ -93,8 +96,11 @@ below_in (suc k) n p t h below = by_case (has n t) refl below (below_in k (n + 1
   where
     by_case : (v : Bool) → has n t ≡ v → p < cond v (free_among k (n + 1) t) n
         → (n + 1 ≤ p → p < free_among k (n + 1) t → has p t ≡ true) → has p t ≡ true
-    by_case true e b rest = elim (cases_lt n p) [ inl more ↦ rest (omega (arith, more)) b | inr same ↦ let i : p ≡ n = omega
-        (arith, same, h) in ap (λ j. has j t) i ∙ e ]
+    by_case true e b rest = elim (cases_lt n p) [
+      | inl more ↦ rest (omega (arith, more)) b
+      | inr same ↦ let i : p ≡ n = omega
+          (arith, same, h) in ap (λ j. has j t) i ∙ e
+    ]
     by_case false e b rest = absurd (omega (arith, h, b))
 
 -- every number below the smallest free one is a pane's

@@ -60,14 +60,14 @@ pub once_across : (n r c : ℕ) (x : Rect) → n + 1 ≤ x.cols
     → once r c (front Right n x) + once r c (part Right n 1 x) + once r c (part Right (n + 1) (x.cols - n - 1) x) ≡ once r c x
 once_across n r c x le =
     both_right (within x.row x.rows r) (within x.col n c) (within (x.col + n) 1 c) (within (x.col + (n + 1)) (x.cols - n - 1) c)
-        (within x.col x.cols c)
+    (within x.col x.cols c)
     (within_parts x.col n x.cols c le)
 
 pub once_down : (n r c : ℕ) (x : Rect) → n + 1 ≤ x.rows
     → once r c (front Down n x) + once r c (part Down n 1 x) + once r c (part Down (n + 1) (x.rows - n - 1) x) ≡ once r c x
 once_down n r c x le =
     both_left (within x.col x.cols c) (within x.row n r) (within (x.row + n) 1 r) (within (x.row + (n + 1)) (x.rows - n - 1) r)
-        (within x.row x.rows r)
+    (within x.row x.rows r)
     (within_parts x.row n x.rows r le)
 
 pub covered : (t : Shape) (x : Rect) → Fits t x → Covers (placed t x) (borders t x) x
@@ -80,7 +80,7 @@ covered (Two Right g a b) x fits r c =
     let whole = once_across n r c x (omega (arith, bounds.1)) in
     let panes = hits-append r c (placed a (front Right n x)) (placed b (part Right (n + 1) (x.cols - n - 1) x)) in
     let edges = hits-append r c (borders a (front Right n x))
-        ((Right, part Right n 1 x) ∷ borders b (part Right (n + 1) (x.cols - n - 1) x)) in
+    ((Right, part Right n 1 x) ∷ borders b (part Right (n + 1) (x.cols - n - 1) x)) in
     omega (arith, left, right, whole, panes, edges)
 covered (Two Down g a b) x fits r c =
     let n = first_length Down g a b x in

@@ -49,7 +49,7 @@ stretched_keeps w g wanted a b r h k modest = by_case (int_le (pos (least w a)) 
     by_case true e =
         let limit = along_limit w r h k in
         let m = wanted_modest wanted (least w a) (most_first w b r) (middle (length_along w r)) e (omega (arith, limit))
-            (omega (arith, limit)) in
+        (omega (arith, limit)) in
         record {
           rows = same_rows w g (wanted -ℤ pos (middle (length_along w r))) a b;
           cols = same_cols w g (wanted -ℤ pos (middle (length_along w r))) a b;

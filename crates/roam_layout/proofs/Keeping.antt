@@ -43,7 +43,7 @@ fits_planted p u (Two Right g a b) r fits is h =
     let left = fits_planted p u a (front Right n r) (omega (arith, fits.0), bounds.0) in
     let right = fits_planted p u b (part Right (n + 1) (r.cols - n - 1) r) (omega (arith, fits.0), omega (arith, bounds.1)) in
     fits_across (has p a) (has p b) a (planted p u a) b (planted p u b) u g n r (spot p a (front Right n r))
-        (spot p b (part Right (n + 1) (r.cols - n - 1) r)) is bounds.0 bounds.1 (omega (arith, fits.0))
+    (spot p b (part Right (n + 1) (r.cols - n - 1) r)) is bounds.0 bounds.1 (omega (arith, fits.0))
     (omega (arith, fits.0)) left right h
 fits_planted p u (Two Down g a b) r fits is h =
     let n = first_length Down g a b r in
@@ -51,7 +51,7 @@ fits_planted p u (Two Down g a b) r fits is h =
     let upper = fits_planted p u a (front Down n r) (bounds.0, omega (arith, fits.1)) in
     let lower = fits_planted p u b (part Down (n + 1) (r.rows - n - 1) r) (omega (arith, bounds.1), omega (arith, fits.1)) in
     fits_down (has p a) (has p b) a (planted p u a) b (planted p u b) u g n r (spot p a (front Down n r))
-        (spot p b (part Down (n + 1) (r.rows - n - 1) r)) is bounds.0 bounds.1 (omega (arith, fits.1))
+    (spot p b (part Down (n + 1) (r.rows - n - 1) r)) is bounds.0 bounds.1 (omega (arith, fits.1))
     (omega (arith, fits.1)) upper lower h
 
 -- the rectangle of a pane is no smaller than a pane
@@ -169,11 +169,19 @@ number_of p (Two w g a b) h is = by_side (has p a) (has p b) is (number_of p a h
 pub leaves_placed : (t : Shape) (r : Rect) → map (λ x. x.0) (placed t r) ≡ leaves t
 leaves_placed (One p) r = refl
 leaves_placed (Two Right g a b) r =
-    let n = first_length Right g a b r in rw (map-append, leaves_placed a (front Right n r), leaves_placed b
-        (part Right (n + 1) (r.cols - n - 1) r)) refl
+    let n = first_length Right g a b r in rw (
+      map-append,
+      leaves_placed a (front Right n r),
+      leaves_placed b
+          (part Right (n + 1) (r.cols - n - 1) r),
+    ) refl
 leaves_placed (Two Down g a b) r =
-    let n = first_length Down g a b r in rw (map-append, leaves_placed a (front Down n r), leaves_placed b
-        (part Down (n + 1) (r.rows - n - 1) r)) refl
+    let n = first_length Down g a b r in rw (
+      map-append,
+      leaves_placed a (front Down n r),
+      leaves_placed b
+          (part Down (n + 1) (r.rows - n - 1) r),
+    ) refl
 
 pub length_placed : (t : Shape) (r : Rect) → length (placed t r) ≡ length (leaves t)
 length_placed t r = sym (length-map (placed t r) (λ x. x.0)) ∙ ap length (leaves_placed t r)
@@ -237,7 +245,7 @@ plan_split s w f u t n vs ef eu et low high en few length_is roomy h =
     let x = spot s.focus s.tree (area s.rows s.cols) in
     let least = spot_least s.focus s.tree (area s.rows s.cols) h.fits in
     let e : t ≡ planted s.focus (Two w (pos 0) (One s.focus) (One n)) s.tree = et ∙ ap (planted s.focus f) eu
-        ∙ ap (λ k. planted s.focus k s.tree) ef in
+    ∙ ap (λ k. planted s.focus k s.tree) ef in
     let own = number_of s.focus s.tree h.numbers h.focus in
     rw e
     (record {
@@ -278,7 +286,7 @@ pub split_done : (w : Way) (s : Plan) (f u t : Shape) (n : ℕ) (vs : List ℕ) 
     → split w s ≡ Laid (record { rows = s.rows; cols = s.cols; tree = t; focus = n; views = vs })
 split_done w s f u t n vs h roomy ef eu et en ev =
     let e : t ≡ planted s.focus (Two w (pos 0) (One s.focus) (One n)) s.tree = et ∙ ap (planted s.focus f) eu
-        ∙ ap (λ k. planted s.focus k s.tree) ef
+    ∙ ap (λ k. planted s.focus k s.tree) ef
     in rw (nat_le_no 9 (length (leaves s.tree)) h, roomy, e, ev, en) refl
 
 -- what the length of the list of rectangles says
@@ -300,7 +308,7 @@ pub plan_grow : (s : Plan) (d : ℤ) (u v : Shape) (r : Rect) → u ≡ s.tree �
 plan_grow s d u v r eu er e h =
     let some : grown s.focus d s.tree (area s.rows s.cols) ≡ Some v = (λ i. grown s.focus d (sym eu i) (sym er i)) ∙ e in
     let k : HasGrown s.tree v = subst (IfGrown s.tree) some (grown_keeps s.focus d s.tree (area s.rows s.cols) h.fits
-        (omega (arith, h.size.1)) (omega (arith, h.size.3)) h.modest) in
+    (omega (arith, h.size.1)) (omega (arith, h.size.3)) h.modest) in
     record {
       size = h.size;
       fits = (omega (arith, k.rows, h.fits.0), omega (arith, k.cols, h.fits.1));

@@ -41,7 +41,7 @@ read_spell (Two Down g a b) rest = ap (join false g) (read_spell a (spell b rest
 abbrev pub shape_code : Coded Shape
 shape_code =
     code_by (List Node) (coded_list (coded⊎ coded_ℕ (coded× coded_bool coded_ℤ))) (λ t. spell t []) (λ ns. head_of (read ns))
-        (λ t. ap head_of (read_spell t []))
+    (λ t. ap head_of (read_spell t []))
 
 abbrev pub plan_code : Coded Plan
 plan_code =

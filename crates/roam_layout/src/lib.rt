@@ -12,4 +12,6 @@ pub mod laws;
 pub mod layouts;
 pub mod rects;
 mod status;
+#[cfg(test)]
+mod tests;
 mod trees;

@@ -12,7 +12,7 @@ pub returns-then-rects-ge9 : goal.returns-then-rects-ge9
 returns-then-rects-ge9 c =
     let s = c.args.self.now in
     let e = counted s.tree (area s.rows s.cols) c.rects.result.now (length c.rects.result.now)
-        (λ _. length c.rects.result.now) c.rects.ensures.rects in
+    (λ _. length c.rects.result.now) c.rects.ensures.rects in
     record { answer = inr (split_full c.args.way s (omega (arith, e, c.if-rects-ge9.true))) }
 
 pub returns-then-not-has_room : goal.returns-then-not-has_room
@@ -20,7 +20,7 @@ returns-then-not-has_room c =
     let s = c.args.self.now in
     let a = c.self.inside in
     let e = counted s.tree (area s.rows s.cols) c.rects.result.now (length c.rects.result.now)
-        (λ _. length c.rects.result.now) c.rects.ensures.rects in
+    (λ _. length c.rects.result.now) c.rects.ensures.rects in
     let same = ap (λ s. length (leaves s.tree)) c.self.view_is in
     record {
       answer = inr
@@ -34,7 +34,7 @@ pub of-requires : goal.of-requires
 of-requires c =
     let s = c.args.self.now in
     let e = counted s.tree (area s.rows s.cols) c.rects.result.now (length c.rects.result.now)
-        (λ _. length c.rects.result.now) c.rects.ensures.rects in
+    (λ _. length c.rects.result.now) c.rects.ensures.rects in
     let same = ap (λ s. length (leaves s.tree)) c.self.view_is in
     let few : length (leaves (plan_of c.self.inside).tree) < 9 = omega (arith, e, same, c.if-rects-ge9.false) in
     record {
@@ -49,7 +49,7 @@ returns c =
     let s = c.args.self.now in
     let a = c.self.inside in
     let e = counted s.tree (area s.rows s.cols) c.rects.result.now (length c.rects.result.now)
-        (λ _. length c.rects.result.now) c.rects.ensures.rects in
+    (λ _. length c.rects.result.now) c.rects.ensures.rects in
     let same = ap (λ s. length (leaves s.tree)) c.self.view_is in
     record {
       answer = ap (split c.args.way) (sym c.self.view_is)
@@ -57,6 +57,6 @@ returns c =
           (ap (λ r. is_roomy c.args.way (spot a.focus (shape_of a.tree) r)) (sym c.area_of.ensures.area) ∙ sym c.has_room.ensures.room
           ∙ c.if-not-has_room.false)
           c.in_ok-fork.ensures.shape c.in_ok-tree.ensures.shape c.plant.ensures.shape c.free-pane.ensures.number
-              (λ i. slice_set a.views (c.from.ensures i) 0)
+          (λ i. slice_set a.views (c.from.ensures i) 0)
           ∙ ap Laid (sym c.in_ok-of.ensures.layout);
     }
