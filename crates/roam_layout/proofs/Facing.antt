@@ -230,7 +230,7 @@ cursor_place s picture plan are =
 -- ---- pictures by number
 
 -- whether a list has a number
-abbrev lists : {A : Type 0} → ℕ → List (ℕ × A) → Bool
+abbrev pub lists : {A : Type 0} → ℕ → List (ℕ × A) → Bool
 lists p [] = false
 lists p (x ∷ xs) = eqb x.0 p || lists p xs
 
@@ -251,7 +251,7 @@ or_false : (a : Bool) → (a || false) ≡ a
 or_false true = refl
 or_false false = refl
 
-lists_placed : (p : ℕ) (t : Shape) (x : Rect) → lists p (placed t x) ≡ has p t
+pub lists_placed : (p : ℕ) (t : Shape) (x : Rect) → lists p (placed t x) ≡ has p t
 lists_placed p (One q) x = or_false (eqb q p)
 lists_placed p (Two w g a b) x =
     lists-append p (placed a (first_part w g a b x)) (placed b (second_part w g a b x))

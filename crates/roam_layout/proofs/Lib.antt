@@ -8,4 +8,5 @@ pub mod Places
 pub mod Pieces
 pub mod Beside
 pub mod Facing
+pub mod Changing
 pub mod FaceRows

@@ -10,8 +10,8 @@ new-requires-clause-whole c =
     let size = c.in_ok-blank.ensures.size in
     let e : c.from-3.result ≡ c.args.rect.cols = c.from-3.ensures in
     let count : length c.deref.result.now ≡ rows * c.from-3.result =
-        ap (λ (l : List Glyph). length l) c.deref.ensures.value
-        ∙ (c.in_ok-cells.ensures.count ∙ (λ i. c.from.ensures i * (c.from-2.ensures ∙ sym e) i)) in
+    ap (λ (l : List Glyph). length l) c.deref.ensures.value
+    ∙ (c.in_ok-cells.ensures.count ∙ (λ i. c.from.ensures i * (c.from-2.ensures ∙ sym e) i)) in
     subst (λ n. AreWhole rows n cells) e
     (subst (λ (l : List Glyph). AreWhole rows c.from-3.result l) c.deref.ensures.value
     ((c.if-not-is_well_formed.ensures.rows rows (omega (arith, e, size.least_columns)) count).0 refl))
