@@ -12,7 +12,7 @@ use Rattle.roam_layout.specs.Rects.{placed, first_part, second_part, rect_in, sp
 use Rattle.roam_layout.specs.Changes.{unless_there, size_unless_there, panes_closed, panes_made}
 use Rattle.roam_layout.specs.Layouts.{Plan, Outcome, Laid, Refused, IsPlan, laid, split, with_tree, is_session_size, area, panes}
 use Rattle.roam_layout.proofs.Counting.{times_planted, times_closed, times_none, times_some}
-use Rattle.roam_layout.proofs.Facing.{lists, lists_placed}
+use Rattle.roam_layout.proofs.Listed.{lists, lists_placed}
 use Rattle.roam_layout.proofs.Growing.{IfGrown, grown_keeps}
 use Rattle.roam_layout.specs.declared.rects.Way.{Way}
 use Rattle.roam_layout.specs.declared.rects.Way.TheVariants.{Right, Down}
@@ -43,25 +43,29 @@ made_in u y = λ x. size_unless_there x (rect_in x.0 (placed u y))
 pub length-closed : (u : Shape) (y : Rect) (t : Shape) (x : Rect) → length (filter_map (closed_in u y) (placed t x)) ≡ missing u t
 length-closed u y (One p) x = by_case (rect_in p (placed u y)) (is_there p (placed u y) ∙ lists_placed p u y)
   where
-    by_case : (o : Option Rect) → is_some o ≡ has p u → length (filter_map (λ (e : ℕ × Rect). unless_there e.0 o) ((p, x) ∷ [])) ≡ cond (has p u) 0 1
+    by_case : (o : Option Rect) → is_some o ≡ has p u → length (filter_map (λ (e : ℕ × Rect). unless_there e.0 o)
+        ((p, x) ∷ [])) ≡ cond (has p u) 0 1
     by_case None e = ap (λ v. cond v 0 1) e
     by_case (Some r) e = ap (λ v. cond v 0 1) e
 length-closed u y (Two w g a b) x =
     let one = filter_map-append (closed_in u y) (placed a (first_part w g a b x)) (placed b (second_part w g a b x)) in
     ap (λ (l : List ℕ). length l) one
-    ∙ length-append (filter_map (closed_in u y) (placed a (first_part w g a b x))) (filter_map (closed_in u y) (placed b (second_part w g a b x)))
+    ∙ length-append (filter_map (closed_in u y) (placed a (first_part w g a b x)))
+    (filter_map (closed_in u y) (placed b (second_part w g a b x)))
     ∙ (λ i. length-closed u y a (first_part w g a b x) i + length-closed u y b (second_part w g a b x) i)
 
 pub length-made : (u : Shape) (y : Rect) (t : Shape) (x : Rect) → length (filter_map (made_in u y) (placed t x)) ≡ missing u t
 length-made u y (One p) x = by_case (rect_in p (placed u y)) (is_there p (placed u y) ∙ lists_placed p u y)
   where
-    by_case : (o : Option Rect) → is_some o ≡ has p u → length (filter_map (λ (e : ℕ × Rect). size_unless_there e o) ((p, x) ∷ [])) ≡ cond (has p u) 0 1
+    by_case : (o : Option Rect) → is_some o ≡ has p u → length (filter_map (λ (e : ℕ × Rect). size_unless_there e o)
+        ((p, x) ∷ [])) ≡ cond (has p u) 0 1
     by_case None e = ap (λ v. cond v 0 1) e
     by_case (Some r) e = ap (λ v. cond v 0 1) e
 length-made u y (Two w g a b) x =
     let one = filter_map-append (made_in u y) (placed a (first_part w g a b x)) (placed b (second_part w g a b x)) in
     ap (λ (l : List PaneSize). length l) one
-    ∙ length-append (filter_map (made_in u y) (placed a (first_part w g a b x))) (filter_map (made_in u y) (placed b (second_part w g a b x)))
+    ∙ length-append (filter_map (made_in u y) (placed a (first_part w g a b x)))
+    (filter_map (made_in u y) (placed b (second_part w g a b x)))
     ∙ (λ i. length-made u y a (first_part w g a b x) i + length-made u y b (second_part w g a b x) i)
 
 -- ---- panes of trees
@@ -167,7 +171,8 @@ way_fine : (w : Way) (s : Plan) → IsPlan s → Fine s (split w s)
 way_fine w s plan =
     cond_both (nat_le 9 (length (leaves s.tree))) (Refused PanesFull)
     (cond (is_roomy w (spot s.focus s.tree (area s.rows s.cols))) (Laid _) (Refused TooSmall)) (Fine s) (λ _. tt)
-    (λ _. cond_both (is_roomy w (spot s.focus s.tree (area s.rows s.cols))) (Laid _) (Refused TooSmall) (Fine s) (λ _. split_fine w s plan) (λ _. tt))
+    (λ _. cond_both (is_roomy w (spot s.focus s.tree (area s.rows s.cols))) (Laid _) (Refused TooSmall) (Fine s)
+    (λ _. split_fine w s plan) (λ _. tt))
 
 fine : (s : Plan) (act : Act) → IsPlan s → Fine s (laid s act)
 fine s (Key k) plan = same_fine s.tree

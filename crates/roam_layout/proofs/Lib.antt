@@ -7,6 +7,9 @@ pub mod Rows
 pub mod Places
 pub mod Pieces
 pub mod Beside
+pub mod Listed
+pub mod Stepping
 pub mod Facing
+pub mod Pointing
 pub mod Changing
 pub mod FaceRows

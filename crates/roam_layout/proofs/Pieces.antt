@@ -27,7 +27,8 @@ abbrev pub ArePictured : (ℕ → Screenshot) → List (ℕ × Rect) → Type 0
 ArePictured picture [] = Unit {0}
 ArePictured picture (x ∷ xs) = IsPictured picture x.0 x.1 × ArePictured picture xs
 
-pub pictured_parts : (picture : ℕ → Screenshot) (xs ys : List (ℕ × Rect)) → ArePictured picture (xs ++ ys) → ArePictured picture xs × ArePictured picture ys
+pub pictured_parts : (picture : ℕ → Screenshot) (xs ys : List (ℕ × Rect)) → ArePictured picture (xs ++ ys)
+    → ArePictured picture xs × ArePictured picture ys
 pictured_parts picture [] ys h = (tt, h)
 pictured_parts picture (x ∷ xs) ys h = let rest = pictured_parts picture xs ys h.1 in ((h.0, rest.0), rest.1)
 
@@ -47,14 +48,16 @@ pieces_by r picture (x ∷ xs) es = pane_piece r x.1 (picture x.0) ++ (first_pie
 module _ (r : ℕ) (picture : ℕ → Screenshot) where
   -- in tree order panes and borders take turns
   woven : (t : Shape) (x : Rect) (ps : List (ℕ × Rect)) (e : Way × Rect) (es : List (Way × Rect))
-      → pieces_by r picture (placed t x ++ ps) (borders t x ++ e ∷ es) ≡ strip r picture t x ++ (border_piece r e ++ pieces_by r picture ps es)
+      → pieces_by r picture (placed t x ++ ps) (borders t x ++ e ∷ es) ≡ strip r picture t x ++
+      (border_piece r e ++ pieces_by r picture ps es)
   woven (One p) x ps e es = refl
   woven (Two w g a b) x ps e es =
       let xa = first_part w g a b x in
       let xb = second_part w g a b x in
       let edge : Way × Rect = (w, border_part w g a b x) in
       let rest = border_piece r e ++ pieces_by r picture ps es in
-      (λ i. pieces_by r picture (append_assoc (placed a xa) (placed b xb) ps i) (append_assoc (borders a xa) (edge ∷ borders b xb) (e ∷ es) i))
+      (λ i. pieces_by r picture (append_assoc (placed a xa) (placed b xb) ps i)
+      (append_assoc (borders a xa) (edge ∷ borders b xb) (e ∷ es) i))
       ∙ woven a xa (placed b xb ++ ps) edge (borders b xb ++ e ∷ es)
       ∙ ap (λ l. strip r picture a xa ++ (border_piece r edge ++ l)) (woven b xb ps e es)
       ∙ ap (λ l. strip r picture a xa ++ l) (sym (append_assoc (border_piece r edge) (strip r picture b xb) rest))
@@ -92,7 +95,8 @@ strip_none r picture (Two Right g a b) x fits e =
 strip_none r picture (Two Down g a b) x fits e =
     let n = first_length Down g a b x in
     let bounds = down_in g a b x fits in
-    let upper = strip_none r picture a (front Down n x) (bounds.0, omega (arith, fits.1)) (ap (λ k. within k n r) (omega arith) ∙ within_less x.row x.rows 0 n r (omega (arith, bounds.1)) e) in
+    let upper = strip_none r picture a (front Down n x) (bounds.0, omega (arith, fits.1))
+    (ap (λ k. within k n r) (omega arith) ∙ within_less x.row x.rows 0 n r (omega (arith, bounds.1)) e) in
     let lower = strip_none r picture b (part Down (n + 1) (x.rows - n - 1) x) (omega (arith, bounds.1), omega (arith, fits.1))
     (within_less x.row x.rows (n + 1) (x.rows - n - 1) r (omega (arith, bounds.1)) e) in
     let edge = within_less x.row x.rows n 1 r (omega (arith, bounds.1)) e in
@@ -121,7 +125,8 @@ pane_shows r picture p x is e =
     })
 
 -- two trees beside one another with a border's column between them
-module _ (r : ℕ) (picture : ℕ → Screenshot) (a b : Shape) (x : Rect) (n : ℕ) (fa : Fits a (front Right n x)) (fb : Fits b (part Right (n + 1) (x.cols - n - 1) x)) (le : n + 1 ≤ x.cols) (e : within x.row x.rows r ≡ true) (f : ℕ → Glyph) where
+module _ (r : ℕ) (picture : ℕ → Screenshot) (a b : Shape) (x : Rect) (n : ℕ) (fa : Fits a (front Right n x))
+    (fb : Fits b (part Right (n + 1) (x.cols - n - 1) x)) (le : n + 1 ≤ x.cols) (e : within x.row x.rows r ≡ true) (f : ℕ → Glyph) where
   abbrev left : Rect
   left = front Right n x
 
@@ -132,7 +137,8 @@ module _ (r : ℕ) (picture : ℕ → Screenshot) (a b : Shape) (x : Rect) (n : 
   right = part Right (n + 1) (x.cols - n - 1) x
 
   across_shows : (xs ys : List Glyph)
-      → ((c : ℕ) → f c ≡ pane_cell picture r c (found r c (placed a left ++ placed b right)) (found r c (borders a left ++ (Right, edge) ∷ borders b right)))
+      → ((c : ℕ) → f c ≡ pane_cell picture r c (found r c (placed a left ++ placed b right))
+      (found r c (borders a left ++ (Right, edge) ∷ borders b right)))
       → Shows xs x.col n (tree_cell picture a left r) → Shows ys (x.col + (n + 1)) (x.cols - n - 1) (tree_cell picture b right r)
       → Shows (xs ++ (border_piece r (Right, edge) ++ ys)) x.col x.cols f
   across_shows xs ys is s t =
@@ -151,12 +157,15 @@ module _ (r : ℕ) (picture : ℕ → Screenshot) (a b : Shape) (x : Rect) (n : 
       sym (is c ∙ second_cell picture Right a b left edge right fa fb r c
       (not_col r c left (within_above x.col n c (omega (arith, low))))
       (not_col r c edge (within_above (x.col + n) 1 c (omega (arith, low)))))) in
-      shows_beside xs (border_piece r (Right, edge) ++ ys) x.col (x.col + n) n (1 + (x.cols - n - 1)) x.cols f refl (omega (arith, le)) first
-      (shows_beside (border_piece r (Right, edge)) ys (x.col + n) (x.col + (n + 1)) 1 (x.cols - n - 1) (1 + (x.cols - n - 1)) f (omega arith) refl
+      shows_beside xs (border_piece r (Right, edge) ++ ys) x.col (x.col + n) n (1 + (x.cols - n - 1)) x.cols f refl
+      (omega (arith, le)) first
+      (shows_beside (border_piece r (Right, edge)) ys (x.col + n) (x.col + (n + 1)) 1 (x.cols - n - 1) (1 + (x.cols - n - 1)) f
+      (omega arith) refl
       middle second)
 
 -- two trees below one another with a border's row between them
-module _ (r : ℕ) (picture : ℕ → Screenshot) (a b : Shape) (x : Rect) (n : ℕ) (fa : Fits a (front Down n x)) (fb : Fits b (part Down (n + 1) (x.rows - n - 1) x)) (le : n + 1 ≤ x.rows) (f : ℕ → Glyph) where
+module _ (r : ℕ) (picture : ℕ → Screenshot) (a b : Shape) (x : Rect) (n : ℕ) (fa : Fits a (front Down n x))
+    (fb : Fits b (part Down (n + 1) (x.rows - n - 1) x)) (le : n + 1 ≤ x.rows) (f : ℕ → Glyph) where
   abbrev upper : Rect
   upper = front Down n x
 
@@ -167,7 +176,8 @@ module _ (r : ℕ) (picture : ℕ → Screenshot) (a b : Shape) (x : Rect) (n : 
   lower = part Down (n + 1) (x.rows - n - 1) x
 
   abbrev IsBoth : Type 0
-  IsBoth = (c : ℕ) → f c ≡ pane_cell picture r c (found r c (placed a upper ++ placed b lower)) (found r c (borders a upper ++ (Down, level) ∷ borders b lower))
+  IsBoth = (c : ℕ) → f c ≡ pane_cell picture r c (found r c (placed a upper ++ placed b lower))
+      (found r c (borders a upper ++ (Down, level) ∷ borders b lower))
 
   no_level : within (x.row + n) 1 r ≡ false → border_piece r (Down, level) ≡ []
   no_level e = ap (λ v. cond v (replicate x.cols (sign Down)) []) e
@@ -233,7 +243,8 @@ strip_shows r picture (Two Down g a b) x fits pictured e =
       | inl high ↦ upper_shows r picture a b x n fa fb le f _ _ (λ c. refl) (below (omega (arith, high))) high
           (strip_shows r picture a (front Down n x) fa parts.0 (within_in x.row n r range.0 high))
       | inr from ↦ elim (cases_lt r (x.row + n + 1)) [
-        | inl same ↦ level_shows r picture a b x n fa fb le f _ _ (λ c. refl) (above from) (below (omega (arith, same))) (omega (arith, from, same))
+        | inl same ↦ level_shows r picture a b x n fa fb le f _ _ (λ c. refl) (above from) (below (omega (arith, same)))
+            (omega (arith, from, same))
         | inr low ↦ lower_shows r picture a b x n fa fb le f _ _ (λ c. refl) (above from) low
             (strip_shows r picture b (part Down (n + 1) (x.rows - n - 1) x) fb parts.1
             (within_in (x.row + (n + 1)) (x.rows - n - 1) r (omega (arith, low)) (omega (arith, range.1, le))))

@@ -92,7 +92,8 @@ module _ (picture : ℕ → Screenshot) (w : Way) (a b : Shape) (xa xe xb : Rect
   abbrev parted : Option (ℕ × Rect) → Option (ℕ × Rect) → Option (Way × Rect) → Bool → Option (Way × Rect) → Glyph
   parted pa pb ea e eb = pane_cell picture r c (or_else pa pb) (or_else ea (cond e (Some (w, xe)) eb))
 
-  whole_is : whole ≡ parted (found r c (placed a xa)) (found r c (placed b xb)) (found r c (borders a xa)) (inside r c xe) (found r c (borders b xb))
+  whole_is : whole ≡ parted (found r c (placed a xa)) (found r c (placed b xb)) (found r c (borders a xa)) (inside r c xe)
+      (found r c (borders b xb))
   whole_is = λ i. pane_cell picture r c (found-append r c (placed a xa) (placed b xb) i)
       (found-append r c (borders a xa) ((w, xe) ∷ borders b xb) i)
 

@@ -54,7 +54,8 @@ labels_printable : (f : ℕ) (t : Shape) → AreNumbers t → All IsPrintable (f
 labels_printable f (One p) h = All-append IsPrintable (label f p) [] (label_printable f p h.1) (All-nil IsPrintable)
 labels_printable f (Two w g a b) h =
     subst (λ (l : List ℕ). All IsPrintable l) (sym (flat_map-append (label f) (leaves a) (leaves b)))
-    (All-append IsPrintable (flat_map (label f) (leaves a)) (flat_map (label f) (leaves b)) (labels_printable f a h.0) (labels_printable f b h.1))
+    (All-append IsPrintable (flat_map (label f) (leaves a)) (flat_map (label f) (leaves b)) (labels_printable f a h.0)
+    (labels_printable f b h.1))
 
 view_printable : (v : ℕ) → v < 2 ^ 64 → All IsPrintable (view_text v)
 view_printable v h =
@@ -63,10 +64,12 @@ view_printable v h =
     (All-cons IsPrintable 32 (94 ∷ []) (omega arith, omega arith) (one_printable 94 (omega arith) (omega arith)))
     (decimal_printable v h))
 
-pub row_printable : (s : Plan) (view : ℕ) → AreNumbers s.tree → view ≡ slice_index s.views s.focus → view < 2 ^ 64 → All IsPrintable (status_row s)
+pub row_printable : (s : Plan) (view : ℕ) → AreNumbers s.tree → view ≡ slice_index s.views s.focus → view < 2 ^ 64
+    → All IsPrintable (status_row s)
 row_printable s view numbers e h =
     All-take IsPrintable s.cols (status s ++ replicate s.cols 32)
     (All-append IsPrintable (status s) (replicate s.cols 32)
-    (All-append IsPrintable (flat_map (label s.focus) (leaves s.tree)) (view_text (slice_index s.views s.focus)) (labels_printable s.focus s.tree numbers)
+    (All-append IsPrintable (flat_map (label s.focus) (leaves s.tree)) (view_text (slice_index s.views s.focus))
+    (labels_printable s.focus s.tree numbers)
     (view_printable (slice_index s.views s.focus) (omega (arith, e, h))))
     (All-replicate IsPrintable s.cols 32 (omega arith, omega arith)))

@@ -20,7 +20,7 @@ use Rattle.roam_layout.specs.declared.changes.PaneSize.{PaneSize}
 abbrev pub character : ℕ → Style → Glyph
 character c style = record { points = c ∷ []; style = style; guarded = false }
 
--- a border's sign: the light vertical line between panes beside one another, the light horizontal one between panes below one another (Box Drawing, the Unicode Standard)
+-- a border's sign: a light vertical line between panes beside one another, else a horizontal one (Box Drawing, the Unicode Standard)
 abbrev pub sign : Way → Glyph
 sign Right = character 0x2502 default_style
 sign Down = character 0x2500 default_style

@@ -28,7 +28,8 @@ pub fn face(alloc: Global, layout: &Layout, shots: &[(u8, Shot)]) -> Result<Shot
 
 fn cells_of(alloc: Global, layout: &Layout, shots: &[(u8, Shot)]) -> Result<Vec<Cell>, Fault>
     requires pictures { ArePictures (panes layout.now) shots.now }
-    ensures cells { IfOk result (λ cells. (picture : ℕ → Screenshot) → Show picture shots.now → cells.items ≡ (face layout.now picture).cells) }
+    ensures cells { IfOk result (λ cells. (picture : ℕ → Screenshot) → Show picture shots.now
+        → cells.items ≡ (face layout.now picture).cells) }
     ensures count { IfOk result (λ cells. length cells.items ≡ layout.now.rows * layout.now.cols) }
     ensures whole { IfOk result (λ cells. AreWhole layout.now.rows layout.now.cols cells.items) }
     ensures unguarded { IfOk result (λ cells. AreUnguarded cells.items) }

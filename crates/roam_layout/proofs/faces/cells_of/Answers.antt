@@ -4,7 +4,8 @@ use Rattle.roam_cells.specs.Glyph.{Glyph}
 use Rattle.roam_cells.specs.Place.{table, IsWholeRow, AreWhole}
 use Rattle.roam_cells.specs.Screenshot.{Screenshot, AreUnguarded}
 use Rattle.roam_layout.specs.Faces.{face, face_at, face_row, picture_in, Show}
-use Rattle.roam_layout.proofs.Facing.{table_none, table_more, face_count, face_whole, face_unguarded, shows_by_number}
+use Rattle.roam_layout.proofs.Facing.{table_none, table_more, face_count, face_whole, face_unguarded}
+use Rattle.roam_layout.proofs.Listed.{shows_by_number}
 use Rattle.roam_layout.proofs.faces.cells_of.Goals as goal
 
 pub loop-above-init : goal.loop-above-init

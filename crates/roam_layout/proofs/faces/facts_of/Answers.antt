@@ -5,7 +5,8 @@ use Rattle.roam_layout.proofs.faces.facts_of.Goals as goal
 
 pub loop-k-preserved : goal.loop-k-preserved
 loop-k-preserved c =
-    All-more (λ (x : ℕ × Screenshot). IsScreenshot x.1) c.args.shots.now c.loop-k.k c.index-shots-k.result c.loop-k-test.true c.loop-k.invariant
+    All-more (λ (x : ℕ × Screenshot). IsScreenshot x.1) c.args.shots.now c.loop-k.k c.index-shots-k.result c.loop-k-test.true
+    c.loop-k.invariant
     c.facts.ensures.screenshot
 
 pub returns : goal.returns

@@ -1,5 +1,6 @@
 use Rattle.std.proofs.Common.{◌<◌, length, ap, ◌∙◌, arith}
-use Rattle.roam_layout.proofs.Facing.{sizes_at, same_count, pane_and_border, last_pane}
+use Rattle.roam_layout.proofs.Listed.{sizes_at, same_count}
+use Rattle.roam_layout.proofs.Stepping.{pane_and_border, last_pane}
 use Rattle.roam_layout.proofs.faces.push_pieces.Goals.{then-k-borders+in_ok-push_border, else-k-borders}
 use Rattle.roam_layout.proofs.faces.push_pieces.Goals as goal
 
@@ -15,7 +16,8 @@ loop-k-preserved c =
     let there : k < length ss = omega (arith, same_count ps ss c.requires.pictures, c.loop-k-test.true) in
     elim c.if-k-borders.branch [
       | then-k-borders+in_ok-push_border w ↦
-          pane_and_border c.args.row ps c.args.borders.now ss k _ c.index-shots-k.result _ _ _ _ c.loop-k-test.true there _ w.if-k-borders.true
+          pane_and_border c.args.row ps c.args.borders.now ss k _ c.index-shots-k.result _ _ _ _ c.loop-k-test.true there _
+          w.if-k-borders.true
           c.in_ok-push_pane.ensures.piece (ap (λ v. v.items) w.cells-is ∙ w.in_ok-push_border.ensures.piece) c.loop-k.invariant
       | else-k-borders w ↦
           last_pane c.args.row ps c.args.borders.now ss k _ c.index-shots-k.result _ _ _ _ c.loop-k-test.true there w.if-k-borders.false

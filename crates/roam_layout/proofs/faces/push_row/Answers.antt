@@ -22,14 +22,16 @@ returns-in_ok-push_text-clause-unguarded c picture show =
 pub returns-in_ok-push_pieces-clause-row : goal.returns-in_ok-push_pieces-clause-row
 returns-in_ok-push_pieces-clause-row c picture show =
     let high : c.args.row < c.args.layout.now.rows = omega (arith, c.if-row-rows.false, c.rows.ensures.rows, c.requires.row.1) in
-    row_pieces c.args.layout.now picture c.args.row c.args.shots.now c.facts.ensures.plan c.requires.pictures show c.facts_of.ensures.screenshots
+    row_pieces c.args.layout.now picture c.args.row c.args.shots.now c.facts.ensures.plan c.requires.pictures show
+    c.facts_of.ensures.screenshots
     c.requires.row.0 high c.rects.result.now c.borders.result.now c.args.cells.now.items c.push_pieces.new.cells.items c.rects.ensures.rects
     c.borders.ensures.borders c.in_ok-push_pieces.ensures.pieces
 
 pub returns-in_ok-push_pieces-clause-whole : goal.returns-in_ok-push_pieces-clause-whole
 returns-in_ok-push_pieces-clause-whole c picture show =
     let high : c.args.row < c.args.layout.now.rows = omega (arith, c.if-row-rows.false, c.rows.ensures.rows, c.requires.row.1) in
-    (row_sound c.args.layout.now picture c.args.row c.args.shots.now c.facts.ensures.plan c.requires.pictures show c.facts_of.ensures.screenshots
+    (row_sound c.args.layout.now picture c.args.row c.args.shots.now c.facts.ensures.plan c.requires.pictures show
+    c.facts_of.ensures.screenshots
     c.requires.row.0 high).whole
 
 pub returns-in_ok-push_pieces-clause-unguarded : goal.returns-in_ok-push_pieces-clause-unguarded

@@ -1,4 +1,4 @@
-use Rattle.roam_layout.proofs.Facing.{shows_by_number}
+use Rattle.roam_layout.proofs.Listed.{shows_by_number}
 use Rattle.roam_layout.proofs.laws.lists_show_their_pictures.Goals as goal
 
 pub returns : goal.returns
