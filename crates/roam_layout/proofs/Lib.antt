@@ -4,3 +4,12 @@ pub mod Growing
 pub mod Keeping
 pub mod Texts
 pub mod Rows
+pub mod Places
+pub mod Pieces
+pub mod Beside
+pub mod Listed
+pub mod Stepping
+pub mod Facing
+pub mod Pointing
+pub mod Changing
+pub mod FaceRows

@@ -5,3 +5,4 @@ pub mod Coding
 pub mod Kept
 pub mod Changes
 pub mod Status
+pub mod Faces

@@ -1,5 +1,5 @@
 -- The status text, which the last row of a session shows (this project's profile).
-use Rattle.std.specs.Prelude.{ℕ, ◌==◌, ◌++◌, List, [], take, replicate, slice_index, if◌then◌else◌, codes, decimal}
+use Rattle.std.specs.Prelude.{ℕ, ◌≤◌, ◌<◌, ◌==◌, ◌++◌, List, [], take, replicate, slice_index, if◌then◌else◌, codes, decimal}
 use Rattle.std.specs.List.{flat_map}
 use Rattle.roam_layout.specs.Trees.{leaves}
 use Rattle.roam_layout.specs.Layouts.{Plan}
@@ -19,3 +19,7 @@ status s = flat_map (label s.focus) (leaves s.tree) ++ view_text (slice_index s.
 -- the same, cut or padded with spaces to the session's columns
 abbrev pub status_row : Plan → List ℕ
 status_row s = take s.cols (status s ++ replicate s.cols 32)
+
+-- printable ASCII, which takes one column
+abbrev pub IsPrintable : ℕ → Type 0
+IsPrintable b = (0x20 ≤ b) × (b < 0x7F)

@@ -1,10 +1,12 @@
 //! The layout of a session.
 ghost use Rattle.std.specs.Prelude.{◌≡◌, pos, negsuc, ◌≤ℤ◌, ◌+ℤ◌, ◌≤◌, ◌⊎◌, ◌↔◌, map, slice_index, IfOk, IfErr, OnOk, OnErr, IsErrOf, IsOkUnless, Some, None, if◌then◌else◌};
+ghost use Rattle.std.specs.List.{All};
 ghost use Rattle.roam_acts.specs.Acts.{IsInRange};
 ghost use Rattle.roam_layout.specs.Trees.{shape_of, has};
 ghost use Rattle.roam_layout.specs.Rects.{Covers};
 ghost use Rattle.roam_layout.specs.Changes.{first_of, panes_closed, panes_made, panes_sized};
-ghost use Rattle.roam_layout.specs.Status.{status_row};
+ghost use Rattle.roam_layout.specs.Status.{status_row, IsPrintable};
+ghost use Rattle.roam_layout.specs.Faces.{focus_rect};
 ghost use Rattle.roam_layout.specs.Layouts.{Plan, IsPlan, IsSessionSize, Answers, area, panes, edges, start, split, close, focus_on, next, grow, laid, after, resize, scroll, viewed, Laid, Refused};
 
 use crate::changes::Changes;
@@ -311,6 +313,13 @@ impl Layout {
         Ok(changes)
     }
 
+    /// Where the pane in focus stands.
+    pub(crate) fn focus_rect(&self) -> Rect
+        ensures rect { result ≡ focus_rect self.now }
+    {
+        self.tree.spot(self.focus, area_of(self.rows, self.cols))
+    }
+
     // The view of the pane in focus.
     fn focus_view(&self) -> u16
         ensures view { result ≡ slice_index self.now.views self.now.focus }
@@ -322,6 +331,7 @@ impl Layout {
     /// where that is above 0.
     pub fn status(&self, alloc: Global) -> Result<Vec<u8>, Fault>
         ensures text { IfOk result (λ text. text.items ≡ status_row self.now) }
+        ensures printable { IfOk result (λ text. All IsPrintable text.items) }
         ensures fault { IsOkUnless result Fault.OutOfMemory }
     {
         let mut text = Vec::new(alloc);

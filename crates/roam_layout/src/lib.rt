@@ -1,13 +1,17 @@
-//! The layout of a session: the tree of its panes, their rectangles and borders, and the status text.
+//! The layout of a session: the tree of its panes, their rectangles and borders, the status text, and the face that they make.
 #![tactic(auto)]
 
 pub use changes::{Changes, PaneSize};
+pub use faces::{face, push_row};
 pub use layouts::Layout;
 pub use rects::{Rect, Way};
 
 pub mod changes;
+pub mod faces;
 pub mod laws;
 pub mod layouts;
 pub mod rects;
 mod status;
+#[cfg(test)]
+mod tests;
 mod trees;

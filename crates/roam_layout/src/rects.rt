@@ -1,6 +1,6 @@
 //! Rectangles of a session's screen.
 ghost use Rattle.std.specs.Prelude.{◌≡◌};
-ghost use Rattle.roam_layout.specs.Rects.{rect_in, length_along};
+ghost use Rattle.roam_layout.specs.Rects.{rect_in, length_along, within};
 
 /// Along which line the children of a split stand.
 #[derive(Clone, Copy, Debug, PartialEq, Eq)]
@@ -33,6 +33,13 @@ impl Rect {
             Way::Right => self.cols,
             Way::Down => self.rows,
         }
+    }
+
+    /// Whether it has a row, from 1.
+    pub fn has_row(self, row: u16) -> bool
+        ensures row { result ≡ within self.row self.rows row }
+    {
+        self.row <= row && row - self.row < self.rows
     }
 }
 
