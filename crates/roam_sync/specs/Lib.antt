@@ -1,2 +1,4 @@
 pub mod Senders
 pub mod Receivers
+pub mod Lines
+pub mod TrueLines

@@ -5,6 +5,6 @@ use Rattle.roam_sync.proofs.receivers.add_above.Goals as goal
 
 pub returns : goal.returns
 returns g c = record {
-    pairs = filter_same _ (λ p. leb c.args.floor p.number) _ (λ x b f' h. search rules) _ _ c.retain.ensures.filtered
-    ∙ ap (from_floor c.args.floor) (rw c.unwrap.ensures at c.push.ensures.items);
+  pairs = filter_same _ (λ p. leb c.args.floor p.number) _ (λ x b f' h. search rules) _ _ c.retain.ensures.filtered
+      ∙ ap (from_floor c.args.floor) (rw c.unwrap.ensures at c.push.ensures.items);
 }
