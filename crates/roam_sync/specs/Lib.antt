@@ -2,3 +2,4 @@ pub mod Senders
 pub mod Receivers
 pub mod Lines
 pub mod TrueLines
+pub mod Links
