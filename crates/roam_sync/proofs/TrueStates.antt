@@ -12,11 +12,11 @@ use Rattle.roam_sync.specs.TrueLines.{LeadsTruly, TrueLine}
 
 module _ {S : Type 0} (Is : ℕ → S → Type 0) where
   -- the pair of a sender is true
-  abbrev IsPair : Held S → Type 0
+  abbrev pub IsPair : Held S → Type 0
   IsPair h = Is h.number h.state
 
   -- the pair of a receiver is true
-  abbrev IsHad : Pair S → Type 0
+  abbrev pub IsHad : Pair S → Type 0
   IsHad p = Is p.number p.state
 
   last_true : (base : Held S) (hs : List (Held S)) → All IsPair (base ∷ hs) → IsPair (last_of base hs)
@@ -51,7 +51,7 @@ module _ {S : Type 0} (Is : ℕ → S → Type 0) where
       ]
 
   -- a state that is found is true
-  found_true : (n : ℕ) (ps : List (Pair S)) (s : S) → All IsHad ps → state_at n ps ≡ Some s → Is n s
+  pub found_true : (n : ℕ) (ps : List (Pair S)) (s : S) → All IsHad ps → state_at n ps ≡ Some s → Is n s
   found_true n [] s all e = absurd cc
   found_true n (p ∷ ps) s all e =
       elim (cases_Bool (eqb p.number n)) [

@@ -3,3 +3,4 @@ pub mod Receivers
 pub mod Lines
 pub mod TrueLines
 pub mod Links
+pub mod Laws

@@ -1,5 +1,5 @@
 -- The line between a sender and a receiver: the pairs at both ends, and the updates that go from one to the other.
-use Rattle.std.specs.Prelude.{◌≡◌, ◌⊎◌, ℕ, ◌<◌, List, [], ◌∷◌, Option, map}
+use Rattle.std.specs.Prelude.{◌≡◌, ◌≢◌, ◌⊎◌, ℕ, ◌<◌, List, [], ◌∷◌, Option, map}
 use Rattle.roam_sync.specs.declared.senders.Held.{Held}
 use Rattle.roam_sync.specs.declared.receivers.Step.TheVariants as step
 use Rattle.roam_sync.specs.Senders.{Sending, newest}
@@ -24,6 +24,11 @@ IsChange applied s change = applied s.base.state change ≡ Option.Some (newest 
 pub record Hears {S : Type 0} (applied : S → List ℕ → Option S) (r : Receiving S) (u : Update) (r' : Receiving S) : Type 0 where
   pub fresh : step_for r u.old u.new u.floor ≡ step.New
   pub takes : Takes applied r u.old u.new u.floor u.change r'
+
+-- an update comes to a receiver, and memory isn't wanting: where it is new, it is taken; else nothing changes
+pub record Delivers {S : Type 0} (applied : S → List ℕ → Option S) (r : Receiving S) (u : Update) (r' : Receiving S) : Type 0 where
+  pub fresh : step_for r u.old u.new u.floor ≡ step.New → Takes applied r u.old u.new u.floor u.change r'
+  pub other : step_for r u.old u.new u.floor ≢ step.New → r' ≡ r
 
 -- all pairs that a sender holds
 abbrev pub held : {S : Type 0} → Sending S → List (Held S)

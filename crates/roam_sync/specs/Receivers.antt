@@ -43,7 +43,8 @@ step_for r old new floor =
     else step.New
 
 -- A new state is taken: the change is applied to the state with the number old, and pairs below floor are dropped.
-pub record Takes {S : Type 0} (applied : S → List ℕ → Option S) (r : Receiving S) (old new floor : ℕ) (change : List ℕ) (r' : Receiving S) : Type 0 where
+pub record Takes {S : Type 0} (applied : S → List ℕ → Option S) (r : Receiving S) (old new floor : ℕ) (change : List ℕ)
+    (r' : Receiving S) : Type 0 where
   pub base : S
   pub held : state_at old (pairs r) ≡ Some base
   pub leads : applied base change ≡ Some r'.newest.state

@@ -22,7 +22,8 @@ pub record LeadsTruly {S : Type 0} (applied : S → List ℕ → Option S) (Is :
   pub leads : applied base u.change ≡ Some state
 
 -- what is true of a line after each step: that the base is among the sender's pairs is the form of `Sending`
-pub record TrueLine {S : Type 0} (applied : S → List ℕ → Option S) (Is : ℕ → S → Type 0) (s : Sending S) (r : Receiving S) (WasSent : Update → Type 0) : Type 0 where
+pub record TrueLine {S : Type 0} (applied : S → List ℕ → Option S) (Is : ℕ → S → Type 0) (s : Sending S) (r : Receiving S)
+    (WasSent : Update → Type 0) : Type 0 where
   pub sender : HoldsTrueStates Is s
   pub receiver : HasTrueStates Is r
   pub updates : (u : Update) → WasSent u → LeadsTruly applied Is u
