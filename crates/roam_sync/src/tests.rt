@@ -2,8 +2,9 @@
 ghost use Rattle.std.specs.Prelude.{◌≡◌, ℕ, List, OnOk, Ok};
 ghost use Rattle.roam_sync.specs.Senders.{acked, sent_at};
 ghost use Rattle.roam_sync.specs.Lines.{update_of, IsChange, Delivers};
+ghost use Rattle.roam_sync.specs.Laws.{EachPairIsTrue, OneRoundSuffices};
 
-use crate::{Instruction, Receiver, Sender, Step};
+use crate::{Instruction, Receiver, Sender, Step, laws};
 use roam_cells::{Fault, Shot};
 use roam_update::Synced;
 use std::alloc::Global;
@@ -406,4 +407,18 @@ fn a_refused_line_of_numbers(rt: HostRuntime) {
 fn a_refused_line_of_screens(rt: HostRuntime) {
     let kept = refused_leaves::<Shot>(rt.alloc());
     assert!(rt; kept == Ok(true) || kept == Err(Fault::OutOfMemory));
+}
+
+/// The laws at screens.
+#[test]
+fn the_laws_hold_of_screens(_rt: HostRuntime) {
+    laws_of_screens();
+}
+
+fn laws_of_screens()
+    ensures pairs { EachPairIsTrue ⟦<Shot as Synced>⟧.applied }
+    ensures round { OneRoundSuffices ⟦<Shot as Synced>⟧.applied }
+{
+    laws::each_pair_is_true::<Shot>();
+    laws::one_round_suffices::<Shot>();
 }
