@@ -40,33 +40,33 @@ module _ {S : Type 0} (applied : S → List ℕ → Option S) (states : ℕ → 
   holds_then : (line after : Line S) (e : Event) → Follows applied states line e after → Holds line → Holds after
   holds_then line after (Offer n) f h =
       subst Holds (sym f.2) (record {
-        true_line = true_offered applied (IsOf states) line.sender line.receiver (Contains line.updates) n (states n) refl h.true_line;
-        link = link_offered line.sender line.receiver (Contains line.updates) (Contains line.answers) n (states n) f.0 f.1 h.link;
+        true_line = true_offered applied (IsOf states) line.sender line.receiver (Contains line.updates) h.true_line n (states n) refl;
+        link = link_offered line.sender line.receiver (Contains line.updates) (Contains line.answers) h.link n (states n) f.0 f.1;
       })
   holds_then line after (Send now change) f h =
       let more = one_more line.updates (update_of line.sender change) in
       let now_sent = Contains (line.updates ++ update_of line.sender change ∷ []) in
       subst Holds (sym f.1) (record {
-        true_line = true_sent applied (IsOf states) line.sender line.receiver (Contains line.updates) now_sent now change f.0 more h.true_line;
-        link = link_sent line.sender line.receiver (Contains line.updates) now_sent (Contains line.answers) now change more h.link;
+        true_line = true_sent applied (IsOf states) line.sender line.receiver (Contains line.updates) h.true_line now_sent now change f.0 more;
+        link = link_sent line.sender line.receiver (Contains line.updates) (Contains line.answers) h.link now_sent now change more;
       })
   holds_then line after (Deliver u) f h =
       let r = f.1.0 in
       let hears = f.1.1 in
       subst Holds (sym f.1.2) (record {
-        true_line = true_heard applied (IsOf states) line.sender line.receiver r (Contains line.updates) u one_state f.0 hears h.true_line;
-        link = link_heard applied line.sender line.receiver r (Contains line.updates) (Contains line.answers) u f.0 hears h.link;
+        true_line = true_heard applied (IsOf states) line.sender line.receiver (Contains line.updates) h.true_line r u one_state f.0 hears;
+        link = link_heard line.sender line.receiver (Contains line.updates) (Contains line.answers) h.link applied r u f.0 hears;
       })
   holds_then line after Answer f h =
       subst Holds (sym f) (record {
         true_line = h.true_line;
-        link = link_answered line.sender line.receiver (Contains line.updates) (Contains line.answers) (Contains (line.answers ++ line.receiver.newest.number ∷ []))
-            (one_more line.answers line.receiver.newest.number) h.link;
+        link = link_answered line.sender line.receiver (Contains line.updates) (Contains line.answers) h.link
+            (Contains (line.answers ++ line.receiver.newest.number ∷ [])) (one_more line.answers line.receiver.newest.number);
       })
   holds_then line after (Acknowledge n) f h =
       subst Holds (sym f.1) (record {
-        true_line = true_acked applied (IsOf states) line.sender line.receiver (Contains line.updates) n h.true_line;
-        link = link_acked line.sender line.receiver (Contains line.updates) (Contains line.answers) n f.0 h.link;
+        true_line = true_acked applied (IsOf states) line.sender line.receiver (Contains line.updates) h.true_line n;
+        link = link_acked line.sender line.receiver (Contains line.updates) (Contains line.answers) h.link n f.0;
       })
 
   holds_after : (line after : Line S) (es : List Event) → Becomes applied states line es after → Holds line → Holds after
@@ -107,7 +107,7 @@ module _ {S : Type 0} (applied : S → List ℕ → Option S) where
   pub no_gap : NoUpdateMakesAGap applied
   no_gap states events line run u sent is =
       let h = holds applied states events line run in
-      elim (old_or_new line.sender line.receiver (Contains line.updates) (Contains line.answers) u sent h.link) [
+      elim (old_or_new line.sender line.receiver (Contains line.updates) (Contains line.answers) h.link u sent) [
         | inl old ↦ (let no : step.Old ≡ step.Gap = sym old.0 ∙ is in cc)
         | inr new ↦ (let no : step.New ≡ step.Gap = sym new ∙ is in cc)
       ]
@@ -133,14 +133,14 @@ module _ {S : Type 0} (applied : S → List ℕ → Option S) where
       let sender = sent_at line.sender now in
       let more = one_more applied states line.updates u in
       let this = Contains-push line.updates u in
-      let link = link_sent line.sender line.receiver (Contains line.updates) sent (Contains line.answers) now change more h.link in
-      let truly = true_sent applied (IsOf states) line.sender line.receiver (Contains line.updates) sent now change is more h.true_line in
+      let link = link_sent line.sender line.receiver (Contains line.updates) (Contains line.answers) h.link sent now change more in
+      let truly = true_sent applied (IsOf states) line.sender line.receiver (Contains line.updates) h.true_line sent now change is more in
       let marked : (newest sender).number ≡ (newest line.sender).number = marked_newest line.sender.base line.sender.later in
-      let got = one_round applied sender line.receiver r sent (Contains line.answers) u this (sym marked) delivers link in
+      let got = one_round sender line.receiver sent (Contains line.answers) link applied r u this (sym marked) delivers in
       let then : TrueLine applied (IsOf states) sender r sent =
       elim got.0 [
         | inl same ↦ rw same truly
-        | inr hears ↦ true_heard applied (IsOf states) sender line.receiver r sent u (one_state applied states) this hears truly
+        | inr hears ↦ true_heard applied (IsOf states) sender line.receiver sent truly r u (one_state applied states) this hears
       ] in
       let number : r.newest.number ≡ last_offered 0 events = got.1 ∙ marked ∙ offered_after applied states (begun (states 0)) line events run in
       let state : r.newest.state ≡ states r.newest.number = All-contains (IsHad (IsOf states)) (pairs r) r.newest then.receiver (Contains-push r.earlier r.newest) in

@@ -75,68 +75,69 @@ module _ {S : Type 0} (applied : S → List ℕ → Option S) (Is : ℕ → S �
     updates = λ u sent. absurd (none u sent);
   }
 
+module _ {S : Type 0} (applied : S → List ℕ → Option S) (Is : ℕ → S → Type 0) (s : Sending S) (r : Receiving S) (WasSent : Update → Type 0)
+    (line : TrueLine applied Is s r WasSent) where
   -- a true state is offered
-  pub true_offered : (s : Sending S) (r : Receiving S) (WasSent : Update → Type 0) (n : ℕ) (state : S) → Is n state
-      → TrueLine applied Is s r WasSent → TrueLine applied Is (offered s n state) r WasSent
-  true_offered s r WasSent n state is line = record {
+  pub true_offered : (n : ℕ) (state : S) → Is n state → TrueLine applied Is (offered s n state) r WasSent
+  true_offered n state is = record {
     sender = All-push (IsPair Is) (s.base ∷ s.later) (record { number = n; state = state; sent = false }) line.sender is;
     receiver = line.receiver;
     updates = line.updates;
   }
 
   -- an acknowledgement comes, of whatever number
-  pub true_acked : (s : Sending S) (r : Receiving S) (WasSent : Update → Type 0) (n : ℕ)
-      → TrueLine applied Is s r WasSent → TrueLine applied Is (acked s n) r WasSent
-  true_acked s r WasSent n line = record {
+  pub true_acked : (n : ℕ) → TrueLine applied Is (acked s n) r WasSent
+  true_acked n = record {
     sender = after_ack_true Is s.base s.later s.later n line.sender (All-tail (IsPair Is) s.base s.later line.sender);
     receiver = line.receiver;
     updates = line.updates;
   }
 
   -- the newest is sent at a moment
-  pub true_sent : (s : Sending S) (r : Receiving S) (WasSent IsSentNow : Update → Type 0) (now : ℕ) (change : List ℕ) → IsChange applied s change
-      → ((u : Update) → IsSentNow u → WasSent u ⊎ (u ≡ update_of s change))
-      → TrueLine applied Is s r WasSent → TrueLine applied Is (sent_at s now) r IsSentNow
-  true_sent s r WasSent IsSentNow now change leads only line =
-      let base = All-head (IsPair Is) s.base s.later line.sender in
-      record {
-        sender = All-cons (IsPair Is) (mark_base s.base s.later) (mark_last s.later)
-            (mark_base_true Is s.base s.later base) (mark_last_true Is s.later (All-tail (IsPair Is) s.base s.later line.sender));
-        receiver = line.receiver;
-        updates = λ u sent. elim (only u sent) [
-          | inl before ↦ line.updates u before
-          | inr this ↦ subst (LeadsTruly applied Is) (sym this) (record {
-            base = s.base.state;
-            state = (newest s).state;
-            from_true = base;
-            to_true = last_true Is s.base s.later line.sender;
-            leads = leads;
-          })
-        ];
+  pub true_sent : (IsSentNow : Update → Type 0) (now : ℕ) (change : List ℕ) → IsChange applied s change
+      → ((u : Update) → IsSentNow u → WasSent u ⊎ (u ≡ update_of s change)) → TrueLine applied Is (sent_at s now) r IsSentNow
+  true_sent IsSentNow now change leads only = record {
+    sender = All-cons (IsPair Is) (mark_base s.base s.later) (mark_last s.later) (mark_base_true Is s.base s.later base)
+        (mark_last_true Is s.later (All-tail (IsPair Is) s.base s.later line.sender));
+    receiver = line.receiver;
+    updates = λ u sent. elim (only u sent) [
+      | inl before ↦ line.updates u before
+      | inr this ↦ subst (LeadsTruly applied Is) (sym this) truly
+    ];
+  }
+    where
+      base : IsPair Is s.base
+      base = All-head (IsPair Is) s.base s.later line.sender
+
+      truly : LeadsTruly applied Is (update_of s change)
+      truly = record {
+        base = s.base.state;
+        state = (newest s).state;
+        from_true = base;
+        to_true = last_true Is s.base s.later line.sender;
+        leads = leads;
       }
 
   -- an update that was ever sent is new to the receiver
-  pub true_heard : (s : Sending S) (r r' : Receiving S) (WasSent : Update → Type 0) (u : Update)
-      → ((n : ℕ) (a b : S) → Is n a → Is n b → a ≡ b) → WasSent u → Hears applied r u r'
-      → TrueLine applied Is s r WasSent → TrueLine applied Is s r' WasSent
-  true_heard s r r' WasSent u one sent hears line =
+  pub true_heard : (r' : Receiving S) (u : Update) → ((n : ℕ) (a b : S) → Is n a → Is n b → a ≡ b) → WasSent u → Hears applied r u r'
+      → TrueLine applied Is s r' WasSent
+  true_heard r' u one sent hears =
       let t = hears.takes in
       let l = line.updates u sent in
       let same : t.base ≡ l.base = one u.old t.base l.base (found_true Is u.old (pairs r) t.base line.receiver t.held) l.from_true in
       let e : Some l.state ≡ Some r'.newest.state = sym l.leads ∙ sym (ap (λ b. applied b u.change) same) ∙ t.leads in
       let state : l.state ≡ r'.newest.state = cc in
-      let is : Is r'.newest.number r'.newest.state = subst (λ (n : ℕ). Is n r'.newest.state) (sym t.number) (subst (Is u.new) state l.to_true) in
+      let is : Is u.new r'.newest.state = subst (Is u.new) state l.to_true in
       record {
         sender = line.sender;
-        receiver = All-push (IsHad Is) r'.earlier r'.newest (rw t.earlier (floor_true Is u.floor (pairs r) line.receiver)) is;
+        receiver = All-push (IsHad Is) r'.earlier r'.newest (rw t.earlier (floor_true Is u.floor (pairs r) line.receiver)) (rw t.number is);
         updates = line.updates;
       }
 
   -- what is true stays true, and no more was sent
-  pub true_still : (Then : ℕ → S → Type 0) (s : Sending S) (r : Receiving S) (WasSent IsSentNow : Update → Type 0)
-      → ((n : ℕ) (a : S) → Is n a → Then n a) → ((u : Update) → IsSentNow u → WasSent u)
-      → TrueLine applied Is s r WasSent → TrueLine applied Then s r IsSentNow
-  true_still Then s r WasSent IsSentNow still fewer line = record {
+  pub true_still : (Then : ℕ → S → Type 0) (IsSentNow : Update → Type 0) → ((n : ℕ) (a : S) → Is n a → Then n a)
+      → ((u : Update) → IsSentNow u → WasSent u) → TrueLine applied Then s r IsSentNow
+  true_still Then IsSentNow still fewer = record {
     sender = All-weaker (IsPair Is) (IsPair Then) (λ h. still h.number h.state) (s.base ∷ s.later) line.sender;
     receiver = All-weaker (IsHad Is) (IsHad Then) (λ p. still p.number p.state) (pairs r) line.receiver;
     updates = λ u sent. let l = line.updates u (fewer u sent) in record {
