@@ -1,9 +1,9 @@
 -- What may happen to one line, and what holds after every list of it.
-use Rattle.std.specs.Prelude.{◌≡◌, ◌≢◌, ℕ, ◌<◌, ◌≤◌, List, [], ◌∷◌, ◌++◌, length, Contains, Option, Some}
+use Rattle.std.specs.Prelude.{◌≡◌, ◌≢◌, ◌⊎◌, ℕ, ◌<◌, ◌≤◌, List, [], ◌∷◌, ◌++◌, length, Contains, Option, Some}
 use Rattle.roam_sync.specs.declared.receivers.Step.TheVariants as step
 use Rattle.roam_sync.specs.Senders.{Sending, newest, count, offered, acked, sent_at, start as sender_start}
 use Rattle.roam_sync.specs.Receivers.{Receiving, pairs, state_at, step_for, start as receiver_start}
-use Rattle.roam_sync.specs.Lines.{Update, update_of, IsChange, Hears, Delivers}
+use Rattle.roam_sync.specs.Lines.{Update, update_of, IsChange, Hears, Delivers, numbers_held, numbers_had, IsAmong, IsRising}
 use Rattle.roam_sync.specs.TrueLines.{HoldsTrueStates, HasTrueStates}
 
 -- Both ends, all updates that were ever sent, and all numbers that were ever acknowledged: what was sent may come late, again, in another
@@ -70,6 +70,25 @@ IsOf states n s = s ≡ states n
 abbrev pub EachPairIsTrue : {S : Type 0} → (S → List ℕ → Option S) → Type 0
 EachPairIsTrue {S} applied = (states : ℕ → S) (events : List Event) (line : Line S) → Runs applied states events line
     → HoldsTrueStates (IsOf states) line.sender × HasTrueStates (IsOf states) line.receiver
+
+-- the numbers at both ends rise
+abbrev pub NumbersRise : {S : Type 0} → (S → List ℕ → Option S) → Type 0
+NumbersRise {S} applied = (states : ℕ → S) (events : List Event) (line : Line S) → Runs applied states events line
+    → IsRising (numbers_held line.sender) × IsRising (numbers_had line.receiver)
+
+-- the receiver has the sender's base, and what the receiver has from there on the sender holds too
+abbrev pub BaseIsShared : {S : Type 0} → (S → List ℕ → Option S) → Type 0
+BaseIsShared {S} applied = (states : ℕ → S) (events : List Event) (line : Line S) → Runs applied states events line
+    → IsAmong line.sender.base.number (numbers_had line.receiver)
+    × ((n : ℕ) → IsAmong n (numbers_had line.receiver) → line.sender.base.number ≤ n → IsAmong n (numbers_held line.sender))
+
+-- Each update that was ever sent leads from the state of its old number to the state of its new one; and the receiver has the old number,
+-- or a newest one that isn't below the new.
+abbrev pub UpdatesLeadOn : {S : Type 0} → (S → List ℕ → Option S) → Type 0
+UpdatesLeadOn {S} applied = (states : ℕ → S) (events : List Event) (line : Line S) → Runs applied states events line
+    → (u : Update) → Contains line.updates u
+    → (applied (states u.old) u.change ≡ Some (states u.new))
+    × (IsAmong u.old (numbers_had line.receiver) ⊎ (u.new ≤ line.receiver.newest.number))
 
 -- whatever update comes that was ever sent, it makes no gap
 abbrev pub NoUpdateMakesAGap : {S : Type 0} → (S → List ℕ → Option S) → Type 0
