@@ -30,7 +30,8 @@ module _ {S : Type 0} where
   held_rises n [] rising = ((λ m a. absurd a), tt)
   held_rises n (h ∷ hs) rising = ((λ m a. above_all n m (h ∷ hs) rising a), held_rises h.number hs rising.1)
 
-  pub base_least : (base : Held S) (hs : List (Held S)) (m : ℕ) → AreAbove base.number hs → IsAmong m (held_numbers (base ∷ hs)) → base.number ≤ m
+  pub base_least : (base : Held S) (hs : List (Held S)) (m : ℕ) → AreAbove base.number hs
+      → IsAmong m (held_numbers (base ∷ hs)) → base.number ≤ m
   base_least base hs m rising among =
       elim among [ inl e ↦ omega arith | inr rest ↦ let up = above_all base.number m hs rising rest in omega arith ]
 
@@ -38,7 +39,8 @@ module _ {S : Type 0} where
   last_among base [] = inl refl
   last_among base (h ∷ hs) = inr (last_among h hs)
 
-  pub last_greatest : (base : Held S) (hs : List (Held S)) (m : ℕ) → AreAbove base.number hs → IsAmong m (held_numbers (base ∷ hs)) → m ≤ (last_of base hs).number
+  pub last_greatest : (base : Held S) (hs : List (Held S)) (m : ℕ) → AreAbove base.number hs
+      → IsAmong m (held_numbers (base ∷ hs)) → m ≤ (last_of base hs).number
   last_greatest base [] m rising among = elim among [ inl e ↦ omega arith | inr rest ↦ absurd rest ]
   last_greatest base (h ∷ hs) m rising among =
       elim among [
@@ -117,13 +119,17 @@ module _ {S : Type 0} where
 
   rises_to : (ps : List (Pair S)) (n : ℕ) → AreBelow ps n → IsRising (had_numbers ps ++ n ∷ [])
   rises_to [] n rising = ((λ m a. absurd a), tt)
-  rises_to (p ∷ ps) n rising = ((λ m a. let lt = rising.0 in let low = first_least ps n m rising.1 a in omega arith), rises_to ps n rising.1)
+  rises_to (p ∷ ps) n rising =
+      ((λ m a. let lt = rising.0 in let low = first_least ps n m rising.1 a in omega arith), rises_to ps n rising.1)
 
   most_to : (ps : List (Pair S)) (n m : ℕ) → AreBelow ps n → IsAmong m (had_numbers ps ++ n ∷ []) → m ≤ n
   most_to [] n m rising among = elim among [ inl e ↦ omega arith | inr rest ↦ absurd rest ]
   most_to (p ∷ ps) n m rising among =
       elim among [
-        | inl e ↦ let lt = rising.0 in let low = first_least ps n n rising.1 (among_right n (had_numbers ps) (n ∷ []) (inl refl)) in omega arith
+        | inl e ↦
+            let lt = rising.0 in
+            let low = first_least ps n n rising.1 (among_right n (had_numbers ps) (n ∷ []) (inl refl)) in
+            omega arith
         | inr rest ↦ most_to ps n m rising.1 rest
       ]
 
@@ -133,7 +139,8 @@ module _ {S : Type 0} where
   pub had_rises : (ps : List (Pair S)) (p : Pair S) → AreBelow ps p.number → IsRising (had_numbers (ps ++ p ∷ []))
   had_rises ps p rising = rw (numbers_of_pairs ps p) (rises_to ps p.number rising)
 
-  pub newest_greatest : (ps : List (Pair S)) (p : Pair S) (m : ℕ) → AreBelow ps p.number → IsAmong m (had_numbers (ps ++ p ∷ [])) → m ≤ p.number
+  pub newest_greatest : (ps : List (Pair S)) (p : Pair S) (m : ℕ) → AreBelow ps p.number
+      → IsAmong m (had_numbers (ps ++ p ∷ [])) → m ≤ p.number
   newest_greatest ps p m rising among = most_to ps p.number m rising (rw (numbers_of_pairs ps p) at among)
 
   pub newest_among : (ps : List (Pair S)) (p : Pair S) → IsAmong p.number (had_numbers (ps ++ p ∷ []))

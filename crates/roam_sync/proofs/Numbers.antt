@@ -43,7 +43,9 @@ pub among_passed : (f : ℕ → Bool) (n : ℕ) (ns : List ℕ) → IsAmong n (f
 among_passed f n [] h = absurd h
 among_passed f n (k ∷ ns) h =
     elim (cases_Bool (f k)) [
-      | inl e ↦ (let g : (k ≡ n) ⊎ IsAmong n (filter f ns) = rw e at h in elim g [ inl a ↦ ap f (sym a) ∙ e | inr r ↦ among_passed f n ns r ])
+      | inl e ↦
+          let g : (k ≡ n) ⊎ IsAmong n (filter f ns) = rw e at h in
+          elim g [ inl a ↦ ap f (sym a) ∙ e | inr r ↦ among_passed f n ns r ]
       | inr e ↦ among_passed f n ns (rw e at h)
     ]
 
@@ -72,7 +74,8 @@ no_longer (n ∷ ns) [] r t h = absurd (h n (inl refl))
 no_longer (n ∷ ns) (m ∷ ms) r t h =
     elim (h n (inl refl)) [
       | inl e ↦
-          let rest : (k : ℕ) → IsAmong k ns → IsAmong k ms = λ k a. (let lt = r.0 k a in elim (h k (inr a)) [ inl f ↦ absurd (omega arith) | inr b ↦ b ]) in
+          let rest : (k : ℕ) → IsAmong k ns → IsAmong k ms =
+          λ k a. (let lt = r.0 k a in elim (h k (inr a)) [ inl f ↦ absurd (omega arith) | inr b ↦ b ]) in
           let le = no_longer ns ms r.1 t.1 rest in
           omega arith
       | inr g ↦
@@ -98,6 +101,9 @@ fewer_below top [] h = absurd h
 fewer_below top (n ∷ ns) h =
     let most = no_more (λ m. ltb m top) ns in
     elim (cases_Bool (ltb n top)) [
-      | inl e ↦ rw e (elim h [ inl same ↦ absurd (grind (arith, nat_tests)) | inr g ↦ (let rest = fewer_below top ns g in omega (arith, rest)) ])
+      | inl e ↦ rw e (elim h [
+        | inl same ↦ absurd (grind (arith, nat_tests))
+        | inr g ↦ (let rest = fewer_below top ns g in omega (arith, rest))
+      ])
       | inr e ↦ rw e (omega (arith, most))
     ]

@@ -13,12 +13,15 @@ use Rattle.roam_sync.proofs.Ends.{above_all, last_among, last_greatest, had_rise
 cases_le : (a b : ℕ) → (a ≤ b) ⊎ (b < a)
 cases_le a b = grind arith
 
-module _ {S : Type 0} (s : Sending S) (r : Receiving S) (WasSent : Update → Type 0) (WasAnswered : ℕ → Type 0) (l : Link s r WasSent WasAnswered) where
+module _ {S : Type 0} (s : Sending S) (r : Receiving S) (WasSent : Update → Type 0) (WasAnswered : ℕ → Type 0)
+    (l : Link s r WasSent WasAnswered) where
   -- an update that was ever sent starts from a pair that is there, and there is room for its own, where it is above the newest
-  pub room_for : (u : Update) → WasSent u → r.newest.number < u.new → IsAmong u.old (numbers_had r) × (length (from_floor u.floor (pairs r)) ≤ 7)
+  pub room_for : (u : Update) → WasSent u → r.newest.number < u.new
+      → IsAmong u.old (numbers_had r) × (length (from_floor u.floor (pairs r)) ≤ 7)
   room_for u sent above =
       let t = l.told u sent in
-      let fits = no_longer kept w.below (rising-filter (leb u.floor) (numbers_had r) (had_rises r.earlier r.newest l.receiver_rises)) w.rising within in
+      let rising = rising-filter (leb u.floor) (numbers_had r) (had_rises r.earlier r.newest l.receiver_rises) in
+      let fits = no_longer kept w.below rising w.rising within in
       let same = floor_length u.floor (pairs r) in
       let few = w.few in
       (elim t.known [ inl there ↦ there | inr le ↦ absurd (omega (arith, le, above)) ], omega (arith, same, fits, few))
@@ -54,7 +57,8 @@ module _ {S : Type 0} (s : Sending S) (r : Receiving S) (WasSent : Update → Ty
       last_greatest s.base s.later r.newest.number l.sender_rises (l.from_base r.newest.number (newest_among r.earlier r.newest) low)
 
   -- what the receiver has once an update of the newest came, where memory isn't wanting
-  pub one_round : (applied : S → List ℕ → Option S) (r' : Receiving S) (u : Update) → WasSent u → u.new ≡ (newest s).number → Delivers applied r u r'
+  pub one_round : (applied : S → List ℕ → Option S) (r' : Receiving S) (u : Update) → WasSent u → u.new ≡ (newest s).number
+      → Delivers applied r u r'
       → ((r' ≡ r) ⊎ Hears applied r u r') × (r'.newest.number ≡ (newest s).number)
   one_round applied r' u sent is delivers =
       elim (old_or_new u sent) [
@@ -80,6 +84,7 @@ alone_after all h (g ∷ gs) rising =
 pub alone : {S : Type 0} (s : Sending S) → AreAbove s.base.number s.later → (acked s (newest s).number).later ≡ []
 alone s rising = go s.base s.later rising
   where
-    go : {S : Type 0} (base : Held S) (hs : List (Held S)) → AreAbove base.number hs → (after_ack (base, hs) hs (last_of base hs).number).1 ≡ []
+    go : {S : Type 0} (base : Held S) (hs : List (Held S)) → AreAbove base.number hs
+        → (after_ack (base, hs) hs (last_of base hs).number).1 ≡ []
     go base [] rising = refl
     go base (h ∷ hs) rising = alone_after (base, h ∷ hs) h hs rising.1

@@ -118,8 +118,10 @@ module _ {S : Type 0} (applied : S → List ℕ → Option S) where
 
   pub numbers_rise : NumbersRise applied
   numbers_rise states events line run =
-      let l = (holds applied states events line run).link in
-      (held_rises line.sender.base.number line.sender.later l.sender_rises, had_rises line.receiver.earlier line.receiver.newest l.receiver_rises)
+      let l = (holds applied states events line run).link in (
+        held_rises line.sender.base.number line.sender.later l.sender_rises,
+        had_rises line.receiver.earlier line.receiver.newest l.receiver_rises,
+      )
 
   pub base_shared : BaseIsShared applied
   base_shared states events line run = let l = (holds applied states events line run).link in (l.base_there, l.from_base)

@@ -33,7 +33,8 @@ link_at_first state WasSent WasAnswered none quiet =
 cases_le : (a b : ℕ) → (a ≤ b) ⊎ (b < a)
 cases_le a b = grind arith
 
-module _ {S : Type 0} (s : Sending S) (r : Receiving S) (WasSent : Update → Type 0) (WasAnswered : ℕ → Type 0) (l : Link s r WasSent WasAnswered) where
+module _ {S : Type 0} (s : Sending S) (r : Receiving S) (WasSent : Update → Type 0) (WasAnswered : ℕ → Type 0)
+    (l : Link s r WasSent WasAnswered) where
   -- no more was sent or acknowledged
   pub link_still : (IsSentNow : Update → Type 0) (IsAnsweredNow : ℕ → Type 0)
       → ((u : Update) → IsSentNow u → WasSent u) → ((n : ℕ) → IsAnsweredNow n → WasAnswered n) → Link s r IsSentNow IsAnsweredNow
@@ -142,7 +143,8 @@ module _ {S : Type 0} (s : Sending S) (r : Receiving S) (WasSent : Update → Ty
       ]
 
   -- the receiver acknowledges its newest
-  pub link_answered : (IsAnsweredNow : ℕ → Type 0) → ((n : ℕ) → IsAnsweredNow n → WasAnswered n ⊎ (n ≡ r.newest.number)) → Link s r WasSent IsAnsweredNow
+  pub link_answered : (IsAnsweredNow : ℕ → Type 0) → ((n : ℕ) → IsAnsweredNow n → WasAnswered n ⊎ (n ≡ r.newest.number))
+      → Link s r WasSent IsAnsweredNow
   link_answered IsAnsweredNow only =
       record {
         sender_rises = l.sender_rises;
@@ -260,12 +262,15 @@ module _ {S : Type 0} (s : Sending S) (r : Receiving S) (WasSent : Update → Ty
       }
 
   -- an update that was ever sent is new to the receiver
-  pub link_heard : (applied : S → List ℕ → Option S) (r' : Receiving S) (u : Update) → WasSent u → Hears applied r u r' → Link s r' WasSent WasAnswered
+  pub link_heard : (applied : S → List ℕ → Option S) (r' : Receiving S) (u : Update) → WasSent u → Hears applied r u r'
+      → Link s r' WasSent WasAnswered
   link_heard applied r' u sent hears =
       record {
         sender_rises = l.sender_rises;
         sender_few = l.sender_few;
-        receiver_rises = rw (t.earlier, t.number) ((AreBelow-floor u.floor (pairs r) u.new (AreBelow-push r.earlier r.newest u.new l.receiver_rises above)).1);
+        receiver_rises =
+            let all = AreBelow-push r.earlier r.newest u.new l.receiver_rises above in
+            rw (t.earlier, t.number) ((AreBelow-floor u.floor (pairs r) u.new all).1);
         receiver_few = rw t.earlier room;
         base_there = stays s.base.number l.base_there low;
         from_base = λ n had le. elim (had_then n had) [
@@ -312,7 +317,8 @@ module _ {S : Type 0} (s : Sending S) (r : Receiving S) (WasSent : Update → Ty
           ∙ ap (λ k. filter (leb k) (numbers_had r) ++ u.new ∷ []) told.floor
 
       stays : (n : ℕ) → IsAmong n (numbers_had r) → u.old ≤ n → IsAmong n (numbers_had r')
-      stays n had le = rw then_had (among_left n (filter (leb u.old) (numbers_had r)) (u.new ∷ []) (among_from u.old n (numbers_had r) le had))
+      stays n had le =
+          rw then_had (among_left n (filter (leb u.old) (numbers_had r)) (u.new ∷ []) (among_from u.old n (numbers_had r) le had))
 
       had_then : (n : ℕ) → IsAmong n (numbers_had r') → IsAmong n (numbers_had r) ⊎ (u.new ≡ n)
       had_then n had =

@@ -35,7 +35,9 @@ module _ {S : Type 0} (Is : ℕ → S → Type 0) where
   mark_last_true : (hs : List (Held S)) → All IsPair hs → All IsPair (mark_last hs)
   mark_last_true [] all = all
   mark_last_true (h ∷ []) all = All-cons IsPair (record h { sent = true }) [] (All-head IsPair h [] all) (All-nil IsPair)
-  mark_last_true (h ∷ g ∷ hs) all = All-cons IsPair h (mark_last (g ∷ hs)) (All-head IsPair h (g ∷ hs) all) (mark_last_true (g ∷ hs) (All-tail IsPair h (g ∷ hs) all))
+  mark_last_true (h ∷ g ∷ hs) all =
+      let rest = mark_last_true (g ∷ hs) (All-tail IsPair h (g ∷ hs) all) in
+      All-cons IsPair h (mark_last (g ∷ hs)) (All-head IsPair h (g ∷ hs) all) rest
 
   mark_base_true : (base : Held S) (hs : List (Held S)) → IsPair base → IsPair (mark_base base hs)
   mark_base_true base [] is = is

@@ -1,4 +1,5 @@
--- The line between a sender and a receiver: the pairs at both ends, and the updates that go from one to the other.
+-- The line between a sender and a receiver: the pairs at both ends, and the updates that go from one to the other (this project's profile
+-- of Mosh's State Synchronization Protocol).
 use Rattle.std.specs.Prelude.{◌≡◌, ◌≢◌, ◌⊎◌, ℕ, ◌<◌, List, [], ◌∷◌, Option, map}
 use Rattle.roam_sync.specs.declared.senders.Held.{Held}
 use Rattle.roam_sync.specs.declared.receivers.Step.TheVariants as step
