@@ -14,7 +14,8 @@ AreBelow-push [] q n rising lt = (lt, tt)
 AreBelow-push (p ∷ ps) q n rising lt = (rw (first_number-push ps q n) rising.0, AreBelow-push ps q n rising.1 lt)
 
 -- without those below the floor
-pub AreBelow-floor : {S : Type 0} (floor : ℕ) (ps : List (Pair S)) (n : ℕ) → AreBelow ps n → (first_number ps n ≤ first_number (from_floor floor ps) n) × AreBelow (from_floor floor ps) n
+pub AreBelow-floor : {S : Type 0} (floor : ℕ) (ps : List (Pair S)) (n : ℕ) → AreBelow ps n
+    → (first_number ps n ≤ first_number (from_floor floor ps) n) × AreBelow (from_floor floor ps) n
 AreBelow-floor floor [] n rising = (omega arith, tt)
 AreBelow-floor floor (p ∷ ps) n rising =
     let rest = AreBelow-floor floor ps n rising.1 in

@@ -5,7 +5,8 @@ use Rattle.roam_sync.specs.Senders.{AreAbove, last_of, mark_base, mark_last, is_
 use Rattle.std.proofs.lemmas.Bool.{cases_Bool, true≢false}
 
 -- one more above the last
-pub AreAbove-push : {S : Type 0} (base : Held S) (hs : List (Held S)) (h : Held S) → AreAbove base.number hs → (last_of base hs).number < h.number → AreAbove base.number (hs ++ h ∷ [])
+pub AreAbove-push : {S : Type 0} (base : Held S) (hs : List (Held S)) (h : Held S)
+    → AreAbove base.number hs → (last_of base hs).number < h.number → AreAbove base.number (hs ++ h ∷ [])
 AreAbove-push base [] h rising lt = (lt, tt)
 AreAbove-push base (g ∷ hs) h rising lt = (rising.0, AreAbove-push g hs h rising.1 lt)
 
@@ -35,7 +36,8 @@ last_at base (g ∷ []) d h = refl
 last_at base (g ∷ h ∷ hs) d lt = last_at g (h ∷ hs) d (omega arith) ∙ ap (λ i. get_or (g ∷ h ∷ hs) i d) (sym (one_less (length hs)))
 
 -- marking the last is a write at the last index
-pub mark_at : {S : Type 0} (hs : List (Held S)) (d : Held S) → 0 < length hs → set hs (length hs - 1) (record (get_or hs (length hs - 1) d) { sent = true }) ≡ mark_last hs
+pub mark_at : {S : Type 0} (hs : List (Held S)) (d : Held S) → 0 < length hs
+    → set hs (length hs - 1) (record (get_or hs (length hs - 1) d) { sent = true }) ≡ mark_last hs
 mark_at [] d h = absurd (omega arith)
 mark_at (g ∷ []) d h = refl
 mark_at {S} (g ∷ h ∷ hs) d lt =
@@ -48,7 +50,8 @@ number-mark_base base [] = refl
 number-mark_base base (h ∷ hs) = refl
 
 -- a number that isn't held drops nothing
-pub after_ack-none : {S : Type 0} (all : Held S × List (Held S)) (hs : List (Held S)) (k : ℕ) → is_held hs k ≡ false → after_ack all hs k ≡ all
+pub after_ack-none : {S : Type 0} (all : Held S × List (Held S)) (hs : List (Held S)) (k : ℕ) → is_held hs k ≡ false
+    → after_ack all hs k ≡ all
 after_ack-none all [] k h = refl
 after_ack-none all (g ∷ hs) k h =
     elim (cases_Bool (eqb g.number k)) [
@@ -57,7 +60,9 @@ after_ack-none all (g ∷ hs) k h =
     ]
 
 -- what is left is in order, and no more than before
-pub after_ack-rising : {S : Type 0} (all : Held S × List (Held S)) (n : ℕ) (hs : List (Held S)) (k : ℕ) → AreAbove n hs → is_held hs k ≡ true → (length (after_ack all hs k).1 ≤ length hs) × AreAbove (after_ack all hs k).0.number (after_ack all hs k).1
+pub after_ack-rising : {S : Type 0} (all : Held S × List (Held S)) (n : ℕ) (hs : List (Held S)) (k : ℕ)
+    → AreAbove n hs → is_held hs k ≡ true
+    → (length (after_ack all hs k).1 ≤ length hs) × AreAbove (after_ack all hs k).0.number (after_ack all hs k).1
 after_ack-rising all n [] k rising h = absurd cc
 after_ack-rising all n (g ∷ hs) k rising h =
     elim (cases_Bool (eqb g.number k)) [

@@ -1,2 +1,6 @@
 pub mod Senders
 pub mod Receivers
+pub mod Lines
+pub mod TrueLines
+pub mod Links
+pub mod Laws

@@ -1,4 +1,4 @@
--- What a receiver holds, and how an instruction changes it.
+-- What a receiver holds, and how an instruction changes it (this project's profile of Mosh's State Synchronization Protocol).
 use Rattle.std.specs.Prelude.{◌≡◌, ℕ, ◌<◌, List, [], ◌∷◌, ◌++◌, length, filter, Option, Some, None, is_none, nat_le, ◌==◌, if◌then◌else◌}
 use Rattle.roam_sync.specs.declared.receivers.Pair.{Pair}
 use Rattle.roam_sync.specs.declared.receivers.Step.{Step}
@@ -13,6 +13,7 @@ pub record Receiving (S : Type 0) : Type 0 where
 abbrev pub pairs : {S : Type 0} → Receiving S → List (Pair S)
 pairs r = r.earlier ++ r.newest ∷ []
 
+-- state 0 alone
 abbrev pub start : {S : Type 0} → S → Receiving S
 start state = record { earlier = []; newest = record { number = 0; state = state } }
 
@@ -31,6 +32,7 @@ abbrev pub state_at : {S : Type 0} → ℕ → List (Pair S) → Option S
 state_at n [] = None
 state_at n (p ∷ ps) = if p.number == n then Some p.state else state_at n ps
 
+-- the pairs that are not below the floor
 abbrev pub from_floor : {S : Type 0} → ℕ → List (Pair S) → List (Pair S)
 from_floor floor ps = filter (λ p. nat_le floor p.number) ps
 
@@ -43,7 +45,8 @@ step_for r old new floor =
     else step.New
 
 -- A new state is taken: the change is applied to the state with the number old, and pairs below floor are dropped.
-pub record Takes {S : Type 0} (applied : S → List ℕ → Option S) (r : Receiving S) (old new floor : ℕ) (change : List ℕ) (r' : Receiving S) : Type 0 where
+pub record Takes {S : Type 0} (applied : S → List ℕ → Option S) (r : Receiving S) (old new floor : ℕ) (change : List ℕ)
+    (r' : Receiving S) : Type 0 where
   pub base : S
   pub held : state_at old (pairs r) ≡ Some base
   pub leads : applied base change ≡ Some r'.newest.state

@@ -1,4 +1,4 @@
--- What a sender holds, and how its calls change it.
+-- What a sender holds, and how its calls change it (this project's profile of Mosh's State Synchronization Protocol).
 use Rattle.std.specs.Prelude.{ℕ, ◌+◌, ◌-◌, ◌<◌, Bool, true, false, not, ◌||◌, ◌&&◌, List, [], ◌∷◌, ◌++◌, length, take, nat_lt, nat_le, ◌==◌, if◌then◌else◌}
 use Rattle.roam_sync.specs.declared.senders.Held.{Held}
 
@@ -19,6 +19,7 @@ abbrev pub last_of : {S : Type 0} → Held S → List (Held S) → Held S
 last_of base [] = base
 last_of base (h ∷ hs) = last_of h hs
 
+-- the newest pair
 abbrev pub newest : {S : Type 0} → Sending S → Held S
 newest s = last_of s.base s.later
 
@@ -26,12 +27,15 @@ newest s = last_of s.base s.later
 abbrev pub count : {S : Type 0} → Sending S → ℕ
 count s = length s.later + 1
 
+-- state 0 alone, never sent
 abbrev pub start : {S : Type 0} → S → Sending S
 start state = record { base = record { number = 0; state = state; sent = false }; later = []; last = 0 }
 
+-- one more pair, never sent
 abbrev pub offered : {S : Type 0} → Sending S → ℕ → S → Sending S
 offered s n state = record s { later = s.later ++ record { number = n; state = state; sent = false } ∷ [] }
 
+-- without the newest of the pairs after the base
 abbrev pub withdrawn : {S : Type 0} → Sending S → Sending S
 withdrawn s = record s { later = take (length s.later - 1) s.later }
 
@@ -51,16 +55,18 @@ abbrev pub is_held : {S : Type 0} → List (Held S) → ℕ → Bool
 is_held [] k = false
 is_held (h ∷ hs) k = if h.number == k then true else is_held hs k
 
--- the newest is marked as sent: the base, where no other is held, or the last of the others
+-- the base is marked as sent, where no other is held
 abbrev pub mark_base : {S : Type 0} → Held S → List (Held S) → Held S
 mark_base base [] = record base { sent = true }
 mark_base base (h ∷ hs) = base
 
+-- the last of the others is marked as sent
 abbrev pub mark_last : {S : Type 0} → List (Held S) → List (Held S)
 mark_last [] = []
 mark_last (h ∷ []) = record h { sent = true } ∷ []
 mark_last (h ∷ g ∷ hs) = h ∷ mark_last (g ∷ hs)
 
+-- the newest is sent at a moment, in milliseconds
 abbrev pub sent_at : {S : Type 0} → Sending S → ℕ → Sending S
 sent_at s now = record { base = mark_base s.base s.later; later = mark_last s.later; last = now }
 

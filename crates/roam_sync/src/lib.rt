@@ -4,8 +4,11 @@
 //! none that it was not told of; a change is always against the base, which the other end is known to have; an end measures no time.
 #![tactic(auto)]
 
+pub mod laws;
 mod receivers;
 mod senders;
+#[cfg(test)]
+mod tests;
 
 pub use receivers::{Pair, Receiver, Step};
 pub use senders::{Held, Instruction, Sender};

@@ -94,6 +94,9 @@ impl<S: Synced> Sender<S> {
         requires newer { (newest self.old).number < number }
         ensures ok { OnOk result (self.new ≡ offered self.old number state) }
         ensures top { OnOk result (newest self.new ≡ record { number = number; state = state; sent = false }) }
+        // The condition of `withdraw`, which takes the offer back.
+        ensures several { OnOk result (2 ≤ count self.new) }
+        ensures back { OnOk result (withdrawn self.new ≡ self.old) }
         ensures full { IsErrOf result Fault.SendFull ↔ (count self.old ≡ 8) }
         ensures err { OnErr result (self.new ≡ self.old) }
         ensures fault { IfErr result (λ e. (e ≡ Fault.OutOfMemory) ⊎ (e ≡ Fault.SendFull)) }

@@ -6,7 +6,8 @@ abbrev pub invariant-loop-base : goal.invariant-loop-base
 invariant-loop-base g l =
     record {
       there : is_held l.later.items l.number ≡ true;
-      same : after_ack (l.fn.base, l.fn.later.items) l.later.items l.number ≡ after_ack (l.fn.base, l.fn.later.items) l.fn.later.items l.number;
+      same : after_ack (l.fn.base, l.fn.later.items) l.later.items l.number
+          ≡ after_ack (l.fn.base, l.fn.later.items) l.fn.later.items l.number;
     }
 
 abbrev pub decreases-loop-base : goal.decreases-loop-base
