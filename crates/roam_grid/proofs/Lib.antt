@@ -1,4 +1,6 @@
 pub mod Guards
+pub mod Marked
+pub mod MarkedRuns
 pub mod Pages
 pub mod Puts
 pub mod Runs

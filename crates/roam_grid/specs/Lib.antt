@@ -7,4 +7,5 @@ pub mod Writing
 pub mod Erasing
 pub mod Editing
 pub mod Frames
+pub mod Marks
 pub mod Kept
