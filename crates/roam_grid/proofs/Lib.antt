@@ -1,6 +1,8 @@
 pub mod Guards
 pub mod Marked
 pub mod MarkedRuns
+pub mod Named
+pub mod NamedGuards
 pub mod Pages
 pub mod Puts
 pub mod Runs

@@ -42,10 +42,10 @@ marked_twice one two both marks e =
 pub marked_none : (names : ℕ → Bool) (marks : List Bool) → length marks ≡ 100 → ((r : ℕ) → names r ≡ false) → marks ≡ also_marked names marks
 marked_none names marks len none = marks_are names marks marks len (λ r h. sym (ap (λ b. is_marked marks r || b) (none r) ∙ or_false (is_marked marks r)))
 
-same_row : (r row : ℕ) → r ≡ row → eqb r row ≡ true
+pub same_row : (r row : ℕ) → r ≡ row → eqb r row ≡ true
 same_row r row e = grind (arith, common_steps)
 
-other_row : (r row : ℕ) → r ≢ row → eqb r row ≡ false
+pub other_row : (r row : ℕ) → r ≢ row → eqb r row ≡ false
 other_row r row ne = grind (arith, common_steps)
 
 -- one mark is put on where a test says so
@@ -92,7 +92,7 @@ module _ (marks : List Bool) (a m r : ℕ) where
 length-put : (marks : List Bool) (a m : ℕ) → a + m ≤ length marks → length (put_mid a m marks (replicate m true)) ≡ length marks
 length-put marks a m h = grind (arith, places)
 
-range_in : (from to r : ℕ) → from ≤ r → r < to → (leb from r && ltb r to) ≡ true
+pub range_in : (from to r : ℕ) → from ≤ r → r < to → (leb from r && ltb r to) ≡ true
 range_in from to r p q = grind (arith, common_steps)
 
 range_before : (from to r : ℕ) → r < from → (leb from r && ltb r to) ≡ false

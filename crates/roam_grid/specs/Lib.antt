@@ -8,4 +8,5 @@ pub mod Erasing
 pub mod Editing
 pub mod Frames
 pub mod Marks
+pub mod Laws
 pub mod Kept

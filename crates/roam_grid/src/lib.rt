@@ -6,6 +6,7 @@ mod editing;
 mod erasing;
 mod frames;
 mod grids;
+pub mod laws;
 mod marks;
 mod running;
 mod scrolling;
