@@ -7,5 +7,7 @@ pub mod Pages
 pub mod Puts
 pub mod Runs
 pub mod Starting
+pub mod Unmarked
+pub mod UnmarkedPuts
 pub mod Stops
 pub mod Worked

@@ -1,16 +1,16 @@
 -- Marks of cells that are written, one or many.
-use Rattle.std.proofs.Common.{◌≡◌, ℕ, suc, ◌+◌, ◌<◌, ◌≤◌, Bool, true, false, cond, eqb, List, [], ◌∷◌, ◌++◌, length, refl, ap, ◌∙◌, arith}
+use Rattle.std.proofs.Common.{◌≡◌, ℕ, suc, ◌+◌, ◌<◌, ◌≤◌, Bool, true, false, ◌&&◌, cond, eqb, List, [], ◌∷◌, ◌++◌, length, refl, sym, ap, ◌∙◌, arith}
 use Rattle.std.proofs.Math.Bool.{or_self}
 use Rattle.roam_cells.specs.Glyph.{Glyph, is_wide}
 use Rattle.roam_rows.specs.Editing.{inserted}
 use Rattle.roam_rows.specs.Places.{in_row}
 use Rattle.roam_rows.specs.Writing.{written_run}
 use Rattle.roam_grid.specs.Screen.{Screen, mapped}
-use Rattle.roam_grid.specs.Writing.{columns, settled, with_room, made_way, put_on, put_all}
-use Rattle.roam_grid.specs.Marks.{row_marked, marks_indexed, marks_settled, marks_with_room, marks_put, marks_put_all}
+use Rattle.roam_grid.specs.Writing.{columns, wrapped, settled, with_room, made_way, leaves_row, put_on, put_all}
+use Rattle.roam_grid.specs.Marks.{row_marked, marks_scrolled, marks_indexed, marks_settled, marks_with_room, marks_put, marks_put_all}
 use Rattle.roam_grid.specs.declared.writing.Writing.{Writing}
 use Rattle.roam_grid.proofs.Marked.{marked_twice}
-use Rattle.roam_grid.proofs.Puts.{settled_same, settled_none, put_settled}
+use Rattle.roam_grid.proofs.Puts.{and_false, and_true, cond_and, not_last, settled_same, settled_none, put_settled, wrapped_place}
 use Rattle.roam_grid.proofs.Runs.{AreNarrow, put_one, goes_on}
 
 -- a row that is marked twice is marked
@@ -76,3 +76,25 @@ pub marks_put_all_settled : (xs : List Glyph) (w : Writing) (s : Screen) (marks 
 unfolding marks_put_all
 marks_put_all_settled [] w s marks pos = absurd (omega arith)
 marks_put_all_settled (x ∷ xs) w s marks pos = ap (λ t. marks_put_all xs w t (marks_put x w (settled s) (marks_settled s marks))) (put_settled x w s) ∙ ap (marks_put_all xs w (put_on x w s)) (marks_put_settled x w s marks)
+
+module _ (n : ℕ) (w : Writing) (s : Screen) (marks : List Bool) (wide : 4 ≤ s.cols) where
+  abbrev tests : Bool
+  tests = eqb n 2 && eqb (s.col + 1) s.cols && w.wraps
+
+  by_pending : (p : Bool) → s.pending ≡ p → marks_with_room n w (settled s) (marks_settled s marks) ≡ cond (leaves_row n w s) (marks_scrolled 1 s marks) marks
+  unfolding marks_with_room marks_settled settled leaves_row marks_indexed
+  by_pending true e =
+      let t = wrapped s in
+      let place = wrapped_place s in
+      ap (λ b. marks_with_room n w (cond b t s) (cond b (marks_indexed s marks) marks)) e
+      ∙ ap (λ b. cond (eqb n 2 && b && w.wraps) (marks_indexed t (marks_indexed s marks)) (marks_indexed s marks)) (not_last t.col t.cols s.cols place.0 place.2 wide)
+      ∙ ap (λ b. cond b (marks_indexed t (marks_indexed s marks)) (marks_indexed s marks)) (and_false (eqb n 2) w.wraps)
+      ∙ sym (ap (λ b. cond (eqb s.row s.bottom && cond b true tests) (marks_scrolled 1 s marks) marks) e ∙ ap (λ b. cond b (marks_scrolled 1 s marks) marks) (and_true (eqb s.row s.bottom)))
+  by_pending false e =
+      ap (λ b. marks_with_room n w (cond b (wrapped s) s) (cond b (marks_indexed s marks) marks)) e
+      ∙ cond_and tests (eqb s.row s.bottom) (marks_scrolled 1 s marks) marks
+      ∙ sym (ap (λ b. cond (eqb s.row s.bottom && cond b true tests) (marks_scrolled 1 s marks) marks) e)
+
+  -- rows go up where one leaves
+  pub marks_steps : marks_with_room n w (settled s) (marks_settled s marks) ≡ cond (leaves_row n w s) (marks_scrolled 1 s marks) marks
+  marks_steps = by_pending s.pending refl

@@ -1,5 +1,5 @@
 -- Marks beside the maps of places: which rows a map names.
-use Rattle.std.proofs.Common.{◌≡◌, ◌≢◌, ℕ, suc, ◌+◌, ◌-◌, ◌*◌, ◌<◌, ◌≤◌, ◌⊎◌, inl, inr, Bool, true, false, not, ◌&&◌, ◌||◌, cond, eqb, ltb, leb, min, List, length, get_or, replicate, refl, sym, ap, subst, ◌∙◌, arith}
+use Rattle.std.proofs.Common.{◌≡◌, ◌≢◌, ℕ, suc, ◌+◌, ◌-◌, ◌<◌, ◌≤◌, ◌⊎◌, inl, inr, Bool, true, false, ◌&&◌, ◌||◌, cond, eqb, ltb, leb, min, List, refl, sym, ap, subst, ◌∙◌, arith}
 use Rattle.std.proofs.lemmas.Bool.{false≢true, cases_eq, cases_lt}
 use Rattle.std.proofs.lemmas.List.{get_or-replicate}
 use Rattle.std.proofs.lemmas.Grind.{common_steps}
@@ -39,7 +39,7 @@ other_row_not s d r c ne e = let h : suc s ≡ suc r = ap row_from e in ne (omeg
 other_col_not : (s d r c : ℕ) → d ≢ c → From s d ≢ From r c
 other_col_not s d r c ne e = let h : suc d ≡ suc c = ap col_from e in ne (omega (arith, h))
 
-or_none : (a b : Bool) → (a || b) ≡ false → b ≡ false
+pub or_none : (a b : Bool) → (a || b) ≡ false → b ≡ false
 or_none true b e = absurd (false≢true (sym e))
 or_none false b e = e
 
@@ -95,22 +95,26 @@ up_none top bottom n r c e = ap (λ k. up top bottom k r c) e ∙ by_range (leb 
     by_range true h = grind (arith, common_steps)
     by_range false h = grind (arith, common_steps)
 
-up_moves : (top bottom n r c : ℕ) → top ≤ r → r + n ≤ bottom → up top bottom n r c ≡ From (r + n) c
+pub up_moves : (top bottom n r c : ℕ) → top ≤ r → r + n ≤ bottom → up top bottom n r c ≡ From (r + n) c
 up_moves top bottom n r c p q = grind (arith, common_steps)
 
-up_blank : (top bottom n r c : ℕ) → top ≤ r → r ≤ bottom → bottom < r + n → up top bottom n r c ≡ Fresh blank
+pub up_blank : (top bottom n r c : ℕ) → top ≤ r → r ≤ bottom → bottom < r + n → up top bottom n r c ≡ Fresh blank
 up_blank top bottom n r c p q h = grind (arith, common_steps)
 
-up_out : (top bottom n r c : ℕ) → (r < top) ⊎ (bottom + 1 ≤ r) → up top bottom n r c ≡ From r c
+pub up_out : (top bottom n r c : ℕ) → (r < top) ⊎ (bottom + 1 ≤ r) → up top bottom n r c ≡ From r c
 up_out top bottom n r c (inl p) = grind (arith, common_steps)
 up_out top bottom n r c (inr p) = grind (arith, common_steps)
 
 up_named : (cols top bottom n r : ℕ) → 0 < cols → 0 < n → top ≤ r → r < bottom + 1 → IsNamed cols (up top bottom n) r
-up_named cols top bottom n r some pos p q = (0, some, λ e.
-    elim (cases_lt bottom (r + n)) [
-      | inl h ↦ fresh_not blank r 0 (sym (up_blank top bottom n r 0 p (omega (arith, q)) h) ∙ e)
-      | inr h ↦ other_row_not (r + n) 0 r 0 (λ k. absurd (omega (arith, k, pos))) (sym (up_moves top bottom n r 0 p h) ∙ e)
-    ])
+up_named cols top bottom n r some pos p q = (
+  0,
+  some,
+  λ e.
+      elim (cases_lt bottom (r + n)) [
+        | inl h ↦ fresh_not blank r 0 (sym (up_blank top bottom n r 0 p (omega (arith, q)) h) ∙ e)
+        | inr h ↦ other_row_not (r + n) 0 r 0 (λ k. absurd (omega (arith, k, pos))) (sym (up_moves top bottom n r 0 p h) ∙ e)
+      ],
+)
 
 down_none : (top bottom n r c : ℕ) → n ≡ 0 → down top bottom n r c ≡ From r c
 down_none top bottom n r c e = ap (λ k. down top bottom k r c) e ∙ by_range (leb top r && leb r bottom) refl
@@ -130,11 +134,15 @@ down_out top bottom n r c (inl p) = grind (arith, common_steps)
 down_out top bottom n r c (inr p) = grind (arith, common_steps)
 
 down_named : (cols top bottom n r : ℕ) → 0 < cols → 0 < n → top ≤ r → r < bottom + 1 → IsNamed cols (down top bottom n) r
-down_named cols top bottom n r some pos p q = (0, some, λ e.
-    elim (cases_lt r (top + n)) [
-      | inl h ↦ fresh_not blank r 0 (sym (down_blank top bottom n r 0 p (omega (arith, q)) h) ∙ e)
-      | inr h ↦ other_row_not (r - n) 0 r 0 (λ k. absurd (omega (arith, k, pos, h))) (sym (down_moves top bottom n r 0 h (omega (arith, q))) ∙ e)
-    ])
+down_named cols top bottom n r some pos p q = (
+  0,
+  some,
+  λ e.
+      elim (cases_lt r (top + n)) [
+        | inl h ↦ fresh_not blank r 0 (sym (down_blank top bottom n r 0 p (omega (arith, q)) h) ∙ e)
+        | inr h ↦ other_row_not (r - n) 0 r 0 (λ k. absurd (omega (arith, k, pos, h))) (sym (down_moves top bottom n r 0 h (omega (arith, q))) ∙ e)
+      ],
+)
 
 -- a map of one row names it
 in_row_named : (cols R r c : ℕ) (one : ℕ → RowSource) → r ≡ R → c < cols → (at_row R (one c) ≢ From R c) → IsNamed cols (in_row R one) r
@@ -265,9 +273,12 @@ module _ (s : Screen) (marks : List Bool) (is : IsScreen s) where
   in_line : (e : Extent) (r : ℕ) → r ≡ s.row → IsNamed s.cols (page_blanked e s.row s.col) r
   in_line e r k =
       let here : is_in_page e s.row s.col s.row (line_from e s.col) ≡ true =
-      sym (row_agrees e s.cols s.row s.col (line_from e s.col) (omega (arith, (line_range e).0, (line_range e).1))) ∙ range_in (line_from e s.col) (line_to e s.cols s.col) (line_from e s.col) (omega arith) (line_range e).0 in
-      (line_from e s.col, omega (arith, (line_range e).0, (line_range e).1), λ h.
-      fresh_not blank r (line_from e s.col) (sym (ap (λ j. page_blanked e s.row s.col j (line_from e s.col)) k ∙ ap (λ b. cond b (Fresh blank) (From s.row (line_from e s.col))) here) ∙ h))
+      sym (row_agrees e s.cols s.row s.col (line_from e s.col) (omega (arith, (line_range e).0, (line_range e).1))) ∙ range_in (line_from e s.col) (line_to e s.cols s.col) (line_from e s.col) (omega arith) (line_range e).0 in (
+        line_from e s.col,
+        omega (arith, (line_range e).0, (line_range e).1),
+        λ h.
+            fresh_not blank r (line_from e s.col) (sym (ap (λ j. page_blanked e s.row s.col j (line_from e s.col)) k ∙ ap (λ b. cond b (Fresh blank) (From s.row (line_from e s.col))) here) ∙ h),
+      )
 
   pub page_marks : (e : Extent) → AreNamedMarked s (page_blanked e s.row s.col) marks (marks_erased_in_page e s marks)
   unfolding marks_erased_in_page

@@ -1,7 +1,6 @@
 -- Marks beside the maps of the selective erasures: which rows they name.
-use Rattle.std.proofs.Common.{◌≡◌, ◌≢◌, ℕ, ◌+◌, ◌-◌, ◌*◌, ◌<◌, ◌≤◌, ◌⊎◌, inl, inr, Bool, true, false, not, ◌&&◌, ◌||◌, cond, eqb, ltb, leb, List, length, take, drop, get_or, refl, sym, ap, subst, ◌∙◌, arith, length-take, length-drop}
+use Rattle.std.proofs.Common.{◌≡◌, ◌≢◌, ℕ, ◌+◌, ◌-◌, ◌*◌, ◌<◌, ◌≤◌, ◌⊎◌, inl, inr, Bool, true, false, not, ◌&&◌, ◌||◌, cond, ltb, leb, List, length, get_or, refl, sym, ap, subst, ◌∙◌, arith, length-take, length-drop}
 use Rattle.std.specs.Prelude.{slice_range}
-use Rattle.std.specs.List.{list_any}
 use Rattle.std.proofs.lemmas.Bool.{false≢true, cases_eq, cases_lt}
 use Rattle.std.proofs.lemmas.List.{get_or_default}
 use Rattle.std.proofs.lemmas.List.Edits.{get_or-between}
@@ -16,12 +15,12 @@ use Rattle.roam_rows.specs.Erasing.{unguarded_blanked}
 use Rattle.roam_rows.proofs.Lifting.{in_other}
 use Rattle.roam_grid.specs.Screen.{Screen, IsScreen}
 use Rattle.roam_grid.specs.Erasing.{line_from, line_to, page_from, page_to, is_in_page, page_unguarded_blanked}
-use Rattle.roam_grid.specs.Marks.{also_marked, has_unguarded, unguarded_marked, marks_erased_selectively_in_line, marks_erased_selectively_in_page}
+use Rattle.roam_grid.specs.Marks.{has_unguarded, unguarded_marked, marks_erased_selectively_in_line, marks_erased_selectively_in_page}
 use Rattle.roam_grid.specs.Laws.{IsNamed, AreNamedMarked}
 use Rattle.roam_grid.specs.declared.erasing.Extent.{Extent}
 use Rattle.roam_grid.proofs.Guards.{in_line, in_rows}
 use Rattle.roam_grid.proofs.Marked.{marked_twice, range_in}
-use Rattle.roam_grid.proofs.Named.{named_by, fresh_not, in_range, few, some, line_range}
+use Rattle.roam_grid.proofs.Named.{named_by, fresh_not, in_range, few, line_range}
 use Rattle.roam_grid.proofs.Pages.{outside, inside, row_agrees}
 
 rows_true : (from to r : ℕ) (g : Bool) → (leb from r && ltb r to && g) ≡ true → (from ≤ r) × (r < to) × (g ≡ true)

@@ -142,7 +142,7 @@ module _ (rows cols R : ℕ) (cells : List Glyph) (whole : AreWhole rows cols ce
   row_same : (c : ℕ) → c < cols → glyph_at (row_of cols cells R) c ≡ cell_at cols cells R c
   row_same c q = row_at cols (cell_at cols cells R) c q
 
-  row_of_whole : IsWholeRow (row_of cols cells R)
+  pub row_of_whole : IsWholeRow (row_of cols cells R)
   row_of_whole = row_whole rows cols R cells (row_of cols cells R) R_in whole row_len row_same
 
   -- what a map of one row shows, there and elsewhere

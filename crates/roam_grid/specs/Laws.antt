@@ -20,3 +20,7 @@ pub record ShowsUnmarked (s t : Screen) (old new : List Bool) : Type 0 where
   pub stay : (r : ℕ) → r < s.rows → is_marked old r ≡ true → is_marked new r ≡ true
   pub shows : (r c : ℕ) → r < s.rows → c < s.cols → is_marked new r ≡ false
       → cell_at s.cols t.cells r c ≡ cell_at s.cols s.cells r c
+
+-- a row has a place that shows something else
+abbrev pub IsChanged : Screen → Screen → ℕ → Type 0
+IsChanged s t r = (c : ℕ) × (c < s.cols) × (cell_at s.cols t.cells r c ≢ cell_at s.cols s.cells r c)
