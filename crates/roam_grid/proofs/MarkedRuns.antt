@@ -42,7 +42,7 @@ marks_put_settled x w s marks =
 
 -- one cell of one column, with no wrap pending
 marks_one : (g : Glyph) (w : Writing) (s : Screen) (marks : List Bool) → is_wide g ≡ false → s.pending ≡ false → marks_put g w s marks ≡ row_marked s.row marks
-unfolding marks_put with_room marks_with_room
+unfolding marks_put with_room
 marks_one g w s marks narrow none =
     ap (λ t. row_marked (with_room (columns g) w t).row (marks_with_room (columns g) w t (marks_settled s marks))) (settled_same s none)
     ∙ ap (λ m. row_marked (with_room (columns g) w s).row (marks_with_room (columns g) w s m)) (marks_settled_same s marks none)
@@ -82,7 +82,7 @@ module _ (n : ℕ) (w : Writing) (s : Screen) (marks : List Bool) (wide : 4 ≤ 
   tests = eqb n 2 && eqb (s.col + 1) s.cols && w.wraps
 
   by_pending : (p : Bool) → s.pending ≡ p → marks_with_room n w (settled s) (marks_settled s marks) ≡ cond (leaves_row n w s) (marks_scrolled 1 s marks) marks
-  unfolding marks_with_room marks_settled settled leaves_row marks_indexed
+  unfolding marks_settled settled leaves_row marks_indexed
   by_pending true e =
       let t = wrapped s in
       let place = wrapped_place s in

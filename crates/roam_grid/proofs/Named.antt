@@ -167,19 +167,16 @@ module _ (s : Screen) (marks : List Bool) (is : IsScreen s) where
   some = omega (arith, is.frame.col_in)
 
   pub up_marks : (n : ℕ) → AreNamedMarked s (up s.top s.bottom n) marks (marks_scrolled n s marks)
-  unfolding marks_scrolled
   up_marks n =
       moved_by s (up s.top s.bottom n) n s.top (s.bottom + 1) marks few (λ e r c p q. up_none s.top s.bottom n r c e)
       (λ pos r p a b. up_named s.cols s.top s.bottom n r some pos a b) (λ r c p q out. up_out s.top s.bottom n r c out) (eqb n 0) refl
 
   pub down_marks : (n : ℕ) → AreNamedMarked s (down s.top s.bottom n) marks (marks_scrolled n s marks)
-  unfolding marks_scrolled
   down_marks n =
       moved_by s (down s.top s.bottom n) n s.top (s.bottom + 1) marks few (λ e r c p q. down_none s.top s.bottom n r c e)
       (λ pos r p a b. down_named s.cols s.top s.bottom n r some pos a b) (λ r c p q out. down_out s.top s.bottom n r c out) (eqb n 0) refl
 
   lines_marked : (n : ℕ) → is_between_margins s ≡ true → moved_marked n s.row (s.bottom + 1) marks ≡ marks_lines_moved n s marks
-  unfolding marks_lines_moved
   lines_marked n h = sym (ap (λ b. cond b (moved_marked n s.row (s.bottom + 1) marks) marks) h)
 
   pub lines_up : (n : ℕ) → is_between_margins s ≡ true → AreNamedMarked s (up s.row s.bottom n) marks (marks_lines_moved n s marks)
@@ -197,7 +194,6 @@ module _ (s : Screen) (marks : List Bool) (is : IsScreen s) where
   -- a map of the cursor's row that is the row itself where n is 0
   cells_by : (n : ℕ) (one : ℕ → RowSource) → (n ≡ 0 → (c : ℕ) → c < s.cols → one c ≡ Column c) → (0 < n → at_row s.row (one s.col) ≢ From s.row s.col)
       → AreNamedMarked s (in_row s.row one) marks (marks_cells_moved n s marks)
-  unfolding marks_cells_moved
   cells_by n one none on =
       moved_by s (in_row s.row one) n s.row (s.row + 1) marks few
       (λ e r c p q. elim (cases_eq r s.row) [
@@ -247,7 +243,6 @@ module _ (s : Screen) (marks : List Bool) (is : IsScreen s) where
   blanked_here from to h = grind (arith, common_steps)
 
   blanked_marks : (from to : ℕ) → from < to → to ≤ s.cols → AreNamedMarked s (in_row s.row (blanked from to)) marks (marks_in_line s marks)
-  unfolding marks_in_line
   blanked_marks from to h k = row_named s s.row from (blanked from to) marks few (omega (arith, h, k)) (λ e. fresh_not blank s.row from (sym (ap (at_row s.row) (blanked_here from to h)) ∙ e))
 
   pub erased_marks : (n : ℕ) → 0 < n → AreNamedMarked s (in_row s.row (blanked s.col (min (s.col + n) s.cols))) marks (marks_in_line s marks)
@@ -281,7 +276,6 @@ module _ (s : Screen) (marks : List Bool) (is : IsScreen s) where
       )
 
   pub page_marks : (e : Extent) → AreNamedMarked s (page_blanked e s.row s.col) marks (marks_erased_in_page e s marks)
-  unfolding marks_erased_in_page
   page_marks e =
       let from = page_from e s.row in
       let to = page_to e s.rows s.row in

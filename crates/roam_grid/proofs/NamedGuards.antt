@@ -142,7 +142,7 @@ module _ (s : Screen) (marks : List Bool) (is : IsScreen s) (e : Extent) where
       ]
 
   pub page_marks_selective : AreNamedMarked s source marks (marks_erased_selectively_in_page e s marks)
-  unfolding marks_erased_selectively_in_page marks_erased_selectively_in_line unguarded_marked
+  unfolding unguarded_marked
   page_marks_selective =
       let both : ℕ → Bool = λ r. in_one r || in_two r in
       subst (λ (k : List Bool). AreNamedMarked s source marks k) (sym (marked_twice in_one in_two both marks (λ r h. refl)))
@@ -167,7 +167,7 @@ module _ (s : Screen) (marks : List Bool) (is : IsScreen s) (e : Extent) where
   line_is c q = in_line e s.rows s.cols s.row s.col s.cells s.cells is.whole is.whole is.frame.row_in c q
 
   pub line_marks_selective : AreNamedMarked s line marks (marks_erased_selectively_in_line e s marks)
-  unfolding marks_erased_selectively_in_line unguarded_marked
+  unfolding unguarded_marked
   line_marks_selective =
       named_by s line in_one marks (few s marks is)
       (λ r p h.

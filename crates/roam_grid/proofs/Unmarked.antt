@@ -83,7 +83,7 @@ module _ (s : Screen) (m : List Bool) (is : IsScreen s) where
 
   lines_by : (n : ℕ) (a : Screen) (b : Bool) → is_between_margins s ≡ b → (is_between_margins s ≡ true → ShowsUnmarked s a m (marks_lines_moved n s m))
       → ShowsUnmarked s (cond b a (wrap_cleared s)) m (marks_lines_moved n s m)
-  unfolding marks_lines_moved wrap_cleared
+  unfolding wrap_cleared
   lines_by n a true e h = h e
   lines_by n a false e h =
       subst (λ (k : List Bool). ShowsUnmarked s (wrap_cleared s) m k) (sym (ap (λ b. cond b (moved_marked n s.row (s.bottom + 1) m) m) e)) (unchanged s (wrap_cleared s) m refl)
@@ -97,7 +97,7 @@ module _ (s : Screen) (m : List Bool) (is : IsScreen s) where
   lines_deleted_show n = lines_by n _ (is_between_margins s) refl (λ e. let h = by_map s _ m (marks_lines_moved n s m) is.whole (lines_up s m is n e) in record { stay = h.stay; shows = h.shows })
 
   pub reverse_shows : ShowsUnmarked s (reverse_indexed s) m (marks_reverse_indexed s m)
-  unfolding reverse_indexed marks_reverse_indexed
+  unfolding reverse_indexed
   reverse_shows = one_of s _ _ m (marks_scrolled 1 s m) (eqb s.row s.top) (let h = down_shows 1 in record { stay = h.stay; shows = h.shows }) refl
 
   pub index_shows : ShowsUnmarked s (indexed s) m (marks_indexed s m)

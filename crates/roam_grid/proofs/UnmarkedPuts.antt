@@ -100,7 +100,7 @@ module _ (s : Screen) (m : List Bool) (is : IsSound s) where
   names r = leb s.top r && ltb r (s.bottom + 1)
 
   up_shown : ShowsUnmarked s (scrolled_up 1 s) m (marks_scrolled 1 s m)
-  unfolding scrolled_up marks_scrolled
+  unfolding scrolled_up
   up_shown = record {
     stay = λ r p e. marked_at names m r (omega (arith, is.few, p)) ∙ ap (λ b. b || names r) e;
     shows = λ r c p q off.
@@ -138,7 +138,7 @@ module _ (s : Screen) (m : List Bool) (is : IsSound s) where
 
 -- a wrap
 wrap_goes : (s : Screen) (m : List Bool) → IsSound s → Goes s (wrapped s) m (marks_indexed s m)
-unfolding wrapped carried marks_indexed marks_scrolled
+unfolding wrapped carried marks_indexed
 wrap_goes s m is =
     let g = index_goes (carried s) m (record { few = is.few; row_in = is.row_in; bottom_in = is.bottom_in; whole = is.whole }) in
     record { rows = g.rows; cols = g.cols; sound = g.sound; shown = record { stay = g.shown.stay; shows = g.shown.shows } }
@@ -164,7 +164,7 @@ module _ (s : Screen) (m : List Bool) (is : IsSound s) where
   room_by false b w = goes_nowhere s m is
 
   room_goes : (n : ℕ) (w : Writing) → Goes s (with_room n w s) m (marks_with_room n w s m)
-  unfolding with_room marks_with_room
+  unfolding with_room
   room_goes n w = room_by (eqb n 2) (eqb (s.col + 1) s.cols) w.wraps
 
   advance_by : (n : ℕ) (w : Writing) (b : Bool) → Goes s (cond b (record s { col = s.col + n }) (record s { col = s.cols - 1; pending = w.wraps })) m m

@@ -41,7 +41,7 @@ abbrev pub moved_marked : ℕ → ℕ → ℕ → List Bool → List Bool
 moved_marked n from to marks = if (n == 0) then marks else rows_marked from to marks
 
 -- SU, SD: the rows between the margins
-unfoldable pub marks_scrolled : ℕ → Screen → List Bool → List Bool
+abbrev pub marks_scrolled : ℕ → Screen → List Bool → List Bool
 marks_scrolled n s marks = moved_marked n s.top (s.bottom + 1) marks
 
 -- IND: the rows between the margins where they go up
@@ -49,23 +49,23 @@ unfoldable pub marks_indexed : Screen → List Bool → List Bool
 marks_indexed s marks = if (s.row == s.bottom) then marks_scrolled 1 s marks else marks
 
 -- RI: the rows between the margins where they go down
-unfoldable pub marks_reverse_indexed : Screen → List Bool → List Bool
+abbrev pub marks_reverse_indexed : Screen → List Bool → List Bool
 marks_reverse_indexed s marks = if (s.row == s.top) then marks_scrolled 1 s marks else marks
 
 -- ICH, DCH: the cursor's row
-unfoldable pub marks_cells_moved : ℕ → Screen → List Bool → List Bool
+abbrev pub marks_cells_moved : ℕ → Screen → List Bool → List Bool
 marks_cells_moved n s marks = moved_marked n s.row (s.row + 1) marks
 
 -- IL, DL: between the margins the rows from the cursor's to the bottom margin
-unfoldable pub marks_lines_moved : ℕ → Screen → List Bool → List Bool
+abbrev pub marks_lines_moved : ℕ → Screen → List Bool → List Bool
 marks_lines_moved n s marks = if is_between_margins s then moved_marked n s.row (s.bottom + 1) marks else marks
 
 -- ECH, EL: the cursor's row
-unfoldable pub marks_in_line : Screen → List Bool → List Bool
+abbrev pub marks_in_line : Screen → List Bool → List Bool
 marks_in_line s marks = row_marked s.row marks
 
 -- ED: the cursor's row and the rows that the extent names whole
-unfoldable pub marks_erased_in_page : Extent → Screen → List Bool → List Bool
+abbrev pub marks_erased_in_page : Extent → Screen → List Bool → List Bool
 marks_erased_in_page extent s marks = rows_marked (page_from extent s.row) (page_to extent s.rows s.row) (row_marked s.row marks)
 
 -- whether some cell isn't guarded
@@ -82,12 +82,12 @@ unguarded_marked cols cells top bottom from to marks =
     also_marked (λ r. nat_le top r && nat_lt r bottom && has_unguarded cols cells r from to) marks
 
 -- DECSEL: the cursor's row, where a cell goes
-unfoldable pub marks_erased_selectively_in_line : Extent → Screen → List Bool → List Bool
+abbrev pub marks_erased_selectively_in_line : Extent → Screen → List Bool → List Bool
 marks_erased_selectively_in_line extent s marks =
     unguarded_marked s.cols s.cells s.row (s.row + 1) (line_from extent s.col) (line_to extent s.cols s.col) marks
 
 -- DECSED: the cursor's row and the rows that the extent names whole, each where a cell goes
-unfoldable pub marks_erased_selectively_in_page : Extent → Screen → List Bool → List Bool
+abbrev pub marks_erased_selectively_in_page : Extent → Screen → List Bool → List Bool
 marks_erased_selectively_in_page extent s marks =
     unguarded_marked s.cols s.cells (page_from extent s.row) (page_to extent s.rows s.row) 0 s.cols
     (marks_erased_selectively_in_line extent s marks)
@@ -97,7 +97,7 @@ unfoldable pub marks_settled : Screen → List Bool → List Bool
 marks_settled s marks = if s.pending then marks_indexed s marks else marks
 
 -- a cell of two columns in the last column goes to the next row
-unfoldable pub marks_with_room : ℕ → Writing → Screen → List Bool → List Bool
+abbrev pub marks_with_room : ℕ → Writing → Screen → List Bool → List Bool
 marks_with_room width w s marks = if ((width == 2) && (s.col + 1 == s.cols) && w.wraps) then marks_indexed s marks else marks
 
 -- a cell is written: the rows that go up before, and the row that it is written in

@@ -133,7 +133,7 @@ impl Grid {
     }
 
     /// One row up, and on the top margin the rows between the margins down (RI, VT220 Programmer Reference).
-    #[tactic(auto, unfolding(crate::specs::Cursor::reverse_indexed, crate::specs::Cursor::first_reverse_indexed, crate::specs::Marks::marks_reverse_indexed))]
+    #[tactic(auto, unfolding(crate::specs::Cursor::reverse_indexed, crate::specs::Cursor::first_reverse_indexed))]
     pub fn reverse_index(&mut self)
         ensures screen { self.new.screen ≡ reverse_indexed self.old.screen }
         ensures first { self.new.first ≡ first_reverse_indexed self.old.screen self.old.first }

@@ -9,7 +9,7 @@ use crate::marks::{mark_moved, mark_row};
 
 impl Grid {
     /// Inserts n blanks at the cursor; the cells from there on go to the right, and the last ones are lost (ICH, ECMA-48 8.3.64).
-    #[tactic(auto, unfolding(crate::specs::Editing::cells_inserted, crate::specs::Marks::marks_cells_moved))]
+    #[tactic(auto, unfolding(crate::specs::Editing::cells_inserted))]
     pub fn insert_cells(&mut self, n: usize)
         ensures screen { self.new.screen ≡ cells_inserted n self.old.screen }
         ensures first { self.new.first ≡ self.old.first }
@@ -22,7 +22,7 @@ impl Grid {
     }
 
     /// Takes n cells out at the cursor; those right of them go to the left, and blanks come in at the edge (DCH, ECMA-48 8.3.26).
-    #[tactic(auto, unfolding(crate::specs::Editing::cells_deleted, crate::specs::Marks::marks_cells_moved))]
+    #[tactic(auto, unfolding(crate::specs::Editing::cells_deleted))]
     pub fn delete_cells(&mut self, n: usize)
         ensures screen { self.new.screen ≡ cells_deleted n self.old.screen }
         ensures first { self.new.first ≡ self.old.first }
@@ -35,7 +35,7 @@ impl Grid {
     }
 
     /// Blanks n cells, one or more, from the cursor on, guarded ones too (ECH, ECMA-48 8.3.38).
-    #[tactic(auto, unfolding(crate::specs::Editing::cells_erased, crate::specs::Marks::marks_in_line))]
+    #[tactic(auto, unfolding(crate::specs::Editing::cells_erased))]
     pub fn erase_cells(&mut self, n: usize)
         requires some { 0 < n }
         ensures screen { self.new.screen ≡ cells_erased n self.old.screen }
@@ -51,7 +51,7 @@ impl Grid {
     }
 
     /// Between the margins n lines come in at the cursor's, which goes to the first column; outside nothing moves (IL, ECMA-48 8.3.67).
-    #[tactic(auto, unfolding(crate::specs::Editing::lines_inserted, crate::specs::Cursor::wrap_cleared, crate::specs::Marks::marks_lines_moved))]
+    #[tactic(auto, unfolding(crate::specs::Editing::lines_inserted, crate::specs::Cursor::wrap_cleared))]
     pub fn insert_lines(&mut self, n: usize)
         ensures screen { self.new.screen ≡ lines_inserted n self.old.screen }
         ensures first { self.new.first ≡ self.old.first }
@@ -61,13 +61,13 @@ impl Grid {
         self.pending = false;
         if self.top <= self.row && self.row <= self.bottom {
             self.col = 0;
-            self.ring.scroll_region_down(self.row, self.bottom, n);
             mark_moved(&mut self.marks, n, self.row, self.bottom + 1);
+            self.ring.scroll_region_down(self.row, self.bottom, n);
         }
     }
 
     /// Between the margins n lines go out at the cursor's, which goes to the first column; outside nothing moves (DL, ECMA-48 8.3.32).
-    #[tactic(auto, unfolding(crate::specs::Editing::lines_deleted, crate::specs::Cursor::wrap_cleared, crate::specs::Marks::marks_lines_moved))]
+    #[tactic(auto, unfolding(crate::specs::Editing::lines_deleted, crate::specs::Cursor::wrap_cleared))]
     pub fn delete_lines(&mut self, n: usize)
         ensures screen { self.new.screen ≡ lines_deleted n self.old.screen }
         ensures first { self.new.first ≡ self.old.first }
@@ -77,8 +77,8 @@ impl Grid {
         self.pending = false;
         if self.top <= self.row && self.row <= self.bottom {
             self.col = 0;
-            self.ring.scroll_region_up(self.row, self.bottom, n);
             mark_moved(&mut self.marks, n, self.row, self.bottom + 1);
+            self.ring.scroll_region_up(self.row, self.bottom, n);
         }
     }
 }

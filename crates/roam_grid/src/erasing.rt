@@ -51,7 +51,7 @@ impl Grid {
     ghost use Rattle.roam_grid.specs.Erasing.{erased_in_page, erased_in_line, erased_selectively_in_page, erased_selectively_in_line};
 
     /// Blanks part of the screen, guarded cells too (ED, ECMA-48 8.3.39).
-    #[tactic(auto, unfolding(crate::specs::Erasing::erased_in_page, crate::specs::Marks::marks_erased_in_page))]
+    #[tactic(auto, unfolding(crate::specs::Erasing::erased_in_page))]
     pub fn erase_in_page(&mut self, extent: Extent)
         ensures screen { self.new.screen ≡ erased_in_page extent self.old.screen }
         ensures first { self.new.first ≡ self.old.first }
@@ -72,7 +72,7 @@ impl Grid {
     }
 
     /// Blanks part of the cursor's row, guarded cells too (EL, ECMA-48 8.3.41).
-    #[tactic(auto, unfolding(crate::specs::Erasing::erased_in_line, crate::specs::Marks::marks_in_line))]
+    #[tactic(auto, unfolding(crate::specs::Erasing::erased_in_line))]
     pub fn erase_in_line(&mut self, extent: Extent)
         ensures screen { self.new.screen ≡ erased_in_line extent self.old.screen }
         ensures first { self.new.first ≡ self.old.first }
@@ -86,7 +86,7 @@ impl Grid {
     }
 
     /// Blanks part of the screen but for guarded cells (DECSED, VT220 Programmer Reference).
-    #[tactic(auto, unfolding(crate::specs::Erasing::erased_selectively_in_page, crate::specs::Marks::marks_erased_selectively_in_page, crate::specs::Marks::marks_erased_selectively_in_line))]
+    #[tactic(auto, unfolding(crate::specs::Erasing::erased_selectively_in_page))]
     pub fn erase_selectively_in_page(&mut self, extent: Extent)
         ensures screen { self.new.screen ≡ erased_selectively_in_page extent self.old.screen }
         ensures first { self.new.first ≡ self.old.first }
@@ -112,7 +112,7 @@ impl Grid {
     }
 
     /// Blanks part of the cursor's row but for guarded cells (DECSEL, VT220 Programmer Reference).
-    #[tactic(auto, unfolding(crate::specs::Erasing::erased_selectively_in_line, crate::specs::Marks::marks_erased_selectively_in_line))]
+    #[tactic(auto, unfolding(crate::specs::Erasing::erased_selectively_in_line))]
     pub fn erase_selectively_in_line(&mut self, extent: Extent)
         ensures screen { self.new.screen ≡ erased_selectively_in_line extent self.old.screen }
         ensures first { self.new.first ≡ self.old.first }

@@ -12,6 +12,8 @@ mod running;
 mod scrolling;
 mod tabbing;
 mod tabs;
+#[cfg(test)]
+mod tests;
 mod writing;
 
 pub use erasing::Extent;

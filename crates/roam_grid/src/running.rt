@@ -87,7 +87,9 @@ impl Grid {
         requires some { 0 < length bytes.now }
         requires printable { ArePrintable bytes.now }
         ensures screen { self.new.screen
-            ≡ mapped (in_row self.old.screen.row (written_run (map (λ byte. ascii_in byte pen) bytes.now) self.old.screen.col)) self.old.screen }
+            ≡ mapped
+            (in_row self.old.screen.row (written_run (map (λ byte. ascii_in byte pen) bytes.now) self.old.screen.col))
+            self.old.screen }
         ensures first { self.new.first ≡ self.old.first }
         ensures marks { self.new.marks ≡ row_marked self.old.screen.row self.old.marks }
         ensures size { IsSameSize self.old.screen self.new.screen }

@@ -10,7 +10,7 @@ use crate::marks::mark_moved;
 impl Grid {
     /// The rows between the margins go up by n; blank ones come in below (SU, ECMA-48 8.3.147).
     #[inline]
-    #[tactic(auto, unfolding(crate::specs::Scrolling::scrolled_up, crate::specs::Scrolling::first_scrolled_up, crate::specs::Marks::marks_scrolled))]
+    #[tactic(auto, unfolding(crate::specs::Scrolling::scrolled_up, crate::specs::Scrolling::first_scrolled_up))]
     pub fn scroll_up(&mut self, n: usize)
         ensures screen { self.new.screen ≡ scrolled_up n self.old.screen }
         ensures first { self.new.first ≡ first_scrolled_up n self.old.screen self.old.first }
@@ -27,7 +27,7 @@ impl Grid {
     }
 
     /// The rows between the margins go down by n; blank ones come in above (SD, ECMA-48 8.3.113).
-    #[tactic(auto, unfolding(crate::specs::Scrolling::scrolled_down, crate::specs::Scrolling::first_scrolled_down, crate::specs::Marks::marks_scrolled))]
+    #[tactic(auto, unfolding(crate::specs::Scrolling::scrolled_down, crate::specs::Scrolling::first_scrolled_down))]
     pub fn scroll_down(&mut self, n: usize)
         ensures screen { self.new.screen ≡ scrolled_down n self.old.screen }
         ensures first { self.new.first ≡ first_scrolled_down n self.old.screen self.old.first }

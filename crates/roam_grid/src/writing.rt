@@ -123,7 +123,7 @@ impl Grid {
     }
 
     #[inline]
-    #[tactic(auto, unfolding(crate::specs::Writing::with_room, crate::specs::Writing::first_with_room, crate::specs::Marks::marks_with_room))]
+    #[tactic(auto, unfolding(crate::specs::Writing::with_room, crate::specs::Writing::first_with_room))]
     fn make_room(&mut self, cell: Cell, writing: Writing)
         requires settled { self.old.screen.pending ≡ false }
         ensures screen { self.new.screen ≡ with_room (columns cell) writing self.old.screen }

@@ -2,7 +2,7 @@ use Rattle.std.proofs.Common.{◌≡◌, ℕ, ◌∙◌, Bool, List, refl, sym, 
 use Rattle.roam_grid.specs.Screen.{Screen}
 use Rattle.roam_grid.specs.Scrolling.{first_scrolled_up}
 use Rattle.roam_grid.specs.Cursor.{carried, indexed, first_indexed}
-use Rattle.roam_grid.specs.Marks.{marks_indexed, marks_scrolled}
+use Rattle.roam_grid.specs.Marks.{marks_indexed}
 use Rattle.roam_grid.specs.Writing.{wrapped}
 use Rattle.roam_grid.proofs.Puts.{wrapped_place, Placed}
 use Rattle.roam_grid.proofs.grids.Grid.wrap.Goals as goal
@@ -27,7 +27,7 @@ returns-clause-first c =
 
 -- and marks are put on after CR as they are without it
 marks_indexed-carried : (s : Screen) (marks : List Bool) → marks_indexed (carried s) marks ≡ marks_indexed s marks
-unfolding carried marks_indexed marks_scrolled
+unfolding carried marks_indexed
 marks_indexed-carried s marks = refl
 
 pub returns-clause-marks : goal.returns-clause-marks
