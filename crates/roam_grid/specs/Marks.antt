@@ -1,5 +1,5 @@
 -- Marks: which rows of the screen may show something else than when the marks were last cleared. A flag for each of 100 rows from 0,
--- whatever the number of rows (this project's profile).
+-- whatever the number of rows; a call marks the rows that have a place which doesn't take itself (this project's profile).
 use Rattle.std.specs.Prelude.{ℕ, ◌+◌, ◌-◌, Bool, true, false, not, ◌&&◌, ◌||◌, ◌==◌, nat_lt, nat_le, List, [], ◌∷◌, ◌++◌, map, replicate, slice_index_or, slice_range, if◌then◌else◌}
 use Rattle.std.specs.List.{range_with_len, list_any}
 use Rattle.roam_cells.specs.Glyph.{Glyph, is_cell_text}
@@ -17,10 +17,11 @@ use Rattle.roam_grid.specs.declared.writing.Writing.{Writing}
 abbrev pub is_marked : List Bool → ℕ → Bool
 is_marked marks r = slice_index_or marks r false
 
--- all marks are on, and all are off
+-- every mark is on
 unfoldable pub all_on : List Bool
 all_on = replicate 100 true
 
+-- every mark is off
 unfoldable pub all_off : List Bool
 all_off = replicate 100 false
 
@@ -92,11 +93,11 @@ marks_erased_selectively_in_page extent s marks =
     unguarded_marked s.cols s.cells (page_from extent s.row) (page_to extent s.rows s.row) 0 s.cols
     (marks_erased_selectively_in_line extent s marks)
 
--- a pending wrap is done
+-- a pending wrap is done: what goes up for it
 unfoldable pub marks_settled : Screen → List Bool → List Bool
 marks_settled s marks = if s.pending then marks_indexed s marks else marks
 
--- a cell of two columns in the last column goes to the next row
+-- a cell of two columns in the last column goes to the next row: what goes up for it
 abbrev pub marks_with_room : ℕ → Writing → Screen → List Bool → List Bool
 marks_with_room width w s marks = if ((width == 2) && (s.col + 1 == s.cols) && w.wraps) then marks_indexed s marks else marks
 

@@ -62,7 +62,7 @@ impl Grid {
             top: 0,
             bottom: rows - 1,
             stops: stops_at_start(),
-            marks: [true; MOST_ROWS as usize],
+            marks: [true; 100],
         })
     }
 
