@@ -1,122 +1,117 @@
-//! Measures how fast a grid is written and scrolled: `grid_speed MILLIONS` writes that many million characters in ten slices, and for
-//! each slice and way prints its name, rows, columns, characters (or scrolls) and microseconds. Without words it does a moment's work,
-//! and prints nothing.
+//! Measures how fast a grid is written, scrolled and edited: `grid_speed MILLIONS` does the work of that many million characters in ten
+//! slices, and for each slice and way prints its name, the rows, the columns, how often it was done and the microseconds. Without words
+//! it does a moment's work, and prints nothing.
 #![tactic(auto)]
 
 ghost use Rattle.std.specs.Prelude.{◌≤◌};
 
+mod flat;
+mod grids;
+
 use anyhow::{Context, bail};
-use roam_cells::{Cell, Style};
-use roam_grid::{Grid, Writing};
+use flat::Flat;
+use grids::Way;
+use roam_cells::Cell;
+use roam_grid::Grid;
 use std::env;
 use std::time::Instant;
 
-const WRITING: Writing = Writing {
-    wraps: true,
-    inserts: false,
-};
-
-/// The slices that the characters are written in.
+/// The slices that the work is done in.
 const SLICES: u64 = 10;
-
-/// Bytes of a run: more than a row of either size.
-const RUN: usize = 1000;
-
-// Characters one by one, with a scroll at each row's end.
-fn write_singly(grid: &mut Grid, count: u64) {
-    let cell = Cell::ascii(b'a', Style::default(), false);
-    for _ in 0..count {
-        grid.put(cell, WRITING);
-    }
-}
-
-// The same by runs.
-fn write_runs(grid: &mut Grid, count: u64) {
-    let bytes = [b'a'; RUN];
-    let pen = Cell::blank();
-    for _ in 0..count / RUN as u64 {
-        grid.put_run(pen, &bytes, WRITING);
-    }
-}
-
-// Scrolls by one row between margins one row from the edges, on a screen whose first row stands in the middle of the buffer.
-fn scroll_within(grid: &mut Grid, times: u64) {
-    grid.scroll_up(grid.rows() / 2);
-    let bottom = grid.rows().saturating_sub(2);
-    if 1 < bottom && bottom < grid.rows() {
-        grid.set_margins(1, bottom);
-    }
-    for _ in 0..times {
-        grid.scroll_up(1);
-    }
-}
-
-// The move of as many rows in one flat list, and the blank row: what a scroll between those margins is without an index.
-fn move_flat(cells: &mut [Cell], rows: usize, cols: usize, times: u64)
-    requires size { (rows ≤ 100) × (cols ≤ 250) }
-{
-    if rows < 4 || cells.len() != rows * cols {
-        return;
-    }
-    for _ in 0..times {
-        cells.copy_within(2 * cols..(rows - 1) * cols, cols);
-        cells[(rows - 2) * cols..(rows - 1) * cols].fill(Cell::blank());
-    }
-}
 
 // A line of the output: what was done, on which size, how often, and the microseconds since the start.
 fn report(
     rt: &HostRuntime,
-    way: &str,
+    name: &str,
     size: (usize, usize),
-    count: u64,
+    times: u64,
     start: Instant,
 ) -> anyhow::Result<()> {
     let micros = start.elapsed(rt)?.as_micros();
-    println!(rt; "{way} {} {} {count} {micros}", size.0, size.1)?;
+    println!(rt; "{name} {} {} {times} {micros}", size.0, size.1)?;
     Ok(())
 }
 
-fn measure_writing(rt: &HostRuntime, grid: &mut Grid, count: u64) -> anyhow::Result<()> {
+fn measure_way(
+    rt: &HostRuntime,
+    grid: &mut Grid,
+    name: &str,
+    way: Way,
+    times: u64,
+) -> anyhow::Result<()> {
     let size = (grid.rows(), grid.cols());
     let start = Instant::now(rt)?;
-    write_singly(grid, count);
-    report(rt, "put", size, count, start)?;
-    let start = Instant::now(rt)?;
-    write_runs(grid, count);
-    report(rt, "run", size, count, start)
+    grids::work(grid, way, times);
+    report(rt, name, size, times, start)
 }
 
-fn measure_scrolling(rt: &HostRuntime, grid: &mut Grid, times: u64) -> anyhow::Result<()> {
-    let size = (grid.rows(), grid.cols());
-    let start = Instant::now(rt)?;
-    scroll_within(grid, times);
-    report(rt, "scroll", size, times, start)
-}
-
-fn measure_flat(rt: &HostRuntime, size: (usize, usize), times: u64) -> anyhow::Result<()>
-    requires size { (size.0 ≤ 100) × (size.1 ≤ 250) }
-{
-    let mut cells = vec![in rt.alloc(); Cell::blank(); size.0 * size.1]?;
-    let start = Instant::now(rt)?;
-    move_flat(&mut cells, size.0, size.1, times);
-    report(rt, "flat", size, times, start)
-}
-
-fn measure(rt: &HostRuntime, rows: usize, cols: usize, count: u64) -> anyhow::Result<()>
-    requires size { (rows ≤ 100) × (cols ≤ 250) }
-{
+// Each way as often as it does about the work of writing so many characters.
+fn measure_grid(rt: &HostRuntime, rows: usize, cols: usize, count: u64) -> anyhow::Result<()> {
     let mut grid = Grid::new(rt.alloc(), rows, cols)?;
-    measure_writing(rt, &mut grid, count)?;
-    let screen = rows as u64 * cols as u64;
-    if screen == 0 {
-        bail!("an empty screen");
+    let third = cols / 3;
+    let lines = count / cols.max(1) as u64;
+    let pages = lines / rows.max(1) as u64;
+    let moves = pages.saturating_mul(20);
+    let ways = [
+        ("put", Way::Singly, count),
+        ("run", Way::Runs, count),
+        ("third", Way::Lines(third, false), lines),
+        ("third-scrolled", Way::Lines(third, true), lines),
+        ("full", Way::Lines(cols, false), lines),
+        ("full-scrolled", Way::Lines(cols, true), lines),
+        ("pages", Way::Pages(false), pages),
+        ("pages-erased", Way::Pages(true), pages),
+        ("lines-in-out", Way::ShiftLines, moves),
+        ("cells-in-out", Way::ShiftCells, lines),
+        ("scroll-between", Way::ScrollBetween, moves),
+    ];
+    for (name, way, times) in ways {
+        measure_way(rt, &mut grid, name, way, times)?;
     }
-    let times = (count / screen).saturating_mul(20);
-    measure_scrolling(rt, &mut grid, times)?;
-    measure_flat(rt, (rows, cols), times)?;
     let (row, col) = grid.cursor();
     println!(rt; "end {row} {col}")?;
+    Ok(())
+}
+
+fn measure_flat(rt: &HostRuntime, rows: usize, cols: usize, count: u64) -> anyhow::Result<()>
+    requires size { (rows ≤ 100) × (cols ≤ 250) }
+{
+    let mut cells = vec![in rt.alloc(); Cell::blank(); rows * cols]?;
+    let lines = count / cols.max(1) as u64;
+    let pages = lines / rows.max(1) as u64;
+    let moves = pages.saturating_mul(20);
+    let ways = [
+        ("fill-row", Flat::FillRow, lines),
+        ("fill-all", Flat::FillAll, pages),
+        ("move-between", Flat::MoveBetween, moves),
+        ("move-rows", Flat::MoveRows, moves),
+        ("move-cells", Flat::MoveCells, lines),
+    ];
+    for (name, flat, times) in ways {
+        let start = Instant::now(rt)?;
+        flat::work(&mut cells, flat, rows, cols, times);
+        report(rt, name, (rows, cols), times, start)?;
+    }
+    Ok(())
+}
+
+// A moment's work, and where the cursor has to be after it.
+fn try_all(rt: &HostRuntime) -> anyhow::Result<()> {
+    let mut grid = Grid::new(rt.alloc(), 24, 80)?;
+    grids::work(&mut grid, Way::Singly, 10_000);
+    grids::work(&mut grid, Way::Runs, 10_000);
+    if grid.cursor() != (24, 80) {
+        bail!("the cursor is not where 20,000 characters leave it");
+    }
+    for way in [
+        Way::Lines(26, true),
+        Way::Pages(true),
+        Way::ShiftLines,
+        Way::ShiftCells,
+        Way::ScrollBetween,
+    ] {
+        grids::work(&mut grid, way, 10);
+    }
     Ok(())
 }
 
@@ -124,21 +119,16 @@ fn main(rt: HostRuntime) -> anyhow::Result<()> {
     let mut words = env::args(&rt)?;
     words.next();
     let Some(word) = words.next() else {
-        let mut grid = Grid::new(rt.alloc(), 24, 80)?;
-        write_singly(&mut grid, 10_000);
-        write_runs(&mut grid, 10_000);
-        scroll_within(&mut grid, 10);
-        if grid.cursor() != (24, 80) {
-            bail!("the cursor is not where 20,000 characters leave it");
-        }
-        return Ok(());
+        return try_all(&rt);
     };
     let millions = word.parse::<u16>().ok().context("MILLIONS is no number")?;
     // In slices, one size after the other, so that other work on the machine slows neither alone.
     let count = u64::from(millions) * 1_000_000 / SLICES;
     for _ in 0..SLICES {
-        measure(&rt, 24, 80, count)?;
-        measure(&rt, 100, 250, count)?;
+        for (rows, cols) in [(24, 80), (100, 250)] {
+            measure_grid(&rt, rows, cols, count)?;
+            measure_flat(&rt, rows, cols, count)?;
+        }
     }
     Ok(())
 }

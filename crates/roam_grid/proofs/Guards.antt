@@ -28,7 +28,7 @@ at_or : (R d : ℕ) (b : Bool) → at_row R (cond b (RowSource.Fresh blank) (Row
 at_or R d true = refl
 at_or R d false = refl
 
-in_rows : (from to r : ℕ) (g : Bool) → from ≤ r → r < to → (leb from r && ltb r to && g) ≡ g
+pub in_rows : (from to r : ℕ) (g : Bool) → from ≤ r → r < to → (leb from r && ltb r to && g) ≡ g
 in_rows from to r true p q = grind (arith, common_steps)
 in_rows from to r false p q = grind (arith, common_steps)
 
@@ -55,7 +55,7 @@ module _ (extent : Extent) (rows cols row col : ℕ) (cells mid : List Glyph) (w
   abbrev guard : ℕ → ℕ → Bool
   guard r d = (cell_at cols cells r d).guarded
 
-  in_line : (d : ℕ) → d < cols → in_row row one row d ≡ cond (is_in_page extent row col row d && not (guard row d)) (Fresh blank) (From row d)
+  pub in_line : (d : ℕ) → d < cols → in_row row one row d ≡ cond (is_in_page extent row col row d && not (guard row d)) (Fresh blank) (From row d)
   in_line d q =
       in_here row d one
       ∙ ap (λ (x : Glyph). at_row row (cond (leb (line_from extent col) d && ltb d (line_to extent cols col) && not x.guarded) (RowSource.Fresh blank) (RowSource.Column d)))

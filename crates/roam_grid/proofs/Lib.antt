@@ -1,7 +1,13 @@
 pub mod Guards
+pub mod Marked
+pub mod MarkedRuns
+pub mod Named
+pub mod NamedGuards
 pub mod Pages
 pub mod Puts
 pub mod Runs
 pub mod Starting
+pub mod Unmarked
+pub mod UnmarkedPuts
 pub mod Stops
 pub mod Worked

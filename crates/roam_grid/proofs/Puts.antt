@@ -38,21 +38,21 @@ pub first_settled_same : (s : Screen) (first : ℕ) → s.pending ≡ false → 
 unfolding first_settled
 first_settled_same s first e = ap (λ b. cond b (first_indexed s first) first) e
 
-and_false : (a b : Bool) → (a && false && b) ≡ false
+pub and_false : (a b : Bool) → (a && false && b) ≡ false
 and_false true b = refl
 and_false false b = refl
 
-cond_and : {X : Type 0} (a b : Bool) (x y : X) → cond a (cond b x y) y ≡ cond (b && a) x y
+pub cond_and : {X : Type 0} (a b : Bool) (x y : X) → cond a (cond b x y) y ≡ cond (b && a) x y
 cond_and true true x y = refl
 cond_and true false x y = refl
 cond_and false true x y = refl
 cond_and false false x y = refl
 
-and_true : (b : Bool) → (b && true) ≡ b
+pub and_true : (b : Bool) → (b && true) ≡ b
 and_true true = refl
 and_true false = refl
 
-not_last : (c n m : ℕ) → c ≡ 0 → n ≡ m → 4 ≤ m → eqb (c + 1) n ≡ false
+pub not_last : (c n m : ℕ) → c ≡ 0 → n ≡ m → 4 ≤ m → eqb (c + 1) n ≡ false
 not_last c n m p q h = grind (arith, common_steps)
 
 module _ (n : ℕ) (w : Writing) (s : Screen) (first : ℕ) (wide : 4 ≤ s.cols) where

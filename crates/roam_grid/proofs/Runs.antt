@@ -76,7 +76,7 @@ later a n c h = let low : a + 1 ≤ c = grind (arith, common_steps) in omega (ar
 only : (a c : ℕ) → in_range a (a + 1) c ≡ true → c - a ≡ 0
 only a c h = let low : a ≤ c = grind (arith, common_steps) in let high : c < a + 1 = grind (arith, common_steps) in omega (arith, low, high)
 
-one_narrow : (g : Glyph) → IsNarrow g → AreNarrow (g ∷ [])
+pub one_narrow : (g : Glyph) → IsNarrow g → AreNarrow (g ∷ [])
 one_narrow g narrow zero = narrow
 one_narrow g narrow (suc k) = (is_wide-blank, refl)
 
@@ -142,7 +142,7 @@ module _ (rows cols R : ℕ) (cells : List Glyph) (whole : AreWhole rows cols ce
   row_same : (c : ℕ) → c < cols → glyph_at (row_of cols cells R) c ≡ cell_at cols cells R c
   row_same c q = row_at cols (cell_at cols cells R) c q
 
-  row_of_whole : IsWholeRow (row_of cols cells R)
+  pub row_of_whole : IsWholeRow (row_of cols cells R)
   row_of_whole = row_whole rows cols R cells (row_of cols cells R) R_in whole row_len row_same
 
   -- what a map of one row shows, there and elsewhere
@@ -211,7 +211,7 @@ moved_one rows cols R a g cells narrow =
     ∙ moved_same cols cells (in_row R (written g a)) (in_row R (written_run (g ∷ []) a)) r c q (λ d h. same_in_row R (written g a) (written_run (g ∷ []) a) r d (written_one a d g narrow)))
 
 -- one cell of one column, with no wrap pending
-put_one : (g : Glyph) (w : Writing) (s : Screen) → w.inserts ≡ false → is_wide g ≡ false → s.pending ≡ false
+pub put_one : (g : Glyph) (w : Writing) (s : Screen) → w.inserts ≡ false → is_wide g ≡ false → s.pending ≡ false
     → put_on g w s ≡ advanced 1 w (mapped (in_row s.row (written_run (g ∷ []) s.col)) s)
 unfolding put_on with_room made_way inked
 put_one g w s over narrow none =
@@ -231,7 +231,7 @@ first_one g w s first narrow none =
     ∙ ap (λ v. cond (eqb s.row s.bottom && cond v true false) (first_scrolled_up 1 s first) first) none
     ∙ ap (λ v. cond v (first_scrolled_up 1 s first) first) (and_none (eqb s.row s.bottom))
 
-goes_on : (n : ℕ) (w : Writing) (s : Screen) → s.col + n < s.cols → advanced n w s ≡ record s { col = s.col + n }
+pub goes_on : (n : ℕ) (w : Writing) (s : Screen) → s.col + n < s.cols → advanced n w s ≡ record s { col = s.col + n }
 unfolding advanced
 goes_on n w s h =
     let e : ltb (s.col + n) s.cols ≡ true = grind (arith, common_steps) in

@@ -19,7 +19,7 @@ screen_of a =
 
 -- what contracts see of the fields
 abbrev pub view_of : Inside → GridView
-view_of a = record { screen = screen_of a; first = a.ring.first }
+view_of a = record { screen = screen_of a; first = a.ring.first; marks = a.marks }
 
 -- what is true of the fields of every grid
 abbrev pub IsKept : Inside → Type 0

@@ -7,4 +7,6 @@ pub mod Writing
 pub mod Erasing
 pub mod Editing
 pub mod Frames
+pub mod Marks
+pub mod Laws
 pub mod Kept

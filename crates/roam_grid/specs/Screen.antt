@@ -20,10 +20,11 @@ pub record Screen : Type 0 where
   pub bottom : ℕ
   pub stops : List Bool
 
--- what contracts see of a grid: the screen, and the row of its buffer that the screen begins with
+-- what contracts see of a grid: the screen, the row of its buffer that the screen begins with, and the marks of 100 rows
 pub record GridView : Type 0 where
   pub screen : Screen
   pub first : ℕ
+  pub marks : List Bool
 
 -- the rows of a grid, as they go round in its buffer
 abbrev pub rows_of : GridView → Rows

@@ -1,6 +1,7 @@
 //! Moves of the cursor.
 ghost use Rattle.std.specs.Prelude.{◌≡◌};
 ghost use Rattle.roam_grid.specs.Cursor.{backspaced, carried, indexed, first_indexed, moved_to, moved_up, moved_down, moved_right, moved_left, wrap_cleared, reverse_indexed, first_reverse_indexed, restored};
+ghost use Rattle.roam_grid.specs.Marks.{marks_indexed, marks_reverse_indexed};
 ghost use Rattle.roam_grid.specs.Screen.{IsSameSize};
 
 use crate::grids::Grid;
@@ -11,6 +12,7 @@ impl Grid {
     pub fn backspace(&mut self)
         ensures screen { self.new.screen ≡ backspaced self.old.screen }
         ensures first { self.new.first ≡ self.old.first }
+        ensures marks { self.new.marks ≡ self.old.marks }
         ensures size { IsSameSize self.old.screen self.new.screen }
     {
         self.col = self.col.saturating_sub(1);
@@ -23,6 +25,7 @@ impl Grid {
     pub fn carriage_return(&mut self)
         ensures screen { self.new.screen ≡ carried self.old.screen }
         ensures first { self.new.first ≡ self.old.first }
+        ensures marks { self.new.marks ≡ self.old.marks }
         ensures size { IsSameSize self.old.screen self.new.screen }
     {
         self.col = 0;
@@ -32,10 +35,11 @@ impl Grid {
     /// One row down, and on the bottom margin the rows between the margins up (IND, VT220 Programmer
     /// Reference; LF, ECMA-48 8.3.74).
     #[inline]
-    #[tactic(auto, unfolding(crate::specs::Cursor::indexed, crate::specs::Cursor::first_indexed))]
+    #[tactic(auto, unfolding(crate::specs::Cursor::indexed, crate::specs::Cursor::first_indexed, crate::specs::Marks::marks_indexed))]
     pub fn index(&mut self)
         ensures screen { self.new.screen ≡ indexed self.old.screen }
         ensures first { self.new.first ≡ first_indexed self.old.screen self.old.first }
+        ensures marks { self.new.marks ≡ marks_indexed self.old.screen self.old.marks }
         ensures size { IsSameSize self.old.screen self.new.screen }
     {
         if self.row == self.bottom {
@@ -51,6 +55,7 @@ impl Grid {
     pub fn move_to(&mut self, row: usize, col: usize)
         ensures screen { self.new.screen ≡ moved_to row col self.old.screen }
         ensures first { self.new.first ≡ self.old.first }
+        ensures marks { self.new.marks ≡ self.old.marks }
         ensures size { IsSameSize self.old.screen self.new.screen }
     {
         self.row = row.min(self.ring.rows() - 1);
@@ -63,6 +68,7 @@ impl Grid {
     pub fn move_up(&mut self, n: usize)
         ensures screen { self.new.screen ≡ moved_up n self.old.screen }
         ensures first { self.new.first ≡ self.old.first }
+        ensures marks { self.new.marks ≡ self.old.marks }
         ensures size { IsSameSize self.old.screen self.new.screen }
     {
         let above = self.row.saturating_sub(n);
@@ -79,6 +85,7 @@ impl Grid {
     pub fn move_down(&mut self, n: usize)
         ensures screen { self.new.screen ≡ moved_down n self.old.screen }
         ensures first { self.new.first ≡ self.old.first }
+        ensures marks { self.new.marks ≡ self.old.marks }
         ensures size { IsSameSize self.old.screen self.new.screen }
     {
         let last = if self.bottom < self.row {
@@ -95,6 +102,7 @@ impl Grid {
     pub fn move_right(&mut self, n: usize)
         ensures screen { self.new.screen ≡ moved_right n self.old.screen }
         ensures first { self.new.first ≡ self.old.first }
+        ensures marks { self.new.marks ≡ self.old.marks }
         ensures size { IsSameSize self.old.screen self.new.screen }
     {
         self.col += n.min(self.ring.cols() - 1 - self.col);
@@ -106,6 +114,7 @@ impl Grid {
     pub fn move_left(&mut self, n: usize)
         ensures screen { self.new.screen ≡ moved_left n self.old.screen }
         ensures first { self.new.first ≡ self.old.first }
+        ensures marks { self.new.marks ≡ self.old.marks }
         ensures size { IsSameSize self.old.screen self.new.screen }
     {
         self.col = self.col.saturating_sub(n);
@@ -117,6 +126,7 @@ impl Grid {
     pub fn clear_wrap(&mut self)
         ensures screen { self.new.screen ≡ wrap_cleared self.old.screen }
         ensures first { self.new.first ≡ self.old.first }
+        ensures marks { self.new.marks ≡ self.old.marks }
         ensures size { IsSameSize self.old.screen self.new.screen }
     {
         self.pending = false;
@@ -127,6 +137,7 @@ impl Grid {
     pub fn reverse_index(&mut self)
         ensures screen { self.new.screen ≡ reverse_indexed self.old.screen }
         ensures first { self.new.first ≡ first_reverse_indexed self.old.screen self.old.first }
+        ensures marks { self.new.marks ≡ marks_reverse_indexed self.old.screen self.old.marks }
         ensures size { IsSameSize self.old.screen self.new.screen }
     {
         if self.row == self.top {
@@ -143,6 +154,7 @@ impl Grid {
     pub fn restore(&mut self, row: usize, col: usize, pending: bool)
         ensures screen { self.new.screen ≡ restored row col pending self.old.screen }
         ensures first { self.new.first ≡ self.old.first }
+        ensures marks { self.new.marks ≡ self.old.marks }
         ensures size { IsSameSize self.old.screen self.new.screen }
     {
         self.ring.facts();

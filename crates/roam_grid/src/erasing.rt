@@ -5,6 +5,7 @@ ghost use Rattle.roam_rows.specs.Rows.{mapped, with_row};
 ghost use Rattle.roam_grid.specs.Erasing.{line_from, line_to, page_from, page_to, page_blanked, page_unguarded_blanked};
 
 use crate::grids::Grid;
+use crate::marks::{mark_row, mark_rows, mark_unguarded};
 
 /// What ED and EL erase: from the cursor to the end, from the start to the cursor, or all; the cursor's place too.
 #[derive(Clone, Copy, Debug, PartialEq, Eq)]
@@ -45,6 +46,7 @@ impl Extent {
 }
 
 impl Grid {
+    ghost use Rattle.roam_grid.specs.Marks.{marks_in_line, marks_erased_in_page, marks_erased_selectively_in_line, marks_erased_selectively_in_page};
     ghost use Rattle.roam_grid.specs.Screen.{IsSameSize};
     ghost use Rattle.roam_grid.specs.Erasing.{erased_in_page, erased_in_line, erased_selectively_in_page, erased_selectively_in_line};
 
@@ -53,6 +55,7 @@ impl Grid {
     pub fn erase_in_page(&mut self, extent: Extent)
         ensures screen { self.new.screen ≡ erased_in_page extent self.old.screen }
         ensures first { self.new.first ≡ self.old.first }
+        ensures marks { self.new.marks ≡ marks_erased_in_page extent self.old.screen self.old.marks }
         ensures size { IsSameSize self.old.screen self.new.screen }
     {
         self.ring.facts();
@@ -64,6 +67,8 @@ impl Grid {
         self.ring.facts();
         let (top, bottom) = extent.rows(rows, self.row);
         self.ring.blank_rows(top, bottom);
+        mark_row(&mut self.marks, self.row);
+        mark_rows(&mut self.marks, top, bottom);
     }
 
     /// Blanks part of the cursor's row, guarded cells too (EL, ECMA-48 8.3.41).
@@ -71,11 +76,13 @@ impl Grid {
     pub fn erase_in_line(&mut self, extent: Extent)
         ensures screen { self.new.screen ≡ erased_in_line extent self.old.screen }
         ensures first { self.new.first ≡ self.old.first }
+        ensures marks { self.new.marks ≡ marks_in_line self.old.screen self.old.marks }
         ensures size { IsSameSize self.old.screen self.new.screen }
     {
         self.pending = false;
         let (from, to) = extent.columns(self.ring.cols(), self.col);
         self.ring.erase(self.row, from, to);
+        mark_row(&mut self.marks, self.row);
     }
 
     /// Blanks part of the screen but for guarded cells (DECSED, VT220 Programmer Reference).
@@ -83,6 +90,7 @@ impl Grid {
     pub fn erase_selectively_in_page(&mut self, extent: Extent)
         ensures screen { self.new.screen ≡ erased_selectively_in_page extent self.old.screen }
         ensures first { self.new.first ≡ self.old.first }
+        ensures marks { self.new.marks ≡ marks_erased_selectively_in_page extent self.old.screen self.old.marks }
         ensures size { IsSameSize self.old.screen self.new.screen }
     {
         self.ring.facts();
@@ -90,9 +98,16 @@ impl Grid {
         let cols = self.ring.cols();
         self.pending = false;
         let (left, right) = extent.columns(cols, self.col);
+        let (top, bottom) = extent.rows(rows, self.row);
+        mark_unguarded(
+            &mut self.marks,
+            &self.ring,
+            (self.row, self.row + 1),
+            (left, right),
+        );
+        mark_unguarded(&mut self.marks, &self.ring, (top, bottom), (0, cols));
         self.ring.erase_unguarded(self.row, left, right);
         self.ring.facts();
-        let (top, bottom) = extent.rows(rows, self.row);
         self.ring.blank_unguarded_rows(top, bottom);
     }
 
@@ -101,10 +116,17 @@ impl Grid {
     pub fn erase_selectively_in_line(&mut self, extent: Extent)
         ensures screen { self.new.screen ≡ erased_selectively_in_line extent self.old.screen }
         ensures first { self.new.first ≡ self.old.first }
+        ensures marks { self.new.marks ≡ marks_erased_selectively_in_line extent self.old.screen self.old.marks }
         ensures size { IsSameSize self.old.screen self.new.screen }
     {
         self.pending = false;
         let (from, to) = extent.columns(self.ring.cols(), self.col);
+        mark_unguarded(
+            &mut self.marks,
+            &self.ring,
+            (self.row, self.row + 1),
+            (from, to),
+        );
         self.ring.erase_unguarded(self.row, from, to);
     }
 }

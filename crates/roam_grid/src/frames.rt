@@ -2,6 +2,7 @@
 ghost use Rattle.std.specs.Prelude.{◌≡◌, ◌↔◌, ◌⊎◌, ◌<◌, ◌≤◌, IfOk, IfErr, IsErrOf};
 ghost use Rattle.roam_cells.specs.Limits.{IsSize};
 ghost use Rattle.roam_grid.specs.Frames.{aligned, all_blank, restarted, framed_as, leaving, resized};
+ghost use Rattle.roam_grid.specs.Marks.{all_on};
 ghost use Rattle.roam_grid.specs.Screen.{IsSameSize};
 
 use crate::grids::{Grid, is_size};
@@ -14,10 +15,11 @@ pub use roam_rows::Fitted;
 
 impl Grid {
     /// Fills the screen with E in the default style, with full margins and the cursor at the start (DECALN, VT220 Programmer Reference).
-    #[tactic(auto, unfolding(crate::specs::Frames::aligned))]
+    #[tactic(auto, unfolding(crate::specs::Frames::aligned, crate::specs::Marks::all_on))]
     pub fn align(&mut self)
         ensures screen { self.new.screen ≡ aligned self.old.screen }
         ensures first { self.new.first ≡ self.old.first }
+        ensures marks { self.new.marks ≡ all_on }
         ensures size { IsSameSize self.old.screen self.new.screen }
     {
         self.ring.facts();
@@ -27,16 +29,20 @@ impl Grid {
         self.pending = false;
         self.top = 0;
         self.bottom = self.ring.rows() - 1;
+        self.marks = [true; 100];
     }
 
     /// Blanks every cell; all else stays.
+    #[tactic(auto, unfolding(crate::specs::Marks::all_on))]
     pub fn blank_all(&mut self)
         ensures screen { self.new.screen ≡ all_blank self.old.screen }
         ensures first { self.new.first ≡ self.old.first }
+        ensures marks { self.new.marks ≡ all_on }
         ensures size { IsSameSize self.old.screen self.new.screen }
     {
         let rows = self.ring.rows();
         self.ring.blank_rows(0, rows);
+        self.marks = [true; 100];
     }
 
     /// Blanks every cell, and puts the cursor, the margins and the tab stops where they are at the start (RIS, ECMA-48 8.3.105).
@@ -44,6 +50,7 @@ impl Grid {
     pub fn restart(&mut self)
         ensures screen { self.new.screen ≡ restarted self.old.screen }
         ensures first { self.new.first ≡ self.old.first }
+        ensures marks { self.new.marks ≡ all_on }
         ensures size { IsSameSize self.old.screen self.new.screen }
     {
         self.blank_all();
@@ -57,11 +64,12 @@ impl Grid {
     }
 
     /// Takes over the cursor, the margins and the tab stops of another grid of the same size; no wrap pends.
-    #[tactic(auto, unfolding(crate::specs::Frames::framed_as))]
+    #[tactic(auto, unfolding(crate::specs::Frames::framed_as, crate::specs::Marks::all_on))]
     pub fn take_frame(&mut self, other: &Grid)
         requires size { (other.now.screen.rows ≡ self.old.screen.rows) × (other.now.screen.cols ≡ self.old.screen.cols) }
         ensures screen { self.new.screen ≡ framed_as other.now.screen self.old.screen }
         ensures first { self.new.first ≡ self.old.first }
+        ensures marks { self.new.marks ≡ all_on }
         ensures size { IsSameSize self.old.screen self.new.screen }
     {
         other.facts();
@@ -71,6 +79,7 @@ impl Grid {
         self.top = other.top;
         self.bottom = other.bottom;
         self.stops = other.stops;
+        self.marks = [true; 100];
     }
 
     /// How many rows leave at the top where the screen gets this number of rows, so that the cursor's row stays.
@@ -97,10 +106,11 @@ impl Grid {
 
     /// Brings the screen to the size that memory was made for, after `off` rows have left at the top: rows come in or are cut at the
     /// bottom and columns at the right. It takes no memory.
-    #[tactic(auto, unfolding(crate::specs::Frames::resized))]
+    #[tactic(auto, unfolding(crate::specs::Frames::resized, crate::specs::Marks::all_on))]
     pub fn adopt(&mut self, fitted: Fitted, off: usize)
         ensures screen { self.new.screen ≡ resized fitted.rows fitted.cols off self.old }
         ensures first { self.new.first ≡ 0 }
+        ensures marks { self.new.marks ≡ all_on }
     {
         let rows = fitted.rows();
         let cols = fitted.cols();
@@ -111,5 +121,6 @@ impl Grid {
         self.pending = false;
         self.top = 0;
         self.bottom = rows - 1;
+        self.marks = [true; 100];
     }
 }

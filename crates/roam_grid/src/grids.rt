@@ -4,6 +4,7 @@ ghost use Rattle.roam_cells.specs.Glyph.{blank};
 ghost use Rattle.roam_cells.specs.Limits.{IsSize};
 ghost use Rattle.roam_cells.specs.Screenshot.{row_of};
 ghost use Rattle.roam_rows.specs.Rows.{AreRows, buffer_of};
+ghost use Rattle.roam_grid.specs.Marks.{all_on};
 ghost use Rattle.roam_grid.specs.Screen.{IsScreen, rows_of, start};
 
 use crate::tabs::stops_at_start;
@@ -23,6 +24,8 @@ pub struct Grid {
     pub(crate) top: usize,
     pub(crate) bottom: usize,
     pub(crate) stops: [bool; 250],
+    // of rows of the screen, not of the buffer
+    pub(crate) marks: [bool; 100],
 }
 
 impl Model for Grid {
@@ -38,11 +41,13 @@ impl Model for Grid {
 }
 
 impl Grid {
-    /// A blank screen of 2 to 100 rows and 4 to 250 columns, the cursor at its start, with full margins and the tab stops of the start;
-    /// refuses other sizes, and want of memory.
+    /// A blank screen of 2 to 100 rows and 4 to 250 columns, the cursor at its start, with full margins, the tab stops of the start and
+    /// all marks on; refuses other sizes, and want of memory.
+    #[tactic(auto, unfolding(crate::specs::Marks::all_on))]
     pub fn new(alloc: Global, rows: usize, cols: usize) -> Result<Self, Fault>
         ensures screen { IfOk result (λ g. g.screen ≡ start rows cols) }
         ensures first { IfOk result (λ g. g.first ≡ 0) }
+        ensures marks { IfOk result (λ g. g.marks ≡ all_on) }
         ensures bad_size { IsErrOf result Fault.BadSize ↔ (¬ IsSize rows cols) }
         ensures err { IfErr result (λ e. (e ≡ Fault.BadSize) ⊎ (e ≡ Fault.OutOfMemory)) }
     {
@@ -57,6 +62,7 @@ impl Grid {
             top: 0,
             bottom: rows - 1,
             stops: stops_at_start(),
+            marks: [true; 100],
         })
     }
 

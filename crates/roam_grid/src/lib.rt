@@ -6,10 +6,14 @@ mod editing;
 mod erasing;
 mod frames;
 mod grids;
+pub mod laws;
+mod marks;
 mod running;
 mod scrolling;
 mod tabbing;
 mod tabs;
+#[cfg(test)]
+mod tests;
 mod writing;
 
 pub use erasing::Extent;

@@ -5,10 +5,12 @@ ghost use Rattle.roam_rows.specs.Places.{in_row};
 ghost use Rattle.roam_rows.specs.Writing.{ArePrintable, written_run};
 
 use crate::grids::Grid;
+use crate::marks::mark_row;
 use crate::writing::Writing;
 use roam_cells::Cell;
 
 impl Grid {
+    ghost use Rattle.roam_grid.specs.Marks.{marks_put_all, row_marked};
     ghost use Rattle.roam_grid.specs.Screen.{IsSameSize, mapped};
     ghost use Rattle.roam_grid.specs.Writing.{put_all, first_put_all};
 
@@ -18,6 +20,7 @@ impl Grid {
         requires printable { ArePrintable bytes.now }
         ensures screen { self.new.screen ≡ put_all (map (λ byte. ascii_in byte pen) bytes.now) writing self.old.screen }
         ensures first { self.new.first ≡ first_put_all (map (λ byte. ascii_in byte pen) bytes.now) writing self.old.screen self.old.first }
+        ensures marks { self.new.marks ≡ marks_put_all (map (λ byte. ascii_in byte pen) bytes.now) writing self.old.screen self.old.marks }
         ensures size { IsSameSize self.old.screen self.new.screen }
     {
         if writing.inserts {
@@ -32,6 +35,7 @@ impl Grid {
         requires printable { ArePrintable bytes.now }
         ensures screen { self.new.screen ≡ put_all (map (λ byte. ascii_in byte pen) bytes.now) writing self.old.screen }
         ensures first { self.new.first ≡ first_put_all (map (λ byte. ascii_in byte pen) bytes.now) writing self.old.screen self.old.first }
+        ensures marks { self.new.marks ≡ marks_put_all (map (λ byte. ascii_in byte pen) bytes.now) writing self.old.screen self.old.marks }
         ensures size { IsSameSize self.old.screen self.new.screen }
     {
         for i in 0..bytes.len() {
@@ -47,6 +51,7 @@ impl Grid {
         requires over { writing.inserts ≡ false }
         ensures screen { self.new.screen ≡ put_all (map (λ byte. ascii_in byte pen) bytes.now) writing self.old.screen }
         ensures first { self.new.first ≡ first_put_all (map (λ byte. ascii_in byte pen) bytes.now) writing self.old.screen self.old.first }
+        ensures marks { self.new.marks ≡ marks_put_all (map (λ byte. ascii_in byte pen) bytes.now) writing self.old.screen self.old.marks }
         ensures size { IsSameSize self.old.screen self.new.screen }
     {
         let mut at = 0;
@@ -68,6 +73,7 @@ impl Grid {
         requires over { writing.inserts ≡ false }
         ensures screen { self.new.screen ≡ put_all (map (λ byte. ascii_in byte pen) bytes.now) writing self.old.screen }
         ensures first { self.new.first ≡ first_put_all (map (λ byte. ascii_in byte pen) bytes.now) writing self.old.screen self.old.first }
+        ensures marks { self.new.marks ≡ marks_put_all (map (λ byte. ascii_in byte pen) bytes.now) writing self.old.screen self.old.marks }
         ensures size { IsSameSize self.old.screen self.new.screen }
     {
         self.facts();
@@ -81,10 +87,14 @@ impl Grid {
         requires some { 0 < length bytes.now }
         requires printable { ArePrintable bytes.now }
         ensures screen { self.new.screen
-            ≡ mapped (in_row self.old.screen.row (written_run (map (λ byte. ascii_in byte pen) bytes.now) self.old.screen.col)) self.old.screen }
+            ≡ mapped
+            (in_row self.old.screen.row (written_run (map (λ byte. ascii_in byte pen) bytes.now) self.old.screen.col))
+            self.old.screen }
         ensures first { self.new.first ≡ self.old.first }
+        ensures marks { self.new.marks ≡ row_marked self.old.screen.row self.old.marks }
         ensures size { IsSameSize self.old.screen self.new.screen }
     {
         self.ring.put_run(self.row, self.col, pen, bytes);
+        mark_row(&mut self.marks, self.row);
     }
 }

@@ -12,6 +12,7 @@ impl Grid {
     pub fn tab(&mut self, n: usize)
         ensures screen { self.new.screen ≡ tabbed n self.old.screen }
         ensures first { self.new.first ≡ self.old.first }
+        ensures marks { self.new.marks ≡ self.old.marks }
         ensures size { IsSameSize self.old.screen self.new.screen }
     {
         self.ring.facts();
@@ -25,6 +26,7 @@ impl Grid {
     pub fn back_tab(&mut self, n: usize)
         ensures screen { self.new.screen ≡ back_tabbed n self.old.screen }
         ensures first { self.new.first ≡ self.old.first }
+        ensures marks { self.new.marks ≡ self.old.marks }
         ensures size { IsSameSize self.old.screen self.new.screen }
     {
         self.ring.facts();
@@ -37,6 +39,7 @@ impl Grid {
     pub fn set_stop(&mut self)
         ensures screen { self.new.screen ≡ stop_set self.old.screen }
         ensures first { self.new.first ≡ self.old.first }
+        ensures marks { self.new.marks ≡ self.old.marks }
         ensures size { IsSameSize self.old.screen self.new.screen }
     {
         self.ring.facts();
@@ -48,6 +51,7 @@ impl Grid {
     pub fn clear_stop(&mut self)
         ensures screen { self.new.screen ≡ stop_cleared self.old.screen }
         ensures first { self.new.first ≡ self.old.first }
+        ensures marks { self.new.marks ≡ self.old.marks }
         ensures size { IsSameSize self.old.screen self.new.screen }
     {
         self.ring.facts();
@@ -59,6 +63,7 @@ impl Grid {
     pub fn clear_stops(&mut self)
         ensures screen { self.new.screen ≡ stops_cleared self.old.screen }
         ensures first { self.new.first ≡ self.old.first }
+        ensures marks { self.new.marks ≡ self.old.marks }
         ensures size { IsSameSize self.old.screen self.new.screen }
     {
         self.stops = [false; 250];

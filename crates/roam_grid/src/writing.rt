@@ -1,8 +1,9 @@
 //! Writing characters at the cursor.
-ghost use Rattle.std.specs.Prelude.{◌≡◌, ◌+◌, ◌≤◌, true, false};
+ghost use Rattle.std.specs.Prelude.{◌≡◌, ◌+◌, ◌<◌, ◌≤◌, true, false};
 ghost use Rattle.roam_cells.specs.Glyph.{is_right_half};
 
 use crate::grids::Grid;
+use crate::marks::{mark_row, mark_where};
 use roam_cells::Cell;
 
 /// The modes that writing depends on.
@@ -16,8 +17,9 @@ pub struct Writing {
 }
 
 impl Grid {
+    ghost use Rattle.roam_grid.specs.Marks.{joins, marks_indexed, marks_joined, marks_joined_in, marks_put, marks_settled, marks_with_room, row_marked};
     ghost use Rattle.roam_grid.specs.Screen.{IsSameSize};
-    ghost use Rattle.roam_grid.specs.Writing.{columns, wrapped, settled, first_settled, with_room, first_with_room, made_way, inked, advanced, put_on, leaves_row, first_put, joined_on};
+    ghost use Rattle.roam_grid.specs.Writing.{columns, wrapped, settled, first_settled, with_room, first_with_room, made_way, inked, advanced, put_on, leaves_row, first_put, joined_in, joined_on};
     ghost use Rattle.roam_grid.specs.Cursor.{first_indexed};
 
     /// Whether a `put` of a cell of so many columns first scrolls a row out at the top margin.
@@ -32,11 +34,12 @@ impl Grid {
 
     /// Writes a cell of one or two columns at the cursor (DECAWM, VT220 Programmer Reference).
     #[inline]
-    #[tactic(auto, unfolding(crate::specs::Writing::put_on))]
+    #[tactic(auto, unfolding(crate::specs::Writing::put_on, crate::specs::Marks::marks_put))]
     pub fn put(&mut self, cell: Cell, writing: Writing)
         requires no_half { is_right_half cell ≡ false }
         ensures screen { self.new.screen ≡ put_on cell writing self.old.screen }
         ensures first { self.new.first ≡ first_put cell writing self.old.screen self.old.first }
+        ensures marks { self.new.marks ≡ marks_put cell writing self.old.screen self.old.marks }
         ensures size { IsSameSize self.old.screen self.new.screen }
     {
         self.facts();
@@ -50,17 +53,46 @@ impl Grid {
 
     /// Joins a character of width 0 to the cell before the cursor, or with a wrap pending to the cursor's; a fourth code point, and one
     /// that has no cell before it, is dropped (this project's profile).
-    #[tactic(auto, unfolding(crate::specs::Writing::joined_on))]
+    #[tactic(auto, unfolding(crate::specs::Writing::joined_on, crate::specs::Marks::marks_joined))]
     pub fn join(&mut self, c: char)
         ensures screen { self.new.screen ≡ joined_on c self.old.screen }
         ensures first { self.new.first ≡ self.old.first }
+        ensures marks { self.new.marks ≡ marks_joined c self.old.screen self.old.marks }
         ensures size { IsSameSize self.old.screen self.new.screen }
     {
         if self.pending {
-            self.ring.join(self.row, self.col, c);
+            self.join_at(self.col, c);
         } else if self.col != 0 {
-            self.ring.join(self.row, self.col - 1, c);
+            self.join_at(self.col - 1, c);
         }
+    }
+
+    // Joins it to the character that a column of the cursor's row is part of.
+    fn join_at(&mut self, col: usize, c: char)
+        requires col_in { col < self.old.screen.cols }
+        ensures screen { self.new.screen ≡ joined_in col c self.old.screen }
+        ensures first { self.new.first ≡ self.old.first }
+        ensures marks { self.new.marks ≡ marks_joined_in col c self.old.screen self.old.marks }
+        ensures size { IsSameSize self.old.screen self.new.screen }
+    {
+        let joins = self.joins(col, c);
+        mark_where(&mut self.marks, self.row, joins);
+        self.ring.join(self.row, col, c);
+    }
+
+    // Whether it joins that character: a fourth code point doesn't, nor one that has columns of its own.
+    fn joins(&self, col: usize, c: char) -> bool
+        requires col_in { col < self.now.screen.cols }
+        ensures joins { result ≡ joins col c self.now.screen }
+    {
+        let row = self.ring.row(self.row);
+        let base = if row[col].is_right_half() {
+            col.saturating_sub(1)
+        } else {
+            col
+        };
+        let cell = row[base];
+        cell.with_point(c).chars().len() != cell.chars().len()
     }
 
     #[inline]
@@ -68,6 +100,7 @@ impl Grid {
     fn wrap(&mut self)
         ensures screen { self.new.screen ≡ wrapped self.old.screen }
         ensures first { self.new.first ≡ first_indexed self.old.screen self.old.first }
+        ensures marks { self.new.marks ≡ marks_indexed self.old.screen self.old.marks }
         ensures size { IsSameSize self.old.screen self.new.screen }
         ensures place { (self.new.screen.col ≡ 0) × (self.new.screen.pending ≡ false) × (self.new.screen.cols ≡ self.old.screen.cols) }
     {
@@ -76,10 +109,11 @@ impl Grid {
     }
 
     #[inline]
-    #[tactic(auto, unfolding(crate::specs::Writing::settled, crate::specs::Writing::first_settled))]
+    #[tactic(auto, unfolding(crate::specs::Writing::settled, crate::specs::Writing::first_settled, crate::specs::Marks::marks_settled))]
     pub(crate) fn settle(&mut self)
         ensures screen { self.new.screen ≡ settled self.old.screen }
         ensures first { self.new.first ≡ first_settled self.old.screen self.old.first }
+        ensures marks { self.new.marks ≡ marks_settled self.old.screen self.old.marks }
         ensures size { IsSameSize self.old.screen self.new.screen }
         ensures settled { self.new.screen.pending ≡ false }
     {
@@ -94,6 +128,7 @@ impl Grid {
         requires settled { self.old.screen.pending ≡ false }
         ensures screen { self.new.screen ≡ with_room (columns cell) writing self.old.screen }
         ensures first { self.new.first ≡ first_with_room (columns cell) writing self.old.screen self.old.first }
+        ensures marks { self.new.marks ≡ marks_with_room (columns cell) writing self.old.screen self.old.marks }
         ensures size { IsSameSize self.old.screen self.new.screen }
         ensures room { columns cell + self.new.screen.col ≤ self.new.screen.cols }
     {
@@ -113,6 +148,7 @@ impl Grid {
     fn make_way(&mut self, columns: usize, writing: Writing)
         ensures screen { self.new.screen ≡ made_way columns writing self.old.screen }
         ensures first { self.new.first ≡ self.old.first }
+        ensures marks { self.new.marks ≡ self.old.marks }
         ensures size { IsSameSize self.old.screen self.new.screen }
         ensures place { (self.new.screen.col ≡ self.old.screen.col) × (self.new.screen.cols ≡ self.old.screen.cols) }
     {
@@ -128,9 +164,11 @@ impl Grid {
         requires room { columns cell + self.old.screen.col ≤ self.old.screen.cols }
         ensures screen { self.new.screen ≡ inked cell self.old.screen }
         ensures first { self.new.first ≡ self.old.first }
+        ensures marks { self.new.marks ≡ row_marked self.old.screen.row self.old.marks }
         ensures size { IsSameSize self.old.screen self.new.screen }
     {
         self.ring.put(self.row, self.col, cell);
+        mark_row(&mut self.marks, self.row);
     }
 
     #[inline]
@@ -139,6 +177,7 @@ impl Grid {
         requires few { columns ≤ 250 }
         ensures screen { self.new.screen ≡ advanced columns writing self.old.screen }
         ensures first { self.new.first ≡ self.old.first }
+        ensures marks { self.new.marks ≡ self.old.marks }
         ensures size { IsSameSize self.old.screen self.new.screen }
     {
         self.ring.facts();

@@ -4,6 +4,7 @@ use Rattle.roam_rows.specs.Places.{in_row}
 use Rattle.roam_grid.specs.Screen.{mapped}
 use Rattle.roam_grid.specs.Writing.{advanced}
 use Rattle.roam_rows.proofs.Inking.{inked_bytes, bytes_narrow, length-bytes}
+use Rattle.roam_grid.proofs.MarkedRuns.{marks_some}
 use Rattle.roam_grid.proofs.Runs.{put_some_is}
 use Rattle.roam_grid.proofs.grids.Grid.put_segment.Goals as goal
 
@@ -28,3 +29,13 @@ returns-clause-first c =
     let f = c.facts.ensures.screen in
     c.advance.ensures.first ∙ c.ink_run.ensures.first
     ∙ sym (put_some_is gs a.writing s a.self.now.first q.over (omega (arith, e, q.some)) (bytes_narrow a.pen a.bytes.now q.printable) q.settled (omega (arith, e, q.fits)) f.frame.row_in f.whole).1
+
+pub returns-clause-marks : goal.returns-clause-marks
+returns-clause-marks c =
+    let a = c.args in
+    let q = c.requires in
+    let s = a.self.now.screen in
+    let gs = inked_bytes a.pen a.bytes.now in
+    let e : length gs ≡ length a.bytes.now = length-bytes a.pen a.bytes.now in
+    c.advance.ensures.marks ∙ c.ink_run.ensures.marks
+    ∙ sym (marks_some gs a.writing s a.self.now.marks q.over (omega (arith, e, q.some)) (bytes_narrow a.pen a.bytes.now q.printable) q.settled (omega (arith, e, q.fits)))

@@ -1,7 +1,8 @@
-use Rattle.std.proofs.Common.{◌≡◌, ℕ, ◌∙◌, refl, sym, ap, subst}
+use Rattle.std.proofs.Common.{◌≡◌, ℕ, ◌∙◌, Bool, List, refl, sym, ap, subst}
 use Rattle.roam_grid.specs.Screen.{Screen}
 use Rattle.roam_grid.specs.Scrolling.{first_scrolled_up}
 use Rattle.roam_grid.specs.Cursor.{carried, indexed, first_indexed}
+use Rattle.roam_grid.specs.Marks.{marks_indexed}
 use Rattle.roam_grid.specs.Writing.{wrapped}
 use Rattle.roam_grid.proofs.Puts.{wrapped_place, Placed}
 use Rattle.roam_grid.proofs.grids.Grid.wrap.Goals as goal
@@ -23,3 +24,14 @@ returns-clause-first c =
     let s = c.args.self.now.screen in
     c.index.ensures.first ∙ ap (λ t. first_indexed t c.carriage_return.new.self.first) c.carriage_return.ensures.screen
     ∙ ap (first_indexed (carried s)) c.carriage_return.ensures.first ∙ first_indexed-carried s c.args.self.now.first
+
+-- and marks are put on after CR as they are without it
+marks_indexed-carried : (s : Screen) (marks : List Bool) → marks_indexed (carried s) marks ≡ marks_indexed s marks
+unfolding carried marks_indexed
+marks_indexed-carried s marks = refl
+
+pub returns-clause-marks : goal.returns-clause-marks
+returns-clause-marks c =
+    let s = c.args.self.now.screen in
+    c.index.ensures.marks ∙ ap (λ t. marks_indexed t c.carriage_return.new.self.marks) c.carriage_return.ensures.screen
+    ∙ ap (marks_indexed (carried s)) c.carriage_return.ensures.marks ∙ marks_indexed-carried s c.args.self.now.marks

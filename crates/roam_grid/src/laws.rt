@@ -1,0 +1,96 @@
+//! What marks say of a screen, whatever calls were made.
+ghost use Rattle.std.specs.Prelude.{◌≡◌, ℕ, ◌+◌, ◌<◌, Bool, true, false, List, length, min, if◌then◌else◌};
+ghost use Rattle.roam_cells.specs.Glyph.{Glyph, is_right_half};
+ghost use Rattle.roam_rows.specs.Editing.{inserted, deleted};
+ghost use Rattle.roam_rows.specs.Erasing.{blanked, unguarded_blanked};
+ghost use Rattle.roam_rows.specs.Places.{in_row};
+ghost use Rattle.roam_rows.specs.Scrolling.{up, down};
+ghost use Rattle.roam_rows.specs.Writing.{written};
+ghost use Rattle.roam_cells.specs.Place.{glyph_at};
+ghost use Rattle.roam_cells.specs.Screenshot.{row_of};
+ghost use Rattle.roam_grid.specs.Cursor.{indexed, reverse_indexed};
+ghost use Rattle.roam_grid.specs.Editing.{cells_inserted, cells_deleted, cells_erased, is_between_margins, lines_inserted, lines_deleted};
+ghost use Rattle.roam_grid.specs.Erasing.{line_from, line_to, page_blanked, page_unguarded_blanked, erased_in_page, erased_in_line, erased_selectively_in_page, erased_selectively_in_line};
+ghost use Rattle.roam_grid.specs.Laws.{AreNamedMarked, IsChanged, ShowsUnmarked};
+ghost use Rattle.roam_grid.specs.Marks.{all_on, is_marked, row_marked, marks_scrolled, marks_indexed, marks_reverse_indexed, marks_cells_moved, marks_lines_moved, marks_in_line, marks_erased_in_page, marks_erased_selectively_in_line, marks_erased_selectively_in_page, marks_put, marks_put_all, marks_joined};
+ghost use Rattle.roam_grid.specs.Screen.{Screen, IsScreen};
+ghost use Rattle.roam_grid.specs.Scrolling.{scrolled_up, scrolled_down};
+ghost use Rattle.roam_grid.specs.Writing.{columns, leaves_row, put_on, put_all, joined_on};
+ghost use Rattle.roam_grid.specs.declared.erasing.Extent.{Extent};
+ghost use Rattle.roam_grid.specs.declared.writing.Writing.{Writing};
+
+/// A mark goes on only in a row that has a place which doesn't take itself, and every row that has one is marked: by the map of places of
+/// each operation. A cell is written in the row that `put` leaves the cursor in, after the rows have gone up where one leaves. `all` is
+/// what alignment, a restart, a switch of screens and another size put on.
+pub fn marks_go_on_in_named_rows()
+    ensures scrolled_up { (n : ℕ) (s : Screen) (m : List Bool) → IsScreen s
+        → AreNamedMarked s (up s.top s.bottom n) m (marks_scrolled n s m) }
+    ensures scrolled_down { (n : ℕ) (s : Screen) (m : List Bool) → IsScreen s
+        → AreNamedMarked s (down s.top s.bottom n) m (marks_scrolled n s m) }
+    ensures cells_inserted { (n : ℕ) (s : Screen) (m : List Bool) → IsScreen s
+        → AreNamedMarked s (in_row s.row (inserted s.col n)) m (marks_cells_moved n s m) }
+    ensures cells_deleted { (n : ℕ) (s : Screen) (m : List Bool) → IsScreen s
+        → AreNamedMarked s (in_row s.row (deleted s.cols s.col n)) m (marks_cells_moved n s m) }
+    ensures cells_erased { (n : ℕ) (s : Screen) (m : List Bool) → IsScreen s → 0 < n
+        → AreNamedMarked s (in_row s.row (blanked s.col (min (s.col + n) s.cols))) m (marks_in_line s m) }
+    ensures lines_inserted { (n : ℕ) (s : Screen) (m : List Bool) → IsScreen s → is_between_margins s ≡ true
+        → AreNamedMarked s (down s.row s.bottom n) m (marks_lines_moved n s m) }
+    ensures lines_deleted { (n : ℕ) (s : Screen) (m : List Bool) → IsScreen s → is_between_margins s ≡ true
+        → AreNamedMarked s (up s.row s.bottom n) m (marks_lines_moved n s m) }
+    ensures erased_in_page { (e : Extent) (s : Screen) (m : List Bool) → IsScreen s
+        → AreNamedMarked s (page_blanked e s.row s.col) m (marks_erased_in_page e s m) }
+    ensures erased_in_line { (e : Extent) (s : Screen) (m : List Bool) → IsScreen s
+        → AreNamedMarked s (in_row s.row (blanked (line_from e s.col) (line_to e s.cols s.col))) m (marks_in_line s m) }
+    ensures erased_selectively_in_page { (e : Extent) (s : Screen) (m : List Bool) → IsScreen s
+        → AreNamedMarked s (page_unguarded_blanked e s.cols s.cells s.row s.col) m (marks_erased_selectively_in_page e s m) }
+    ensures erased_selectively_in_line { (e : Extent) (s : Screen) (m : List Bool) → IsScreen s
+        → AreNamedMarked s
+        (in_row s.row (unguarded_blanked (row_of s.cols s.cells s.row) (line_from e s.col) (line_to e s.cols s.col)))
+        m (marks_erased_selectively_in_line e s m) }
+    ensures written { (x : Glyph) (s : Screen) (m : List Bool) → IsScreen s
+        → AreNamedMarked s (in_row s.row (written x s.col)) m (row_marked s.row m) }
+    ensures put { (x : Glyph) (w : Writing) (s : Screen) (m : List Bool) → IsScreen s
+        → marks_put x w s m
+        ≡ row_marked (put_on x w s).row (if leaves_row (columns x) w s then marks_scrolled 1 s m else m) }
+    ensures joined { (c : ℕ) (s : Screen) (m : List Bool) (r : ℕ) → IsScreen s → r < s.rows → is_marked m r ≡ false
+        → is_marked (marks_joined c s m) r ≡ true → IsChanged s (joined_on c s) r }
+    ensures all { (r : ℕ) → r < 100 → is_marked all_on r ≡ true }
+{}
+
+/// A row without a mark shows what it showed, and no mark goes off: whatever was marked before, by each call that changes cells. The calls
+/// that name every row (alignment, a restart, a switch of screens, another size) leave no row without a mark, and those that aren't
+/// named here leave cells and marks as they are.
+pub fn unmarked_rows_show_what_they_showed()
+    ensures put { (x : Glyph) (w : Writing) (s : Screen) (m : List Bool) → IsScreen s → is_right_half x ≡ false
+        → ShowsUnmarked s (put_on x w s) m (marks_put x w s m) }
+    ensures put_all { (xs : List Glyph) (w : Writing) (s : Screen) (m : List Bool) → IsScreen s
+        → ((k : ℕ) → k < length xs → is_right_half (glyph_at xs k) ≡ false)
+        → ShowsUnmarked s (put_all xs w s) m (marks_put_all xs w s m) }
+    ensures joined { (c : ℕ) (s : Screen) (m : List Bool) → IsScreen s
+        → ShowsUnmarked s (joined_on c s) m (marks_joined c s m) }
+    ensures indexed { (s : Screen) (m : List Bool) → IsScreen s → ShowsUnmarked s (indexed s) m (marks_indexed s m) }
+    ensures reverse_indexed { (s : Screen) (m : List Bool) → IsScreen s
+        → ShowsUnmarked s (reverse_indexed s) m (marks_reverse_indexed s m) }
+    ensures scrolled_up { (n : ℕ) (s : Screen) (m : List Bool) → IsScreen s
+        → ShowsUnmarked s (scrolled_up n s) m (marks_scrolled n s m) }
+    ensures scrolled_down { (n : ℕ) (s : Screen) (m : List Bool) → IsScreen s
+        → ShowsUnmarked s (scrolled_down n s) m (marks_scrolled n s m) }
+    ensures cells_inserted { (n : ℕ) (s : Screen) (m : List Bool) → IsScreen s
+        → ShowsUnmarked s (cells_inserted n s) m (marks_cells_moved n s m) }
+    ensures cells_deleted { (n : ℕ) (s : Screen) (m : List Bool) → IsScreen s
+        → ShowsUnmarked s (cells_deleted n s) m (marks_cells_moved n s m) }
+    ensures cells_erased { (n : ℕ) (s : Screen) (m : List Bool) → IsScreen s → 0 < n
+        → ShowsUnmarked s (cells_erased n s) m (marks_in_line s m) }
+    ensures lines_inserted { (n : ℕ) (s : Screen) (m : List Bool) → IsScreen s
+        → ShowsUnmarked s (lines_inserted n s) m (marks_lines_moved n s m) }
+    ensures lines_deleted { (n : ℕ) (s : Screen) (m : List Bool) → IsScreen s
+        → ShowsUnmarked s (lines_deleted n s) m (marks_lines_moved n s m) }
+    ensures erased_in_page { (e : Extent) (s : Screen) (m : List Bool) → IsScreen s
+        → ShowsUnmarked s (erased_in_page e s) m (marks_erased_in_page e s m) }
+    ensures erased_in_line { (e : Extent) (s : Screen) (m : List Bool) → IsScreen s
+        → ShowsUnmarked s (erased_in_line e s) m (marks_in_line s m) }
+    ensures erased_selectively_in_page { (e : Extent) (s : Screen) (m : List Bool) → IsScreen s
+        → ShowsUnmarked s (erased_selectively_in_page e s) m (marks_erased_selectively_in_page e s m) }
+    ensures erased_selectively_in_line { (e : Extent) (s : Screen) (m : List Bool) → IsScreen s
+        → ShowsUnmarked s (erased_selectively_in_line e s) m (marks_erased_selectively_in_line e s m) }
+{}
