@@ -14,4 +14,4 @@ mod datagrams;
 #[cfg(test)]
 mod ends;
 #[cfg(test)]
-mod layouts;
+mod lines;

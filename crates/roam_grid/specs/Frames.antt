@@ -2,7 +2,7 @@
 use Rattle.std.specs.Prelude.{ℕ, ◌+◌, ◌-◌, ◌*◌, false, ◌∷◌, [], replicate, min}
 use Rattle.roam_cells.specs.Glyph.{Glyph, default_style, blank}
 use Rattle.roam_rows.specs.Sizing.{sized}
-use Rattle.roam_grid.specs.Screen.{Screen, GridView, rows_of, start}
+use Rattle.roam_grid.specs.Screen.{Screen, start}
 
 -- E in the default style
 abbrev pub letter_e : Glyph
@@ -30,16 +30,16 @@ leaving rows s = s.row + 1 - rows
 
 -- another size, after `off` rows have left at the top: rows come in or are cut at the bottom and columns at the right; full margins, the
 -- cursor pushed into the screen, no wrap pending (this project's profile)
-unfoldable pub resized : ℕ → ℕ → ℕ → GridView → Screen
-resized rows cols off v =
+unfoldable pub resized : ℕ → ℕ → ℕ → Screen → Screen
+resized rows cols off s =
     record {
       rows = rows;
       cols = cols;
-      cells = (sized rows cols off (rows_of v)).cells;
-      row = min (v.screen.row - off) (rows - 1);
-      col = min v.screen.col (cols - 1);
+      cells = (sized rows cols off (record { rows = s.rows; cols = s.cols; cells = s.cells; first = 0 })).cells;
+      row = min (s.row - off) (rows - 1);
+      col = min s.col (cols - 1);
       pending = false;
       top = 0;
       bottom = rows - 1;
-      stops = v.screen.stops;
+      stops = s.stops;
     }

@@ -108,7 +108,7 @@ impl Grid {
     /// bottom and columns at the right. It takes no memory.
     #[tactic(auto, unfolding(crate::specs::Frames::resized, crate::specs::Marks::all_on))]
     pub fn adopt(&mut self, fitted: Fitted, off: usize)
-        ensures screen { self.new.screen ≡ resized fitted.rows fitted.cols off self.old }
+        ensures screen { self.new.screen ≡ resized fitted.rows fitted.cols off self.old.screen }
         ensures first { self.new.first ≡ 0 }
         ensures marks { self.new.marks ≡ all_on }
     {

@@ -12,8 +12,6 @@ mod running;
 mod scrolling;
 mod tabbing;
 mod tabs;
-#[cfg(test)]
-mod tests;
 mod writing;
 
 pub use erasing::Extent;

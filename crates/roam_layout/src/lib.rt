@@ -12,6 +12,4 @@ pub mod laws;
 pub mod layouts;
 pub mod rects;
 mod status;
-#[cfg(test)]
-mod tests;
 mod trees;

@@ -7,8 +7,6 @@
 pub mod laws;
 mod receivers;
 mod senders;
-#[cfg(test)]
-mod tests;
 
 pub use receivers::{Pair, Receiver, Step};
 pub use senders::{Held, Instruction, Sender};

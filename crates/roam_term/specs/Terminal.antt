@@ -244,7 +244,7 @@ answered_by (Repeats n) s = []
 abbrev pub sized_to : ℕ → ℕ → Live → Live
 sized_to rows cols s =
     record s {
-      screen = resized rows cols (leaving rows s.screen) (record { screen = s.screen; first = 0 });
+      screen = resized rows cols (leaving rows s.screen) s.screen;
       other = (sized rows cols 0 (record { rows = s.screen.rows; cols = s.screen.cols; cells = s.other; first = 0 })).cells;
       printed = None;
     }

@@ -6,8 +6,6 @@
 #[cfg(test)]
 mod cells;
 #[cfg(test)]
-mod grids;
-#[cfg(test)]
 mod histories;
 #[cfg(test)]
 mod readers;

@@ -2,8 +2,8 @@
 ghost use Rattle.std.specs.Prelude.{◌≡◌, IsTrue};
 ghost use Rattle.roam_rows.specs.Writing.{ArePrintable};
 
-use crate::{Extent, Grid, Writing};
 use roam_cells::{Cell, Fault, Style, width};
+use roam_grid::{Extent, Grid, Writing};
 use std::alloc::Global;
 use std::test::Fail;
 

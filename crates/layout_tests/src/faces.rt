@@ -4,9 +4,9 @@ ghost use Rattle.roam_layout.specs.Changes.{size_of};
 ghost use Rattle.roam_layout.specs.Layouts.{panes};
 ghost use Rattle.roam_layout.specs.Faces.{picture_size, ArePictures};
 
-use crate::{Layout, Rect, face, push_row};
 use roam_acts::read_act;
 use roam_cells::{Cell, Fault, Shot, Style, are_unguarded, is_well_formed};
+use roam_layout::{Layout, Rect, face, push_row};
 use std::alloc::Global;
 use std::test::Fail;
 
