@@ -297,9 +297,10 @@ fn reads(row: &[char], wanted: &str) -> bool {
 fn shows(alloc: Global, term: &Term, case: &Case) -> Result<bool, Fault> {
     let shot = term.shot(alloc, case.view)?;
     let mut same = shot.cursor() == case.cursor && shot.visible() == case.visible;
-    for (i, wanted) in case.rows.iter().enumerate() {
-        let row = shot.row_text(alloc, i as u16)?;
-        same = same && reads(&row, wanted);
+    for row in 0..shot.rows() {
+        let text = shot.row_text(alloc, row)?;
+        let wanted = case.rows.get(usize::from(row));
+        same = same && matches!(wanted, Some(wanted) if reads(&text, wanted));
     }
     Ok(same && usize::from(shot.rows()) == case.rows.len())
 }
