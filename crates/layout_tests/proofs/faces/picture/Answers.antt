@@ -1,4 +1,4 @@
-use Rattle.std.proofs.Common.{◌≡◌, ◌*◌, ◌<◌, List, length, refl, sym, subst, ap, ◌∙◌, arith}
+use Rattle.std.proofs.Common.{◌≡◌, ◌*◌, List, length, refl, sym, subst, ap, ◌∙◌, arith}
 use Rattle.roam_cells.specs.Glyph.{Glyph}
 use Rattle.roam_cells.specs.Place.{AreWhole}
 use Rattle.layout_tests.proofs.faces.picture.Goals as goal
