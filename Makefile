@@ -35,6 +35,7 @@ bench: all
 	bench/grid.sh
 	bench/show.sh
 	bench/wire.sh
+	bench/face.sh
 
 clean:
 	rm -rf crates/*/out
