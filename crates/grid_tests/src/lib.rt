@@ -7,3 +7,5 @@
 mod grids;
 #[cfg(test)]
 mod marks;
+#[cfg(test)]
+mod operations;
