@@ -1,3 +1,4 @@
+//! What is written, moved, erased and scrolled on a grid, as rows of a table, on grids as made and with the first row turned.
 ghost use Rattle.std.specs.Prelude.{◌≡◌, IsTrue};
 ghost use Rattle.roam_rows.specs.Writing.{ArePrintable};
 

@@ -26,7 +26,7 @@ is_in_range (Size r c) = nat_le r 9999 && nat_le c 9999
 is_in_range (View d) = int_le (negsuc 499) d && int_le d (pos 500)
 is_in_range _ = true
 
--- a key is one that can be typed: its character is a Unicode scalar value (Unicode, D76), as every `char` of the program is
+-- a key is one that can be typed: its character is a Unicode scalar value (The Unicode Standard, section 3.9), as every `char` is
 abbrev pub IsKey : KeyOfKeyboard → Type 0
 IsKey (Char c) = IsScalar c
 IsKey _ = Unit {0}

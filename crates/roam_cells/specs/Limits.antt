@@ -1,3 +1,4 @@
+-- The sizes that a screen may have.
 use Rattle.std.specs.Prelude.{ℕ, ◌≤◌}
 
 -- a size that a screen may have, in rows and columns (this project's profile)

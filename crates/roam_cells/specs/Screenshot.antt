@@ -1,10 +1,12 @@
+-- A screen as it is shown.
 use Rattle.std.specs.Prelude.{◌≡◌, ℕ, ◌+◌, ◌*◌, ◌≤◌, Bool, true, false, List, length, replicate, slice_index_or, slice_range, EachIndex}
 use Rattle.std.specs.List.{flat_map}
 use Rattle.roam_cells.specs.Glyph.{Glyph, IsShown, blank}
 use Rattle.roam_cells.specs.Limits.{IsSize}
 use Rattle.roam_cells.specs.Place.{AreWhole}
 
--- a screen as it is shown: its size, its cells in reading order, the cursor's row and column from 1 (as in CUP, ECMA-48 8.3.21), and whether the cursor is visible
+-- a screen as it is shown: its size, its cells in reading order, the cursor's row and column from 1 (as in CUP, ECMA-48 8.3.21), and
+-- whether the cursor is visible
 pub record Screenshot : Type 0 where
   pub rows : ℕ
   pub cols : ℕ

@@ -1,3 +1,4 @@
+-- Lists of cells that are whole rows of whole characters.
 use Rattle.std.specs.Prelude.{◌≡◌, ℕ, ◌*◌, ◌<◌, List, length}
 use Rattle.roam_cells.specs.Glyph.{Glyph}
 use Rattle.roam_cells.specs.Place.{AreWhole}

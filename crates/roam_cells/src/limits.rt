@@ -1,3 +1,4 @@
+//! The sizes that a screen may have.
 ghost use Rattle.std.specs.Prelude.{◌↔◌, IsTrue};
 ghost use Rattle.roam_cells.specs.Limits.{IsSize};
 

@@ -24,7 +24,8 @@ set_in G1 s = s.g1
 set_in G2 s = s.g2
 set_in G3 s = s.g3
 
--- the set of the next printed character: a single shift comes before the locking shift (ECMA-35; ECMA-48, sections 8.3.75 to 8.3.80, 8.3.141 and 8.3.142)
+-- the set of the next printed character: a single shift comes before the locking shift (ECMA-35; ECMA-48, sections 8.3.75 to 8.3.80,
+-- 8.3.141 and 8.3.142)
 abbrev pub in_use : Sets → Charset
 in_use s = set_in (unwrap_or s.single s.locked) s
 

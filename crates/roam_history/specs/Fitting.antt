@@ -1,3 +1,4 @@
+-- A history brought to other columns.
 use Rattle.std.specs.Prelude.{ℕ, map}
 use Rattle.roam_history.specs.Histories.{Scrollback}
 use Rattle.roam_history.specs.Lines.{refitted_row}

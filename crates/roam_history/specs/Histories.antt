@@ -1,3 +1,4 @@
+-- The history: the last rows that were pushed.
 use Rattle.std.specs.Prelude.{All, ◌≡◌, ℕ, ◌-◌, ◌≤◌, List, [], ◌∷◌, ◌++◌, drop, length}
 use Rattle.circular_buffer.specs.Buffer.{Buffer}
 use Rattle.roam_cells.specs.Glyph.{Glyph}

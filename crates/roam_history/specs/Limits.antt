@@ -1,3 +1,4 @@
+-- How many rows a history may keep, and of how many columns.
 use Rattle.std.specs.Prelude.{ℕ, ◌≤◌}
 
 -- a number of lines that a history may keep, and of columns that each may have (this project's profile)

@@ -1,3 +1,4 @@
+-- Cells that come in and go out of a row.
 use Rattle.std.specs.Prelude.{ℕ, ◌+◌, ◌-◌, nat_lt, if◌then◌else◌}
 use Rattle.roam_cells.specs.Glyph.{blank}
 use Rattle.roam_rows.specs.Row.{RowSource, Column, Fresh}

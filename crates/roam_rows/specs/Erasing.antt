@@ -1,3 +1,4 @@
+-- Cells of a row that become blank.
 use Rattle.std.specs.Prelude.{ℕ, not, ◌&&◌, nat_lt, nat_le, List, if◌then◌else◌}
 use Rattle.roam_cells.specs.Glyph.{Glyph, blank}
 use Rattle.roam_cells.specs.Place.{glyph_at, cell_at}

@@ -1,3 +1,4 @@
+-- How rows are kept in their buffer.
 use Rattle.std.specs.Prelude.{◌≡◌, ℕ, ◌<◌, ◌≤◌, List, length, slice_index}
 use Rattle.roam_cells.specs.Glyph.{Glyph, blank}
 use Rattle.roam_cells.specs.Place.{cell_at}
@@ -5,6 +6,7 @@ use Rattle.roam_rows.specs.Rows.{Rows}
 use Rattle.roam_rows.specs.Turned.{IsTurned, in_order}
 use Rattle.roam_rows.specs.declared.rings.Ring.TheInside.{Inside}
 
+-- what contracts see of a ring: its rows in the order of the screen
 abbrev pub view_of : Inside → Rows
 view_of a = record { rows = a.rows; cols = a.cols; cells = in_order a.cols a.first a.cells.items; first = a.first }
 

@@ -1,3 +1,4 @@
+-- Maps over places: what each place of the rows takes.
 use Rattle.std.specs.Prelude.{ℕ, ◌+◌, ◌-◌, Bool, false, ◌&&◌, ◌==◌, nat_lt, List, if◌then◌else◌}
 use Rattle.roam_cells.specs.Glyph.{Glyph, is_wide, is_right_half}
 use Rattle.roam_cells.specs.Place.{cell_at, table}

@@ -1,3 +1,4 @@
+-- Maps over the columns of one row, and what mends it.
 use Rattle.std.specs.Prelude.{ℕ, ◌+◌, ◌-◌, Bool, false, not, ◌&&◌, ◌==◌, nat_lt, List, length, map, if◌then◌else◌}
 use Rattle.std.specs.List.{range_with_len}
 use Rattle.roam_cells.specs.Glyph.{Glyph, is_wide, is_right_half, space_in}

@@ -1,3 +1,4 @@
+-- Rows that move up and down.
 use Rattle.std.specs.Prelude.{ℕ, ◌+◌, ◌-◌, ◌&&◌, nat_le, min, if◌then◌else◌}
 use Rattle.roam_cells.specs.Glyph.{blank}
 use Rattle.roam_rows.specs.Places.{Source, From, Fresh}

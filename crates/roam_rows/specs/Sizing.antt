@@ -1,3 +1,4 @@
+-- Rows brought to another size.
 use Rattle.std.specs.Prelude.{◌≡◌, ℕ, ◌+◌, ◌&&◌, nat_lt, if◌then◌else◌}
 use Rattle.roam_cells.specs.Glyph.{blank}
 use Rattle.roam_cells.specs.Place.{table}

@@ -1,3 +1,4 @@
+-- The order of rows in a buffer that begins with another row.
 use Rattle.std.specs.Prelude.{◌≡◌, ℕ, ◌-◌, ◌*◌, ◌<◌, nat_lt, List, ◌++◌, take, drop, length, if◌then◌else◌}
 use Rattle.roam_cells.specs.Glyph.{Glyph}
 use Rattle.roam_cells.specs.Limits.{IsSize}

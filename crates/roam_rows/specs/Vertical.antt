@@ -1,3 +1,4 @@
+-- Rows that are moved up and down, and cut at an edge.
 use Rattle.std.specs.Prelude.{◌≡◌, ◌≢◌, ℕ, ◌+◌, ◌-◌, ◌<◌, ◌≤◌, true, nat_lt, List, if◌then◌else◌}
 use Rattle.roam_cells.specs.Glyph.{Glyph, blank}
 use Rattle.roam_cells.specs.Place.{cell_at}

@@ -1,3 +1,4 @@
+-- Cells written in a row, and code points that join.
 use Rattle.std.specs.Prelude.{ℕ, ◌+◌, ◌-◌, ◌*◌, ◌<◌, ◌≤◌, ◌&&◌, ◌==◌, nat_lt, nat_le, List, length, slice_index, slice_set, if◌then◌else◌}
 use Rattle.roam_cells.specs.Glyph.{Glyph, is_wide, is_right_half, right_of, with_point}
 use Rattle.roam_cells.specs.Place.{glyph_at, cell_at}

@@ -1,4 +1,5 @@
--- The rows that leave a screen at its top, the topmost first: by an index or a wrap on the bottom margin, and by a scroll up, where the top margin is the first row (this project's profile).
+-- The rows that leave a screen at its top, the topmost first: by an index or a wrap on the bottom margin, and by a scroll up, where the
+-- top margin is the first row (this project's profile).
 use Rattle.std.specs.Prelude.{ℕ, zero, suc, ◌+◌, ◌==◌, ◌&&◌, min, if◌then◌else◌, List, [], ◌∷◌, ◌++◌}
 use Rattle.roam_cells.specs.Glyph.{Glyph}
 use Rattle.roam_cells.specs.Screenshot.{row_of}

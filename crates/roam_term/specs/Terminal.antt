@@ -239,8 +239,8 @@ answered_by (Repeats n) s = []
 
 -- ---- another size
 
--- another size of the screen that is shown, after rows have left at its top so that the cursor's row stays; the other one is cut or padded at
--- the bottom and the right (this project's profile)
+-- another size of the screen that is shown, after rows have left at its top so that the cursor's row stays; the other one is cut or
+-- padded at the bottom and the right (this project's profile)
 abbrev pub sized_to : ℕ → ℕ → Live → Live
 sized_to rows cols s =
     record s {

@@ -1,3 +1,4 @@
+//! Cells, widths, screens and their refusals.
 ghost use Rattle.std.specs.Prelude.{◌≡◌, IfSome};
 
 use roam_cells::columns::is_joiner;

@@ -1,3 +1,4 @@
+//! Graphic sets: the set tables, designations and shifts.
 use roam_charset::{Charset, Element, Sets};
 use std::test::*;
 
