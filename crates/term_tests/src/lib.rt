@@ -8,4 +8,6 @@ mod keys;
 #[cfg(test)]
 mod scrollback;
 #[cfg(test)]
+mod sizes;
+#[cfg(test)]
 mod terms;

@@ -1,0 +1,140 @@
+//! Sizes from each to each: which rows leave, what is cut, where the cursor goes, on the main and on the alternate screen.
+use roam_cells::Fault;
+use roam_term::Term;
+use std::alloc::Global;
+use std::test::*;
+
+static SIZES: [(u16, u16); 6] = [(2, 4), (2, 8), (3, 5), (4, 8), (5, 12), (4, 4)];
+
+/// A size, the next one, the cursor's row in the first, from 0, and the screen.
+#[derive(Clone, Copy)]
+struct Case {
+    old: (u16, u16),
+    new: (u16, u16),
+    row: u16,
+    alternate: bool,
+}
+
+impl Case {
+    // How many rows leave at the top, so that the cursor's stays.
+    fn leaving(&self) -> u16 {
+        self.row.saturating_add(1).saturating_sub(self.new.0)
+    }
+
+    // The letter of a row of the old screen, from 0; a space below it.
+    fn letter(&self, row: u16) -> char {
+        if row < self.old.0 {
+            match row {
+                0 => 'a',
+                1 => 'b',
+                2 => 'c',
+                3 => 'd',
+                _ => 'e',
+            }
+        } else {
+            ' '
+        }
+    }
+}
+
+// A letter in each row, and where columns are cut a wide character across the edge; then the cursor in its row.
+fn lay(alloc: Global, term: &mut Term, case: Case) -> Result<(), Fail> {
+    if case.alternate {
+        term.feed(b"\x1B[?1047h")?;
+    }
+    for row in 0..case.old.0 {
+        let place = row.saturating_add(1);
+        let line = format!(in alloc; "\x1B[{place};1H{}", case.letter(row))?;
+        term.feed(line.as_bytes())?;
+        if case.new.1 < case.old.1 {
+            let cut = format!(in alloc; "\x1B[{place};{}H\u{4E2D}", case.new.1)?;
+            term.feed(cut.as_bytes())?;
+        }
+    }
+    let cursor = format!(in alloc; "\x1B[{};1H", case.row.saturating_add(1))?;
+    term.feed(cursor.as_bytes())?;
+    Ok(())
+}
+
+// A row that has a letter, or none, and nothing else.
+fn has(row: &[char], letter: char) -> bool {
+    row.first() == Some(&letter) && row.iter().skip(1).all(|c| *c == ' ')
+}
+
+// The screen of a view whose first row is this row of the old screen.
+fn shows(alloc: Global, term: &Term, case: Case, view: u16, first: u16) -> Result<bool, Fault> {
+    let shot = term.shot(alloc, view)?;
+    let mut same = (shot.rows(), shot.cols()) == case.new;
+    for row in 0..shot.rows() {
+        let text = shot.row_text(alloc, row)?;
+        same = same && has(&text, case.letter(first.saturating_add(row)));
+    }
+    Ok(same)
+}
+
+// The cursor's row, from 1, and whether it is visible.
+fn cursor_is(
+    alloc: Global,
+    term: &Term,
+    view: u16,
+    row: u16,
+    visible: bool,
+) -> Result<bool, Fault> {
+    let shot = term.shot(alloc, view)?;
+    Ok(shot.cursor() == (row, 1) && shot.visible() == visible)
+}
+
+fn holds(alloc: Global, case: Case) -> Result<bool, Fail> {
+    let mut term = Term::new(alloc, case.old.0, case.old.1, 500)?;
+    lay(alloc, &mut term, case)?;
+    term.resize(alloc, case.new.0, case.new.1)?;
+    let off = case.leaving();
+    let place = case.row.saturating_sub(off).saturating_add(1);
+    let shown = shows(alloc, &term, case, 0, off)? && cursor_is(alloc, &term, 0, place, true)?;
+    let kept = if case.alternate { 0 } else { off };
+    let first = off.saturating_sub(kept);
+    // a view of all that left, and of one more
+    let viewed = shows(alloc, &term, case, off, first)?
+        && shows(alloc, &term, case, off.saturating_add(1), first)?;
+    let below = place.saturating_add(kept);
+    let moved = cursor_is(
+        alloc,
+        &term,
+        off,
+        below.min(case.new.0),
+        below <= case.new.0,
+    )?;
+    Ok(shown && viewed && moved)
+}
+
+fn each_to(alloc: Global, old: (u16, u16), new: (u16, u16), alternate: bool) -> Result<bool, Fail> {
+    for row in 0..old.0 {
+        let case = Case {
+            old,
+            new,
+            row,
+            alternate,
+        };
+        if !holds(alloc, case)? {
+            return Ok(false);
+        }
+    }
+    Ok(true)
+}
+
+fn each_from(alloc: Global, old: (u16, u16)) -> Result<bool, Fail> {
+    for new in SIZES.iter() {
+        if !each_to(alloc, old, *new, false)? || !each_to(alloc, old, *new, true)? {
+            return Ok(false);
+        }
+    }
+    Ok(true)
+}
+
+#[test]
+fn from_each_size_to_each(rt: HostRuntime) -> Result<(), Fail> {
+    for old in SIZES.iter() {
+        assert!(rt; each_from(rt.alloc(), *old)?);
+    }
+    Ok(())
+}
