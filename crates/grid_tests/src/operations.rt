@@ -40,11 +40,33 @@ enum Act {
     Fit(usize, usize, usize),
 }
 
+/// What stands on a grid before the acts of a row.
+#[derive(Clone, Copy)]
+enum Start {
+    Blank,
+    Mixed,
+    Cut,
+    Two,
+    Four,
+}
+
+impl Start {
+    fn acts(self) -> &'static [Act] {
+        match self {
+            Start::Blank => &[],
+            Start::Mixed => &MIXED,
+            Start::Cut => &CUT,
+            Start::Two => &TWO,
+            Start::Four => &FOUR,
+        }
+    }
+}
+
 /// What acts leave on a grid, after others. What a cell looks like is a sign: `.` plain, `b` bold, `g` guarded, `B` both.
 struct Row {
     name: &'static str,
     size: (usize, usize),
-    start: &'static [Act],
+    start: Start,
     acts: &'static [Act],
     shows: &'static [&'static str],
     looks: &'static [&'static str],
@@ -52,10 +74,8 @@ struct Row {
     pending: bool,
 }
 
-const NONE: &[Act] = &[];
-
 // A row of narrow, wide and joined cells, up to a pending wrap.
-const MIXED: &[Act] = &[
+static MIXED: [Act; 10] = [
     Act::Type("ab"),
     Act::Bold(true),
     Act::Guard(true),
@@ -69,7 +89,7 @@ const MIXED: &[Act] = &[
 ];
 
 // A wide character in columns 4 and 5.
-const CUT: &[Act] = &[
+static CUT: [Act; 7] = [
     Act::Type("abc"),
     Act::Bold(true),
     Act::Guard(true),
@@ -79,7 +99,7 @@ const CUT: &[Act] = &[
     Act::Type("x"),
 ];
 
-const TWO: &[Act] = &[
+static TWO: [Act; 9] = [
     Act::Type("a"),
     Act::Guard(true),
     Act::Type("b"),
@@ -91,7 +111,7 @@ const TWO: &[Act] = &[
     Act::Guard(false),
 ];
 
-const FOUR: &[Act] = &[
+static FOUR: [Act; 7] = [
     Act::Type("a"),
     Act::NewLine,
     Act::Type("b"),
@@ -101,11 +121,12 @@ const FOUR: &[Act] = &[
     Act::Type("d"),
 ];
 
-static ROWS: [Row; 117] = [
+// ICH and DCH.
+static CELLS: [Row; 21] = [
     Row {
         name: "ICH of no cell",
         size: (2, 8),
-        start: MIXED,
+        start: Start::Mixed,
         acts: &[Act::Go(1, 1), Act::InsertCells(0)],
         shows: &["ab\u{4E2D}e\u{301}fgh", "        "],
         looks: &["..BBbggg", "........"],
@@ -115,7 +136,7 @@ static ROWS: [Row; 117] = [
     Row {
         name: "ICH in the first column",
         size: (2, 8),
-        start: MIXED,
+        start: Start::Mixed,
         acts: &[Act::Go(1, 1), Act::InsertCells(1)],
         shows: &[" ab\u{4E2D}e\u{301}fg", "        "],
         looks: &["...BBbgg", "........"],
@@ -125,7 +146,7 @@ static ROWS: [Row; 117] = [
     Row {
         name: "ICH at a right half",
         size: (2, 8),
-        start: MIXED,
+        start: Start::Mixed,
         acts: &[Act::Go(1, 4), Act::InsertCells(1)],
         shows: &["ab   e\u{301}fg", "        "],
         looks: &["..B.Bbgg", "........"],
@@ -135,7 +156,7 @@ static ROWS: [Row; 117] = [
     Row {
         name: "ICH in the last column",
         size: (2, 8),
-        start: MIXED,
+        start: Start::Mixed,
         acts: &[Act::Go(1, 8), Act::InsertCells(1)],
         shows: &["ab\u{4E2D}e\u{301}fg ", "        "],
         looks: &["..BBbgg.", "........"],
@@ -145,7 +166,7 @@ static ROWS: [Row; 117] = [
     Row {
         name: "ICH of 8 cells",
         size: (2, 8),
-        start: MIXED,
+        start: Start::Mixed,
         acts: &[Act::Go(1, 1), Act::InsertCells(8)],
         shows: &["        ", "        "],
         looks: &["........", "........"],
@@ -155,7 +176,7 @@ static ROWS: [Row; 117] = [
     Row {
         name: "ICH of 9 cells",
         size: (2, 8),
-        start: MIXED,
+        start: Start::Mixed,
         acts: &[Act::Go(1, 1), Act::InsertCells(9)],
         shows: &["        ", "        "],
         looks: &["........", "........"],
@@ -165,7 +186,7 @@ static ROWS: [Row; 117] = [
     Row {
         name: "ICH of 9999 cells",
         size: (2, 8),
-        start: MIXED,
+        start: Start::Mixed,
         acts: &[Act::Go(1, 1), Act::InsertCells(9999)],
         shows: &["        ", "        "],
         looks: &["........", "........"],
@@ -175,7 +196,7 @@ static ROWS: [Row; 117] = [
     Row {
         name: "ICH of usize::MAX cells",
         size: (2, 8),
-        start: MIXED,
+        start: Start::Mixed,
         acts: &[Act::Go(1, 1), Act::InsertCells(usize::MAX)],
         shows: &["        ", "        "],
         looks: &["........", "........"],
@@ -185,7 +206,7 @@ static ROWS: [Row; 117] = [
     Row {
         name: "ICH that moves the last half off the row",
         size: (2, 8),
-        start: MIXED,
+        start: Start::Mixed,
         acts: &[Act::Go(1, 1), Act::InsertCells(5)],
         shows: &["     ab ", "        "],
         looks: &[".......B", "........"],
@@ -195,7 +216,7 @@ static ROWS: [Row; 117] = [
     Row {
         name: "ICH clears a pending wrap",
         size: (2, 8),
-        start: MIXED,
+        start: Start::Mixed,
         acts: &[Act::InsertCells(0)],
         shows: &["ab\u{4E2D}e\u{301}fgh", "        "],
         looks: &["..BBbggg", "........"],
@@ -205,7 +226,7 @@ static ROWS: [Row; 117] = [
     Row {
         name: "DCH of no cell",
         size: (2, 8),
-        start: MIXED,
+        start: Start::Mixed,
         acts: &[Act::Go(1, 1), Act::DeleteCells(0)],
         shows: &["ab\u{4E2D}e\u{301}fgh", "        "],
         looks: &["..BBbggg", "........"],
@@ -215,7 +236,7 @@ static ROWS: [Row; 117] = [
     Row {
         name: "DCH in the first column",
         size: (2, 8),
-        start: MIXED,
+        start: Start::Mixed,
         acts: &[Act::Go(1, 1), Act::DeleteCells(1)],
         shows: &["b\u{4E2D}e\u{301}fgh ", "        "],
         looks: &[".BBbggg.", "........"],
@@ -225,7 +246,7 @@ static ROWS: [Row; 117] = [
     Row {
         name: "DCH of a left half",
         size: (2, 8),
-        start: MIXED,
+        start: Start::Mixed,
         acts: &[Act::Go(1, 3), Act::DeleteCells(1)],
         shows: &["ab e\u{301}fgh ", "        "],
         looks: &["..Bbggg.", "........"],
@@ -235,7 +256,7 @@ static ROWS: [Row; 117] = [
     Row {
         name: "DCH of a right half",
         size: (2, 8),
-        start: MIXED,
+        start: Start::Mixed,
         acts: &[Act::Go(1, 4), Act::DeleteCells(1)],
         shows: &["ab e\u{301}fgh ", "        "],
         looks: &["..Bbggg.", "........"],
@@ -245,7 +266,7 @@ static ROWS: [Row; 117] = [
     Row {
         name: "DCH of a whole character",
         size: (2, 8),
-        start: MIXED,
+        start: Start::Mixed,
         acts: &[Act::Go(1, 3), Act::DeleteCells(2)],
         shows: &["abe\u{301}fgh  ", "        "],
         looks: &["..bggg..", "........"],
@@ -255,7 +276,7 @@ static ROWS: [Row; 117] = [
     Row {
         name: "DCH in the last column",
         size: (2, 8),
-        start: MIXED,
+        start: Start::Mixed,
         acts: &[Act::Go(1, 8), Act::DeleteCells(9999)],
         shows: &["ab\u{4E2D}e\u{301}fg ", "        "],
         looks: &["..BBbgg.", "........"],
@@ -265,7 +286,7 @@ static ROWS: [Row; 117] = [
     Row {
         name: "DCH of 8 cells",
         size: (2, 8),
-        start: MIXED,
+        start: Start::Mixed,
         acts: &[Act::Go(1, 1), Act::DeleteCells(8)],
         shows: &["        ", "        "],
         looks: &["........", "........"],
@@ -275,7 +296,7 @@ static ROWS: [Row; 117] = [
     Row {
         name: "DCH of 9 cells",
         size: (2, 8),
-        start: MIXED,
+        start: Start::Mixed,
         acts: &[Act::Go(1, 1), Act::DeleteCells(9)],
         shows: &["        ", "        "],
         looks: &["........", "........"],
@@ -285,7 +306,7 @@ static ROWS: [Row; 117] = [
     Row {
         name: "DCH of 9999 cells",
         size: (2, 8),
-        start: MIXED,
+        start: Start::Mixed,
         acts: &[Act::Go(1, 1), Act::DeleteCells(9999)],
         shows: &["        ", "        "],
         looks: &["........", "........"],
@@ -295,7 +316,7 @@ static ROWS: [Row; 117] = [
     Row {
         name: "DCH of usize::MAX cells",
         size: (2, 8),
-        start: MIXED,
+        start: Start::Mixed,
         acts: &[Act::Go(1, 1), Act::DeleteCells(usize::MAX)],
         shows: &["        ", "        "],
         looks: &["........", "........"],
@@ -305,17 +326,21 @@ static ROWS: [Row; 117] = [
     Row {
         name: "DCH clears a pending wrap",
         size: (2, 8),
-        start: MIXED,
+        start: Start::Mixed,
         acts: &[Act::DeleteCells(0)],
         shows: &["ab\u{4E2D}e\u{301}fgh", "        "],
         looks: &["..BBbggg", "........"],
         cursor: (1, 8),
         pending: false,
     },
+];
+
+// ECH, EL, ED and their selective forms.
+static ERASURES: [Row; 22] = [
     Row {
         name: "ECH in the first column",
         size: (2, 8),
-        start: MIXED,
+        start: Start::Mixed,
         acts: &[Act::Go(1, 1), Act::EraseCells(1)],
         shows: &[" b\u{4E2D}e\u{301}fgh", "        "],
         looks: &["..BBbggg", "........"],
@@ -325,7 +350,7 @@ static ROWS: [Row; 117] = [
     Row {
         name: "ECH of a left half",
         size: (2, 8),
-        start: MIXED,
+        start: Start::Mixed,
         acts: &[Act::Go(1, 3), Act::EraseCells(1)],
         shows: &["ab  e\u{301}fgh", "        "],
         looks: &["...Bbggg", "........"],
@@ -335,7 +360,7 @@ static ROWS: [Row; 117] = [
     Row {
         name: "ECH of a right half",
         size: (2, 8),
-        start: MIXED,
+        start: Start::Mixed,
         acts: &[Act::Go(1, 4), Act::EraseCells(1)],
         shows: &["ab  e\u{301}fgh", "        "],
         looks: &["..B.bggg", "........"],
@@ -345,7 +370,7 @@ static ROWS: [Row; 117] = [
     Row {
         name: "ECH at a pending wrap",
         size: (2, 8),
-        start: MIXED,
+        start: Start::Mixed,
         acts: &[Act::EraseCells(9999)],
         shows: &["ab\u{4E2D}e\u{301}fg ", "        "],
         looks: &["..BBbgg.", "........"],
@@ -355,7 +380,7 @@ static ROWS: [Row; 117] = [
     Row {
         name: "ECH of 8 cells",
         size: (2, 8),
-        start: MIXED,
+        start: Start::Mixed,
         acts: &[Act::Go(1, 1), Act::EraseCells(8)],
         shows: &["        ", "        "],
         looks: &["........", "........"],
@@ -365,7 +390,7 @@ static ROWS: [Row; 117] = [
     Row {
         name: "ECH of 9 cells",
         size: (2, 8),
-        start: MIXED,
+        start: Start::Mixed,
         acts: &[Act::Go(1, 1), Act::EraseCells(9)],
         shows: &["        ", "        "],
         looks: &["........", "........"],
@@ -375,7 +400,7 @@ static ROWS: [Row; 117] = [
     Row {
         name: "ECH of 9999 cells",
         size: (2, 8),
-        start: MIXED,
+        start: Start::Mixed,
         acts: &[Act::Go(1, 1), Act::EraseCells(9999)],
         shows: &["        ", "        "],
         looks: &["........", "........"],
@@ -385,7 +410,7 @@ static ROWS: [Row; 117] = [
     Row {
         name: "ECH of usize::MAX cells",
         size: (2, 8),
-        start: MIXED,
+        start: Start::Mixed,
         acts: &[Act::Go(1, 1), Act::EraseCells(usize::MAX)],
         shows: &["        ", "        "],
         looks: &["........", "........"],
@@ -395,7 +420,7 @@ static ROWS: [Row; 117] = [
     Row {
         name: "EL to the end from a left half",
         size: (2, 8),
-        start: MIXED,
+        start: Start::Mixed,
         acts: &[Act::Go(1, 3), Act::Line(Extent::ToEnd)],
         shows: &["ab      ", "        "],
         looks: &["........", "........"],
@@ -405,7 +430,7 @@ static ROWS: [Row; 117] = [
     Row {
         name: "EL to the end from a right half",
         size: (2, 8),
-        start: MIXED,
+        start: Start::Mixed,
         acts: &[Act::Go(1, 4), Act::Line(Extent::ToEnd)],
         shows: &["ab      ", "        "],
         looks: &["..B.....", "........"],
@@ -415,7 +440,7 @@ static ROWS: [Row; 117] = [
     Row {
         name: "EL to the start up to a left half",
         size: (2, 8),
-        start: MIXED,
+        start: Start::Mixed,
         acts: &[Act::Go(1, 3), Act::Line(Extent::ToStart)],
         shows: &["    e\u{301}fgh", "        "],
         looks: &["...Bbggg", "........"],
@@ -425,7 +450,7 @@ static ROWS: [Row; 117] = [
     Row {
         name: "EL of the row takes guarded cells too",
         size: (2, 8),
-        start: MIXED,
+        start: Start::Mixed,
         acts: &[Act::Go(1, 5), Act::Line(Extent::All)],
         shows: &["        ", "        "],
         looks: &["........", "........"],
@@ -435,7 +460,7 @@ static ROWS: [Row; 117] = [
     Row {
         name: "DECSEL to the end leaves guarded cells",
         size: (2, 8),
-        start: MIXED,
+        start: Start::Mixed,
         acts: &[Act::Go(1, 1), Act::SelectiveLine(Extent::ToEnd)],
         shows: &["  \u{4E2D} fgh", "        "],
         looks: &["..BB.ggg", "........"],
@@ -445,7 +470,7 @@ static ROWS: [Row; 117] = [
     Row {
         name: "DECSEL to the start leaves guarded cells",
         size: (2, 8),
-        start: MIXED,
+        start: Start::Mixed,
         acts: &[Act::Go(1, 5), Act::SelectiveLine(Extent::ToStart)],
         shows: &["  \u{4E2D} fgh", "        "],
         looks: &["..BB.ggg", "........"],
@@ -455,7 +480,7 @@ static ROWS: [Row; 117] = [
     Row {
         name: "DECSEL to the end from behind",
         size: (2, 8),
-        start: MIXED,
+        start: Start::Mixed,
         acts: &[Act::Go(1, 6), Act::SelectiveLine(Extent::ToEnd)],
         shows: &["ab\u{4E2D}e\u{301}fgh", "        "],
         looks: &["..BBbggg", "........"],
@@ -465,7 +490,7 @@ static ROWS: [Row; 117] = [
     Row {
         name: "DECSEL of the row at a pending wrap",
         size: (2, 8),
-        start: MIXED,
+        start: Start::Mixed,
         acts: &[Act::SelectiveLine(Extent::All)],
         shows: &["  \u{4E2D} fgh", "        "],
         looks: &["..BB.ggg", "........"],
@@ -475,7 +500,7 @@ static ROWS: [Row; 117] = [
     Row {
         name: "ED to the end",
         size: (2, 8),
-        start: TWO,
+        start: Start::Two,
         acts: &[Act::Go(1, 2), Act::Page(Extent::ToEnd)],
         shows: &["a       ", "        "],
         looks: &["........", "........"],
@@ -485,7 +510,7 @@ static ROWS: [Row; 117] = [
     Row {
         name: "ED to the start",
         size: (2, 8),
-        start: TWO,
+        start: Start::Two,
         acts: &[Act::Go(2, 1), Act::Page(Extent::ToStart)],
         shows: &["        ", " d      "],
         looks: &["........", ".g......"],
@@ -495,7 +520,7 @@ static ROWS: [Row; 117] = [
     Row {
         name: "ED of the page takes guarded cells too",
         size: (2, 8),
-        start: TWO,
+        start: Start::Two,
         acts: &[Act::Go(2, 1), Act::Page(Extent::All)],
         shows: &["        ", "        "],
         looks: &["........", "........"],
@@ -505,7 +530,7 @@ static ROWS: [Row; 117] = [
     Row {
         name: "DECSED of the page leaves guarded cells",
         size: (2, 8),
-        start: TWO,
+        start: Start::Two,
         acts: &[Act::Go(1, 1), Act::SelectivePage(Extent::All)],
         shows: &[" b      ", " d      "],
         looks: &[".g......", ".g......"],
@@ -515,7 +540,7 @@ static ROWS: [Row; 117] = [
     Row {
         name: "DECSED to the end leaves what stands before",
         size: (2, 8),
-        start: TWO,
+        start: Start::Two,
         acts: &[Act::Go(2, 1), Act::SelectivePage(Extent::ToEnd)],
         shows: &["ab      ", " d      "],
         looks: &[".g......", ".g......"],
@@ -525,17 +550,21 @@ static ROWS: [Row; 117] = [
     Row {
         name: "DECSED to the start leaves what stands behind",
         size: (2, 8),
-        start: TWO,
+        start: Start::Two,
         acts: &[Act::Go(1, 1), Act::SelectivePage(Extent::ToStart)],
         shows: &[" b      ", "cd      "],
         looks: &[".g......", ".g......"],
         cursor: (1, 1),
         pending: false,
     },
+];
+
+// IL and DL.
+static LINES: [Row; 23] = [
     Row {
         name: "IL of no line",
         size: (4, 8),
-        start: FOUR,
+        start: Start::Four,
         acts: &[Act::Go(2, 3), Act::InsertLines(0)],
         shows: &["a       ", "b       ", "c       ", "d       "],
         looks: &["........", "........", "........", "........"],
@@ -545,7 +574,7 @@ static ROWS: [Row; 117] = [
     Row {
         name: "IL",
         size: (4, 8),
-        start: FOUR,
+        start: Start::Four,
         acts: &[Act::Go(2, 3), Act::InsertLines(1)],
         shows: &["a       ", "        ", "b       ", "c       "],
         looks: &["........", "........", "........", "........"],
@@ -555,7 +584,7 @@ static ROWS: [Row; 117] = [
     Row {
         name: "IL of 3 lines",
         size: (4, 8),
-        start: FOUR,
+        start: Start::Four,
         acts: &[Act::Go(2, 1), Act::InsertLines(3)],
         shows: &["a       ", "        ", "        ", "        "],
         looks: &["........", "........", "........", "........"],
@@ -565,7 +594,7 @@ static ROWS: [Row; 117] = [
     Row {
         name: "IL of 4 lines",
         size: (4, 8),
-        start: FOUR,
+        start: Start::Four,
         acts: &[Act::Go(2, 1), Act::InsertLines(4)],
         shows: &["a       ", "        ", "        ", "        "],
         looks: &["........", "........", "........", "........"],
@@ -575,7 +604,7 @@ static ROWS: [Row; 117] = [
     Row {
         name: "IL of 9999 lines",
         size: (4, 8),
-        start: FOUR,
+        start: Start::Four,
         acts: &[Act::Go(2, 1), Act::InsertLines(9999)],
         shows: &["a       ", "        ", "        ", "        "],
         looks: &["........", "........", "........", "........"],
@@ -585,7 +614,7 @@ static ROWS: [Row; 117] = [
     Row {
         name: "IL of usize::MAX lines",
         size: (4, 8),
-        start: FOUR,
+        start: Start::Four,
         acts: &[Act::Go(2, 1), Act::InsertLines(usize::MAX)],
         shows: &["a       ", "        ", "        ", "        "],
         looks: &["........", "........", "........", "........"],
@@ -595,7 +624,7 @@ static ROWS: [Row; 117] = [
     Row {
         name: "IL in the last row",
         size: (4, 8),
-        start: FOUR,
+        start: Start::Four,
         acts: &[Act::Go(4, 1), Act::InsertLines(1)],
         shows: &["a       ", "b       ", "c       ", "        "],
         looks: &["........", "........", "........", "........"],
@@ -605,7 +634,7 @@ static ROWS: [Row; 117] = [
     Row {
         name: "IL between margins",
         size: (4, 8),
-        start: FOUR,
+        start: Start::Four,
         acts: &[Act::Margins(2, 3), Act::Go(2, 1), Act::InsertLines(1)],
         shows: &["a       ", "        ", "b       ", "d       "],
         looks: &["........", "........", "........", "........"],
@@ -615,7 +644,7 @@ static ROWS: [Row; 117] = [
     Row {
         name: "IL on the bottom margin",
         size: (4, 8),
-        start: FOUR,
+        start: Start::Four,
         acts: &[Act::Margins(2, 3), Act::Go(3, 1), Act::InsertLines(5)],
         shows: &["a       ", "b       ", "        ", "d       "],
         looks: &["........", "........", "........", "........"],
@@ -625,7 +654,7 @@ static ROWS: [Row; 117] = [
     Row {
         name: "IL above the margins",
         size: (4, 8),
-        start: FOUR,
+        start: Start::Four,
         acts: &[Act::Margins(2, 3), Act::Go(1, 1), Act::InsertLines(1)],
         shows: &["a       ", "b       ", "c       ", "d       "],
         looks: &["........", "........", "........", "........"],
@@ -635,7 +664,7 @@ static ROWS: [Row; 117] = [
     Row {
         name: "IL below the margins",
         size: (4, 8),
-        start: FOUR,
+        start: Start::Four,
         acts: &[Act::Margins(2, 3), Act::Go(4, 1), Act::InsertLines(1)],
         shows: &["a       ", "b       ", "c       ", "d       "],
         looks: &["........", "........", "........", "........"],
@@ -645,7 +674,7 @@ static ROWS: [Row; 117] = [
     Row {
         name: "DL of no line",
         size: (4, 8),
-        start: FOUR,
+        start: Start::Four,
         acts: &[Act::Go(2, 3), Act::DeleteLines(0)],
         shows: &["a       ", "b       ", "c       ", "d       "],
         looks: &["........", "........", "........", "........"],
@@ -655,7 +684,7 @@ static ROWS: [Row; 117] = [
     Row {
         name: "DL",
         size: (4, 8),
-        start: FOUR,
+        start: Start::Four,
         acts: &[Act::Go(2, 3), Act::DeleteLines(1)],
         shows: &["a       ", "c       ", "d       ", "        "],
         looks: &["........", "........", "........", "........"],
@@ -665,7 +694,7 @@ static ROWS: [Row; 117] = [
     Row {
         name: "DL of 3 lines",
         size: (4, 8),
-        start: FOUR,
+        start: Start::Four,
         acts: &[Act::Go(2, 1), Act::DeleteLines(3)],
         shows: &["a       ", "        ", "        ", "        "],
         looks: &["........", "........", "........", "........"],
@@ -675,7 +704,7 @@ static ROWS: [Row; 117] = [
     Row {
         name: "DL of 4 lines",
         size: (4, 8),
-        start: FOUR,
+        start: Start::Four,
         acts: &[Act::Go(2, 1), Act::DeleteLines(4)],
         shows: &["a       ", "        ", "        ", "        "],
         looks: &["........", "........", "........", "........"],
@@ -685,7 +714,7 @@ static ROWS: [Row; 117] = [
     Row {
         name: "DL of 9999 lines",
         size: (4, 8),
-        start: FOUR,
+        start: Start::Four,
         acts: &[Act::Go(2, 1), Act::DeleteLines(9999)],
         shows: &["a       ", "        ", "        ", "        "],
         looks: &["........", "........", "........", "........"],
@@ -695,7 +724,7 @@ static ROWS: [Row; 117] = [
     Row {
         name: "DL of usize::MAX lines",
         size: (4, 8),
-        start: FOUR,
+        start: Start::Four,
         acts: &[Act::Go(2, 1), Act::DeleteLines(usize::MAX)],
         shows: &["a       ", "        ", "        ", "        "],
         looks: &["........", "........", "........", "........"],
@@ -705,7 +734,7 @@ static ROWS: [Row; 117] = [
     Row {
         name: "DL between margins",
         size: (4, 8),
-        start: FOUR,
+        start: Start::Four,
         acts: &[Act::Margins(2, 3), Act::Go(2, 1), Act::DeleteLines(1)],
         shows: &["a       ", "c       ", "        ", "d       "],
         looks: &["........", "........", "........", "........"],
@@ -715,7 +744,7 @@ static ROWS: [Row; 117] = [
     Row {
         name: "DL on the bottom margin",
         size: (4, 8),
-        start: FOUR,
+        start: Start::Four,
         acts: &[Act::Margins(2, 3), Act::Go(3, 1), Act::DeleteLines(5)],
         shows: &["a       ", "b       ", "        ", "d       "],
         looks: &["........", "........", "........", "........"],
@@ -725,7 +754,7 @@ static ROWS: [Row; 117] = [
     Row {
         name: "DL above the margins",
         size: (4, 8),
-        start: FOUR,
+        start: Start::Four,
         acts: &[Act::Margins(2, 3), Act::Go(1, 1), Act::DeleteLines(1)],
         shows: &["a       ", "b       ", "c       ", "d       "],
         looks: &["........", "........", "........", "........"],
@@ -735,7 +764,7 @@ static ROWS: [Row; 117] = [
     Row {
         name: "DL below the margins",
         size: (4, 8),
-        start: FOUR,
+        start: Start::Four,
         acts: &[Act::Margins(2, 3), Act::Go(4, 1), Act::DeleteLines(1)],
         shows: &["a       ", "b       ", "c       ", "d       "],
         looks: &["........", "........", "........", "........"],
@@ -745,7 +774,7 @@ static ROWS: [Row; 117] = [
     Row {
         name: "IL outside the margins clears a pending wrap",
         size: (4, 8),
-        start: FOUR,
+        start: Start::Four,
         acts: &[
             Act::Margins(2, 3),
             Act::Go(1, 8),
@@ -760,7 +789,7 @@ static ROWS: [Row; 117] = [
     Row {
         name: "DL outside the margins clears a pending wrap",
         size: (4, 8),
-        start: FOUR,
+        start: Start::Four,
         acts: &[
             Act::Margins(2, 3),
             Act::Go(4, 8),
@@ -772,10 +801,14 @@ static ROWS: [Row; 117] = [
         cursor: (4, 8),
         pending: false,
     },
+];
+
+// SU, SD, IND and RI.
+static SCROLLS: [Row; 19] = [
     Row {
         name: "SU by 0",
         size: (4, 8),
-        start: FOUR,
+        start: Start::Four,
         acts: &[Act::Go(2, 2), Act::ScrollUp(0)],
         shows: &["a       ", "b       ", "c       ", "d       "],
         looks: &["........", "........", "........", "........"],
@@ -785,7 +818,7 @@ static ROWS: [Row; 117] = [
     Row {
         name: "SU by 1",
         size: (4, 8),
-        start: FOUR,
+        start: Start::Four,
         acts: &[Act::Go(2, 2), Act::ScrollUp(1)],
         shows: &["b       ", "c       ", "d       ", "        "],
         looks: &["........", "........", "........", "........"],
@@ -795,7 +828,7 @@ static ROWS: [Row; 117] = [
     Row {
         name: "SU by 3",
         size: (4, 8),
-        start: FOUR,
+        start: Start::Four,
         acts: &[Act::Go(2, 2), Act::ScrollUp(3)],
         shows: &["d       ", "        ", "        ", "        "],
         looks: &["........", "........", "........", "........"],
@@ -805,7 +838,7 @@ static ROWS: [Row; 117] = [
     Row {
         name: "SU by 4",
         size: (4, 8),
-        start: FOUR,
+        start: Start::Four,
         acts: &[Act::Go(2, 2), Act::ScrollUp(4)],
         shows: &["        ", "        ", "        ", "        "],
         looks: &["........", "........", "........", "........"],
@@ -815,7 +848,7 @@ static ROWS: [Row; 117] = [
     Row {
         name: "SU by 5",
         size: (4, 8),
-        start: FOUR,
+        start: Start::Four,
         acts: &[Act::Go(2, 2), Act::ScrollUp(5)],
         shows: &["        ", "        ", "        ", "        "],
         looks: &["........", "........", "........", "........"],
@@ -825,7 +858,7 @@ static ROWS: [Row; 117] = [
     Row {
         name: "SU by usize::MAX",
         size: (4, 8),
-        start: FOUR,
+        start: Start::Four,
         acts: &[Act::Go(2, 2), Act::ScrollUp(usize::MAX)],
         shows: &["        ", "        ", "        ", "        "],
         looks: &["........", "........", "........", "........"],
@@ -835,7 +868,7 @@ static ROWS: [Row; 117] = [
     Row {
         name: "SD by 0",
         size: (4, 8),
-        start: FOUR,
+        start: Start::Four,
         acts: &[Act::Go(2, 2), Act::ScrollDown(0)],
         shows: &["a       ", "b       ", "c       ", "d       "],
         looks: &["........", "........", "........", "........"],
@@ -845,7 +878,7 @@ static ROWS: [Row; 117] = [
     Row {
         name: "SD by 1",
         size: (4, 8),
-        start: FOUR,
+        start: Start::Four,
         acts: &[Act::Go(2, 2), Act::ScrollDown(1)],
         shows: &["        ", "a       ", "b       ", "c       "],
         looks: &["........", "........", "........", "........"],
@@ -855,7 +888,7 @@ static ROWS: [Row; 117] = [
     Row {
         name: "SD by 3",
         size: (4, 8),
-        start: FOUR,
+        start: Start::Four,
         acts: &[Act::Go(2, 2), Act::ScrollDown(3)],
         shows: &["        ", "        ", "        ", "a       "],
         looks: &["........", "........", "........", "........"],
@@ -865,7 +898,7 @@ static ROWS: [Row; 117] = [
     Row {
         name: "SD by 4",
         size: (4, 8),
-        start: FOUR,
+        start: Start::Four,
         acts: &[Act::Go(2, 2), Act::ScrollDown(4)],
         shows: &["        ", "        ", "        ", "        "],
         looks: &["........", "........", "........", "........"],
@@ -875,7 +908,7 @@ static ROWS: [Row; 117] = [
     Row {
         name: "SD by 5",
         size: (4, 8),
-        start: FOUR,
+        start: Start::Four,
         acts: &[Act::Go(2, 2), Act::ScrollDown(5)],
         shows: &["        ", "        ", "        ", "        "],
         looks: &["........", "........", "........", "........"],
@@ -885,7 +918,7 @@ static ROWS: [Row; 117] = [
     Row {
         name: "SD by usize::MAX",
         size: (4, 8),
-        start: FOUR,
+        start: Start::Four,
         acts: &[Act::Go(2, 2), Act::ScrollDown(usize::MAX)],
         shows: &["        ", "        ", "        ", "        "],
         looks: &["........", "........", "........", "........"],
@@ -895,7 +928,7 @@ static ROWS: [Row; 117] = [
     Row {
         name: "SU between margins",
         size: (4, 8),
-        start: FOUR,
+        start: Start::Four,
         acts: &[Act::Margins(2, 3), Act::Go(1, 1), Act::ScrollUp(1)],
         shows: &["a       ", "c       ", "        ", "d       "],
         looks: &["........", "........", "........", "........"],
@@ -905,7 +938,7 @@ static ROWS: [Row; 117] = [
     Row {
         name: "SD between margins",
         size: (4, 8),
-        start: FOUR,
+        start: Start::Four,
         acts: &[Act::Margins(2, 3), Act::Go(1, 1), Act::ScrollDown(9999)],
         shows: &["a       ", "        ", "        ", "d       "],
         looks: &["........", "........", "........", "........"],
@@ -915,7 +948,7 @@ static ROWS: [Row; 117] = [
     Row {
         name: "RI on the top margin",
         size: (4, 8),
-        start: FOUR,
+        start: Start::Four,
         acts: &[Act::Margins(2, 3), Act::Go(2, 4), Act::ReverseIndex],
         shows: &["a       ", "        ", "b       ", "d       "],
         looks: &["........", "........", "........", "........"],
@@ -925,7 +958,7 @@ static ROWS: [Row; 117] = [
     Row {
         name: "RI below the top margin",
         size: (4, 8),
-        start: FOUR,
+        start: Start::Four,
         acts: &[Act::Margins(2, 3), Act::Go(4, 4), Act::ReverseIndex],
         shows: &["a       ", "b       ", "c       ", "d       "],
         looks: &["........", "........", "........", "........"],
@@ -935,7 +968,7 @@ static ROWS: [Row; 117] = [
     Row {
         name: "RI in the first row above the margin",
         size: (4, 8),
-        start: FOUR,
+        start: Start::Four,
         acts: &[Act::Margins(2, 3), Act::Go(1, 4), Act::ReverseIndex],
         shows: &["a       ", "b       ", "c       ", "d       "],
         looks: &["........", "........", "........", "........"],
@@ -945,7 +978,7 @@ static ROWS: [Row; 117] = [
     Row {
         name: "IND on the bottom margin",
         size: (4, 8),
-        start: FOUR,
+        start: Start::Four,
         acts: &[Act::Margins(2, 3), Act::Go(3, 4), Act::Index],
         shows: &["a       ", "c       ", "        ", "d       "],
         looks: &["........", "........", "........", "........"],
@@ -955,17 +988,21 @@ static ROWS: [Row; 117] = [
     Row {
         name: "IND in the last row below the margin",
         size: (4, 8),
-        start: FOUR,
+        start: Start::Four,
         acts: &[Act::Margins(2, 3), Act::Go(4, 4), Act::Index],
         shows: &["a       ", "b       ", "c       ", "d       "],
         looks: &["........", "........", "........", "........"],
         cursor: (4, 4),
         pending: false,
     },
+];
+
+// IRM, joining, whole screens and other sizes.
+static SCREENS: [Row; 15] = [
     Row {
         name: "IRM: a narrow character",
         size: (2, 8),
-        start: MIXED,
+        start: Start::Mixed,
         acts: &[Act::Inserts(true), Act::Go(1, 1), Act::Type("x")],
         shows: &["xab\u{4E2D}e\u{301}fg", "        "],
         looks: &["...BBbgg", "........"],
@@ -975,7 +1012,7 @@ static ROWS: [Row; 117] = [
     Row {
         name: "IRM: a wide character at a right half",
         size: (2, 8),
-        start: MIXED,
+        start: Start::Mixed,
         acts: &[Act::Inserts(true), Act::Go(1, 4), Act::Type("\u{4E2D}")],
         shows: &["ab \u{4E2D} e\u{301}f", "        "],
         looks: &["..B..Bbg", "........"],
@@ -985,7 +1022,7 @@ static ROWS: [Row; 117] = [
     Row {
         name: "IRM: a character in the last column",
         size: (2, 8),
-        start: MIXED,
+        start: Start::Mixed,
         acts: &[Act::Inserts(true), Act::Go(1, 8), Act::Type("x")],
         shows: &["ab\u{4E2D}e\u{301}fgx", "        "],
         looks: &["..BBbgg.", "........"],
@@ -995,7 +1032,7 @@ static ROWS: [Row; 117] = [
     Row {
         name: "IRM: a character at a pending wrap goes on in the next row",
         size: (2, 8),
-        start: MIXED,
+        start: Start::Mixed,
         acts: &[Act::Inserts(true), Act::Type("x")],
         shows: &["ab\u{4E2D}e\u{301}fgh", "x       "],
         looks: &["..BBbggg", "........"],
@@ -1005,7 +1042,7 @@ static ROWS: [Row; 117] = [
     Row {
         name: "a joining character at a wide one",
         size: (2, 8),
-        start: MIXED,
+        start: Start::Mixed,
         acts: &[Act::Go(1, 5), Act::Type("\u{301}")],
         shows: &["ab\u{4E2D}\u{301}e\u{301}fgh", "        "],
         looks: &["..BBbggg", "........"],
@@ -1015,7 +1052,7 @@ static ROWS: [Row; 117] = [
     Row {
         name: "a joining character in the first column is dropped",
         size: (2, 8),
-        start: MIXED,
+        start: Start::Mixed,
         acts: &[Act::Go(1, 1), Act::Type("\u{301}")],
         shows: &["ab\u{4E2D}e\u{301}fgh", "        "],
         looks: &["..BBbggg", "........"],
@@ -1025,7 +1062,7 @@ static ROWS: [Row; 117] = [
     Row {
         name: "DECALN",
         size: (2, 8),
-        start: MIXED,
+        start: Start::Mixed,
         acts: &[Act::Margins(1, 2), Act::Go(2, 5), Act::Align],
         shows: &["EEEEEEEE", "EEEEEEEE"],
         looks: &["........", "........"],
@@ -1035,7 +1072,7 @@ static ROWS: [Row; 117] = [
     Row {
         name: "every cell blank",
         size: (2, 8),
-        start: MIXED,
+        start: Start::Mixed,
         acts: &[Act::BlankAll],
         shows: &["        ", "        "],
         looks: &["........", "........"],
@@ -1045,7 +1082,7 @@ static ROWS: [Row; 117] = [
     Row {
         name: "as at the start",
         size: (2, 8),
-        start: MIXED,
+        start: Start::Mixed,
         acts: &[Act::Restart],
         shows: &["        ", "        "],
         looks: &["........", "........"],
@@ -1055,7 +1092,7 @@ static ROWS: [Row; 117] = [
     Row {
         name: "fewer columns cut a wide character",
         size: (2, 8),
-        start: MIXED,
+        start: Start::Mixed,
         acts: &[Act::Fit(2, 4, 0)],
         shows: &["ab\u{4E2D}", "    "],
         looks: &["..BB", "...."],
@@ -1065,7 +1102,7 @@ static ROWS: [Row; 117] = [
     Row {
         name: "fewer columns cut between the halves",
         size: (2, 8),
-        start: CUT,
+        start: Start::Cut,
         acts: &[Act::Fit(2, 4, 0)],
         shows: &["abc ", "    "],
         looks: &["...B", "...."],
@@ -1075,7 +1112,7 @@ static ROWS: [Row; 117] = [
     Row {
         name: "and back again",
         size: (2, 8),
-        start: CUT,
+        start: Start::Cut,
         acts: &[Act::Fit(2, 4, 0), Act::Fit(2, 8, 0)],
         shows: &["abc     ", "        "],
         looks: &["...B....", "........"],
@@ -1085,7 +1122,7 @@ static ROWS: [Row; 117] = [
     Row {
         name: "more rows and columns",
         size: (4, 8),
-        start: FOUR,
+        start: Start::Four,
         acts: &[Act::Go(4, 8), Act::Fit(5, 9, 0)],
         shows: &[
             "a        ",
@@ -1107,7 +1144,7 @@ static ROWS: [Row; 117] = [
     Row {
         name: "fewer rows, with those above the cursor gone",
         size: (4, 8),
-        start: FOUR,
+        start: Start::Four,
         acts: &[
             Act::Margins(1, 2),
             Act::Go(4, 2),
@@ -1122,17 +1159,21 @@ static ROWS: [Row; 117] = [
     Row {
         name: "fewer rows, cut at the bottom",
         size: (4, 8),
-        start: FOUR,
+        start: Start::Four,
         acts: &[Act::Go(1, 2), Act::Fit(2, 8, 0)],
         shows: &["a       ", "b       "],
         looks: &["........", "........"],
         cursor: (1, 2),
         pending: false,
     },
+];
+
+// HT, CHT, CBT, HTS and TBC.
+static TABS: [Row; 17] = [
     Row {
         name: "HT",
         size: (2, 20),
-        start: NONE,
+        start: Start::Blank,
         acts: &[Act::Tab(1)],
         shows: &["                    ", "                    "],
         looks: &["....................", "...................."],
@@ -1142,7 +1183,7 @@ static ROWS: [Row; 117] = [
     Row {
         name: "CHT",
         size: (2, 20),
-        start: NONE,
+        start: Start::Blank,
         acts: &[Act::Tab(2)],
         shows: &["                    ", "                    "],
         looks: &["....................", "...................."],
@@ -1152,7 +1193,7 @@ static ROWS: [Row; 117] = [
     Row {
         name: "CHT past the last stop",
         size: (2, 20),
-        start: NONE,
+        start: Start::Blank,
         acts: &[Act::Tab(3)],
         shows: &["                    ", "                    "],
         looks: &["....................", "...................."],
@@ -1162,7 +1203,7 @@ static ROWS: [Row; 117] = [
     Row {
         name: "CHT by the largest number",
         size: (2, 20),
-        start: NONE,
+        start: Start::Blank,
         acts: &[Act::Tab(usize::MAX)],
         shows: &["                    ", "                    "],
         looks: &["....................", "...................."],
@@ -1172,7 +1213,7 @@ static ROWS: [Row; 117] = [
     Row {
         name: "CHT by none",
         size: (2, 20),
-        start: NONE,
+        start: Start::Blank,
         acts: &[Act::Go(1, 3), Act::Tab(0)],
         shows: &["                    ", "                    "],
         looks: &["....................", "...................."],
@@ -1182,7 +1223,7 @@ static ROWS: [Row; 117] = [
     Row {
         name: "CBT",
         size: (2, 20),
-        start: NONE,
+        start: Start::Blank,
         acts: &[Act::Go(1, 20), Act::BackTab(1)],
         shows: &["                    ", "                    "],
         looks: &["....................", "...................."],
@@ -1192,7 +1233,7 @@ static ROWS: [Row; 117] = [
     Row {
         name: "CBT from a stop",
         size: (2, 20),
-        start: NONE,
+        start: Start::Blank,
         acts: &[Act::Go(1, 17), Act::BackTab(1)],
         shows: &["                    ", "                    "],
         looks: &["....................", "...................."],
@@ -1202,7 +1243,7 @@ static ROWS: [Row; 117] = [
     Row {
         name: "CBT past the first stop",
         size: (2, 20),
-        start: NONE,
+        start: Start::Blank,
         acts: &[Act::Go(1, 10), Act::BackTab(5)],
         shows: &["                    ", "                    "],
         looks: &["....................", "...................."],
@@ -1212,7 +1253,7 @@ static ROWS: [Row; 117] = [
     Row {
         name: "CBT by the largest number",
         size: (2, 20),
-        start: NONE,
+        start: Start::Blank,
         acts: &[Act::Go(1, 20), Act::BackTab(usize::MAX)],
         shows: &["                    ", "                    "],
         looks: &["....................", "...................."],
@@ -1222,7 +1263,7 @@ static ROWS: [Row; 117] = [
     Row {
         name: "CBT by none",
         size: (2, 20),
-        start: NONE,
+        start: Start::Blank,
         acts: &[Act::Go(1, 9), Act::BackTab(0)],
         shows: &["                    ", "                    "],
         looks: &["....................", "...................."],
@@ -1232,7 +1273,7 @@ static ROWS: [Row; 117] = [
     Row {
         name: "a stop that was set",
         size: (2, 20),
-        start: NONE,
+        start: Start::Blank,
         acts: &[Act::Go(1, 5), Act::SetStop, Act::Go(1, 1), Act::Tab(1)],
         shows: &["                    ", "                    "],
         looks: &["....................", "...................."],
@@ -1242,7 +1283,7 @@ static ROWS: [Row; 117] = [
     Row {
         name: "a stop that was cleared",
         size: (2, 20),
-        start: NONE,
+        start: Start::Blank,
         acts: &[Act::Go(1, 9), Act::ClearStop, Act::Go(1, 1), Act::Tab(1)],
         shows: &["                    ", "                    "],
         looks: &["....................", "...................."],
@@ -1252,7 +1293,7 @@ static ROWS: [Row; 117] = [
     Row {
         name: "no stop is left",
         size: (2, 20),
-        start: NONE,
+        start: Start::Blank,
         acts: &[Act::ClearStops, Act::Tab(1)],
         shows: &["                    ", "                    "],
         looks: &["....................", "...................."],
@@ -1262,7 +1303,7 @@ static ROWS: [Row; 117] = [
     Row {
         name: "no stop is left to go back to",
         size: (2, 20),
-        start: NONE,
+        start: Start::Blank,
         acts: &[Act::ClearStops, Act::Go(1, 15), Act::BackTab(1)],
         shows: &["                    ", "                    "],
         looks: &["....................", "...................."],
@@ -1272,7 +1313,7 @@ static ROWS: [Row; 117] = [
     Row {
         name: "a stop beside the cursor",
         size: (2, 20),
-        start: NONE,
+        start: Start::Blank,
         acts: &[Act::Go(1, 8), Act::Tab(1)],
         shows: &["                    ", "                    "],
         looks: &["....................", "...................."],
@@ -1282,7 +1323,7 @@ static ROWS: [Row; 117] = [
     Row {
         name: "a cleared stop that is none",
         size: (2, 20),
-        start: NONE,
+        start: Start::Blank,
         acts: &[Act::Go(1, 8), Act::ClearStop, Act::Go(1, 1), Act::Tab(1)],
         shows: &["                    ", "                    "],
         looks: &["....................", "...................."],
@@ -1292,7 +1333,7 @@ static ROWS: [Row; 117] = [
     Row {
         name: "stops are kept for columns that are not there",
         size: (2, 20),
-        start: NONE,
+        start: Start::Blank,
         acts: &[
             Act::Go(1, 17),
             Act::ClearStop,
@@ -1448,13 +1489,13 @@ fn holds(alloc: Global, row: &Row, turned: usize) -> Result<bool, Fault> {
         guard: false,
         inserts: false,
     };
-    play(alloc, &mut grid, &mut pen, row.start)?;
+    play(alloc, &mut grid, &mut pen, row.start.acts())?;
     play(alloc, &mut grid, &mut pen, row.acts)?;
     Ok(shows(&grid, row))
 }
 
-fn first_wrong(alloc: Global, turned: usize) -> Result<Option<&'static str>, Fault> {
-    for row in ROWS.iter() {
+fn first_wrong(alloc: Global, rows: &[Row], turned: usize) -> Result<Option<&'static str>, Fault> {
+    for row in rows {
         if !holds(alloc, row, turned)? {
             return Ok(Some(row.name));
         }
@@ -1463,9 +1504,44 @@ fn first_wrong(alloc: Global, turned: usize) -> Result<Option<&'static str>, Fau
 }
 
 #[test]
-fn operations_at_the_edges(rt: HostRuntime) -> Result<(), Fail> {
-    assert_eq!(rt; first_wrong(rt.alloc(), 0)?, None);
-    assert_eq!(rt; first_wrong(rt.alloc(), 1)?, None);
+fn cells_come_in_and_go_out(rt: HostRuntime) -> Result<(), Fail> {
+    assert_eq!(rt; first_wrong(rt.alloc(), &CELLS, 0)?, None);
+    assert_eq!(rt; first_wrong(rt.alloc(), &CELLS, 1)?, None);
+    Ok(())
+}
+
+#[test]
+fn cells_become_blank(rt: HostRuntime) -> Result<(), Fail> {
+    assert_eq!(rt; first_wrong(rt.alloc(), &ERASURES, 0)?, None);
+    assert_eq!(rt; first_wrong(rt.alloc(), &ERASURES, 1)?, None);
+    Ok(())
+}
+
+#[test]
+fn lines_come_in_and_go_out(rt: HostRuntime) -> Result<(), Fail> {
+    assert_eq!(rt; first_wrong(rt.alloc(), &LINES, 0)?, None);
+    assert_eq!(rt; first_wrong(rt.alloc(), &LINES, 1)?, None);
+    Ok(())
+}
+
+#[test]
+fn rows_scroll(rt: HostRuntime) -> Result<(), Fail> {
+    assert_eq!(rt; first_wrong(rt.alloc(), &SCROLLS, 0)?, None);
+    assert_eq!(rt; first_wrong(rt.alloc(), &SCROLLS, 1)?, None);
+    Ok(())
+}
+
+#[test]
+fn characters_make_way_and_screens_change(rt: HostRuntime) -> Result<(), Fail> {
+    assert_eq!(rt; first_wrong(rt.alloc(), &SCREENS, 0)?, None);
+    assert_eq!(rt; first_wrong(rt.alloc(), &SCREENS, 1)?, None);
+    Ok(())
+}
+
+#[test]
+fn tabs_stop(rt: HostRuntime) -> Result<(), Fail> {
+    assert_eq!(rt; first_wrong(rt.alloc(), &TABS, 0)?, None);
+    assert_eq!(rt; first_wrong(rt.alloc(), &TABS, 1)?, None);
     Ok(())
 }
 
