@@ -1555,3 +1555,17 @@ fn the_first_row_goes_round(rt: HostRuntime) -> Result<(), Fail> {
     assert_eq!(rt; grid.first(), 2);
     Ok(())
 }
+
+// The cursor in the last row of four: two rows leave at the top, and its column is pushed into the screen.
+#[test]
+fn a_size_is_taken_or_refused(rt: HostRuntime) -> Result<(), Fail> {
+    let alloc = rt.alloc();
+    let mut grid = Grid::new(alloc, 4, 8)?;
+    grid.move_to(3, 5);
+    assert!(rt; grid.resize(alloc, 1, 8) == Err(Fault::BadSize));
+    assert!(rt; grid.resize(alloc, 2, 251) == Err(Fault::BadSize));
+    assert!(rt; (grid.rows(), grid.cols(), grid.cursor()) == (4, 8, (4, 6)));
+    grid.resize(alloc, 2, 4)?;
+    assert!(rt; (grid.rows(), grid.cols(), grid.cursor()) == (2, 4, (2, 4)));
+    Ok(())
+}

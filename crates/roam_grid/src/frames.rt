@@ -1,5 +1,5 @@
 //! What becomes of a whole screen at once.
-ghost use Rattle.std.specs.Prelude.{◌≡◌, ◌↔◌, ◌⊎◌, ◌<◌, ◌≤◌, IfOk, IfErr, IsErrOf};
+ghost use Rattle.std.specs.Prelude.{◌≡◌, ◌↔◌, ◌⊎◌, ◌<◌, ◌≤◌, IfOk, IfErr, IsErrOf, OnOk, OnErr};
 ghost use Rattle.roam_cells.specs.Limits.{IsSize};
 ghost use Rattle.roam_grid.specs.Frames.{aligned, all_blank, restarted, framed_as, leaving, resized};
 ghost use Rattle.roam_grid.specs.Marks.{all_on};
@@ -122,5 +122,24 @@ impl Grid {
         self.top = 0;
         self.bottom = rows - 1;
         self.marks = [true; 100];
+    }
+
+    /// Brings the screen to another size, as `fit` and `adopt` do, after as many rows have left at the top that the cursor's stays. Refuses a
+    /// size outside 2 to 100 rows and 4 to 250 columns, and want of memory, and changes nothing then.
+    pub fn resize(&mut self, alloc: Global, rows: usize, cols: usize) -> Result<(), Fault>
+        ensures screen { OnOk result (self.new.screen ≡ resized rows cols (leaving rows self.old.screen) self.old.screen) }
+        ensures first { OnOk result (self.new.first ≡ 0) }
+        ensures marks { OnOk result (self.new.marks ≡ all_on) }
+        ensures err { OnErr result (self.new ≡ self.old) }
+        ensures bad_size { IsErrOf result Fault.BadSize ↔ (¬ IsSize rows cols) }
+        ensures faults { IfErr result (λ e. (e ≡ Fault.BadSize) ⊎ (e ≡ Fault.OutOfMemory)) }
+    {
+        if !is_size(rows, cols) {
+            return Err(Fault::BadSize);
+        }
+        let fitted = Grid::fit(alloc, rows, cols)?;
+        let off = self.leaving(rows);
+        self.adopt(fitted, off);
+        Ok(())
     }
 }
