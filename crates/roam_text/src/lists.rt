@@ -24,7 +24,7 @@ impl Model for ParameterList {
 
 impl ParameterList {
     pub fn new() -> Self
-        ensures { result ≡ [] }
+        ensures empty { result ≡ [] }
     {
         ParameterList {
             numbers: [0; PARAMETERS],
@@ -42,8 +42,8 @@ impl ParameterList {
 
     #[inline]
     pub fn push(&mut self, number: u16)
-        requires { length self.old < PARAMETERS }
-        ensures { self.new ≡ self.old ++ number ∷ [] }
+        requires room { length self.old < PARAMETERS }
+        ensures pushed { self.new ≡ self.old ++ number ∷ [] }
     {
         self.numbers[self.count] = number;
         self.count += 1;
@@ -51,7 +51,7 @@ impl ParameterList {
 
     #[inline]
     pub fn clear(&mut self)
-        ensures { self.new ≡ [] }
+        ensures empty { self.new ≡ [] }
     {
         self.count = 0;
     }
@@ -82,7 +82,7 @@ impl Model for IntermediateList {
 
 impl IntermediateList {
     pub fn new() -> Self
-        ensures { result ≡ [] }
+        ensures empty { result ≡ [] }
     {
         IntermediateList {
             bytes: [0; INTERMEDIATES],
@@ -92,7 +92,7 @@ impl IntermediateList {
 
     #[inline]
     pub fn is_empty(&self) -> bool
-        ensures { result ≡ (length self.now == 0) }
+        ensures empty { result ≡ (length self.now == 0) }
     {
         self.count == 0
     }
@@ -107,8 +107,8 @@ impl IntermediateList {
 
     #[inline]
     pub fn push(&mut self, byte: u8)
-        requires { length self.old < INTERMEDIATES }
-        ensures { self.new ≡ self.old ++ byte ∷ [] }
+        requires room { length self.old < INTERMEDIATES }
+        ensures pushed { self.new ≡ self.old ++ byte ∷ [] }
     {
         self.bytes[self.count] = byte;
         self.count += 1;
@@ -116,7 +116,7 @@ impl IntermediateList {
 
     #[inline]
     pub fn clear(&mut self)
-        ensures { self.new ≡ [] }
+        ensures empty { self.new ≡ [] }
     {
         self.count = 0;
     }
@@ -147,7 +147,7 @@ impl Model for ByteList {
 
 impl ByteList {
     pub fn new() -> Self
-        ensures { result ≡ [] }
+        ensures empty { result ≡ [] }
     {
         ByteList {
             bytes: [0; LONGEST],
@@ -157,7 +157,7 @@ impl ByteList {
 
     #[inline]
     pub fn is_empty(&self) -> bool
-        ensures { result ≡ (length self.now == 0) }
+        ensures empty { result ≡ (length self.now == 0) }
     {
         self.count == 0
     }
@@ -171,8 +171,8 @@ impl ByteList {
 
     #[inline]
     pub fn push(&mut self, byte: u8)
-        requires { length self.old < LONGEST }
-        ensures { self.new ≡ self.old ++ byte ∷ [] }
+        requires room { length self.old < LONGEST }
+        ensures pushed { self.new ≡ self.old ++ byte ∷ [] }
     {
         self.bytes[self.count] = byte;
         self.count += 1;
@@ -180,7 +180,7 @@ impl ByteList {
 
     #[inline]
     pub fn clear(&mut self)
-        ensures { self.new ≡ [] }
+        ensures empty { self.new ≡ [] }
     {
         self.count = 0;
     }

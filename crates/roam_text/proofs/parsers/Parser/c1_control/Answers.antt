@@ -5,6 +5,7 @@ use Rattle.roam_text.proofs.Entries.{control_sequence-entry}
 use Rattle.roam_text.proofs.parsers.Parser.c1_control.Goals as goal
 
 pub returns-in-SequenceIntroducer : goal.returns-in-SequenceIntroducer
-returns-in-SequenceIntroducer c rest =
-    ap (λ k. all_of (c1_control k rest)) c.in-SequenceIntroducer.is ∙ control_sequence-entry rest
-    ∙ sym (c.begin_control_sequence.ensures rest)
+returns-in-SequenceIntroducer c = record {
+  given = λ rest. ap (λ k. all_of (c1_control k rest)) c.in-SequenceIntroducer.is ∙ control_sequence-entry rest
+      ∙ sym (c.begin_control_sequence.ensures.given rest);
+}
