@@ -5,7 +5,7 @@ use Rattle.roam_cells.specs.Place.{glyph_at}
 use Rattle.roam_rows.specs.Halves.{cut_at}
 use Rattle.roam_rows.proofs.Columns.{parted_whole}
 use Rattle.roam_rows.proofs.Parting.{part_is, part_none}
-use Rattle.roam_rows.proofs.halves.part.Goals as goal
+use Rattle.roam_rows.proofs.halves.part_inside.Goals as goal
 
 pub returns-then-is_right_half-clause-parted : goal.returns-then-is_right_half-clause-parted
 returns-then-is_right_half-clause-parted c =
@@ -15,8 +15,9 @@ returns-then-is_right_half-clause-parted c =
     let left = c.index-row-col-then-is_right_half.result in
     let half : is_right_half right ≡ true = sym (c.is_right_half.ensures.half) ∙ c.if-is_right_half.true in
     let right_is : right ≡ glyph_at s col = get_or_read s col right (omega arith) c.index-row-col.is blank in
+    let some = ((c.requires.whole col (omega arith)).half (sym (ap is_right_half right_is) ∙ half)).0 in
     let left_is : left ≡ glyph_at s (col - 1) = get_or_read s (col - 1) left (omega arith) c.index-row-col-then-is_right_half.is blank in
-    rw (c.space_in.ensures.cell, c.space_in-then-is_right_half.ensures.cell) (part_is col s right left c.if-col-gt0.true c.if-col-row.true c.requires.whole half right_is left_is)
+    rw (c.space_in.ensures.cell, c.space_in-then-is_right_half.ensures.cell) (part_is col s right left some (omega arith) c.requires.whole half right_is left_is)
 
 pub returns-then-is_right_half-clause-whole : goal.returns-then-is_right_half-clause-whole
 returns-then-is_right_half-clause-whole c = parted_whole (cut_at c.args.col) c.args.row.now _ c.requires.whole (returns-then-is_right_half-clause-parted c)
