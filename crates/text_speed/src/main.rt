@@ -26,21 +26,30 @@ fn weight(reader: &Reader, dispatch: Dispatch) -> u64 {
     }
 }
 
-// Reads a piece as a terminal does: runs of printable ASCII at once, and the rest byte by byte.
+// Reads a byte, and answers a number that depends on what it dispatched.
+fn dispatch_byte(reader: &mut Reader, byte: u8) -> u64 {
+    match reader.dispatch(byte) {
+        Dispatched::Nothing => 0,
+        Dispatched::One(dispatch) => weight(reader, dispatch),
+        Dispatched::AfterReplacement(dispatch) => weight(reader, dispatch).wrapping_add(1),
+    }
+}
+
+// Reads a piece as a terminal does: runs of printable ASCII and whole characters at once, and the rest byte by byte.
 fn dispatch_piece(reader: &mut Reader, piece: &[u8]) -> u64 {
     let mut sum: u64 = 0;
     let mut at = 0;
     while at < piece.len() {
         at += reader.plain_run(&piece[at..]);
-        if at < piece.len() {
-            let value = match reader.dispatch(piece[at]) {
-                Dispatched::Nothing => 0,
-                Dispatched::One(dispatch) => weight(reader, dispatch),
-                Dispatched::AfterReplacement(dispatch) => weight(reader, dispatch).wrapping_add(1),
-            };
-            sum = sum.wrapping_add(value);
-            at += 1;
+        if at == piece.len() {
+            break;
         }
+        let (value, count) = match reader.whole_character(&piece[at..]) {
+            Some((c, size)) => (u64::from(c as u32), size),
+            None => (dispatch_byte(reader, piece[at]), 1),
+        };
+        sum = sum.wrapping_add(value);
+        at += count;
     }
     sum
 }

@@ -1,0 +1,62 @@
+-- ASCII between sequences and within them.
+use Rattle.std.proofs.Common.{◌≡◌, ◌<◌, ℕ, List, [], ◌∷◌, ◌++◌, map, refl, sym, ap, ◌∙◌, append_assoc}
+use Rattle.std.proofs.lemmas.List.{map-append}
+use Rattle.roam_text.specs.Log.{Item, Byte, Sign, character, settled, unfinished}
+use Rattle.roam_text.specs.Functions.{functions_of, AreAscii}
+use Rattle.roam_text.specs.Residual.{given}
+use Rattle.roam_text.specs.declared.parsers.Parser.{Parser}
+use Rattle.roam_text.specs.Stands.{View, Stands}
+use Rattle.roam_text.proofs.Bytes.{settled-append, unfinished-append, one-ascii, unfinished-end, settled-end, unfinished-empty}
+use Rattle.roam_text.proofs.Logs.{bytes-stand, bytes-gained}
+
+append-nil : {A : Type 0} (xs : List A) → xs ++ [] ≡ xs
+append-nil [] = refl
+append-nil (x ∷ xs) = ap (λ l. x ∷ l) (append-nil xs)
+
+pub ascii-more : (xs : List ℕ) (b : ℕ) → AreAscii xs → b < 0x80 → AreAscii (xs ++ b ∷ [])
+ascii-more [] b below last = (last, tt)
+ascii-more (x ∷ xs) b below last = (below.0, ascii-more xs b below.1 last)
+
+-- each is a character of its own
+ascii-settled : (bs : List ℕ) → AreAscii bs → settled bs ≡ bs
+ascii-settled [] below = settled-end [] unfinished-empty
+ascii-settled (b ∷ bs) below =
+    settled-append (b ∷ []) bs
+    ∙ ap (λ l. l ++ settled (unfinished (b ∷ []) ++ bs)) (sym (one-ascii b below.0).chars)
+    ∙ ap (λ l. b ∷ settled (l ++ bs)) (sym (one-ascii b below.0).pending)
+    ∙ ap (λ l. b ∷ l) (ascii-settled bs below.1)
+
+ascii-unfinished : (bs : List ℕ) → AreAscii bs → unfinished bs ≡ []
+ascii-unfinished [] below = unfinished-end [] unfinished-empty
+ascii-unfinished (b ∷ bs) below =
+    unfinished-append (b ∷ []) bs
+    ∙ ap (λ l. unfinished (l ++ bs)) (sym (one-ascii b below.0).pending)
+    ∙ ascii-unfinished bs below.1
+
+-- one more character of those that were read
+pub characters-more : (old now new : Parser) (xs : List ℕ) (b : ℕ)
+    → ((rest : List Sign) → given old (map character xs ++ rest) ≡ given now rest)
+    → ((rest : List Sign) → given now (character b ∷ rest) ≡ given new rest)
+    → (rest : List Sign) → given old (map character (xs ++ b ∷ []) ++ rest) ≡ given new rest
+characters-more old now new xs b before next rest =
+    ap (λ l. given old (l ++ rest)) (map-append character xs (b ∷ []))
+    ∙ ap (given old) (append_assoc (map character xs) (character b ∷ []) rest)
+    ∙ before (character b ∷ rest) ∙ next rest
+
+-- bytes of ASCII that complete no function
+module _ (old new : View) (bs : List ℕ) (below : AreAscii bs) (whole : old.pending ≡ []) (same : new.pending ≡ [])
+    (read : (rest : List Sign) → given old.parser (map character bs ++ rest) ≡ given new.parser rest) where
+  kept : new.pending ≡ unfinished (old.pending ++ bs)
+  kept = same ∙ sym (ascii-unfinished bs below) ∙ sym (ap (λ l. unfinished (l ++ bs)) whole)
+
+  gives : (rest : List Sign) → given old.parser (map character (settled (old.pending ++ bs)) ++ rest) ≡ given new.parser rest
+  gives rest =
+      ap (λ l. given old.parser (map character (settled (l ++ bs)) ++ rest)) whole
+      ∙ ap (λ l. given old.parser (map character l ++ rest)) (ascii-settled bs below)
+      ∙ read rest
+
+  pub run-stands : (log : List Item) → Stands old log → Stands new (log ++ map Byte bs)
+  run-stands log stands = bytes-stand old new bs [] kept gives log stands
+
+  pub run-gained : (log : List Item) → Stands old log → functions_of (log ++ map Byte bs) ≡ functions_of log
+  run-gained log stands = bytes-gained old new bs [] kept gives log stands ∙ append-nil (functions_of log)
