@@ -4,3 +4,4 @@ pub mod Places
 pub mod Rows
 pub mod Scalars
 pub mod Screens
+pub mod Sameness
