@@ -171,6 +171,25 @@ impl Term {
         }
     }
 
+    // Reads the parameters of a control sequence at the front of a piece at once, and then one byte more; it tells how many bytes that
+    // were.
+    #[inline]
+    fn feed_sequence(&mut self, piece: &[u8]) -> usize
+        requires some { 0 < length piece.now }
+        requires room { length self.old.waiting + MOST_ANSWER ≤ MOST_OUTPUT }
+        ensures some { 0 < result }
+        ensures within { result ≤ length piece.now }
+        ensures fed { Fed self.old self.new (take result piece.now) }
+        ensures short { length self.new.waiting ≤ length self.old.waiting + MOST_ANSWER * result }
+    {
+        let count = self.reader.parameter_run(piece);
+        if count == piece.len() {
+            return count;
+        }
+        self.feed_byte(piece[count]);
+        count + 1
+    }
+
     // Reads as much of the front of a piece as goes by one way, and tells how many bytes that were.
     #[inline]
     fn feed_front(&mut self, piece: &[u8]) -> usize
@@ -184,6 +203,9 @@ impl Term {
         let plain = self.feed_plain(piece);
         if 0 < plain {
             return plain;
+        }
+        if piece[0] < 0x80 {
+            return self.feed_sequence(piece);
         }
         let whole = self.feed_whole(piece);
         if 0 < whole {
