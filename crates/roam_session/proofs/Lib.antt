@@ -1,1 +1,6 @@
 pub mod Logs
+pub mod Stepping
+pub mod Busyness
+pub mod Rectangles
+pub mod Agreeing
+pub mod Entering

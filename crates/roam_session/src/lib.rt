@@ -2,6 +2,8 @@
 #![tactic(auto)]
 
 pub mod laws;
+mod queues;
 mod sessions;
+mod steps;
 
 pub use sessions::Session;
