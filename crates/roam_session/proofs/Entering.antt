@@ -12,7 +12,7 @@ use Rattle.roam_acts.specs.Sent.{sent}
 use Rattle.roam_term.specs.Keys.{key_modes}
 use Rattle.roam_term.specs.Stands.{TermView}
 use Rattle.roam_layout.specs.Rects.{rect_in}
-use Rattle.roam_layout.specs.Layouts.{Plan, IsPlan, Outcome, Laid, Refused, laid, panes}
+use Rattle.roam_layout.specs.Layouts.{Plan, IsPlan, Outcome, Laid, Refused, laid, panes, start}
 use Rattle.roam_layout.specs.declared.rects.Rect.{Rect}
 use Rattle.roam_session.specs.Panes.{Pane, given, fed, keyed, drained, key_bytes}
 use Rattle.roam_session.specs.Sessions.{Entry, Given, Did, Drained, SessionSize, SessionState, session, after_entry, acted, laid_out, panes_given, at_pane, key_in}
@@ -59,22 +59,22 @@ stands_refused s client act fault no_key e size log h =
     h.plan h.panes
 
 -- what was prepared and then done gives each number what its rectangles ask
-pub brought : (old new : Plan) (xs ys : List (ℕ × Rect)) (ts zs us : List (Option TermView)) (steps : List Step) → IsPlan new
-    → xs ≡ panes old → ys ≡ panes new → zs ≡ ts → length us ≡ 10
+pub brought : (before : List (ℕ × Rect)) (new : Plan) (xs ys : List (ℕ × Rect)) (ts zs us : List (Option TermView)) (steps : List Step) → IsPlan new
+    → xs ≡ before → ys ≡ panes new → zs ≡ ts → length us ≡ 10
     → ((k : ℕ) → k < 10 → Prepares (step_at steps k) (rect_in k xs) (rect_in k ys) (term_at zs k))
     → ((k : ℕ) → k < 10 → Does (step_at steps k) (term_at ts k) (term_at us k))
-    → (k : ℕ) → IsGiven (rect_in k (panes old)) (rect_in k (panes new)) (term_at ts k) (term_at us k)
-brought old new xs ys ts zs us steps plan from to same ten prepared done k =
+    → (k : ℕ) → IsGiven (rect_in k before) (rect_in k (panes new)) (term_at ts k) (term_at us k)
+brought before new xs ys ts zs us steps plan from to same ten prepared done k =
     elim (cases_lt k 10) [
       | inl low ↦
-          let one : Prepares (step_at steps k) (rect_in k (panes old)) (rect_in k (panes new)) (term_at ts k) =
+          let one : Prepares (step_at steps k) (rect_in k before) (rect_in k (panes new)) (term_at ts k) =
           subst (λ (l : List (ℕ × Rect)). Prepares (step_at steps k) (rect_in k l) (rect_in k (panes new)) (term_at ts k)) from
           (subst (λ (l : List (ℕ × Rect)). Prepares (step_at steps k) (rect_in k xs) (rect_in k l) (term_at ts k)) to
           (subst (λ (l : List (Option TermView)). Prepares (step_at steps k) (rect_in k xs) (rect_in k ys) (term_at l k)) same (prepared k low)))
           in one.does (term_at us k) (done k low)
       | inr high ↦
-          subst (λ (r : Option Rect). IsGiven (rect_in k (panes old)) r (term_at ts k) (term_at us k)) (sym (none_above new plan k high))
-          (subst (λ (t : Option TermView). IsGiven (rect_in k (panes old)) None (term_at ts k) t) (sym (get_or_past us k None (omega (arith, ten, high)))) tt)
+          subst (λ (r : Option Rect). IsGiven (rect_in k before) r (term_at ts k) (term_at us k)) (sym (none_above new plan k high))
+          (subst (λ (t : Option TermView). IsGiven (rect_in k before) None (term_at ts k) t) (sym (get_or_past us k None (omega (arith, ten, high)))) tt)
     ]
 
 pub placed_all : (old new : Plan) (ts us : List (Option TermView)) → ArePlaced old ts
@@ -82,6 +82,30 @@ pub placed_all : (old new : Plan) (ts us : List (Option TermView)) → ArePlaced
     → ArePlaced new us
 placed_all old new ts us placed are k =
     placed_given (rect_in k (panes old)) (rect_in k (panes new)) (term_at ts k) (term_at us k) (are k) (placed k)
+
+-- ---- the start
+
+none_agrees : (o : Option TermView) → o ≡ None → Agrees o None
+none_agrees o e = subst (λ (t : Option TermView). Agrees t None) (sym e) tt
+
+none_placed : (o : Option TermView) → o ≡ None → IsPlaced None o
+none_placed o e = subst (λ (t : Option TermView). IsPlaced None t) (sym e) tt
+
+pub placed_first : (plan : Plan) (ts us : List (Option TermView)) → ((k : ℕ) → term_at ts k ≡ None)
+    → ((k : ℕ) → IsGiven None (rect_in k (panes plan)) (term_at ts k) (term_at us k)) → ArePlaced plan us
+placed_first plan ts us none are k =
+    placed_given None (rect_in k (panes plan)) (term_at ts k) (term_at us k) (are k) (none_placed (term_at ts k) (none k))
+
+pub stands_first : (s : SessionView) (size : SessionSize) (ts : List (Option TermView)) → s.plan ≡ start size.rows size.cols
+    → ((k : ℕ) → term_at ts k ≡ None) → ((k : ℕ) → IsGiven None (rect_in k (panes s.plan)) (term_at ts k) (term_at s.terms k)) → Stands s size []
+unfolding session
+stands_first s size ts plan none are =
+    record {
+      plan = plan;
+      panes = λ k.
+          subst (λ (x : Plan). Agrees (term_at s.terms k) (given None (rect_in k (panes x)) None)) plan
+          (agrees_given None (rect_in k (panes s.plan)) (term_at ts k) (term_at s.terms k) None (are k) (none_agrees (term_at ts k) (none k)));
+    }
 
 -- ---- calls on one pane
 

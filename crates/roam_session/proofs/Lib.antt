@@ -4,3 +4,4 @@ pub mod Busyness
 pub mod Rectangles
 pub mod Agreeing
 pub mod Entering
+pub mod Picturing

@@ -5,3 +5,4 @@ pub mod Faces
 pub mod Stands
 pub mod Steps
 pub mod Queues
+pub mod Pictures

@@ -2,6 +2,7 @@
 #![tactic(auto)]
 
 pub mod laws;
+mod pictures;
 mod queues;
 mod sessions;
 mod steps;

@@ -6,15 +6,17 @@ ghost use Rattle.roam_layout.specs.Rects.{rect_in};
 ghost use Rattle.roam_layout.specs.Layouts.{IsSessionSize, Laid, Refused, laid, panes};
 ghost use Rattle.roam_session.specs.Sessions.{SessionSize, Entry, Given, Did, Drained, key_in};
 ghost use Rattle.roam_session.specs.Refusals.{refuses_bytes, output_at, stops, none_refused, fault_of};
+ghost use Rattle.roam_session.specs.Faces.{face};
 ghost use Rattle.roam_session.specs.Stands.{Stands, Appends, term_at, waiting_at};
 ghost use Rattle.roam_session.specs.Steps.{IsGiven};
 ghost use Rattle.roam_session.specs.Queues.{ChangesAt, IsKeyed, IsWithin, IsCopied, key_refused};
 
+use crate::pictures::pictures;
 use crate::queues;
-use crate::steps::{Step, perform, prepare};
+use crate::steps::{perform, prepare};
 use roam_acts::{Act, Key};
-use roam_cells::Fault;
-use roam_layout::Layout;
+use roam_cells::{Fault, Shot};
+use roam_layout::{Layout, face};
 use roam_term::Term;
 use std::alloc::Global;
 use std::marker::Model;
@@ -50,7 +52,35 @@ fn key_in(act: &Act) -> Option<Key>
     }
 }
 
+// Ten numbers with no terminal.
+fn no_terms(alloc: Global) -> Result<Vec<Option<Term>>, Fault>
+    ensures ten { IfOk result (λ terms. length terms.items ≡ 10) }
+    ensures none { IfOk result (λ terms. (k : ℕ) → term_at terms.items k ≡ None) }
+    ensures fault { IsOkUnless result Fault.OutOfMemory }
+{
+    let mut terms = Vec::with_capacity(alloc, 10)?;
+    for _ in 0..10_u8 {
+        terms.push(None)?;
+    }
+    Ok(terms)
+}
+
 impl Session {
+    /// A session of one pane that fills all rows but the last, where nothing has happened; `BadSize` outside 4 to 100 rows or 8 to 250 columns.
+    pub fn new(alloc: Global, rows: u16, cols: u16) -> Result<Session, Fault>
+        ensures stands { IfOk result (λ session. Stands session (record { rows = rows; cols = cols }) []) }
+        ensures size { OnOk result (IsSessionSize rows cols) }
+        ensures bad_size { IsErrOf result Fault.BadSize ↔ (¬ IsSessionSize rows cols) }
+        ensures faults { IfErr result (λ fault. (fault ≡ Fault.BadSize) ⊎ (fault ≡ Fault.OutOfMemory)) }
+    {
+        let layout = Layout::new(alloc, rows, cols)?;
+        layout.facts();
+        let mut terms = no_terms(alloc)?;
+        let mut steps = prepare(alloc, &terms, &[], layout.rects())?;
+        perform(&mut terms, &mut steps);
+        Ok(Session { layout, terms })
+    }
+
     // A key for the pane in focus.
     fn type_key(&mut self, key: &Key) -> Result<(), Fault>
         ensures fault { fault_of result ≡ key_refused key.now (term_at self.old.terms self.old.plan.focus) }
@@ -103,6 +133,15 @@ impl Session {
             Some(key) => self.type_key(&key),
             None => self.lay_out(alloc, act),
         }
+    }
+
+    /// The screen that the session shows: its panes at their views, the borders between them, and the status text. Refuses want of memory.
+    pub fn face(&self, alloc: Global) -> Result<Shot, Fault>
+        ensures face { IfOk result (λ shot. (size : SessionSize) (log : List Entry) → Stands self.now size log → shot ≡ face size log) }
+        ensures fault { IsOkUnless result Fault.OutOfMemory }
+    {
+        let shots = pictures(alloc, &self.layout, &self.terms)?;
+        face(alloc, &self.layout, &shots)
     }
 
     /// How many bytes wait in a pane that is there.
