@@ -1,5 +1,5 @@
 //! A session.
-ghost use Rattle.std.specs.Prelude.{◌≡◌, ◌≢◌, ◌-◌, ◌⊎◌, ◌↔◌, ℕ, List, [], Option, Some, None, true, length, IfOk, IfErr, OnOk, OnErr, IsErrOf, IsOkUnless};
+ghost use Rattle.std.specs.Prelude.{◌≡◌, ◌≢◌, ◌≤◌, ◌-◌, ◌⊎◌, ◌↔◌, ℕ, List, [], Option, Some, None, true, length, IfOk, IfErr, OnOk, OnErr, IsErrOf, IsOkUnless};
 ghost use Rattle.std.specs.Option.{option_map};
 ghost use Rattle.roam_acts.specs.Acts.{IsInRange};
 ghost use Rattle.roam_layout.specs.Rects.{rect_in};
@@ -163,7 +163,9 @@ impl Session {
     /// Copies the first bytes that wait in a pane, as many as fit, and tells how many. Refuses `NoPane`. It takes no memory.
     pub fn output(&self, pane: u8, out: &mut [u8]) -> Result<usize, Fault>
         ensures fault { (size : SessionSize) (log : List Entry) → Stands self.now size log → fault_of result ≡ none_refused (output_at size log pane) }
-        ensures bytes { IfOk result (λ n. (size : SessionSize) (log : List Entry) → Stands self.now size log → IsCopied n out.old out.new (output_at size log pane)) }
+        ensures bytes { IfOk result (λ n. IsCopied n out.old out.new (waiting_at self.now.terms pane)) }
+        ensures within { IfOk result (λ n. n ≤ length out.old) }
+        ensures stands { (size : SessionSize) (log : List Entry) → Stands self.now size log → waiting_at self.now.terms pane ≡ output_at size log pane }
         ensures err { OnErr result (out.new ≡ out.old) }
     {
         queues::copy_output(&self.terms, pane, out)
