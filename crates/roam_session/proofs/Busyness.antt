@@ -22,7 +22,8 @@ laid_free s e = cc
 
 split_free : (way : Way) (s : Plan) → IsFree (split way s)
 split_free way s =
-    either (nat_le 9 (length (leaves s.tree))) _ _ (λ e. cc) (either (is_roomy way (spot s.focus s.tree (area s.rows s.cols))) _ _ (λ e. cc) (λ e. cc))
+    either (nat_le 9 (length (leaves s.tree))) _ _ (λ e. cc)
+    (either (is_roomy way (spot s.focus s.tree (area s.rows s.cols))) _ _ (λ e. cc) (λ e. cc))
 
 tree_free : (s : Plan) (t : Option Shape) → IsFree (with_tree s t)
 tree_free s None = λ e. cc

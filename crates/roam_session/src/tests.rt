@@ -5,17 +5,18 @@ use roam_cells::{Cell, Fault, Shot, Style};
 use std::alloc::Global;
 use std::test::*;
 
-/// What is asked of a session.
+/// What is asked of a session; a long piece has 1,025 bytes.
 enum Request {
     Bytes(u8, &'static [u8]),
+    Long(u8),
     Act(&'static str),
     Drain(u8, usize),
 }
 
-use Request::{Act, Bytes, Drain};
+use Request::{Act, Bytes, Drain, Long};
 
-/// The session's size, what is asked of it and how that is refused; then the rows of its face, the cursor and whether it is visible, and the
-/// bytes that wait in some panes.
+/// The session's size, what is asked of it and how that is refused; then the rows of its face, the cursor and whether it is visible, and
+/// the bytes that wait in some panes.
 struct Row {
     size: (u16, u16),
     steps: &'static [(Request, Option<Fault>)],
@@ -241,6 +242,7 @@ fn act(alloc: Global, session: &mut Session, line: &str) -> Result<(), Fault> {
 fn answer(alloc: Global, session: &mut Session, request: &Request) -> Result<(), Fault> {
     match request {
         Bytes(pane, piece) => session.pane_bytes(*pane, piece),
+        Long(pane) => session.pane_bytes(*pane, &[b'a'; 1025]),
         Act(line) => act(alloc, session, line),
         Drain(pane, n) => drain(session, *pane, *n),
     }
@@ -363,8 +365,8 @@ static FULL: [(Request, Option<Fault>); 12] = [
     (Act("char 61"), Some(Fault::Busy)),
     (Bytes(1, b""), None),
     (Bytes(1, b"a"), Some(Fault::Busy)),
-    (Bytes(1, &[b'a'; 1025]), Some(Fault::TooLong)),
-    (Bytes(2, &[b'a'; 1025]), Some(Fault::NoPane)),
+    (Long(1), Some(Fault::TooLong)),
+    (Long(2), Some(Fault::NoPane)),
     (Drain(1, 11), None),
     (Bytes(1, b"a"), Some(Fault::Busy)),
     (Drain(1, 1), None),

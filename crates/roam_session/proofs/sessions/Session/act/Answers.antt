@@ -20,7 +20,8 @@ returns-in-Some-clause-done c =
     let act = c.args.act.now in
     let key = c.in-Some.key in
     let is : key_in act ≡ Some key = sym c.key_in.ensures.key ∙ c.in-Some.is in
-    IfOk-weaker c.type_key.result (λ _. ChangesAt old.plan.focus (IsKeyed key) old.terms new.terms) (λ _. Appends old new (Did c.args.client act))
+    IfOk-weaker c.type_key.result (λ _. ChangesAt old.plan.focus (IsKeyed key) old.terms new.terms)
+    (λ _. Appends old new (Did c.args.client act))
     (λ _ changes. stands_keyed old new c.args.client act key is c.type_key.ensures.plan changes) c.type_key.ensures.keyed
 
 pub returns-in-Some-clause-busy : goal.returns-in-Some-clause-busy
@@ -38,7 +39,8 @@ returns-in-None-clause-done c =
     let no_key : key_in act ≡ None = sym c.key_in.ensures.key ∙ c.in-None.is in
     on_both c.lay_out.result (laid old.plan act ≡ Laid new.plan)
     ((k : ℕ) → IsGiven (rect_in k (panes old.plan)) (rect_in k (panes new.plan)) (term_at old.terms k) (term_at new.terms k))
-    (Appends old new (Did c.args.client act)) (λ e are. stands_laid old new c.args.client act no_key e are) c.lay_out.ensures.laid c.lay_out.ensures.given
+    (Appends old new (Did c.args.client act))
+    (λ e are. stands_laid old new c.args.client act no_key e are) c.lay_out.ensures.laid c.lay_out.ensures.given
 
 pub returns-in-None-clause-refused : goal.returns-in-None-clause-refused
 returns-in-None-clause-refused c =

@@ -25,6 +25,7 @@ returns-clause-face c =
     let show = c.in_ok-shots.ensures.show d.pane
     (λ k. subst (λ (ts : List (Option TermView)). Agrees (term_at ts k) (d.pane k)) (sym terms) (h.panes k)) in
     is (λ k. picture_at (slice_index plan.views k) (d.pane k))
-    (subst (λ (ss : List (ℕ × Screenshot)). Show (λ k. picture_at (slice_index plan.views k) (d.pane k)) ss) (sym c.deref-2.ensures.value) show)
+    (subst (λ (ss : List (ℕ × Screenshot)). Show (λ k. picture_at (slice_index plan.views k) (d.pane k)) ss)
+    (sym c.deref-2.ensures.value) show)
     ∙ ap (λ (p : Plan). face_of p (λ k. picture_at (slice_index p.views k) (d.pane k)))
     (ap (λ (v : SessionView). v.plan) c.self.view_is ∙ h.plan)) c.face.ensures.face

@@ -8,7 +8,8 @@ pub returns-clause-fault : goal.returns-clause-fault
 returns-clause-fault c size log h =
     let pane = c.args.pane in
     c.copy_output.ensures.fault
-    ∙ ap none_refused (ap (λ ts. waiting_at ts pane) c.deref.ensures.value ∙ ap (λ (s : SessionView). waiting_at s.terms pane) c.self.view_is
+    ∙ ap none_refused
+    (ap (λ ts. waiting_at ts pane) c.deref.ensures.value ∙ ap (λ (s : SessionView). waiting_at s.terms pane) c.self.view_is
     ∙ waiting_is c.args.self.now pane size log h)
 
 pub returns-clause-stands : goal.returns-clause-stands
