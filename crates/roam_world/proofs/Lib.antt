@@ -1,0 +1,4 @@
+pub mod Members
+pub mod Screens
+pub mod Acting
+pub mod Pieces
