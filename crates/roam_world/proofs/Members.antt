@@ -5,47 +5,47 @@ use Rattle.std.specs.List.{flat_map, enumerate_from}
 use Rattle.std.proofs.lemmas.Bool.Decides.{nat_tests}
 use Rattle.roam_world.specs.Lists.{IsIn, put}
 
-pub IsIsIn-append_left : {X : Type 0} (x : X) (xs ys : List X) → IsIn x xs → IsIn x (xs ++ ys)
-IsIsIn-append_left x [] ys h = absurd h
-IsIsIn-append_left x (z ∷ xs) ys h = elim h [ inl e ↦ inl e | inr r ↦ inr (IsIsIn-append_left x xs ys r) ]
+pub IsIn-append_left : {X : Type 0} (x : X) (xs ys : List X) → IsIn x xs → IsIn x (xs ++ ys)
+IsIn-append_left x [] ys h = absurd h
+IsIn-append_left x (z ∷ xs) ys h = elim h [ inl e ↦ inl e | inr r ↦ inr (IsIn-append_left x xs ys r) ]
 
-pub IsIsIn-append_right : {X : Type 0} (x : X) (xs ys : List X) → IsIn x ys → IsIn x (xs ++ ys)
-IsIsIn-append_right x [] ys h = h
-IsIsIn-append_right x (z ∷ xs) ys h = inr (IsIsIn-append_right x xs ys h)
+pub IsIn-append_right : {X : Type 0} (x : X) (xs ys : List X) → IsIn x ys → IsIn x (xs ++ ys)
+IsIn-append_right x [] ys h = h
+IsIn-append_right x (z ∷ xs) ys h = inr (IsIn-append_right x xs ys h)
 
-pub IsIsIn-append_cases : {X : Type 0} (x : X) (xs ys : List X) → IsIn x (xs ++ ys) → IsIn x xs ⊎ IsIn x ys
-IsIsIn-append_cases x [] ys h = inr h
-IsIsIn-append_cases x (z ∷ xs) ys h =
-    elim h [ inl e ↦ inl (inl e) | inr r ↦ elim (IsIsIn-append_cases x xs ys r) [ inl a ↦ inl (inr a) | inr b ↦ inr b ] ]
+pub IsIn-append_cases : {X : Type 0} (x : X) (xs ys : List X) → IsIn x (xs ++ ys) → IsIn x xs ⊎ IsIn x ys
+IsIn-append_cases x [] ys h = inr h
+IsIn-append_cases x (z ∷ xs) ys h =
+    elim h [ inl e ↦ inl (inl e) | inr r ↦ elim (IsIn-append_cases x xs ys r) [ inl a ↦ inl (inr a) | inr b ↦ inr b ] ]
 
-pub IsIsIn-push_cases : {X : Type 0} (x y : X) (xs : List X) → IsIn x (xs ++ y ∷ []) → IsIn x xs ⊎ (y ≡ x)
-IsIsIn-push_cases x y xs h = elim (IsIsIn-append_cases x xs (y ∷ []) h) [ inl a ↦ inl a | inr b ↦ elim b [ inl e ↦ inr e | inr z ↦ absurd z ] ]
+pub IsIn-push_cases : {X : Type 0} (x y : X) (xs : List X) → IsIn x (xs ++ y ∷ []) → IsIn x xs ⊎ (y ≡ x)
+IsIn-push_cases x y xs h = elim (IsIn-append_cases x xs (y ∷ []) h) [ inl a ↦ inl a | inr b ↦ elim b [ inl e ↦ inr e | inr z ↦ absurd z ] ]
 
-pub IsIsIn-map : {X Y : Type 0} (f : X → Y) (y : Y) (xs : List X) → IsIn y (map f xs) → (x : X) × IsIn x xs × (f x ≡ y)
-IsIsIn-map f y [] h = absurd h
-IsIsIn-map f y (x ∷ xs) h = elim h [ inl e ↦ (x, inl refl, e) | inr r ↦ (let a = IsIsIn-map f y xs r in (a.0, inr a.1, a.2)) ]
+pub IsIn-map : {X Y : Type 0} (f : X → Y) (y : Y) (xs : List X) → IsIn y (map f xs) → (x : X) × IsIn x xs × (f x ≡ y)
+IsIn-map f y [] h = absurd h
+IsIn-map f y (x ∷ xs) h = elim h [ inl e ↦ (x, inl refl, e) | inr r ↦ (let a = IsIn-map f y xs r in (a.0, inr a.1, a.2)) ]
 
-pub IsIsIn-flat_map : {X Y : Type 0} (f : X → List Y) (y : Y) (xs : List X) → IsIn y (flat_map f xs) → (x : X) × IsIn x xs × IsIn y (f x)
-IsIsIn-flat_map f y [] h = absurd h
-IsIsIn-flat_map f y (x ∷ xs) h =
-    elim (IsIsIn-append_cases y (f x) (flat_map f xs) h) [ inl a ↦ (x, inl refl, a) | inr r ↦ (let b = IsIsIn-flat_map f y xs r in (b.0, inr b.1, b.2)) ]
+pub IsIn-flat_map : {X Y : Type 0} (f : X → List Y) (y : Y) (xs : List X) → IsIn y (flat_map f xs) → (x : X) × IsIn x xs × IsIn y (f x)
+IsIn-flat_map f y [] h = absurd h
+IsIn-flat_map f y (x ∷ xs) h =
+    elim (IsIn-append_cases y (f x) (flat_map f xs) h) [ inl a ↦ (x, inl refl, a) | inr r ↦ (let b = IsIn-flat_map f y xs r in (b.0, inr b.1, b.2)) ]
 
 -- an element with its index
-pub IsIsIn-enumerate : {X : Type 0} (k : ℕ) (xs : List X) (p : ℕ × X) → IsIn p (enumerate_from k xs) → (i : ℕ) × (p.0 ≡ k + i) × (slice_get xs i ≡ Some p.1)
-IsIsIn-enumerate k [] p h = absurd h
-IsIsIn-enumerate {X} k (x ∷ xs) p h =
+pub IsIn-enumerate : {X : Type 0} (k : ℕ) (xs : List X) (p : ℕ × X) → IsIn p (enumerate_from k xs) → (i : ℕ) × (p.0 ≡ k + i) × (slice_get xs i ≡ Some p.1)
+IsIn-enumerate k [] p h = absurd h
+IsIn-enumerate {X} k (x ∷ xs) p h =
     elim h [
       | inl e ↦ (0, ap (λ (q : ℕ × X). q.0) (sym e) ∙ (let z : k ≡ k + 0 = omega arith in z), ap (λ (q : ℕ × X). Some q.1) e)
-      | inr r ↦ (let a = IsIsIn-enumerate (k + 1) xs p r in (suc a.0, a.1 ∙ (let z : (k + 1) + a.0 ≡ k + suc a.0 = omega arith in z), a.2))
+      | inr r ↦ (let a = IsIn-enumerate (k + 1) xs p r in (suc a.0, a.1 ∙ (let z : (k + 1) + a.0 ≡ k + suc a.0 = omega arith in z), a.2))
     ]
 
 some_inj : {X : Type 0} (y x : X) → Some y ≡ Some x → y ≡ x
 some_inj y x e = cc
 
-pub IsIsIn-slice_get : {X : Type 0} (x : X) (k : ℕ) (xs : List X) → slice_get xs k ≡ Some x → IsIn x xs
-IsIsIn-slice_get x k [] h = cc
-IsIsIn-slice_get x zero (y ∷ xs) h = inl (some_inj y x h)
-IsIsIn-slice_get x (suc k) (y ∷ xs) h = inr (IsIsIn-slice_get x k xs h)
+pub IsIn-slice_get : {X : Type 0} (x : X) (k : ℕ) (xs : List X) → slice_get xs k ≡ Some x → IsIn x xs
+IsIn-slice_get x k [] h = cc
+IsIn-slice_get x zero (y ∷ xs) h = inl (some_inj y x h)
+IsIn-slice_get x (suc k) (y ∷ xs) h = inr (IsIn-slice_get x k xs h)
 
 pub slice_get-within : {X : Type 0} (xs : List X) (i : ℕ) (x : X) → slice_get xs i ≡ Some x → i < length xs
 slice_get-within [] i x e = absurd (cc)

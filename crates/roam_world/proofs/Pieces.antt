@@ -62,12 +62,18 @@ gathers-more text_of vs ws g is =
 pub gathers-nothing : {V : Type 0} (text_of : V → List ℕ) (vs : List V) → Gathers text_of vs nothing
 gathers-nothing text_of vs = record { of = record { count = refl; there = (λ i x e. absurd (cc)) }; low = omega arith }
 
+-- a text is that of one of these instructions
+pub record IsTextOf {V : Type 0} (text_of : V → List ℕ) (vs : List V) (text : List ℕ) : Type 0 where
+  pub value : V
+  pub there : IsIn value vs
+  pub is : text ≡ text_of value
+
 -- a text that comes whole is that of an instruction
 pub whole_is : {V : Type 0} (text_of : V → List ℕ) (vs : List V) (p : Piece) (text : List ℕ) → IsPieceOf (cuts_of text_of vs) p → text ≡ joined (cuts_of text_of vs p.id)
-    → (v : V) × IsIn v vs × (text ≡ text_of v)
+    → IsTextOf text_of vs text
 whole_is text_of vs p text is e =
     let v = piece_is text_of vs p is in
-    (v.0, numbered-is_in vs p.id v.0 v.1, e ∙ ap (λ o. joined (pieces_by text_of o)) v.1 ∙ joined-pieces (text_of v.0))
+    record { value = v.0; there = numbered-is_in vs p.id v.0 v.1; is = e ∙ ap (λ o. joined (pieces_by text_of o)) v.1 ∙ joined-pieces (text_of v.0) }
 
 -- the datagrams of an instruction are its pieces
 pub record IsPacked {V : Type 0} (text_of : V → List ℕ) (vs : List V) (kind : Kind) (session client : ℕ) (d : DatagramValue) : Type 0 where

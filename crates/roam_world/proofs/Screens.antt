@@ -82,14 +82,14 @@ screen_last size log cuts = grind (arith, nat_tests, common_steps, length-append
 pub screens_cut : (size : SessionSize) (log : List Entry) (cuts : List ℕ) → AreScreens size log cuts → IsScreenshot (face size log)
     → AreScreens size log (cuts ++ length log ∷ [])
 screens_cut size log cuts are is n le =
-    elim (le_or n) [
+    elim (le_or n le) [
       | inl low ↦ subst IsScreenshot (sym (screen_cut size log cuts (length log) n low)) (are n low)
       | inr top ↦ (let e : length (cuts ++ length log ∷ []) ≡ n = sym top in
           subst (λ (m : ℕ). IsScreenshot (screen size log (cuts ++ length log ∷ []) m)) e (subst IsScreenshot (sym (screen_last size log cuts)) is))
     ]
   where
-    le_or : (n : ℕ) → (n ≤ length cuts) ⊎ (n ≡ length (cuts ++ length log ∷ []))
-    le_or n = grind (arith, length-append cuts (length log ∷ []))
+    le_or : (n : ℕ) → n ≤ length (cuts ++ length log ∷ []) → (n ≤ length cuts) ⊎ (n ≡ length (cuts ++ length log ∷ []))
+    le_or n le = grind (arith, length-append cuts (length log ∷ []))
 
 -- ---- the change between two screens
 
