@@ -6,3 +6,4 @@ pub mod Comes
 pub mod Keeps
 pub mod ServerKeeps
 pub mod Runs
+pub mod Follows

@@ -125,8 +125,8 @@ keeps-acts w d from now g u n of sent few h =
         gathers_up = of;
         notes = latest_noted r d.number from l.notes;
       })
-      (λ j e. line-more size log more cuts (acts_of j log) (acts_of j (log ++ more)) (w.server.records j) (w.clients j) h.cuts
-      (acts_of-append j log more ∙ ap (λ (xs : List Act). acts_of j log ++ xs) (acts_of-other j id (take n new) (flip j e)) ∙ append-nil (acts_of j log)) (h.lines j));
+          (λ j e. line-more size log more cuts (acts_of j log) (acts_of j (log ++ more)) (w.server.records j) (w.clients j) h.cuts
+          (acts_of-append j log more ∙ ap (λ (xs : List Act). acts_of j log ++ xs) (acts_of-other j id (take n new) (flip j e)) ∙ append-nil (acts_of j log)) (h.lines j));
       pieces = (λ x i. on_put (λ j y. IsPiece x.kind x (w.server.records j) (w.clients x.client) → IsPiece x.kind x y (w.clients x.client)) w.server.records d.client r'
           (piece-record x.kind x r r' (w.clients x.client) refl) (λ j e p. p) x.client (h.pieces x i));
       unused = h.unused;

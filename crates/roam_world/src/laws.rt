@@ -1,1 +1,32 @@
 //! What holds of every world that can be reached. Each law stands on a function with an empty body.
+ghost use Rattle.roam_world.specs.Laws.{Always, Headline, HoldAtMostEight, HoldTrueScreens, LeavesNoGap, NamesOneText, OffersNewest, RepliesToLatest, ShowsTrueScreens, TakesActsInOrder};
+ghost use Rattle.roam_world.specs.Limits.{Limits};
+
+/// The headline. After every list of events with their replies, each client start that shows number n shows exactly the screen that the
+/// control functions and the layout commands give for the session's inputs up to the tick that made n; and the acts taken from each
+/// client start are the first of those typed there, each once and in order.
+pub fn clients_show_the_session()
+    ensures screens { Always ShowsTrueScreens }
+    ensures acts { Always TakesActsInOrder }
+{}
+
+/// After every list of events: each pair that either end holds is a number with its screen, neither end ever has a ninth pair, and no
+/// datagram that was sent leaves a gap or has a bad change, whenever and however often it comes.
+pub fn lines_stay_true()
+    ensures pairs { Always HoldTrueScreens }
+    ensures eight { Always HoldAtMostEight }
+    ensures gap { Always LeavesNoGap }
+{}
+
+/// After every list of events: an instruction's id names one text for good, each instruction that was sent is within the limits of its
+/// text, and each datagram of a tick goes to the source of the greatest-numbered datagram that came from its client start.
+pub fn datagrams_keep_their_rules()
+    ensures ids { Always NamesOneText }
+    ensures limits { Always Limits }
+    ensures address { Always RepliesToLatest }
+{}
+
+/// After every list of events, a tick offers the newest number to each record that it may send to and that has room for it.
+pub fn one_round_suffices()
+    ensures newest { Always OffersNewest }
+{}
