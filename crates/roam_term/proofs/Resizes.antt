@@ -11,6 +11,10 @@ pub cols-sized : (rows cols : ℕ) (l : Live) → (sized_to rows cols l).screen.
 unfolding resized
 cols-sized rows cols l = refl
 
+pub rows-sized : (rows cols : ℕ) (l : Live) → (sized_to rows cols l).screen.rows ≡ rows
+unfolding resized
+rows-sized rows cols l = refl
+
 pub lived-size : (rows cols : ℕ) (l : Live) → lived l (Size rows cols ∷ []) ≡ sized_to rows cols l
 unfolding changed
 lived-size rows cols l = refl

@@ -24,6 +24,10 @@ pub record Shows (t : TermView) (rows cols lines : ℕ) (log : List Item) : Type
   pub live : t.live ≡ (term rows cols lines log).live
   pub history : t.history ≡ (term rows cols lines log).history
 
+-- a terminal's screen has so many rows and columns
+abbrev pub HasSize : TermView → ℕ → ℕ → Type 0
+HasSize t rows cols = (t.live.screen.rows ≡ rows) × (t.live.screen.cols ≡ cols)
+
 -- a piece is accepted: it is short, and each of its bytes has 12 free bytes in the queue
 pub record IsAccepted (waiting piece : List ℕ) : Type 0 where
   pub short : length piece ≤ 1024

@@ -1,7 +1,7 @@
 //! A terminal brought to another size: all memory first, then the content.
 ghost use Rattle.std.specs.Prelude.{◌≡◌, ◌<◌, ◌⊎◌, ◌↔◌, IfOk, IfErr, IsErrOf, OnOk, OnErr};
 ghost use Rattle.roam_cells.specs.Limits.{IsSize};
-ghost use Rattle.roam_term.specs.Stands.{Sized};
+ghost use Rattle.roam_term.specs.Stands.{HasSize, Sized};
 ghost use Rattle.roam_term.specs.Terminal.{sized_to};
 
 use crate::canvases::Canvas;
@@ -95,6 +95,7 @@ impl Term {
     pub fn adopt(&mut self, fitted: Fitted)
         requires lines { fitted.lines ≡ self.old.history.lines }
         ensures sized { Sized self.old self.new fitted.rows fitted.cols }
+        ensures screen { HasSize self.new fitted.rows fitted.cols }
         ensures waiting { self.new.waiting ≡ self.old.waiting }
     {
         let rows = fitted.rows();

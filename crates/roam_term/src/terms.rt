@@ -5,7 +5,7 @@ ghost use Rattle.roam_text.specs.Dispatched.{function_of, dispatched};
 ghost use Rattle.roam_controls.specs.Commands.{command_of, parameters_of};
 ghost use Rattle.roam_term.specs.Picture.{picture};
 ghost use Rattle.roam_term.specs.Terminal.{changed, kept, answer, lived, kept_by, answered};
-ghost use Rattle.roam_term.specs.Stands.{Shows, Fed, IsTermSize, IsAccepted};
+ghost use Rattle.roam_term.specs.Stands.{Shows, Fed, HasSize, IsTermSize, IsAccepted};
 
 use crate::canvases::Canvas;
 use crate::outputs::{MOST_OUTPUT, Output};
@@ -74,6 +74,7 @@ impl Term {
     pub fn new(alloc: Global, rows: u16, cols: u16, lines: u16) -> Result<Self, Fault>
         ensures stands { IfOk result (λ t. Shows t rows cols lines []) }
         ensures waiting { IfOk result (λ t. t.waiting ≡ []) }
+        ensures screen { IfOk result (λ t. HasSize t rows cols) }
         ensures size { OnOk result (IsTermSize rows cols lines) }
         ensures bad_size { IsErrOf result Fault.BadSize ↔ (¬ IsTermSize rows cols lines) }
         ensures faults { IfErr result (λ e. (e ≡ Fault.BadSize) ⊎ (e ≡ Fault.OutOfMemory)) }
@@ -101,6 +102,7 @@ impl Term {
         ensures waiting { self.new.waiting ≡ self.old.waiting ++ answer (function_of dispatch self.old.reader.parameters self.old.reader.intermediates) self.old.live }
         ensures short { length self.new.waiting ≤ length self.old.waiting + MOST_ANSWER }
         ensures reader { self.new.reader ≡ self.old.reader }
+        ensures screen { HasSize self.new self.old.live.screen.rows self.old.live.screen.cols }
     {
         let command = requested(&self.reader, dispatch);
         self.canvas.answer(command, &mut self.output);
@@ -116,6 +118,7 @@ impl Term {
         ensures waiting { self.new.waiting ≡ self.old.waiting ++ answered self.old.live (dispatched step self.old.reader.parameters self.old.reader.intermediates) }
         ensures short { length self.new.waiting ≤ length self.old.waiting + MOST_ANSWER }
         ensures reader { self.new.reader ≡ self.old.reader }
+        ensures screen { HasSize self.new self.old.live.screen.rows self.old.live.screen.cols }
     {
         match step {
             Dispatched::Nothing => {}
@@ -132,6 +135,7 @@ impl Term {
         requires room { length self.old.waiting + MOST_ANSWER ≤ MOST_OUTPUT }
         ensures fed { Fed self.old self.new (byte ∷ []) }
         ensures short { length self.new.waiting ≤ length self.old.waiting + MOST_ANSWER }
+        ensures screen { HasSize self.new self.old.live.screen.rows self.old.live.screen.cols }
     {
         let step = self.reader.dispatch(byte);
         self.take_in(step);
@@ -143,6 +147,7 @@ impl Term {
         ensures within { result ≤ length piece.now }
         ensures fed { Fed self.old self.new (take result piece.now) }
         ensures waiting { self.new.waiting ≡ self.old.waiting }
+        ensures screen { HasSize self.new self.old.live.screen.rows self.old.live.screen.cols }
     {
         if !self.canvas.prints_ascii() {
             return 0;
@@ -161,6 +166,7 @@ impl Term {
         ensures within { result ≤ length piece.now }
         ensures fed { Fed self.old self.new (take result piece.now) }
         ensures waiting { self.new.waiting ≡ self.old.waiting }
+        ensures screen { HasSize self.new self.old.live.screen.rows self.old.live.screen.cols }
     {
         match self.reader.whole_character(piece) {
             Some((c, size)) => {
@@ -180,6 +186,7 @@ impl Term {
         ensures within { result ≤ length piece.now }
         ensures fed { Fed self.old self.new (take result piece.now) }
         ensures short { length self.new.waiting ≤ length self.old.waiting + MOST_ANSWER * result }
+        ensures screen { HasSize self.new self.old.live.screen.rows self.old.live.screen.cols }
     {
         let plain = self.feed_plain(piece);
         if 0 < plain {
@@ -197,6 +204,7 @@ impl Term {
         requires room { length self.old.waiting + MOST_ANSWER * length piece.now ≤ MOST_OUTPUT }
         ensures fed { Fed self.old self.new piece.now }
         ensures short { length self.new.waiting ≤ length self.old.waiting + MOST_ANSWER * length piece.now }
+        ensures screen { HasSize self.new self.old.live.screen.rows self.old.live.screen.cols }
     {
         let mut at = 0;
         while at < piece.len() {
@@ -211,6 +219,7 @@ impl Term {
     pub fn feed(&mut self, piece: &[u8]) -> Result<(), Fault>
         ensures ok { IsOk result ↔ IsAccepted self.old.waiting piece.now }
         ensures fed { OnOk result (Fed self.old self.new piece.now) }
+        ensures screen { HasSize self.new self.old.live.screen.rows self.old.live.screen.cols }
         ensures err { OnErr result (self.new ≡ self.old) }
         ensures too_long { IsErrOf result Fault.TooLong ↔ (1024 < length piece.now) }
         ensures faults { IfErr result (λ e. (e ≡ Fault.TooLong) ⊎ (e ≡ Fault.Busy)) }
@@ -246,6 +255,7 @@ impl Term {
         requires waiting { n ≤ length self.old.waiting }
         ensures waiting { self.new.waiting ≡ drop n self.old.waiting }
         ensures stands { (rows cols lines : ℕ) (log : List Item) → Shows self.old rows cols lines log → Shows self.new rows cols lines log }
+        ensures live { self.new.live ≡ self.old.live }
     {
         self.output.drop_front(n);
     }
@@ -254,6 +264,7 @@ impl Term {
     /// want of memory.
     pub fn shot(&self, alloc: Global, view: u16) -> Result<Shot, Fault>
         ensures picture { IfOk result (λ shot. (rows cols lines : ℕ) (log : List Item) → Shows self.now rows cols lines log → shot ≡ picture rows cols lines log view) }
+        ensures size { IfOk result (λ shot. HasSize self.now shot.rows shot.cols) }
         ensures fault { IsOkUnless result Fault.OutOfMemory }
     {
         let shot = draw(alloc, &self.canvas, &self.history, view)?;

@@ -25,7 +25,7 @@ use Rattle.roam_wire.specs.Datagrams.{DatagramValue}
 use Rattle.roam_wire.specs.Gatherers.{Gathering, piece_of}
 use Rattle.roam_wire.specs.Arrivals.{IsPieceOf}
 use Rattle.roam_wire.specs.Instructions.{DownValue, IsDown, down_text, UpValue, IsUp, up_text}
-use Rattle.roam_world.specs.Sessions.{SessionSize, Entry}
+use Rattle.roam_session.specs.Sessions.{SessionSize, Entry}
 use Rattle.roam_world.specs.Lists.{IsIn, put}
 use Rattle.roam_world.specs.Moments.{is_spent}
 use Rattle.roam_world.specs.Numbers.{IsScreenOf, acts_of}

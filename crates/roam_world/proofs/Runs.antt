@@ -11,7 +11,8 @@ use Rattle.roam_sync.proofs.TrueStates.{true_at_first}
 use Rattle.roam_sync.proofs.Steps.{link_at_first}
 use Rattle.roam_wire.specs.Datagrams.{DatagramValue}
 use Rattle.roam_wire.specs.Instructions.{DownValue, down_text, UpValue, up_text}
-use Rattle.roam_world.specs.Sessions.{SessionSize, Entry, Given, Did, Drained, stops}
+use Rattle.roam_session.specs.Sessions.{SessionSize, Entry, Given, Did, Drained}
+use Rattle.roam_session.specs.Refusals.{stops}
 use Rattle.roam_world.specs.Lists.{IsIn}
 use Rattle.roam_world.specs.Numbers.{first_screen, screen, IsScreenOf, acts_of}
 use Rattle.roam_world.specs.Texts.{Address, SaysDown, SaysUp}

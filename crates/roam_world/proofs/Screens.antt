@@ -10,7 +10,8 @@ use Rattle.roam_cells.specs.Screenshot.{Screenshot, IsScreenshot}
 use Rattle.roam_acts.specs.declared.acts.Act.{Act}
 use Rattle.roam_update.specs.Shots.{applied, difference}
 use Rattle.roam_update.proofs.ChangeAgain.{leads}
-use Rattle.roam_world.specs.Sessions.{SessionSize, Entry, Given, Did, Drained, face}
+use Rattle.roam_session.specs.Sessions.{SessionSize, Entry, Given, Did, Drained}
+use Rattle.roam_session.specs.Faces.{face}
 use Rattle.roam_world.specs.Numbers.{first_screen, cut, screen, IsScreenOf, acts_of}
 use Rattle.roam_world.specs.Holds.{AreCuts, AreScreens}
 

@@ -23,7 +23,8 @@ use Rattle.roam_wire.specs.Datagrams.{DatagramValue}
 use Rattle.roam_wire.specs.Gatherers.{Gathering, piece_of}
 use Rattle.roam_wire.specs.Arrivals.{IsPieceOf}
 use Rattle.roam_wire.specs.Instructions.{DownValue, IsDown, down_text, UpValue, up_text}
-use Rattle.roam_world.specs.Sessions.{SessionSize, Entry, Did, face}
+use Rattle.roam_session.specs.Sessions.{SessionSize, Entry, Did}
+use Rattle.roam_session.specs.Faces.{face}
 use Rattle.roam_world.specs.Lists.{IsIn}
 use Rattle.roam_world.specs.Numbers.{screen, IsScreenOf, acts_of}
 use Rattle.roam_world.specs.Texts.{Address, update_in, datagrams_of}

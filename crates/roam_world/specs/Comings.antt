@@ -12,7 +12,8 @@ use Rattle.roam_wire.specs.declared.datagrams.Kind.TheVariants.{ToClient, ToServ
 use Rattle.roam_wire.specs.Datagrams.{DatagramValue}
 use Rattle.roam_wire.specs.Gatherers.{Gathering, Answer, Part, Old, Whole, gather, piece_of}
 use Rattle.roam_wire.specs.Instructions.{UpValue}
-use Rattle.roam_world.specs.Sessions.{SessionSize, Entry, Did, stops}
+use Rattle.roam_session.specs.Sessions.{SessionSize, Entry, Did}
+use Rattle.roam_session.specs.Refusals.{stops}
 use Rattle.roam_world.specs.Lists.{put}
 use Rattle.roam_world.specs.Moments.{owed_from}
 use Rattle.roam_world.specs.Texts.{Address}

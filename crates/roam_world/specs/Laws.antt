@@ -6,7 +6,7 @@ use Rattle.roam_sync.specs.Senders.{newest, count}
 use Rattle.roam_sync.specs.Receivers.{pairs}
 use Rattle.roam_sync.specs.TrueLines.{HoldsTrueStates, HasTrueStates}
 use Rattle.roam_wire.specs.Datagrams.{DatagramValue}
-use Rattle.roam_world.specs.Sessions.{SessionSize}
+use Rattle.roam_session.specs.Sessions.{SessionSize}
 use Rattle.roam_world.specs.Lists.{IsIn, IsFront}
 use Rattle.roam_world.specs.Numbers.{screen, IsScreenOf, acts_of}
 use Rattle.roam_world.specs.Texts.{Address}

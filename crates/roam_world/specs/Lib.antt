@@ -1,6 +1,5 @@
 pub mod Lists
 pub mod Moments
-pub mod Sessions
 pub mod Numbers
 pub mod Texts
 pub mod Servers

@@ -2,7 +2,8 @@
 use Rattle.std.specs.Prelude.{◌≡◌, ℕ, ◌-◌, ◌≤◌, List, [], ◌∷◌, length, take, slice_index, ◌==◌, if◌then◌else◌}
 use Rattle.roam_acts.specs.declared.acts.Act.{Act}
 use Rattle.roam_cells.specs.Screenshot.{Screenshot, blank_screenshot}
-use Rattle.roam_world.specs.Sessions.{SessionSize, Entry, Given, Did, Drained, face}
+use Rattle.roam_session.specs.Sessions.{SessionSize, Entry, Given, Did, Drained}
+use Rattle.roam_session.specs.Faces.{face}
 
 -- the screen that both ends begin with
 unfoldable pub first_screen : Screenshot

@@ -4,7 +4,7 @@ use Rattle.roam_cells.specs.Screenshot.{Screenshot}
 use Rattle.roam_sync.specs.Senders.{Sending, start}
 use Rattle.roam_wire.specs.Gatherers.{Gathering, nothing}
 use Rattle.roam_wire.specs.Instructions.{DownValue}
-use Rattle.roam_world.specs.Sessions.{SessionSize, Entry}
+use Rattle.roam_session.specs.Sessions.{SessionSize, Entry}
 use Rattle.roam_world.specs.Numbers.{first_screen}
 use Rattle.roam_world.specs.Texts.{Address}
 

@@ -14,7 +14,8 @@ use Rattle.roam_sync.specs.Lines.{Delivers}
 use Rattle.roam_wire.specs.Datagrams.{DatagramValue}
 use Rattle.roam_wire.specs.Gatherers.{Gathering}
 use Rattle.roam_wire.specs.Instructions.{DownValue, UpValue}
-use Rattle.roam_world.specs.Sessions.{Given, Drained, refuses_bytes, output_at}
+use Rattle.roam_session.specs.Sessions.{Given, Drained}
+use Rattle.roam_session.specs.Refusals.{refuses_bytes, output_at}
 use Rattle.roam_world.specs.Texts.{Address, SaysDown, SaysNoDown, SaysUp, SaysNoUp, update_in}
 use Rattle.roam_world.specs.Servers.{moment, after_input}
 use Rattle.roam_world.specs.Comings.{turned_away, noted, completed, coming, after_note, new_acts, after_acts, room_for}

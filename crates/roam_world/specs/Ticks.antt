@@ -8,7 +8,7 @@ use Rattle.roam_wire.specs.declared.datagrams.Kind.TheVariants.{ToClient}
 use Rattle.roam_wire.specs.Cutting.{pieces_of}
 use Rattle.roam_wire.specs.Datagrams.{DatagramValue}
 use Rattle.roam_wire.specs.Instructions.{DownValue, down_text}
-use Rattle.roam_world.specs.Sessions.{face}
+use Rattle.roam_session.specs.Faces.{face}
 use Rattle.roam_world.specs.Numbers.{screen}
 use Rattle.roam_world.specs.Moments.{has_passed, is_overdue, is_spent}
 use Rattle.roam_world.specs.Texts.{Address, datagrams_of}

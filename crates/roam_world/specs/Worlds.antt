@@ -3,7 +3,7 @@ use Rattle.std.specs.Prelude.{ℕ, ◌-◌, ◌==◌, List, [], ◌++◌, map, s
 use Rattle.roam_cells.specs.declared.faults.Fault.{Fault}
 use Rattle.roam_acts.specs.declared.acts.Act.{Act}
 use Rattle.roam_wire.specs.Datagrams.{DatagramValue}
-use Rattle.roam_world.specs.Sessions.{SessionSize}
+use Rattle.roam_session.specs.Sessions.{SessionSize}
 use Rattle.roam_world.specs.Lists.{put}
 use Rattle.roam_world.specs.Texts.{Address}
 use Rattle.roam_world.specs.Servers.{Server, new_server}

@@ -12,7 +12,7 @@ use Rattle.roam_term.specs.Leaving.{top_rows}
 use Rattle.roam_term.specs.Terminal.{Live, on_main, with_rows}
 use Rattle.roam_term.proofs.Lists.{append-nil}
 use Rattle.roam_term.proofs.Runs.{follows-out}
-use Rattle.roam_term.proofs.Resizes.{cols-sized, lived-size, kept-size, answered-size}
+use Rattle.roam_term.proofs.Resizes.{rows-sized, cols-sized, lived-size, kept-size, answered-size}
 use Rattle.roam_term.proofs.terms.Term.adopt.Goals as goal
 
 pub invariant_of-self : goal.invariant_of-self
@@ -20,6 +20,15 @@ invariant_of-self c =
     let f = c.fitted.inside in
     ap (λ (h : Scrollback). h.cols) c.adopt-2.ensures.history ∙ c.fitted.invariant.cols
     ∙ sym (ap (λ (l : Live). l.screen.cols) c.adopt.ensures.sized ∙ cols-sized f.shown.rows f.shown.cols c.self.inside.canvas)
+
+pub returns-clause-screen : goal.returns-clause-screen
+returns-clause-screen c =
+    let f = c.fitted.inside in
+    let live = c.self.inside.canvas in
+    rw (← c.fitted.view_is) (
+      ap (λ (l : Live). l.screen.rows) c.adopt.ensures.sized ∙ rows-sized f.shown.rows f.shown.cols live,
+      ap (λ (l : Live). l.screen.cols) c.adopt.ensures.sized ∙ cols-sized f.shown.rows f.shown.cols live,
+    )
 
 pub returns-clause-sized : goal.returns-clause-sized
 returns-clause-sized c =

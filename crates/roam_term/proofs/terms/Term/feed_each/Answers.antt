@@ -1,4 +1,4 @@
-use Rattle.std.proofs.Common.{take, drop, sym, subst, arith}
+use Rattle.std.proofs.Common.{take, drop, sym, subst, ◌∙◌, arith}
 use Rattle.std.proofs.Math.Seq.{take-add}
 use Rattle.roam_term.specs.Stands.{Fed}
 use Rattle.roam_term.proofs.Lists.{all-after}
@@ -17,5 +17,9 @@ loop-at-preserved c =
           subst (λ seen. Fed c.args.self.now new seen) (sym (take-add at n piece))
           (fed-then c.args.self.now c.loop-at.self new (take at piece) (take n (drop at piece)) c.loop-at.invariant.fed
           (subst (λ rest. Fed c.loop-at.self new (take n rest)) (all-after at piece) c.feed_front-count.ensures.fed));
+      screen = (
+        c.feed_front-count.ensures.screen.0 ∙ c.loop-at.invariant.screen.0,
+        c.feed_front-count.ensures.screen.1 ∙ c.loop-at.invariant.screen.1,
+      );
       room = omega (arith, c.loop-at.invariant.room, c.feed_front-count.ensures.short);
     }

@@ -1,0 +1,65 @@
+-- A pane of a session: what its terminal was given, and the bytes that wait for the pane's program (this project's profile).
+use Rattle.std.specs.Prelude.{ℕ, ◌==◌, ◌&&◌, Bool, List, [], ◌∷◌, ◌++◌, map, drop, length, Option, Some, None, if◌then◌else◌}
+use Rattle.std.specs.Option.{option_map}
+use Rattle.roam_text.specs.Log.{Item, Byte, Resized}
+use Rattle.roam_acts.specs.declared.keys.Key.{Key}
+use Rattle.roam_acts.specs.Sent.{sent}
+use Rattle.roam_term.specs.Keys.{key_modes}
+use Rattle.roam_term.specs.Terminal.{Live, term, reports}
+use Rattle.roam_layout.specs.declared.rects.Rect.{Rect}
+
+-- a pane: the size that it began with, what its terminal was given since, and the bytes that wait; its history keeps 500 lines
+pub record Pane : Type 0 where
+  pub rows : ℕ
+  pub cols : ℕ
+  pub log : List Item
+  pub waiting : List ℕ
+
+-- ---- what a pane is given
+
+-- a pane that begins in a rectangle
+abbrev pub begun : Rect → Pane
+begun r = record { rows = r.rows; cols = r.cols; log = []; waiting = [] }
+
+-- what a pane's terminal answers to bytes, after all that it was given before
+abbrev pub answers : Pane → List ℕ → List ℕ
+answers p bytes = drop (length (reports p.rows p.cols 500 p.log)) (reports p.rows p.cols 500 (p.log ++ map Byte bytes))
+
+-- bytes of the pane's program go to its terminal, and what this answers waits
+abbrev pub fed : List ℕ → Pane → Pane
+fed bytes p = record { rows = p.rows; cols = p.cols; log = p.log ++ map Byte bytes; waiting = p.waiting ++ answers p bytes }
+
+-- what lives of the pane's terminal
+abbrev pub live_of : Pane → Live
+live_of p = (term p.rows p.cols 500 p.log).live
+
+-- the bytes of a key under the modes of the pane's terminal
+abbrev pub key_bytes : Key → Pane → List ℕ
+key_bytes key p = sent (key_modes (live_of p).modes) key
+
+-- they wait behind what waits
+abbrev pub keyed : Key → Pane → Pane
+keyed key p = record { rows = p.rows; cols = p.cols; log = p.log; waiting = p.waiting ++ key_bytes key p }
+
+-- the pane's program takes the first n bytes that wait
+abbrev pub drained : ℕ → Pane → Pane
+drained n p = record { rows = p.rows; cols = p.cols; log = p.log; waiting = drop n p.waiting }
+
+-- ---- rectangles
+
+-- two rectangles have one size
+abbrev pub is_same_size : Rect → Rect → Bool
+is_same_size old new = (old.rows == new.rows) && (old.cols == new.cols)
+
+-- a pane goes from a rectangle to another: where that has another size, the terminal is given the size
+abbrev pub moved : Rect → Rect → Pane → Pane
+moved old new p =
+    if is_same_size old new then p
+    else record { rows = p.rows; cols = p.cols; log = p.log ++ Resized new.rows new.cols ∷ []; waiting = p.waiting }
+
+-- what stands at a number that has one rectangle before an act and another after it: a pane whose rectangle goes ends, and one begins where
+-- there was none
+abbrev pub given : Option Rect → Option Rect → Option Pane → Option Pane
+given old None pane = None
+given None (Some new) pane = Some (begun new)
+given (Some old) (Some new) pane = option_map (moved old new) pane
