@@ -57,7 +57,7 @@ at_most_eight w h =
     }
 
 -- a change of an instruction that was sent is a good one
-good_change : (w : World) (id : ℕ) (v : DownValue) (base : Screenshot) → Rattle.roam_world.specs.Lists.IsIn v (w.server.records id).instructions
+pub good_change : (w : World) (id : ℕ) (v : DownValue) (base : Screenshot) → Rattle.roam_world.specs.Lists.IsIn v (w.server.records id).instructions
     → state_at v.old (pairs (w.clients id).receiver) ≡ Some base → applied base v.change ≡ None → Holds w → ⊥
 good_change w id v base sent at none h =
     let t = (h.lines id).truth in

@@ -7,3 +7,7 @@ pub mod Keeps
 pub mod ServerKeeps
 pub mod Runs
 pub mod Follows
+pub mod Gathered
+pub mod Places
+pub mod Delivering
+pub mod OneRound

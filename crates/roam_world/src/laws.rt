@@ -1,5 +1,5 @@
 //! What holds of every world that can be reached. Each law stands on a function with an empty body.
-ghost use Rattle.roam_world.specs.Laws.{Always, Headline, HoldAtMostEight, HoldTrueScreens, LeavesNoGap, NamesOneText, OffersNewest, RepliesToLatest, ShowsTrueScreens, TakesActsInOrder};
+ghost use Rattle.roam_world.specs.Laws.{Always, Headline, HoldAtMostEight, HoldTrueScreens, LeavesNoGap, NamesOneText, OffersNewest, OneRoundSuffices, RepliesToLatest, ShowsTrueScreens, TakesActsInOrder};
 ghost use Rattle.roam_world.specs.Limits.{Limits};
 
 /// The headline. After every list of events with their replies, each client start that shows number n shows exactly the screen that the
@@ -26,7 +26,10 @@ pub fn datagrams_keep_their_rules()
     ensures address { Always RepliesToLatest }
 {}
 
-/// After every list of events, a tick offers the newest number to each record that it may send to and that has room for it.
+/// One round suffices. After every list of events, where a server tick sends to a client start that is in a slot, and just those datagrams
+/// come to that slot, each at least once, in any order: that start shows the newest number that its sender holds. That is the newest
+/// number wherever the tick could offer it: where the sender held fewer than eight, or held that number already.
 pub fn one_round_suffices()
+    ensures round { Always OneRoundSuffices }
     ensures newest { Always OffersNewest }
 {}
