@@ -11,3 +11,5 @@ pub mod Gathered
 pub mod Places
 pub mod Delivering
 pub mod OneRound
+pub mod Answering
+pub mod Replying

@@ -11,7 +11,7 @@ use Rattle.roam_world.specs.Lists.{IsIn, IsFront}
 use Rattle.roam_world.specs.Numbers.{screen, IsScreenOf, acts_of}
 use Rattle.roam_world.specs.Texts.{Address}
 use Rattle.roam_world.specs.Servers.{Note, nowhere, moment}
-use Rattle.roam_world.specs.Ticks.{Parcel, sent_by, is_live, number_after, after_tick}
+use Rattle.roam_world.specs.Ticks.{IsFaceScreen, Parcel, sent_by, is_live, number_after, after_tick}
 use Rattle.roam_world.specs.Clients.{shown_number, shown_screen}
 use Rattle.roam_world.specs.Arrivals.{IsGap}
 use Rattle.roam_world.specs.Worlds.{World, new_world, Event, PaneBytes, Typed, ServerTick, ClientTick, ToServer, ToClient, Start, Drain, Reply, Heard, Failed, Stopped, datagram_at}
@@ -140,3 +140,19 @@ pub record IsAmple (reply : Reply) : Type 0 where
 -- where memory isn't told of, an event has one reply, and leaves one world
 abbrev pub HasOneReply : World → Type 0
 HasOneReply w = (e : Event) (r r' : Reply) (v v' : World) → wstep w e r v → wstep w e r' v' → IsAmple r → IsAmple r' → (r ≡ r') × (v ≡ v')
+
+-- what a tick needs of its session: that the face of a number to be made is a screen
+abbrev pub IsAnswerable : World → Event → Type 0
+IsAnswerable w (ServerTick now) = IsFaceScreen w.server (moment w.server now)
+IsAnswerable w e = Unit {0}
+
+-- an event has a reply that doesn't tell of memory
+pub record IsAnswered (w : World) (e : Event) : Type 0 where
+  pub reply : Reply
+  pub left : World
+  pub step : wstep w e reply left
+  pub ample : IsAmple reply
+
+-- each event has
+abbrev pub HasReply : World → Type 0
+HasReply w = (e : Event) → IsAnswerable w e → IsAnswered w e

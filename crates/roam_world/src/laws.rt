@@ -1,5 +1,5 @@
 //! What holds of every world that can be reached. Each law stands on a function with an empty body.
-ghost use Rattle.roam_world.specs.Laws.{Always, Headline, HoldAtMostEight, HoldTrueScreens, LeavesNoGap, NamesOneText, OffersNewest, OneRoundSuffices, RepliesToLatest, ShowsTrueScreens, TakesActsInOrder};
+ghost use Rattle.roam_world.specs.Laws.{Always, HasOneReply, HasReply, HoldAtMostEight, HoldTrueScreens, LeavesNoGap, NamesOneText, OffersNewest, OneRoundSuffices, RepliesToLatest, ShowsTrueScreens, TakesActsInOrder};
 ghost use Rattle.roam_world.specs.Limits.{Limits};
 
 /// The headline. After every list of events with their replies, each client start that shows number n shows exactly the screen that the
@@ -32,4 +32,11 @@ pub fn datagrams_keep_their_rules()
 pub fn one_round_suffices()
     ensures round { Always OneRoundSuffices }
     ensures newest { Always OffersNewest }
+{}
+
+/// After every list of events, each event has a reply that doesn't tell of memory, and of such replies one alone, which leaves one world.
+/// Of a tick that makes a number it is asked that the session's face is a screen, as every call that answers a face promises.
+pub fn each_event_is_answered()
+    ensures reply { Always HasReply }
+    ensures one { Always HasOneReply }
 {}
