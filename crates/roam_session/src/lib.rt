@@ -2,6 +2,9 @@
 #![tactic(auto)]
 
 pub mod laws;
+mod pictures;
+mod queues;
 mod sessions;
+mod steps;
 
 pub use sessions::Session;

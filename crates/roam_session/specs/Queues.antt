@@ -1,0 +1,59 @@
+-- What calls make of the terminal of one pane, and of the bytes that wait in it.
+use Rattle.std.specs.Prelude.{◌≡◌, ℕ, ◌+◌, ◌≤◌, ◌++◌, nat_lt, min, List, take, drop, length, Option, Some, None, if◌then◌else◌}
+use Rattle.roam_cells.specs.declared.faults.Fault.{Fault}
+use Rattle.roam_cells.specs.declared.faults.Fault.TheVariants.{Busy}
+use Rattle.roam_text.specs.Log.{Item}
+use Rattle.roam_acts.specs.declared.keys.Key.{Key}
+use Rattle.roam_acts.specs.Sent.{sent}
+use Rattle.roam_term.specs.Keys.{key_modes}
+use Rattle.roam_term.specs.Stands.{TermView, Shows, Fed, HasSize}
+use Rattle.roam_session.specs.Stands.{term_at}
+
+-- a terminal stands for what it stood for, and what lives is the same
+pub record Keeps (old new : TermView) : Type 0 where
+  pub shows : (rows cols lines : ℕ) (log : List Item) → Shows old rows cols lines log → Shows new rows cols lines log
+  pub live : new.live ≡ old.live
+
+-- bytes were given to a terminal
+pub record IsFed (bytes : List ℕ) (old new : TermView) : Type 0 where
+  pub fed : Fed old new bytes
+  pub size : HasSize new old.live.screen.rows old.live.screen.cols
+
+-- a key's bytes were put behind what waits
+pub record IsKeyed (key : Key) (old new : TermView) : Type 0 where
+  pub keeps : Keeps old new
+  pub waiting : new.waiting ≡ old.waiting ++ sent (key_modes old.live.modes) key
+
+-- the first n bytes that wait were taken
+pub record IsDrained (n : ℕ) (old new : TermView) : Type 0 where
+  pub keeps : Keeps old new
+  pub waiting : new.waiting ≡ drop n old.waiting
+
+-- a rule holds between two terminals, or there are none
+abbrev pub Both : (TermView → TermView → Type 0) → Option TermView → Option TermView → Type 0
+Both rule None None = Unit {0}
+Both rule None (Some new) = ⊥
+Both rule (Some old) None = ⊥
+Both rule (Some old) (Some new) = rule old new
+
+-- the terminal at a number was changed by a rule, and no other was
+pub record ChangesAt (p : ℕ) (rule : TermView → TermView → Type 0) (old new : List (Option TermView)) : Type 0 where
+  pub count : length new ≡ length old
+  pub here : Both rule (term_at old p) (term_at new p)
+  pub others : (k : ℕ) → (k ≡ p → ⊥) → term_at new k ≡ term_at old k
+
+-- n is at most what waits, where anything does
+abbrev pub IsWithin : ℕ → Option (List ℕ) → Type 0
+IsWithin n None = Unit {0}
+IsWithin n (Some waiting) = n ≤ length waiting
+
+-- n bytes were copied to the front of a place: as many of those that wait as fit
+abbrev pub IsCopied : ℕ → List ℕ → List ℕ → Option (List ℕ) → Type 0
+IsCopied n old new None = ⊥
+IsCopied n old new (Some waiting) = (n ≡ min (length waiting) (length old)) × (new ≡ take n waiting ++ drop n old)
+
+-- why a key's bytes don't go to a terminal: they don't fit its queue of 65,536 bytes
+abbrev pub key_refused : Key → Option TermView → Option Fault
+key_refused key None = None
+key_refused key (Some t) =
+    if nat_lt 65536 (length t.waiting + length (sent (key_modes t.live.modes) key)) then Some Busy else None

@@ -1,0 +1,109 @@
+//! The terminals of panes by their numbers: what their programs send, and the bytes that wait for them.
+ghost use Rattle.std.specs.Prelude.{◌≡◌, ◌+◌, ◌-◌, ◌≤◌, ◌++◌, ℕ, List, Option, Some, None, length, min, take, drop, IfOk, OnOk, OnErr};
+ghost use Rattle.std.specs.Option.{option_map};
+ghost use Rattle.roam_session.specs.Refusals.{bytes_refused, none_refused, fault_of};
+ghost use Rattle.roam_session.specs.Stands.{term_at, waiting_at};
+ghost use Rattle.roam_session.specs.Queues.{ChangesAt, IsFed, IsKeyed, IsDrained, IsWithin, IsCopied, key_refused};
+
+use roam_acts::Key;
+use roam_cells::Fault;
+use roam_term::Term;
+
+/// The most bytes that wait in a pane.
+const MOST_OUTPUT: usize = 65536;
+
+/// Gives a pane bytes of its program. Refuses `NoPane`, `TooLong` and `Busy`, in this order, and takes no memory.
+pub fn feed(terms: &mut Vec<Option<Term>>, pane: u8, piece: &[u8]) -> Result<(), Fault>
+    ensures fault { fault_of result ≡ bytes_refused piece.now (waiting_at terms.old.items pane) }
+    ensures fed { OnOk result (ChangesAt pane (IsFed piece.now) terms.old.items terms.new.items) }
+    ensures err { OnErr result (terms.new.items ≡ terms.old.items) }
+{
+    let pane = usize::from(pane);
+    if terms.len() <= pane {
+        return Err(Fault::NoPane);
+    }
+    match &mut terms[pane] {
+        None => Err(Fault::NoPane),
+        Some(term) => term.feed(piece),
+    }
+}
+
+/// Puts a key's bytes behind those that wait in a pane. Refuses `Busy` where they don't fit, and takes no memory.
+pub fn type_key(terms: &mut Vec<Option<Term>>, pane: u8, key: &Key) -> Result<(), Fault>
+    ensures fault { fault_of result ≡ key_refused key.now (term_at terms.old.items pane) }
+    ensures keyed { OnOk result (ChangesAt pane (IsKeyed key.now) terms.old.items terms.new.items) }
+    ensures err { OnErr result (terms.new.items ≡ terms.old.items) }
+{
+    let pane = usize::from(pane);
+    if terms.len() <= pane {
+        return Ok(());
+    }
+    match &mut terms[pane] {
+        None => Ok(()),
+        Some(term) => term.key(key),
+    }
+}
+
+/// Takes the first n bytes that wait in a pane. Refuses `NoPane`, and takes no memory.
+pub fn drain(terms: &mut Vec<Option<Term>>, pane: u8, n: usize) -> Result<(), Fault>
+    requires within { IsWithin n (waiting_at terms.old.items pane) }
+    ensures fault { fault_of result ≡ none_refused (waiting_at terms.old.items pane) }
+    ensures drained { OnOk result (ChangesAt pane (IsDrained n) terms.old.items terms.new.items) }
+    ensures err { OnErr result (terms.new.items ≡ terms.old.items) }
+{
+    let pane = usize::from(pane);
+    if terms.len() <= pane {
+        return Err(Fault::NoPane);
+    }
+    match &mut terms[pane] {
+        None => Err(Fault::NoPane),
+        Some(term) => {
+            term.take_output(n);
+            Ok(())
+        }
+    }
+}
+
+/// How many bytes wait in a pane that is there.
+pub fn output_len(terms: &[Option<Term>], pane: u8) -> Option<usize>
+    ensures len { result ≡ option_map (λ (waiting : List ℕ). length waiting) (waiting_at terms.now pane) }
+{
+    let pane = usize::from(pane);
+    if terms.len() <= pane {
+        return None;
+    }
+    match &terms[pane] {
+        None => None,
+        Some(term) => Some(term.output_len()),
+    }
+}
+
+/// How many more bytes may wait in a pane that is there.
+pub fn room(terms: &[Option<Term>], pane: u8) -> Option<usize>
+    ensures room { result ≡ option_map (λ (waiting : List ℕ). 65536 - length waiting) (waiting_at terms.now pane) }
+{
+    let pane = usize::from(pane);
+    if terms.len() <= pane {
+        return None;
+    }
+    match &terms[pane] {
+        None => None,
+        Some(term) => Some(MOST_OUTPUT - term.output_len()),
+    }
+}
+
+/// Copies the first bytes that wait in a pane, as many as fit, and tells how many. Refuses `NoPane`.
+pub fn copy_output(terms: &[Option<Term>], pane: u8, out: &mut [u8]) -> Result<usize, Fault>
+    ensures fault { fault_of result ≡ none_refused (waiting_at terms.now pane) }
+    ensures bytes { IfOk result (λ n. IsCopied n out.old out.new (waiting_at terms.now pane)) }
+    ensures err { OnErr result (out.new ≡ out.old) }
+{
+    let pane = usize::from(pane);
+    if terms.len() <= pane {
+        return Err(Fault::NoPane);
+    }
+    match &terms[pane] {
+        None => Err(Fault::NoPane),
+        Some(term) => Ok(term.copy_output(out)),
+    }
+}
