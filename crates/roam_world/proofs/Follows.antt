@@ -28,7 +28,7 @@ use Rattle.roam_world.specs.Worlds.{World, ToClient as ToClientEvent, Reply, Hea
 use Rattle.roam_world.specs.Steps.{ToClientStep, refused, empty_slot, no_memory, not_sent, piece, unread, bad_change, whole}
 use Rattle.roam_world.specs.Limits.{Limits}
 use Rattle.roam_world.specs.Laws.{ShowsTrueScreens, HoldTrueScreens, HoldAtMostEight, LeavesNoGap, TakesActsInOrder, Headline, NamesOneText, RepliesToLatest, OffersNewest}
-use Rattle.roam_world.specs.Holds.{cuts_of, Tells, Acks, IsPiece, LineOf, Holds}
+use Rattle.roam_world.specs.Holds.{cuts_of, Tells, Acks, IsPiece, LineOf, Holds, Counts}
 use Rattle.roam_world.proofs.Screens.{one_screen, difference_leads}
 use Rattle.roam_world.proofs.Acting.{front_is}
 use Rattle.roam_world.proofs.Comes.{ArrivesWell}
@@ -154,12 +154,14 @@ offers_newest w h id now live or =
     go true e = Rattle.roam_sync.proofs.Ends.marked_newest (holds_after (w.server.records id) (number_after w.server (moment w.server now)) (screen_after w.server (moment w.server now)) (moment w.server now)).base (holds_after (w.server.records id) (number_after w.server (moment w.server now)) (screen_after w.server (moment w.server now)) (moment w.server now)).later ∙ e
     go false e = e
 
-pub limits : (w : World) → Holds w → Limits w
-limits w h =
+pub limits : (w : World) → Holds w → Counts w → Limits w
+limits w h k =
     record {
       numbers = h.numbers;
       typed = (λ id. (h.lines id).acts.below);
       unacknowledged = (λ id. (h.lines id).acts.few);
       downs = (λ id. (h.lines id).downs);
       ups = (λ id. (h.lines id).ups);
+      known = k.few;
+      datagrams = k.sent;
     }

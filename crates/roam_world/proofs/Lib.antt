@@ -13,3 +13,4 @@ pub mod Delivering
 pub mod OneRound
 pub mod Answering
 pub mod Replying
+pub mod Sendable

@@ -185,11 +185,11 @@ record HoldsLine (size : SessionSize) (log : List Entry) (cuts : List ℕ) (s : 
   truth : TrueLine applied (IsScreenOf size log cuts) s c.receiver (Tells vs)
   link : Link s c.receiver (Tells vs) (Acks c.instructions)
 
-and_right : (a b : Bool) → (a && b) ≡ true → b ≡ true
+pub and_right : (a b : Bool) → (a && b) ≡ true → b ≡ true
 and_right true b e = e
 and_right false b e = absurd (cc)
 
-and_left : (a b : Bool) → (a && b) ≡ true → a ≡ true
+pub and_left : (a b : Bool) → (a && b) ≡ true → a ≡ true
 and_left true b e = refl
 and_left false b e = absurd (cc)
 
@@ -210,11 +210,15 @@ module _ (size : SessionSize) (log : List Entry) (cuts : List ℕ) (taken : List
           }
       go false e = record { truth = l.truth; link = l.link }
 
+  -- what is told is a screen
+  pub newest_shown : IsScreenshot (newest (holds_after r n s now)).state
+  newest_shown =
+      let top = top_true (IsScreenOf size log cuts) (holds_after r n s now) offer_holds.truth.sender in
+      subst IsScreenshot (sym top.same) (screens (newest (holds_after r n s now)).number top.made)
+
   -- the change that is sent leads from the base to the newest
   change_leads : IsChange applied (holds_after r n s now) (down_to r n s now).change
-  change_leads =
-      let top = top_true (IsScreenOf size log cuts) (holds_after r n s now) offer_holds.truth.sender in
-      difference_leads (holds_after r n s now).base.state (newest (holds_after r n s now)).state (subst IsScreenshot (sym top.same) (screens (newest (holds_after r n s now)).number top.made))
+  change_leads = difference_leads (holds_after r n s now).base.state (newest (holds_after r n s now)).state newest_shown
 
   -- what is sent has a text
   pub down_is : IsDown (down_to r n s now)
@@ -332,6 +336,15 @@ cuts_hold w now spent shown h = go (makes w.server now) refl (or_left _ _ spent)
       lines = λ id. line-cut s.size s.log s.cuts (length s.log) (acts_of id s.log) (s.records id) (w.clients id) (h.lines id);
     }
     go false e f = record { numbers = h.numbers; cuts_low = h.cuts; screens = h.screens; lines = h.lines }
+
+-- the screen that a tick tells a record of is a screen
+pub newest_screen : (w : World) (now : ℕ) → is_tick_spent w.server now ≡ false → IsFaceScreen w.server now → Holds w → (id : ℕ)
+    → IsScreenshot (newest (holds_after (w.server.records id) (number_after w.server now) (screen_after w.server now) now)).state
+newest_screen w now spent shown h id =
+    let c = cuts_hold w now spent shown h in
+    let made : IsScreenOf w.server.size w.server.log (cuts_after w.server now) (number_after w.server now) (screen_after w.server now) = record { made = omega arith; same = refl } in
+    newest_shown w.server.size w.server.log (cuts_after w.server now) (acts_of id w.server.log) (w.server.records id) (w.clients id) (number_after w.server now) (screen_after w.server now) now
+    made c.screens c.numbers (c.lines id)
 
 pub keeps-tick : (w : World) (now : ℕ) → is_tick_spent w.server now ≡ false → IsFaceScreen w.server now → Holds w → Holds (after_server_tick w now)
 keeps-tick w now spent shown h =

@@ -11,7 +11,7 @@ use Rattle.roam_sync.specs.Links.{Link}
 use Rattle.roam_wire.specs.declared.datagrams.Kind.{Kind}
 use Rattle.roam_wire.specs.declared.datagrams.Kind.TheVariants.{ToClient, ToServer}
 use Rattle.roam_wire.specs.Cutting.{pieces_of}
-use Rattle.roam_wire.specs.Datagrams.{DatagramValue}
+use Rattle.roam_wire.specs.Datagrams.{DatagramValue, IsDatagram}
 use Rattle.roam_wire.specs.Gatherers.{Gathering, piece_of}
 use Rattle.roam_wire.specs.Arrivals.{IsPieceOf, GathersOf}
 use Rattle.roam_wire.specs.Instructions.{DownValue, IsDown, down_text, UpValue, IsUp, up_text}
@@ -93,3 +93,12 @@ pub record Holds (w : World) : Type 0 where
   pub pieces : (d : DatagramValue) → IsIn d w.sent → IsPiece d.kind d (w.server.records d.client) (w.clients d.client)
   pub unused : (id : ℕ) → (w.clients id).made ≡ false → w.clients id ≡ nobody
   pub slots : (slot id : ℕ) → w.slots slot ≡ Some id → (w.clients id).made ≡ true
+
+-- what is counted, and all datagrams that were sent
+pub record Counts (w : World) : Type 0 where
+  pub session : w.server.session < 2 ^ 64
+  pub starts : (id : ℕ) → (w.clients id).made ≡ true → id < 2 ^ 64
+  pub arrived : (id : ℕ) → (w.server.records id).known ≡ true → IsIn id w.server.arrival
+  pub ids : (id : ℕ) → IsIn id w.server.arrival → id < 2 ^ 64
+  pub few : length w.server.arrival ≤ 64
+  pub sent : (d : DatagramValue) → IsIn d w.sent → IsDatagram d
