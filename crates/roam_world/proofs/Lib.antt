@@ -14,3 +14,4 @@ pub mod OneRound
 pub mod Answering
 pub mod Replying
 pub mod Sendable
+pub mod Passing

@@ -10,6 +10,7 @@ pub mod Arrivals
 pub mod Sendings
 pub mod Worlds
 pub mod Steps
+pub mod Outputs
 pub mod Limits
 pub mod Laws
 pub mod Holds

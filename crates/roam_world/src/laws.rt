@@ -1,6 +1,7 @@
 //! What holds of every world that can be reached. Each law stands on a function with an empty body.
 ghost use Rattle.roam_world.specs.Laws.{Always, HasOneReply, HasReply, HoldAtMostEight, HoldTrueScreens, LeavesNoGap, NamesOneText, OffersNewest, OneRoundSuffices, RepliesToLatest, ShowsTrueScreens, TakesActsInOrder};
 ghost use Rattle.roam_world.specs.Limits.{Limits};
+ghost use Rattle.roam_world.specs.Outputs.{BeginsWithNoOutput, PassesEachByteOn};
 
 /// The headline. After every list of events with their replies, each client start that shows number n shows exactly the screen that the
 /// control functions and the layout commands give for the session's inputs up to the tick that made n; and the acts taken from each
@@ -39,4 +40,11 @@ pub fn one_round_suffices()
 pub fn each_event_is_answered()
     ensures reply { Always HasReply }
     ensures one { Always HasOneReply }
+{}
+
+/// Each byte for a pane's program, of a key or of what its terminal answers, goes to it once and in order: while the pane is there, those
+/// that were taken, followed by those that wait, are all of them. Where a pane begins, nothing waits.
+pub fn programs_get_each_byte()
+    ensures passes { PassesEachByteOn }
+    ensures begins { BeginsWithNoOutput }
 {}
