@@ -1,11 +1,10 @@
 -- From typing to taking: what is sent is a stretch of what was typed, and what is new in it follows what was taken.
-use Rattle.std.proofs.Common.{◌≡◌, ℕ, suc, zero, ◌+◌, ◌-◌, ◌<◌, ◌≤◌, ◌⊎◌, List, [], ◌∷◌, ◌++◌, length, take, drop, true, false, leb, ltb, refl, sym, ap, ◌∙◌, inl, inr, arith, append_assoc, length-append, length-drop, length-take}
-use Rattle.std.proofs.Math.Seq.{take-append_seam}
-use Rattle.std.proofs.lemmas.Bool.{cases_Bool, le-ltb, lt-ltb}
+use Rattle.std.proofs.Common.{◌≡◌, ℕ, suc, zero, ◌+◌, ◌-◌, ◌<◌, ◌≤◌, ◌⊎◌, List, [], ◌∷◌, ◌++◌, length, take, drop, leb, ltb, refl, sym, ap, ◌∙◌, inl, inr, arith, length-append, length-drop, length-take}
+use Rattle.std.proofs.lemmas.Bool.{cases_Bool}
 use Rattle.std.proofs.lemmas.Bool.Decides.{nat_tests}
 use Rattle.std.proofs.lemmas.List.{drop-append-le, drop-drop, drop_all, take-append-le, take-append-drop, length-take-le}
 use Rattle.roam_acts.specs.declared.acts.Act.{Act}
-use Rattle.roam_acts.specs.Senders.{Typing, typed, acked_to, last_number, HasTyped, IsStretch}
+use Rattle.roam_acts.specs.Senders.{Typing, typed, acked_to, HasTyped, IsStretch}
 use Rattle.roam_acts.specs.Takers.{fresh_of}
 use Rattle.roam_acts.proofs.Stretches.{follow}
 use Rattle.roam_world.specs.Lists.{IsFront}

@@ -1,37 +1,33 @@
 -- Each event is answered, and memory aside in one way.
-use Rattle.std.proofs.Common.{◌≡◌, ◌⊎◌, ℕ, ◌+◌, ◌<◌, ◌≤◌, ◌^◌, List, length, Option, Some, None, Bool, true, false, refl, sym, ap, ◌∙◌, subst, inl, inr, arith, cond}
-use Rattle.std.specs.Prelude.{nat_lt, nat_le, nat_eq, is_none}
+use Rattle.std.proofs.Common.{◌≡◌, ◌⊎◌, ℕ, ◌+◌, ◌<◌, ◌≤◌, List, length, Option, Some, None, Bool, true, false, refl, sym, ap, ◌∙◌, subst, inl, inr, arith}
+use Rattle.std.specs.Prelude.{nat_lt}
 use Rattle.std.proofs.lemmas.Bool.Decides.{nat_tests}
 use Rattle.roam_cells.specs.declared.faults.Fault.{Fault}
-use Rattle.roam_cells.specs.declared.faults.Fault.TheVariants.{OutOfMemory, NoPane, Busy, BadDatagram, BadChange, Spent}
+use Rattle.roam_cells.specs.declared.faults.Fault.TheVariants.{NoPane, Busy, BadDatagram, BadChange, Spent}
 use Rattle.roam_cells.specs.declared.faults.Reason.{Reason}
 use Rattle.roam_cells.specs.Screenshot.{Screenshot}
 use Rattle.roam_acts.specs.declared.acts.Act.{Act}
-use Rattle.roam_acts.specs.Senders.{IsFull, IsSpent, last_number}
+use Rattle.roam_acts.specs.Senders.{IsFull, IsSpent}
 use Rattle.roam_update.specs.Shots.{applied}
 use Rattle.roam_sync.specs.declared.receivers.Step.{Step}
 use Rattle.roam_sync.specs.declared.receivers.Step.TheVariants as step
-use Rattle.roam_sync.specs.Receivers.{Receiving, pairs, state_at, from_floor, step_for, Takes}
+use Rattle.roam_sync.specs.Receivers.{Receiving, pairs, state_at, step_for}
 use Rattle.roam_sync.specs.Lines.{Update, Delivers}
-use Rattle.roam_sync.proofs.TrueStates.{found_true}
-use Rattle.roam_sync.proofs.Rounds.{old_or_new}
 use Rattle.roam_wire.specs.Datagrams.{DatagramValue}
 use Rattle.roam_wire.specs.Gatherers.{Gathering}
-use Rattle.roam_wire.specs.Instructions.{DownValue, down_text, UpValue, up_text}
+use Rattle.roam_wire.specs.Instructions.{DownValue, UpValue}
 use Rattle.roam_wire.proofs.Texts.{one_down, one_up}
 use Rattle.roam_session.specs.Sessions.{Given, Drained}
-use Rattle.roam_session.specs.Refusals.{refuses_bytes, output_at, bytes_refused}
-use Rattle.roam_world.specs.Lists.{IsIn}
-use Rattle.roam_world.specs.Numbers.{IsScreenOf}
+use Rattle.roam_session.specs.Refusals.{refuses_bytes, output_at}
 use Rattle.roam_world.specs.Texts.{Address, SaysDown, SaysNoDown, SaysUp, SaysNoUp, update_in}
 use Rattle.roam_world.specs.Servers.{moment, after_input}
 use Rattle.roam_world.specs.Comings.{Coming, turned_away, noted, completed, coming, after_note, new_acts, after_acts, room_for}
-use Rattle.roam_world.specs.Ticks.{IsFaceScreen, sent_by, is_tick_spent}
+use Rattle.roam_world.specs.Ticks.{sent_by, is_tick_spent}
 use Rattle.roam_world.specs.Clients.{moment_of, after_typed}
-use Rattle.roam_world.specs.Arrivals.{Hearing, Arriving, sent_back, kept, fulfilled, arriving, after_piece, step_of, hearing_of, after_whole}
+use Rattle.roam_world.specs.Arrivals.{Arriving, sent_back, kept, fulfilled, arriving, after_piece, step_of, hearing_of, after_whole}
 use Rattle.roam_world.specs.Sendings.{is_client_due, is_client_spent, datagrams_from, after_quiet}
-use Rattle.roam_world.specs.Worlds.{World, Event, PaneBytes, Typed, ServerTick, ClientTick, ToServer, ToClient, Start, Drain, Reply, Done, Sent, Taken, Heard, Refused, Failed, Stopped, datagram_at, with_server, with_client, after_server_tick, after_client_sent, after_start}
-use Rattle.roam_world.specs.Steps.{PaneBytesStep, DrainStep, TypedStep, ServerTickStep, ClientTickStep, ToServerStep, ToClientStep, StartStep, refused, taken, no_pane, too_many, gone, empty_slot, full, spent, typed, no_memory, ticked, quiet, sent, not_sent, piece, unread, all_taken, no_room, no_memory_at_act, bad_change, whole, used, started, wstep}
+use Rattle.roam_world.specs.Worlds.{World, PaneBytes, Typed, ServerTick, ClientTick, ToServer, ToClient, Start, Drain, Reply, Done, Sent, Taken, Heard, Refused, Failed, Stopped, datagram_at, with_server, with_client, after_server_tick, after_client_sent, after_start}
+use Rattle.roam_world.specs.Steps.{PaneBytesStep, DrainStep, TypedStep, ServerTickStep, ClientTickStep, ToServerStep, ToClientStep, StartStep, refused, taken, no_pane, too_many, gone, empty_slot, full, spent, typed, no_memory, ticked, quiet, sent, not_sent, piece, unread, all_taken, no_room, no_memory_at_act, bad_change, whole, used, started}
 use Rattle.roam_world.specs.Laws.{IsAmple, HasOneReply}
 
 -- a reply and a world are these
@@ -217,11 +213,19 @@ by_server w k from now r v step m = go step
     go (piece d g x y e is) = at d (noted g) x y (e, is)
     go (unread d g text why x y z e is) = at d (completed g text) x y (inl (why, z, (e, is)))
     go (all_taken d g text u x y z a e is) =
-        at d (completed g text) x y (inr (u, z, subst (λ (b : Bool). ByRoom w from (moment w.server now) d g u b r v)
-        (sym (level (room_for w.server d u) (length (new_acts w.server d u)) a)) (e, is)))
+        at d (completed g text) x y (inr (
+          u,
+          z,
+          subst (λ (b : Bool). ByRoom w from (moment w.server now) d g u b r v)
+              (sym (level (room_for w.server d u) (length (new_acts w.server d u)) a)) (e, is),
+        ))
     go (no_room d g text u x y z a e is) =
-        at d (completed g text) x y (inr (u, z, subst (λ (b : Bool). ByRoom w from (moment w.server now) d g u b r v)
-        (sym (below (room_for w.server d u) (length (new_acts w.server d u)) a)) (e, is)))
+        at d (completed g text) x y (inr (
+          u,
+          z,
+          subst (λ (b : Bool). ByRoom w from (moment w.server now) d g u b r v)
+              (sym (below (room_for w.server d u) (length (new_acts w.server d u)) a)) (e, is),
+        ))
     go (no_memory_at_act d g text u n x y z le lt e is) = absurd (m.part n e)
     go (no_memory e is) = absurd (m.part 0 e)
 

@@ -1,24 +1,23 @@
 -- What a datagram of the list is to either end.
-use Rattle.std.proofs.Common.{◌≡◌, ℕ, ◌≤◌, max, List, length, drop, Option, Some, None, Bool, true, false, refl, sym, ap, ◌∙◌, subst, arith, cond}
+use Rattle.std.proofs.Common.{◌≡◌, ℕ, max, List, length, Option, Some, None, Bool, true, false, refl, sym, ◌∙◌, subst, arith, cond}
 use Rattle.std.specs.Prelude.{nat_eq, nat_le, not, ◌&&◌}
 use Rattle.std.proofs.lemmas.Bool.Decides.{nat_tests}
 use Rattle.roam_cells.specs.declared.faults.Fault.TheVariants.{BadChange, BadDatagram, OtherSession, OtherClient, ClientsFull}
 use Rattle.roam_cells.specs.declared.faults.Reason.TheVariants as reason
 use Rattle.roam_wire.specs.declared.datagrams.Kind.{Kind}
 use Rattle.roam_wire.specs.declared.datagrams.Kind.TheVariants.{ToClient, ToServer}
-use Rattle.roam_wire.specs.Cutting.{joined}
 use Rattle.roam_wire.specs.Datagrams.{DatagramValue}
 use Rattle.roam_wire.specs.Gatherers.{Piece, Gathering, Answer, Part, Old, Whole, gather, piece_of}
-use Rattle.roam_wire.specs.Arrivals.{IsPieceOf, GathersOf, GathersWell, IsCutText}
+use Rattle.roam_wire.specs.Arrivals.{IsPieceOf, GathersOf, GathersWell}
 use Rattle.roam_wire.specs.Instructions.{DownValue, IsDown, down_text, UpValue, IsUp, up_text}
 use Rattle.roam_wire.proofs.Arrive.{well}
 use Rattle.roam_wire.proofs.Texts.{one_down, one_up}
 use Rattle.roam_world.specs.Lists.{IsIn}
-use Rattle.roam_world.specs.Texts.{SaysDown, SaysNoDown, SaysUp, SaysNoUp}
+use Rattle.roam_world.specs.Texts.{SaysDown, SaysUp}
 use Rattle.roam_world.specs.Servers.{Record, Server}
 use Rattle.roam_world.specs.Comings.{is_to_server, Coming, turned_away, noted, completed, coming, coming_gathered}
 use Rattle.roam_world.specs.Clients.{Client}
-use Rattle.roam_world.specs.Arrivals.{Hearing, IsGap, Arriving, sent_back, kept, fulfilled, arriving, arriving_gathered}
+use Rattle.roam_world.specs.Arrivals.{IsGap, Arriving, sent_back, kept, fulfilled, arriving, arriving_gathered}
 use Rattle.roam_world.specs.Holds.{cuts_of, Gathers, IsPiece}
 use Rattle.roam_world.proofs.Pieces.{IsTextOf, piece_low, whole_is}
 

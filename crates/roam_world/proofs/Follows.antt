@@ -1,14 +1,13 @@
 -- What follows from what holds.
-use Rattle.std.proofs.Common.{◌≡◌, ℕ, ◌+◌, ◌<◌, ◌≤◌, ◌⊎◌, max, List, [], ◌∷◌, ◌++◌, length, drop, Option, Some, None, Bool, true, false, refl, sym, ap, ◌∙◌, subst, inl, inr, arith, cond, length-append}
+use Rattle.std.proofs.Common.{◌≡◌, ℕ, ◌<◌, ◌≤◌, ◌⊎◌, List, [], ◌∷◌, ◌++◌, length, Some, None, Bool, true, false, refl, sym, ap, ◌∙◌, subst, inl, inr, arith, cond, length-append}
 use Rattle.std.specs.Prelude.{nat_lt, slice_get, ◌&&◌}
 use Rattle.std.proofs.lemmas.Bool.Decides.{nat_tests}
 use Rattle.roam_cells.specs.declared.faults.Fault.TheVariants.{BadChange}
 use Rattle.roam_cells.specs.Screenshot.{Screenshot}
 use Rattle.roam_update.specs.Shots.{applied}
-use Rattle.roam_sync.specs.declared.receivers.Step.{Step}
 use Rattle.roam_sync.specs.declared.receivers.Step.TheVariants as step
-use Rattle.roam_sync.specs.Senders.{Sending, newest, count, offered}
-use Rattle.roam_sync.specs.Receivers.{pairs, state_at, step_for}
+use Rattle.roam_sync.specs.Senders.{newest, count, offered}
+use Rattle.roam_sync.specs.Receivers.{pairs, state_at}
 use Rattle.roam_sync.proofs.Sending.{newest_of_more}
 use Rattle.roam_sync.proofs.TrueStates.{found_true}
 use Rattle.roam_sync.proofs.Rounds.{old_or_new}
@@ -18,21 +17,20 @@ use Rattle.roam_wire.specs.Datagrams.{DatagramValue}
 use Rattle.roam_wire.specs.Gatherers.{piece_of}
 use Rattle.roam_wire.specs.Arrivals.{IsPieceOf}
 use Rattle.roam_wire.specs.Instructions.{DownValue, down_text, up_text}
-use Rattle.roam_world.specs.Numbers.{first_screen, screen, IsScreenOf, acts_of}
-use Rattle.roam_world.specs.Texts.{update_in, SaysDown}
+use Rattle.roam_world.specs.Numbers.{IsScreenOf, acts_of}
+use Rattle.roam_world.specs.Texts.{update_in}
 use Rattle.roam_world.specs.Servers.{Note, Record, moment}
-use Rattle.roam_world.specs.Ticks.{Parcel, makes, is_live, is_offered, holds_after, sends, after_sent, sent_by, number_after, screen_after}
-use Rattle.roam_world.specs.Clients.{shown_number}
+use Rattle.roam_world.specs.Ticks.{makes, is_live, holds_after, sends, after_sent, number_after, screen_after}
 use Rattle.roam_world.specs.Arrivals.{IsGap, hearing_of, step_of}
-use Rattle.roam_world.specs.Worlds.{World, ToClient as ToClientEvent, Reply, Heard, Failed}
+use Rattle.roam_world.specs.Worlds.{World, Heard, Failed}
 use Rattle.roam_world.specs.Steps.{ToClientStep, refused, empty_slot, no_memory, not_sent, piece, unread, bad_change, whole}
 use Rattle.roam_world.specs.Limits.{Limits}
-use Rattle.roam_world.specs.Laws.{ShowsTrueScreens, HoldTrueScreens, HoldAtMostEight, LeavesNoGap, TakesActsInOrder, Headline, NamesOneText, RepliesToLatest, OffersNewest}
-use Rattle.roam_world.specs.Holds.{cuts_of, Tells, Acks, IsPiece, LineOf, Holds, Counts}
-use Rattle.roam_world.proofs.Screens.{one_screen, difference_leads}
+use Rattle.roam_world.specs.Laws.{HoldTrueScreens, HoldAtMostEight, LeavesNoGap, Headline, NamesOneText, RepliesToLatest, OffersNewest}
+use Rattle.roam_world.specs.Holds.{cuts_of, Tells, Acks, IsPiece, Holds, Counts}
+use Rattle.roam_world.proofs.Screens.{one_screen}
 use Rattle.roam_world.proofs.Acting.{front_is}
 use Rattle.roam_world.proofs.Comes.{ArrivesWell}
-use Rattle.roam_world.proofs.Keeps.{Line, newest_true}
+use Rattle.roam_world.proofs.Keeps.{newest_true}
 use Rattle.roam_world.proofs.ServerKeeps.{top_true, in_tick}
 use Rattle.roam_world.proofs.Runs.{arrives, arrived}
 

@@ -1,8 +1,8 @@
 -- All pieces of one instruction come, each at least once, in any order: then it is whole.
-use Rattle.std.proofs.Common.{◌≡◌, ℕ, zero, suc, ◌+◌, ◌<◌, ◌≤◌, ◌⊎◌, List, [], ◌∷◌, length, get_or, set, replicate, Option, Some, None, Bool, true, false, refl, sym, ap, ◌∙◌, subst, inl, inr, arith, cond}
-use Rattle.std.specs.Prelude.{slice_get, is_some, nat_eq, nat_lt, nat_le, not, ◌&&◌, ◌||◌}
+use Rattle.std.proofs.Common.{◌≡◌, ℕ, zero, suc, ◌<◌, ◌≤◌, ◌⊎◌, List, [], ◌∷◌, length, get_or, set, replicate, Option, Some, None, Bool, true, false, refl, sym, ap, ◌∙◌, subst, inl, inr, arith, cond}
+use Rattle.std.specs.Prelude.{is_some, nat_eq, nat_lt, nat_le, not, ◌&&◌, ◌||◌}
 use Rattle.std.proofs.lemmas.Bool.Decides.{nat_tests}
-use Rattle.std.proofs.lemmas.List.{length-replicate, length-set}
+use Rattle.std.proofs.lemmas.List.{length-replicate}
 use Rattle.roam_wire.specs.Gatherers.{Piece, Gathering, Answer, Part, Old, Whole, gather, with_piece, answer_in}
 use Rattle.roam_wire.specs.Pieces.{all_there, text_of}
 use Rattle.roam_wire.specs.Arrivals.{IsPieceOf, GathersOf, GathersWell, after}

@@ -1,13 +1,13 @@
 -- Each event at a client start, and each input, keeps what holds.
-use Rattle.std.proofs.Common.{◌≡◌, ℕ, ◌+◌, ◌<◌, ◌≤◌, ◌⊎◌, ◌^◌, List, [], ◌∷◌, ◌++◌, length, take, drop, All, Option, Some, None, Bool, true, false, refl, sym, ap, ◌∙◌, subst, inl, inr, arith, cond, append-nil, length-append, length-drop, length-take}
-use Rattle.std.specs.Prelude.{nat_le, nat_lt, nat_eq, ◌||◌}
+use Rattle.std.proofs.Common.{◌≡◌, ℕ, ◌+◌, ◌<◌, ◌≤◌, ◌⊎◌, ◌^◌, List, [], ◌∷◌, ◌++◌, length, All, Option, Some, Bool, true, false, refl, sym, ap, ◌∙◌, subst, inl, inr, arith, append-nil, length-append, length-drop, length-take}
+use Rattle.std.specs.Prelude.{◌||◌}
 use Rattle.std.proofs.lemmas.Bool.Decides.{nat_tests}
 use Rattle.std.proofs.lemmas.List.{take-append-le}
 use Rattle.std.proofs.lemmas.List.Elements.{All-push, All-pop, All-take, All-drop}
 use Rattle.roam_cells.specs.Screenshot.{Screenshot}
 use Rattle.roam_acts.specs.declared.acts.Act.{Act}
 use Rattle.roam_acts.specs.Acts.{IsAct}
-use Rattle.roam_acts.specs.Senders.{IsFull, IsSpent, IsStretch, HasTyped}
+use Rattle.roam_acts.specs.Senders.{IsFull, IsSpent, IsStretch}
 use Rattle.roam_update.specs.Shots.{applied}
 use Rattle.roam_sync.specs.declared.receivers.Pair.{Pair}
 use Rattle.roam_sync.specs.declared.receivers.Step.TheVariants as step
@@ -16,15 +16,15 @@ use Rattle.roam_sync.specs.Receivers.{Receiving, pairs, step_for}
 use Rattle.roam_sync.specs.Lines.{Update, Hears, Delivers}
 use Rattle.roam_sync.specs.TrueLines.{HasTrueStates, TrueLine}
 use Rattle.roam_sync.specs.Links.{Link}
-use Rattle.roam_sync.proofs.TrueStates.{IsHad, true_still, true_heard}
-use Rattle.roam_sync.proofs.Steps.{link_still, link_answered, link_heard}
+use Rattle.roam_sync.proofs.TrueStates.{true_still, true_heard}
+use Rattle.roam_sync.proofs.Steps.{link_answered, link_heard}
 use Rattle.roam_sync.proofs.Rounds.{old_or_new}
 use Rattle.roam_wire.specs.declared.datagrams.Kind.{Kind}
 use Rattle.roam_wire.specs.declared.datagrams.Kind.TheVariants.{ToClient, ToServer}
 use Rattle.roam_wire.specs.Datagrams.{DatagramValue}
 use Rattle.roam_wire.specs.Gatherers.{Gathering, piece_of}
 use Rattle.roam_wire.specs.Arrivals.{IsPieceOf}
-use Rattle.roam_wire.specs.Instructions.{DownValue, IsDown, down_text, UpValue, IsUp, up_text}
+use Rattle.roam_wire.specs.Instructions.{DownValue, down_text, UpValue, IsUp, up_text}
 use Rattle.roam_session.specs.Sessions.{SessionSize, Entry}
 use Rattle.roam_world.specs.Lists.{IsIn, put}
 use Rattle.roam_world.specs.Moments.{is_spent}

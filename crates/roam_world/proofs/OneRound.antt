@@ -1,5 +1,5 @@
 -- One round: a tick sends to a start, just those datagrams come, each at least once, in any order.
-use Rattle.std.proofs.Common.{◌≡◌, ℕ, zero, suc, ◌+◌, ◌<◌, ◌≤◌, List, [], ◌∷◌, ◌++◌, length, Option, Some, None, Bool, true, false, refl, sym, ap, ◌∙◌, subst, inl, inr, arith, cond}
+use Rattle.std.proofs.Common.{◌≡◌, ℕ, ◌+◌, ◌<◌, List, [], ◌∷◌, length, Option, Some, Bool, true, false, refl, sym, ap, ◌∙◌, subst, inl, inr, arith, cond}
 use Rattle.std.specs.Prelude.{map}
 use Rattle.std.specs.List.{enumerate_from}
 use Rattle.roam_cells.specs.declared.faults.Fault.TheVariants.{OutOfMemory}
@@ -9,14 +9,14 @@ use Rattle.roam_sync.proofs.Ends.{marked_newest}
 use Rattle.roam_wire.specs.declared.datagrams.Kind.TheVariants.{ToClient as ToClientKind}
 use Rattle.roam_wire.specs.Cutting.{pieces_of}
 use Rattle.roam_wire.specs.Datagrams.{DatagramValue}
-use Rattle.roam_wire.specs.Gatherers.{Piece, Gathering, gather, piece_of}
+use Rattle.roam_wire.specs.Gatherers.{Piece, Gathering, piece_of}
 use Rattle.roam_wire.specs.Pieces.{all_there}
 use Rattle.roam_wire.specs.Arrivals.{IsPieceOf, GathersOf}
 use Rattle.roam_wire.specs.Instructions.{DownValue, down_text}
 use Rattle.roam_world.specs.Lists.{IsIn}
 use Rattle.roam_world.specs.Texts.{datagram_with, datagrams_of}
 use Rattle.roam_world.specs.Servers.{Record, Server, moment}
-use Rattle.roam_world.specs.Ticks.{IsFaceScreen, number_after, screen_after, holds_after, sends, down_to, pieces_to, after_sent, ticked, datagrams_to, Parcel, parcel, parcels_to, sent_by, is_tick_spent, after_tick}
+use Rattle.roam_world.specs.Ticks.{IsFaceScreen, number_after, screen_after, holds_after, sends, down_to, pieces_to, after_sent, ticked, datagrams_to, Parcel, parcel, parcels_to, sent_by, is_tick_spent}
 use Rattle.roam_world.specs.Worlds.{World, ToClient, Reply, Failed, datagram_at, after_server_tick}
 use Rattle.roam_world.specs.Steps.{ServerTickStep, spent, ticked as did_tick, no_memory, Run}
 use Rattle.roam_world.specs.Laws.{deliveries, IsFresh, DeliversAll, OneRoundSuffices}
@@ -27,7 +27,7 @@ use Rattle.roam_world.proofs.ServerKeeps.{to_record, keeps-tick}
 use Rattle.roam_world.proofs.Runs.{keeps-step}
 use Rattle.roam_world.proofs.Gathered.{gathered_all, AllOf, Comes, all_gathered_anew}
 use Rattle.roam_world.proofs.Places.{map_here, flat_here, enumerate_here, some_at, number_behind, late, no_later}
-use Rattle.roam_world.proofs.Delivering.{Shows, IsOne, IsTop, Delivered, some_same, deliver}
+use Rattle.roam_world.proofs.Delivering.{Shows, IsOne, IsTop, some_same, deliver}
 
 -- ---- the deliveries
 

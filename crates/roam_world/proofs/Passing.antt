@@ -1,6 +1,6 @@
 -- Each byte for a pane's program goes to it once, and in order.
-use Rattle.std.proofs.Common.{◌≡◌, ℕ, List, [], ◌∷◌, ◌++◌, take, drop, Option, Some, None, Bool, true, false, refl, sym, ap, ◌∙◌, subst, inl, inr, arith, cond, append_assoc, append-nil}
-use Rattle.std.specs.Prelude.{is_some, nat_eq, ◌&&◌}
+use Rattle.std.proofs.Common.{◌≡◌, ℕ, List, [], ◌∷◌, ◌++◌, Option, Some, None, Bool, true, false, refl, sym, ap, ◌∙◌, subst, inl, inr, arith, cond, append_assoc, append-nil}
+use Rattle.std.specs.Prelude.{is_some, nat_eq}
 use Rattle.std.specs.Option.{option_map}
 use Rattle.std.proofs.lemmas.Bool.{cases_Bool}
 use Rattle.std.proofs.lemmas.Bool.Decides.{nat_tests}
@@ -9,8 +9,8 @@ use Rattle.roam_acts.specs.declared.acts.Act.{Act}
 use Rattle.roam_acts.specs.declared.keys.Key.{Key}
 use Rattle.roam_layout.specs.declared.rects.Rect.{Rect}
 use Rattle.roam_layout.specs.Rects.{rect_in}
-use Rattle.roam_layout.specs.Layouts.{Plan, Outcome, Laid, Refused, start, laid, panes}
-use Rattle.roam_session.specs.Panes.{Pane, begun, is_same_size, moved, given, fed, keyed, drained}
+use Rattle.roam_layout.specs.Layouts.{Outcome, Laid, Refused, start, laid, panes}
+use Rattle.roam_session.specs.Panes.{Pane, is_same_size, moved, given, fed, keyed, drained}
 use Rattle.roam_session.specs.Sessions.{Entry, Given, Did, Drained, SessionSize, SessionState, at_pane, laid_out, key_in, acted, after_entry, first_state, session}
 use Rattle.roam_session.specs.Refusals.{waiting_in, output_at}
 use Rattle.roam_session.proofs.Logs.{session-append}

@@ -1,40 +1,38 @@
 -- Each event has a reply that doesn't tell of memory.
 use Rattle.std.proofs.Common.{◌≡◌, ◌⊎◌, ℕ, ◌+◌, ◌<◌, ◌≤◌, ◌^◌, List, length, Option, Some, None, Bool, true, false, refl, sym, ap, ◌∙◌, subst, inl, inr, arith, cond}
 use Rattle.std.specs.Prelude.{nat_lt, nat_le, nat_eq, is_none, not, ◌&&◌}
-use Rattle.std.proofs.lemmas.Bool.Decides.{nat_tests}
 use Rattle.roam_cells.specs.declared.faults.Fault.{Fault}
-use Rattle.roam_cells.specs.declared.faults.Fault.TheVariants.{OutOfMemory, NoPane, Busy, TooLong, BadDatagram, OtherSession, OtherClient, ClientsFull, BadChange, Spent}
+use Rattle.roam_cells.specs.declared.faults.Fault.TheVariants.{OutOfMemory, NoPane, Busy, TooLong, BadDatagram, OtherSession, OtherClient, ClientsFull, Spent}
 use Rattle.roam_cells.specs.declared.faults.Reason.TheVariants as reason
 use Rattle.roam_cells.specs.Screenshot.{Screenshot}
 use Rattle.roam_acts.specs.declared.acts.Act.{Act}
-use Rattle.roam_acts.specs.Senders.{IsFull, IsSpent, last_number}
+use Rattle.roam_acts.specs.Senders.{last_number}
 use Rattle.roam_update.specs.Shots.{applied}
 use Rattle.roam_sync.specs.declared.receivers.Step.{Step}
 use Rattle.roam_sync.specs.declared.receivers.Step.TheVariants as step
-use Rattle.roam_sync.specs.Receivers.{Receiving, pairs, state_at, from_floor, step_for, Takes}
-use Rattle.roam_sync.specs.Lines.{Update, Delivers}
+use Rattle.roam_sync.specs.Receivers.{Receiving, pairs, state_at, from_floor}
+use Rattle.roam_sync.specs.Lines.{Delivers}
 use Rattle.roam_sync.specs.TrueLines.{LeadsTruly}
 use Rattle.roam_sync.proofs.TrueStates.{found_true}
 use Rattle.roam_wire.specs.Datagrams.{DatagramValue}
 use Rattle.roam_wire.specs.Gatherers.{Gathering, Answer, Part, Old, Whole, gather, piece_of}
-use Rattle.roam_wire.specs.Instructions.{DownValue, down_text, UpValue, up_text}
+use Rattle.roam_wire.specs.Instructions.{DownValue, UpValue}
 use Rattle.roam_session.specs.Sessions.{Given, Drained}
 use Rattle.roam_session.specs.Refusals.{refuses_bytes, output_at, bytes_refused}
 use Rattle.roam_world.specs.Lists.{IsIn}
 use Rattle.roam_world.specs.Numbers.{IsScreenOf}
-use Rattle.roam_world.specs.Texts.{Address, SaysDown, SaysUp, update_in}
+use Rattle.roam_world.specs.Texts.{Address, SaysUp, update_in}
 use Rattle.roam_world.specs.Servers.{Server, moment, after_input}
 use Rattle.roam_world.specs.Comings.{is_to_server, Coming, turned_away, noted, completed, coming, coming_gathered, after_note, new_acts, after_acts, room_for}
 use Rattle.roam_world.specs.Ticks.{IsFaceScreen, sent_by, is_tick_spent}
 use Rattle.roam_world.specs.Clients.{Client, moment_of, after_typed}
 use Rattle.roam_world.specs.Arrivals.{Hearing, Arriving, sent_back, kept, fulfilled, arriving, arriving_gathered, after_piece, step_of, hearing_of, after_whole}
 use Rattle.roam_world.specs.Sendings.{is_client_due, is_client_spent, datagrams_from, after_quiet}
-use Rattle.roam_world.specs.Worlds.{World, Event, PaneBytes, Typed, ServerTick, ClientTick, ToServer, ToClient, Start, Drain, Reply, Done, Sent, Taken, Heard, Refused, Failed, Stopped, datagram_at, with_server, with_client, after_server_tick, after_client_sent, after_start}
-use Rattle.roam_world.specs.Steps.{refused, taken, no_pane, too_many, gone, empty_slot, full, spent, typed, ticked, quiet, sent, not_sent, piece, all_taken, no_room, whole, used, started, wstep}
-use Rattle.roam_world.specs.Laws.{IsAmple, IsAnswered, IsAnswerable, HasReply}
-use Rattle.roam_world.specs.Holds.{Tells, Holds}
+use Rattle.roam_world.specs.Worlds.{World, PaneBytes, Typed, ServerTick, ClientTick, ToServer, ToClient, Start, Drain, Done, Sent, Taken, Heard, Refused, Failed, Stopped, datagram_at, with_server, with_client, after_server_tick, after_client_sent, after_start}
+use Rattle.roam_world.specs.Steps.{refused, taken, no_pane, too_many, gone, empty_slot, full, spent, typed, ticked, quiet, sent, not_sent, piece, all_taken, no_room, whole, used, started}
+use Rattle.roam_world.specs.Laws.{IsAmple, IsAnswered, HasReply}
+use Rattle.roam_world.specs.Holds.{Holds}
 use Rattle.roam_world.proofs.Screens.{one_screen}
-use Rattle.roam_world.proofs.Pieces.{IsTextOf}
 use Rattle.roam_world.proofs.Comes.{ComesWell, ArrivesWell}
 use Rattle.roam_world.proofs.Runs.{comes, arrives, reach_low}
 

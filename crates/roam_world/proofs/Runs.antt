@@ -1,11 +1,11 @@
 -- Whole runs: what holds at first and after each step holds in every world that can be reached.
-use Rattle.std.proofs.Common.{◌≡◌, ℕ, suc, ◌-◌, ◌≤◌, ◌^◌, List, [], ◌∷◌, ◌++◌, length, All, Some, None, Bool, true, false, refl, sym, ap, ◌∙◌, subst, arith, cond}
+use Rattle.std.proofs.Common.{◌≡◌, ℕ, suc, ◌-◌, ◌≤◌, List, [], ◌∷◌, ◌++◌, length, Some, None, Bool, true, false, refl, sym, subst, arith, cond}
 use Rattle.std.specs.Prelude.{nat_eq, slice_get}
 use Rattle.std.proofs.lemmas.List.Elements.{All-nil}
 use Rattle.roam_acts.specs.declared.acts.Act.{Act}
 use Rattle.roam_acts.specs.Acts.{IsAct}
 use Rattle.roam_update.specs.Shots.{applied}
-use Rattle.roam_cells.specs.Screenshot.{IsScreenshot, blank_screenshot}
+use Rattle.roam_cells.specs.Screenshot.{IsScreenshot}
 use Rattle.roam_cells.proofs.Screens.{blank_is_screenshot}
 use Rattle.roam_sync.proofs.TrueStates.{true_at_first}
 use Rattle.roam_sync.proofs.Steps.{link_at_first}
@@ -14,7 +14,7 @@ use Rattle.roam_wire.specs.Instructions.{DownValue, down_text, UpValue, up_text}
 use Rattle.roam_session.specs.Sessions.{SessionSize, Entry, Given, Did, Drained}
 use Rattle.roam_session.specs.Refusals.{stops}
 use Rattle.roam_world.specs.Lists.{IsIn}
-use Rattle.roam_world.specs.Numbers.{first_screen, screen, IsScreenOf, acts_of}
+use Rattle.roam_world.specs.Numbers.{first_screen, screen, IsScreenOf}
 use Rattle.roam_world.specs.Texts.{Address, SaysDown, SaysUp}
 use Rattle.roam_world.specs.Servers.{new_server, no_record, moment}
 use Rattle.roam_world.specs.Comings.{coming, new_acts, room_for, reach}
@@ -22,7 +22,7 @@ use Rattle.roam_world.specs.Clients.{nobody, moment_of}
 use Rattle.roam_world.specs.Arrivals.{arriving}
 use Rattle.roam_world.specs.Worlds.{World, new_world, Event, PaneBytes, Typed, ServerTick, ClientTick, ToServer, ToClient, Start, Drain, Reply, datagram_at}
 use Rattle.roam_world.specs.Steps.{PaneBytesStep, DrainStep, TypedStep, ServerTickStep, ClientTickStep, ToServerStep, ToClientStep, StartStep, refused, taken, no_pane, too_many, gone, empty_slot, full, spent, typed, no_memory, ticked, quiet, sent, not_sent, piece, unread, all_taken, no_room, no_memory_at_act, bad_change, whole, used, started, wstep, Run}
-use Rattle.roam_world.specs.Laws.{IsEvent, AreEvents, Reaches, Always}
+use Rattle.roam_world.specs.Laws.{IsEvent, AreEvents, Always}
 use Rattle.roam_world.specs.Holds.{Tells, Acks, IsPiece, Holds}
 use Rattle.roam_world.proofs.Members.{IsIn-slice_get}
 use Rattle.roam_world.proofs.Screens.{first_is}

@@ -1,5 +1,5 @@
 -- The screen of a number stays what it was, and each is a screen.
-use Rattle.std.proofs.Common.{◌≡◌, ℕ, ◌-◌, ◌<◌, ◌≤◌, ◌⊎◌, List, [], ◌∷◌, ◌++◌, length, Some, Option, false, refl, sym, ap, subst, ◌∙◌, inl, inr, arith, length-append, take}
+use Rattle.std.proofs.Common.{◌≡◌, ℕ, ◌-◌, ◌<◌, ◌≤◌, ◌⊎◌, List, [], ◌∷◌, ◌++◌, length, Some, false, refl, sym, subst, ◌∙◌, inl, inr, arith, length-append}
 use Rattle.std.specs.Prelude.{nat_eq, slice_index, map}
 use Rattle.std.proofs.lemmas.Bool.Decides.{nat_tests}
 use Rattle.std.proofs.lemmas.Grind.{common_steps}
@@ -12,7 +12,7 @@ use Rattle.roam_update.specs.Shots.{applied, difference}
 use Rattle.roam_update.proofs.ChangeAgain.{leads}
 use Rattle.roam_session.specs.Sessions.{SessionSize, Entry, Given, Did, Drained}
 use Rattle.roam_session.specs.Faces.{face}
-use Rattle.roam_world.specs.Numbers.{first_screen, cut, screen, IsScreenOf, acts_of}
+use Rattle.roam_world.specs.Numbers.{first_screen, screen, IsScreenOf, acts_of}
 use Rattle.roam_world.specs.Holds.{AreCuts, AreScreens}
 
 pub one_screen : (size : SessionSize) (log : List Entry) (cuts : List ℕ) (n : ℕ) (s t : Screenshot)

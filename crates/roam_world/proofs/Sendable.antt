@@ -1,11 +1,11 @@
 -- Each datagram that was sent has a text, and as many starts are known as may be.
-use Rattle.std.proofs.Common.{◌≡◌, ◌⊎◌, ℕ, zero, suc, ◌+◌, ◌*◌, ◌<◌, ◌≤◌, ◌^◌, List, [], ◌∷◌, ◌++◌, length, get_or, map, Option, Some, None, Bool, true, false, refl, sym, ap, ◌∙◌, subst, inl, inr, arith, cond, length-append, length-take}
+use Rattle.std.proofs.Common.{◌≡◌, ◌⊎◌, ℕ, zero, suc, ◌+◌, ◌*◌, ◌<◌, ◌≤◌, ◌^◌, List, [], ◌∷◌, ◌++◌, length, get_or, map, Some, Bool, true, false, refl, sym, ap, ◌∙◌, subst, inl, inr, arith, cond, length-append, length-take}
 use Rattle.std.specs.Prelude.{slice_get, nat_le, nat_eq, not, ◌&&◌, ◌||◌}
-use Rattle.std.specs.List.{enumerate_from, list_any, flat_map}
+use Rattle.std.specs.List.{enumerate_from, list_any}
 use Rattle.std.proofs.lemmas.Bool.Decides.{nat_tests}
 use Rattle.roam_cells.specs.declared.faults.Fault.TheVariants.{BadDatagram, OtherSession, ClientsFull}
 use Rattle.roam_cells.specs.declared.faults.Reason.TheVariants as reason
-use Rattle.roam_cells.specs.Screenshot.{Screenshot, IsScreenshot}
+use Rattle.roam_cells.specs.Screenshot.{Screenshot}
 use Rattle.roam_acts.specs.declared.acts.Act.{Act}
 use Rattle.roam_acts.specs.declared.acts.Act.TheVariants.{SplitRight, SplitDown, Close, Focus, Next, Grow, Size, View}
 use Rattle.roam_acts.specs.declared.acts.Act.TheVariants as act
@@ -21,17 +21,16 @@ use Rattle.roam_wire.specs.Datagrams.{DatagramValue, IsDatagram}
 use Rattle.roam_wire.specs.Gatherers.{gather, piece_of}
 use Rattle.roam_wire.specs.Instructions.{DownValue, down_text, UpValue, up_text}
 use Rattle.roam_wire.proofs.Cuts.{sendable}
-use Rattle.roam_session.specs.Sessions.{SessionSize, Entry}
+use Rattle.roam_session.specs.Sessions.{SessionSize}
 use Rattle.roam_world.specs.Lists.{IsIn, put}
 use Rattle.roam_world.specs.Moments.{is_spent}
-use Rattle.roam_world.specs.Numbers.{IsScreenOf, acts_of}
-use Rattle.roam_world.specs.Texts.{Address, datagram_with, datagrams_of}
+use Rattle.roam_world.specs.Texts.{datagram_with, datagrams_of}
 use Rattle.roam_world.specs.Servers.{Record, Server, new_server, no_record, moment}
-use Rattle.roam_world.specs.Comings.{is_to_server, Coming, turned_away, noted, completed, coming, coming_gathered, arrival_with, after_note, after_acts}
-use Rattle.roam_world.specs.Ticks.{makes, number_after, screen_after, IsFaceScreen, holds_after, sends, down_to, pieces_to, after_sent, ticked, datagrams_to, is_record_spent, Parcel, parcel, parcels_to, sent_by, is_tick_spent, after_tick}
+use Rattle.roam_world.specs.Comings.{is_to_server, Coming, turned_away, noted, completed, coming, coming_gathered, arrival_with}
+use Rattle.roam_world.specs.Ticks.{makes, number_after, screen_after, IsFaceScreen, holds_after, sends, down_to, pieces_to, after_sent, ticked, datagrams_to, is_record_spent, Parcel, parcel, parcels_to, sent_by, is_tick_spent}
 use Rattle.roam_world.specs.Clients.{Client, nobody, new_client, moment_of}
 use Rattle.roam_world.specs.Sendings.{up_from, pieces_from, datagrams_from, is_client_spent, after_sending}
-use Rattle.roam_world.specs.Worlds.{World, new_world, Event, PaneBytes, Typed, ServerTick, ClientTick, ToServer, ToClient, Start, Drain, Reply, with_client, after_server_tick, after_client_sent, after_start}
+use Rattle.roam_world.specs.Worlds.{World, new_world, Event, PaneBytes, Typed, ServerTick, ClientTick, ToServer, ToClient, Start, Drain, Reply, with_client}
 use Rattle.roam_world.specs.Steps.{refused, taken, no_pane, too_many, gone, empty_slot, full, spent, typed, no_memory, ticked as did_tick, quiet, sent, not_sent, piece, unread, all_taken, no_room, no_memory_at_act, bad_change, whole, used, started, wstep, Run}
 use Rattle.roam_world.specs.Laws.{IsEvent, AreEvents, Always}
 use Rattle.roam_world.specs.Holds.{Holds, Counts}

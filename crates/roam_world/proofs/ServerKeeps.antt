@@ -1,22 +1,20 @@
 -- Each event at the server keeps what holds.
 use Rattle.std.proofs.Common.{◌≡◌, ℕ, ◌+◌, ◌<◌, ◌≤◌, ◌⊎◌, ◌^◌, max, List, [], ◌∷◌, ◌++◌, length, take, map, Bool, true, false, refl, sym, ap, ◌∙◌, subst, inl, inr, arith, cond, append-nil, length-append}
-use Rattle.std.specs.Prelude.{nat_eq, nat_lt, ◌&&◌, ◌||◌}
-use Rattle.std.proofs.lemmas.Bool.{cases_Bool}
+use Rattle.std.specs.Prelude.{nat_eq, nat_lt, ◌&&◌}
 use Rattle.std.proofs.lemmas.Bool.Decides.{nat_tests}
 use Rattle.std.proofs.lemmas.List.{length-take-le}
 use Rattle.std.proofs.lemmas.List.Elements.{All-head, All-tail}
 use Rattle.roam_cells.specs.Screenshot.{Screenshot, IsScreenshot}
 use Rattle.roam_acts.specs.declared.acts.Act.{Act}
-use Rattle.roam_acts.specs.Takers.{fresh_of}
-use Rattle.roam_update.specs.Shots.{applied, difference}
+use Rattle.roam_update.specs.Shots.{applied}
 use Rattle.roam_sync.specs.declared.senders.Held.{Held}
-use Rattle.roam_sync.specs.Senders.{Sending, newest, last_of, count, offered, acked, sent_at}
+use Rattle.roam_sync.specs.Senders.{Sending, newest, last_of, count, offered}
 use Rattle.roam_sync.specs.Lines.{Update, update_of, IsChange}
 use Rattle.roam_sync.specs.TrueLines.{HoldsTrueStates, TrueLine}
 use Rattle.roam_sync.specs.Links.{Link}
 use Rattle.roam_sync.proofs.Ends.{base_least, last_among}
 use Rattle.roam_sync.proofs.TrueStates.{true_still, true_offered, true_acked, true_sent}
-use Rattle.roam_sync.proofs.Steps.{link_still, link_offered, link_acked, link_sent}
+use Rattle.roam_sync.proofs.Steps.{link_offered, link_acked, link_sent}
 use Rattle.roam_wire.specs.declared.datagrams.Kind.{Kind}
 use Rattle.roam_wire.specs.declared.datagrams.Kind.TheVariants.{ToClient, ToServer}
 use Rattle.roam_wire.specs.Datagrams.{DatagramValue}
@@ -24,13 +22,12 @@ use Rattle.roam_wire.specs.Gatherers.{Gathering, piece_of}
 use Rattle.roam_wire.specs.Arrivals.{IsPieceOf}
 use Rattle.roam_wire.specs.Instructions.{DownValue, IsDown, down_text, UpValue, up_text}
 use Rattle.roam_session.specs.Sessions.{SessionSize, Entry, Did}
-use Rattle.roam_session.specs.Faces.{face}
 use Rattle.roam_world.specs.Lists.{IsIn}
-use Rattle.roam_world.specs.Numbers.{screen, IsScreenOf, acts_of}
+use Rattle.roam_world.specs.Numbers.{IsScreenOf, acts_of}
 use Rattle.roam_world.specs.Texts.{Address, update_in, datagrams_of}
 use Rattle.roam_world.specs.Servers.{Note, Record, Server}
 use Rattle.roam_world.specs.Comings.{heard_from, told_by, after_note, new_acts, after_acts}
-use Rattle.roam_world.specs.Ticks.{makes, cuts_after, number_after, screen_after, IsFaceScreen, is_live, is_offered, holds_after, sends, down_from, down_to, pieces_to, after_sent, ticked, datagrams_to, Parcel, parcel, parcels_to, sent_by, is_tick_spent, after_tick}
+use Rattle.roam_world.specs.Ticks.{makes, cuts_after, number_after, screen_after, IsFaceScreen, is_live, is_offered, holds_after, sends, down_to, pieces_to, after_sent, ticked, datagrams_to, Parcel, parcel, parcels_to, sent_by, is_tick_spent}
 use Rattle.roam_world.specs.Clients.{Client}
 use Rattle.roam_world.specs.Worlds.{World, with_server, after_server_tick}
 use Rattle.roam_world.specs.Laws.{greatest_from, no_note}

@@ -19,7 +19,7 @@ use Rattle.roam_session.specs.Sessions.{SessionSize, Entry}
 use Rattle.roam_world.specs.Lists.{IsIn}
 use Rattle.roam_world.specs.Numbers.{screen, IsScreenOf, acts_of}
 use Rattle.roam_world.specs.Texts.{update_in}
-use Rattle.roam_world.specs.Servers.{Record, Note}
+use Rattle.roam_world.specs.Servers.{Record}
 use Rattle.roam_world.specs.Clients.{Client, nobody}
 use Rattle.roam_world.specs.Worlds.{World}
 use Rattle.roam_world.specs.Laws.{greatest_from, no_note}

@@ -9,7 +9,6 @@ use Rattle.roam_wire.specs.Datagrams.{DatagramValue}
 use Rattle.roam_session.specs.Sessions.{SessionSize}
 use Rattle.roam_world.specs.Lists.{IsIn, IsFront}
 use Rattle.roam_world.specs.Numbers.{screen, IsScreenOf, acts_of}
-use Rattle.roam_world.specs.Texts.{Address}
 use Rattle.roam_world.specs.Servers.{Note, nowhere, moment}
 use Rattle.roam_world.specs.Ticks.{IsFaceScreen, Parcel, sent_by, is_live, number_after, after_tick}
 use Rattle.roam_world.specs.Clients.{shown_number, shown_screen}

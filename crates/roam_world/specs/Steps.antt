@@ -1,6 +1,6 @@
 -- Each event with its reply and what it leaves, a case at a time. Want of memory may come in every call that asks for memory; it leaves the
 -- world as it was, but for a datagram to the server that stops at an act.
-use Rattle.std.specs.Prelude.{◌≡◌, ◌≢◌, ◌⊎◌, ℕ, ◌+◌, ◌<◌, ◌≤◌, List, [], ◌∷◌, length, Option, Some, None, true, false}
+use Rattle.std.specs.Prelude.{◌≡◌, ℕ, ◌+◌, ◌<◌, ◌≤◌, List, [], ◌∷◌, length, Some, None, true, false}
 use Rattle.roam_cells.specs.declared.faults.Fault.{Fault}
 use Rattle.roam_cells.specs.declared.faults.Fault.TheVariants.{OutOfMemory, NoPane, Busy, BadDatagram, BadChange, Spent}
 use Rattle.roam_cells.specs.declared.faults.Reason.{Reason}
