@@ -8,7 +8,7 @@ use Rattle.roam_acts.specs.Bytes.{acts_text}
 use Rattle.roam_acts.specs.declared.acts.Act.{Act}
 use Rattle.roam_acts.proofs.Fields.{IsBytes}
 use Rattle.roam_acts.proofs.Texts.{one_list}
-use Rattle.roam_wire.specs.Instructions.{down_text, IsUp, UpValue, up_text}
+use Rattle.roam_wire.specs.Instructions.{DownValue, IsDown, down_text, IsUp, UpValue, up_text}
 use Rattle.roam_wire.proofs.Numbers.{number, back_8, back_2}
 
 down_takes : (bytes : List ℕ) → 32 ≤ length bytes → IsBytes bytes
@@ -49,3 +49,25 @@ one_up u v p q e =
     let texts : acts_text u.acts ≡ acts_text v.acts = ap (λ (t : List ℕ). drop 18 t) e in
     let acts = one_list u.acts v.acts (recursion_from_All IsAct u.acts p.acts) (recursion_from_All IsAct v.acts q.acts) texts in
     λ i. record { acked = acked i; first = first i; acts = acts i }
+
+-- two instructions to a client with one text are one
+pub one_down : (d e : DownValue) → IsDown d → IsDown e → down_text d ≡ down_text e → d ≡ e
+one_down d e p q t =
+    let old : d.old ≡ e.old =
+    sym (big_number-reads_back 8 d.old (drop 8 (down_text d)) (omega (arith, p.old, p.new)))
+    ∙ ap (big_number 8) t
+    ∙ big_number-reads_back 8 e.old (drop 8 (down_text e)) (omega (arith, q.old, q.new)) in
+    let new : d.new ≡ e.new =
+    sym (big_number-reads_back 8 d.new (drop 16 (down_text d)) (omega (arith, p.new)))
+    ∙ ap (λ (x : List ℕ). big_number 8 (drop 8 x)) t
+    ∙ big_number-reads_back 8 e.new (drop 16 (down_text e)) (omega (arith, q.new)) in
+    let floor : d.floor ≡ e.floor =
+    sym (big_number-reads_back 8 d.floor (drop 24 (down_text d)) (omega (arith, p.floor, p.old, p.new)))
+    ∙ ap (λ (x : List ℕ). big_number 8 (drop 16 x)) t
+    ∙ big_number-reads_back 8 e.floor (drop 24 (down_text e)) (omega (arith, q.floor, q.old, q.new)) in
+    let acked : d.acked ≡ e.acked =
+    sym (big_number-reads_back 8 d.acked (drop 32 (down_text d)) (omega (arith, p.acked)))
+    ∙ ap (λ (x : List ℕ). big_number 8 (drop 24 x)) t
+    ∙ big_number-reads_back 8 e.acked (drop 32 (down_text e)) (omega (arith, q.acked)) in
+    let change : d.change ≡ e.change = ap (λ (x : List ℕ). drop 32 x) t in
+    λ i. record { old = old i; new = new i; floor = floor i; acked = acked i; change = change i }

@@ -1,0 +1,380 @@
+-- Each event at a client start, and each input, keeps what holds.
+use Rattle.std.proofs.Common.{◌≡◌, ℕ, ◌+◌, ◌<◌, ◌≤◌, ◌⊎◌, ◌^◌, List, [], ◌∷◌, ◌++◌, length, All, Option, Some, Bool, true, false, refl, sym, ap, ◌∙◌, subst, inl, inr, arith, append-nil, length-append, length-drop, length-take}
+use Rattle.std.specs.Prelude.{◌||◌}
+use Rattle.std.proofs.lemmas.Bool.Decides.{nat_tests}
+use Rattle.std.proofs.lemmas.List.{take-append-le}
+use Rattle.std.proofs.lemmas.List.Elements.{All-push, All-pop, All-take, All-drop}
+use Rattle.roam_cells.specs.Screenshot.{Screenshot}
+use Rattle.roam_acts.specs.declared.acts.Act.{Act}
+use Rattle.roam_acts.specs.Acts.{IsAct}
+use Rattle.roam_acts.specs.Senders.{IsFull, IsSpent, IsStretch}
+use Rattle.roam_update.specs.Shots.{applied}
+use Rattle.roam_sync.specs.declared.receivers.Pair.{Pair}
+use Rattle.roam_sync.specs.declared.receivers.Step.TheVariants as step
+use Rattle.roam_sync.specs.Senders.{Sending}
+use Rattle.roam_sync.specs.Receivers.{Receiving, pairs, step_for}
+use Rattle.roam_sync.specs.Lines.{Update, Hears, Delivers}
+use Rattle.roam_sync.specs.TrueLines.{HasTrueStates, TrueLine}
+use Rattle.roam_sync.specs.Links.{Link}
+use Rattle.roam_sync.proofs.TrueStates.{true_still, true_heard}
+use Rattle.roam_sync.proofs.Steps.{link_answered, link_heard}
+use Rattle.roam_sync.proofs.Rounds.{old_or_new}
+use Rattle.roam_wire.specs.declared.datagrams.Kind.{Kind}
+use Rattle.roam_wire.specs.declared.datagrams.Kind.TheVariants.{ToClient, ToServer}
+use Rattle.roam_wire.specs.Datagrams.{DatagramValue}
+use Rattle.roam_wire.specs.Gatherers.{Gathering, piece_of}
+use Rattle.roam_wire.specs.Arrivals.{IsPieceOf}
+use Rattle.roam_wire.specs.Instructions.{DownValue, down_text, UpValue, IsUp, up_text}
+use Rattle.roam_session.specs.Sessions.{SessionSize, Entry}
+use Rattle.roam_world.specs.Lists.{IsIn, put}
+use Rattle.roam_world.specs.Moments.{is_spent}
+use Rattle.roam_world.specs.Numbers.{IsScreenOf, acts_of}
+use Rattle.roam_world.specs.Texts.{update_in}
+use Rattle.roam_world.specs.Servers.{Record, after_input}
+use Rattle.roam_world.specs.Clients.{Client, nobody, new_client, shown_number, after_typed}
+use Rattle.roam_world.specs.Arrivals.{after_piece, after_whole}
+use Rattle.roam_world.specs.Sendings.{up_from, pieces_from, datagrams_from, is_client_spent, after_sending, after_quiet}
+use Rattle.roam_world.specs.Worlds.{World, with_server, with_client, after_client_sent, after_start}
+use Rattle.roam_world.specs.Holds.{cuts_of, Gathers, Tells, Acks, ActsOf, LineOf, IsPiece, AreCuts, Holds}
+use Rattle.roam_world.proofs.Members.{IsIn-append_cases, IsIn-push_cases, on_put, put_same}
+use Rattle.roam_world.proofs.Screens.{one_screen, is_more, cuts_more, screens_more, acts_of-append}
+use Rattle.roam_world.proofs.Acting.{has_typed-more, has_typed-acked, acked_few, stretch-waiting, stretch-more}
+use Rattle.roam_world.proofs.Pieces.{piece-more, gathers-more, packed_is}
+
+-- ---- an input
+
+-- the log grows, but by no act of this start
+pub line-more : (size : SessionSize) (log more : List Entry) (cuts : List ℕ) (taken taken' : List Act) (r : Record) (c : Client) → AreCuts log cuts
+    → taken' ≡ taken → LineOf size log cuts taken r c → LineOf size (log ++ more) cuts taken' r c
+line-more size log more cuts taken taken' r c low same l =
+    record {
+      truth = true_still applied (IsScreenOf size log cuts) r.sender c.receiver (Tells r.instructions) l.truth
+          (IsScreenOf size (log ++ more) cuts) (Tells r.instructions) (is_more size log more cuts low) (λ u t. t);
+      link = l.link;
+      acts = subst (λ (t : List Act). ActsOf t r c) (sym same) l.acts;
+      downs = l.downs;
+      ups = l.ups;
+      gathers_down = l.gathers_down;
+      gathers_up = l.gathers_up;
+      notes = l.notes;
+    }
+
+pub keeps-input : (w : World) (entry : Entry) → ((id : ℕ) → acts_of id (entry ∷ []) ≡ []) → Holds w → Holds (with_server w (after_input w.server entry))
+keeps-input w entry none h =
+    record {
+      numbers = h.numbers;
+      cuts = cuts_more w.server.log (entry ∷ []) w.server.cuts h.cuts;
+      screens = screens_more w.server.size w.server.log (entry ∷ []) w.server.cuts h.cuts h.screens;
+      lines = (λ id.
+          let same : acts_of id (w.server.log ++ entry ∷ []) ≡ acts_of id w.server.log =
+          acts_of-append id w.server.log (entry ∷ []) ∙ ap (λ (xs : List Act). acts_of id w.server.log ++ xs) (none id) ∙ append-nil (acts_of id w.server.log) in
+          line-more w.server.size w.server.log (entry ∷ []) w.server.cuts (acts_of id w.server.log) (acts_of id (w.server.log ++ entry ∷ [])) (w.server.records id) (w.clients id) h.cuts same (h.lines id));
+      pieces = h.pieces;
+      unused = h.unused;
+      slots = h.slots;
+    }
+
+-- ---- a client start
+
+-- the line of a start and its record
+abbrev pub Line : World → ℕ → Record → Client → Type 0
+Line w id r c = LineOf w.server.size w.server.log w.server.cuts (acts_of id w.server.log) r c
+
+-- a client start that was made changes, and sent nothing
+pub keeps-client : (w : World) (id : ℕ) (c : Client) → c.made ≡ true → c.instructions ≡ (w.clients id).instructions → Line w id (w.server.records id) c
+    → Holds w → Holds (with_client w id c)
+keeps-client w id c made same line h =
+    record {
+      numbers = h.numbers;
+      cuts = h.cuts;
+      screens = h.screens;
+      lines = on_put (λ j x. Line w j (w.server.records j) x) w.clients id c line (λ j e. h.lines j);
+      pieces = (λ d i. on_put (λ j x. IsPiece d.kind d (w.server.records d.client) (w.clients j) → IsPiece d.kind d (w.server.records d.client) x) w.clients id c (like d.kind d) (λ j e p. p) d.client (h.pieces d i));
+      unused = on_put (λ j x. x.made ≡ false → x ≡ nobody) w.clients id c (λ f. let z : true ≡ false = sym made ∙ f in cc) (λ j e. h.unused j);
+      slots = (λ slot j. on_put (λ k x. w.slots slot ≡ Some k → x.made ≡ true) w.clients id c (λ s. made) (λ k e. h.slots slot k) j);
+    }
+  where
+    like : (kind : Kind) (d : DatagramValue) → IsPiece kind d (w.server.records d.client) (w.clients id) → IsPiece kind d (w.server.records d.client) c
+    like ToClient d p = p
+    like ToServer d p = subst (λ (us : List UpValue). IsPieceOf (cuts_of up_text us) (piece_of d)) (sym same) p
+
+-- all that was typed: what is acknowledged, and what isn't
+typed_length : (taken : List Act) (r : Record) (c : Client) → ActsOf taken r c → length c.typed ≡ c.acts.acked + length c.acts.acts
+typed_length taken r c a =
+    let known = a.typed.known in
+    let held = ap length a.typed.held in
+    omega (arith, known, held, length-drop c.acts.acked c.typed)
+
+pub keeps-typed : (w : World) (id : ℕ) (act : Act) → (w.clients id).made ≡ true → IsAct act → (IsFull (w.clients id).acts → ⊥) → (IsSpent (w.clients id).acts → ⊥)
+    → Holds w → Holds (with_client w id (after_typed (w.clients id) act))
+keeps-typed w id act made is full spent h =
+    let c = w.clients id in
+    let l = h.lines id in
+    let a = l.acts in
+    let r = w.server.records id in
+    let few = a.few in
+    let room : length (w.clients id).acts.acts < 1024 = not_full full few in
+    let many = typed_length (acts_of id w.server.log) r c a in
+    let below = a.below in
+    let fits : length (w.clients id).typed + 1 < 2 ^ 62 = not_spent room spent many below in
+    let low = a.low in
+    keeps-client w id (after_typed (w.clients id) act) made refl
+    (record {
+      truth = l.truth;
+      link = l.link;
+      acts = record {
+        count = a.count;
+        front = a.front ∙ sym (take-append-le r.taken c.typed (act ∷ []) low);
+        low = omega (arith, low, length-append (w.clients id).typed (act ∷ []));
+        typed = has_typed-more c.acts c.typed act a.typed;
+        few = omega (arith, room, length-append (w.clients id).acts.acts (act ∷ []));
+        below = omega (arith, fits, length-append (w.clients id).typed (act ∷ []));
+        are = All-push IsAct c.typed act a.are is;
+        told = (λ u i. stretch-more c.typed u.acts u.first act (a.told u i));
+      };
+      downs = l.downs;
+      ups = l.ups;
+      gathers_down = l.gathers_down;
+      gathers_up = l.gathers_up;
+      notes = l.notes;
+    }) h
+  where
+    not_full : (IsFull (w.clients id).acts → ⊥) → length (w.clients id).acts.acts ≤ 1024 → length (w.clients id).acts.acts < 1024
+    not_full full le = elim (cases (length (w.clients id).acts.acts) le) [ inl e ↦ absurd (full e) | inr lt ↦ lt ]
+      where
+        cases : (n : ℕ) → n ≤ 1024 → (n ≡ 1024) ⊎ (n < 1024)
+        cases n le = grind arith
+
+    not_spent : length (w.clients id).acts.acts < 1024 → (IsSpent (w.clients id).acts → ⊥) → length (w.clients id).typed ≡ (w.clients id).acts.acked + length (w.clients id).acts.acts
+        → length (w.clients id).typed < 2 ^ 62 → length (w.clients id).typed + 1 < 2 ^ 62
+    not_spent room spent many below = elim (cases (length (w.clients id).typed) below) [ inl e ↦ absurd (spent (room, omega (arith, e, many))) | inr lt ↦ lt ]
+      where
+        cases : (n : ℕ) → n < 2 ^ 62 → (n + 1 ≡ 2 ^ 62) ⊎ (n + 1 < 2 ^ 62)
+        cases n lt = grind arith
+
+pub keeps-quiet : (w : World) (id now : ℕ) → (w.clients id).made ≡ true → Holds w → Holds (with_client w id (after_quiet (w.clients id) now))
+keeps-quiet w id now made h =
+    let l = h.lines id in
+    let a = l.acts in
+    keeps-client w id (after_quiet (w.clients id) now) made refl
+    (record {
+      truth = l.truth;
+      link = l.link;
+      acts = record { count = a.count; front = a.front; low = a.low; typed = a.typed; few = a.few; below = a.below; are = a.are; told = a.told };
+      downs = l.downs;
+      ups = l.ups;
+      gathers_down = l.gathers_down;
+      gathers_up = l.gathers_up;
+      notes = l.notes;
+    }) h
+
+pub keeps-piece : (w : World) (id now : ℕ) (g : Gathering) → (w.clients id).made ≡ true → Gathers down_text (w.server.records id).instructions g
+    → Holds w → Holds (with_client w id (after_piece (w.clients id) now g))
+keeps-piece w id now g made of h =
+    let l = h.lines id in
+    let a = l.acts in
+    keeps-client w id (after_piece (w.clients id) now g) made refl
+    (record {
+      truth = l.truth;
+      link = l.link;
+      acts = record { count = a.count; front = a.front; low = a.low; typed = a.typed; few = a.few; below = a.below; are = a.are; told = a.told };
+      downs = l.downs;
+      ups = l.ups;
+      gathers_down = of;
+      gathers_up = l.gathers_up;
+      notes = l.notes;
+    }) h
+
+-- an update that was sent comes: it is old or new, and the line stays true and in step
+pub record Hearken {S : Type 0} (applied : S → List ℕ → Option S) (Is : ℕ → S → Type 0) (s : Sending S) (r r' : Receiving S) (u : Update)
+    (WasSent : Update → Type 0) (WasAnswered : ℕ → Type 0) : Type 0 where
+  pub how : (r' ≡ r) ⊎ Hears applied r u r'
+  pub truth : TrueLine applied Is s r' WasSent
+  pub link : Link s r' WasSent WasAnswered
+
+pub hearken : {S : Type 0} (applied : S → List ℕ → Option S) (Is : ℕ → S → Type 0) (s : Sending S) (r r' : Receiving S) (u : Update)
+    (WasSent : Update → Type 0) (WasAnswered : ℕ → Type 0) → ((n : ℕ) (a b : S) → Is n a → Is n b → a ≡ b)
+    → TrueLine applied Is s r WasSent → Link s r WasSent WasAnswered → WasSent u → Delivers applied r u r'
+    → Hearken applied Is s r r' u WasSent WasAnswered
+hearken {S} applied Is s r r' u WasSent WasAnswered one truth link sent delivers =
+    elim (old_or_new s r WasSent WasAnswered link u sent) [
+      | inl old ↦ (
+          let other : step_for r u.old u.new u.floor ≡ step.New → ⊥ = λ new. (let no : step.Old ≡ step.New = sym old.0 ∙ new in cc) in
+          let same : r' ≡ r = delivers.other other in
+          record {
+            how = inl same;
+            truth = subst (λ (q : Receiving S). TrueLine applied Is s q WasSent) (sym same) truth;
+            link = subst (λ (q : Receiving S). Link s q WasSent WasAnswered) (sym same) link;
+          }
+          )
+      | inr new ↦ (
+          let hears : Hears applied r u r' = record { fresh = new; takes = delivers.fresh new } in
+          record {
+            how = inr hears;
+            truth = true_heard applied Is s r WasSent truth r' u one sent hears;
+            link = link_heard s r WasSent WasAnswered link applied r' u sent hears;
+          }
+          )
+    ]
+
+pub keeps-whole : (w : World) (id now : ℕ) (g : Gathering) (r' : Receiving Screenshot) (v : DownValue) → (w.clients id).made ≡ true
+    → Gathers down_text (w.server.records id).instructions g → IsIn v (w.server.records id).instructions
+    → Delivers applied (w.clients id).receiver (update_in v) r' → Holds w → Holds (with_client w id (after_whole (w.clients id) now g r' v))
+keeps-whole w id now g r' v made of sent delivers h =
+    let c = w.clients id in
+    let r = w.server.records id in
+    let l = h.lines id in
+    let a = l.acts in
+    let few = a.few in
+    let t = hearken applied (IsScreenOf w.server.size w.server.log w.server.cuts) r.sender c.receiver r' (update_in v) (Tells r.instructions) (Acks c.instructions)
+    (one_screen w.server.size w.server.log w.server.cuts) l.truth l.link (v, sent, refl) delivers in
+    keeps-client w id (after_whole (w.clients id) now g r' v) made refl
+    (record {
+      truth = t.truth;
+      link = t.link;
+      acts = record {
+        count = a.count;
+        front = a.front;
+        low = a.low;
+        typed = has_typed-acked c.acts c.typed v.acked a.typed;
+        few = omega (arith, few, acked_few (w.clients id).acts v.acked);
+        below = a.below;
+        are = a.are;
+        told = a.told;
+      };
+      downs = l.downs;
+      ups = l.ups;
+      gathers_down = of;
+      gathers_up = l.gathers_up;
+      notes = l.notes;
+    }) h
+
+-- the newest pair of a receiver
+pub newest_true : (Is : ℕ → Screenshot → Type 0) (r : Receiving Screenshot) → HasTrueStates Is r → Is r.newest.number r.newest.state
+newest_true Is r are = (All-pop (λ (p : Pair Screenshot). Is p.number p.state) (pairs r) r.earlier (Some r.newest) refl are).1
+
+pub not_past : (n : ℕ) → is_spent n ≡ false → n < 2 ^ 62
+not_past n e = grind (arith, nat_tests)
+
+pub or_left : (a b : Bool) → (a || b) ≡ false → a ≡ false
+or_left true b e = cc
+or_left false b e = refl
+
+pub or_right : (a b : Bool) → (a || b) ≡ false → b ≡ false
+or_right true b e = absurd (cc)
+or_right false b e = e
+
+up_is : (w : World) (id : ℕ) → is_client_spent (w.clients id) ≡ false → Holds w → IsUp (up_from (w.clients id))
+up_is w id e h =
+    let c = w.clients id in
+    let l = h.lines id in
+    let a = l.acts in
+    let made = (newest_true (IsScreenOf w.server.size w.server.log w.server.cuts) c.receiver l.truth.receiver).made in
+    let numbers = h.numbers in
+    let left = or_left (is_spent (c.acts.acked + 1) || is_spent (length c.instructions + 1)) (is_spent (c.datagrams + length (pieces_from c))) e in
+    let first = not_past (c.acts.acked + 1) (or_left (is_spent (c.acts.acked + 1)) (is_spent (length c.instructions + 1)) left) in
+    record {
+      acked = omega (arith, made, numbers);
+      first = (omega arith, first);
+      count = omega (arith, length-take 64 (w.clients id).acts.acts);
+      acts = All-take IsAct 64 c.acts.acts (subst (All IsAct) (sym a.typed.held) (All-drop IsAct c.acts.acked c.typed a.are));
+    }
+
+pub keeps-sending : (w : World) (id now : ℕ) → (w.clients id).made ≡ true → is_client_spent (w.clients id) ≡ false → Holds w → Holds (after_client_sent w id now)
+keeps-sending w id now made e h =
+    record {
+      numbers = h.numbers;
+      cuts = h.cuts;
+      screens = h.screens;
+      lines = on_put (λ j x. Line w j (w.server.records j) x) w.clients id c' (record {
+        truth = l.truth;
+        link = link_answered r.sender c.receiver (Tells r.instructions) (Acks c.instructions) l.link (Acks (c.instructions ++ up_from c ∷ [])) acks;
+        acts = record {
+          count = a.count;
+          front = a.front;
+          low = a.low;
+          typed = a.typed;
+          few = a.few;
+          below = a.below;
+          are = a.are;
+          told = (λ u i. elim (IsIn-push_cases u (up_from c) c.instructions i) [
+            | inl o ↦ a.told u o
+            | inr f ↦ subst (λ (x : UpValue). IsStretch c.typed x.first x.acts) f (stretch-waiting c.acts c.typed a.typed)
+          ]);
+        };
+        downs = l.downs;
+        ups = (λ u i. elim (IsIn-push_cases u (up_from c) c.instructions i) [
+          | inl o ↦ l.ups u o
+          | inr f ↦ subst IsUp f (up_is w id e h)
+        ]);
+        gathers_down = l.gathers_down;
+        gathers_up = gathers-more up_text c.instructions (up_from c ∷ []) r.gathering l.gathers_up;
+        notes = l.notes;
+      }) (λ j f. h.lines j);
+      pieces = (λ d i. elim (IsIn-append_cases d w.sent (datagrams_from w.server.session id c) i) [
+        | inl o ↦ on_put (λ j x. IsPiece d.kind d (w.server.records d.client) (w.clients j) → IsPiece d.kind d (w.server.records d.client) x) w.clients id c' (like d.kind d) (λ j f p. p) d.client (h.pieces d o)
+        | inr n ↦ new d n
+      ]);
+      unused = on_put (λ j x. x.made ≡ false → x ≡ nobody) w.clients id c' (λ f. let z : true ≡ false = sym made ∙ f in cc) (λ j f. h.unused j);
+      slots = (λ slot j. on_put (λ k x. w.slots slot ≡ Some k → x.made ≡ true) w.clients id c' (λ s. made) (λ k f. h.slots slot k) j);
+    }
+  where
+    c : Client
+    c = w.clients id
+
+    r : Record
+    r = w.server.records id
+
+    c' : Client
+    c' = after_sending (w.clients id) now
+
+    l : Line w id (w.server.records id) (w.clients id)
+    l = h.lines id
+
+    a : ActsOf (acts_of id w.server.log) (w.server.records id) (w.clients id)
+    a = l.acts
+
+    acks : (n : ℕ) → Acks ((w.clients id).instructions ++ up_from (w.clients id) ∷ []) n → Acks (w.clients id).instructions n ⊎ (n ≡ shown_number (w.clients id))
+    acks n b = elim (IsIn-push_cases b.0 (up_from (w.clients id)) (w.clients id).instructions b.1) [ inl o ↦ inl (b.0, o, b.2) | inr f ↦ inr (sym b.2 ∙ ap (λ (u : UpValue). u.acked) (sym f)) ]
+
+    like : (kind : Kind) (d : DatagramValue) → IsPiece kind d (w.server.records d.client) (w.clients id) → IsPiece kind d (w.server.records d.client) (after_sending (w.clients id) now)
+    like ToClient d p = p
+    like ToServer d p = piece-more up_text (w.clients id).instructions (up_from (w.clients id) ∷ []) (piece_of d) p
+
+    new : (d : DatagramValue) → IsIn d (datagrams_from w.server.session id (w.clients id)) → IsPiece d.kind d (w.server.records d.client) (put w.clients id (after_sending (w.clients id) now) d.client)
+    new d i =
+        let p = packed_is up_text (w.clients id).instructions (up_from (w.clients id)) ToServer w.server.session id (w.clients id).datagrams d i in
+        subst (λ (kind : Kind). IsPiece kind d (w.server.records d.client) (put w.clients id (after_sending (w.clients id) now) d.client)) (sym p.kind_is)
+        (subst (λ (k : ℕ). IsPiece ToServer d (w.server.records d.client) (put w.clients id (after_sending (w.clients id) now) k)) (sym p.client_is)
+        (subst (λ (x : Client). IsPiece ToServer d (w.server.records d.client) x) (sym (put_same w.clients id (after_sending (w.clients id) now))) p.piece))
+
+pub keeps-start : (w : World) (slot id : ℕ) → (w.clients id).made ≡ false → Holds w → Holds (after_start w slot id)
+keeps-start w slot id made h =
+    let is = h.unused id made in
+    let l = subst (λ (x : Client). Line w id (w.server.records id) x) is (h.lines id) in
+    let a = l.acts in
+    record {
+      numbers = h.numbers;
+      cuts = h.cuts;
+      screens = h.screens;
+      lines = on_put (λ j x. Line w j (w.server.records j) x) w.clients id new_client (record {
+        truth = l.truth;
+        link = l.link;
+        acts = record { count = a.count; front = a.front; low = a.low; typed = a.typed; few = a.few; below = a.below; are = a.are; told = a.told };
+        downs = l.downs;
+        ups = l.ups;
+        gathers_down = l.gathers_down;
+        gathers_up = l.gathers_up;
+        notes = l.notes;
+      }) (λ j e. h.lines j);
+      pieces = (λ d i. on_put (λ j x. IsPiece d.kind d (w.server.records d.client) (w.clients j) → IsPiece d.kind d (w.server.records d.client) x) w.clients id new_client (λ p. like d.kind d (subst (λ (x : Client). IsPiece d.kind d (w.server.records d.client) x) is p)) (λ j e p. p) d.client (h.pieces d i));
+      unused = on_put (λ j x. x.made ≡ false → x ≡ nobody) w.clients id new_client (λ f. let z : true ≡ false = f in cc) (λ j e. h.unused j);
+      slots = (λ place j. on_put (λ k x. x ≡ Some j → (put w.clients id new_client j).made ≡ true) w.slots slot (Some id)
+          (λ e. let same : id ≡ j = cc in subst (λ (k : ℕ). (put w.clients id new_client k).made ≡ true) same (ap (λ (x : Client). x.made) (put_same w.clients id new_client)))
+          (λ k f s. on_put (λ i x. w.slots k ≡ Some i → x.made ≡ true) w.clients id new_client (λ t. refl) (λ i e. h.slots k i) j s)
+          place);
+    }
+  where
+    like : (kind : Kind) (d : DatagramValue) → IsPiece kind d (w.server.records d.client) nobody → IsPiece kind d (w.server.records d.client) new_client
+    like ToClient d p = p
+    like ToServer d p = p

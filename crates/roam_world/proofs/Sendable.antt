@@ -1,0 +1,361 @@
+-- Each datagram that was sent has a text, and as many starts are known as may be.
+use Rattle.std.proofs.Common.{◌≡◌, ◌⊎◌, ℕ, zero, suc, ◌+◌, ◌*◌, ◌<◌, ◌≤◌, ◌^◌, List, [], ◌∷◌, ◌++◌, length, get_or, map, Some, Bool, true, false, refl, sym, ap, ◌∙◌, subst, inl, inr, arith, cond, length-append, length-take}
+use Rattle.std.specs.Prelude.{slice_get, nat_le, nat_eq, not, ◌&&◌, ◌||◌}
+use Rattle.std.specs.List.{enumerate_from, list_any}
+use Rattle.std.proofs.lemmas.Bool.Decides.{nat_tests}
+use Rattle.roam_cells.specs.declared.faults.Fault.TheVariants.{BadDatagram, OtherSession, ClientsFull}
+use Rattle.roam_cells.specs.declared.faults.Reason.TheVariants as reason
+use Rattle.roam_cells.specs.Screenshot.{Screenshot}
+use Rattle.roam_acts.specs.declared.acts.Act.{Act}
+use Rattle.roam_acts.specs.declared.acts.Act.TheVariants.{SplitRight, SplitDown, Close, Focus, Next, Grow, Size, View}
+use Rattle.roam_acts.specs.declared.acts.Act.TheVariants as act
+use Rattle.roam_acts.specs.declared.keys.Key.{Key}
+use Rattle.roam_acts.specs.declared.keys.Key.TheVariants.{Char}
+use Rattle.roam_acts.specs.Bytes.{act_text, acts_text, key_fields}
+use Rattle.roam_sync.specs.Senders.{newest}
+use Rattle.roam_update.proofs.Bounds.{most}
+use Rattle.roam_wire.specs.declared.datagrams.Kind.{Kind}
+use Rattle.roam_wire.specs.declared.datagrams.Kind.TheVariants.{ToClient as ToClientKind, ToServer as ToServerKind}
+use Rattle.roam_wire.specs.Cutting.{pieces_of, HasLength}
+use Rattle.roam_wire.specs.Datagrams.{DatagramValue, IsDatagram}
+use Rattle.roam_wire.specs.Gatherers.{gather, piece_of}
+use Rattle.roam_wire.specs.Instructions.{DownValue, down_text, UpValue, up_text}
+use Rattle.roam_wire.proofs.Cuts.{sendable}
+use Rattle.roam_session.specs.Sessions.{SessionSize}
+use Rattle.roam_world.specs.Lists.{IsIn, put}
+use Rattle.roam_world.specs.Moments.{is_spent}
+use Rattle.roam_world.specs.Texts.{datagram_with, datagrams_of}
+use Rattle.roam_world.specs.Servers.{Record, Server, new_server, no_record, moment}
+use Rattle.roam_world.specs.Comings.{is_to_server, Coming, turned_away, noted, completed, coming, coming_gathered, arrival_with}
+use Rattle.roam_world.specs.Ticks.{makes, number_after, screen_after, IsFaceScreen, holds_after, sends, down_to, pieces_to, after_sent, ticked, datagrams_to, is_record_spent, Parcel, parcel, parcels_to, sent_by, is_tick_spent}
+use Rattle.roam_world.specs.Clients.{Client, nobody, new_client, moment_of}
+use Rattle.roam_world.specs.Sendings.{up_from, pieces_from, datagrams_from, is_client_spent, after_sending}
+use Rattle.roam_world.specs.Worlds.{World, new_world, Event, PaneBytes, Typed, ServerTick, ClientTick, ToServer, ToClient, Start, Drain, Reply, with_client}
+use Rattle.roam_world.specs.Steps.{refused, taken, no_pane, too_many, gone, empty_slot, full, spent, typed, no_memory, ticked as did_tick, quiet, sent, not_sent, piece, unread, all_taken, no_room, no_memory_at_act, bad_change, whole, used, started, wstep, Run}
+use Rattle.roam_world.specs.Laws.{IsEvent, AreEvents, Always}
+use Rattle.roam_world.specs.Holds.{Holds, Counts}
+use Rattle.roam_world.proofs.Members.{IsIn-append_left, IsIn-append_right, IsIn-append_cases, IsIn-push_cases, IsIn-map, IsIn-flat_map, IsIn-enumerate, slice_get-within, on_put}
+use Rattle.roam_world.proofs.Keeps.{not_past, or_left, or_right}
+use Rattle.roam_world.proofs.ServerKeeps.{newest_screen}
+use Rattle.roam_world.proofs.Runs.{was_sent, keeps-step, holds-new}
+
+-- ---- texts are short
+
+down_length : (d : DownValue) → length (down_text d) ≡ 32 + length d.change
+down_length d = omega arith
+
+key_length : (k : Key) → length (key_fields k) ≤ 4
+key_length (Char c) = omega arith
+key_length _ = omega arith
+
+act_length : (a : Act) → length (act_text a) ≤ 5
+act_length (act.Key k) = let few = key_length k in omega (arith, few)
+act_length SplitRight = omega arith
+act_length SplitDown = omega arith
+act_length Close = omega arith
+act_length (Focus p) = omega arith
+act_length Next = omega arith
+act_length (Grow d) = omega arith
+act_length (Size r c) = omega arith
+act_length (View d) = omega arith
+
+acts_length : (acts : List Act) → length (acts_text acts) ≤ 5 * length acts
+acts_length [] = omega arith
+acts_length (a ∷ acts) =
+    let one = act_length a in
+    let rest = acts_length acts in
+    omega (arith, one, rest, length-append (act_text a) (acts_text acts))
+
+up_length : (u : UpValue) → length (up_text u) ≡ 18 + length (acts_text u.acts)
+up_length u = omega arith
+
+-- ---- the datagrams of an instruction
+
+get_at : (xs : List (List ℕ)) (i : ℕ) (x : List ℕ) → slice_get xs i ≡ Some x → get_or xs i [] ≡ x
+get_at [] i x e = absurd (cc)
+get_at (y ∷ xs) zero x e = cc
+get_at (y ∷ xs) (suc i) x e = get_at xs i x e
+
+packed_sendable : (kind : Kind) (session client before id : ℕ) (text : List ℕ) (d : DatagramValue) → session < 2 ^ 64 → client < 2 ^ 64 → 1 ≤ id → id < 2 ^ 62
+    → before + length (pieces_of text) < 2 ^ 62 → length text ≤ 1228800 → IsIn d (datagrams_of kind session client before id (pieces_of text)) → IsDatagram d
+packed_sendable kind session client before id text d s c low high numbers short i =
+    subst IsDatagram m.2 (record {
+      version = refl;
+      session = s;
+      client = c;
+      number = (omega (arith, at, lt), omega (arith, at, lt, numbers));
+      id = (low, high);
+      count = (omega (arith, lt), can.few);
+      index = omega (arith, at, lt);
+      len = (subst (λ (xs : List ℕ). 1 ≤ length xs) here len.low, subst (λ (xs : List ℕ). length xs ≤ 1200) here len.high);
+      whole = (λ more. subst (λ (xs : List ℕ). length xs ≡ 1200) here (len.whole (omega (arith, at, more))));
+    })
+  where
+    make : ℕ × List ℕ → DatagramValue
+    make = datagram_with kind session client before id (length (pieces_of text))
+
+    m : (x : ℕ × List ℕ) × IsIn x (enumerate_from 0 (pieces_of text)) × (datagram_with kind session client before id (length (pieces_of text)) x ≡ d)
+    m = IsIn-map (datagram_with kind session client before id (length (pieces_of text))) d (enumerate_from 0 (pieces_of text)) i
+
+    n : (k : ℕ) × (m.0.0 ≡ 0 + k) × (slice_get (pieces_of text) k ≡ Some m.0.1)
+    n = IsIn-enumerate 0 (pieces_of text) m.0 m.1
+
+    at : m.0.0 ≡ n.0
+    at = n.1 ∙ (let z : 0 + n.0 ≡ n.0 = omega arith in z)
+
+    lt : n.0 < length (pieces_of text)
+    lt = slice_get-within (pieces_of text) n.0 m.0.1 n.2
+
+    here : get_or (pieces_of text) n.0 [] ≡ m.0.1
+    here = get_at (pieces_of text) n.0 m.0.1 n.2
+
+    can : Rattle.roam_wire.specs.Cutting.AreSendable (pieces_of text)
+    can = sendable text short
+
+    len : HasLength n.0 (length (pieces_of text)) (length (get_or (pieces_of text) n.0 []))
+    len = can.lengths n.0 lt
+
+-- ---- a client start sends
+
+from_sendable : (w : World) (id : ℕ) → is_client_spent (w.clients id) ≡ false → (w.clients id).made ≡ true → Counts w → (d : DatagramValue)
+    → IsIn d (datagrams_from w.server.session id (w.clients id)) → IsDatagram d
+from_sendable w id e made k d i =
+    let c = w.clients id in
+    let left = or_left (is_spent (c.acts.acked + 1) || is_spent (length c.instructions + 1)) (is_spent (c.datagrams + length (pieces_from c))) e in
+    let number = not_past (length c.instructions + 1) (or_right (is_spent (c.acts.acked + 1)) (is_spent (length c.instructions + 1)) left) in
+    let numbers = not_past (c.datagrams + length (pieces_from c)) (or_right (is_spent (c.acts.acked + 1) || is_spent (length c.instructions + 1)) (is_spent (c.datagrams + length (pieces_from c))) e) in
+    let many = up_length (up_from (w.clients id)) in
+    let few = acts_length (up_from (w.clients id)).acts in
+    let taken = length-take 64 (w.clients id).acts.acts in
+    packed_sendable ToServerKind w.server.session id c.datagrams (length c.instructions + 1) (up_text (up_from c)) d k.session (k.starts id made)
+    (omega arith) number numbers (omega (arith, many, few, taken)) i
+
+-- ---- the server ticks
+
+list_any-false : (f : ℕ → Bool) (xs : List ℕ) (x : ℕ) → list_any f xs ≡ false → IsIn x xs → f x ≡ false
+list_any-false f [] x e i = absurd i
+list_any-false f (y ∷ xs) x e i =
+    elim i [
+      | inl same ↦ ap f (sym same) ∙ or_left (f y) (list_any f xs) e
+      | inr rest ↦ list_any-false f xs x (or_right (f y) (list_any f xs) e) rest
+    ]
+
+to_sendable : (w : World) (now : ℕ) → is_tick_spent w.server now ≡ false → IsFaceScreen w.server now → Holds w → Counts w → (d : DatagramValue)
+    → IsIn d (map (λ (p : Parcel). p.datagram) (sent_by w.server now)) → IsDatagram d
+to_sendable w now e shown h k d i =
+    let a = IsIn-map (λ (p : Parcel). p.datagram) d (sent_by w.server now) i in
+    let f = IsIn-flat_map (parcels_to w.server now) a.0 w.server.arrival a.1 in
+    let m = IsIn-map (parcel (w.server.records f.0).address) a.0 (datagrams_to w.server.session f.0 (w.server.records f.0) (number_after w.server now) (screen_after w.server now) now) f.2 in
+    let is : m.0 ≡ d = ap (λ (y : Parcel). y.datagram) m.2 ∙ a.2 in
+    subst IsDatagram is (one f.0 f.1 m.0 m.1)
+  where
+    n : ℕ
+    n = number_after w.server now
+
+    s : Screenshot
+    s = screen_after w.server now
+
+    one : (id : ℕ) → IsIn id w.server.arrival → (x : DatagramValue) → IsIn x (datagrams_to w.server.session id (w.server.records id) (number_after w.server now) (screen_after w.server now) now) → IsDatagram x
+    one id there x j = go (sends r n s now) refl j (list_any-false (λ (q : ℕ). is_record_spent (w.server.records q) n s now) w.server.arrival id (or_right (makes w.server now && is_spent (number_after w.server now)) _ e) there)
+      where
+        r : Record
+        r = w.server.records id
+
+        short : length (down_text (down_to r n s now)) ≤ 1228800
+        short =
+            let long = down_length (down_to r n s now) in
+            let few = most (holds_after r n s now).base.state (newest (holds_after r n s now)).state (newest_screen w now e shown h id) in
+            omega (arith, long, few)
+
+        go : (b : Bool) → sends r n s now ≡ b → IsIn x (cond b (datagrams_of ToClientKind w.server.session id r.datagrams (length r.instructions + 1) (pieces_to r n s now)) [])
+            → (b && (is_spent (length r.instructions + 1) || is_spent (r.datagrams + length (pieces_to r n s now)))) ≡ false → IsDatagram x
+        go false f y g = absurd y
+        go true f y g =
+            packed_sendable ToClientKind w.server.session id r.datagrams (length r.instructions + 1) (down_text (down_to r n s now)) x k.session (k.ids id there) (omega arith)
+            (not_past (length r.instructions + 1) (or_left (is_spent (length r.instructions + 1)) (is_spent (r.datagrams + length (pieces_to r n s now))) g))
+            (not_past (r.datagrams + length (pieces_to r n s now)) (or_right (is_spent (length r.instructions + 1)) (is_spent (r.datagrams + length (pieces_to r n s now))) g))
+            short y
+
+known_ticked : (r : Record) (n : ℕ) (s : Screenshot) (now : ℕ) → (ticked r n s now).known ≡ r.known
+known_ticked r n s now = go (sends r n s now)
+  where
+    go : (b : Bool) → (cond b (after_sent r n s now) (record r { sender = holds_after r n s now })).known ≡ r.known
+    go true = refl
+    go false = refl
+
+-- ---- a datagram comes
+
+-- there is room for a record where a datagram isn't turned away
+IsRoom : Server → ℕ → Coming → Type 0
+IsRoom s id (turned_away f) = Unit {0}
+IsRoom s id (noted g) = (s.records id).known ≡ false → length s.arrival < 64
+IsRoom s id (completed g text) = (s.records id).known ≡ false → length s.arrival < 64
+
+all_room : (s : Server) (id : ℕ) (c : Coming) → ((s.records id).known ≡ false → length s.arrival < 64) → IsRoom s id c
+unfolding IsRoom
+all_room s id (turned_away f) room = tt
+all_room s id (noted g) room = room
+all_room s id (completed g text) room = room
+
+room_in : (s : Server) (d : DatagramValue) → IsRoom s d.client (coming s d)
+unfolding IsRoom
+room_in s d = go (coming_gathered (gather (s.records d.client).gathering (piece_of d))) (not (is_to_server d.kind)) (not (nat_eq d.session s.session)) (s.records d.client).known refl (nat_le 64 (length s.arrival)) refl
+  where
+    go : (x : Coming) (a b k : Bool) → (s.records d.client).known ≡ k → (m : Bool) → nat_le 64 (length s.arrival) ≡ m
+        → IsRoom s d.client (cond a (turned_away (BadDatagram reason.Kind)) (cond b (turned_away OtherSession) (cond (not k && m) (turned_away ClientsFull) x)))
+    go x true b k e m f = tt
+    go x false true k e m f = tt
+    go x false false true e m f = all_room s d.client x (λ g. let z : true ≡ false = sym e ∙ g in absurd (cc))
+    go x false false false e true f = tt
+    go x false false false e false f = all_room s d.client x (λ g. grind (arith, nat_tests))
+
+-- the ids after one more record
+record IsArrival (s : Server) (id : ℕ) (ids : List ℕ) : Type 0 where
+  here : IsIn id ids
+  stays : (j : ℕ) → IsIn j s.arrival → IsIn j ids
+  only : (j : ℕ) → IsIn j ids → IsIn j s.arrival ⊎ (id ≡ j)
+  few : length ids ≤ 64
+
+arrival_is : (w : World) (id : ℕ) → ((w.server.records id).known ≡ false → length w.server.arrival < 64) → Counts w → IsArrival w.server id (arrival_with w.server id)
+arrival_is w id room k = go (w.server.records id).known refl
+  where
+    go : (b : Bool) → (w.server.records id).known ≡ b → IsArrival w.server id (cond b w.server.arrival (w.server.arrival ++ id ∷ []))
+    go true e = record { here = k.arrived id e; stays = (λ j i. i); only = (λ j i. inl i); few = k.few }
+    go false e =
+        let lt = room e in
+        record {
+          here = IsIn-append_right id w.server.arrival (id ∷ []) (inl refl);
+          stays = (λ j i. IsIn-append_left j w.server.arrival (id ∷ []) i);
+          only = (λ j i. IsIn-push_cases j id w.server.arrival i);
+          few = omega (arith, lt, length-append w.server.arrival (id ∷ []));
+        }
+
+-- the server hears from a start
+heard_counts : (w : World) (s : Server) (id : ℕ) (r : Record) → s.session ≡ w.server.session → s.records ≡ put w.server.records id r → s.arrival ≡ arrival_with w.server id
+    → id < 2 ^ 64 → ((w.server.records id).known ≡ false → length w.server.arrival < 64) → Counts w → Counts (record w { server = s })
+heard_counts w s id r same records arrival small room k =
+    let is = arrival_is w id room k in
+    record {
+      session = subst (λ (n : ℕ). n < 2 ^ 64) (sym same) k.session;
+      starts = k.starts;
+      arrived = subst (λ (f : ℕ → Record). (j : ℕ) → (f j).known ≡ true → IsIn j s.arrival) (sym records)
+          (subst (λ (ids : List ℕ). (j : ℕ) → (put w.server.records id r j).known ≡ true → IsIn j ids) (sym arrival)
+          (on_put (λ j x. x.known ≡ true → IsIn j (arrival_with w.server id)) w.server.records id r (λ e. is.here) (λ j e f. is.stays j (k.arrived j f))));
+      ids = subst (λ (ids : List ℕ). (j : ℕ) → IsIn j ids → j < 2 ^ 64) (sym arrival)
+          (λ j i. elim (is.only j i) [ inl old ↦ k.ids j old | inr e ↦ subst (λ (n : ℕ). n < 2 ^ 64) e small ]);
+      few = subst (λ (ids : List ℕ). length ids ≤ 64) (sym arrival) is.few;
+      sent = k.sent;
+    }
+
+-- a client start changes that was made
+client_counts : (w : World) (id : ℕ) (c : Client) → id < 2 ^ 64 → Counts w → Counts (with_client w id c)
+client_counts w id c small k =
+    record {
+      session = k.session;
+      starts = on_put (λ j x. x.made ≡ true → j < 2 ^ 64) w.clients id c (λ e. small) (λ j e. k.starts j);
+      arrived = k.arrived;
+      ids = k.ids;
+      few = k.few;
+      sent = k.sent;
+    }
+
+-- ---- each step
+
+counts-step : (w : World) (e : Event) (r : Reply) (w' : World) → IsEvent e → wstep w e r w' → Holds w → Counts w → Counts w'
+unfolding IsRoom
+counts-step w (PaneBytes p bytes) r w' i (refused f x e is) h k = subst Counts (sym is) k
+counts-step w (PaneBytes p bytes) r w' i (taken x e is) h k =
+    subst Counts (sym is) (record { session = k.session; starts = k.starts; arrived = k.arrived; ids = k.ids; few = k.few; sent = k.sent })
+counts-step w (Drain p n) r w' i (no_pane x e is) h k = subst Counts (sym is) k
+counts-step w (Drain p n) r w' i (too_many out x y e is) h k = subst Counts (sym is) k
+counts-step w (Drain p n) r w' i (gone out x y e is) h k =
+    subst Counts (sym is) (record { session = k.session; starts = k.starts; arrived = k.arrived; ids = k.ids; few = k.few; sent = k.sent })
+counts-step w (Typed slot a) r w' i (empty_slot x e is) h k = subst Counts (sym is) k
+counts-step w (Typed slot a) r w' i (full id x y e is) h k = subst Counts (sym is) k
+counts-step w (Typed slot a) r w' i (spent id x y e is) h k = subst Counts (sym is) k
+counts-step w (Typed slot a) r w' i (typed id x y z e is) h k = subst Counts (sym is) (client_counts w id _ (k.starts id (h.slots slot id x)) k)
+counts-step w (Typed slot a) r w' i (no_memory e is) h k = subst Counts (sym is) k
+counts-step w (ServerTick now) r w' i (spent x e is) h k = subst Counts (sym is) k
+counts-step w (ServerTick now) r w' i (did_tick x y e is) h k =
+    subst Counts (sym is) (record {
+      session = k.session;
+      starts = k.starts;
+      arrived = (λ id f. k.arrived id (sym (known_ticked (w.server.records id) (number_after w.server (moment w.server now)) (screen_after w.server (moment w.server now)) (moment w.server now)) ∙ f));
+      ids = k.ids;
+      few = k.few;
+      sent = (λ d j. elim (IsIn-append_cases d w.sent (map (λ (p : Parcel). p.datagram) (sent_by w.server (moment w.server now))) j) [
+        | inl o ↦ k.sent d o
+        | inr n ↦ to_sendable w (moment w.server now) x y h k d n
+      ]);
+    })
+counts-step w (ServerTick now) r w' i (no_memory e is) h k = subst Counts (sym is) k
+counts-step w (ClientTick slot now) r w' i (empty_slot x e is) h k = subst Counts (sym is) k
+counts-step w (ClientTick slot now) r w' i (quiet id x y e is) h k = subst Counts (sym is) (client_counts w id _ (k.starts id (h.slots slot id x)) k)
+counts-step w (ClientTick slot now) r w' i (spent id x y z e is) h k = subst Counts (sym is) k
+counts-step w (ClientTick slot now) r w' i (sent id x y z e is) h k =
+    subst Counts (sym is) (record {
+      session = k.session;
+      starts = on_put (λ j c. c.made ≡ true → j < 2 ^ 64) w.clients id (after_sending (w.clients id) (moment_of (w.clients id) now)) (λ f. k.starts id (h.slots slot id x)) (λ j f. k.starts j);
+      arrived = k.arrived;
+      ids = k.ids;
+      few = k.few;
+      sent = (λ d j. elim (IsIn-append_cases d w.sent (datagrams_from w.server.session id (w.clients id)) j) [
+        | inl o ↦ k.sent d o
+        | inr n ↦ from_sendable w id z (h.slots slot id x) k d n
+      ]);
+    })
+counts-step w (ClientTick slot now) r w' i (no_memory e is) h k = subst Counts (sym is) k
+counts-step w (ToServer n from now) r w' i (not_sent x e is) h k = subst Counts (sym is) k
+counts-step w (ToServer n from now) r w' i (refused d f x y e is) h k = subst Counts (sym is) k
+counts-step w (ToServer n from now) r w' i (piece d g x y e is) h k =
+    subst Counts (sym is) (heard_counts w _ d.client _ refl refl refl (k.sent d (was_sent w n d x)).client (subst (IsRoom w.server d.client) y (room_in w.server d)) k)
+counts-step w (ToServer n from now) r w' i (unread d g text why x y z e is) h k = subst Counts (sym is) k
+counts-step w (ToServer n from now) r w' i (all_taken d g text u x y z a e is) h k =
+    subst Counts (sym is) (heard_counts w _ d.client _ refl refl refl (k.sent d (was_sent w n d x)).client (subst (IsRoom w.server d.client) y (room_in w.server d)) k)
+counts-step w (ToServer n from now) r w' i (no_room d g text u x y z a e is) h k =
+    subst Counts (sym is) (heard_counts w _ d.client _ refl refl refl (k.sent d (was_sent w n d x)).client (subst (IsRoom w.server d.client) y (room_in w.server d)) k)
+counts-step w (ToServer n from now) r w' i (no_memory_at_act d g text u m x y z le lt e is) h k =
+    subst Counts (sym is) (heard_counts w _ d.client _ refl refl refl (k.sent d (was_sent w n d x)).client (subst (IsRoom w.server d.client) y (room_in w.server d)) k)
+counts-step w (ToServer n from now) r w' i (no_memory e is) h k = subst Counts (sym is) k
+counts-step w (ToClient slot n now) r w' i (empty_slot x e is) h k = subst Counts (sym is) k
+counts-step w (ToClient slot n now) r w' i (not_sent x e is) h k = subst Counts (sym is) k
+counts-step w (ToClient slot n now) r w' i (refused id d f x y z e is) h k = subst Counts (sym is) k
+counts-step w (ToClient slot n now) r w' i (piece id d how g x y z e is) h k = subst Counts (sym is) (client_counts w id _ (k.starts id (h.slots slot id x)) k)
+counts-step w (ToClient slot n now) r w' i (unread id d g text why x y z a e is) h k = subst Counts (sym is) k
+counts-step w (ToClient slot n now) r w' i (bad_change id d g text v base x y z a b c' d' e is) h k = subst Counts (sym is) k
+counts-step w (ToClient slot n now) r w' i (whole id d g text v q x y z a b e is) h k = subst Counts (sym is) (client_counts w id _ (k.starts id (h.slots slot id x)) k)
+counts-step w (ToClient slot n now) r w' i (no_memory e is) h k = subst Counts (sym is) k
+counts-step w (Start slot id) r w' i (used x e is) h k = subst Counts (sym is) k
+counts-step w (Start slot id) r w' i (started x e is) h k =
+    subst Counts (sym is) (record {
+      session = k.session;
+      starts = on_put (λ j c. c.made ≡ true → j < 2 ^ 64) w.clients id new_client (λ f. i) (λ j f. k.starts j);
+      arrived = k.arrived;
+      ids = k.ids;
+      few = k.few;
+      sent = k.sent;
+    })
+counts-step w (Start slot id) r w' i (no_memory e is) h k = subst Counts (sym is) k
+
+counts-new : (session : ℕ) (size : SessionSize) → session < 2 ^ 64 → Counts (new_world session size)
+unfolding new_world new_server nobody no_record
+counts-new session size small =
+    record {
+      session = small;
+      starts = (λ id e. absurd (let z : false ≡ true = e in cc));
+      arrived = (λ id e. absurd (let z : false ≡ true = e in cc));
+      ids = (λ id i. absurd i);
+      few = omega arith;
+      sent = (λ d i. absurd i);
+    }
+
+counts-run : (w : World) (es : List Event) (rs : List Reply) (w' : World) → AreEvents es → Run w es rs w' → Holds w → Counts w → Counts w'
+counts-run w [] [] w' i r h k = subst Counts (sym r) k
+counts-run w (e ∷ es) (a ∷ rs) w' i r h k =
+    counts-run r.0 es rs w' i.1 r.2 (keeps-step w e a r.0 i.0 r.1 h) (counts-step w e a r.0 i.0 r.1 h k)
+counts-run w [] (a ∷ rs) w' i r h k = absurd r
+counts-run w (e ∷ es) [] w' i r h k = absurd r
+
+pub counts-reached : Always Counts
+counts-reached session size es rs w reaches =
+    counts-run (new_world session size) es rs w reaches.events reaches.run (holds-new session size) (counts-new session size reaches.id)

@@ -1,0 +1,68 @@
+-- A client start, and what is typed at it.
+use Rattle.std.specs.Prelude.{ℕ, max, List, [], ◌∷◌, ◌++◌, Option, None, Bool, true, false}
+use Rattle.roam_cells.specs.Screenshot.{Screenshot}
+use Rattle.roam_acts.specs.declared.acts.Act.{Act}
+use Rattle.roam_acts.specs.Senders.{Typing, typed, start as no_acts}
+use Rattle.roam_sync.specs.Receivers.{Receiving, start}
+use Rattle.roam_wire.specs.Gatherers.{Gathering, nothing}
+use Rattle.roam_wire.specs.Instructions.{UpValue}
+use Rattle.roam_world.specs.Numbers.{first_screen}
+
+pub record Client : Type 0 where
+  -- whether there was such a start
+  pub made : Bool
+  -- all acts that were typed at it, as a history: no program keeps it
+  pub typed : List Act
+  -- how many of them are acknowledged, and those that aren't
+  pub acts : Typing
+  -- what is gathered of the newest instruction to it
+  pub gathering : Gathering
+  -- the screens that an instruction may start from
+  pub receiver : Receiving Screenshot
+  -- when it last sent, and the greatest number of an act that was sent
+  pub sent_at : Option ℕ
+  pub sent_act : ℕ
+  -- since when an answer is owed
+  pub owed : Option ℕ
+  -- the greatest moment so far
+  pub clock : ℕ
+  -- how many datagrams it sent
+  pub datagrams : ℕ
+  -- all instructions that it sent, the first under the number 1: a program keeps their number
+  pub instructions : List UpValue
+
+-- what is there before a start
+unfoldable pub nobody : Client
+nobody =
+    record {
+      made = false;
+      typed = [];
+      acts = no_acts;
+      gathering = nothing;
+      receiver = start first_screen;
+      sent_at = None;
+      sent_act = 0;
+      owed = None;
+      clock = 0;
+      datagrams = 0;
+      instructions = [];
+    }
+
+-- what a start is at first
+abbrev pub new_client : Client
+new_client = record nobody { made = true }
+
+-- the moment that the start goes by: none below an earlier one
+abbrev pub moment_of : Client → ℕ → ℕ
+moment_of c now = max now c.clock
+
+-- the number and the screen that it shows
+abbrev pub shown_number : Client → ℕ
+shown_number c = c.receiver.newest.number
+
+abbrev pub shown_screen : Client → Screenshot
+shown_screen c = c.receiver.newest.state
+
+-- one more act was typed
+abbrev pub after_typed : Client → Act → Client
+after_typed c act = record c { typed = c.typed ++ act ∷ []; acts = typed c.acts act }

@@ -1,0 +1,104 @@
+-- What holds of every world that can be reached, and with every step again.
+use Rattle.std.specs.Prelude.{◌≡◌, ℕ, zero, suc, ◌<◌, ◌≤◌, ◌^◌, All, List, [], length, take, slice_index, slice_get, Option, Some, None, true, false}
+use Rattle.roam_cells.specs.Screenshot.{IsScreenshot}
+use Rattle.roam_acts.specs.declared.acts.Act.{Act}
+use Rattle.roam_acts.specs.Acts.{IsAct}
+use Rattle.roam_acts.specs.Senders.{HasTyped, IsStretch}
+use Rattle.roam_update.specs.Shots.{applied}
+use Rattle.roam_sync.specs.Lines.{Update}
+use Rattle.roam_sync.specs.TrueLines.{TrueLine}
+use Rattle.roam_sync.specs.Links.{Link}
+use Rattle.roam_wire.specs.declared.datagrams.Kind.{Kind}
+use Rattle.roam_wire.specs.declared.datagrams.Kind.TheVariants.{ToClient, ToServer}
+use Rattle.roam_wire.specs.Cutting.{pieces_of}
+use Rattle.roam_wire.specs.Datagrams.{DatagramValue, IsDatagram}
+use Rattle.roam_wire.specs.Gatherers.{Gathering, piece_of}
+use Rattle.roam_wire.specs.Arrivals.{IsPieceOf, GathersOf}
+use Rattle.roam_wire.specs.Instructions.{DownValue, IsDown, down_text, UpValue, IsUp, up_text}
+use Rattle.roam_session.specs.Sessions.{SessionSize, Entry}
+use Rattle.roam_world.specs.Lists.{IsIn}
+use Rattle.roam_world.specs.Numbers.{screen, IsScreenOf, acts_of}
+use Rattle.roam_world.specs.Texts.{update_in}
+use Rattle.roam_world.specs.Servers.{Record}
+use Rattle.roam_world.specs.Clients.{Client, nobody}
+use Rattle.roam_world.specs.Worlds.{World}
+use Rattle.roam_world.specs.Laws.{greatest_from, no_note}
+
+-- the instruction of an id, of those that were sent
+abbrev pub numbered : {V : Type 0} → List V → ℕ → Option V
+numbered vs zero = None
+numbered vs (suc n) = slice_get vs n
+
+abbrev pub pieces_by : {V : Type 0} → (V → List ℕ) → Option V → List (List ℕ)
+pieces_by text_of None = []
+pieces_by text_of (Some v) = pieces_of (text_of v)
+
+-- for each id the pieces of its instruction's text
+abbrev pub cuts_of : {V : Type 0} → (V → List ℕ) → List V → ℕ → List (List ℕ)
+cuts_of text_of vs n = pieces_by text_of (numbered vs n)
+
+-- what is gathered are pieces of one of these instructions
+pub record Gathers {V : Type 0} (text_of : V → List ℕ) (vs : List V) (g : Gathering) : Type 0 where
+  pub of : GathersOf (cuts_of text_of vs) g
+  pub low : g.id ≤ length vs
+
+-- the update was sent
+abbrev pub Tells : List DownValue → Update → Type 0
+Tells vs u = (v : DownValue) × IsIn v vs × (update_in v ≡ u)
+
+-- the number was acknowledged
+abbrev pub Acks : List UpValue → ℕ → Type 0
+Acks us n = (u : UpValue) × IsIn u us × (u.acked ≡ n)
+
+-- of the acts of a client start, from typing to taking
+pub record ActsOf (taken : List Act) (r : Record) (c : Client) : Type 0 where
+  pub count : r.taken ≡ length taken
+  pub front : taken ≡ take r.taken c.typed
+  pub low : r.taken ≤ length c.typed
+  pub typed : HasTyped c.acts c.typed
+  pub few : length c.acts.acts ≤ 1024
+  pub below : length c.typed < 2 ^ 62
+  pub are : All IsAct c.typed
+  pub told : (u : UpValue) → IsIn u c.instructions → IsStretch c.typed u.first u.acts
+
+-- of one client start and its record
+pub record LineOf (size : SessionSize) (log : List Entry) (cuts : List ℕ) (taken : List Act) (r : Record) (c : Client) : Type 0 where
+  pub truth : TrueLine applied (IsScreenOf size log cuts) r.sender c.receiver (Tells r.instructions)
+  pub link : Link r.sender c.receiver (Tells r.instructions) (Acks c.instructions)
+  pub acts : ActsOf taken r c
+  pub downs : (v : DownValue) → IsIn v r.instructions → IsDown v
+  pub ups : (u : UpValue) → IsIn u c.instructions → IsUp u
+  pub gathers_down : Gathers down_text r.instructions c.gathering
+  pub gathers_up : Gathers up_text c.instructions r.gathering
+  pub notes : greatest_from no_note r.notes ≡ record { number = r.latest; source = r.address }
+
+-- a datagram is a piece of the instruction that was sent under its id
+abbrev pub IsPiece : Kind → DatagramValue → Record → Client → Type 0
+IsPiece ToClient d r c = IsPieceOf (cuts_of down_text r.instructions) (piece_of d)
+IsPiece ToServer d r c = IsPieceOf (cuts_of up_text c.instructions) (piece_of d)
+
+-- each number stands for a place in the log
+abbrev pub AreCuts : List Entry → List ℕ → Type 0
+AreCuts log cuts = (k : ℕ) → k < length cuts → slice_index cuts k ≤ length log
+
+-- each number has a screen
+abbrev pub AreScreens : SessionSize → List Entry → List ℕ → Type 0
+AreScreens size log cuts = (n : ℕ) → n ≤ length cuts → IsScreenshot (screen size log cuts n)
+
+pub record Holds (w : World) : Type 0 where
+  pub numbers : length w.server.cuts < 2 ^ 62
+  pub cuts : AreCuts w.server.log w.server.cuts
+  pub screens : AreScreens w.server.size w.server.log w.server.cuts
+  pub lines : (id : ℕ) → LineOf w.server.size w.server.log w.server.cuts (acts_of id w.server.log) (w.server.records id) (w.clients id)
+  pub pieces : (d : DatagramValue) → IsIn d w.sent → IsPiece d.kind d (w.server.records d.client) (w.clients d.client)
+  pub unused : (id : ℕ) → (w.clients id).made ≡ false → w.clients id ≡ nobody
+  pub slots : (slot id : ℕ) → w.slots slot ≡ Some id → (w.clients id).made ≡ true
+
+-- what is counted, and all datagrams that were sent
+pub record Counts (w : World) : Type 0 where
+  pub session : w.server.session < 2 ^ 64
+  pub starts : (id : ℕ) → (w.clients id).made ≡ true → id < 2 ^ 64
+  pub arrived : (id : ℕ) → (w.server.records id).known ≡ true → IsIn id w.server.arrival
+  pub ids : (id : ℕ) → IsIn id w.server.arrival → id < 2 ^ 64
+  pub few : length w.server.arrival ≤ 64
+  pub sent : (d : DatagramValue) → IsIn d w.sent → IsDatagram d

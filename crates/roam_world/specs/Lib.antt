@@ -1,0 +1,16 @@
+pub mod Lists
+pub mod Moments
+pub mod Numbers
+pub mod Texts
+pub mod Servers
+pub mod Comings
+pub mod Ticks
+pub mod Clients
+pub mod Arrivals
+pub mod Sendings
+pub mod Worlds
+pub mod Steps
+pub mod Outputs
+pub mod Limits
+pub mod Laws
+pub mod Holds

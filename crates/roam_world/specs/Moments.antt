@@ -1,0 +1,20 @@
+-- Moments, in milliseconds, and what is owed.
+use Rattle.std.specs.Prelude.{ℕ, ◌+◌, ◌^◌, Bool, false, Option, Some, None, nat_le}
+
+-- so many milliseconds have passed since a moment
+abbrev pub has_passed : ℕ → ℕ → ℕ → Bool
+has_passed long since now = nat_le (since + long) now
+
+-- an answer has been owed for 100 ms
+abbrev pub is_overdue : Option ℕ → ℕ → Bool
+is_overdue None now = false
+is_overdue (Some since) now = has_passed 100 since now
+
+-- an answer is owed from now on, where none is owed already
+abbrev pub owed_from : Option ℕ → ℕ → Option ℕ
+owed_from None now = Some now
+owed_from (Some since) now = Some since
+
+-- a number is past the last that a state, a datagram, an instruction or an act may have
+abbrev pub is_spent : ℕ → Bool
+is_spent n = nat_le (2 ^ 62) n

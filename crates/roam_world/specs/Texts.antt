@@ -1,0 +1,60 @@
+-- What goes over the network: datagrams, each with one piece of an instruction's text.
+use Rattle.std.specs.Prelude.{◌≡◌, ℕ, ◌+◌, List, length, map}
+use Rattle.std.specs.List.{enumerate_from}
+use Rattle.roam_cells.specs.declared.faults.Reason.{Reason}
+use Rattle.roam_wire.specs.declared.datagrams.Kind.{Kind}
+use Rattle.roam_wire.specs.Datagrams.{DatagramValue}
+use Rattle.roam_wire.specs.Instructions.{DownValue, IsDown, down_text, UpValue, IsUp, up_text, reason_for}
+use Rattle.roam_sync.specs.Lines.{Update}
+
+-- where datagrams come from and go to: an IPv4 address and a port
+pub record Address : Type 0 where
+  pub host : ℕ
+  pub port : ℕ
+
+-- a text says a value, by the one text of each
+pub record Says {V : Type 0} (IsValue : V → Type 0) (text_of : V → List ℕ) (text : List ℕ) (v : V) : Type 0 where
+  pub is : IsValue v
+  pub spelled : text ≡ text_of v
+
+-- a text says none, and why
+pub record SaysNone {V : Type 0} (IsValue : V → Type 0) (text_of : V → List ℕ) (head : ℕ) (text : List ℕ) (why : Reason) : Type 0 where
+  pub none : (v : V) → IsValue v → text ≡ text_of v → ⊥
+  pub reason : why ≡ reason_for head text
+
+-- a text says an instruction to a client, or none
+abbrev pub SaysDown : List ℕ → DownValue → Type 0
+SaysDown = Says IsDown down_text
+
+abbrev pub SaysNoDown : List ℕ → Reason → Type 0
+SaysNoDown = SaysNone IsDown down_text 32
+
+-- a text says an instruction to the server, or none
+abbrev pub SaysUp : List ℕ → UpValue → Type 0
+SaysUp = Says IsUp up_text
+
+abbrev pub SaysNoUp : List ℕ → Reason → Type 0
+SaysNoUp = SaysNone IsUp up_text 18
+
+-- the update that an instruction to a client brings
+abbrev pub update_in : DownValue → Update
+update_in d = record { old = d.old; new = d.new; floor = d.floor; change = d.change }
+
+-- the datagram with the piece of an index; its number follows those before the instruction's first
+abbrev pub datagram_with : Kind → ℕ → ℕ → ℕ → ℕ → ℕ → ℕ × List ℕ → DatagramValue
+datagram_with kind session client before id count piece =
+    record {
+      version = 1;
+      kind = kind;
+      session = session;
+      client = client;
+      number = before + piece.0 + 1;
+      id = id;
+      index = piece.0;
+      count = count;
+      payload = piece.1;
+    }
+
+-- the datagrams of an instruction: each of its pieces in its order
+abbrev pub datagrams_of : Kind → ℕ → ℕ → ℕ → ℕ → List (List ℕ) → List DatagramValue
+datagrams_of kind session client before id pieces = map (datagram_with kind session client before id (length pieces)) (enumerate_from 0 pieces)
