@@ -1,0 +1,5 @@
+pub mod Sames
+pub mod Places
+pub mod Spellings
+pub mod Loops
+pub mod Worked
