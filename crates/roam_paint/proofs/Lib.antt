@@ -2,4 +2,9 @@ pub mod Sames
 pub mod Places
 pub mod Spellings
 pub mod Loops
+pub mod Styles
+pub mod Cells
+pub mod Steps
+pub mod Walk
+pub mod Whole
 pub mod Worked
