@@ -7,4 +7,7 @@ pub mod Cells
 pub mod Steps
 pub mod Walk
 pub mod Whole
+pub mod Bytes
+pub mod Readings
+pub mod Text
 pub mod Worked
