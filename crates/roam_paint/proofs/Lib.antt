@@ -10,4 +10,5 @@ pub mod Whole
 pub mod Bytes
 pub mod Readings
 pub mod Text
+pub mod Rests
 pub mod Worked

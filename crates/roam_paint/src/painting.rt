@@ -1,12 +1,17 @@
 //! What leads a plain terminal from one screen to another.
 ghost use Rattle.std.specs.Prelude.{◌≡◌, ◌⊎◌, ℕ, ◌+◌, ◌<◌, ◌≤◌, ◌&&◌, ◌||◌, not, ◌++◌, List, OnOk, OnErr, IfOk, IsOkUnless, [], if◌then◌else◌};
 ghost use Rattle.roam_cells.specs.Glyph.{is_right_half, is_wide};
+ghost use Rattle.roam_text.specs.Log.{Item};
+ghost use Rattle.roam_term.specs.Terminal.{term};
+ghost use Rattle.roam_paint.specs.Ground.{Displays, LeadsOver};
 ghost use Rattle.roam_paint.specs.Same.{same_style};
 ghost use Rattle.roam_paint.specs.Sequences.{spelled, place_cursor, set_style};
 ghost use Rattle.roam_paint.specs.Painting.{shown_at, same_size, differs, is_drawn, goes_on, style_after, painted, opened};
 ghost use Rattle.roam_paint.specs.Texts.{place_text, cell_text, row_text, row_style, rows_text, opening_text, closing_text};
 
+use crate::colours::colours_of;
 use crate::differences::{differs, is_same_row, is_same_size};
+use crate::laws::painted_leads_over;
 use crate::sequences::{
     push_erase_all, push_hide_cursor, push_place_cursor, push_points, push_set_style,
     push_show_cursor,
@@ -195,10 +200,16 @@ fn painting(alloc: Global, old: &Shot, new: &Shot) -> Result<Vec<u8>, AllocError
 /// places that differ, widened to whole wide cells of the new screen, is written from where it begins (CUP, 8.3.21), with SGR (8.3.117)
 /// before each cell whose style isn't the one that is set. Then come the default style, the cursor's place, and the cursor where it is visible.
 pub fn paint(old: &Shot, new: &Shot, out: &mut Vec<u8>) -> Result<(), Fault>
+    ensures leads { OnOk result ((rows cols lines : ℕ) (log : List Item) → Displays rows cols lines log old.now
+        → new.now.rows ≤ (term rows cols lines log).live.screen.rows → new.now.cols ≤ (term rows cols lines log).live.screen.cols
+        → LeadsOver rows cols lines log old.now new.now) }
     ensures text { OnOk result (out.new.items ≡ out.old.items ++ painted old.now new.now) }
     ensures err { OnErr result (out.new.items ≡ out.old.items) }
     ensures fault { IsOkUnless result Fault.OutOfMemory }
 {
+    new.facts();
+    colours_of(new.cells());
+    painted_leads_over();
     let text = painting(*out.allocator(), old, new)?;
     out.extend_from_slice(&text)?;
     Ok(())
