@@ -11,4 +11,5 @@ pub mod Bytes
 pub mod Readings
 pub mod Text
 pub mod Rests
+pub mod Escapes
 pub mod Worked
