@@ -13,23 +13,26 @@ use Rattle.roam_text.specs.EscapeSequences.{in_escape_sequence, escape_sequence,
 use Rattle.roam_text.specs.Functions.{front, functions}
 use Rattle.roam_text.proofs.Fronts.{front-le, functions-nil, functions-step}
 
+-- what ends a front ends it, whatever follows
+pub front_while-end : (last : Sign) (tail : List Sign) (p : Sign → Bool) → p last ≡ false → (xs : List Sign)
+    → front_while p (xs ++ last ∷ tail) ≡ front_while p xs
+front_while-end last tail p e [] = ap (λ b. cond b (last ∷ front_while p tail) []) e
+front_while-end last tail p e (s ∷ xs) = ap (λ l. cond (p s) (s ∷ l) []) (front_while-end last tail p e xs)
+
+pub rest_while-end : (last : Sign) (tail : List Sign) (p : Sign → Bool) → p last ≡ false → (xs : List Sign)
+    → rest_while p (xs ++ last ∷ tail) ≡ rest_while p xs ++ last ∷ tail
+rest_while-end last tail p e [] = ap (λ b. cond b (rest_while p tail) (last ∷ tail)) e
+rest_while-end last tail p e (s ∷ xs) =
+    ap (λ l. cond (p s) l (s ∷ (xs ++ last ∷ tail))) (rest_while-end last tail p e xs)
+    ∙ (elim (p s) as (λ b. cond b (rest_while p xs ++ last ∷ tail) (s ∷ (xs ++ last ∷ tail)) ≡ cond b (rest_while p xs) (s ∷ xs) ++ last ∷ tail)
+    [ true ↦ refl | false ↦ refl ])
+
 module _ (code : ℕ) (tail : List Sign) where
   abbrev escape : Sign
   escape = Character Escape code
 
   abbrev then_escape : Front → Front
   then_escape f = record { gives = f.gives; left = f.left ++ escape ∷ tail }
-
-  front_while-escape : (p : Sign → Bool) → p escape ≡ false → (xs : List Sign) → front_while p (xs ++ escape ∷ tail) ≡ front_while p xs
-  front_while-escape p e [] = ap (λ b. cond b (escape ∷ front_while p tail) []) e
-  front_while-escape p e (s ∷ xs) = ap (λ l. cond (p s) (s ∷ l) []) (front_while-escape p e xs)
-
-  rest_while-escape : (p : Sign → Bool) → p escape ≡ false → (xs : List Sign) → rest_while p (xs ++ escape ∷ tail) ≡ rest_while p xs ++ escape ∷ tail
-  rest_while-escape p e [] = ap (λ b. cond b (rest_while p tail) (escape ∷ tail)) e
-  rest_while-escape p e (s ∷ xs) =
-      ap (λ l. cond (p s) l (s ∷ (xs ++ escape ∷ tail))) (rest_while-escape p e xs)
-      ∙ (elim (p s) as (λ b. cond b (rest_while p xs ++ escape ∷ tail) (s ∷ (xs ++ escape ∷ tail)) ≡ cond b (rest_while p xs) (s ∷ xs) ++ escape ∷ tail)
-      [ true ↦ refl | false ↦ refl ])
 
   after-escape : (xs : List Sign) → after_control_string (xs ++ escape ∷ tail) ≡ after_control_string xs ++ escape ∷ tail
   after-escape [] = refl
@@ -39,9 +42,9 @@ module _ (code : ℕ) (tail : List Sign) where
   string-escape : (bell : Bool) (xs : List Sign) → control_string bell (xs ++ escape ∷ tail) ≡ then_escape (control_string bell xs)
   string-escape bell xs =
       ap (λ l. record { gives = flat_map resized l; left = after_control_string (rest_while (in_control_string bell) (xs ++ escape ∷ tail)) })
-      (front_while-escape (in_control_string bell) refl xs)
+      (front_while-end escape tail (in_control_string bell) refl xs)
       ∙ ap (λ l. record { gives = flat_map resized (front_while (in_control_string bell) xs); left = l })
-      (ap after_control_string (rest_while-escape (in_control_string bell) refl xs) ∙ after-escape (rest_while (in_control_string bell) xs))
+      (ap after_control_string (rest_while-end escape tail (in_control_string bell) refl xs) ∙ after-escape (rest_while (in_control_string bell) xs))
 
   end_control-escape : (h : Option Header) (xs : List Sign) → end_control_sequence h (xs ++ escape ∷ tail) ≡ then_escape (end_control_sequence h xs)
   end_control-escape h [] = refl
@@ -53,9 +56,9 @@ module _ (code : ℕ) (tail : List Sign) where
   control-escape : (xs : List Sign) → control_sequence (xs ++ escape ∷ tail) ≡ then_escape (control_sequence xs)
   control-escape xs =
       ap (λ l. behind (flat_map acts l) (end_control_sequence (header (body_of l)) (rest_while in_control_sequence (xs ++ escape ∷ tail))))
-      (front_while-escape in_control_sequence refl xs)
+      (front_while-end escape tail in_control_sequence refl xs)
       ∙ ap (λ f. behind (flat_map acts (front_while in_control_sequence xs)) f)
-      (ap (end_control_sequence (header (body_of (front_while in_control_sequence xs)))) (rest_while-escape in_control_sequence refl xs)
+      (ap (end_control_sequence (header (body_of (front_while in_control_sequence xs)))) (rest_while-end escape tail in_control_sequence refl xs)
       ∙ end_control-escape (header (body_of (front_while in_control_sequence xs))) (rest_while in_control_sequence xs))
 
   c1-escape : (k : Kind) (xs : List Sign) → c1_control k (xs ++ escape ∷ tail) ≡ then_escape (c1_control k xs)
@@ -76,9 +79,9 @@ module _ (code : ℕ) (tail : List Sign) where
   sequence-escape : (xs : List Sign) → escape_sequence (xs ++ escape ∷ tail) ≡ then_escape (escape_sequence xs)
   sequence-escape xs =
       ap (λ l. behind (flat_map acts l) (end_escape_sequence (intermediates (body_of l)) (rest_while in_escape_sequence (xs ++ escape ∷ tail))))
-      (front_while-escape in_escape_sequence refl xs)
+      (front_while-end escape tail in_escape_sequence refl xs)
       ∙ ap (λ f. behind (flat_map acts (front_while in_escape_sequence xs)) f)
-      (ap (end_escape_sequence (intermediates (body_of (front_while in_escape_sequence xs)))) (rest_while-escape in_escape_sequence refl xs)
+      (ap (end_escape_sequence (intermediates (body_of (front_while in_escape_sequence xs)))) (rest_while-end escape tail in_escape_sequence refl xs)
       ∙ end_escape-escape (intermediates (body_of (front_while in_escape_sequence xs))) (rest_while in_escape_sequence xs))
 
   front-escape : (s : Sign) (xs : List Sign) → front s (xs ++ escape ∷ tail) ≡ then_escape (front s xs)

@@ -12,4 +12,6 @@ pub mod Readings
 pub mod Text
 pub mod Rests
 pub mod Escapes
+pub mod Replaced
+pub mod Sizes
 pub mod Worked
