@@ -14,4 +14,5 @@ pub mod Rests
 pub mod Escapes
 pub mod Replaced
 pub mod Sizes
+pub mod Opens
 pub mod Worked

@@ -71,11 +71,11 @@ PaintedLeadsOver =
     → new.rows ≤ (term rows cols lines log).live.screen.rows → new.cols ≤ (term rows cols lines log).live.screen.cols
     → LeadsOver rows cols lines log old new
 
--- after `opened` any terminal is a ground terminal of its size that shows a blank screen, also where it stood in a sequence, in a string
--- or in an unfinished character
+-- after `opened` any terminal is a ground terminal of its size that shows a blank screen, of its size or of a smaller one, also where it
+-- stood in a sequence, in a string or in an unfinished character
 pub record IsOpened (rows cols lines : ℕ) (log : List Item) : Type 0 where
-  pub displays : Displays rows cols lines (log ++ map Byte opened)
-      (blank_screenshot (term rows cols lines log).live.screen.rows (term rows cols lines log).live.screen.cols)
+  pub displays : (height width : ℕ) → height ≤ (term rows cols lines log).live.screen.rows → width ≤ (term rows cols lines log).live.screen.cols
+      → Displays rows cols lines (log ++ map Byte opened) (blank_screenshot height width)
   pub size : IsSized (term rows cols lines log).live (term rows cols lines (log ++ map Byte opened)).live
 
 abbrev pub OpenedBeginsBlank : Type 0
