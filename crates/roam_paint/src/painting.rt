@@ -3,7 +3,7 @@ ghost use Rattle.std.specs.Prelude.{◌≡◌, ◌⊎◌, ℕ, ◌+◌, ◌<◌,
 ghost use Rattle.roam_cells.specs.Glyph.{is_right_half, is_wide};
 ghost use Rattle.roam_text.specs.Log.{Item};
 ghost use Rattle.roam_term.specs.Terminal.{term};
-ghost use Rattle.roam_paint.specs.Ground.{Displays, LeadsOver};
+ghost use Rattle.roam_paint.specs.Ground.{Displays, LeadsOver, IsOpened};
 ghost use Rattle.roam_paint.specs.Same.{same_style};
 ghost use Rattle.roam_paint.specs.Sequences.{spelled, place_cursor, set_style};
 ghost use Rattle.roam_paint.specs.Painting.{shown_at, same_size, differs, is_drawn, goes_on, style_after, painted, opened};
@@ -11,7 +11,7 @@ ghost use Rattle.roam_paint.specs.Texts.{place_text, cell_text, row_text, row_st
 
 use crate::colours::colours_of;
 use crate::differences::{differs, is_same_row, is_same_size};
-use crate::laws::painted_leads_over;
+use crate::laws::{opened_begins_blank, painted_leads_over};
 use crate::sequences::{
     push_erase_all, push_hide_cursor, push_place_cursor, push_points, push_set_style,
     push_show_cursor,
@@ -218,10 +218,13 @@ pub fn paint(old: &Shot, new: &Shot, out: &mut Vec<u8>) -> Result<(), Fault>
 /// Adds the text that makes of any terminal state a plain terminal with a blank screen (RIS, ECMA-48 8.3.105); refuses want of memory,
 /// which leaves `out` as it was.
 pub fn open(out: &mut Vec<u8>) -> Result<(), Fault>
+    ensures begins { OnOk result ((rows cols lines : ℕ) (log : List Item) → 1 ≤ (term rows cols lines log).live.screen.rows
+        → 1 ≤ (term rows cols lines log).live.screen.cols → IsOpened rows cols lines log) }
     ensures text { OnOk result (out.new.items ≡ out.old.items ++ opened) }
     ensures err { OnErr result (out.new.items ≡ out.old.items) }
     ensures fault { IsOkUnless result Fault.OutOfMemory }
 {
+    opened_begins_blank();
     out.extend_from_slice(b"\x1Bc")?;
     Ok(())
 }
