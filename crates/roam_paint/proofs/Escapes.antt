@@ -1,9 +1,8 @@
 -- ESC begins anew, whatever came before it: the signs in front of it give what they gave, and no more.
-use Rattle.std.proofs.Common.{◌≡◌, ℕ, zero, suc, ◌+◌, ◌≤◌, Bool, true, false, cond, List, [], ◌∷◌, ◌++◌, length, Option, Some, None, refl, sym, ap, ◌∙◌, arith, append_assoc}
+use Rattle.std.proofs.Common.{◌≡◌, ℕ, zero, suc, ◌+◌, ◌≤◌, Bool, true, false, cond, List, [], ◌∷◌, ◌++◌, length, Option, Some, refl, sym, ap, ◌∙◌, arith, append_assoc}
 use Rattle.std.specs.List.{flat_map}
 use Rattle.roam_text.specs.declared.kinds.Kind.{Kind}
 use Rattle.roam_text.specs.declared.kinds.Kind.TheVariants.{Cancel, Escape, Upper, Lower, StringOpening, CommandOpening, SequenceIntroducer}
-use Rattle.roam_text.specs.declared.functions.Function.{Function}
 use Rattle.roam_text.specs.Kinds.{kind_of}
 use Rattle.roam_text.specs.Log.{Sign, Character}
 use Rattle.roam_text.specs.Inside.{Front, front_while, rest_while, acts, resized}

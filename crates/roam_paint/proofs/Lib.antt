@@ -15,4 +15,5 @@ pub mod Escapes
 pub mod Replaced
 pub mod Sizes
 pub mod Opens
+pub mod Placings
 pub mod Worked

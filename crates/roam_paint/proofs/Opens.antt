@@ -1,21 +1,20 @@
 -- ESC c, read in any state, makes a ground terminal with a blank screen.
-use Rattle.std.proofs.Common.{◌≡◌, ◌≤◌, ◌<◌, ℕ, zero, suc, ◌+◌, ◌*◌, Bool, true, false, ◌&&◌, cond, nat_lt, List, [], ◌∷◌, ◌++◌, map, length, get_or, replicate, None, refl, sym, ap, ◌∙◌, subst, arith, append_assoc, length-append}
-use Rattle.std.specs.Prelude.{if◌then◌else◌, ◌==◌, slice_index}
+use Rattle.std.proofs.Common.{◌≡◌, ◌≤◌, ◌<◌, ℕ, zero, suc, ◌+◌, ◌*◌, Bool, true, false, ◌&&◌, cond, nat_lt, List, [], ◌∷◌, ◌++◌, map, length, get_or, replicate, refl, sym, ap, ◌∙◌, subst, arith, append_assoc, length-append}
+use Rattle.std.specs.Prelude.{if◌then◌else◌, ◌==◌}
 use Rattle.std.proofs.lemmas.List.{append-nil, map-append}
-use Rattle.bstr.specs.Utf8.{Decoded, decoded, bad, good, second, continues, code_of_2}
+use Rattle.bstr.specs.Utf8.{Decoded, decoded, bad, good, second, code_of_2}
 use Rattle.roam_cells.specs.Glyph.{Glyph, blank}
 use Rattle.roam_cells.specs.Place.{cell_at}
 use Rattle.roam_cells.specs.Screenshot.{blank_screenshot}
 use Rattle.roam_grid.specs.Frames.{restarted}
-use Rattle.roam_text.specs.declared.functions.Function.{Function}
 use Rattle.roam_text.specs.Functions.{functions, functions_of}
 use Rattle.roam_text.specs.Log.{Item, Byte, Sign, character, bytes_of, signs, settled, unfinished, is_unfinished}
 use Rattle.roam_text.proofs.Bytes.{is_unfinished-true, unfinished-short, unfinished-unfinished, settled-append, unfinished-append, one-ascii, push-cut}
 use Rattle.roam_text.proofs.Fronts.{functions-nil, functions-step}
-use Rattle.roam_term.specs.Terminal.{Live, Terminal, changed, lived, reset, run, started, term}
+use Rattle.roam_term.specs.Terminal.{Live, changed, reset, started, term}
 use Rattle.roam_term.proofs.Runs.{run-live}
 use Rattle.roam_paint.specs.Ground.{AtRest, IsGround, ShowsScreen, IsSized, IsOpened, OpenedBeginsBlank}
-use Rattle.roam_paint.specs.Painting.{shown_at, opened}
+use Rattle.roam_paint.specs.Painting.{opened}
 use Rattle.roam_paint.specs.Sequences.{reset_all}
 use Rattle.roam_paint.proofs.Bytes.{signs-bytes, unfinished-bytes}
 use Rattle.roam_paint.proofs.Escapes.{functions-escape}

@@ -1,8 +1,8 @@
 -- What a screen shows at each place, and where it differs from another.
-use Rattle.std.proofs.Common.{◌≡◌, ◌≤◌, ◌<◌, ℕ, ◌+◌, ◌*◌, ◌-◌, Bool, true, false, not, ◌&&◌, nat_lt, eqb, inl, inr, List, get_or, take, drop, sym, ap, ◌∙◌, refl, arith}
+use Rattle.std.proofs.Common.{◌≡◌, ◌≤◌, ◌<◌, ℕ, ◌+◌, ◌*◌, ◌-◌, Bool, true, false, not, ◌&&◌, nat_lt, eqb, inl, inr, get_or, take, drop, sym, ap, ◌∙◌, refl, arith}
 use Rattle.std.specs.Prelude.{if◌then◌else◌}
 use Rattle.std.proofs.lemmas.Bool.{cases_lt, and_parts, and_right, lt-ltb, le-ltb, eqb-true, not-false}
-use Rattle.roam_cells.specs.Glyph.{Glyph, blank}
+use Rattle.roam_cells.specs.Glyph.{blank}
 use Rattle.roam_cells.specs.Place.{cell_at}
 use Rattle.roam_cells.specs.Screenshot.{Screenshot}
 use Rattle.roam_rows.proofs.Lifting.{part_at}

@@ -1,5 +1,5 @@
 -- A printed character leaves a terminal its size.
-use Rattle.std.proofs.Common.{◌≡◌, ℕ, ◌+◌, Bool, true, false, refl, sym, ap, ◌∙◌}
+use Rattle.std.proofs.Common.{ℕ, ◌+◌, Bool, true, false, refl, ◌∙◌}
 use Rattle.std.specs.Prelude.{◌==◌, ◌&&◌, nat_lt, if◌then◌else◌}
 use Rattle.roam_cells.specs.Glyph.{Glyph}
 use Rattle.roam_cells.specs.Width.{width_of}
@@ -8,7 +8,7 @@ use Rattle.roam_charset.specs.Sets.{in_use, spent}
 use Rattle.roam_grid.specs.Cursor.{carried, indexed}
 use Rattle.roam_grid.specs.Screen.{Screen, IsSameSize}
 use Rattle.roam_grid.specs.Scrolling.{scrolled_up}
-use Rattle.roam_grid.specs.Writing.{columns, wrapped, settled, with_room, made_way, inked, advanced, put_on, joined_in, joined_on}
+use Rattle.roam_grid.specs.Writing.{columns, wrapped, settled, with_room, made_way, inked, advanced, put_on, joined_on}
 use Rattle.roam_grid.specs.declared.writing.Writing.{Writing}
 use Rattle.roam_text.specs.declared.functions.Function.TheVariants.{Print}
 use Rattle.roam_term.specs.Terminal.{Live, glyph_in, writing_under, written, printed_on, changed}

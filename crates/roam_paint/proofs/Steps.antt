@@ -11,7 +11,6 @@ use Rattle.roam_cells.specs.Place.{cell_at}
 use Rattle.roam_cells.specs.declared.styles.Style.{Style}
 use Rattle.roam_cells.proofs.Places.{get_or-table, length-table, place_below}
 use Rattle.roam_charset.specs.Charsets.{mapped_by}
-use Rattle.roam_charset.specs.declared.charsets.Charset.{Charset}
 use Rattle.roam_charset.specs.declared.charsets.Charset.TheVariants.{Ascii}
 use Rattle.roam_charset.specs.declared.sets.Element.TheVariants.{G0}
 use Rattle.roam_charset.specs.declared.sets.Sets.{Sets}

@@ -19,7 +19,7 @@ use Rattle.roam_text.specs.declared.functions.Function.TheVariants.{Print}
 use Rattle.roam_text.specs.Log.{Item, Byte, Sign, character, bytes_of, signs, unfinished}
 use Rattle.roam_text.specs.Functions.{functions, functions_of}
 use Rattle.roam_text.proofs.Fronts.{functions-nil}
-use Rattle.roam_term.specs.Terminal.{Live, Terminal, run, started, term, lived}
+use Rattle.roam_term.specs.Terminal.{Live, Terminal, run, started, term}
 use Rattle.roam_term.proofs.Runs.{run-append, run-live}
 use Rattle.roam_paint.specs.Colours.{IsColour, AreIndexed}
 use Rattle.roam_paint.specs.Ground.{IsGround, ShowsScreen, AtRest, PaintedLeadsOver}

@@ -32,7 +32,7 @@ pub record IsPaintable (g : Glyph) : Type 0 where
   pub foreground : IsColour g.style.foreground
   pub background : IsColour g.style.background
 
-wide_text-some : (ps : List ℕ) → is_wide_text ps ≡ true → is_empty_text ps ≡ false
+pub wide_text-some : (ps : List ℕ) → is_wide_text ps ≡ true → is_empty_text ps ≡ false
 wide_text-some [] h = absurd (false≢true h)
 wide_text-some (c ∷ cs) h = refl
 
@@ -40,7 +40,7 @@ half_text-narrow : (ps : List ℕ) → is_empty_text ps ≡ true → is_wide_tex
 half_text-narrow [] h = refl
 half_text-narrow (c ∷ cs) h = absurd (false≢true h)
 
-undrawn_first : (h a w b : Bool) → (not h && (a || (w && b))) ≡ false → h ≡ false → a ≡ false
+pub undrawn_first : (h a w b : Bool) → (not h && (a || (w && b))) ≡ false → h ≡ false → a ≡ false
 undrawn_first true a w b e k = absurd (false≢true (sym k))
 undrawn_first false true w b e k = absurd (false≢true (sym e))
 undrawn_first false false w b e k = refl
@@ -51,7 +51,7 @@ undrawn_second false true w b e k l = absurd (false≢true (sym e))
 undrawn_second false false true b e k l = e
 undrawn_second false false false b e k l = absurd (false≢true l)
 
-drawn_second : (h a w b : Bool) → h ≡ false → w ≡ true → b ≡ true → (not h && (a || (w && b))) ≡ true
+pub drawn_second : (h a w b : Bool) → h ≡ false → w ≡ true → b ≡ true → (not h && (a || (w && b))) ≡ true
 drawn_second true a w b k l m = absurd (false≢true (sym k))
 drawn_second false true w b k l m = refl
 drawn_second false false true b k l m = m

@@ -1,6 +1,6 @@
 -- A ground terminal goes from one screen to another.
-use Rattle.std.proofs.Common.{◌≡◌, ◌≤◌, ◌<◌, ℕ, zero, suc, ◌+◌, ◌-◌, ◌*◌, Bool, true, false, not, ◌&&◌, ltb, inl, inr, List, [], ◌∷◌, ◌++◌, length, Option, None, refl, sym, ap, ◌∙◌, subst, arith}
-use Rattle.std.specs.Prelude.{if◌then◌else◌, nat_lt, All as AllOf}
+use Rattle.std.proofs.Common.{◌≡◌, ◌≤◌, ◌<◌, ℕ, suc, ◌+◌, ◌-◌, ◌*◌, Bool, true, false, ◌&&◌, ltb, inl, inr, List, [], ◌∷◌, ◌++◌, length, Option, None, refl, sym, ap, ◌∙◌, subst, arith}
+use Rattle.std.specs.Prelude.{if◌then◌else◌, All as AllOf}
 use Rattle.std.specs.Char.{IsScalar}
 use Rattle.std.proofs.lemmas.Bool.{false≢true, cases_lt}
 use Rattle.roam_cells.specs.Glyph.{Glyph, is_wide, is_right_half, right_of, blank, default_style}
@@ -16,7 +16,6 @@ use Rattle.roam_grid.specs.declared.erasing.Extent.TheVariants.{All}
 use Rattle.roam_term.specs.Terminal.{Live, changed}
 use Rattle.roam_paint.specs.Colours.{AreIndexed}
 use Rattle.roam_paint.specs.Ground.{IsGround, ShowsScreen}
-use Rattle.roam_paint.specs.Same.{same}
 use Rattle.roam_paint.specs.Sequences.{hide_cursor, show_cursor, erase_all, place_cursor, set_style}
 use Rattle.roam_paint.specs.Painting.{shown_at, same_size, painted_over, differs, style_at, drawn_rows, opening, closing, drawn}
 use Rattle.roam_paint.proofs.Places.{shown_inside, shown_below, shown_right, same_below, same_right, same_cell}
@@ -29,7 +28,7 @@ scalars_of (x ∷ xs) h = (h 0 0 (omega arith), scalars_of xs (λ k d p. h (suc 
 
 -- ---- a screen that is shown can be painted
 
-module _ (p : Screenshot) (h : IsScreenshot p) (colours : AreIndexed p.cells) where
+module _ (p : Screenshot) (h : IsScreenshot p) where
   pub wide_shown : (r c : ℕ) → is_wide (shown_at p r c) ≡ true → (c + 1 < p.cols) × (shown_at p r (c + 1) ≡ right_of (shown_at p r c))
   wide_shown r c w =
       elim (cases_lt r p.rows) [
@@ -56,6 +55,7 @@ module _ (p : Screenshot) (h : IsScreenshot p) (colours : AreIndexed p.cells) wh
             ]
       ]
 
+module _ (p : Screenshot) (h : IsScreenshot p) (colours : AreIndexed p.cells) where
   paintable_at : (r c : ℕ) → r < p.rows → c < p.cols → IsPaintable (cell_at p.cols p.cells r c)
   paintable_at r c a b =
       let within : r * p.cols + c < length p.cells = omega (arith, place_below p.rows p.cols r c a b, h.count) in
@@ -136,7 +136,7 @@ at_rest t h i = record {
 module _ (still : Constants) (old new : Screenshot) (rows_in : new.rows ≤ still.rows) (cols_in : new.cols ≤ still.cols)
     (painting : IsScreenshot new) (colours : AreIndexed new.cells) where
   abbrev W : ℕ → ℕ → Style → Live → Type 0
-  W = Walked still new.rows new.cols (differs old new) (shown_at new) rows_in cols_in (wide_shown new painting colours) (half_shown new painting colours) (paintable_shown new painting colours)
+  W = Walked still new.rows new.cols (differs old new) (shown_at new) rows_in cols_in (wide_shown new painting) (half_shown new painting) (paintable_shown new painting colours)
 
   begun : (cells : List Glyph) (row col : ℕ) (pending : Bool) (t : Live) → t ≡ at_work still cells row col pending default_style false None
       → ((i j : ℕ) → i < still.rows → j < still.cols → cell_at still.cols cells i j ≡ painted_over old new i j) → W 0 0 default_style t
@@ -150,11 +150,11 @@ module _ (still : Constants) (old new : Screenshot) (rows_in : new.rows ≤ stil
     shown = record {
       above = λ i j p a b. absurd (omega (arith, p));
       before = λ j p q. absurd (omega (arith, p));
-      half = λ h q. let low = (half_shown new painting colours 0 0 h).0 in absurd (omega (arith, low));
+      half = λ h q. let low = (half_shown new painting 0 0 h).0 in absurd (omega (arith, low));
       rest = λ i j p q e. each i j p q ∙ same_cell old new i j e;
     };
     stands = λ p q e h. absurd (omega (arith, p));
-    middle = λ q h e. let low = (half_shown new painting colours 0 0 h).0 in absurd (omega (arith, low));
+    middle = λ q h e. let low = (half_shown new painting 0 0 h).0 in absurd (omega (arith, low));
   }
 
   module _ (cells : List Glyph) (row col : ℕ) (pending visible : Bool) (printed : Option ℕ)
@@ -172,7 +172,7 @@ module _ (still : Constants) (old new : Screenshot) (rows_in : new.rows ≤ stil
         (λ i j p q. erased_shows still.rows still.cols cells row col i j p q ∙ sym (ap (λ b. if b then shown_at old i j else blank) e))
 
     walked : W new.rows 0 (style_at (differs old new) (shown_at new) new.cols new.rows) (acted (drawn_rows (differs old new) (shown_at new) new.cols new.rows) (acted (opening old new) before))
-    walked = all_rows still new.rows new.cols (differs old new) (shown_at new) rows_in cols_in (wide_shown new painting colours) (half_shown new painting colours) (paintable_shown new painting colours)
+    walked = all_rows still new.rows new.cols (differs old new) (shown_at new) rows_in cols_in (wide_shown new painting) (half_shown new painting) (paintable_shown new painting colours)
         (same_below old new) (same_right old new) new.rows (acted (opening old new) before) (omega arith) (opened (same_size old new) refl)
 
     revealed : (cells : List Glyph) (b : Bool)
@@ -234,7 +234,7 @@ module _ (still : Constants) (old new : Screenshot) (rows_in : new.rows ≤ stil
         (record {
           rows = rows_in;
           cols = cols_in;
-          places = all_shown still new.rows new.cols (differs old new) (shown_at new) rows_in cols_in (wide_shown new painting colours) (half_shown new painting colours) (paintable_shown new painting colours)
+          places = all_shown still new.rows new.cols (differs old new) (shown_at new) rows_in cols_in (wide_shown new painting) (half_shown new painting) (paintable_shown new painting colours)
               (same_below old new) (same_right old new) _ _ walked;
           cursor_row = omega (arith, c);
           cursor_col = omega (arith, e);

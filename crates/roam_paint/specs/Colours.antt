@@ -1,5 +1,5 @@
 -- Cells whose colours are in the table of 256.
-use Rattle.std.specs.Prelude.{ℕ, ◌≤◌, ⊤, List, EachIndex, slice_index_or}
+use Rattle.std.specs.Prelude.{◌≤◌, ⊤, List, EachIndex, slice_index_or}
 use Rattle.roam_cells.specs.Glyph.{Glyph, blank}
 use Rattle.roam_cells.specs.declared.styles.Style.{Style}
 use Rattle.roam_cells.specs.declared.styles.Colour.{Colour}

@@ -1,4 +1,4 @@
-use Rattle.std.proofs.Common.{◌≡◌, List, ℕ, [], ◌++◌, ap, ◌∙◌}
+use Rattle.std.proofs.Common.{◌≡◌, [], ◌++◌, ap, ◌∙◌}
 use Rattle.roam_paint.specs.Painting.{same_size}
 use Rattle.roam_paint.specs.Texts.{rows_text, opening_text, closing_text}
 use Rattle.roam_paint.proofs.Loops.{painted_text}
