@@ -8,7 +8,6 @@ use Rattle.roam_text.specs.Functions.{functions}
 use Rattle.roam_text.specs.Log.{Item, Byte, Sign, bytes_of, signs, unfinished}
 use Rattle.roam_text.specs.Stands.{View, Stands, IsAtRest}
 use Rattle.roam_term.specs.Pens.{plain_pen}
-use Rattle.roam_term.specs.Picture.{picture}
 use Rattle.roam_term.specs.Terminal.{Live, term}
 use Rattle.roam_paint.specs.Colours.{AreIndexed}
 use Rattle.roam_paint.specs.Painting.{shown_at, painted, opened}
@@ -87,10 +86,3 @@ OpenedBeginsBlank =
 -- a reader that keeps no bytes and is outside any sequence has read a log that ends so
 abbrev pub ReaderRests : Type 0
 ReaderRests = (reader : View) (log : List Item) → Stands reader log → IsAtRest reader → AtRest log
-
--- what a ground terminal shows of its own size is the whole of what it shows
-abbrev pub ShownIsPicture : Type 0
-ShownIsPicture =
-    (rows cols lines : ℕ) (log : List Item) (p : Screenshot) → IsScreenshot p → Displays rows cols lines log p
-    → p.rows ≡ (term rows cols lines log).live.screen.rows → p.cols ≡ (term rows cols lines log).live.screen.cols
-    → picture rows cols lines log 0 ≡ p
