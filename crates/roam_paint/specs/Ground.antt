@@ -12,9 +12,9 @@ use Rattle.roam_term.specs.Terminal.{Live, term}
 use Rattle.roam_paint.specs.Colours.{AreIndexed}
 use Rattle.roam_paint.specs.Painting.{shown_at, painted, opened}
 
--- the main screen is shown, with the cursor on it and full margins; ASCII in G0, G0 invoked, no single shift waits; IRM, DECOM and DECSCNM
--- are reset, DECAWM is set; the default style, guard off. What isn't named may be as it likes: the other screen, tab stops, what DECSC kept,
--- the other sets and modes, REP's character
+-- the main screen is shown, with the cursor on it and full margins; ASCII in G0, G0 invoked, no single shift waits; IRM, DECOM and
+-- DECSCNM are reset, DECAWM is set; the default style, guard off. What isn't named may be as it likes: the other screen, tab stops, what
+-- DECSC kept, the other sets and modes, REP's character
 pub record IsGround (t : Live) : Type 0 where
   pub main : t.alternate ≡ false
   pub row_in : t.screen.row < t.screen.rows
@@ -57,8 +57,8 @@ pub record IsSized (t u : Live) : Type 0 where
 
 -- ---- the laws
 
--- the text between two screens: a ground terminal that shows the old one and has the new one's size at least is afterwards a ground terminal
--- of its size that shows the new one
+-- the text between two screens: a ground terminal that shows the old one and has the new one's size at least is afterwards a ground
+-- terminal of its size that shows the new one
 pub record LeadsOver (rows cols lines : ℕ) (log : List Item) (old new : Screenshot) : Type 0 where
   pub displays : Displays rows cols lines (log ++ map Byte (painted old new)) new
   pub size : IsSized (term rows cols lines log).live (term rows cols lines (log ++ map Byte (painted old new))).live
@@ -73,7 +73,8 @@ PaintedLeadsOver =
 -- after `opened` any terminal is a ground terminal of its size that shows a blank screen, of its size or of a smaller one, also where it
 -- stood in a sequence, in a string or in an unfinished character
 pub record IsOpened (rows cols lines : ℕ) (log : List Item) : Type 0 where
-  pub displays : (height width : ℕ) → height ≤ (term rows cols lines log).live.screen.rows → width ≤ (term rows cols lines log).live.screen.cols
+  pub displays : (height width : ℕ)
+      → height ≤ (term rows cols lines log).live.screen.rows → width ≤ (term rows cols lines log).live.screen.cols
       → Displays rows cols lines (log ++ map Byte opened) (blank_screenshot height width)
   pub size : IsSized (term rows cols lines log).live (term rows cols lines (log ++ map Byte opened)).live
 

@@ -198,7 +198,8 @@ fn painting(alloc: Global, old: &Shot, new: &Shot) -> Result<Vec<u8>, AllocError
 ///
 /// The cursor is hidden; where sizes differ all is erased (ED 2, ECMA-48 8.3.39) and old counts as blank. For each row each maximal run of
 /// places that differ, widened to whole wide cells of the new screen, is written from where it begins (CUP, 8.3.21), with SGR (8.3.117)
-/// before each cell whose style isn't the one that is set. Then come the default style, the cursor's place, and the cursor where it is visible.
+/// before each cell whose style isn't the one that is set. Then come the default style, the cursor's place, and the cursor where it is
+/// visible.
 pub fn paint(old: &Shot, new: &Shot, out: &mut Vec<u8>) -> Result<(), Fault>
     ensures leads { OnOk result ((rows cols lines : ℕ) (log : List Item) → Displays rows cols lines log old.now
         → new.now.rows ≤ (term rows cols lines log).live.screen.rows → new.now.cols ≤ (term rows cols lines log).live.screen.cols
