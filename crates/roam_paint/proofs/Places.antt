@@ -1,0 +1,81 @@
+-- What a screen shows at each place, and where it differs from another.
+use Rattle.std.proofs.Common.{◌≡◌, ◌≤◌, ◌<◌, ℕ, ◌+◌, ◌*◌, ◌-◌, Bool, true, false, not, ◌&&◌, nat_lt, eqb, inl, inr, get_or, take, drop, sym, ap, ◌∙◌, refl, arith}
+use Rattle.std.specs.Prelude.{if◌then◌else◌}
+use Rattle.std.proofs.lemmas.Bool.{cases_lt, and_parts, and_right, lt-ltb, le-ltb, eqb-true, not-false}
+use Rattle.roam_cells.specs.Glyph.{blank}
+use Rattle.roam_cells.specs.Place.{cell_at}
+use Rattle.roam_cells.specs.Screenshot.{Screenshot}
+use Rattle.roam_rows.proofs.Lifting.{part_at}
+use Rattle.roam_paint.specs.Same.{same}
+use Rattle.roam_paint.specs.Painting.{shown_at, same_size, painted_over, differs}
+use Rattle.roam_paint.proofs.Sames.{same-true, same-same}
+
+-- ---- what a screen shows inside it and outside it
+
+pub shown_inside : (p : Screenshot) (r c : ℕ) → r < p.rows → c < p.cols → shown_at p r c ≡ cell_at p.cols p.cells r c
+shown_inside p r c a b =
+    ap (λ t. if (t && nat_lt c p.cols) then cell_at p.cols p.cells r c else blank) (lt-ltb r p.rows a)
+    ∙ ap (λ t. if t then cell_at p.cols p.cells r c else blank) (lt-ltb c p.cols b)
+
+pub shown_below : (p : Screenshot) (r c : ℕ) → p.rows ≤ r → shown_at p r c ≡ blank
+shown_below p r c a = ap (λ t. if (t && nat_lt c p.cols) then cell_at p.cols p.cells r c else blank) (le-ltb r p.rows a)
+
+pub shown_right : (p : Screenshot) (r c : ℕ) → p.cols ≤ c → shown_at p r c ≡ blank
+shown_right p r c a = ap (λ t. if t then cell_at p.cols p.cells r c else blank) (and_right (nat_lt r p.rows) (nat_lt c p.cols) (le-ltb c p.cols a))
+
+-- ---- what differs
+
+module _ (old new : Screenshot) where
+  same_rows : same_size old new ≡ true → old.rows ≡ new.rows
+  same_rows e = eqb-true old.rows new.rows (and_parts (eqb old.rows new.rows) (eqb old.cols new.cols) e).0
+
+  same_cols : same_size old new ≡ true → old.cols ≡ new.cols
+  same_cols e = eqb-true old.cols new.cols (and_parts (eqb old.rows new.rows) (eqb old.cols new.cols) e).1
+
+  over_below : (r c : ℕ) → new.rows ≤ r → (b : Bool) → same_size old new ≡ b → (if b then shown_at old r c else blank) ≡ blank
+  over_below r c a true e = let rows = same_rows e in shown_below old r c (omega (arith, a, rows))
+  over_below r c a false e = refl
+
+  over_right : (r c : ℕ) → new.cols ≤ c → (b : Bool) → same_size old new ≡ b → (if b then shown_at old r c else blank) ≡ blank
+  over_right r c a true e = let cols = same_cols e in shown_right old r c (omega (arith, a, cols))
+  over_right r c a false e = refl
+
+  pub same_below : (r c : ℕ) → new.rows ≤ r → differs old new r c ≡ false
+  same_below r c a =
+      ap (λ x. not (same x (shown_at new r c))) (over_below r c a (same_size old new) refl) ∙ ap (λ x. not (same blank x)) (shown_below new r c a)
+
+  pub same_right : (r c : ℕ) → new.cols ≤ c → differs old new r c ≡ false
+  same_right r c a =
+      ap (λ x. not (same x (shown_at new r c))) (over_right r c a (same_size old new) refl) ∙ ap (λ x. not (same blank x)) (shown_right new r c a)
+
+  pub same_cell : (r c : ℕ) → differs old new r c ≡ false → painted_over old new r c ≡ shown_at new r c
+  same_cell r c e = same-true (painted_over old new r c) (shown_at new r c) (not-false (same (painted_over old new r c) (shown_at new r c)) e)
+
+  -- a row that shows the same differs nowhere
+  pub same_row : same_size old new ≡ true → (r : ℕ) → r < new.rows
+      → ((c : ℕ) → c < new.cols → cell_at old.cols old.cells r c ≡ cell_at new.cols new.cells r c) → (c : ℕ) → differs old new r c ≡ false
+  same_row e r r_in each c =
+      elim (cases_lt c new.cols) [
+        | inr a ↦ same_right r c a
+        | inl a ↦
+            let rows = same_rows e in
+            let cols = same_cols e in
+            let shows : painted_over old new r c ≡ shown_at new r c =
+            ap (λ b. if b then shown_at old r c else blank) e ∙ shown_inside old r c (omega (arith, r_in, rows)) (omega (arith, a, cols))
+            ∙ each c a ∙ sym (shown_inside new r c r_in a) in
+            ap (λ x. not (same x (shown_at new r c))) shows ∙ ap not (same-same (shown_at new r c))
+      ]
+
+  -- and so does one whose cells are the same
+  pub same_slice : same_size old new ≡ true → (r n : ℕ) → r < new.rows → n ≡ new.cols
+      → take (r * n + n - r * n) (drop (r * n) old.cells) ≡ take (r * n + n - r * n) (drop (r * n) new.cells) → (c : ℕ) → differs old new r c ≡ false
+  same_slice e r n r_in n_is same_cells =
+      let cols = same_cols e in
+      let count : r * n + n - r * n ≡ n = omega arith in
+      let front : take n (drop (r * n) old.cells) ≡ take n (drop (r * n) new.cells) =
+      sym (ap (λ k. take k (drop (r * n) old.cells)) count) ∙ same_cells ∙ ap (λ k. take k (drop (r * n) new.cells)) count in
+      same_row e r r_in (λ c c_in.
+      let low : c < n = omega (arith, c_in, n_is) in
+      ap (λ k. get_or old.cells (r * k + c) blank) (cols ∙ sym n_is)
+      ∙ sym (part_at (r * n) n c old.cells low) ∙ ap (λ l. get_or l c blank) front ∙ part_at (r * n) n c new.cells low
+      ∙ ap (λ k. get_or new.cells (r * k + c) blank) n_is)

@@ -1,0 +1,17 @@
+use Rattle.std.proofs.Common.{rules, ◌≡◌, true, List, take, drop, ◌+◌, ◌-◌, ◌*◌, ap, sym, ◌∙◌}
+use Rattle.roam_cells.specs.Glyph.{Glyph}
+use Rattle.roam_paint.specs.Painting.{same_size}
+use Rattle.roam_paint.proofs.Places.{same_slice}
+use Rattle.roam_paint.proofs.differences.is_same_row.Goals as goal
+
+pub returns : goal.returns
+returns c =
+    let same : same_size c.args.old.now c.args.new.now ≡ true = search rules in
+    let from = c.args.row * c.from-cols.result in
+    let to = from + c.from-cols.result in
+    let part = λ (l : List Glyph). take (to - from) (drop from l) in
+    record {
+      same = λ yes.
+          same_slice c.args.old.now c.args.new.now same c.args.row c.from-cols.result c.requires.row (search rules)
+          (sym (ap part c.cells.ensures.cells) ∙ c.are_same.ensures.same yes ∙ ap part c.cells-2.ensures.cells);
+    }

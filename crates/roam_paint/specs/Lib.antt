@@ -1,0 +1,7 @@
+pub mod Same
+pub mod Colours
+pub mod Sequences
+pub mod Painting
+pub mod Texts
+pub mod Ground
+pub mod Runs

@@ -1,0 +1,30 @@
+//! What is true of the colours of all cells.
+ghost use Rattle.std.specs.Prelude.{◌≡◌, ℕ};
+ghost use Rattle.roam_paint.specs.Colours.{IsColour, IsIndexed, AreIndexed};
+
+use roam_cells::{Cell, Colour, Style};
+
+// A colour's number is a byte.
+fn colour_facts(colour: Colour)
+    ensures colour { IsColour colour }
+{
+    if let Colour::Index(index) = colour {
+        let _ = index;
+    }
+}
+
+fn style_facts(style: Style)
+    ensures indexed { IsIndexed style }
+{
+    colour_facts(style.foreground);
+    colour_facts(style.background);
+}
+
+/// The colours of each cell are in the table of 256. Nothing is done when it runs.
+pub fn colours_of(cells: &[Cell])
+    ensures indexed { AreIndexed cells.now }
+{
+    for k in 0..cells.len() {
+        style_facts(cells[k].style());
+    }
+}

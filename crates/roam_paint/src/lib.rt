@@ -1,0 +1,13 @@
+//! Paints screens on a terminal: the text that leads a plain terminal from one screen to another.
+#![tactic(auto)]
+
+mod colours;
+mod differences;
+pub mod laws;
+mod painting;
+mod sequences;
+#[cfg(test)]
+mod tests;
+
+pub use colours::colours_of;
+pub use painting::{open, paint};

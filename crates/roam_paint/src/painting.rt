@@ -1,0 +1,231 @@
+//! What leads a plain terminal from one screen to another.
+ghost use Rattle.std.specs.Prelude.{◌≡◌, ◌⊎◌, ℕ, ◌+◌, ◌<◌, ◌≤◌, ◌&&◌, ◌||◌, not, ◌++◌, List, OnOk, OnErr, IfOk, IsOkUnless, [], if◌then◌else◌};
+ghost use Rattle.roam_cells.specs.Glyph.{is_right_half, is_wide};
+ghost use Rattle.roam_text.specs.Log.{Item};
+ghost use Rattle.roam_term.specs.Terminal.{term};
+ghost use Rattle.roam_paint.specs.Ground.{Displays, LeadsOver, IsOpened};
+ghost use Rattle.roam_paint.specs.Same.{same_style};
+ghost use Rattle.roam_paint.specs.Sequences.{spelled, place_cursor, set_style};
+ghost use Rattle.roam_paint.specs.Painting.{shown_at, same_size, differs, is_drawn, goes_on, style_after, painted, opened};
+ghost use Rattle.roam_paint.specs.Texts.{place_text, cell_text, row_text, row_style, rows_text, opening_text, closing_text};
+
+use crate::colours::colours_of;
+use crate::differences::{differs, is_same_row, is_same_size};
+use crate::laws::{opened_begins_blank, painted_leads_over};
+use crate::sequences::{
+    push_erase_all, push_hide_cursor, push_place_cursor, push_points, push_set_style,
+    push_show_cursor,
+};
+use roam_cells::{Cell, Fault, Shot, Style};
+use std::alloc::{AllocError, Global};
+
+// Whether a place of a row and those beside it are to show something else.
+#[derive(Clone, Copy)]
+struct Differences {
+    before: bool,
+    here: bool,
+    after: bool,
+}
+
+fn cell_of(screen: &Shot, row: usize, col: usize) -> &Cell
+    requires inside { (row < screen.now.rows) × (col < screen.now.cols) }
+    ensures cell { result.now ≡ shown_at screen.now row col }
+{
+    screen.facts();
+    &screen.cells()[row * usize::from(screen.cols()) + col]
+}
+
+// A cell begins at a place, and it or its right half differs.
+fn is_drawn(cell: &Cell, at: Differences) -> bool
+    ensures drawn { result ≡ (not (is_right_half cell.now) && (at.here || (is_wide cell.now && at.after))) }
+{
+    !cell.is_right_half() && (at.here || (cell.is_wide() && at.after))
+}
+
+fn place(text: &mut Vec<u8>, stays: bool, row: usize, col: usize) -> Result<(), AllocError>
+    requires few { (row < 1000) × (col < 1000) }
+    ensures text { OnOk result (text.new.items ≡ text.old.items ++ (if stays then [] else spelled (place_cursor (row + 1) (col + 1)))) }
+{
+    if !stays {
+        push_place_cursor(text, row as u16 + 1, col as u16 + 1)?;
+    }
+    Ok(())
+}
+
+fn restyle(text: &mut Vec<u8>, same: bool, style: Style) -> Result<(), AllocError>
+    ensures text { OnOk result (text.new.items ≡ text.old.items ++ (if same then [] else spelled (set_style style))) }
+{
+    if !same {
+        push_set_style(text, style)?;
+    }
+    Ok(())
+}
+
+fn is_same_style(one: Style, other: Style) -> bool
+    ensures same { result ≡ same_style one other }
+{
+    one.is_same(other)
+}
+
+fn paint_cell(
+    text: &mut Vec<u8>,
+    stays: bool,
+    style: Style,
+    row: usize,
+    col: usize,
+    cell: &Cell,
+) -> Result<(), AllocError>
+    requires few { (row < 1000) × (col < 1000) }
+    ensures text { OnOk result (text.new.items ≡ text.old.items ++ cell_text stays (same_style cell.now.style style) row col cell.now) }
+{
+    place(text, stays, row, col)?;
+    restyle(text, is_same_style(cell.style(), style), cell.style())?;
+    push_points(text, cell)?;
+    Ok(())
+}
+
+// One place, with the style that is set before it; answers the style that is set after it.
+#[tactic(auto, unfolding(crate::specs::Texts::place_text, crate::specs::Painting::style_after))]
+fn paint_place(
+    text: &mut Vec<u8>,
+    old: &Shot,
+    new: &Shot,
+    row: usize,
+    col: usize,
+    at: Differences,
+    style: Style,
+) -> Result<Style, AllocError>
+    requires inside { (row < new.now.rows) × (col < new.now.cols) }
+    requires here { at.here ≡ differs old.now new.now row col }
+    requires after { at.after ≡ differs old.now new.now row (col + 1) }
+    requires stays { (at.before && at.here) ≡ goes_on (differs old.now new.now) row col }
+    ensures text { OnOk result (text.new.items ≡ text.old.items ++ place_text old.now new.now row col style) }
+    ensures style { IfOk result (λ s. s ≡ style_after (differs old.now new.now) (shown_at new.now) row col style) }
+{
+    new.facts();
+    let cell = cell_of(new, row, col);
+    if !is_drawn(cell, at) {
+        return Ok(style);
+    }
+    paint_cell(text, at.before && at.here, style, row, col, cell)?;
+    Ok(cell.style())
+}
+
+// One row, with the style that is set before it; answers the style that is set after it. Each place is compared once, or, where the row
+// begins with places that don't differ, twice.
+fn paint_row(
+    text: &mut Vec<u8>,
+    old: &Shot,
+    new: &Shot,
+    row: usize,
+    style: Style,
+) -> Result<Style, AllocError>
+    requires row { row < new.now.rows }
+    ensures text { OnOk result (text.new.items ≡ text.old.items ++ row_text old.now new.now row style new.now.cols) }
+    ensures style { IfOk result (λ s. s ≡ row_style old.now new.now row style new.now.cols) }
+{
+    let mut set = style;
+    let mut at = Differences {
+        before: false,
+        here: differs(old, new, row, 0),
+        after: false,
+    };
+    for col in 0..usize::from(new.cols()) {
+        at.after = differs(old, new, row, col + 1);
+        set = paint_place(text, old, new, row, col, at, set)?;
+        at.before = at.here;
+        at.here = at.after;
+    }
+    Ok(set)
+}
+
+fn paint_changed_row(
+    text: &mut Vec<u8>,
+    old: &Shot,
+    new: &Shot,
+    row: usize,
+    style: Style,
+) -> Result<Style, AllocError>
+    requires row { row < new.now.rows }
+    ensures text { OnOk result (text.new.items ≡ text.old.items ++ row_text old.now new.now row style new.now.cols) }
+    ensures style { IfOk result (λ s. s ≡ row_style old.now new.now row style new.now.cols) }
+{
+    if is_same_row(old, new, row) {
+        return Ok(style);
+    }
+    paint_row(text, old, new, row, style)
+}
+
+fn paint_rows(text: &mut Vec<u8>, old: &Shot, new: &Shot) -> Result<(), AllocError>
+    ensures text { OnOk result (text.new.items ≡ text.old.items ++ rows_text old.now new.now new.now.rows) }
+{
+    let mut style = Style::default();
+    for row in 0..usize::from(new.rows()) {
+        style = paint_changed_row(text, old, new, row, style)?;
+    }
+    Ok(())
+}
+
+fn open_painting(text: &mut Vec<u8>, same: bool) -> Result<(), AllocError>
+    ensures text { OnOk result (text.new.items ≡ text.old.items ++ opening_text same) }
+{
+    push_hide_cursor(text)?;
+    push_erase_all(text, same)?;
+    Ok(())
+}
+
+fn close_painting(text: &mut Vec<u8>, cursor: (u16, u16), visible: bool) -> Result<(), AllocError>
+    ensures text { OnOk result (text.new.items ≡ text.old.items ++ closing_text cursor.0 cursor.1 visible) }
+{
+    push_set_style(text, Style::default())?;
+    push_place_cursor(text, cursor.0, cursor.1)?;
+    push_show_cursor(text, visible)?;
+    Ok(())
+}
+
+// The text is put together apart, so that want of memory leaves what was there as it was.
+fn painting(alloc: Global, old: &Shot, new: &Shot) -> Result<Vec<u8>, AllocError>
+    ensures text { IfOk result (λ text. text.items ≡ painted old.now new.now) }
+{
+    let mut text = Vec::new(alloc);
+    open_painting(&mut text, is_same_size(old, new))?;
+    paint_rows(&mut text, old, new)?;
+    close_painting(&mut text, new.cursor(), new.visible())?;
+    Ok(text)
+}
+
+/// Adds the text that leads a plain terminal from one screen to another; refuses want of memory, which leaves `out` as it was.
+///
+/// The cursor is hidden; where sizes differ all is erased (ED 2, ECMA-48 8.3.39) and old counts as blank. For each row each maximal run of
+/// places that differ, widened to whole wide cells of the new screen, is written from where it begins (CUP, 8.3.21), with SGR (8.3.117)
+/// before each cell whose style isn't the one that is set. Then come the default style, the cursor's place, and the cursor where it is
+/// visible.
+pub fn paint(old: &Shot, new: &Shot, out: &mut Vec<u8>) -> Result<(), Fault>
+    ensures leads { OnOk result ((rows cols lines : ℕ) (log : List Item) → Displays rows cols lines log old.now
+        → new.now.rows ≤ (term rows cols lines log).live.screen.rows → new.now.cols ≤ (term rows cols lines log).live.screen.cols
+        → LeadsOver rows cols lines log old.now new.now) }
+    ensures text { OnOk result (out.new.items ≡ out.old.items ++ painted old.now new.now) }
+    ensures err { OnErr result (out.new.items ≡ out.old.items) }
+    ensures fault { IsOkUnless result Fault.OutOfMemory }
+{
+    new.facts();
+    colours_of(new.cells());
+    painted_leads_over();
+    let text = painting(*out.allocator(), old, new)?;
+    out.extend_from_slice(&text)?;
+    Ok(())
+}
+
+/// Adds the text that makes of any terminal state a plain terminal with a blank screen (RIS, ECMA-48 8.3.105); refuses want of memory,
+/// which leaves `out` as it was.
+pub fn open(out: &mut Vec<u8>) -> Result<(), Fault>
+    ensures begins { OnOk result ((rows cols lines : ℕ) (log : List Item) → 1 ≤ (term rows cols lines log).live.screen.rows
+        → 1 ≤ (term rows cols lines log).live.screen.cols → IsOpened rows cols lines log) }
+    ensures text { OnOk result (out.new.items ≡ out.old.items ++ opened) }
+    ensures err { OnErr result (out.new.items ≡ out.old.items) }
+    ensures fault { IsOkUnless result Fault.OutOfMemory }
+{
+    opened_begins_blank();
+    out.extend_from_slice(b"\x1Bc")?;
+    Ok(())
+}
