@@ -186,6 +186,7 @@ impl Term {
         ensures some { 0 < result }
         ensures within { result ≤ length piece.now }
         ensures fed { Fed self.old self.new (take result piece.now) }
+        ensures screen { HasSize self.new self.old.live.screen.rows self.old.live.screen.cols }
         ensures short { length self.new.waiting ≤ length self.old.waiting + MOST_ANSWER * result }
     {
         let count = self.reader.parameter_run(piece);
