@@ -1,13 +1,13 @@
 -- Terminals that agree with panes, and have their rectangles' sizes, still do so after what calls make of them.
-use Rattle.std.proofs.Common.{◌≡◌, ℕ, ◌+◌, Bool, true, false, ◌==◌, ◌&&◌, cond, eqb, List, [], ◌∷◌, ◌++◌, map, length, drop, Option, Some, None, refl, sym, ap, ◌∙◌, subst}
+use Rattle.std.proofs.Common.{◌≡◌, ℕ, Bool, true, false, ◌==◌, ◌&&◌, cond, List, [], ◌∷◌, ◌++◌, length, drop, Option, Some, None, refl, sym, ap, ◌∙◌, subst}
 use Rattle.std.specs.Option.{option_map}
 use Rattle.std.proofs.lemmas.Bool.{eqb-true}
-use Rattle.roam_text.specs.Log.{Item, Byte, Resized}
+use Rattle.roam_text.specs.Log.{Resized}
 use Rattle.roam_acts.specs.declared.keys.Key.{Key}
 use Rattle.roam_acts.specs.Sent.{sent}
 use Rattle.roam_term.specs.Keys.{key_modes}
-use Rattle.roam_term.specs.Terminal.{Live, term, reports}
-use Rattle.roam_term.specs.Stands.{TermView, Shows, HasSize}
+use Rattle.roam_term.specs.Terminal.{Live, reports}
+use Rattle.roam_term.specs.Stands.{TermView, HasSize}
 use Rattle.roam_layout.specs.declared.rects.Rect.{Rect}
 use Rattle.roam_session.specs.Panes.{Pane, given, moved, is_same_size, fed, keyed, drained, answers}
 use Rattle.roam_session.specs.Stands.{IsOf, Agrees, IsPlaced}

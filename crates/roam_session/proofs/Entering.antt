@@ -1,5 +1,5 @@
 -- One entry more: what the session stands for afterwards.
-use Rattle.std.proofs.Common.{◌≡◌, ℕ, ◌+◌, ◌<◌, ◌≤◌, Bool, true, false, cond, eqb, ltb, inl, inr, ◌⊎◌, Result, Ok, Err, List, [], ◌∷◌, ◌++◌, length, Option, Some, None, refl, sym, ap, ◌∙◌, subst, arith}
+use Rattle.std.proofs.Common.{◌≡◌, ℕ, ◌+◌, ◌<◌, Bool, true, false, cond, eqb, ltb, inl, inr, ◌⊎◌, Result, Ok, Err, List, [], ◌∷◌, ◌++◌, length, Option, Some, None, refl, sym, ap, ◌∙◌, subst, arith}
 use Rattle.std.specs.Option.{option_map}
 use Rattle.std.specs.Prelude.{OnOk, OnErr, IfErr}
 use Rattle.std.proofs.lemmas.Bool.{eqb-true, eq-eqb, false≢true, cases_lt}
@@ -12,12 +12,12 @@ use Rattle.roam_acts.specs.Sent.{sent}
 use Rattle.roam_term.specs.Keys.{key_modes}
 use Rattle.roam_term.specs.Stands.{TermView}
 use Rattle.roam_layout.specs.Rects.{rect_in}
-use Rattle.roam_layout.specs.Layouts.{Plan, IsPlan, Outcome, Laid, Refused, laid, panes, start}
+use Rattle.roam_layout.specs.Layouts.{Plan, IsPlan, Laid, Refused, laid, panes, start}
 use Rattle.roam_layout.specs.declared.rects.Rect.{Rect}
-use Rattle.roam_session.specs.Panes.{Pane, given, fed, keyed, drained, key_bytes}
-use Rattle.roam_session.specs.Sessions.{Entry, Given, Did, Drained, SessionSize, SessionState, session, after_entry, acted, laid_out, panes_given, at_pane, key_in}
+use Rattle.roam_session.specs.Panes.{Pane, given, fed, keyed, drained}
+use Rattle.roam_session.specs.Sessions.{Entry, Given, Did, Drained, SessionSize, SessionState, session, acted, laid_out, panes_given, at_pane, key_in}
 use Rattle.roam_session.specs.Refusals.{waiting_in, output_at, stops, is_full_for, is_stopped, fault_of}
-use Rattle.roam_session.specs.Stands.{SessionView, Stands, Agrees, IsOf, IsPlaced, ArePlaced, term_at, waiting_at}
+use Rattle.roam_session.specs.Stands.{SessionView, Stands, Agrees, IsPlaced, ArePlaced, term_at, waiting_at}
 use Rattle.roam_session.specs.Steps.{IsGiven, Prepares, Does, step_at}
 use Rattle.roam_session.specs.declared.steps.Step.{Step}
 use Rattle.roam_session.specs.Queues.{ChangesAt, Both, IsFed, IsKeyed, IsDrained, key_refused}

@@ -1,4 +1,4 @@
-use Rattle.std.proofs.Common.{◌≡◌, ℕ, ◌<◌, ◌≤◌, length, get_or}
+use Rattle.std.proofs.Common.{◌≡◌, ℕ, ◌<◌, length, get_or}
 use Rattle.roam_cells.specs.Screenshot.{Screenshot}
 use Rattle.roam_layout.specs.Layouts.{panes}
 use Rattle.roam_layout.specs.declared.rects.Rect.{Rect}

@@ -1,4 +1,4 @@
-use Rattle.std.proofs.Common.{ℕ, [], refl}
+use Rattle.std.proofs.Common.{[], refl}
 use Rattle.roam_session.specs.Stands.{SessionView}
 use Rattle.roam_session.proofs.Entering.{brought, stands_first}
 use Rattle.roam_session.proofs.sessions.Session.new.Goals as goal

@@ -1,4 +1,4 @@
-use Rattle.std.proofs.Common.{◌≡◌, ℕ, ◌+◌, ◌<◌, List, [], ◌∷◌, length, length-append, sym, ap, ◌∙◌, subst}
+use Rattle.std.proofs.Common.{ℕ, ◌+◌, ◌<◌, List, [], ◌∷◌, length, length-append, sym, ap, ◌∙◌, subst}
 use Rattle.roam_layout.specs.Rects.{rect_in}
 use Rattle.roam_session.specs.Stands.{term_at}
 use Rattle.roam_session.specs.Steps.{Prepares, step_at}
