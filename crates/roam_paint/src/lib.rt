@@ -6,8 +6,6 @@ mod differences;
 pub mod laws;
 mod painting;
 mod sequences;
-#[cfg(test)]
-mod tests;
 
 pub use colours::colours_of;
 pub use painting::{open, paint};

@@ -6,7 +6,5 @@ mod pictures;
 mod queues;
 mod sessions;
 mod steps;
-#[cfg(test)]
-mod tests;
 
 pub use sessions::Session;

@@ -1,5 +1,5 @@
 //! Sessions: what acts, bytes and drains make of the face and of the bytes that wait.
-use crate::Session;
+use roam_session::Session;
 use roam_acts::read_act;
 use roam_cells::{Cell, Fault, Shot, Style};
 use std::alloc::Global;

@@ -1,5 +1,5 @@
 //! Paintings, each shown by a terminal that stood in the middle of a sequence before it was opened.
-use crate::{open, paint};
+use roam_paint::{open, paint};
 use roam_cells::{Cell, Shot};
 use roam_term::Term;
 use std::alloc::Global;
