@@ -1,7 +1,7 @@
 //! Sessions: what acts, bytes and drains make of the face and of the bytes that wait.
-use roam_session::Session;
 use roam_acts::read_act;
 use roam_cells::{Cell, Fault, Shot, Style};
+use roam_session::Session;
 use std::alloc::Global;
 use std::test::*;
 
