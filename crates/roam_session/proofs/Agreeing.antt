@@ -1,13 +1,13 @@
 -- Terminals that agree with panes, and have their rectangles' sizes, still do so after what calls make of them.
-use Rattle.std.proofs.Common.{◌≡◌, ℕ, ◌+◌, Bool, true, false, ◌==◌, ◌&&◌, cond, eqb, List, [], ◌∷◌, ◌++◌, map, length, drop, Option, Some, None, refl, sym, ap, ◌∙◌, subst}
+use Rattle.std.proofs.Common.{◌≡◌, ℕ, Bool, true, false, ◌==◌, ◌&&◌, cond, List, [], ◌∷◌, ◌++◌, length, drop, Option, Some, None, refl, sym, ap, ◌∙◌, subst}
 use Rattle.std.specs.Option.{option_map}
 use Rattle.std.proofs.lemmas.Bool.{eqb-true}
-use Rattle.roam_text.specs.Log.{Item, Byte, Resized}
+use Rattle.roam_text.specs.Log.{Resized}
 use Rattle.roam_acts.specs.declared.keys.Key.{Key}
 use Rattle.roam_acts.specs.Sent.{sent}
 use Rattle.roam_term.specs.Keys.{key_modes}
-use Rattle.roam_term.specs.Terminal.{Live, term, reports}
-use Rattle.roam_term.specs.Stands.{TermView, Shows, HasSize}
+use Rattle.roam_term.specs.Terminal.{Live, reports}
+use Rattle.roam_term.specs.Stands.{TermView, HasSize}
 use Rattle.roam_layout.specs.declared.rects.Rect.{Rect}
 use Rattle.roam_session.specs.Panes.{Pane, given, moved, is_same_size, fed, keyed, drained, answers}
 use Rattle.roam_session.specs.Stands.{IsOf, Agrees, IsPlaced}
@@ -20,7 +20,9 @@ moved_of : (from to : Rect) (old new : TermView) (pane : Pane) → IsMoved from 
 moved_of from to old new pane is of = by_size (is_same_size from to) refl
   where
     by_size : (v : Bool) → is_same_size from to ≡ v
-        → IsOf new (cond v pane (record { rows = pane.rows; cols = pane.cols; log = pane.log ++ Resized to.rows to.cols ∷ []; waiting = pane.waiting }))
+        → IsOf new
+        (cond v pane
+        (record { rows = pane.rows; cols = pane.cols; log = pane.log ++ Resized to.rows to.cols ∷ []; waiting = pane.waiting }))
     by_size true e = subst (λ (t : TermView). IsOf t pane) (sym (is.stays e)) of
     by_size false e =
         let fit = is.fitted e in
@@ -44,7 +46,8 @@ both_true true true e = (refl, refl)
 both_true true false e = cc
 both_true false b e = cc
 
-placed_moved : (from to : Rect) (old new : TermView) → IsMoved from to old new → HasSize old from.rows from.cols → HasSize new to.rows to.cols
+placed_moved : (from to : Rect) (old new : TermView) → IsMoved from to old new → HasSize old from.rows from.cols
+    → HasSize new to.rows to.cols
 placed_moved from to old new is size = by_size (is_same_size from to) refl
   where
     by_size : (v : Bool) → is_same_size from to ≡ v → HasSize new to.rows to.cols
@@ -76,7 +79,8 @@ Does' rule change = (old new : TermView) (pane : Pane) → rule old new → IsOf
 abbrev pub Leaves : (TermView → TermView → Type 0) → Type 0
 Leaves rule = (old new : TermView) → rule old new → HasSize new old.live.screen.rows old.live.screen.cols
 
-pub agrees_both : (rule : TermView → TermView → Type 0) (change : Pane → Pane) → Does' rule change → (old new : Option TermView) (pane : Option Pane)
+pub agrees_both : (rule : TermView → TermView → Type 0) (change : Pane → Pane) → Does' rule change
+    → (old new : Option TermView) (pane : Option Pane)
     → Both rule old new → Agrees old pane → Agrees new (option_map change pane)
 agrees_both rule change does None None None both of = tt
 agrees_both rule change does None None (Some pane) both of = absurd of
@@ -85,7 +89,8 @@ agrees_both rule change does (Some old) None pane both of = absurd both
 agrees_both rule change does (Some old) (Some new) None both of = absurd of
 agrees_both rule change does (Some old) (Some new) (Some pane) both of = does old new pane both of
 
-pub placed_both : (rule : TermView → TermView → Type 0) → Leaves rule → (r : Option Rect) (old new : Option TermView) → Both rule old new → IsPlaced r old → IsPlaced r new
+pub placed_both : (rule : TermView → TermView → Type 0) → Leaves rule → (r : Option Rect) (old new : Option TermView) → Both rule old new
+    → IsPlaced r old → IsPlaced r new
 placed_both rule leaves None None None both size = tt
 placed_both rule leaves None None (Some new) both size = absurd both
 placed_both rule leaves None (Some old) new both size = absurd size

@@ -1,12 +1,12 @@
 -- No layout command finds a queue full.
-use Rattle.std.proofs.Common.{◌≡◌, ℕ, ℤ, Bool, true, false, ◌||◌, cond, length, Option, Some, None}
+use Rattle.std.proofs.Common.{◌≡◌, Bool, true, false, cond, length, Option, Some, None}
 use Rattle.std.specs.Prelude.{nat_le}
 use Rattle.roam_acts.specs.declared.acts.Act.{Act}
 use Rattle.roam_acts.specs.declared.acts.Act.TheVariants.{Key, SplitRight, SplitDown, Close, Focus, Next, Grow, Size, View}
-use Rattle.roam_cells.specs.declared.faults.Fault.TheVariants.{BadSize, TooSmall, NoPane, PanesFull, LastPane, Busy}
-use Rattle.roam_layout.specs.Trees.{Shape, leaves, has, is_one, forked, closed, heir, free}
+use Rattle.roam_cells.specs.declared.faults.Fault.TheVariants.{Busy}
+use Rattle.roam_layout.specs.Trees.{Shape, leaves, has, is_one}
 use Rattle.roam_layout.specs.Rects.{is_roomy, spot, grown, fits_in}
-use Rattle.roam_layout.specs.Layouts.{Plan, Outcome, Laid, Refused, laid, split, close, focus_on, with_tree, grow, resize, is_session_size, area}
+use Rattle.roam_layout.specs.Layouts.{Plan, Outcome, Laid, Refused, laid, split, with_tree, is_session_size, area}
 use Rattle.roam_layout.specs.declared.rects.Way.{Way}
 use Rattle.roam_layout.specs.declared.rects.Way.TheVariants.{Right, Down}
 
@@ -22,7 +22,8 @@ laid_free s e = cc
 
 split_free : (way : Way) (s : Plan) → IsFree (split way s)
 split_free way s =
-    either (nat_le 9 (length (leaves s.tree))) _ _ (λ e. cc) (either (is_roomy way (spot s.focus s.tree (area s.rows s.cols))) _ _ (λ e. cc) (λ e. cc))
+    either (nat_le 9 (length (leaves s.tree))) _ _ (λ e. cc)
+    (either (is_roomy way (spot s.focus s.tree (area s.rows s.cols))) _ _ (λ e. cc) (λ e. cc))
 
 tree_free : (s : Plan) (t : Option Shape) → IsFree (with_tree s t)
 tree_free s None = λ e. cc

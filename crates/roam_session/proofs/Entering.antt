@@ -1,5 +1,5 @@
 -- One entry more: what the session stands for afterwards.
-use Rattle.std.proofs.Common.{◌≡◌, ℕ, ◌+◌, ◌<◌, ◌≤◌, Bool, true, false, cond, eqb, ltb, inl, inr, ◌⊎◌, Result, Ok, Err, List, [], ◌∷◌, ◌++◌, length, Option, Some, None, refl, sym, ap, ◌∙◌, subst, arith}
+use Rattle.std.proofs.Common.{◌≡◌, ℕ, ◌+◌, ◌<◌, Bool, true, false, cond, eqb, ltb, inl, inr, ◌⊎◌, Result, Ok, Err, List, [], ◌∷◌, ◌++◌, length, Option, Some, None, refl, sym, ap, ◌∙◌, subst, arith}
 use Rattle.std.specs.Option.{option_map}
 use Rattle.std.specs.Prelude.{OnOk, OnErr, IfErr}
 use Rattle.std.proofs.lemmas.Bool.{eqb-true, eq-eqb, false≢true, cases_lt}
@@ -12,12 +12,12 @@ use Rattle.roam_acts.specs.Sent.{sent}
 use Rattle.roam_term.specs.Keys.{key_modes}
 use Rattle.roam_term.specs.Stands.{TermView}
 use Rattle.roam_layout.specs.Rects.{rect_in}
-use Rattle.roam_layout.specs.Layouts.{Plan, IsPlan, Outcome, Laid, Refused, laid, panes, start}
+use Rattle.roam_layout.specs.Layouts.{Plan, IsPlan, Laid, Refused, laid, panes, start}
 use Rattle.roam_layout.specs.declared.rects.Rect.{Rect}
-use Rattle.roam_session.specs.Panes.{Pane, given, fed, keyed, drained, key_bytes}
-use Rattle.roam_session.specs.Sessions.{Entry, Given, Did, Drained, SessionSize, SessionState, session, after_entry, acted, laid_out, panes_given, at_pane, key_in}
+use Rattle.roam_session.specs.Panes.{Pane, given, fed, keyed, drained}
+use Rattle.roam_session.specs.Sessions.{Entry, Given, Did, Drained, SessionSize, SessionState, session, acted, laid_out, panes_given, at_pane, key_in}
 use Rattle.roam_session.specs.Refusals.{waiting_in, output_at, stops, is_full_for, is_stopped, fault_of}
-use Rattle.roam_session.specs.Stands.{SessionView, Stands, Agrees, IsOf, IsPlaced, ArePlaced, term_at, waiting_at}
+use Rattle.roam_session.specs.Stands.{SessionView, Stands, Agrees, IsPlaced, ArePlaced, term_at, waiting_at}
 use Rattle.roam_session.specs.Steps.{IsGiven, Prepares, Does, step_at}
 use Rattle.roam_session.specs.declared.steps.Step.{Step}
 use Rattle.roam_session.specs.Queues.{ChangesAt, Both, IsFed, IsKeyed, IsDrained, key_refused}
@@ -45,21 +45,25 @@ stands_laid s t client act no_key e are size log h =
     let d = session size log in
     let now : SessionState = record { plan = t.plan; pane = panes_given s.plan t.plan d.pane } in
     stands_after t size log (Did client act) now
-    (session-append size log (Did client act) ∙ ap (λ o. acted o act d) no_key ∙ ap (λ p. laid_out (laid p act) d) (sym h.plan) ∙ ap (λ o. laid_out o d) e
+    (session-append size log (Did client act) ∙ ap (λ o. acted o act d) no_key ∙ ap (λ p. laid_out (laid p act) d) (sym h.plan)
+    ∙ ap (λ o. laid_out o d) e
     ∙ (λ i. record { plan = t.plan; pane = panes_given (sym h.plan i) t.plan d.pane }))
     refl
-    (λ k. agrees_given (rect_in k (panes s.plan)) (rect_in k (panes t.plan)) (term_at s.terms k) (term_at t.terms k) (d.pane k) (are k) (h.panes k))
+    (λ k. agrees_given (rect_in k (panes s.plan)) (rect_in k (panes t.plan)) (term_at s.terms k) (term_at t.terms k) (d.pane k) (are k)
+    (h.panes k))
 
 pub stands_refused : (s : SessionView) (client : ℕ) (act : Act) (fault : Fault) → key_in act ≡ None → laid s.plan act ≡ Refused fault
     → (size : SessionSize) (log : List Entry) → Stands s size log → Stands s size (log ++ Did client act ∷ [])
 stands_refused s client act fault no_key e size log h =
     let d = session size log in
     stands_after s size log (Did client act) d
-    (session-append size log (Did client act) ∙ ap (λ o. acted o act d) no_key ∙ ap (λ p. laid_out (laid p act) d) (sym h.plan) ∙ ap (λ o. laid_out o d) e)
+    (session-append size log (Did client act) ∙ ap (λ o. acted o act d) no_key ∙ ap (λ p. laid_out (laid p act) d) (sym h.plan)
+    ∙ ap (λ o. laid_out o d) e)
     h.plan h.panes
 
 -- what was prepared and then done gives each number what its rectangles ask
-pub brought : (before : List (ℕ × Rect)) (new : Plan) (xs ys : List (ℕ × Rect)) (ts zs us : List (Option TermView)) (steps : List Step) → IsPlan new
+pub brought : (before : List (ℕ × Rect)) (new : Plan) (xs ys : List (ℕ × Rect)) (ts zs us : List (Option TermView)) (steps : List Step)
+    → IsPlan new
     → xs ≡ before → ys ≡ panes new → zs ≡ ts → length us ≡ 10
     → ((k : ℕ) → k < 10 → Prepares (step_at steps k) (rect_in k xs) (rect_in k ys) (term_at zs k))
     → ((k : ℕ) → k < 10 → Does (step_at steps k) (term_at ts k) (term_at us k))
@@ -70,11 +74,13 @@ brought before new xs ys ts zs us steps plan from to same ten prepared done k =
           let one : Prepares (step_at steps k) (rect_in k before) (rect_in k (panes new)) (term_at ts k) =
           subst (λ (l : List (ℕ × Rect)). Prepares (step_at steps k) (rect_in k l) (rect_in k (panes new)) (term_at ts k)) from
           (subst (λ (l : List (ℕ × Rect)). Prepares (step_at steps k) (rect_in k xs) (rect_in k l) (term_at ts k)) to
-          (subst (λ (l : List (Option TermView)). Prepares (step_at steps k) (rect_in k xs) (rect_in k ys) (term_at l k)) same (prepared k low)))
+          (subst (λ (l : List (Option TermView)). Prepares (step_at steps k) (rect_in k xs) (rect_in k ys) (term_at l k)) same
+          (prepared k low)))
           in one.does (term_at us k) (done k low)
       | inr high ↦
           subst (λ (r : Option Rect). IsGiven (rect_in k before) r (term_at ts k) (term_at us k)) (sym (none_above new plan k high))
-          (subst (λ (t : Option TermView). IsGiven (rect_in k before) None (term_at ts k) t) (sym (get_or_past us k None (omega (arith, ten, high)))) tt)
+          (subst (λ (t : Option TermView). IsGiven (rect_in k before) None (term_at ts k) t)
+          (sym (get_or_past us k None (omega (arith, ten, high)))) tt)
     ]
 
 pub placed_all : (old new : Plan) (ts us : List (Option TermView)) → ArePlaced old ts
@@ -97,19 +103,22 @@ placed_first plan ts us none are k =
     placed_given None (rect_in k (panes plan)) (term_at ts k) (term_at us k) (are k) (none_placed (term_at ts k) (none k))
 
 pub stands_first : (s : SessionView) (size : SessionSize) (ts : List (Option TermView)) → s.plan ≡ start size.rows size.cols
-    → ((k : ℕ) → term_at ts k ≡ None) → ((k : ℕ) → IsGiven None (rect_in k (panes s.plan)) (term_at ts k) (term_at s.terms k)) → Stands s size []
+    → ((k : ℕ) → term_at ts k ≡ None) → ((k : ℕ) → IsGiven None (rect_in k (panes s.plan)) (term_at ts k) (term_at s.terms k))
+    → Stands s size []
 unfolding session
 stands_first s size ts plan none are =
     record {
       plan = plan;
       panes = λ k.
           subst (λ (x : Plan). Agrees (term_at s.terms k) (given None (rect_in k (panes x)) None)) plan
-          (agrees_given None (rect_in k (panes s.plan)) (term_at ts k) (term_at s.terms k) None (are k) (none_agrees (term_at ts k) (none k)));
+          (agrees_given None (rect_in k (panes s.plan)) (term_at ts k) (term_at s.terms k) None (are k)
+          (none_agrees (term_at ts k) (none k)));
     }
 
 -- ---- calls on one pane
 
-agrees_at : (p : ℕ) (rule : TermView → TermView → Type 0) (change : Pane → Pane) → Does' rule change → (ts us : List (Option TermView)) → ChangesAt p rule ts us
+agrees_at : (p : ℕ) (rule : TermView → TermView → Type 0) (change : Pane → Pane) → Does' rule change → (ts us : List (Option TermView))
+    → ChangesAt p rule ts us
     → (pane : ℕ → Option Pane) → ((k : ℕ) → Agrees (term_at ts k) (pane k))
     → (k : ℕ) → Agrees (term_at us k) (cond (eqb k p) (option_map change (pane k)) (pane k))
 agrees_at p rule change does ts us changes pane of k = by_number (eqb k p) refl
@@ -121,7 +130,8 @@ agrees_at p rule change does ts us changes pane of k = by_number (eqb k p) refl
     by_number false e =
         subst (λ (t : Option TermView). Agrees t (pane k)) (sym (changes.others k (λ same. false≢true (sym e ∙ eq-eqb k p same)))) (of k)
 
-pub placed_at : (plan : Plan) (p : ℕ) (rule : TermView → TermView → Type 0) → Leaves rule → (ts us : List (Option TermView)) → ChangesAt p rule ts us
+pub placed_at : (plan : Plan) (p : ℕ) (rule : TermView → TermView → Type 0) → Leaves rule → (ts us : List (Option TermView))
+    → ChangesAt p rule ts us
     → ArePlaced plan ts → ArePlaced plan us
 placed_at plan p rule leaves ts us changes placed k = by_number (eqb k p) refl
   where
@@ -130,7 +140,8 @@ placed_at plan p rule leaves ts us changes placed k = by_number (eqb k p) refl
         let here = subst (λ (j : ℕ). Both rule (term_at ts j) (term_at us j)) (sym (eqb-true k p e)) changes.here in
         placed_both rule leaves (rect_in k (panes plan)) (term_at ts k) (term_at us k) here (placed k)
     by_number false e =
-        subst (λ (t : Option TermView). IsPlaced (rect_in k (panes plan)) t) (sym (changes.others k (λ same. false≢true (sym e ∙ eq-eqb k p same)))) (placed k)
+        subst (λ (t : Option TermView). IsPlaced (rect_in k (panes plan)) t)
+        (sym (changes.others k (λ same. false≢true (sym e ∙ eq-eqb k p same)))) (placed k)
 
 pub stands_fed : (s t : SessionView) (p : ℕ) (bytes : List ℕ) → t.plan ≡ s.plan → ChangesAt p (IsFed bytes) s.terms t.terms
     → (size : SessionSize) (log : List Entry) → Stands s size log → Stands t size (log ++ Given p bytes ∷ [])
@@ -165,7 +176,8 @@ waits None (Some p) of = absurd of
 waits (Some t) None of = absurd of
 waits (Some t) (Some p) of = ap Some of.waiting
 
-pub waiting_is : (s : SessionView) (p : ℕ) (size : SessionSize) (log : List Entry) → Stands s size log → waiting_at s.terms p ≡ output_at size log p
+pub waiting_is : (s : SessionView) (p : ℕ) (size : SessionSize) (log : List Entry) → Stands s size log
+    → waiting_at s.terms p ≡ output_at size log p
 unfolding output_at
 waiting_is s p size log h = waits (term_at s.terms p) ((session size log).pane p) (h.panes p)
 
@@ -179,7 +191,8 @@ fulls key None (Some p) of = absurd of
 fulls key (Some t) None of = absurd of
 fulls key (Some t) (Some p) of = λ i. fault_if (ltb 65536 (length (of.waiting i) + length (sent (key_modes (of.shows.live i).modes) key)))
 
-pub stopped_is : (s : SessionView) (act : Act) (key : Key) → key_in act ≡ Some key → (size : SessionSize) (log : List Entry) → Stands s size log
+pub stopped_is : (s : SessionView) (act : Act) (key : Key) → key_in act ≡ Some key → (size : SessionSize) (log : List Entry)
+    → Stands s size log
     → key_refused key (term_at s.terms s.plan.focus) ≡ fault_if (stops size log act)
 unfolding stops
 stopped_is s act key is size log h =
@@ -198,7 +211,8 @@ pub on_both : {A E : Type 0} (r : Result A E) (P Q R : Type 0) → (P → Q → 
 on_both (Ok x) P Q R f p q = f p q
 on_both (Err e) P Q R f p q = tt
 
-pub on_errors : {A E : Type 0} (r : Result A E) (P Q : E → Type 0) (R : Type 0) → ((e : E) → P e → R → Q e) → IfErr r P → OnErr r R → IfErr r Q
+pub on_errors : {A E : Type 0} (r : Result A E) (P Q : E → Type 0) (R : Type 0) → ((e : E) → P e → R → Q e) → IfErr r P → OnErr r R
+    → IfErr r Q
 on_errors (Ok x) P Q R f p q = tt
 on_errors (Err e) P Q R f p q = f e p q
 

@@ -1,5 +1,5 @@
 -- The pictures of a layout's panes: their sizes, and whose they are.
-use Rattle.std.proofs.Common.{◌≡◌, ℕ, zero, suc, ◌+◌, ◌<◌, ◌≤◌, Bool, true, false, ◌||◌, cond, eqb, inl, inr, List, [], ◌∷◌, ◌++◌, map, length, get_or, Option, Some, None, refl, sym, ap, ◌∙◌, subst, arith}
+use Rattle.std.proofs.Common.{◌≡◌, ℕ, suc, ◌+◌, ◌<◌, Bool, true, false, ◌||◌, cond, eqb, inl, inr, List, [], ◌∷◌, ◌++◌, map, length, get_or, Option, Some, None, refl, sym, ap, ◌∙◌, subst, arith}
 use Rattle.std.specs.Prelude.{slice_index}
 use Rattle.std.proofs.lemmas.Bool.{cases_lt}
 use Rattle.std.proofs.lemmas.List.{get_or_append_left}
@@ -25,7 +25,8 @@ listed_some : (p : ℕ) (r : Rect) (xs : List (ℕ × Rect)) → rect_in p xs �
 listed_some p r [] e = cc
 listed_some p r (x ∷ xs) e = by_case (listed_some p r xs) (eqb x.0 p) e
   where
-    by_case : (rect_in p xs ≡ Some r → lists p xs ≡ true) → (v : Bool) → cond v (Some x.1) (rect_in p xs) ≡ Some r → (v || lists p xs) ≡ true
+    by_case : (rect_in p xs ≡ Some r → lists p xs ≡ true) → (v : Bool) → cond v (Some x.1) (rect_in p xs) ≡ Some r
+        → (v || lists p xs) ≡ true
     by_case rest true at = refl
     by_case rest false at = rest at
 
@@ -49,7 +50,8 @@ sizes_of : (o : Option TermView) (r : Rect) (view : ℕ) (shot : Screenshot) →
 sizes_of None r view shot placed is = absurd placed
 sizes_of (Some t) r view shot placed is = (sym is.size.0 ∙ placed.0, sym is.size.1 ∙ placed.1)
 
-shown_of : (o : Option TermView) (r : Rect) (view : ℕ) (shot : Screenshot) (p : Option Pane) → IsPlaced (Some r) o → Agrees o p → IsPictureAt o view shot
+shown_of : (o : Option TermView) (r : Rect) (view : ℕ) (shot : Screenshot) (p : Option Pane) → IsPlaced (Some r) o → Agrees o p
+    → IsPictureAt o view shot
     → shot ≡ picture_at view p
 shown_of None r view shot p placed of is = absurd placed
 shown_of (Some t) r view shot None placed of is = absurd of
@@ -69,24 +71,28 @@ maps_same (x ∷ ps) (y ∷ ss) count each =
     λ i. first i ∷ rest i
 
 module _ (s : Plan) (terms : List (Option TermView)) (plan : IsPlan s) (placed : ArePlaced s terms) where
-  placed_here : (k : ℕ) (d : ℕ × Rect) → k < length (panes s) → IsPlaced (Some (get_or (panes s) k d).1) (term_at terms (get_or (panes s) k d).0)
+  placed_here : (k : ℕ) (d : ℕ × Rect) → k < length (panes s)
+      → IsPlaced (Some (get_or (panes s) k d).1) (term_at terms (get_or (panes s) k d).0)
   placed_here k d h =
       let x = get_or (panes s) k d in
       subst (λ (r : Option Rect). IsPlaced r (term_at terms x.0)) (found_by_number s plan k d h) (placed x.0)
 
-  same_size : (x : ℕ × Rect) (y : ℕ × Screenshot) → IsPlaced (Some x.1) (term_at terms x.0) → IsPictured terms s.views x y → picture_size y ≡ size_of x
+  same_size : (x : ℕ × Rect) (y : ℕ × Screenshot) → IsPlaced (Some x.1) (term_at terms x.0) → IsPictured terms s.views x y
+      → picture_size y ≡ size_of x
   same_size x y here is =
       let sizes = sizes_of (term_at terms x.0) x.1 (slice_index s.views x.0) y.1 here is.picture in
       λ i. record { pane = is.number i; rows = sizes.0 i; cols = sizes.1 i }
 
   pub are_pictures : (ss : List (ℕ × Screenshot)) → length ss ≡ length (panes s)
-      → ((k : ℕ) (d : ℕ × Rect) (e : ℕ × Screenshot) → k < length (panes s) → IsPictured terms s.views (get_or (panes s) k d) (get_or ss k e))
+      → ((k : ℕ) (d : ℕ × Rect) (e : ℕ × Screenshot) → k < length (panes s) → IsPictured terms s.views (get_or (panes s) k d)
+      (get_or ss k e))
       → ArePictures (panes s) ss
   are_pictures ss count each =
       maps_same (panes s) ss count (λ k d e h. same_size (get_or (panes s) k d) (get_or ss k e) (placed_here k d h) (each k d e h))
 
   pub are_shown : (ss : List (ℕ × Screenshot)) → length ss ≡ length (panes s)
-      → ((k : ℕ) (d : ℕ × Rect) (e : ℕ × Screenshot) → k < length (panes s) → IsPictured terms s.views (get_or (panes s) k d) (get_or ss k e))
+      → ((k : ℕ) (d : ℕ × Rect) (e : ℕ × Screenshot) → k < length (panes s) → IsPictured terms s.views (get_or (panes s) k d)
+      (get_or ss k e))
       → (pane : ℕ → Option Pane) → ((k : ℕ) → Agrees (term_at terms k) (pane k))
       → Show (λ k. picture_at (slice_index s.views k) (pane k)) ss
   are_shown ss count each pane of k e h =
@@ -99,7 +105,8 @@ module _ (s : Plan) (terms : List (Option TermView)) (plan : IsPlan s) (placed :
       ∙ ap (λ n. picture_at (slice_index s.views n) (pane n)) (sym is.number)
 
 -- one more picture
-pub pictured_more : (terms : List (Option TermView)) (views : List ℕ) (ps : List (ℕ × Rect)) (ss : List (ℕ × Screenshot)) (y : ℕ × Screenshot) (n : ℕ)
+pub pictured_more : (terms : List (Option TermView)) (views : List ℕ) (ps : List (ℕ × Rect)) (ss : List (ℕ × Screenshot))
+    → (y : ℕ × Screenshot) (n : ℕ)
     → length ss ≡ n
     → ((k : ℕ) (d : ℕ × Rect) (e : ℕ × Screenshot) → k < n → IsPictured terms views (get_or ps k d) (get_or ss k e))
     → ((d : ℕ × Rect) → IsPictured terms views (get_or ps n d) y)
@@ -107,7 +114,8 @@ pub pictured_more : (terms : List (Option TermView)) (views : List ℕ) (ps : Li
 pictured_more terms views ps ss y n count before last k d e h =
     elim (cases_lt k n) [
       | inl low ↦
-          subst (λ (z : ℕ × Screenshot). IsPictured terms views (get_or ps k d) z) (sym (get_or_append_left ss (y ∷ []) e k (omega (arith, count, low))))
+          subst (λ (z : ℕ × Screenshot). IsPictured terms views (get_or ps k d) z)
+          (sym (get_or_append_left ss (y ∷ []) e k (omega (arith, count, low))))
           (before k d e low)
       | inr high ↦
           let same : n ≡ k = omega (arith, high, h) in

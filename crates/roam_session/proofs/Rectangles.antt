@@ -1,5 +1,5 @@
 -- The rectangles of a layout's panes: their sizes, and that each is found by its number.
-use Rattle.std.proofs.Common.{◌≡◌, ℕ, zero, suc, ◌+◌, ◌-◌, ◌<◌, ◌≤◌, Bool, true, false, cond, eqb, List, [], ◌∷◌, ◌++◌, length, get_or, Option, Some, None, refl, sym, ap, ◌∙◌, subst, arith}
+use Rattle.std.proofs.Common.{◌≡◌, ℕ, zero, suc, ◌+◌, ◌<◌, ◌≤◌, Bool, true, false, cond, eqb, List, [], ◌∷◌, ◌++◌, length, get_or, Some, None, refl, ap, ◌∙◌, subst, arith}
 use Rattle.std.proofs.lemmas.Bool.{eqb-true, eq-eqb, ne_eqb}
 use Rattle.roam_cells.specs.Limits.{IsSize}
 use Rattle.roam_layout.specs.Trees.{Shape, One, Two, times, AreNumbers}
@@ -25,7 +25,9 @@ found_in P p r [] h e = cc
 found_in P p r (x ∷ xs) h e = by_case (found_in P p r xs h.1) (eqb x.0 p) refl e
   where
     by_case : (rect_in p xs ≡ Some r → P (p, r)) → (v : Bool) → eqb x.0 p ≡ v → cond v (Some x.1) (rect_in p xs) ≡ Some r → P (p, r)
-    by_case rest true is at = let same : x.1 ≡ r = cc in subst (λ (s : Rect). P (p, s)) same (subst (λ (n : ℕ). P (n, x.1)) (eqb-true x.0 p is) h.0)
+    by_case rest true is at =
+        let same : x.1 ≡ r = cc in
+        subst (λ (s : Rect). P (p, s)) same (subst (λ (n : ℕ). P (n, x.1)) (eqb-true x.0 p is) h.0)
     by_case rest false is at = rest at
 
 none_in : (p : ℕ) (xs : List (ℕ × Rect)) → Each (λ x. eqb x.0 p ≡ false) xs → rect_in p xs ≡ None
@@ -115,4 +117,5 @@ finds_itself (y ∷ xs) once (suc k) d h =
 -- a pane of a layout is found by its number
 pub found_by_number : (s : Plan) → IsPlan s → (k : ℕ) (d : ℕ × Rect) → k < length (panes s)
     → rect_in (get_or (panes s) k d).0 (panes s) ≡ Some (get_or (panes s) k d).1
-found_by_number s plan k d h = finds_itself (panes s) (λ p. omega (arith, counts_placed p s.tree (area s.rows s.cols), plan.distinct p)) k d h
+found_by_number s plan k d h =
+    finds_itself (panes s) (λ p. omega (arith, counts_placed p s.tree (area s.rows s.cols), plan.distinct p)) k d h

@@ -16,8 +16,8 @@ waiting_in pane = option_map (λ (p : Pane). p.waiting) pane
 unfoldable pub output_at : SessionSize → List Entry → ℕ → Option (List ℕ)
 output_at size log p = waiting_in ((session size log).pane p)
 
--- why bytes aren't taken where these wait: there is no pane, they are more than 1,024, or the queue of 65,536 bytes hasn't 12 free bytes for
--- each of them; in this order
+-- why bytes aren't taken where these wait: there is no pane, they are more than 1,024, or the queue of 65,536 bytes hasn't 12 free bytes
+-- for each of them; in this order
 abbrev pub bytes_refused : List ℕ → Option (List ℕ) → Option Fault
 bytes_refused bytes None = Some NoPane
 bytes_refused bytes (Some waiting) =

@@ -1,5 +1,5 @@
 -- The session that a log makes: a layout and its panes (this project's profile).
-use Rattle.std.specs.Prelude.{ℕ, ◌==◌, List, [], ◌∷◌, Option, Some, None, if◌then◌else◌}
+use Rattle.std.specs.Prelude.{ℕ, ◌==◌, List, Option, Some, None, if◌then◌else◌}
 use Rattle.std.specs.Option.{option_map}
 use Rattle.std.specs.List.{fold}
 use Rattle.roam_acts.specs.declared.acts.Act.{Act}
@@ -9,8 +9,8 @@ use Rattle.roam_layout.specs.Rects.{rect_in}
 use Rattle.roam_layout.specs.Layouts.{Plan, Outcome, Laid, Refused, start, laid, panes}
 use Rattle.roam_session.specs.Panes.{Pane, given, fed, keyed, drained}
 
--- what happens in a session: bytes of a pane's program are given to the pane, an act of a client is done, and so many bytes that wait in a pane
--- go to its program
+-- what happens in a session: bytes of a pane's program are given to the pane, an act of a client is done, and so many bytes that wait in
+-- a pane go to its program
 pub data Entry : Type 0 where
   Given : (pane : ℕ) → (bytes : List ℕ) → Entry
   Did : (client : ℕ) → (act : Act) → Entry

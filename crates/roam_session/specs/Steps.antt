@@ -5,7 +5,6 @@ use Rattle.roam_term.specs.Stands.{TermView, Shows, Sized, HasSize}
 use Rattle.roam_layout.specs.declared.rects.Rect.{Rect}
 use Rattle.roam_layout.specs.Rects.{rect_in}
 use Rattle.roam_session.specs.Panes.{is_same_size}
-use Rattle.roam_session.specs.Stands.{term_at}
 use Rattle.roam_session.specs.declared.steps.Step.{Step}
 use Rattle.roam_session.specs.declared.steps.Step.TheVariants.{Keep, End, Begin, Fit}
 

@@ -4,5 +4,6 @@ ghost use Rattle.roam_session.specs.Sessions.{SessionSize, Entry, session, after
 
 /// A log makes of a session what its entries make one after another.
 pub fn entries_come_one_after_another()
-    ensures step { (size : SessionSize) (log : List Entry) (entry : Entry) → session size (log ++ entry ∷ []) ≡ after_entry (session size log) entry }
+    ensures step { (size : SessionSize) (log : List Entry) (entry : Entry)
+        → session size (log ++ entry ∷ []) ≡ after_entry (session size log) entry }
 {}

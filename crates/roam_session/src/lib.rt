@@ -6,5 +6,7 @@ mod pictures;
 mod queues;
 mod sessions;
 mod steps;
+#[cfg(test)]
+mod tests;
 
 pub use sessions::Session;

@@ -46,7 +46,8 @@ fn pictured(
 ) -> Result<(u8, Shot), Fault>
     requires number { k < length (panes layout.now) }
     requires ten { length terms.now ≡ 10 }
-    ensures pictured { IfOk result (λ picture. (d : ℕ × RectOfLayout) → IsPictured terms.now layout.now.views (slice_index_or (panes layout.now) k d) picture) }
+    ensures pictured { IfOk result (λ picture. (d : ℕ × RectOfLayout)
+        → IsPictured terms.now layout.now.views (slice_index_or (panes layout.now) k d) picture) }
     ensures fault { IsOkUnless result Fault.OutOfMemory }
 {
     layout.facts();

@@ -96,6 +96,7 @@ pub fn room(terms: &[Option<Term>], pane: u8) -> Option<usize>
 pub fn copy_output(terms: &[Option<Term>], pane: u8, out: &mut [u8]) -> Result<usize, Fault>
     ensures fault { fault_of result ≡ none_refused (waiting_at terms.now pane) }
     ensures bytes { IfOk result (λ n. IsCopied n out.old out.new (waiting_at terms.now pane)) }
+    ensures within { IfOk result (λ n. n ≤ length out.old) }
     ensures err { OnErr result (out.new ≡ out.old) }
 {
     let pane = usize::from(pane);

@@ -94,7 +94,8 @@ pub fn prepare(
     requires ten { length terms.now ≡ 10 }
     requires sizes { AreSizes to.now }
     ensures count { IfOk result (λ steps. length steps.items ≡ 10) }
-    ensures steps { IfOk result (λ steps. (k : ℕ) → k < 10 → Prepares (step_at steps.items k) (rect_in k from.now) (rect_in k to.now) (term_at terms.now k)) }
+    ensures steps { IfOk result (λ steps. (k : ℕ) → k < 10
+        → Prepares (step_at steps.items k) (rect_in k from.now) (rect_in k to.now) (term_at terms.now k)) }
     ensures fault { IsOkUnless result Fault.OutOfMemory }
 {
     let mut steps = Vec::new(alloc);

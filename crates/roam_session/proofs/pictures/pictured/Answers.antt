@@ -1,4 +1,4 @@
-use Rattle.std.proofs.Common.{ℕ, ◌<◌, List, length, get_or, true, ◌≡◌, sym, subst, arith}
+use Rattle.std.proofs.Common.{ℕ, ◌<◌, List, get_or, true, ◌≡◌, sym, subst, arith}
 use Rattle.roam_layout.specs.Trees.{has}
 use Rattle.roam_layout.specs.declared.rects.Rect.{Rect}
 use Rattle.roam_session.proofs.Picturing.{pane_there, pane_low}

@@ -14,9 +14,12 @@ loop-k-preserved c =
     let y = c.in_ok-pictured.field-0 in
     let n = c.loop-k.k in
     record {
-      count = ap (λ (xs : List (ℕ × Screenshot)). length xs) c.in_ok-push.ensures.items ∙ length-append ss (y ∷ []) ∙ ap (λ m. m + 1) c.loop-k.invariant.count;
+      count =
+          ap (λ (xs : List (ℕ × Screenshot)). length xs) c.in_ok-push.ensures.items ∙ length-append ss (y ∷ [])
+          ∙ ap (λ m. m + 1) c.loop-k.invariant.count;
       each =
-          subst (λ (xs : List (ℕ × Screenshot)). (k : ℕ) (d : ℕ × Rect) (e : ℕ × Screenshot) → k < n + 1 → IsPictured terms s.views (get_or (panes s) k d) (get_or xs k e))
+          subst (λ (xs : List (ℕ × Screenshot)). (k : ℕ) (d : ℕ × Rect) (e : ℕ × Screenshot) → k < n + 1 → IsPictured terms s.views
+          (get_or (panes s) k d) (get_or xs k e))
           (sym c.in_ok-push.ensures.items)
           (pictured_more terms s.views (panes s) ss y n c.loop-k.invariant.count c.loop-k.invariant.each c.in_ok-pictured.ensures.pictured);
     }
@@ -24,13 +27,15 @@ loop-k-preserved c =
 pub returns-clause-sizes : goal.returns-clause-sizes
 returns-clause-sizes c =
     let s = c.args.layout.now in
-    let all : c.loop-k.k ≡ length (panes s) = omega (arith, c.loop-k-test.false, c.loop-k.auto.k-end, ap (λ l. length l) c.rects-k-end.ensures.rects) in
+    let all : c.loop-k.k ≡ length (panes s) =
+    omega (arith, c.loop-k-test.false, c.loop-k.auto.k-end, ap (λ l. length l) c.rects-k-end.ensures.rects) in
     are_pictures s c.args.terms.now c.facts.ensures.plan c.requires.placed c.loop-k.shots.items (c.loop-k.invariant.count ∙ all)
     (λ k d e h. c.loop-k.invariant.each k d e (omega (arith, h, all)))
 
 pub returns-clause-show : goal.returns-clause-show
 returns-clause-show c pane of =
     let s = c.args.layout.now in
-    let all : c.loop-k.k ≡ length (panes s) = omega (arith, c.loop-k-test.false, c.loop-k.auto.k-end, ap (λ l. length l) c.rects-k-end.ensures.rects) in
+    let all : c.loop-k.k ≡ length (panes s) =
+    omega (arith, c.loop-k-test.false, c.loop-k.auto.k-end, ap (λ l. length l) c.rects-k-end.ensures.rects) in
     are_shown s c.args.terms.now c.facts.ensures.plan c.requires.placed c.loop-k.shots.items (c.loop-k.invariant.count ∙ all)
     (λ k d e h. c.loop-k.invariant.each k d e (omega (arith, h, all))) pane of

@@ -1,7 +1,6 @@
-use Rattle.std.proofs.Common.{◌≡◌, ℕ, ◌≢◌, inl, inr, ◌⊎◌, Some, None, sym, ◌∙◌, subst, true}
+use Rattle.std.proofs.Common.{◌≡◌, ℕ, ◌≢◌, inl, inr, ◌⊎◌, Some, None, sym, ◌∙◌, subst}
 use Rattle.std.proofs.lemmas.Result.{IfOk-weaker}
 use Rattle.std.proofs.lemmas.Bool.{false≢true}
-use Rattle.roam_cells.specs.declared.faults.Fault.{Fault}
 use Rattle.roam_cells.specs.declared.faults.Fault.TheVariants.{OutOfMemory, Busy}
 use Rattle.roam_layout.specs.Rects.{rect_in}
 use Rattle.roam_layout.specs.Layouts.{Laid, Refused, laid, panes}
@@ -20,7 +19,8 @@ returns-in-Some-clause-done c =
     let act = c.args.act.now in
     let key = c.in-Some.key in
     let is : key_in act ≡ Some key = sym c.key_in.ensures.key ∙ c.in-Some.is in
-    IfOk-weaker c.type_key.result (λ _. ChangesAt old.plan.focus (IsKeyed key) old.terms new.terms) (λ _. Appends old new (Did c.args.client act))
+    IfOk-weaker c.type_key.result (λ _. ChangesAt old.plan.focus (IsKeyed key) old.terms new.terms)
+    (λ _. Appends old new (Did c.args.client act))
     (λ _ changes. stands_keyed old new c.args.client act key is c.type_key.ensures.plan changes) c.type_key.ensures.keyed
 
 pub returns-in-Some-clause-busy : goal.returns-in-Some-clause-busy
@@ -38,7 +38,8 @@ returns-in-None-clause-done c =
     let no_key : key_in act ≡ None = sym c.key_in.ensures.key ∙ c.in-None.is in
     on_both c.lay_out.result (laid old.plan act ≡ Laid new.plan)
     ((k : ℕ) → IsGiven (rect_in k (panes old.plan)) (rect_in k (panes new.plan)) (term_at old.terms k) (term_at new.terms k))
-    (Appends old new (Did c.args.client act)) (λ e are. stands_laid old new c.args.client act no_key e are) c.lay_out.ensures.laid c.lay_out.ensures.given
+    (Appends old new (Did c.args.client act))
+    (λ e are. stands_laid old new c.args.client act no_key e are) c.lay_out.ensures.laid c.lay_out.ensures.given
 
 pub returns-in-None-clause-refused : goal.returns-in-None-clause-refused
 returns-in-None-clause-refused c =

@@ -1,6 +1,5 @@
 use Rattle.std.proofs.Common.{◌≡◌, ℕ, sym, ap, ◌∙◌, subst}
 use Rattle.std.specs.Prelude.{List, Option, slice_index}
-use Rattle.std.specs.Prelude.{IfOk}
 use Rattle.std.proofs.lemmas.Result.{IfOk-weaker}
 use Rattle.roam_cells.specs.Screenshot.{Screenshot}
 use Rattle.roam_term.specs.Stands.{TermView}
@@ -25,6 +24,7 @@ returns-clause-face c =
     let show = c.in_ok-shots.ensures.show d.pane
     (λ k. subst (λ (ts : List (Option TermView)). Agrees (term_at ts k) (d.pane k)) (sym terms) (h.panes k)) in
     is (λ k. picture_at (slice_index plan.views k) (d.pane k))
-    (subst (λ (ss : List (ℕ × Screenshot)). Show (λ k. picture_at (slice_index plan.views k) (d.pane k)) ss) (sym c.deref-2.ensures.value) show)
+    (subst (λ (ss : List (ℕ × Screenshot)). Show (λ k. picture_at (slice_index plan.views k) (d.pane k)) ss)
+    (sym c.deref-2.ensures.value) show)
     ∙ ap (λ (p : Plan). face_of p (λ k. picture_at (slice_index p.views k) (d.pane k)))
     (ap (λ (v : SessionView). v.plan) c.self.view_is ∙ h.plan)) c.face.ensures.face

@@ -21,8 +21,10 @@ invariant_of-self c =
       ten = c.perform.ensures.ten;
       placed =
           placed_all old new ts us c.self.invariant.placed
-          (brought (panes old) new c.rects.result.now c.rects-2.result.now ts c.deref.result.now us c.in_ok-steps.steps.items c.facts-2.ensures.plan
-          c.rects.ensures.rects c.rects-2.ensures.rects c.deref.ensures.value c.perform.ensures.ten c.in_ok-steps.ensures.steps c.perform.ensures.done);
+          (brought
+          (panes old) new c.rects.result.now c.rects-2.result.now ts c.deref.result.now us c.in_ok-steps.steps.items c.facts-2.ensures.plan
+          c.rects.ensures.rects c.rects-2.ensures.rects c.deref.ensures.value c.perform.ensures.ten c.in_ok-steps.ensures.steps
+          c.perform.ensures.done);
     }
 
 pub returns-clause-given : goal.returns-clause-given
@@ -31,6 +33,9 @@ returns-clause-given c =
     let new = c.in_ok-next.next in
     let ts = c.self.inside.terms.items in
     let us = c.perform.new.terms.items in
-    subst (λ (s : SessionView). (k : ℕ) → IsGiven (rect_in k (panes s.plan)) (rect_in k (panes new)) (term_at s.terms k) (term_at us k)) c.self.view_is
-    (brought (panes old) new c.rects.result.now c.rects-2.result.now ts c.deref.result.now us c.in_ok-steps.steps.items c.facts-2.ensures.plan
-    c.rects.ensures.rects c.rects-2.ensures.rects c.deref.ensures.value c.perform.ensures.ten c.in_ok-steps.ensures.steps c.perform.ensures.done)
+    subst (λ (s : SessionView). (k : ℕ) → IsGiven (rect_in k (panes s.plan)) (rect_in k (panes new)) (term_at s.terms k)
+    (term_at us k)) c.self.view_is
+    (brought
+    (panes old) new c.rects.result.now c.rects-2.result.now ts c.deref.result.now us c.in_ok-steps.steps.items c.facts-2.ensures.plan
+    c.rects.ensures.rects c.rects-2.ensures.rects c.deref.ensures.value c.perform.ensures.ten c.in_ok-steps.ensures.steps
+    c.perform.ensures.done)
