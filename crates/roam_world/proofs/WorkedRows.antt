@@ -1,11 +1,16 @@
 -- Small histories, computed from the definitions.
-use Rattle.std.proofs.Common.{◌≡◌, ℕ, List, [], ◌∷◌, Option, Some, None, Bool, true, false, refl}
+use Rattle.std.proofs.Common.{◌≡◌, ℕ, List, [], ◌∷◌, true, false, refl}
 use Rattle.std.specs.List.{range_with_len}
 use Rattle.roam_cells.specs.declared.faults.Fault.TheVariants.{BadDatagram, OtherSession, OtherClient, ClientsFull}
 use Rattle.roam_cells.specs.declared.faults.Reason.TheVariants as reason
 use Rattle.roam_acts.specs.declared.acts.Act.{Act}
 use Rattle.roam_acts.specs.declared.acts.Act.TheVariants.{Key, SplitRight, SplitDown, Close}
 use Rattle.roam_acts.specs.declared.keys.Key.TheVariants.{Char}
+use Rattle.roam_cells.specs.Screenshot.{Screenshot}
+use Rattle.roam_sync.specs.declared.senders.Held.{Held}
+use Rattle.roam_sync.specs.declared.receivers.Step.TheVariants as step
+use Rattle.roam_sync.specs.Senders.{Sending, acked, offered, is_due}
+use Rattle.roam_sync.specs.Receivers.{start, step_for}
 use Rattle.roam_wire.specs.declared.datagrams.Kind.{Kind}
 use Rattle.roam_wire.specs.declared.datagrams.Kind.TheVariants.{ToClient, ToServer}
 use Rattle.roam_wire.specs.Datagrams.{DatagramValue}
@@ -14,10 +19,10 @@ use Rattle.roam_session.specs.Refusals.{stops}
 use Rattle.roam_acts.specs.Takers.{fresh_of}
 use Rattle.roam_world.specs.Numbers.{acts_of}
 use Rattle.roam_world.specs.Texts.{Address, datagram_with}
-use Rattle.roam_world.specs.Servers.{Record, Server, no_record, new_server, nowhere, after_input}
-use Rattle.roam_world.specs.Comings.{turned_away, coming, reach, heard_from}
-use Rattle.roam_world.specs.Ticks.{makes, cuts_after, is_live}
-use Rattle.roam_world.specs.Clients.{Client, nobody, new_client}
+use Rattle.roam_world.specs.Servers.{Record, Server, no_record, new_server, after_input}
+use Rattle.roam_world.specs.Comings.{turned_away, coming, reach}
+use Rattle.roam_world.specs.Ticks.{makes, cuts_after, is_live, is_offered, down_from}
+use Rattle.roam_world.specs.Clients.{new_client}
 use Rattle.roam_world.specs.Arrivals.{sent_back, arriving}
 use Rattle.roam_world.specs.Laws.{greatest_from, no_note}
 
@@ -120,3 +125,55 @@ still_live = refl
 
 no_longer_live : is_live heard_at_5 60005 ≡ false
 no_longer_live = refl
+
+-- ---- two clients: the first never answers, so its sender holds eight pairs at 120 ms; the second answered with 7
+
+abbrev pair : ℕ → Screenshot → Held Screenshot
+pair n s = record { number = n; state = s; sent = true }
+
+abbrev eight_held : Screenshot → Sending Screenshot
+eight_held s =
+    record {
+      base = pair 0 s;
+      later = pair 1 s ∷ pair 2 s ∷ pair 3 s ∷ pair 4 s ∷ pair 5 s ∷ pair 6 s ∷ pair 7 s ∷ [];
+      last = 120;
+    }
+
+abbrev record_with : Sending Screenshot → Record
+record_with s = record no_record { known = true; sender = s }
+
+-- number 8 isn't offered to the first, and its newest isn't due at 220 ms
+eight_are_enough : (s : Screenshot) → is_offered (record_with (eight_held s)) 8 220 ≡ false
+unfolding no_record
+eight_are_enough s = refl
+
+not_yet_due : (s : Screenshot) → is_due (eight_held s) 220 ≡ false
+not_yet_due s = refl
+
+-- it is due 250 ms after its last sending, and 0 is still its base
+due_again : (s : Screenshot) → is_due (eight_held s) 370 ≡ true
+due_again s = refl
+
+base_is_kept : (s : Screenshot) → (down_from (eight_held s) 0).old ≡ 0
+base_is_kept s = refl
+
+newest_is_told : (s : Screenshot) → (down_from (eight_held s) 0).new ≡ 7
+newest_is_told s = refl
+
+-- the second's answer leaves 7 alone, and number 8 is offered to it
+answered : (s : Screenshot) → acked (eight_held s) 7 ≡ record { base = pair 7 s; later = []; last = 120 }
+answered s = refl
+
+offered_then : (s : Screenshot) → is_offered (record_with (acked (eight_held s) 7)) 8 220 ≡ true
+unfolding no_record
+offered_then s = refl
+
+due_then : (s : Screenshot) → is_due (offered (acked (eight_held s) 7) 8 s) 220 ≡ true
+due_then s = refl
+
+-- a client that shows 0 takes 7 from 0 as new, and from then on 3 from 0 as old
+new_from_0 : (s : Screenshot) → step_for (start s) 0 7 0 ≡ step.New
+new_from_0 s = refl
+
+old_after_7 : (s : Screenshot) → step_for (record { earlier = (start s).newest ∷ []; newest = record { number = 7; state = s } }) 0 3 0 ≡ step.Old
+old_after_7 s = refl
