@@ -111,7 +111,8 @@ abbrev at_port : ℕ → Address
 at_port port = record { host = 2130706433; port = port }
 
 latest_source : greatest_from no_note
-    (record { number = 1; source = at_port 5001 } ∷ record { number = 2; source = at_port 6001 } ∷ record { number = 1; source = at_port 5001 } ∷ [])
+    (record { number = 1; source = at_port 5001 } ∷ record { number = 2; source = at_port 6001 } ∷ record
+    { number = 1; source = at_port 5001 } ∷ [])
     ≡ record { number = 2; source = at_port 6001 }
 latest_source = refl
 
@@ -175,5 +176,6 @@ due_then s = refl
 new_from_0 : (s : Screenshot) → step_for (start s) 0 7 0 ≡ step.New
 new_from_0 s = refl
 
-old_after_7 : (s : Screenshot) → step_for (record { earlier = (start s).newest ∷ []; newest = record { number = 7; state = s } }) 0 3 0 ≡ step.Old
+old_after_7 : (s : Screenshot) → step_for (record { earlier = (start s).newest ∷ []; newest = record { number = 7; state = s } }) 0 3
+    0 ≡ step.Old
 old_after_7 s = refl
