@@ -34,7 +34,7 @@ abbrev pub none_refused : Option (List ℕ) → Option Fault
 none_refused None = Some NoPane
 none_refused (Some waiting) = None
 
--- whether a key's bytes find the queue full where these wait
+-- whether a key's bytes find the queue of a pane full
 abbrev pub is_full_for : Key → Option Pane → Bool
 is_full_for key None = false
 is_full_for key (Some p) = nat_lt 65536 (length p.waiting + length (key_bytes key p))
