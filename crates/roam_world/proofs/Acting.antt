@@ -39,7 +39,8 @@ has_typed-acked s all k is =
         let many : length s.acts ≡ length (drop s.acked all) = ap length is.held in
         record {
           known = omega (arith, known, many, length-drop s.acked all, le);
-          held = ap (drop (k - s.acked)) is.held ∙ drop-drop (k - s.acked) s.acked all ∙ ap (λ (n : ℕ). drop n all) (let z : s.acked + (k - s.acked) ≡ k = omega (arith, lt) in z);
+          held = ap (drop (k - s.acked)) is.held ∙ drop-drop (k - s.acked) s.acked all
+              ∙ ap (λ (n : ℕ). drop n all) (let z : s.acked + (k - s.acked) ≡ k = omega (arith, lt) in z);
         }
 
 pub acked_few : (s : Typing) (k : ℕ) → length (acked_to s k).acts ≤ length s.acts
@@ -75,7 +76,8 @@ stretch-more all acts first act s =
       count = length acts;
       is = elim (drop_in (first - 1) all) [
         | inl le ↦ (
-            let short : length acts ≤ length (drop (first - 1) all) = omega (arith, ap length s.is, length-take s.count (drop (first - 1) all)) in
+            let short : length acts ≤ length (drop (first - 1) all) =
+            omega (arith, ap length s.is, length-take s.count (drop (first - 1) all)) in
             here
             ∙ sym (take-append-le (length acts) (drop (first - 1) all) (act ∷ []) short)
             ∙ ap (take (length acts)) (sym (drop-append-le (first - 1) all (act ∷ []) le))
@@ -105,10 +107,12 @@ take_less (suc n) (suc m) (x ∷ xs) le = ap (λ (t : List Act). x ∷ t) (take_
 
 take_past : (xs ys : List Act) (n : ℕ) → take (length xs + n) (xs ++ ys) ≡ xs ++ take n ys
 take_past [] ys n = ap (λ (k : ℕ). take k ys) (let z : 0 + n ≡ n = omega arith in z)
-take_past (x ∷ xs) ys n = let z : suc (length xs) + n ≡ suc (length xs + n) = omega arith in ap (λ (k : ℕ). take k (x ∷ (xs ++ ys))) z ∙ ap (λ (t : List Act). x ∷ t) (take_past xs ys n)
+take_past (x ∷ xs) ys n = let z : suc (length xs) + n ≡ suc (length xs + n) = omega arith in ap (λ (k : ℕ). take k (x ∷ (xs ++ ys))) z
+    ∙ ap (λ (t : List Act). x ∷ t) (take_past xs ys n)
 
 -- n of the new acts follow those taken
-pub front_more : (all acts : List Act) (taken first n : ℕ) → taken ≤ length all → IsStretch all first acts → n ≤ length (fresh_of taken first acts)
+pub front_more : (all acts : List Act) (taken first n : ℕ) → taken ≤ length all → IsStretch all first acts
+    → n ≤ length (fresh_of taken first acts)
     → take taken all ++ take n (fresh_of taken first acts) ≡ take (taken + n) all
 front_more all acts taken first n le s few =
     let new = fresh_of taken first acts in
@@ -118,7 +122,8 @@ front_more all acts taken first n le s few =
     ∙ ap (take (taken + n)) (follow all acts taken first le s)
     ∙ take_less (taken + n) (taken + length (fresh_of taken first acts)) all (omega (arith, few))
 
-pub front_low : (all acts : List Act) (taken first n : ℕ) → taken ≤ length all → IsStretch all first acts → n ≤ length (fresh_of taken first acts)
+pub front_low : (all acts : List Act) (taken first n : ℕ) → taken ≤ length all → IsStretch all first acts
+    → n ≤ length (fresh_of taken first acts)
     → taken + n ≤ length all
 front_low all acts taken first n le s few =
     let whole = ap length (front_more all acts taken first n le s few) in

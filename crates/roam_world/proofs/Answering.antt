@@ -48,7 +48,8 @@ by_pane : (w : World) (pane : ℕ) (bytes : List ℕ) (r : Reply) (v : World) �
 by_pane w pane bytes r v (refused f x e is) = subst (λ (o : Option Fault). ByPane w pane bytes o r v) (sym x) (e, is)
 by_pane w pane bytes r v (taken x e is) = subst (λ (o : Option Fault). ByPane w pane bytes o r v) (sym x) (e, is)
 
-one_pane : (w : World) (pane : ℕ) (bytes : List ℕ) (o : Option Fault) (r r' : Reply) (v v' : World) → ByPane w pane bytes o r v → ByPane w pane bytes o r' v' → (r ≡ r') × (v ≡ v')
+one_pane : (w : World) (pane : ℕ) (bytes : List ℕ) (o : Option Fault) (r r' : Reply) (v v' : World) → ByPane w pane bytes o r v
+    → ByPane w pane bytes o r' v' → (r ≡ r') × (v ≡ v')
 one_pane w pane bytes (Some f) r r' v v' a b = both r r' (Failed f) v v' w a b
 one_pane w pane bytes None r r' v v' a b = both r r' Done v v' (with_server w (after_input w.server (Given pane bytes))) a b
 
@@ -57,12 +58,14 @@ ByDrain w pane n None r v = Are r v (Failed NoPane) w
 ByDrain w pane n (Some output) r v =
     ((length output < n) × Are r v Refused w) ⊎ ((n ≤ length output) × Are r v Done (with_server w (after_input w.server (Drained pane n))))
 
-by_drain : (w : World) (pane n : ℕ) (r : Reply) (v : World) → DrainStep w pane n r v → ByDrain w pane n (output_at w.server.size w.server.log pane) r v
+by_drain : (w : World) (pane n : ℕ) (r : Reply) (v : World) → DrainStep w pane n r v
+    → ByDrain w pane n (output_at w.server.size w.server.log pane) r v
 by_drain w pane n r v (no_pane x e is) = subst (λ (o : Option (List ℕ)). ByDrain w pane n o r v) (sym x) (e, is)
 by_drain w pane n r v (too_many out x lt e is) = subst (λ (o : Option (List ℕ)). ByDrain w pane n o r v) (sym x) (inl (lt, (e, is)))
 by_drain w pane n r v (gone out x le e is) = subst (λ (o : Option (List ℕ)). ByDrain w pane n o r v) (sym x) (inr (le, (e, is)))
 
-one_drain : (w : World) (pane n : ℕ) (o : Option (List ℕ)) (r r' : Reply) (v v' : World) → ByDrain w pane n o r v → ByDrain w pane n o r' v' → (r ≡ r') × (v ≡ v')
+one_drain : (w : World) (pane n : ℕ) (o : Option (List ℕ)) (r r' : Reply) (v v' : World) → ByDrain w pane n o r v
+    → ByDrain w pane n o r' v' → (r ≡ r') × (v ≡ v')
 one_drain w pane n None r r' v v' a b = both r r' (Failed NoPane) v v' w a b
 one_drain w pane n (Some out) r r' v v' a b =
     elim a [
@@ -83,16 +86,19 @@ ByTyped w act None r v = Are r v Refused w
 ByTyped w act (Some id) r v =
     (IsFull (w.clients id).acts × Are r v (Failed Busy) w)
     ⊎ (IsSpent (w.clients id).acts × Are r v (Failed Spent) w)
-    ⊎ ((IsFull (w.clients id).acts → ⊥) × (IsSpent (w.clients id).acts → ⊥) × Are r v Done (with_client w id (after_typed (w.clients id) act)))
+    ⊎ ((IsFull (w.clients id).acts → ⊥) × (IsSpent (w.clients id).acts → ⊥)
+    × Are r v Done (with_client w id (after_typed (w.clients id) act)))
 
-by_typed : (w : World) (slot : ℕ) (act : Act) (r : Reply) (v : World) → TypedStep w slot act r v → IsAmple r → ByTyped w act (w.slots slot) r v
+by_typed : (w : World) (slot : ℕ) (act : Act) (r : Reply) (v : World) → TypedStep w slot act r v → IsAmple r
+    → ByTyped w act (w.slots slot) r v
 by_typed w slot act r v (empty_slot x e is) m = subst (λ (o : Option ℕ). ByTyped w act o r v) (sym x) (e, is)
 by_typed w slot act r v (full id x y e is) m = subst (λ (o : Option ℕ). ByTyped w act o r v) (sym x) (inl (y, (e, is)))
 by_typed w slot act r v (spent id x y e is) m = subst (λ (o : Option ℕ). ByTyped w act o r v) (sym x) (inr (inl (y, (e, is))))
 by_typed w slot act r v (typed id x y z e is) m = subst (λ (o : Option ℕ). ByTyped w act o r v) (sym x) (inr (inr (y, z, (e, is))))
 by_typed w slot act r v (no_memory e is) m = absurd (m.whole e)
 
-one_typed : (w : World) (act : Act) (o : Option ℕ) (r r' : Reply) (v v' : World) → ByTyped w act o r v → ByTyped w act o r' v' → (r ≡ r') × (v ≡ v')
+one_typed : (w : World) (act : Act) (o : Option ℕ) (r r' : Reply) (v v' : World) → ByTyped w act o r v → ByTyped w act o r' v'
+    → (r ≡ r') × (v ≡ v')
 one_typed w act None r r' v v' a b = both r r' Refused v v' w a b
 one_typed w act (Some id) r r' v v' a b =
     elim a [
@@ -107,7 +113,11 @@ one_typed w act (Some id) r r' v v' a b =
         ]
         | inr y ↦ elim b [
           | inl z ↦ absurd (y.0 z.0)
-          | inr z ↦ elim z [ inl q ↦ absurd (y.1 q.0) | inr q ↦ both r r' Done v v' (with_client w id (after_typed (w.clients id) act)) y.2 q.2 ]
+          | inr z ↦ elim z [
+            | inl q ↦ absurd (y.1 q.0)
+            | inr q ↦ both r r' Done v v' (with_client w id (after_typed (w.clients id) act))
+                y.2 q.2
+          ]
         ]
       ]
     ]
@@ -121,27 +131,33 @@ abbrev BySpent : World → ℕ → Bool → Reply → World → Type 0
 BySpent w now true r v = Are r v (Failed Spent) w
 BySpent w now false r v = Are r v (Sent (length w.sent + 1) (length (sent_by w.server now))) (after_server_tick w now)
 
-by_server_tick : (w : World) (now : ℕ) (r : Reply) (v : World) → ServerTickStep w now r v → IsAmple r → BySpent w (moment w.server now) (is_tick_spent w.server (moment w.server now)) r v
+by_server_tick : (w : World) (now : ℕ) (r : Reply) (v : World) → ServerTickStep w now r v → IsAmple r
+    → BySpent w (moment w.server now) (is_tick_spent w.server (moment w.server now)) r v
 by_server_tick w now r v (spent x e is) m = subst (λ (b : Bool). BySpent w (moment w.server now) b r v) (sym x) (e, is)
 by_server_tick w now r v (ticked x y e is) m = subst (λ (b : Bool). BySpent w (moment w.server now) b r v) (sym x) (e, is)
 by_server_tick w now r v (no_memory e is) m = absurd (m.whole e)
 
-one_server_tick : (w : World) (now : ℕ) (b : Bool) (r r' : Reply) (v v' : World) → BySpent w now b r v → BySpent w now b r' v' → (r ≡ r') × (v ≡ v')
+one_server_tick : (w : World) (now : ℕ) (b : Bool) (r r' : Reply) (v v' : World) → BySpent w now b r v → BySpent w now b r' v'
+    → (r ≡ r') × (v ≡ v')
 one_server_tick w now true r r' v v' x y = both r r' (Failed Spent) v v' w x y
-one_server_tick w now false r r' v v' x y = both r r' (Sent (length w.sent + 1) (length (sent_by w.server now))) v v' (after_server_tick w now) x y
+one_server_tick w now false r r' v v' x y = both r r' (Sent (length w.sent + 1) (length (sent_by w.server now))) v v'
+    (after_server_tick w now) x y
 
 -- at the start of an id: whether something is due, and whether numbers are spent
 abbrev ByDue : World → ℕ → ℕ → Bool → Bool → Reply → World → Type 0
 ByDue w id now false past r v = Are r v (Sent (length w.sent + 1) 0) (with_client w id (after_quiet (w.clients id) now))
 ByDue w id now true true r v = Are r v (Failed Spent) w
-ByDue w id now true false r v = Are r v (Sent (length w.sent + 1) (length (datagrams_from w.server.session id (w.clients id)))) (after_client_sent w id now)
+ByDue w id now true false r v = Are r v (Sent (length w.sent + 1) (length (datagrams_from w.server.session id (w.clients id))))
+    (after_client_sent w id now)
 
 abbrev ByClientTick : World → ℕ → Option ℕ → Reply → World → Type 0
 ByClientTick w now None r v = Are r v Refused w
 ByClientTick w now (Some id) r v =
-    ByDue w id (moment_of (w.clients id) now) (is_client_due (w.clients id) (moment_of (w.clients id) now)) (is_client_spent (w.clients id)) r v
+    ByDue w id (moment_of (w.clients id) now) (is_client_due (w.clients id) (moment_of (w.clients id) now))
+    (is_client_spent (w.clients id)) r v
 
-by_client_tick : (w : World) (slot now : ℕ) (r : Reply) (v : World) → ClientTickStep w slot now r v → IsAmple r → ByClientTick w now (w.slots slot) r v
+by_client_tick : (w : World) (slot now : ℕ) (r : Reply) (v : World) → ClientTickStep w slot now r v → IsAmple r
+    → ByClientTick w now (w.slots slot) r v
 by_client_tick w slot now r v (empty_slot x e is) m = subst (λ (o : Option ℕ). ByClientTick w now o r v) (sym x) (e, is)
 by_client_tick w slot now r v (quiet id x y e is) m =
     subst (λ (o : Option ℕ). ByClientTick w now o r v) (sym x)
@@ -156,21 +172,26 @@ by_client_tick w slot now r v (sent id x y z e is) m =
     (subst (λ (b : Bool). ByDue w id (moment_of (w.clients id) now) true b r v) (sym z) (e, is)))
 by_client_tick w slot now r v (no_memory e is) m = absurd (m.whole e)
 
-one_due : (w : World) (id now : ℕ) (a b : Bool) (r r' : Reply) (v v' : World) → ByDue w id now a b r v → ByDue w id now a b r' v' → (r ≡ r') × (v ≡ v')
+one_due : (w : World) (id now : ℕ) (a b : Bool) (r r' : Reply) (v v' : World) → ByDue w id now a b r v → ByDue w id now a b r' v'
+    → (r ≡ r') × (v ≡ v')
 one_due w id now false b r r' v v' x y = both r r' (Sent (length w.sent + 1) 0) v v' (with_client w id (after_quiet (w.clients id) now)) x y
 one_due w id now true true r r' v v' x y = both r r' (Failed Spent) v v' w x y
-one_due w id now true false r r' v v' x y = both r r' (Sent (length w.sent + 1) (length (datagrams_from w.server.session id (w.clients id)))) v v' (after_client_sent w id now) x y
+one_due w id now true false r r' v v' x y = both r r'
+    (Sent (length w.sent + 1) (length (datagrams_from w.server.session id (w.clients id)))) v v' (after_client_sent w id now) x y
 
-one_client_tick : (w : World) (now : ℕ) (o : Option ℕ) (r r' : Reply) (v v' : World) → ByClientTick w now o r v → ByClientTick w now o r' v' → (r ≡ r') × (v ≡ v')
+one_client_tick : (w : World) (now : ℕ) (o : Option ℕ) (r r' : Reply) (v v' : World) → ByClientTick w now o r v
+    → ByClientTick w now o r' v' → (r ≡ r') × (v ≡ v')
 one_client_tick w now None r r' v v' x y = both r r' Refused v v' w x y
 one_client_tick w now (Some id) r r' v v' x y =
-    one_due w id (moment_of (w.clients id) now) (is_client_due (w.clients id) (moment_of (w.clients id) now)) (is_client_spent (w.clients id)) r r' v v' x y
+    one_due w id (moment_of (w.clients id) now) (is_client_due (w.clients id) (moment_of (w.clients id) now))
+    (is_client_spent (w.clients id)) r r' v v' x y
 
 -- ---- a datagram to the server
 
 abbrev ByRoom : World → Address → ℕ → DatagramValue → Gathering → UpValue → Bool → Reply → World → Type 0
 ByRoom w from now d g u true r v =
-    Are r v (Stopped Busy (room_for w.server d u)) (with_server w (after_acts w.server d from now (w.server.records d.client).gathering u (room_for w.server d u)))
+    Are r v (Stopped Busy (room_for w.server d u))
+    (with_server w (after_acts w.server d from now (w.server.records d.client).gathering u (room_for w.server d u)))
 ByRoom w from now d g u false r v =
     Are r v (Taken (length (new_acts w.server d u))) (with_server w (after_acts w.server d from now g u (length (new_acts w.server d u))))
 
@@ -195,7 +216,8 @@ by_server : (w : World) (k : ℕ) (from : Address) (now : ℕ) (r : Reply) (v : 
     → ByServer w from (moment w.server now) (datagram_at w.sent k) r v
 by_server w k from now r v step m = go step
   where
-    at : (d : DatagramValue) (x : Coming) → datagram_at w.sent k ≡ Some d → coming w.server d ≡ x → ByComing w from (moment w.server now) d x r v
+    at : (d : DatagramValue) (x : Coming) → datagram_at w.sent k ≡ Some d → coming w.server d ≡ x
+        → ByComing w from (moment w.server now) d x r v
         → ByServer w from (moment w.server now) (datagram_at w.sent k) r v
     at d x e f b =
         subst (λ (o : Option DatagramValue). ByServer w from (moment w.server now) o r v) (sym e)
@@ -232,9 +254,11 @@ by_server w k from now r v step m = go step
 one_room : (w : World) (from : Address) (now : ℕ) (d : DatagramValue) (g : Gathering) (u : UpValue) (b : Bool) (r r' : Reply) (v v' : World)
     → ByRoom w from now d g u b r v → ByRoom w from now d g u b r' v' → (r ≡ r') × (v ≡ v')
 one_room w from now d g u true r r' v v' x y =
-    both r r' (Stopped Busy (room_for w.server d u)) v v' (with_server w (after_acts w.server d from now (w.server.records d.client).gathering u (room_for w.server d u))) x y
+    both r r' (Stopped Busy (room_for w.server d u)) v v'
+    (with_server w (after_acts w.server d from now (w.server.records d.client).gathering u (room_for w.server d u))) x y
 one_room w from now d g u false r r' v v' x y =
-    both r r' (Taken (length (new_acts w.server d u))) v v' (with_server w (after_acts w.server d from now g u (length (new_acts w.server d u)))) x y
+    both r r' (Taken (length (new_acts w.server d u))) v v'
+    (with_server w (after_acts w.server d from now g u (length (new_acts w.server d u)))) x y
 
 one_coming : (w : World) (from : Address) (now : ℕ) (d : DatagramValue) (c : Coming) (r r' : Reply) (v v' : World)
     → ByComing w from now d c r v → ByComing w from now d c r' v' → (r ≡ r') × (v ≡ v')
@@ -277,7 +301,8 @@ delivers_one c r r' u d e = go (step_for c u.old u.new u.floor) refl
         let b = e.fresh f in
         let held : Some a.base ≡ Some b.base = sym a.held ∙ b.held in
         let base : a.base ≡ b.base = cc in
-        let states : Some r.newest.state ≡ Some r'.newest.state = sym a.leads ∙ ap (λ (s : Screenshot). applied s u.change) base ∙ b.leads in
+        let states : Some r.newest.state ≡ Some r'.newest.state = sym a.leads ∙ ap (λ (s : Screenshot). applied s u.change) base
+        ∙ b.leads in
         let state : r.newest.state ≡ r'.newest.state = cc in
         let number : r.newest.number ≡ r'.newest.number = a.number ∙ sym b.number in
         let earlier = a.earlier ∙ sym b.earlier in
@@ -308,14 +333,16 @@ ByClient w now None o r v = Are r v Refused w
 ByClient w now (Some id) None r v = Are r v Refused w
 ByClient w now (Some id) (Some d) r v = ByArriving w id (moment_of (w.clients id) now) (arriving w.server.session id (w.clients id) d) r v
 
-by_client : (w : World) (slot k now : ℕ) (r : Reply) (v : World) → ToClientStep w slot k now r v → IsAmple r → ByClient w now (w.slots slot) (datagram_at w.sent k) r v
+by_client : (w : World) (slot k now : ℕ) (r : Reply) (v : World) → ToClientStep w slot k now r v → IsAmple r
+    → ByClient w now (w.slots slot) (datagram_at w.sent k) r v
 by_client w slot k now r v step m = go step
   where
     no_datagram : (o : Option ℕ) → Are r v Refused w → ByClient w now o None r v
     no_datagram None a = a
     no_datagram (Some id) a = a
 
-    at : (id : ℕ) (d : DatagramValue) (x : Arriving) → w.slots slot ≡ Some id → datagram_at w.sent k ≡ Some d → arriving w.server.session id (w.clients id) d ≡ x
+    at : (id : ℕ) (d : DatagramValue) (x : Arriving) → w.slots slot ≡ Some id → datagram_at w.sent k ≡ Some d
+        → arriving w.server.session id (w.clients id) d ≡ x
         → ByArriving w id (moment_of (w.clients id) now) x r v → ByClient w now (w.slots slot) (datagram_at w.sent k) r v
     at id d x e f g b =
         subst (λ (o : Option ℕ). ByClient w now o (datagram_at w.sent k) r v) (sym e)
@@ -324,7 +351,8 @@ by_client w slot k now r v step m = go step
 
     go : ToClientStep w slot k now r v → ByClient w now (w.slots slot) (datagram_at w.sent k) r v
     go (empty_slot x e is) = subst (λ (o : Option ℕ). ByClient w now o (datagram_at w.sent k) r v) (sym x) (e, is)
-    go (not_sent x e is) = subst (λ (o : Option DatagramValue). ByClient w now (w.slots slot) o r v) (sym x) (no_datagram (w.slots slot) (e, is))
+    go (not_sent x e is) = subst (λ (o : Option DatagramValue). ByClient w now (w.slots slot) o r v) (sym x)
+        (no_datagram (w.slots slot) (e, is))
     go (refused id d f x y z e is) = at id d (sent_back f) x y z (e, is)
     go (piece id d h g x y z e is) = at id d (kept h g) x y z (e, is)
     go (unread id d g text why x y z a e is) = at id d (fulfilled g text) x y z (inl (why, a, (e, is)))
@@ -333,7 +361,8 @@ by_client w slot k now r v step m = go step
     go (whole id d g text u q x y z a b e is) = at id d (fulfilled g text) x y z (inr (u, a, inr (q, b, (e, is))))
     go (no_memory e is) = absurd (m.whole e)
 
-one_down_reply : (w : World) (id now : ℕ) (g : Gathering) (u : DownValue) (r r' : Reply) (v v' : World) → ByDown w id now g u r v → ByDown w id now g u r' v' → (r ≡ r') × (v ≡ v')
+one_down_reply : (w : World) (id now : ℕ) (g : Gathering) (u : DownValue) (r r' : Reply) (v v' : World) → ByDown w id now g u r v
+    → ByDown w id now g u r' v' → (r ≡ r') × (v ≡ v')
 one_down_reply w id now g u r r' v v' x y =
     elim x [
       | inl a ↦ elim y [ inl b ↦ both r r' (Failed BadChange) v v' w a.1 b.1 | inr b ↦ absurd (clash a.0 b.0 b.1) ]
@@ -353,7 +382,8 @@ one_down_reply w id now g u r r' v v' x y =
         let no : Some q.newest.state ≡ None = sym t.leads ∙ ap (λ (s : Screenshot). applied s u.change) base ∙ bad.none in
         cc
 
-one_arriving : (w : World) (id now : ℕ) (c : Arriving) (r r' : Reply) (v v' : World) → ByArriving w id now c r v → ByArriving w id now c r' v' → (r ≡ r') × (v ≡ v')
+one_arriving : (w : World) (id now : ℕ) (c : Arriving) (r r' : Reply) (v v' : World) → ByArriving w id now c r v
+    → ByArriving w id now c r' v' → (r ≡ r') × (v ≡ v')
 one_arriving w id now (sent_back f) r r' v v' x y = both r r' (Failed f) v v' w x y
 one_arriving w id now (kept h g) r r' v v' x y = both r r' (Heard h) v v' (with_client w id (after_piece (w.clients id) now g)) x y
 one_arriving w id now (fulfilled g text) r r' v v' x y =
@@ -370,10 +400,12 @@ one_arriving w id now (fulfilled g text) r r' v v' x y =
       ]
     ]
 
-one_client : (w : World) (now : ℕ) (o : Option ℕ) (p : Option DatagramValue) (r r' : Reply) (v v' : World) → ByClient w now o p r v → ByClient w now o p r' v' → (r ≡ r') × (v ≡ v')
+one_client : (w : World) (now : ℕ) (o : Option ℕ) (p : Option DatagramValue) (r r' : Reply) (v v' : World) → ByClient w now o p r v
+    → ByClient w now o p r' v' → (r ≡ r') × (v ≡ v')
 one_client w now None p r r' v v' x y = both r r' Refused v v' w x y
 one_client w now (Some id) None r r' v v' x y = both r r' Refused v v' w x y
-one_client w now (Some id) (Some d) r r' v v' x y = one_arriving w id (moment_of (w.clients id) now) (arriving w.server.session id (w.clients id) d) r r' v v' x y
+one_client w now (Some id) (Some d) r r' v v' x y =
+    one_arriving w id (moment_of (w.clients id) now) (arriving w.server.session id (w.clients id) d) r r' v v' x y
 
 -- ---- a start
 
@@ -381,12 +413,14 @@ abbrev ByStart : World → ℕ → ℕ → Bool → Reply → World → Type 0
 ByStart w slot id true r v = Are r v Refused w
 ByStart w slot id false r v = Are r v Done (after_start w slot id)
 
-by_start : (w : World) (slot id : ℕ) (r : Reply) (v : World) → StartStep w slot id r v → IsAmple r → ByStart w slot id (w.clients id).made r v
+by_start : (w : World) (slot id : ℕ) (r : Reply) (v : World) → StartStep w slot id r v → IsAmple r
+    → ByStart w slot id (w.clients id).made r v
 by_start w slot id r v (used x e is) m = subst (λ (b : Bool). ByStart w slot id b r v) (sym x) (e, is)
 by_start w slot id r v (started x e is) m = subst (λ (b : Bool). ByStart w slot id b r v) (sym x) (e, is)
 by_start w slot id r v (no_memory e is) m = absurd (m.whole e)
 
-one_start : (w : World) (slot id : ℕ) (b : Bool) (r r' : Reply) (v v' : World) → ByStart w slot id b r v → ByStart w slot id b r' v' → (r ≡ r') × (v ≡ v')
+one_start : (w : World) (slot id : ℕ) (b : Bool) (r r' : Reply) (v v' : World) → ByStart w slot id b r v → ByStart w slot id b r' v'
+    → (r ≡ r') × (v ≡ v')
 one_start w slot id true r r' v v' x y = both r r' Refused v v' w x y
 one_start w slot id false r r' v v' x y = both r r' Done v v' (after_start w slot id) x y
 
@@ -395,13 +429,19 @@ one_start w slot id false r r' v v' x y = both r r' Done v v' (after_start w slo
 pub one_reply : (w : World) → HasOneReply w
 one_reply w (PaneBytes p bytes) r r' v v' s t m n =
     one_pane w p bytes (refuses_bytes w.server.size w.server.log p bytes) r r' v v' (by_pane w p bytes r v s) (by_pane w p bytes r' v' t)
-one_reply w (Typed slot act) r r' v v' s t m n = one_typed w act (w.slots slot) r r' v v' (by_typed w slot act r v s m) (by_typed w slot act r' v' t n)
+one_reply w (Typed slot act) r r' v v' s t m n =
+    one_typed w act (w.slots slot) r r' v v' (by_typed w slot act r v s m) (by_typed w slot act r' v' t n)
 one_reply w (ServerTick now) r r' v v' s t m n =
-    one_server_tick w (moment w.server now) (is_tick_spent w.server (moment w.server now)) r r' v v' (by_server_tick w now r v s m) (by_server_tick w now r' v' t n)
-one_reply w (ClientTick slot now) r r' v v' s t m n = one_client_tick w now (w.slots slot) r r' v v' (by_client_tick w slot now r v s m) (by_client_tick w slot now r' v' t n)
+    one_server_tick w (moment w.server now) (is_tick_spent w.server (moment w.server now)) r r' v v' (by_server_tick w now r v s m)
+    (by_server_tick w now r' v' t n)
+one_reply w (ClientTick slot now) r r' v v' s t m n =
+    one_client_tick w now (w.slots slot) r r' v v' (by_client_tick w slot now r v s m) (by_client_tick w slot now r' v' t n)
 one_reply w (ToServer k from now) r r' v v' s t m n =
-    one_server w from (moment w.server now) (datagram_at w.sent k) r r' v v' (by_server w k from now r v s m) (by_server w k from now r' v' t n)
+    one_server w from (moment w.server now) (datagram_at w.sent k) r r' v v' (by_server w k from now r v s m)
+    (by_server w k from now r' v' t n)
 one_reply w (ToClient slot k now) r r' v v' s t m n =
     one_client w now (w.slots slot) (datagram_at w.sent k) r r' v v' (by_client w slot k now r v s m) (by_client w slot k now r' v' t n)
-one_reply w (Start slot id) r r' v v' s t m n = one_start w slot id (w.clients id).made r r' v v' (by_start w slot id r v s m) (by_start w slot id r' v' t n)
-one_reply w (Drain p n) r r' v v' s t m q = one_drain w p n (output_at w.server.size w.server.log p) r r' v v' (by_drain w p n r v s) (by_drain w p n r' v' t)
+one_reply w (Start slot id) r r' v v' s t m n =
+    one_start w slot id (w.clients id).made r r' v v' (by_start w slot id r v s m) (by_start w slot id r' v' t n)
+one_reply w (Drain p n) r r' v v' s t m q = one_drain w p n (output_at w.server.size w.server.log p) r r' v v' (by_drain w p n r v s)
+    (by_drain w p n r' v' t)

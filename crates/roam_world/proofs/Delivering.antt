@@ -56,34 +56,42 @@ Leaves n m shown old h v (sent_back f) = ⊥
 Leaves n m shown old h v (kept how g) = (g ≡ h) × (Shows n m old shown → Shows n m g shown)
 Leaves n m shown old h v (fulfilled g text) = (g ≡ h) × (text ≡ down_text v)
 
-gathered_leaves : (w : World) (id n m shown : ℕ) (v : DownValue) (d : DatagramValue) → IsTop w id n m v → IsOne w id n d → (x : Option (Answer × Gathering))
-    → GathersWell (cuts_of down_text (w.server.records id).instructions) (w.clients id).gathering (piece_of d) x → IsPart x → IsSame (w.clients id).gathering x
+gathered_leaves : (w : World) (id n m shown : ℕ) (v : DownValue) (d : DatagramValue) → IsTop w id n m v → IsOne w id n d
+    → (x : Option (Answer × Gathering))
+    → GathersWell (cuts_of down_text (w.server.records id).instructions) (w.clients id).gathering (piece_of d) x → IsPart x
+    → IsSame (w.clients id).gathering x
     → Leaves n m shown (w.clients id).gathering (after (w.clients id).gathering x) v (arriving_gathered x)
 gathered_leaves w id n m shown v d t is None g p s = absurd g
 gathered_leaves w id n m shown v d t is (Some (Part, h)) g p s = (refl, (λ o a b. absurd (let f : true ≡ false = sym b ∙ p in cc)))
 gathered_leaves w id n m shown v d t is (Some (Old, h)) g p s = (refl, (λ o. subst (λ (k : Gathering). Shows n m k shown) (sym s) o))
 gathered_leaves w id n m shown v d t is (Some (Whole text, h)) g p s =
-    let told : numbered (w.server.records id).instructions d.id ≡ Some v = ap (numbered (w.server.records id).instructions) is.number_is ∙ t.told in
+    let told : numbered (w.server.records id).instructions d.id ≡ Some v = ap (numbered (w.server.records id).instructions) is.number_is
+    ∙ t.told in
     (refl, g.2 ∙ ap (λ (o : Option DownValue). joined (pieces_by down_text o)) told ∙ joined-pieces (down_text v))
 
 arriving_leaves : (w : World) (id n m shown : ℕ) (v : DownValue) (d : DatagramValue) → Holds w → IsTop w id n m v → IsOne w id n d
-    → Leaves n m shown (w.clients id).gathering (after (w.clients id).gathering (gather (w.clients id).gathering (piece_of d))) v (arriving w.server.session id (w.clients id) d)
+    → Leaves n m shown (w.clients id).gathering (after (w.clients id).gathering (gather (w.clients id).gathering (piece_of d))) v
+    (arriving w.server.session id (w.clients id) d)
 arriving_leaves w id n m shown v d h t is =
-    go (is_to_server d.kind) (ap is_to_server is.kind_is) (nat_eq d.session w.server.session) (same d.session w.server.session is.session_is) (nat_eq d.client id) (same d.client id is.client_is)
+    go (is_to_server d.kind) (ap is_to_server is.kind_is) (nat_eq d.session w.server.session)
+    (same d.session w.server.session is.session_is) (nat_eq d.client id) (same d.client id is.client_is)
   where
     same : (a b : ℕ) → a ≡ b → nat_eq a b ≡ true
     same a b e = grind (arith, nat_tests)
 
     go : (a : Bool) → a ≡ false → (b : Bool) → b ≡ true → (e : Bool) → e ≡ true
         → Leaves n m shown (w.clients id).gathering (after (w.clients id).gathering (gather (w.clients id).gathering (piece_of d))) v
-        (cond a (sent_back (BadDatagram reason.Kind)) (cond (not b) (sent_back OtherSession) (cond (not e) (sent_back OtherClient) (arriving_gathered (gather (w.clients id).gathering (piece_of d))))))
+        (cond a (sent_back (BadDatagram reason.Kind))
+        (cond (not b) (sent_back OtherSession) (cond (not e) (sent_back OtherClient)
+        (arriving_gathered (gather (w.clients id).gathering (piece_of d))))))
     go true x b y e z = absurd (cc)
     go false x false y e z = absurd (cc)
     go false x true y false z = absurd (cc)
     go false x true y true z =
         let part = is_part (w.clients id).gathering (piece_of d) in
         gathered_leaves w id n m shown v d t is (gather (w.clients id).gathering (piece_of d))
-        (well (cuts_of down_text (w.server.records id).instructions) (w.clients id).gathering (piece_of d) (h.lines id).gathers_down.of is.piece_of_it) part.0 part.1
+        (well (cuts_of down_text (w.server.records id).instructions) (w.clients id).gathering (piece_of d) (h.lines id).gathers_down.of
+        is.piece_of_it) part.0 part.1
 
 -- one delivery
 pub record Delivered (w w' : World) (id n m : ℕ) (d : DatagramValue) : Type 0 where
@@ -91,27 +99,34 @@ pub record Delivered (w w' : World) (id n m : ℕ) (d : DatagramValue) : Type 0 
   pub slots : w'.slots ≡ w.slots
   pub sent : w'.sent ≡ w.sent
   pub gatherer : (w'.clients id).gathering ≡ after (w.clients id).gathering (gather (w.clients id).gathering (piece_of d))
-  pub shows : Shows n m (w.clients id).gathering (w.clients id).receiver.newest.number → Shows n m (w'.clients id).gathering (w'.clients id).receiver.newest.number
+  pub shows : Shows n m (w.clients id).gathering (w.clients id).receiver.newest.number
+      → Shows n m (w'.clients id).gathering (w'.clients id).receiver.newest.number
 
 pub some_same : {X : Type 0} (x y : X) (o : Option X) → o ≡ Some x → o ≡ Some y → x ≡ y
 some_same x y o e f = let z : Some x ≡ Some y = sym e ∙ f in cc
 
 -- what arrives at the start in the slot is what the step tells
-same_arrival : (w : World) (id id' : ℕ) (d d' : DatagramValue) (a : Arriving) → id ≡ id' → d ≡ d' → arriving w.server.session id' (w.clients id') d' ≡ a
+same_arrival : (w : World) (id id' : ℕ) (d d' : DatagramValue) (a : Arriving) → id ≡ id' → d ≡ d'
+    → arriving w.server.session id' (w.clients id') d' ≡ a
     → arriving w.server.session id (w.clients id) d ≡ a
 same_arrival w id id' d d' a i j e = (λ k. arriving w.server.session (i k) (w.clients (i k)) (j k)) ∙ e
 
-pub deliver : (w w' : World) (slot k now id n m : ℕ) (v : DownValue) (d : DatagramValue) (r : Reply) → Holds w → w.slots slot ≡ Some id → datagram_at w.sent k ≡ Some d
+pub deliver : (w w' : World) (slot k now id n m : ℕ) (v : DownValue) (d : DatagramValue) (r : Reply) → Holds w → w.slots slot ≡ Some id
+    → datagram_at w.sent k ≡ Some d
     → IsTop w id n m v → IsOne w id n d → ToClientStep w slot k now r w' → ((r ≡ Failed OutOfMemory) → ⊥) → Delivered w w' id n m d
 deliver w w' slot k now id n m v d r h s at t is step fine = go step
   where
-    l : Leaves n m (w.clients id).receiver.newest.number (w.clients id).gathering (after (w.clients id).gathering (gather (w.clients id).gathering (piece_of d))) v (arriving w.server.session id (w.clients id) d)
+    l : Leaves n m (w.clients id).receiver.newest.number (w.clients id).gathering
+        (after (w.clients id).gathering (gather (w.clients id).gathering (piece_of d))) v (arriving w.server.session id (w.clients id) d)
     l = arriving_leaves w id n m (w.clients id).receiver.newest.number v d h t is
 
-    leaves : (id' : ℕ) (d' : DatagramValue) (a : Arriving) → w.slots slot ≡ Some id' → datagram_at w.sent k ≡ Some d' → arriving w.server.session id' (w.clients id') d' ≡ a
-        → Leaves n m (w.clients id).receiver.newest.number (w.clients id).gathering (after (w.clients id).gathering (gather (w.clients id).gathering (piece_of d))) v a
+    leaves : (id' : ℕ) (d' : DatagramValue) (a : Arriving) → w.slots slot ≡ Some id' → datagram_at w.sent k ≡ Some d'
+        → arriving w.server.session id' (w.clients id') d' ≡ a
+        → Leaves n m (w.clients id).receiver.newest.number (w.clients id).gathering
+        (after (w.clients id).gathering (gather (w.clients id).gathering (piece_of d))) v a
     leaves id' d' a x y e =
-        subst (Leaves n m (w.clients id).receiver.newest.number (w.clients id).gathering (after (w.clients id).gathering (gather (w.clients id).gathering (piece_of d))) v)
+        subst (Leaves n m (w.clients id).receiver.newest.number (w.clients id).gathering
+        (after (w.clients id).gathering (gather (w.clients id).gathering (piece_of d))) v)
         (same_arrival w id id' d d' a (some_same id id' (w.slots slot) s x) (some_same d d' (datagram_at w.sent k) at y) e) l
 
     sent_one : IsIn v (w.server.records id).instructions
@@ -127,8 +142,10 @@ deliver w w' slot k now id n m v d r h s at t is step fine = go step
     go (piece id' d' how g x y a e z) =
         let i = some_same id id' (w.slots slot) s x in
         let p = leaves id' d' (kept how g) x y a in
-        let z' : w' ≡ with_client w id (after_piece (w.clients id) (moment_of (w.clients id) now) g) = subst (λ (q : ℕ). w' ≡ with_client w q (after_piece (w.clients q) (moment_of (w.clients q) now) g)) (sym i) z in
-        let here : w'.clients id ≡ after_piece (w.clients id) (moment_of (w.clients id) now) g = ap (λ (q : World). q.clients id) z' ∙ put_same w.clients id (after_piece (w.clients id) (moment_of (w.clients id) now) g) in
+        let z' : w' ≡ with_client w id (after_piece (w.clients id) (moment_of (w.clients id) now) g) =
+        subst (λ (q : ℕ). w' ≡ with_client w q (after_piece (w.clients q) (moment_of (w.clients q) now) g)) (sym i) z in
+        let here : w'.clients id ≡ after_piece (w.clients id) (moment_of (w.clients id) now) g = ap (λ (q : World). q.clients id) z'
+        ∙ put_same w.clients id (after_piece (w.clients id) (moment_of (w.clients id) now) g) in
         record {
           server = ap (λ (q : World). q.server) z';
           slots = ap (λ (q : World). q.slots) z';
@@ -144,15 +161,21 @@ deliver w w' slot k now id n m v d r h s at t is step fine = go step
         let p = leaves id' d' (fulfilled g text) x y a in
         let same = says_it text u p.1 says in
         absurd (good_change w id u base (subst (λ (q : DownValue). IsIn q (w.server.records id).instructions) same sent_one)
-        (subst (λ (q : ℕ). Rattle.roam_sync.specs.Receivers.state_at u.old (Rattle.roam_sync.specs.Receivers.pairs (w.clients q).receiver) ≡ Some base) (sym i) there) none h)
+        (subst (λ (q : ℕ). Rattle.roam_sync.specs.Receivers.state_at u.old
+        (Rattle.roam_sync.specs.Receivers.pairs (w.clients q).receiver) ≡ Some base) (sym i) there) none h)
     go (whole id' d' g text u q x y a says heard e z) =
         let i = some_same id id' (w.slots slot) s x in
         let p = leaves id' d' (fulfilled g text) x y a in
         let same = says_it text u p.1 says in
-        let z' : w' ≡ with_client w id (after_whole (w.clients id) (moment_of (w.clients id) now) g q u) = subst (λ (j : ℕ). w' ≡ with_client w j (after_whole (w.clients j) (moment_of (w.clients j) now) g q u)) (sym i) z in
-        let here : w'.clients id ≡ after_whole (w.clients id) (moment_of (w.clients id) now) g q u = ap (λ (j : World). j.clients id) z' ∙ put_same w.clients id (after_whole (w.clients id) (moment_of (w.clients id) now) g q u) in
-        let heard' : Delivers applied (w.clients id).receiver (update_in v) q = subst (λ (j : ℕ). Delivers applied (w.clients j).receiver (update_in v) q) (sym i) (subst (λ (b : DownValue). Delivers applied (w.clients id').receiver (update_in b) q) (sym same) heard) in
-        let top = one_round (w.server.records id).sender (w.clients id).receiver (Tells (w.server.records id).instructions) (Acks (w.clients id).instructions) (h.lines id).link applied q (update_in v)
+        let z' : w' ≡ with_client w id (after_whole (w.clients id) (moment_of (w.clients id) now) g q u) =
+        subst (λ (j : ℕ). w' ≡ with_client w j (after_whole (w.clients j) (moment_of (w.clients j) now) g q u)) (sym i) z in
+        let here : w'.clients id ≡ after_whole (w.clients id) (moment_of (w.clients id) now) g q u = ap (λ (j : World). j.clients id) z'
+        ∙ put_same w.clients id (after_whole (w.clients id) (moment_of (w.clients id) now) g q u) in
+        let heard' : Delivers applied (w.clients id).receiver (update_in v) q =
+        subst (λ (j : ℕ). Delivers applied (w.clients j).receiver (update_in v) q) (sym i)
+        (subst (λ (b : DownValue). Delivers applied (w.clients id').receiver (update_in b) q) (sym same) heard) in
+        let top = one_round (w.server.records id).sender (w.clients id).receiver (Tells (w.server.records id).instructions)
+        (Acks (w.clients id).instructions) (h.lines id).link applied q (update_in v)
         (v, sent_one, refl) (t.new ∙ t.top) heard' in
         record {
           server = ap (λ (j : World). j.server) z';

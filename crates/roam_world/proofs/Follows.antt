@@ -36,7 +36,8 @@ use Rattle.roam_world.proofs.Runs.{arrives, arrived}
 
 pub headline : (w : World) → Holds w → Headline w
 headline w h =
-    let is = (λ (id : ℕ). newest_true (IsScreenOf w.server.size w.server.log w.server.cuts) (w.clients id).receiver (h.lines id).truth.receiver) in (
+    let is = (λ (id : ℕ). newest_true (IsScreenOf w.server.size w.server.log w.server.cuts) (w.clients id).receiver
+    (h.lines id).truth.receiver) in (
       record { made = (λ id. (is id).made); same = (λ id. (is id).same) },
       record {
         front = (λ id. front_is (acts_of id w.server.log) (w.clients id).typed (w.server.records id).taken (h.lines id).acts.front);
@@ -50,18 +51,21 @@ hold_true w h = record { receivers = (λ id. (h.lines id).truth.receiver); sende
 pub at_most_eight : (w : World) → Holds w → HoldAtMostEight w
 at_most_eight w h =
     record {
-      receivers = (λ id. let few = (h.lines id).link.receiver_few in omega (arith, few, length-append (w.clients id).receiver.earlier ((w.clients id).receiver.newest ∷ [])));
+      receivers = (λ id. let few = (h.lines id).link.receiver_few in omega
+          (arith, few, length-append (w.clients id).receiver.earlier ((w.clients id).receiver.newest ∷ [])));
       senders = (λ id. (h.lines id).link.sender_few);
     }
 
 -- a change of an instruction that was sent is a good one
-pub good_change : (w : World) (id : ℕ) (v : DownValue) (base : Screenshot) → Rattle.roam_world.specs.Lists.IsIn v (w.server.records id).instructions
+pub good_change : (w : World) (id : ℕ) (v : DownValue) (base : Screenshot)
+    → Rattle.roam_world.specs.Lists.IsIn v (w.server.records id).instructions
     → state_at v.old (pairs (w.clients id).receiver) ≡ Some base → applied base v.change ≡ None → Holds w → ⊥
 good_change w id v base sent at none h =
     let t = (h.lines id).truth in
     let Is = IsScreenOf w.server.size w.server.log w.server.cuts in
     let leads = t.updates (update_in v) (v, sent, refl) in
-    let mine : IsScreenOf w.server.size w.server.log w.server.cuts v.old base = found_true (IsScreenOf w.server.size w.server.log w.server.cuts) v.old (pairs (w.clients id).receiver) base t.receiver at in
+    let mine : IsScreenOf w.server.size w.server.log w.server.cuts v.old base =
+    found_true (IsScreenOf w.server.size w.server.log w.server.cuts) v.old (pairs (w.clients id).receiver) base t.receiver at in
     let same : base ≡ leads.base = one_screen w.server.size w.server.log w.server.cuts v.old base leads.base mine leads.from_true in
     let no : None ≡ Some leads.state = sym none ∙ ap (λ b. applied b v.change) same ∙ leads.leads in
     cc
@@ -70,7 +74,8 @@ no_gap_for : (w : World) (id : ℕ) (v : DownValue) → Rattle.roam_world.specs.
     → hearing_of (step_of (w.clients id) v) ≡ IsGap → ⊥
 no_gap_for w id v sent h e =
     let l = (h.lines id).link in
-    elim (old_or_new (w.server.records id).sender (w.clients id).receiver (Tells (w.server.records id).instructions) (Acks (w.clients id).instructions) l (update_in v) (v, sent, refl)) [
+    elim (old_or_new (w.server.records id).sender (w.clients id).receiver (Tells (w.server.records id).instructions)
+    (Acks (w.clients id).instructions) l (update_in v) (v, sent, refl)) [
       | inl old ↦ (let f : hearing_of step.Old ≡ IsGap = ap hearing_of (sym old.0) ∙ e in cc)
       | inr new ↦ (let f : hearing_of step.New ≡ IsGap = ap hearing_of (sym new) ∙ e in cc)
     ]
@@ -106,14 +111,17 @@ same_text : (cuts : ℕ → List (List ℕ)) (d e : DatagramValue) → d.id ≡ 
 same_text cuts d e n a b =
     let same = ap (λ (k : ℕ). cuts k) n in (
       a.count ∙ ap length same ∙ sym b.count,
-      (λ i. let f : Some d.payload ≡ Some e.payload = sym a.there ∙ ap (λ (xs : List (List ℕ)). slice_get xs d.index) same ∙ ap (slice_get (cuts e.id)) i ∙ b.there in cc),
+      (λ i. let f : Some d.payload ≡ Some e.payload = sym a.there ∙ ap (λ (xs : List (List ℕ)). slice_get xs d.index) same
+          ∙ ap (slice_get (cuts e.id)) i ∙ b.there in cc),
     )
 
 pub one_text : (w : World) → Holds w → NamesOneText w
 one_text w h d e i j kind client n =
-    go d.kind (h.pieces d i) (subst (λ (k : ℕ). IsPiece d.kind e (w.server.records k) (w.clients k)) (sym client) (subst (λ (x : Kind). IsPiece x e (w.server.records e.client) (w.clients e.client)) (sym kind) (h.pieces e j)))
+    go d.kind (h.pieces d i) (subst (λ (k : ℕ). IsPiece d.kind e (w.server.records k) (w.clients k)) (sym client)
+    (subst (λ (x : Kind). IsPiece x e (w.server.records e.client) (w.clients e.client)) (sym kind) (h.pieces e j)))
   where
-    go : (kind : Kind) → IsPiece kind d (w.server.records d.client) (w.clients d.client) → IsPiece kind e (w.server.records d.client) (w.clients d.client)
+    go : (kind : Kind) → IsPiece kind d (w.server.records d.client) (w.clients d.client)
+        → IsPiece kind e (w.server.records d.client) (w.clients d.client)
         → (d.count ≡ e.count) × (d.index ≡ e.index → d.payload ≡ e.payload)
     go ToClient a b = same_text (cuts_of down_text (w.server.records d.client).instructions) d e n a b
     go ToServer a b = same_text (cuts_of up_text (w.clients d.client).instructions) d e n a b
@@ -126,8 +134,10 @@ unfolding holds_after
 offered_newest r n s now live low or = go (nat_lt (newest r.sender).number n) refl (nat_lt (count r.sender) 8) refl
   where
     go : (a : Bool) → nat_lt (newest r.sender).number n ≡ a → (b : Bool) → nat_lt (count r.sender) 8 ≡ b
-        → (newest (cond (is_live r now && nat_lt (newest r.sender).number n && nat_lt (count r.sender) 8) (offered r.sender n s) r.sender)).number ≡ n
-    go true x true y = rw (live, x, y) (ap (λ h. h.number) (newest_of_more r.sender.base r.sender.later (record { number = n; state = s; sent = false })))
+        → (newest (cond (is_live r now && nat_lt (newest r.sender).number n && nat_lt (count r.sender) 8) (offered r.sender n s)
+        r.sender)).number ≡ n
+    go true x true y = rw (live, x, y) (ap (λ h. h.number)
+        (newest_of_more r.sender.base r.sender.later (record { number = n; state = s; sent = false })))
     go true x false y =
         let lt : (newest r.sender).number < n = grind (arith, nat_tests) in
         let ge : 8 ≤ count r.sender = grind (arith, nat_tests) in
@@ -147,9 +157,19 @@ offers_newest w h id now live or =
     grows true le = omega (arith, length-append w.server.cuts (length w.server.log ∷ []))
     grows false le = le
 
-    go : (b : Bool) → (newest (holds_after (w.server.records id) (number_after w.server (moment w.server now)) (screen_after w.server (moment w.server now)) (moment w.server now))).number ≡ number_after w.server (moment w.server now)
-        → (newest (cond b (after_sent (w.server.records id) (number_after w.server (moment w.server now)) (screen_after w.server (moment w.server now)) (moment w.server now)) (record (w.server.records id) { sender = holds_after (w.server.records id) (number_after w.server (moment w.server now)) (screen_after w.server (moment w.server now)) (moment w.server now) })).sender).number ≡ number_after w.server (moment w.server now)
-    go true e = Rattle.roam_sync.proofs.Ends.marked_newest (holds_after (w.server.records id) (number_after w.server (moment w.server now)) (screen_after w.server (moment w.server now)) (moment w.server now)).base (holds_after (w.server.records id) (number_after w.server (moment w.server now)) (screen_after w.server (moment w.server now)) (moment w.server now)).later ∙ e
+    go : (b : Bool) → (newest (holds_after (w.server.records id) (number_after w.server (moment w.server now))
+        (screen_after w.server (moment w.server now)) (moment w.server now))).number ≡ number_after w.server (moment w.server now)
+        → (newest (cond b (after_sent (w.server.records id) (number_after w.server (moment w.server now))
+        (screen_after w.server (moment w.server now)) (moment w.server now))
+        (record (w.server.records id) {
+          sender = holds_after (w.server.records id) (number_after w.server (moment w.server now))
+              (screen_after w.server (moment w.server now)) (moment w.server now);
+        })).sender).number ≡ number_after w.server
+        (moment w.server now)
+    go true e = Rattle.roam_sync.proofs.Ends.marked_newest
+        (holds_after (w.server.records id) (number_after w.server (moment w.server now)) (screen_after w.server (moment w.server now))
+        (moment w.server now)).base (holds_after (w.server.records id) (number_after w.server (moment w.server now))
+        (screen_after w.server (moment w.server now)) (moment w.server now)).later ∙ e
     go false e = e
 
 pub limits : (w : World) → Holds w → Counts w → Limits w

@@ -46,7 +46,8 @@ set_here [] i x lt = absurd (omega arith)
 set_here (p ∷ ps) zero x lt = refl
 set_here (p ∷ ps) (suc i) x lt = set_here ps i x (omega arith)
 
-set_stays : (ps : List (Option (List ℕ))) (i j : ℕ) (x : List ℕ) → is_some (get_or ps j None) ≡ true → is_some (get_or (set ps i (Some x)) j None) ≡ true
+set_stays : (ps : List (Option (List ℕ))) (i j : ℕ) (x : List ℕ) → is_some (get_or ps j None) ≡ true
+    → is_some (get_or (set ps i (Some x)) j None) ≡ true
 set_stays [] i j x e = e
 set_stays (p ∷ ps) zero zero x e = refl
 set_stays (p ∷ ps) zero (suc j) x e = e
@@ -85,9 +86,13 @@ adds cuts g p of is le =
           here = set_here g.pieces p.index p.payload (omega (arith, within, many));
         }
 
-    go : (a : Bool) → nat_le p.count p.index ≡ a → (b : Bool) → nat_lt p.id g.id ≡ b → (c : Bool) → nat_eq p.id g.id ≡ c → (d : Bool) → all_there g.pieces ≡ d
-        → (e : Bool) → nat_lt g.id p.id ≡ e → (f : Bool) → nat_eq (length g.pieces) p.count ≡ f → (k : Bool) → is_some (get_or g.pieces p.index None) ≡ k
-        → Adds g (after g (cond a None (cond (b || (c && d)) (Some (Old, g)) (cond e (Some (with_piece (replicate p.count None) p)) (cond (not f) None (cond k (Some (Old, g)) (Some (with_piece g.pieces p)))))))) p.id p.index
+    go : (a : Bool) → nat_le p.count p.index ≡ a → (b : Bool) → nat_lt p.id g.id ≡ b → (c : Bool) → nat_eq p.id g.id ≡ c → (d : Bool)
+        → all_there g.pieces ≡ d
+        → (e : Bool) → nat_lt g.id p.id ≡ e → (f : Bool) → nat_eq (length g.pieces) p.count ≡ f → (k : Bool)
+        → is_some (get_or g.pieces p.index None) ≡ k
+        → Adds g (after g (cond a None (cond (b || (c && d)) (Some (Old, g))
+        (cond e (Some (with_piece (replicate p.count None) p))
+        (cond (not f) None (cond k (Some (Old, g)) (Some (with_piece g.pieces p)))))))) p.id p.index
     go true a' b b' c c' d d' e e' f f' k k' = let le' : p.count ≤ p.index = grind (arith, nat_tests) in absurd (omega (arith, within, le'))
     go false a' true b' c c' d d' e e' f f' k k' = let lt : p.id < g.id = grind (arith, nat_tests) in absurd (omega (arith, lt, le))
     go false a' false b' true c' true d' e e' f f' k k' =
@@ -95,7 +100,8 @@ adds cuts g p of is le =
         let many = long same in
         record { number = same; stays = (λ s i t. t); here = there_at g.pieces p.index d' (omega (arith, within, many)) }
     go false a' false b' true c' false d' true e' f f' k k' =
-        let same : g.id ≡ p.id = grind (arith, nat_tests) in let lt : g.id < p.id = grind (arith, nat_tests) in absurd (omega (arith, same, lt))
+        let same : g.id ≡ p.id = grind (arith, nat_tests) in let lt : g.id < p.id =
+        grind (arith, nat_tests) in absurd (omega (arith, same, lt))
     go false a' false b' false c' d d' true e' f f' k k' =
         let lt : g.id < p.id = grind (arith, nat_tests) in
         record {
@@ -113,9 +119,11 @@ adds cuts g p of is le =
         let same : g.id ≡ p.id = let ge : p.id ≤ g.id = grind (arith, nat_tests) in omega (arith, le, ge) in
         record { number = same; stays = (λ s i t. t); here = k' }
     go false a' false b' true c' false d' false e' true f' false k' = more (grind (arith, nat_tests))
-    go false a' false b' false c' d d' false e' true f' false k' = more (let ge : p.id ≤ g.id = grind (arith, nat_tests) in omega (arith, le, ge))
+    go false a' false b' false c' d d' false e' true f' false k' =
+        more (let ge : p.id ≤ g.id = grind (arith, nat_tests) in omega (arith, le, ge))
 
-after_gathers : (cuts : ℕ → List (List ℕ)) (g : Gathering) (p : Piece) (x : Option (Answer × Gathering)) → GathersWell cuts g p x → GathersOf cuts g → GathersOf cuts (after g x)
+after_gathers : (cuts : ℕ → List (List ℕ)) (g : Gathering) (p : Piece) (x : Option (Answer × Gathering)) → GathersWell cuts g p x
+    → GathersOf cuts g → GathersOf cuts (after g x)
 after_gathers cuts g p None w is = is
 after_gathers cuts g p (Some (a, h)) w is = w.0
 
@@ -136,7 +144,8 @@ all_gathered cuts n g (p ∷ ps) all is at each =
       | inr c ↦ elim c [ inl e ↦ inl (subst (λ (j : ℕ). IsThere (after g (gather g p)) j) e a.here) | inr d ↦ inr d ]
     ])
 
-pub all_gathered_anew : (cuts : ℕ → List (List ℕ)) (n : ℕ) (g : Gathering) (p : Piece) (ps : List Piece) → AllOf cuts n (p ∷ ps) → GathersOf cuts g → g.id < n
+pub all_gathered_anew : (cuts : ℕ → List (List ℕ)) (n : ℕ) (g : Gathering) (p : Piece) (ps : List Piece) → AllOf cuts n (p ∷ ps)
+    → GathersOf cuts g → g.id < n
     → ((i : ℕ) → i < length (cuts n) → Comes i (p ∷ ps))
     → (all_there (gathered_all g (p ∷ ps)).pieces ≡ true) × ((gathered_all g (p ∷ ps)).id ≡ n)
 all_gathered_anew cuts n g p ps all is lt each =
@@ -164,19 +173,26 @@ IsSame g (Some (Whole text, h)) = Unit {0}
 with_part : (g : Gathering) (ps : List (Option (List ℕ))) (p : Piece) → IsPart (Some (with_piece ps p)) × IsSame g (Some (with_piece ps p))
 with_part g ps p = go (set ps p.index (Some p.payload))
   where
-    go : (qs : List (Option (List ℕ))) → IsPart (Some (answer_in qs, record { id = p.id; pieces = qs })) × IsSame g (Some (answer_in qs, record { id = p.id; pieces = qs }))
+    go : (qs : List (Option (List ℕ))) → IsPart (Some (answer_in qs, record { id = p.id; pieces = qs }))
+        × IsSame g (Some (answer_in qs, record { id = p.id; pieces = qs }))
     go qs = by (all_there qs) refl
       where
-        by : (b : Bool) → all_there qs ≡ b → IsPart (Some (cond b (Whole (text_of qs)) Part, record { id = p.id; pieces = qs })) × IsSame g (Some (cond b (Whole (text_of qs)) Part, record { id = p.id; pieces = qs }))
+        by : (b : Bool) → all_there qs ≡ b → IsPart (Some (cond b (Whole (text_of qs)) Part, record { id = p.id; pieces = qs }))
+            × IsSame g (Some (cond b (Whole (text_of qs)) Part, record { id = p.id; pieces = qs }))
         by true e = (tt, tt)
         by false e = (e, tt)
 
 pub is_part : (g : Gathering) (p : Piece) → IsPart (gather g p) × IsSame g (gather g p)
-is_part g p = go (nat_le p.count p.index) (nat_lt p.id g.id || (nat_eq p.id g.id && all_there g.pieces)) (nat_lt g.id p.id) (nat_eq (length g.pieces) p.count) (is_some (get_or g.pieces p.index None))
+is_part g p = go (nat_le p.count p.index) (nat_lt p.id g.id || (nat_eq p.id g.id && all_there g.pieces)) (nat_lt g.id p.id)
+    (nat_eq (length g.pieces) p.count) (is_some (get_or g.pieces p.index None))
   where
     go : (a b c d e : Bool)
-        → IsPart (cond a None (cond b (Some (Old, g)) (cond c (Some (with_piece (replicate p.count None) p)) (cond (not d) None (cond e (Some (Old, g)) (Some (with_piece g.pieces p)))))))
-        × IsSame g (cond a None (cond b (Some (Old, g)) (cond c (Some (with_piece (replicate p.count None) p)) (cond (not d) None (cond e (Some (Old, g)) (Some (with_piece g.pieces p)))))))
+        → IsPart (cond a None (cond b (Some (Old, g))
+        (cond c (Some (with_piece (replicate p.count None) p))
+        (cond (not d) None (cond e (Some (Old, g)) (Some (with_piece g.pieces p)))))))
+        × IsSame g (cond a None (cond b (Some (Old, g))
+        (cond c (Some (with_piece (replicate p.count None) p))
+        (cond (not d) None (cond e (Some (Old, g)) (Some (with_piece g.pieces p)))))))
     go true b c d e = (tt, tt)
     go false true c d e = (tt, refl)
     go false false true d e = with_part g (replicate p.count None) p

@@ -44,7 +44,8 @@ use Rattle.roam_world.proofs.Pieces.{piece-more, gathers-more, packed_is}
 -- ---- an input
 
 -- the log grows, but by no act of this start
-pub line-more : (size : SessionSize) (log more : List Entry) (cuts : List ℕ) (taken taken' : List Act) (r : Record) (c : Client) → AreCuts log cuts
+pub line-more : (size : SessionSize) (log more : List Entry) (cuts : List ℕ) (taken taken' : List Act) (r : Record) (c : Client)
+    → AreCuts log cuts
     → taken' ≡ taken → LineOf size log cuts taken r c → LineOf size (log ++ more) cuts taken' r c
 line-more size log more cuts taken taken' r c low same l =
     record {
@@ -59,7 +60,8 @@ line-more size log more cuts taken taken' r c low same l =
       notes = l.notes;
     }
 
-pub keeps-input : (w : World) (entry : Entry) → ((id : ℕ) → acts_of id (entry ∷ []) ≡ []) → Holds w → Holds (with_server w (after_input w.server entry))
+pub keeps-input : (w : World) (entry : Entry) → ((id : ℕ) → acts_of id (entry ∷ []) ≡ []) → Holds w
+    → Holds (with_server w (after_input w.server entry))
 keeps-input w entry none h =
     record {
       numbers = h.numbers;
@@ -67,8 +69,10 @@ keeps-input w entry none h =
       screens = screens_more w.server.size w.server.log (entry ∷ []) w.server.cuts h.cuts h.screens;
       lines = (λ id.
           let same : acts_of id (w.server.log ++ entry ∷ []) ≡ acts_of id w.server.log =
-          acts_of-append id w.server.log (entry ∷ []) ∙ ap (λ (xs : List Act). acts_of id w.server.log ++ xs) (none id) ∙ append-nil (acts_of id w.server.log) in
-          line-more w.server.size w.server.log (entry ∷ []) w.server.cuts (acts_of id w.server.log) (acts_of id (w.server.log ++ entry ∷ [])) (w.server.records id) (w.clients id) h.cuts same (h.lines id));
+          acts_of-append id w.server.log (entry ∷ []) ∙ ap (λ (xs : List Act). acts_of id w.server.log ++ xs) (none id)
+          ∙ append-nil (acts_of id w.server.log) in
+          line-more w.server.size w.server.log (entry ∷ []) w.server.cuts (acts_of id w.server.log)
+          (acts_of id (w.server.log ++ entry ∷ [])) (w.server.records id) (w.clients id) h.cuts same (h.lines id));
       pieces = h.pieces;
       unused = h.unused;
       slots = h.slots;
@@ -81,7 +85,8 @@ abbrev pub Line : World → ℕ → Record → Client → Type 0
 Line w id r c = LineOf w.server.size w.server.log w.server.cuts (acts_of id w.server.log) r c
 
 -- a client start that was made changes, and sent nothing
-pub keeps-client : (w : World) (id : ℕ) (c : Client) → c.made ≡ true → c.instructions ≡ (w.clients id).instructions → Line w id (w.server.records id) c
+pub keeps-client : (w : World) (id : ℕ) (c : Client) → c.made ≡ true → c.instructions ≡ (w.clients id).instructions
+    → Line w id (w.server.records id) c
     → Holds w → Holds (with_client w id c)
 keeps-client w id c made same line h =
     record {
@@ -89,12 +94,15 @@ keeps-client w id c made same line h =
       cuts = h.cuts;
       screens = h.screens;
       lines = on_put (λ j x. Line w j (w.server.records j) x) w.clients id c line (λ j e. h.lines j);
-      pieces = (λ d i. on_put (λ j x. IsPiece d.kind d (w.server.records d.client) (w.clients j) → IsPiece d.kind d (w.server.records d.client) x) w.clients id c (like d.kind d) (λ j e p. p) d.client (h.pieces d i));
-      unused = on_put (λ j x. x.made ≡ false → x ≡ nobody) w.clients id c (λ f. let z : true ≡ false = sym made ∙ f in cc) (λ j e. h.unused j);
+      pieces = (λ d i. on_put (λ j x. IsPiece d.kind d (w.server.records d.client) (w.clients j)
+          → IsPiece d.kind d (w.server.records d.client) x) w.clients id c (like d.kind d) (λ j e p. p) d.client (h.pieces d i));
+      unused = on_put (λ j x. x.made ≡ false → x ≡ nobody) w.clients id c (λ f. let z : true ≡ false = sym made ∙ f in cc)
+          (λ j e. h.unused j);
       slots = (λ slot j. on_put (λ k x. w.slots slot ≡ Some k → x.made ≡ true) w.clients id c (λ s. made) (λ k e. h.slots slot k) j);
     }
   where
-    like : (kind : Kind) (d : DatagramValue) → IsPiece kind d (w.server.records d.client) (w.clients id) → IsPiece kind d (w.server.records d.client) c
+    like : (kind : Kind) (d : DatagramValue) → IsPiece kind d (w.server.records d.client) (w.clients id)
+        → IsPiece kind d (w.server.records d.client) c
     like ToClient d p = p
     like ToServer d p = subst (λ (us : List UpValue). IsPieceOf (cuts_of up_text us) (piece_of d)) (sym same) p
 
@@ -105,7 +113,8 @@ typed_length taken r c a =
     let held = ap length a.typed.held in
     omega (arith, known, held, length-drop c.acts.acked c.typed)
 
-pub keeps-typed : (w : World) (id : ℕ) (act : Act) → (w.clients id).made ≡ true → IsAct act → (IsFull (w.clients id).acts → ⊥) → (IsSpent (w.clients id).acts → ⊥)
+pub keeps-typed : (w : World) (id : ℕ) (act : Act) → (w.clients id).made ≡ true → IsAct act → (IsFull (w.clients id).acts → ⊥)
+    → (IsSpent (w.clients id).acts → ⊥)
     → Holds w → Holds (with_client w id (after_typed (w.clients id) act))
 keeps-typed w id act made is full spent h =
     let c = w.clients id in
@@ -145,14 +154,17 @@ keeps-typed w id act made is full spent h =
         cases : (n : ℕ) → n ≤ 1024 → (n ≡ 1024) ⊎ (n < 1024)
         cases n le = grind arith
 
-    not_spent : length (w.clients id).acts.acts < 1024 → (IsSpent (w.clients id).acts → ⊥) → length (w.clients id).typed ≡ (w.clients id).acts.acked + length (w.clients id).acts.acts
+    not_spent : length (w.clients id).acts.acts < 1024 → (IsSpent (w.clients id).acts → ⊥)
+        → length (w.clients id).typed ≡ (w.clients id).acts.acked + length (w.clients id).acts.acts
         → length (w.clients id).typed < 2 ^ 62 → length (w.clients id).typed + 1 < 2 ^ 62
-    not_spent room spent many below = elim (cases (length (w.clients id).typed) below) [ inl e ↦ absurd (spent (room, omega (arith, e, many))) | inr lt ↦ lt ]
+    not_spent room spent many below = elim (cases (length (w.clients id).typed) below)
+        [ inl e ↦ absurd (spent (room, omega (arith, e, many))) | inr lt ↦ lt ]
       where
         cases : (n : ℕ) → n < 2 ^ 62 → (n + 1 ≡ 2 ^ 62) ⊎ (n + 1 < 2 ^ 62)
         cases n lt = grind arith
 
-pub keeps-quiet : (w : World) (id now : ℕ) → (w.clients id).made ≡ true → Holds w → Holds (with_client w id (after_quiet (w.clients id) now))
+pub keeps-quiet : (w : World) (id now : ℕ) → (w.clients id).made ≡ true → Holds w
+    → Holds (with_client w id (after_quiet (w.clients id) now))
 keeps-quiet w id now made h =
     let l = h.lines id in
     let a = l.acts in
@@ -160,7 +172,17 @@ keeps-quiet w id now made h =
     (record {
       truth = l.truth;
       link = l.link;
-      acts = record { count = a.count; front = a.front; low = a.low; typed = a.typed; few = a.few; below = a.below; are = a.are; told = a.told };
+      acts = record {
+        count = a.count;
+        front = a.front;
+        low = a.low;
+        typed = a.typed;
+        few = a.few;
+        below = a.below;
+        are = a.are;
+        told =
+            a.told;
+      };
       downs = l.downs;
       ups = l.ups;
       gathers_down = l.gathers_down;
@@ -168,7 +190,8 @@ keeps-quiet w id now made h =
       notes = l.notes;
     }) h
 
-pub keeps-piece : (w : World) (id now : ℕ) (g : Gathering) → (w.clients id).made ≡ true → Gathers down_text (w.server.records id).instructions g
+pub keeps-piece : (w : World) (id now : ℕ) (g : Gathering) → (w.clients id).made ≡ true
+    → Gathers down_text (w.server.records id).instructions g
     → Holds w → Holds (with_client w id (after_piece (w.clients id) now g))
 keeps-piece w id now g made of h =
     let l = h.lines id in
@@ -177,7 +200,17 @@ keeps-piece w id now g made of h =
     (record {
       truth = l.truth;
       link = l.link;
-      acts = record { count = a.count; front = a.front; low = a.low; typed = a.typed; few = a.few; below = a.below; are = a.are; told = a.told };
+      acts = record {
+        count = a.count;
+        front = a.front;
+        low = a.low;
+        typed = a.typed;
+        few = a.few;
+        below = a.below;
+        are = a.are;
+        told =
+            a.told;
+      };
       downs = l.downs;
       ups = l.ups;
       gathers_down = of;
@@ -226,7 +259,8 @@ keeps-whole w id now g r' v made of sent delivers h =
     let l = h.lines id in
     let a = l.acts in
     let few = a.few in
-    let t = hearken applied (IsScreenOf w.server.size w.server.log w.server.cuts) r.sender c.receiver r' (update_in v) (Tells r.instructions) (Acks c.instructions)
+    let t = hearken applied (IsScreenOf w.server.size w.server.log w.server.cuts) r.sender c.receiver r' (update_in v)
+    (Tells r.instructions) (Acks c.instructions)
     (one_screen w.server.size w.server.log w.server.cuts) l.truth l.link (v, sent, refl) delivers in
     keeps-client w id (after_whole (w.clients id) now g r' v) made refl
     (record {
@@ -271,7 +305,8 @@ up_is w id e h =
     let a = l.acts in
     let made = (newest_true (IsScreenOf w.server.size w.server.log w.server.cuts) c.receiver l.truth.receiver).made in
     let numbers = h.numbers in
-    let left = or_left (is_spent (c.acts.acked + 1) || is_spent (length c.instructions + 1)) (is_spent (c.datagrams + length (pieces_from c))) e in
+    let left = or_left (is_spent (c.acts.acked + 1) || is_spent (length c.instructions + 1))
+    (is_spent (c.datagrams + length (pieces_from c))) e in
     let first = not_past (c.acts.acked + 1) (or_left (is_spent (c.acts.acked + 1)) (is_spent (length c.instructions + 1)) left) in
     record {
       acked = omega (arith, made, numbers);
@@ -280,7 +315,8 @@ up_is w id e h =
       acts = All-take IsAct 64 c.acts.acts (subst (All IsAct) (sym a.typed.held) (All-drop IsAct c.acts.acked c.typed a.are));
     }
 
-pub keeps-sending : (w : World) (id now : ℕ) → (w.clients id).made ≡ true → is_client_spent (w.clients id) ≡ false → Holds w → Holds (after_client_sent w id now)
+pub keeps-sending : (w : World) (id now : ℕ) → (w.clients id).made ≡ true → is_client_spent (w.clients id) ≡ false → Holds w
+    → Holds (after_client_sent w id now)
 keeps-sending w id now made e h =
     record {
       numbers = h.numbers;
@@ -288,7 +324,8 @@ keeps-sending w id now made e h =
       screens = h.screens;
       lines = on_put (λ j x. Line w j (w.server.records j) x) w.clients id c' (record {
         truth = l.truth;
-        link = link_answered r.sender c.receiver (Tells r.instructions) (Acks c.instructions) l.link (Acks (c.instructions ++ up_from c ∷ [])) acks;
+        link = link_answered r.sender c.receiver (Tells r.instructions) (Acks c.instructions) l.link
+            (Acks (c.instructions ++ up_from c ∷ [])) acks;
         acts = record {
           count = a.count;
           front = a.front;
@@ -312,10 +349,12 @@ keeps-sending w id now made e h =
         notes = l.notes;
       }) (λ j f. h.lines j);
       pieces = (λ d i. elim (IsIn-append_cases d w.sent (datagrams_from w.server.session id c) i) [
-        | inl o ↦ on_put (λ j x. IsPiece d.kind d (w.server.records d.client) (w.clients j) → IsPiece d.kind d (w.server.records d.client) x) w.clients id c' (like d.kind d) (λ j f p. p) d.client (h.pieces d o)
+        | inl o ↦ on_put (λ j x. IsPiece d.kind d (w.server.records d.client) (w.clients j)
+            → IsPiece d.kind d (w.server.records d.client) x) w.clients id c' (like d.kind d) (λ j f p. p) d.client (h.pieces d o)
         | inr n ↦ new d n
       ]);
-      unused = on_put (λ j x. x.made ≡ false → x ≡ nobody) w.clients id c' (λ f. let z : true ≡ false = sym made ∙ f in cc) (λ j f. h.unused j);
+      unused = on_put (λ j x. x.made ≡ false → x ≡ nobody) w.clients id c' (λ f. let z : true ≡ false = sym made ∙ f in cc)
+          (λ j f. h.unused j);
       slots = (λ slot j. on_put (λ k x. w.slots slot ≡ Some k → x.made ≡ true) w.clients id c' (λ s. made) (λ k f. h.slots slot k) j);
     }
   where
@@ -334,19 +373,27 @@ keeps-sending w id now made e h =
     a : ActsOf (acts_of id w.server.log) (w.server.records id) (w.clients id)
     a = l.acts
 
-    acks : (n : ℕ) → Acks ((w.clients id).instructions ++ up_from (w.clients id) ∷ []) n → Acks (w.clients id).instructions n ⊎ (n ≡ shown_number (w.clients id))
-    acks n b = elim (IsIn-push_cases b.0 (up_from (w.clients id)) (w.clients id).instructions b.1) [ inl o ↦ inl (b.0, o, b.2) | inr f ↦ inr (sym b.2 ∙ ap (λ (u : UpValue). u.acked) (sym f)) ]
+    acks : (n : ℕ) → Acks ((w.clients id).instructions ++ up_from (w.clients id) ∷ []) n
+        → Acks (w.clients id).instructions n ⊎ (n ≡ shown_number (w.clients id))
+    acks n b = elim (IsIn-push_cases b.0 (up_from (w.clients id)) (w.clients id).instructions b.1)
+        [ inl o ↦ inl (b.0, o, b.2) | inr f ↦ inr (sym b.2 ∙ ap (λ (u : UpValue). u.acked) (sym f)) ]
 
-    like : (kind : Kind) (d : DatagramValue) → IsPiece kind d (w.server.records d.client) (w.clients id) → IsPiece kind d (w.server.records d.client) (after_sending (w.clients id) now)
+    like : (kind : Kind) (d : DatagramValue) → IsPiece kind d (w.server.records d.client) (w.clients id)
+        → IsPiece kind d (w.server.records d.client) (after_sending (w.clients id) now)
     like ToClient d p = p
     like ToServer d p = piece-more up_text (w.clients id).instructions (up_from (w.clients id) ∷ []) (piece_of d) p
 
-    new : (d : DatagramValue) → IsIn d (datagrams_from w.server.session id (w.clients id)) → IsPiece d.kind d (w.server.records d.client) (put w.clients id (after_sending (w.clients id) now) d.client)
+    new : (d : DatagramValue) → IsIn d (datagrams_from w.server.session id (w.clients id))
+        → IsPiece d.kind d (w.server.records d.client) (put w.clients id (after_sending (w.clients id) now) d.client)
     new d i =
-        let p = packed_is up_text (w.clients id).instructions (up_from (w.clients id)) ToServer w.server.session id (w.clients id).datagrams d i in
-        subst (λ (kind : Kind). IsPiece kind d (w.server.records d.client) (put w.clients id (after_sending (w.clients id) now) d.client)) (sym p.kind_is)
-        (subst (λ (k : ℕ). IsPiece ToServer d (w.server.records d.client) (put w.clients id (after_sending (w.clients id) now) k)) (sym p.client_is)
-        (subst (λ (x : Client). IsPiece ToServer d (w.server.records d.client) x) (sym (put_same w.clients id (after_sending (w.clients id) now))) p.piece))
+        let p = packed_is up_text (w.clients id).instructions (up_from (w.clients id)) ToServer w.server.session id
+        (w.clients id).datagrams d i in
+        subst (λ (kind : Kind). IsPiece kind d (w.server.records d.client) (put w.clients id (after_sending (w.clients id) now) d.client))
+        (sym p.kind_is)
+        (subst (λ (k : ℕ). IsPiece ToServer d (w.server.records d.client) (put w.clients id (after_sending (w.clients id) now) k))
+        (sym p.client_is)
+        (subst (λ (x : Client). IsPiece ToServer d (w.server.records d.client) x)
+        (sym (put_same w.clients id (after_sending (w.clients id) now))) p.piece))
 
 pub keeps-start : (w : World) (slot id : ℕ) → (w.clients id).made ≡ false → Holds w → Holds (after_start w slot id)
 keeps-start w slot id made h =
@@ -360,21 +407,37 @@ keeps-start w slot id made h =
       lines = on_put (λ j x. Line w j (w.server.records j) x) w.clients id new_client (record {
         truth = l.truth;
         link = l.link;
-        acts = record { count = a.count; front = a.front; low = a.low; typed = a.typed; few = a.few; below = a.below; are = a.are; told = a.told };
+        acts = record {
+          count = a.count;
+          front = a.front;
+          low = a.low;
+          typed = a.typed;
+          few = a.few;
+          below = a.below;
+          are = a.are;
+          told =
+              a.told;
+        };
         downs = l.downs;
         ups = l.ups;
         gathers_down = l.gathers_down;
         gathers_up = l.gathers_up;
         notes = l.notes;
       }) (λ j e. h.lines j);
-      pieces = (λ d i. on_put (λ j x. IsPiece d.kind d (w.server.records d.client) (w.clients j) → IsPiece d.kind d (w.server.records d.client) x) w.clients id new_client (λ p. like d.kind d (subst (λ (x : Client). IsPiece d.kind d (w.server.records d.client) x) is p)) (λ j e p. p) d.client (h.pieces d i));
-      unused = on_put (λ j x. x.made ≡ false → x ≡ nobody) w.clients id new_client (λ f. let z : true ≡ false = f in cc) (λ j e. h.unused j);
+      pieces = (λ d i. on_put (λ j x. IsPiece d.kind d (w.server.records d.client) (w.clients j)
+          → IsPiece d.kind d (w.server.records d.client) x) w.clients id new_client
+          (λ p. like d.kind d (subst (λ (x : Client). IsPiece d.kind d (w.server.records d.client) x) is p)) (λ j e p. p) d.client
+          (h.pieces d i));
+      unused = on_put (λ j x. x.made ≡ false → x ≡ nobody) w.clients id new_client (λ f. let z : true ≡ false = f in cc)
+          (λ j e. h.unused j);
       slots = (λ place j. on_put (λ k x. x ≡ Some j → (put w.clients id new_client j).made ≡ true) w.slots slot (Some id)
-          (λ e. let same : id ≡ j = cc in subst (λ (k : ℕ). (put w.clients id new_client k).made ≡ true) same (ap (λ (x : Client). x.made) (put_same w.clients id new_client)))
+          (λ e. let same : id ≡ j = cc in subst (λ (k : ℕ). (put w.clients id new_client k).made ≡ true) same
+          (ap (λ (x : Client). x.made) (put_same w.clients id new_client)))
           (λ k f s. on_put (λ i x. w.slots k ≡ Some i → x.made ≡ true) w.clients id new_client (λ t. refl) (λ i e. h.slots k i) j s)
           place);
     }
   where
-    like : (kind : Kind) (d : DatagramValue) → IsPiece kind d (w.server.records d.client) nobody → IsPiece kind d (w.server.records d.client) new_client
+    like : (kind : Kind) (d : DatagramValue) → IsPiece kind d (w.server.records d.client) nobody
+        → IsPiece kind d (w.server.records d.client) new_client
     like ToClient d p = p
     like ToServer d p = p

@@ -15,3 +15,4 @@ pub mod Answering
 pub mod Replying
 pub mod Sendable
 pub mod Passing
+mod WorkedRows

@@ -28,10 +28,12 @@ IsIn-map f y (x ∷ xs) h = elim h [ inl e ↦ (x, inl refl, e) | inr r ↦ (let
 pub IsIn-flat_map : {X Y : Type 0} (f : X → List Y) (y : Y) (xs : List X) → IsIn y (flat_map f xs) → (x : X) × IsIn x xs × IsIn y (f x)
 IsIn-flat_map f y [] h = absurd h
 IsIn-flat_map f y (x ∷ xs) h =
-    elim (IsIn-append_cases y (f x) (flat_map f xs) h) [ inl a ↦ (x, inl refl, a) | inr r ↦ (let b = IsIn-flat_map f y xs r in (b.0, inr b.1, b.2)) ]
+    elim (IsIn-append_cases y (f x) (flat_map f xs) h)
+    [ inl a ↦ (x, inl refl, a) | inr r ↦ (let b = IsIn-flat_map f y xs r in (b.0, inr b.1, b.2)) ]
 
 -- an element with its index
-pub IsIn-enumerate : {X : Type 0} (k : ℕ) (xs : List X) (p : ℕ × X) → IsIn p (enumerate_from k xs) → (i : ℕ) × (p.0 ≡ k + i) × (slice_get xs i ≡ Some p.1)
+pub IsIn-enumerate : {X : Type 0} (k : ℕ) (xs : List X) (p : ℕ × X) → IsIn p (enumerate_from k xs)
+    → (i : ℕ) × (p.0 ≡ k + i) × (slice_get xs i ≡ Some p.1)
 IsIn-enumerate k [] p h = absurd h
 IsIn-enumerate {X} k (x ∷ xs) p h =
     elim h [
@@ -62,7 +64,8 @@ slice_get-last [] y = refl
 slice_get-last (x ∷ xs) y = slice_get-last xs y
 
 -- values of which one changes
-pub on_put : {X : Type 0} (P : ℕ → X → Type 0) (f : ℕ → X) (i : ℕ) (x : X) → P i x → ((j : ℕ) → nat_eq j i ≡ false → P j (f j)) → (j : ℕ) → P j (put f i x j)
+pub on_put : {X : Type 0} (P : ℕ → X → Type 0) (f : ℕ → X) (i : ℕ) (x : X) → P i x → ((j : ℕ) → nat_eq j i ≡ false → P j (f j)) → (j : ℕ)
+    → P j (put f i x j)
 on_put P f i x here others j = go (nat_eq j i) refl
   where
     go : (b : Bool) → nat_eq j i ≡ b → P j (cond b x (f j))

@@ -36,7 +36,8 @@ record Went (w w'' : World) (cuts : ℕ → List (List ℕ)) (id n m : ℕ) (ks 
   ps : List Piece
   all : AllOf cuts n ps
   gatherer : (w''.clients id).gathering ≡ gathered_all (w.clients id).gathering ps
-  shows : Shows n m (w.clients id).gathering (w.clients id).receiver.newest.number → Shows n m (w''.clients id).gathering (w''.clients id).receiver.newest.number
+  shows : Shows n m (w.clients id).gathering (w.clients id).receiver.newest.number
+      → Shows n m (w''.clients id).gathering (w''.clients id).receiver.newest.number
   comes : (k later : ℕ) (d : DatagramValue) → IsIn (k, later) ks → datagram_at w.sent k ≡ Some d → Comes d.index ps
 
 -- each of these is a piece of instruction n
@@ -61,14 +62,17 @@ one_at w' w id n same d o =
       piece_of_it = subst (λ (q : Server). IsPieceOf (cuts_of down_text (q.records id).instructions) (piece_of d)) same o.piece_of_it;
     }
 
-goes : (w w'' : World) (slot id n m : ℕ) (v : DownValue) (ks : List (ℕ × ℕ)) (rs : List Reply) → Holds w → w.slots slot ≡ Some id → IsTop w id n m v → EachIsOne w id n ks
-    → Run w (deliveries slot ks) rs w'' → (IsIn (Failed OutOfMemory) rs → ⊥) → Went w w'' (cuts_of down_text (w.server.records id).instructions) id n m ks
+goes : (w w'' : World) (slot id n m : ℕ) (v : DownValue) (ks : List (ℕ × ℕ)) (rs : List Reply) → Holds w → w.slots slot ≡ Some id
+    → IsTop w id n m v → EachIsOne w id n ks
+    → Run w (deliveries slot ks) rs w'' → (IsIn (Failed OutOfMemory) rs → ⊥)
+    → Went w w'' (cuts_of down_text (w.server.records id).instructions) id n m ks
 goes w w'' slot id n m v [] [] h s t each run fine =
     record {
       ps = [];
       all = tt;
       gatherer = ap (λ (q : World). (q.clients id).gathering) run;
-      shows = subst (λ (q : World). Shows n m (w.clients id).gathering (w.clients id).receiver.newest.number → Shows n m (q.clients id).gathering (q.clients id).receiver.newest.number) (sym run) (λ z. z);
+      shows = subst (λ (q : World). Shows n m (w.clients id).gathering (w.clients id).receiver.newest.number
+          → Shows n m (q.clients id).gathering (q.clients id).receiver.newest.number) (sym run) (λ z. z);
       comes = (λ k later d i e. absurd i);
     }
 goes w w'' slot id n m v [] (r ∷ rs) h s t each run fine = absurd run
@@ -81,10 +85,17 @@ goes w w'' slot id n m v (k ∷ ks) (r ∷ rs) h s t each run fine =
     let t' = top_at run.0 w id n m v (sym one.server) t in
     let s' : run.0.slots slot ≡ Some id = ap (λ (q : ℕ → Option ℕ). q slot) one.slots ∙ s in
     let rest = goes run.0 w'' slot id n m v ks rs h' s' t'
-    (λ k later i. let e = each k later (inr i) in (e.0, ap (λ (ds : List DatagramValue). datagram_at ds k) one.sent ∙ e.1, one_at run.0 w id n (sym one.server) e.0 e.2)) run.2 (λ i. fine (inr i)) in
+    (λ k later i. let e = each k later (inr i) in
+    (e.0, ap (λ (ds : List DatagramValue). datagram_at ds k) one.sent ∙ e.1, one_at run.0 w id n (sym one.server) e.0 e.2)) run.2
+    (λ i. fine (inr i)) in
     record {
       ps = piece_of first.0 ∷ rest.ps;
-      all = (first.2.number_is, first.2.piece_of_it, subst (λ (q : Server). AllOf (cuts_of down_text (q.records id).instructions) n rest.ps) one.server rest.all);
+      all = (
+        first.2.number_is,
+        first.2.piece_of_it,
+        subst
+            (λ (q : Server). AllOf (cuts_of down_text (q.records id).instructions) n rest.ps) one.server rest.all,
+      );
       gatherer = rest.gatherer ∙ ap (λ (g : Gathering). gathered_all g rest.ps) one.gatherer;
       shows = (λ old. rest.shows (one.shows old));
       comes = (λ j later d i e. elim i [
@@ -99,9 +110,11 @@ goes w w'' slot id n m v (k ∷ ks) (r ∷ rs) h s t each run fine =
 
 -- ---- the datagrams of a tick to one start
 
-packed_id : (session client before id : ℕ) (pieces : List (List ℕ)) (d : DatagramValue) → IsIn d (datagrams_of ToClientKind session client before id pieces) → d.id ≡ id
+packed_id : (session client before id : ℕ) (pieces : List (List ℕ)) (d : DatagramValue)
+    → IsIn d (datagrams_of ToClientKind session client before id pieces) → d.id ≡ id
 packed_id session client before id pieces d i =
-    let m = IsIn-map (datagram_with ToClientKind session client before id (length pieces)) d (enumerate_from 0 pieces) i in ap (λ (q : DatagramValue). q.id) (sym m.2)
+    let m = IsIn-map (datagram_with ToClientKind session client before id (length pieces)) d (enumerate_from 0 pieces) i in ap
+    (λ (q : DatagramValue). q.id) (sym m.2)
 
 -- a datagram of the tick to this start is one of those to its record
 to_start : (s : Server) (now id : ℕ) (d : DatagramValue) → IsIn d (map (λ (p : Parcel). p.datagram) (sent_by s now)) → d.client ≡ id
@@ -109,13 +122,15 @@ to_start : (s : Server) (now id : ℕ) (d : DatagramValue) → IsIn d (map (λ (
 to_start s now id d i same =
     let a = IsIn-map (λ (p : Parcel). p.datagram) d (sent_by s now) i in
     let f = IsIn-flat_map (parcels_to s now) a.0 s.arrival a.1 in
-    let m = IsIn-map (parcel (s.records f.0).address) a.0 (datagrams_to s.session f.0 (s.records f.0) (number_after s now) (screen_after s now) now) f.2 in
+    let m = IsIn-map (parcel (s.records f.0).address) a.0
+    (datagrams_to s.session f.0 (s.records f.0) (number_after s now) (screen_after s now) now) f.2 in
     let is : m.0 ≡ d = ap (λ (y : Parcel). y.datagram) m.2 ∙ a.2 in
     let p = to_record s.session f.0 (s.records f.0) (number_after s now) (screen_after s now) now m.0 m.1 in
     let at : f.0 ≡ id = sym p.client_is ∙ ap (λ (y : DatagramValue). y.client) is ∙ same in (
       subst (λ (k : ℕ). IsIn k s.arrival) at f.1,
       subst (λ (k : ℕ). IsIn d (datagrams_to s.session k (s.records k) (number_after s now) (screen_after s now) now)) at
-          (subst (λ (y : DatagramValue). IsIn y (datagrams_to s.session f.0 (s.records f.0) (number_after s now) (screen_after s now) now)) is m.1),
+          (subst (λ (y : DatagramValue). IsIn y (datagrams_to s.session f.0 (s.records f.0) (number_after s now) (screen_after s now)
+          now)) is m.1),
     )
 
 -- the record is sent to
@@ -123,7 +138,8 @@ sends_to : (session id : ℕ) (r : Record) (n : ℕ) (s : Screenshot) (now : ℕ
     → (sends r n s now ≡ true) × (d.id ≡ length r.instructions + 1)
 sends_to session id r n s now d i = go (sends r n s now) refl i
   where
-    go : (b : Bool) → sends r n s now ≡ b → IsIn d (cond b (datagrams_of ToClientKind session id r.datagrams (length r.instructions + 1) (pieces_to r n s now)) [])
+    go : (b : Bool) → sends r n s now ≡ b → IsIn d
+        (cond b (datagrams_of ToClientKind session id r.datagrams (length r.instructions + 1) (pieces_to r n s now)) [])
         → (sends r n s now ≡ true) × (d.id ≡ length r.instructions + 1)
     go true e i = (e, packed_id session id r.datagrams (length r.instructions + 1) (pieces_to r n s now) d i)
     go false e i = absurd i
@@ -137,14 +153,18 @@ record IsRound (w w' : World) (id : ℕ) : Type 0 where
   top : IsTop w' id n (newest (w'.server.records id).sender).number v
   later : (w'.clients id).gathering.id < n
   one : (k : ℕ) (d : DatagramValue) → IsFresh w w' id k d → IsOne w' id n d
-  each : (i : ℕ) → i < length (cuts_of down_text (w'.server.records id).instructions n) → (k : ℕ) × (d : DatagramValue) × (d.index ≡ i) × IsFresh w w' id k d
+  each : (i : ℕ) → i < length (cuts_of down_text (w'.server.records id).instructions n) → (k : ℕ) × (d : DatagramValue) × (d.index ≡ i)
+      × IsFresh w w' id k d
 
 -- what is true of a record that is sent to
 sent_top : (r : Record) (n : ℕ) (s : Screenshot) (now : ℕ) → sends r n s now ≡ true
-    → (numbered (ticked r n s now).instructions (length r.instructions + 1) ≡ Some (down_to r n s now)) × ((down_to r n s now).new ≡ (newest (ticked r n s now).sender).number)
+    → (numbered (ticked r n s now).instructions (length r.instructions + 1) ≡ Some (down_to r n s now))
+    × ((down_to r n s now).new ≡ (newest (ticked r n s now).sender).number)
 sent_top r n s now e =
-    subst (λ (b : Bool). (numbered (cond b (after_sent r n s now) (record r { sender = holds_after r n s now })).instructions (length r.instructions + 1) ≡ Some (down_to r n s now))
-    × ((down_to r n s now).new ≡ (newest (cond b (after_sent r n s now) (record r { sender = holds_after r n s now })).sender).number)) (sym e)
+    subst (λ (b : Bool). (numbered (cond b (after_sent r n s now) (record r { sender = holds_after r n s now })).instructions
+    (length r.instructions + 1) ≡ Some (down_to r n s now))
+    × ((down_to r n s now).new ≡ (newest (cond b (after_sent r n s now) (record r { sender = holds_after r n s now })).sender).number))
+    (sym e)
     (numbered-last r.instructions (down_to r n s now), sym (marked_newest (holds_after r n s now).base (holds_after r n s now).later))
 
 round_of : (w : World) (now id : ℕ) → is_tick_spent w.server now ≡ false → IsFaceScreen w.server now → Holds w
@@ -164,14 +184,28 @@ round_of w now id unspent shown h k0 d0 some =
       one = (λ k d f.
           let t = to_start w.server now id d (late w.sent new k d f.0 f.1) f.2 in
           let p = to_record w.server.session id r n s now d t.1 in
-          record { kind_is = p.kind_is; session_is = p.session_is; client_is = f.2; number_is = (sends_to w.server.session id r n s now d t.1).1; piece_of_it = p.piece });
+          record {
+            kind_is = p.kind_is;
+            session_is = p.session_is;
+            client_is = f.2;
+            number_is =
+                (sends_to w.server.session id r n s now d t.1).1;
+            piece_of_it = p.piece;
+          });
       each = (λ i lt.
-          let cuts : cuts_of down_text (ticked r n s now).instructions (length r.instructions + 1) ≡ pieces_of (down_text (down_to r n s now)) = ap (λ (o : Option DownValue). pieces_by down_text o) t.0 in
+          let cuts : cuts_of down_text (ticked r n s now).instructions (length r.instructions + 1) ≡ pieces_of
+          (down_text (down_to r n s now)) = ap (λ (o : Option DownValue). pieces_by down_text o) t.0 in
           let x = some_at (pieces_of (down_text (down_to r n s now))) i (subst (λ (xs : List (List ℕ)). i < length xs) cuts lt) in
           let z : 0 + i ≡ i = omega arith in
-          let a = map_here make (i, x.0) (enumerate_from 0 (pieces_of (down_text (down_to r n s now)))) (subst (λ (q : ℕ). IsIn (q, x.0) (enumerate_from 0 (pieces_of (down_text (down_to r n s now))))) z (enumerate_here 0 i x.0 (pieces_of (down_text (down_to r n s now))) x.1)) in
-          let b : IsIn (mine i x.0) (datagrams_to w.server.session id r n s now) = subst (λ (b : Bool). IsIn (mine i x.0) (cond b (datagrams_of ToClientKind w.server.session id r.datagrams (length r.instructions + 1) (pieces_to r n s now)) [])) (sym sends'.0) a in
-          let c = flat_here (parcels_to w.server now) id (parcel r.address (mine i x.0)) w.server.arrival first.0 (map_here (parcel r.address) (mine i x.0) (datagrams_to w.server.session id r n s now) b) in
+          let a = map_here make (i, x.0) (enumerate_from 0 (pieces_of (down_text (down_to r n s now))))
+          (subst (λ (q : ℕ). IsIn (q, x.0) (enumerate_from 0 (pieces_of (down_text (down_to r n s now))))) z
+          (enumerate_here 0 i x.0 (pieces_of (down_text (down_to r n s now))) x.1)) in
+          let b : IsIn (mine i x.0) (datagrams_to w.server.session id r n s now) =
+          subst (λ (b : Bool). IsIn (mine i x.0) (cond b
+          (datagrams_of ToClientKind w.server.session id r.datagrams (length r.instructions + 1) (pieces_to r n s now)) []))
+          (sym sends'.0) a in
+          let c = flat_here (parcels_to w.server now) id (parcel r.address (mine i x.0)) w.server.arrival first.0
+          (map_here (parcel r.address) (mine i x.0) (datagrams_to w.server.session id r n s now) b) in
           let e = map_here (λ (p : Parcel). p.datagram) (parcel r.address (mine i x.0)) (sent_by w.server now) c in
           let place = number_behind w.sent new (mine i x.0) e in
           (place.0, mine i x.0, refl, (place.1, place.2, refl)));
@@ -190,7 +224,8 @@ round_of w now id unspent shown h k0 d0 some =
     new = map (λ (p : Parcel). p.datagram) (sent_by w.server now)
 
     make : ℕ × List ℕ → DatagramValue
-    make = datagram_with ToClientKind w.server.session id (w.server.records id).datagrams (length (w.server.records id).instructions + 1) (length (pieces_to (w.server.records id) (number_after w.server now) (screen_after w.server now) now))
+    make = datagram_with ToClientKind w.server.session id (w.server.records id).datagrams (length (w.server.records id).instructions + 1)
+        (length (pieces_to (w.server.records id) (number_after w.server now) (screen_after w.server now) now))
 
     mine : ℕ → List ℕ → DatagramValue
     mine i x = make (i, x)
@@ -204,7 +239,8 @@ over : (w w' w'' : World) (slot id : ℕ) (ks : List (ℕ × ℕ)) (rs : List Re
 over w w' w'' slot id ks rs s round k0 d0 some all run fine =
     let m = (newest (w'.server.records id).sender).number in
     let each : EachIsOne w' id round.n ks = λ k later i. let j = all.just k later i in (j.0, j.1.1, round.one k j.0 j.1) in
-    let went = goes w' w'' slot id round.n (newest (w'.server.records id).sender).number round.v ks rs round.holds (ap (λ (q : ℕ → Option ℕ). q slot) round.slots ∙ s) round.top each run fine in
+    let went = goes w' w'' slot id round.n (newest (w'.server.records id).sender).number round.v ks rs round.holds
+    (ap (λ (q : ℕ → Option ℕ). q slot) round.slots ∙ s) round.top each run fine in
     let of = (round.holds.lines id).gathers_down.of in
     let later = round.later in
     let comes : (i : ℕ) → i < length (cuts_of down_text (w'.server.records id).instructions round.n) → Comes i went.ps = (λ i lt.
@@ -213,9 +249,11 @@ over w w' w'' slot id ks rs s round k0 d0 some all run fine =
     subst (λ (j : ℕ). Comes j went.ps) e.2 (went.comes e.0 d.0 e.1 d.1 e.3.1)) in
     let first = all.all k0 d0 some in
     let whole = finish went.ps went.all of later (d0.index, went.comes k0 first.0 d0 first.1 some.1) comes in
-    went.shows (λ e f. absurd (omega (arith, e, later))) (ap (λ (g : Gathering). g.id) went.gatherer ∙ whole.1) (ap (λ (g : Gathering). all_there g.pieces) went.gatherer ∙ whole.0)
+    went.shows (λ e f. absurd (omega (arith, e, later))) (ap (λ (g : Gathering). g.id) went.gatherer ∙ whole.1)
+    (ap (λ (g : Gathering). all_there g.pieces) went.gatherer ∙ whole.0)
   where
-    finish : {cuts : ℕ → List (List ℕ)} {n : ℕ} {g : Gathering} (ps : List Piece) → AllOf cuts n ps → GathersOf cuts g → g.id < n → ((i : ℕ) × Comes i ps) → ((i : ℕ) → i < length (cuts n) → Comes i ps)
+    finish : {cuts : ℕ → List (List ℕ)} {n : ℕ} {g : Gathering} (ps : List Piece) → AllOf cuts n ps → GathersOf cuts g → g.id < n
+        → ((i : ℕ) × Comes i ps) → ((i : ℕ) → i < length (cuts n) → Comes i ps)
         → (all_there (gathered_all g ps).pieces ≡ true) × ((gathered_all g ps).id ≡ n)
     finish [] all of lt some each = absurd some.1
     finish {cuts} {n} {g} (p ∷ ps) all of lt some each = all_gathered_anew cuts n g p ps all of lt each
@@ -224,9 +262,11 @@ pub one_round : (w : World) → Holds w → OneRoundSuffices w
 one_round w h slot id now ks reply w' rs w'' s step fine some all run ok = go step
   where
     go : ServerTickStep w now reply w' → (w''.clients id).receiver.newest.number ≡ (newest (w'.server.records id).sender).number
-    go (spent x e is) = absurd (no_later w.sent some.0 some.1 some.2.0 (subst (λ (q : World). datagram_at q.sent some.0 ≡ Some some.1) is some.2.1))
+    go (spent x e is) = absurd (no_later w.sent some.0 some.1 some.2.0
+        (subst (λ (q : World). datagram_at q.sent some.0 ≡ Some some.1) is some.2.1))
     go (did_tick x y e is) =
         over w w' w'' slot id ks rs s
-        (subst (λ (q : World). IsRound w q id) (sym is) (round_of w (moment w.server now) id x y h some.0 some.1 (subst (λ (q : World). IsFresh w q id some.0 some.1) is some.2)))
+        (subst (λ (q : World). IsRound w q id) (sym is)
+        (round_of w (moment w.server now) id x y h some.0 some.1 (subst (λ (q : World). IsFresh w q id some.0 some.1) is some.2)))
         some.0 some.1 some.2 all run ok
     go (no_memory e is) = absurd (fine e)

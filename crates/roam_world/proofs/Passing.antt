@@ -78,7 +78,8 @@ passes_at : (s : SessionState) (q p : ℕ) (f : Pane → Pane) (off on : List �
     → Passes (cond (nat_eq q p) off []) (cond (nat_eq q p) on []) (s.pane p) ((at_pane q f s).pane p)
 passes_at s q p f off on here = go (nat_eq q p) refl (nat_eq p q) refl
   where
-    go : (a : Bool) → nat_eq q p ≡ a → (b : Bool) → nat_eq p q ≡ b → Passes (cond a off []) (cond a on []) (s.pane p) (cond b (option_map f (s.pane p)) (s.pane p))
+    go : (a : Bool) → nat_eq q p ≡ a → (b : Bool) → nat_eq p q ≡ b
+        → Passes (cond a off []) (cond a on []) (s.pane p) (cond b (option_map f (s.pane p)) (s.pane p))
     go true e true f = here
     go false e false f = passes_same (s.pane p)
     go true e false f = absurd (grind (arith, nat_tests))
@@ -123,14 +124,18 @@ laid_passes s p (Refused fault) a = passes_same (s.pane p)
 acted_passes : (s : SessionState) (p : ℕ) (key : Option Key) (act : Act) → Agree s
     → Passes [] (cond (nat_eq s.plan.focus p) (key_bytes_in (s.pane p) key) []) (s.pane p) ((acted key act s).pane p)
 acted_passes s p (Some key) act a =
-    subst (λ (off : List ℕ). Passes off (cond (nat_eq s.plan.focus p) (key_bytes_in (s.pane p) (Some key)) []) (s.pane p) ((at_pane s.plan.focus (keyed key) s).pane p)) (nothing_in (nat_eq s.plan.focus p))
+    subst (λ (off : List ℕ). Passes off (cond (nat_eq s.plan.focus p) (key_bytes_in (s.pane p) (Some key)) []) (s.pane p)
+    ((at_pane s.plan.focus (keyed key) s).pane p)) (nothing_in (nat_eq s.plan.focus p))
     (passes_at s s.plan.focus p (keyed key) [] (key_bytes_in (s.pane p) (Some key)) (keyed_passes (s.pane p) key))
 acted_passes s p None act a =
-    subst (λ (on : List ℕ). Passes [] on (s.pane p) ((laid_out (laid s.plan act) s).pane p)) (sym (none_in (nat_eq s.plan.focus p) (s.pane p))) (laid_passes s p (laid s.plan act) a)
+    subst (λ (on : List ℕ). Passes [] on (s.pane p) ((laid_out (laid s.plan act) s).pane p))
+    (sym (none_in (nat_eq s.plan.focus p) (s.pane p))) (laid_passes s p (laid s.plan act) a)
 
-entry_passes : (s : SessionState) (e : Entry) (p : ℕ) → Agree s → Passes (taken_by s e p) (put_by s e p) (s.pane p) ((after_entry s e).pane p)
+entry_passes : (s : SessionState) (e : Entry) (p : ℕ) → Agree s
+    → Passes (taken_by s e p) (put_by s e p) (s.pane p) ((after_entry s e).pane p)
 entry_passes s (Given q bytes) p a =
-    subst (λ (off : List ℕ). Passes off (put_by s (Given q bytes) p) (s.pane p) ((at_pane q (fed bytes) s).pane p)) (nothing_in (nat_eq q p))
+    subst (λ (off : List ℕ). Passes off (put_by s (Given q bytes) p) (s.pane p) ((at_pane q (fed bytes) s).pane p))
+    (nothing_in (nat_eq q p))
     (passes_at s q p (fed bytes) [] (answers_in (s.pane p) bytes) (fed_passes (s.pane p) bytes))
 entry_passes s (Did client act) p a = acted_passes s p (key_in act) act a
 entry_passes s (Drained q n) p a =
@@ -147,7 +152,8 @@ begins : (size : SessionSize) (log es : List Entry) (p : ℕ) → StaysThere siz
 begins size log [] p stays = stays
 begins size log (e ∷ es) p stays = stays.0
 
-pass : (size : SessionSize) (log es : List Entry) (p : ℕ) (a b : Pane) → StaysThere size log es p → (session size log).pane p ≡ Some a → (session size (log ++ es)).pane p ≡ Some b
+pass : (size : SessionSize) (log es : List Entry) (p : ℕ) (a b : Pane) → StaysThere size log es p → (session size log).pane p ≡ Some a
+    → (session size (log ++ es)).pane p ≡ Some b
     → all_taken size log es p ++ b.waiting ≡ a.waiting ++ all_put size log es p
 pass size log [] p a b stays x y =
     let same : Some b ≡ Some a = sym y ∙ ap (λ (l : List Entry). (session size l).pane p) (append-nil log) ∙ x in
@@ -159,10 +165,13 @@ pass size log (e ∷ es) p a b stays x y =
     let on = put_by (session size log) e p in
     let one : taken_by (session size log) e p ++ m.0.waiting ≡ a.waiting ++ put_by (session size log) e p =
     subst (λ (o : Option Pane). Passes (taken_by (session size log) e p) (put_by (session size log) e p) (Some a) o) m.1
-    (subst (λ (s : SessionState). Passes (taken_by (session size log) e p) (put_by (session size log) e p) (Some a) (s.pane p)) (sym (session-append size log e))
-    (subst (λ (o : Option Pane). Passes (taken_by (session size log) e p) (put_by (session size log) e p) o ((after_entry (session size log) e).pane p)) x (entry_passes (session size log) e p (agree size log)))) in
+    (subst (λ (s : SessionState). Passes (taken_by (session size log) e p) (put_by (session size log) e p) (Some a) (s.pane p))
+    (sym (session-append size log e))
+    (subst (λ (o : Option Pane). Passes (taken_by (session size log) e p) (put_by (session size log) e p) o
+    ((after_entry (session size log) e).pane p)) x (entry_passes (session size log) e p (agree size log)))) in
     let rest : all_taken size (log ++ e ∷ []) es p ++ b.waiting ≡ m.0.waiting ++ all_put size (log ++ e ∷ []) es p =
-    pass size (log ++ e ∷ []) es p m.0 b stays.1 m.1 (ap (λ (l : List Entry). (session size l).pane p) (append_assoc log (e ∷ []) es) ∙ y) in
+    pass size (log ++ e ∷ []) es p m.0 b stays.1 m.1 (ap (λ (l : List Entry). (session size l).pane p) (append_assoc log (e ∷ []) es) ∙ y)
+    in
     append_assoc off (all_taken size (log ++ e ∷ []) es p) b.waiting
     ∙ ap (λ (xs : List ℕ). taken_by (session size log) e p ++ xs) rest
     ∙ sym (append_assoc off m.0.waiting (all_put size (log ++ e ∷ []) es p))
@@ -180,29 +189,37 @@ unfolding output_at
 passes_on size log es p first last stays x y =
     let a = waits ((session size log).pane p) first x in
     let b = waits ((session size (log ++ es)).pane p) last y in
-    ap (λ (xs : List ℕ). all_taken size log es p ++ xs) (sym b.2) ∙ pass size log es p a.0 b.0 stays a.1 b.1 ∙ ap (λ (xs : List ℕ). xs ++ all_put size log es p) a.2
+    ap (λ (xs : List ℕ). all_taken size log es p ++ xs) (sym b.2) ∙ pass size log es p a.0 b.0 stays a.1 b.1
+    ∙ ap (λ (xs : List ℕ). xs ++ all_put size log es p) a.2
 
-given_new : (old new : Option Rect) (pane : Option Pane) (output : List ℕ) → is_some pane ≡ is_some old → pane ≡ None → waiting_in (given old new pane) ≡ Some output → output ≡ []
+given_new : (old new : Option Rect) (pane : Option Pane) (output : List ℕ) → is_some pane ≡ is_some old → pane ≡ None
+    → waiting_in (given old new pane) ≡ Some output → output ≡ []
 given_new old None pane output a e f = absurd (cc)
 given_new None (Some new) pane output a e f = cc
 given_new (Some old) (Some new) pane output a e f = absurd (let z : false ≡ true = ap is_some (sym e) ∙ a in cc)
 
-none_at : (s : SessionState) (q p : ℕ) (f : Pane → Pane) (output : List ℕ) → s.pane p ≡ None → waiting_in ((at_pane q f s).pane p) ≡ Some output → output ≡ []
+none_at : (s : SessionState) (q p : ℕ) (f : Pane → Pane) (output : List ℕ) → s.pane p ≡ None
+    → waiting_in ((at_pane q f s).pane p) ≡ Some output → output ≡ []
 none_at s q p f output e g = absurd (go (nat_eq p q) g)
   where
     go : (b : Bool) → waiting_in (cond b (option_map f (s.pane p)) (s.pane p)) ≡ Some output → ⊥
-    go true h = let z : waiting_in (option_map f None) ≡ Some output = subst (λ (o : Option Pane). waiting_in (option_map f o) ≡ Some output) e h in cc
+    go true h = let z : waiting_in (option_map f None) ≡ Some output =
+        subst (λ (o : Option Pane). waiting_in (option_map f o) ≡ Some output) e h in cc
     go false h = let z : waiting_in None ≡ Some output = subst (λ (o : Option Pane). waiting_in o ≡ Some output) e h in cc
 
-none_laid : (s : SessionState) (p : ℕ) (o : Outcome) (output : List ℕ) → Agree s → s.pane p ≡ None → waiting_in ((laid_out o s).pane p) ≡ Some output → output ≡ []
+none_laid : (s : SessionState) (p : ℕ) (o : Outcome) (output : List ℕ) → Agree s → s.pane p ≡ None
+    → waiting_in ((laid_out o s).pane p) ≡ Some output → output ≡ []
 none_laid s p (Laid plan) output a e f = given_new (rect_in p (panes s.plan)) (rect_in p (panes plan)) (s.pane p) output (a p) e f
-none_laid s p (Refused fault) output a e f = absurd (let z : waiting_in None ≡ Some output = subst (λ (o : Option Pane). waiting_in o ≡ Some output) e f in cc)
+none_laid s p (Refused fault) output a e f = absurd
+    (let z : waiting_in None ≡ Some output = subst (λ (o : Option Pane). waiting_in o ≡ Some output) e f in cc)
 
-none_acted : (s : SessionState) (p : ℕ) (key : Option Key) (act : Act) (output : List ℕ) → Agree s → s.pane p ≡ None → waiting_in ((acted key act s).pane p) ≡ Some output → output ≡ []
+none_acted : (s : SessionState) (p : ℕ) (key : Option Key) (act : Act) (output : List ℕ) → Agree s → s.pane p ≡ None
+    → waiting_in ((acted key act s).pane p) ≡ Some output → output ≡ []
 none_acted s p (Some key) act output a e f = none_at s s.plan.focus p (keyed key) output e f
 none_acted s p None act output a e f = none_laid s p (laid s.plan act) output a e f
 
-none_after : (s : SessionState) (entry : Entry) (p : ℕ) (output : List ℕ) → Agree s → s.pane p ≡ None → waiting_in ((after_entry s entry).pane p) ≡ Some output → output ≡ []
+none_after : (s : SessionState) (entry : Entry) (p : ℕ) (output : List ℕ) → Agree s → s.pane p ≡ None
+    → waiting_in ((after_entry s entry).pane p) ≡ Some output → output ≡ []
 none_after s (Given q bytes) p output a e f = none_at s q p (fed bytes) output e f
 none_after s (Did client act) p output a e f = none_acted s p (key_in act) act output a e f
 none_after s (Drained q n) p output a e f = none_at s q p (drained n) output e f

@@ -28,34 +28,44 @@ numbered-more vs ws (suc n) le = slice_get-more vs ws n (omega arith)
 pub numbered-last : {V : Type 0} (vs : List V) (v : V) → numbered (vs ++ v ∷ []) (length vs + 1) ≡ Some v
 numbered-last vs v = let n : length vs + 1 ≡ suc (length vs) = omega arith in ap (numbered (vs ++ v ∷ [])) n ∙ slice_get-last vs v
 
-pub cuts-more : {V : Type 0} (text_of : V → List ℕ) (vs ws : List V) (n : ℕ) → n ≤ length vs → cuts_of text_of (vs ++ ws) n ≡ cuts_of text_of vs n
+pub cuts-more : {V : Type 0} (text_of : V → List ℕ) (vs ws : List V) (n : ℕ) → n ≤ length vs
+    → cuts_of text_of (vs ++ ws) n ≡ cuts_of text_of vs n
 cuts-more text_of vs ws n le = ap (pieces_by text_of) (numbered-more vs ws n le)
 
-pub cuts-last : {V : Type 0} (text_of : V → List ℕ) (vs : List V) (v : V) → cuts_of text_of (vs ++ v ∷ []) (length vs + 1) ≡ pieces_of (text_of v)
+pub cuts-last : {V : Type 0} (text_of : V → List ℕ) (vs : List V) (v : V)
+    → cuts_of text_of (vs ++ v ∷ []) (length vs + 1) ≡ pieces_of (text_of v)
 cuts-last text_of vs v = ap (pieces_by text_of) (numbered-last vs v)
 
 -- an instruction that a piece is of
-pub piece_is : {V : Type 0} (text_of : V → List ℕ) (vs : List V) (p : Piece) → IsPieceOf (cuts_of text_of vs) p → (v : V) × (numbered vs p.id ≡ Some v)
+pub piece_is : {V : Type 0} (text_of : V → List ℕ) (vs : List V) (p : Piece) → IsPieceOf (cuts_of text_of vs) p
+    → (v : V) × (numbered vs p.id ≡ Some v)
 piece_is {V} text_of vs p is = go (numbered vs p.id) refl is.there
   where
-    go : (o : Option V) → numbered vs p.id ≡ o → slice_get (pieces_by text_of o) p.index ≡ Some p.payload → (v : V) × (numbered vs p.id ≡ Some v)
+    go : (o : Option V) → numbered vs p.id ≡ o → slice_get (pieces_by text_of o) p.index ≡ Some p.payload
+        → (v : V) × (numbered vs p.id ≡ Some v)
     go None e f = absurd (cc)
     go (Some v) e f = (v, e)
 
 pub piece_low : {V : Type 0} (text_of : V → List ℕ) (vs : List V) (p : Piece) → IsPieceOf (cuts_of text_of vs) p → p.id ≤ length vs
 piece_low text_of vs p is = let v = piece_is text_of vs p is in numbered-within vs p.id v.0 v.1
 
-pub piece-more : {V : Type 0} (text_of : V → List ℕ) (vs ws : List V) (p : Piece) → IsPieceOf (cuts_of text_of vs) p → IsPieceOf (cuts_of text_of (vs ++ ws)) p
+pub piece-more : {V : Type 0} (text_of : V → List ℕ) (vs ws : List V) (p : Piece) → IsPieceOf (cuts_of text_of vs) p
+    → IsPieceOf (cuts_of text_of (vs ++ ws)) p
 piece-more text_of vs ws p is =
     let same = cuts-more text_of vs ws p.id (piece_low text_of vs p is) in
     record { count = is.count ∙ ap length (sym same); there = ap (λ (xs : List (List ℕ)). slice_get xs p.index) same ∙ is.there }
 
-pub gathers-more : {V : Type 0} (text_of : V → List ℕ) (vs ws : List V) (g : Gathering) → Gathers text_of vs g → Gathers text_of (vs ++ ws) g
+pub gathers-more : {V : Type 0} (text_of : V → List ℕ) (vs ws : List V) (g : Gathering) → Gathers text_of vs g
+    → Gathers text_of (vs ++ ws) g
 gathers-more text_of vs ws g is =
     let same = cuts-more text_of vs ws g.id is.low in
     let low = is.low in
     record {
-      of = record { count = is.of.count ∙ ap length (sym same); there = (λ i x e. ap (λ (xs : List (List ℕ)). slice_get xs i) same ∙ is.of.there i x e) };
+      of = record {
+        count = is.of.count ∙ ap length (sym same);
+        there =
+            (λ i x e. ap (λ (xs : List (List ℕ)). slice_get xs i) same ∙ is.of.there i x e);
+      };
       low = omega (arith, low, length-append vs ws);
     }
 
@@ -69,11 +79,17 @@ pub record IsTextOf {V : Type 0} (text_of : V → List ℕ) (vs : List V) (text 
   pub is : text ≡ text_of value
 
 -- a text that comes whole is that of an instruction
-pub whole_is : {V : Type 0} (text_of : V → List ℕ) (vs : List V) (p : Piece) (text : List ℕ) → IsPieceOf (cuts_of text_of vs) p → text ≡ joined (cuts_of text_of vs p.id)
+pub whole_is : {V : Type 0} (text_of : V → List ℕ) (vs : List V) (p : Piece) (text : List ℕ) → IsPieceOf (cuts_of text_of vs) p
+    → text ≡ joined (cuts_of text_of vs p.id)
     → IsTextOf text_of vs text
 whole_is text_of vs p text is e =
     let v = piece_is text_of vs p is in
-    record { value = v.0; there = numbered-is_in vs p.id v.0 v.1; is = e ∙ ap (λ o. joined (pieces_by text_of o)) v.1 ∙ joined-pieces (text_of v.0) }
+    record {
+      value = v.0;
+      there = numbered-is_in vs p.id v.0 v.1;
+      is = e ∙ ap (λ o. joined (pieces_by text_of o)) v.1
+          ∙ joined-pieces (text_of v.0);
+    }
 
 -- the datagrams of an instruction are its pieces
 pub record IsPacked {V : Type 0} (text_of : V → List ℕ) (vs : List V) (kind : Kind) (session client : ℕ) (d : DatagramValue) : Type 0 where
@@ -83,9 +99,11 @@ pub record IsPacked {V : Type 0} (text_of : V → List ℕ) (vs : List V) (kind 
   pub piece : IsPieceOf (cuts_of text_of vs) (piece_of d)
 
 pub packed_is : {V : Type 0} (text_of : V → List ℕ) (vs : List V) (v : V) (kind : Kind) (session client before : ℕ) (d : DatagramValue)
-    → IsIn d (datagrams_of kind session client before (length vs + 1) (pieces_of (text_of v))) → IsPacked text_of (vs ++ v ∷ []) kind session client d
+    → IsIn d (datagrams_of kind session client before (length vs + 1) (pieces_of (text_of v)))
+    → IsPacked text_of (vs ++ v ∷ []) kind session client d
 packed_is {V} text_of vs v kind session client before d i =
-    let m = IsIn-map (datagram_with kind session client before (length vs + 1) (length (pieces_of (text_of v)))) d (enumerate_from 0 (pieces_of (text_of v))) i in
+    let m = IsIn-map (datagram_with kind session client before (length vs + 1) (length (pieces_of (text_of v)))) d
+    (enumerate_from 0 (pieces_of (text_of v))) i in
     let n = IsIn-enumerate 0 (pieces_of (text_of v)) m.0 m.1 in
     let last = cuts-last text_of vs v in
     let at : m.0.0 ≡ n.0 = n.1 ∙ (let z : 0 + n.0 ≡ n.0 = omega arith in z) in

@@ -15,7 +15,11 @@ map_here f x (y ∷ xs) i = elim i [ inl e ↦ inl (ap f e) | inr r ↦ inr (map
 pub flat_here : {X Y : Type 0} (f : X → List Y) (x : X) (y : Y) (xs : List X) → IsIn x xs → IsIn y (f x) → IsIn y (flat_map f xs)
 flat_here f x y [] i j = absurd i
 flat_here {X} {Y} f x y (z ∷ xs) i j =
-    elim i [ inl e ↦ IsIn-append_left y (f z) (flat_map f xs) (subst (λ (q : X). IsIn y (f q)) (sym e) j) | inr r ↦ IsIn-append_right y (f z) (flat_map f xs) (flat_here f x y xs r j) ]
+    elim i [
+      | inl e ↦ IsIn-append_left y (f z) (flat_map f xs) (subst (λ (q : X). IsIn y (f q)) (sym e) j)
+      | inr r ↦ IsIn-append_right y
+          (f z) (flat_map f xs) (flat_here f x y xs r j)
+    ]
 
 pub enumerate_here : {X : Type 0} (k i : ℕ) (x : X) (xs : List X) → slice_get xs i ≡ Some x → IsIn (k + i, x) (enumerate_from k xs)
 enumerate_here k i x [] e = absurd (cc)
@@ -38,7 +42,8 @@ member_at (z ∷ ys) y i = elim i [
 
 after_front : {X : Type 0} (xs ys : List X) (k : ℕ) → slice_get (xs ++ ys) (length xs + k) ≡ slice_get ys k
 after_front [] ys k = let z : 0 + k ≡ k = omega arith in ap (slice_get ys) z
-after_front (x ∷ xs) ys k = let z : suc (length xs) + k ≡ suc (length xs + k) = omega arith in ap (slice_get (x ∷ (xs ++ ys))) z ∙ after_front xs ys k
+after_front (x ∷ xs) ys k = let z : suc (length xs) + k ≡ suc (length xs + k) = omega arith in ap (slice_get (x ∷ (xs ++ ys))) z
+    ∙ after_front xs ys k
 
 behind : {X : Type 0} (xs ys : List X) (y : X) (i : ℕ) → slice_get (xs ++ ys) i ≡ Some y → length xs ≤ i → IsIn y ys
 behind [] ys y i e le = IsIn-slice_get y i ys e
@@ -46,12 +51,18 @@ behind (x ∷ xs) ys y zero e le = absurd (omega arith)
 behind (x ∷ xs) ys y (suc i) e le = behind xs ys y i e (omega arith)
 
 -- a member of the second list stands behind the first, under some number
-pub number_behind : (xs ys : List DatagramValue) (d : DatagramValue) → IsIn d ys → (k : ℕ) × (length xs < k) × (datagram_at (xs ++ ys) k ≡ Some d)
+pub number_behind : (xs ys : List DatagramValue) (d : DatagramValue) → IsIn d ys
+    → (k : ℕ) × (length xs < k) × (datagram_at (xs ++ ys) k ≡ Some d)
 number_behind xs ys d i =
-    let p = member_at ys d i in
-    (suc (length xs + p.0), omega arith, go (length xs + p.0) (nat_eq (suc (length xs + p.0)) 0) refl (let q : suc (length xs + p.0) - 1 ≡ length xs + p.0 = omega arith in ap (slice_get (xs ++ ys)) q ∙ after_front xs ys p.0 ∙ p.1))
+    let p = member_at ys d i in (
+      suc (length xs + p.0),
+      omega arith,
+      go (length xs + p.0) (nat_eq (suc (length xs + p.0)) 0) refl
+          (let q : suc (length xs + p.0) - 1 ≡ length xs + p.0 = omega arith in ap (slice_get (xs ++ ys)) q ∙ after_front xs ys p.0 ∙ p.1),
+    )
   where
-    go : (k : ℕ) (b : Bool) → nat_eq (suc k) 0 ≡ b → slice_get (xs ++ ys) (suc k - 1) ≡ Some d → cond b None (slice_get (xs ++ ys) (suc k - 1)) ≡ Some d
+    go : (k : ℕ) (b : Bool) → nat_eq (suc k) 0 ≡ b → slice_get (xs ++ ys) (suc k - 1) ≡ Some d
+        → cond b None (slice_get (xs ++ ys) (suc k - 1)) ≡ Some d
     go k true z e = absurd (grind (arith, nat_tests))
     go k false z e = e
 

@@ -63,7 +63,8 @@ stopped_ample f n other = record { whole = (λ e. cc); part = (λ m e. other (cc
 
 pane_other : (bytes : List ℕ) (o : Option (List ℕ)) (f : Fault) → bytes_refused bytes o ≡ Some f → f ≡ OutOfMemory → ⊥
 pane_other bytes None f e g = let z : Some NoPane ≡ Some OutOfMemory = e ∙ ap Some g in cc
-pane_other bytes (Some waiting) f e g = go (nat_lt 1024 (length bytes)) (nat_lt 65536 (length waiting + Rattle.std.specs.Prelude.◌*◌ 12 (length bytes))) e
+pane_other bytes (Some waiting) f e g = go (nat_lt 1024 (length bytes))
+    (nat_lt 65536 (length waiting + Rattle.std.specs.Prelude.◌*◌ 12 (length bytes))) e
   where
     go : (a b : Bool) → cond a (Some TooLong) (cond b (Some Busy) None) ≡ Some f → ⊥
     go true b e = let z : Some TooLong ≡ Some OutOfMemory = e ∙ ap Some g in cc
@@ -86,9 +87,12 @@ gathered_other (Some (Whole text, g)) = tt
 coming_other : (s : Server) (d : DatagramValue) → IsOther (coming s d)
 unfolding IsOther
 coming_other s d =
-    go (coming_gathered (gather (s.records d.client).gathering (piece_of d))) (not (is_to_server d.kind)) (not (nat_eq d.session s.session)) (not (s.records d.client).known && nat_le 64 (length s.arrival)) (gathered_other (gather (s.records d.client).gathering (piece_of d)))
+    go (coming_gathered (gather (s.records d.client).gathering (piece_of d))) (not (is_to_server d.kind))
+    (not (nat_eq d.session s.session)) (not (s.records d.client).known && nat_le 64 (length s.arrival))
+    (gathered_other (gather (s.records d.client).gathering (piece_of d)))
   where
-    go : (x : Coming) (a b c : Bool) → IsOther x → IsOther (cond a (turned_away (BadDatagram reason.Kind)) (cond b (turned_away OtherSession) (cond c (turned_away ClientsFull) x)))
+    go : (x : Coming) (a b c : Bool) → IsOther x → IsOther
+        (cond a (turned_away (BadDatagram reason.Kind)) (cond b (turned_away OtherSession) (cond c (turned_away ClientsFull) x)))
     go x true b c i = λ e. cc
     go x false true c i = λ e. cc
     go x false false true i = λ e. cc
@@ -113,9 +117,11 @@ gathered_else (Some (Whole text, g)) = tt
 arriving_else : (session id : ℕ) (c : Client) (d : DatagramValue) → IsElse (arriving session id c d)
 unfolding IsElse
 arriving_else session id c d =
-    go (arriving_gathered (gather c.gathering (piece_of d))) (is_to_server d.kind) (not (nat_eq d.session session)) (not (nat_eq d.client id)) (gathered_else (gather c.gathering (piece_of d)))
+    go (arriving_gathered (gather c.gathering (piece_of d))) (is_to_server d.kind) (not (nat_eq d.session session))
+    (not (nat_eq d.client id)) (gathered_else (gather c.gathering (piece_of d)))
   where
-    go : (x : Arriving) (a b c : Bool) → IsElse x → IsElse (cond a (sent_back (BadDatagram reason.Kind)) (cond b (sent_back OtherSession) (cond c (sent_back OtherClient) x)))
+    go : (x : Arriving) (a b c : Bool) → IsElse x
+        → IsElse (cond a (sent_back (BadDatagram reason.Kind)) (cond b (sent_back OtherSession) (cond c (sent_back OtherClient) x)))
     go x true b c i = λ e. cc
     go x false true c i = λ e. cc
     go x false false true i = λ e. cc
@@ -127,9 +133,16 @@ back_other session id c d f e = subst IsElse e (arriving_else session id c d)
 
 -- ---- inputs, typing, ticks, starts
 
-pane_reply : (w : World) (pane : ℕ) (bytes : List ℕ) (o : Option Fault) → refuses_bytes w.server.size w.server.log pane bytes ≡ o → IsAnswered w (PaneBytes pane bytes)
+pane_reply : (w : World) (pane : ℕ) (bytes : List ℕ) (o : Option Fault) → refuses_bytes w.server.size w.server.log pane bytes ≡ o
+    → IsAnswered w (PaneBytes pane bytes)
 pane_reply w pane bytes (Some f) e =
-    record { reply = Failed f; left = w; step = refused f e refl refl; ample = failed_ample f (pane_other bytes (output_at w.server.size w.server.log pane) f e) }
+    record {
+      reply = Failed f;
+      left = w;
+      step = refused f e refl refl;
+      ample =
+          failed_ample f (pane_other bytes (output_at w.server.size w.server.log pane) f e);
+    }
 pane_reply w pane bytes None e =
     record { reply = Done; left = with_server w (after_input w.server (Given pane bytes)); step = taken e refl refl; ample = done_ample }
 
@@ -138,7 +151,13 @@ drain_reply w pane n None e = record { reply = Failed NoPane; left = w; step = n
 drain_reply w pane n (Some output) e =
     elim (cases (length output) n) [
       | inl lt ↦ record { reply = Refused; left = w; step = too_many output e lt refl refl; ample = refused_ample }
-      | inr le ↦ record { reply = Done; left = with_server w (after_input w.server (Drained pane n)); step = gone output e le refl refl; ample = done_ample }
+      | inr le ↦ record {
+        reply = Done;
+        left = with_server w (after_input w.server (Drained pane n));
+        step =
+            gone output e le refl refl;
+        ample = done_ample;
+      }
     ]
   where
     cases : (a b : ℕ) → (a < b) ⊎ (b ≤ a)
@@ -154,7 +173,13 @@ typed_reply w slot act (Some id) e =
       | inl f ↦ record { reply = Failed Busy; left = w; step = full id e f refl refl; ample = failed_ample Busy (λ g. cc) }
       | inr f ↦ elim (spent_or (length (w.clients id).acts.acts) (last_number (w.clients id).acts)) [
         | inl g ↦ record { reply = Failed Spent; left = w; step = spent id e g refl refl; ample = failed_ample Spent (λ z. cc) }
-        | inr g ↦ record { reply = Done; left = with_client w id (after_typed (w.clients id) act); step = typed id e f g refl refl; ample = done_ample }
+        | inr g ↦ record {
+          reply = Done;
+          left = with_client w id (after_typed (w.clients id) act);
+          step =
+              typed id e f g refl refl;
+          ample = done_ample;
+        }
       ]
     ]
   where
@@ -168,8 +193,10 @@ typed_reply w slot act (Some id) e =
         below : (a : ℕ) → (a < 1024) ⊎ (a < 1024 → ⊥)
         below a = grind arith
 
-server_tick_reply : (w : World) (now : ℕ) (b : Bool) → is_tick_spent w.server (moment w.server now) ≡ b → IsFaceScreen w.server (moment w.server now) → IsAnswered w (ServerTick now)
-server_tick_reply w now true e shown = record { reply = Failed Spent; left = w; step = spent e refl refl; ample = failed_ample Spent (λ z. cc) }
+server_tick_reply : (w : World) (now : ℕ) (b : Bool) → is_tick_spent w.server (moment w.server now) ≡ b
+    → IsFaceScreen w.server (moment w.server now) → IsAnswered w (ServerTick now)
+server_tick_reply w now true e shown = record
+    { reply = Failed Spent; left = w; step = spent e refl refl; ample = failed_ample Spent (λ z. cc) }
 server_tick_reply w now false e shown =
     record {
       reply = Sent (length w.sent + 1) (length (sent_by w.server (moment w.server now)));
@@ -180,9 +207,11 @@ server_tick_reply w now false e shown =
 
 client_tick_reply : (w : World) (slot now : ℕ) (o : Option ℕ) → w.slots slot ≡ o → IsAnswered w (ClientTick slot now)
 client_tick_reply w slot now None e = record { reply = Refused; left = w; step = empty_slot e refl refl; ample = refused_ample }
-client_tick_reply w slot now (Some id) e = go (is_client_due (w.clients id) (moment_of (w.clients id) now)) refl (is_client_spent (w.clients id)) refl
+client_tick_reply w slot now (Some id) e = go (is_client_due (w.clients id) (moment_of (w.clients id) now)) refl
+    (is_client_spent (w.clients id)) refl
   where
-    go : (a : Bool) → is_client_due (w.clients id) (moment_of (w.clients id) now) ≡ a → (b : Bool) → is_client_spent (w.clients id) ≡ b → IsAnswered w (ClientTick slot now)
+    go : (a : Bool) → is_client_due (w.clients id) (moment_of (w.clients id) now) ≡ a → (b : Bool) → is_client_spent (w.clients id) ≡ b
+        → IsAnswered w (ClientTick slot now)
     go false x b y = record {
       reply = Sent (length w.sent + 1) 0;
       left = with_client w id (after_quiet (w.clients id) (moment_of (w.clients id) now));
@@ -203,16 +232,20 @@ start_reply w slot id false e = record { reply = Done; left = after_start w slot
 
 -- ---- a datagram to the server
 
-server_reply : (w : World) (k : ℕ) (from : Address) (now : ℕ) → Holds w → (o : Option DatagramValue) → datagram_at w.sent k ≡ o → IsAnswered w (ToServer k from now)
+server_reply : (w : World) (k : ℕ) (from : Address) (now : ℕ) → Holds w → (o : Option DatagramValue) → datagram_at w.sent k ≡ o
+    → IsAnswered w (ToServer k from now)
 server_reply w k from now h None e = record { reply = Refused; left = w; step = not_sent e refl refl; ample = refused_ample }
 server_reply w k from now h (Some d) e = go (coming w.server d) refl (comes w k d e h)
   where
-    room : (g : Gathering) (text : List ℕ) (u : UpValue) → coming w.server d ≡ completed g text → SaysUp text u → IsAnswered w (ToServer k from now)
+    room : (g : Gathering) (text : List ℕ) (u : UpValue) → coming w.server d ≡ completed g text → SaysUp text u
+        → IsAnswered w (ToServer k from now)
     room g text u f says =
-        elim (cases (room_for w.server d u) (length (new_acts w.server d u)) (reach_low w.server.size w.server.log d.client (new_acts w.server d u))) [
+        elim (cases (room_for w.server d u) (length (new_acts w.server d u))
+        (reach_low w.server.size w.server.log d.client (new_acts w.server d u))) [
           | inl lt ↦ record {
             reply = Stopped Busy (room_for w.server d u);
-            left = with_server w (after_acts w.server d from (moment w.server now) (w.server.records d.client).gathering u (room_for w.server d u));
+            left = with_server w (after_acts w.server d from (moment w.server now) (w.server.records d.client).gathering u
+                (room_for w.server d u));
             step = no_room d g text u e f says lt refl refl;
             ample = stopped_ample Busy (room_for w.server d u) (λ z. cc);
           }
@@ -227,9 +260,22 @@ server_reply w k from now h (Some d) e = go (coming w.server d) refl (comes w k 
         cases : (a b : ℕ) → a ≤ b → (a < b) ⊎ (a ≡ b)
         cases a b le = grind arith
 
-    go : (c : Coming) → coming w.server d ≡ c → ComesWell (w.clients d.client).instructions (coming w.server d) → IsAnswered w (ToServer k from now)
-    go (turned_away f) x well = record { reply = Stopped f 0; left = w; step = refused d f e x refl refl; ample = stopped_ample f 0 (away_other w.server d f x) }
-    go (noted g) x well = record { reply = Taken 0; left = with_server w (after_note w.server d from (moment w.server now) g); step = piece d g e x refl refl; ample = taken_ample 0 }
+    go : (c : Coming) → coming w.server d ≡ c → ComesWell (w.clients d.client).instructions (coming w.server d)
+        → IsAnswered w (ToServer k from now)
+    go (turned_away f) x well = record {
+      reply = Stopped f 0;
+      left = w;
+      step = refused d f e x refl refl;
+      ample =
+          stopped_ample f 0 (away_other w.server d f x);
+    }
+    go (noted g) x well = record {
+      reply = Taken 0;
+      left = with_server w (after_note w.server d from (moment w.server now) g);
+      step =
+          piece d g e x refl refl;
+      ample = taken_ample 0;
+    }
     go (completed g text) x well =
         let of = (subst (ComesWell (w.clients d.client).instructions) x well).1 in
         room g text of.value x (record { is = (h.lines d.client).ups of.value of.there; spelled = of.is })
@@ -247,14 +293,22 @@ heard_by w id v was h = go (step_of (w.clients id) v) refl (state_at v.old (pair
     leads : LeadsTruly applied (IsScreenOf w.server.size w.server.log w.server.cuts) (update_in v)
     leads = (h.lines id).truth.updates (update_in v) (v, was, refl)
 
-    there : (o : Option Screenshot) → state_at v.old (pairs (w.clients id).receiver) ≡ o → step_of (w.clients id) v ≡ step.New → is_none o ≡ true → ⊥
-    there o e f n = by (nat_le v.new (w.clients id).receiver.newest.number) (subst (λ (p : Option Screenshot). cond (nat_le v.new (w.clients id).receiver.newest.number) step.Old (cond (is_none p) step.Gap (cond (nat_le 8 (length (from_floor v.floor (pairs (w.clients id).receiver)))) step.Gap step.New)) ≡ step.New) e f)
+    there : (o : Option Screenshot) → state_at v.old (pairs (w.clients id).receiver) ≡ o → step_of (w.clients id) v ≡ step.New
+        → is_none o ≡ true → ⊥
+    there o e f n = by (nat_le v.new (w.clients id).receiver.newest.number)
+        (subst (λ (p : Option Screenshot). cond (nat_le v.new (w.clients id).receiver.newest.number) step.Old
+        (cond (is_none p) step.Gap (cond (nat_le 8 (length (from_floor v.floor (pairs (w.clients id).receiver)))) step.Gap step.New)) ≡
+        step.New) e f)
       where
-        by : (b : Bool) → cond b step.Old (cond (is_none o) step.Gap (cond (nat_le 8 (length (from_floor v.floor (pairs (w.clients id).receiver)))) step.Gap step.New)) ≡ step.New → ⊥
+        by : (b : Bool) → cond b step.Old (cond (is_none o) step.Gap
+            (cond (nat_le 8 (length (from_floor v.floor (pairs (w.clients id).receiver)))) step.Gap step.New)) ≡ step.New → ⊥
         by true g = cc
-        by false g = let z : step.Gap ≡ step.New = subst (λ (b : Bool). cond b step.Gap (cond (nat_le 8 (length (from_floor v.floor (pairs (w.clients id).receiver)))) step.Gap step.New) ≡ step.New) n g in cc
+        by false g = let z : step.Gap ≡ step.New = subst
+            (λ (b : Bool). cond b step.Gap (cond (nat_le 8 (length (from_floor v.floor (pairs (w.clients id).receiver)))) step.Gap
+            step.New) ≡ step.New) n g in cc
 
-    other : (x : Step) → step_of (w.clients id) v ≡ x → (x ≡ step.New → ⊥) → (r : Receiving Screenshot) × Delivers applied (w.clients id).receiver (update_in v) r
+    other : (x : Step) → step_of (w.clients id) v ≡ x → (x ≡ step.New → ⊥)
+        → (r : Receiving Screenshot) × Delivers applied (w.clients id).receiver (update_in v) r
     other x e differs = (c, record { fresh = (λ f. absurd (differs (sym e ∙ f))); other = (λ f. refl) })
 
     go : (x : Step) → step_of (w.clients id) v ≡ x → (o : Option Screenshot) → state_at v.old (pairs (w.clients id).receiver) ≡ o
@@ -264,26 +318,53 @@ heard_by w id v was h = go (step_of (w.clients id) v) refl (state_at v.old (pair
     go step.New e None f = absurd (there None f e refl)
     go step.New e (Some base) f =
         let mine : IsScreenOf w.server.size w.server.log w.server.cuts v.old base =
-        found_true (IsScreenOf w.server.size w.server.log w.server.cuts) v.old (pairs (w.clients id).receiver) base (h.lines id).truth.receiver f in
+        found_true (IsScreenOf w.server.size w.server.log w.server.cuts) v.old (pairs (w.clients id).receiver) base
+        (h.lines id).truth.receiver f in
         let same : base ≡ leads.base = one_screen w.server.size w.server.log w.server.cuts v.old base leads.base mine leads.from_true in
-        let r' : Receiving Screenshot = record { earlier = from_floor v.floor (pairs c); newest = record { number = v.new; state = leads.state } } in (
+        let r' : Receiving Screenshot = record {
+          earlier = from_floor v.floor (pairs c);
+          newest =
+              record { number = v.new; state = leads.state };
+        } in (
           record { earlier = from_floor v.floor (pairs c); newest = record { number = v.new; state = leads.state } },
           record {
-            fresh = (λ n. record { base = base; held = f; leads = ap (λ (s : Screenshot). applied s v.change) same ∙ leads.leads; number = refl; earlier = refl });
+            fresh = (λ n. record {
+              base = base;
+              held = f;
+              leads = ap (λ (s : Screenshot). applied s v.change) same ∙ leads.leads;
+              number =
+                  refl;
+              earlier = refl;
+            });
             other = (λ n. absurd (n e));
           },
         )
 
-client_reply : (w : World) (slot k now : ℕ) → Holds w → (o : Option ℕ) → w.slots slot ≡ o → (p : Option DatagramValue) → datagram_at w.sent k ≡ p → IsAnswered w (ToClient slot k now)
+client_reply : (w : World) (slot k now : ℕ) → Holds w → (o : Option ℕ) → w.slots slot ≡ o → (p : Option DatagramValue)
+    → datagram_at w.sent k ≡ p → IsAnswered w (ToClient slot k now)
 client_reply w slot k now h None e p f = record { reply = Refused; left = w; step = empty_slot e refl refl; ample = refused_ample }
 client_reply w slot k now h (Some id) e None f = record { reply = Refused; left = w; step = not_sent f refl refl; ample = refused_ample }
 client_reply w slot k now h (Some id) e (Some d) f = go (arriving w.server.session id (w.clients id) d) refl (arrives w id k d f h)
   where
-    go : (c : Arriving) → arriving w.server.session id (w.clients id) d ≡ c → ArrivesWell (w.server.records id).instructions (arriving w.server.session id (w.clients id) d) → IsAnswered w (ToClient slot k now)
+    go : (c : Arriving) → arriving w.server.session id (w.clients id) d ≡ c
+        → ArrivesWell (w.server.records id).instructions (arriving w.server.session id (w.clients id) d)
+        → IsAnswered w (ToClient slot k now)
     go (sent_back g) x well =
-        record { reply = Failed g; left = w; step = refused id d g e f x refl refl; ample = failed_ample g (back_other w.server.session id (w.clients id) d g x) }
+        record {
+          reply = Failed g;
+          left = w;
+          step = refused id d g e f x refl refl;
+          ample =
+              failed_ample g (back_other w.server.session id (w.clients id) d g x);
+        }
     go (kept how g) x well =
-        record { reply = Heard how; left = with_client w id (after_piece (w.clients id) (moment_of (w.clients id) now) g); step = piece id d how g e f x refl refl; ample = heard_ample how }
+        record {
+          reply = Heard how;
+          left = with_client w id (after_piece (w.clients id) (moment_of (w.clients id) now) g);
+          step =
+              piece id d how g e f x refl refl;
+          ample = heard_ample how;
+        }
     go (fulfilled g text) x well =
         let of = (subst (ArrivesWell (w.server.records id).instructions) x well).1 in
         let r = heard_by w id of.value of.there h in

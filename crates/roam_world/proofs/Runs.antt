@@ -42,8 +42,10 @@ was_sent w k d e = go (nat_eq k 0) e
     go false f = IsIn-slice_get d (k - 1) w.sent f
 
 -- what one of the list is to the server, and to a client start
-pub comes : (w : World) (k : ℕ) (d : DatagramValue) → datagram_at w.sent k ≡ Some d → Holds w → ComesWell (w.clients d.client).instructions (coming w.server d)
-comes w k d e h = coming_well w.server (w.server.records d.client) (w.clients d.client) d refl (h.pieces d (was_sent w k d e)) (h.lines d.client).gathers_up
+pub comes : (w : World) (k : ℕ) (d : DatagramValue) → datagram_at w.sent k ≡ Some d → Holds w
+    → ComesWell (w.clients d.client).instructions (coming w.server d)
+comes w k d e h = coming_well w.server (w.server.records d.client) (w.clients d.client) d refl (h.pieces d (was_sent w k d e))
+    (h.lines d.client).gathers_up
 
 pub arrives : (w : World) (id k : ℕ) (d : DatagramValue) → datagram_at w.sent k ≡ Some d → Holds w
     → ArrivesWell (w.server.records id).instructions (arriving w.server.session id (w.clients id) d)
@@ -56,7 +58,8 @@ pub reach_low : (size : SessionSize) (log : List Entry) (id : ℕ) (acts : List 
 reach_low size log id [] = omega arith
 reach_low size log id (a ∷ acts) = go (stops size log a) (reach_low size (log ++ Did id a ∷ []) id acts)
   where
-    go : (b : Bool) → reach size (log ++ Did id a ∷ []) id acts ≤ length acts → cond b 0 (suc (reach size (log ++ Did id a ∷ []) id acts)) ≤ suc (length acts)
+    go : (b : Bool) → reach size (log ++ Did id a ∷ []) id acts ≤ length acts
+        → cond b 0 (suc (reach size (log ++ Did id a ∷ []) id acts)) ≤ suc (length acts)
     go true le = omega arith
     go false le = omega arith
 
@@ -85,39 +88,48 @@ keeps-server_tick w now r w' (no_memory e is) h = subst Holds (sym is) h
 
 keeps-client_tick : (w : World) (slot now : ℕ) (r : Reply) (w' : World) → ClientTickStep w slot now r w' → Holds w → Holds w'
 keeps-client_tick w slot now r w' (empty_slot x e is) h = subst Holds (sym is) h
-keeps-client_tick w slot now r w' (quiet id x y e is) h = subst Holds (sym is) (keeps-quiet w id (moment_of (w.clients id) now) (h.slots slot id x) h)
+keeps-client_tick w slot now r w' (quiet id x y e is) h =
+    subst Holds (sym is) (keeps-quiet w id (moment_of (w.clients id) now) (h.slots slot id x) h)
 keeps-client_tick w slot now r w' (spent id x y z e is) h = subst Holds (sym is) h
-keeps-client_tick w slot now r w' (sent id x y z e is) h = subst Holds (sym is) (keeps-sending w id (moment_of (w.clients id) now) (h.slots slot id x) z h)
+keeps-client_tick w slot now r w' (sent id x y z e is) h =
+    subst Holds (sym is) (keeps-sending w id (moment_of (w.clients id) now) (h.slots slot id x) z h)
 keeps-client_tick w slot now r w' (no_memory e is) h = subst Holds (sym is) h
 
 -- what an instruction says that came whole at the server was sent
 came : (w : World) (d : DatagramValue) (text : List ℕ) (u : UpValue) → IsTextOf up_text (w.clients d.client).instructions text
     → SaysUp text u → Holds w → IsIn u (w.clients d.client).instructions
 came w d text u of says h =
-    subst (λ (x : UpValue). IsIn x (w.clients d.client).instructions) (says_up (w.clients d.client).instructions text u of.value (h.lines d.client).ups of.there of.is says) of.there
+    subst (λ (x : UpValue). IsIn x (w.clients d.client).instructions)
+    (says_up (w.clients d.client).instructions text u of.value (h.lines d.client).ups of.there of.is says) of.there
 
-keeps-to_server : (w : World) (k : ℕ) (from : Address) (now : ℕ) (r : Reply) (w' : World) → ToServerStep w k from now r w' → Holds w → Holds w'
+keeps-to_server : (w : World) (k : ℕ) (from : Address) (now : ℕ) (r : Reply) (w' : World) → ToServerStep w k from now r w' → Holds w
+    → Holds w'
 keeps-to_server w k from now r w' (not_sent x e is) h = subst Holds (sym is) h
 keeps-to_server w k from now r w' (refused d f x y e is) h = subst Holds (sym is) h
 keeps-to_server w k from now r w' (piece d g x y e is) h =
-    subst Holds (sym is) (keeps-note w d from (moment w.server now) g (subst (ComesWell (w.clients d.client).instructions) y (comes w k d x h)) h)
+    subst Holds (sym is) (keeps-note w d from (moment w.server now) g
+    (subst (ComesWell (w.clients d.client).instructions) y (comes w k d x h)) h)
 keeps-to_server w k from now r w' (unread d g text why x y z e is) h = subst Holds (sym is) h
 keeps-to_server w k from now r w' (all_taken d g text u x y z a e is) h =
     let c = subst (ComesWell (w.clients d.client).instructions) y (comes w k d x h) in
-    subst Holds (sym is) (keeps-acts w d from (moment w.server now) g u (length (new_acts w.server d u)) c.0 (came w d text u c.1 z h) (omega arith) h)
+    subst Holds (sym is) (keeps-acts w d from (moment w.server now) g u (length (new_acts w.server d u)) c.0 (came w d text u c.1 z h)
+    (omega arith) h)
 keeps-to_server w k from now r w' (no_room d g text u x y z a e is) h =
     let c = subst (ComesWell (w.clients d.client).instructions) y (comes w k d x h) in
-    subst Holds (sym is) (keeps-acts w d from (moment w.server now) (w.server.records d.client).gathering u (room_for w.server d u) (h.lines d.client).gathers_up (came w d text u c.1 z h) (omega arith) h)
+    subst Holds (sym is) (keeps-acts w d from (moment w.server now) (w.server.records d.client).gathering u (room_for w.server d u)
+    (h.lines d.client).gathers_up (came w d text u c.1 z h) (omega arith) h)
 keeps-to_server w k from now r w' (no_memory_at_act d g text u n x y z le lt e is) h =
     let c = subst (ComesWell (w.clients d.client).instructions) y (comes w k d x h) in
-    subst Holds (sym is) (keeps-acts w d from (moment w.server now) (w.server.records d.client).gathering u n (h.lines d.client).gathers_up (came w d text u c.1 z h) (omega arith) h)
+    subst Holds (sym is) (keeps-acts w d from (moment w.server now) (w.server.records d.client).gathering u n
+    (h.lines d.client).gathers_up (came w d text u c.1 z h) (omega arith) h)
 keeps-to_server w k from now r w' (no_memory e is) h = subst Holds (sym is) h
 
 -- what an instruction says that came whole at a client start was sent to it
 pub arrived : (w : World) (id : ℕ) (text : List ℕ) (v : DownValue) → IsTextOf down_text (w.server.records id).instructions text
     → SaysDown text v → Holds w → IsIn v (w.server.records id).instructions
 arrived w id text v of says h =
-    subst (λ (x : DownValue). IsIn x (w.server.records id).instructions) (says_down (w.server.records id).instructions text v of.value (h.lines id).downs of.there of.is says) of.there
+    subst (λ (x : DownValue). IsIn x (w.server.records id).instructions)
+    (says_down (w.server.records id).instructions text v of.value (h.lines id).downs of.there of.is says) of.there
 
 keeps-to_client : (w : World) (slot k now : ℕ) (r : Reply) (w' : World) → ToClientStep w slot k now r w' → Holds w → Holds w'
 keeps-to_client w slot k now r w' (empty_slot x e is) h = subst Holds (sym is) h
@@ -152,7 +164,8 @@ keeps-step w (Drain p n) r w' i s h = keeps-drain w p n r w' s h
 
 first_shown : IsScreenshot first_screen
 unfolding first_screen
-first_shown = blank_is_screenshot 24 80 (record { least_rows = omega arith; most_rows = omega arith; least_columns = omega arith; most_columns = omega arith })
+first_shown = blank_is_screenshot 24 80 (record
+    { least_rows = omega arith; most_rows = omega arith; least_columns = omega arith; most_columns = omega arith })
 
 pub holds-new : (session : ℕ) (size : SessionSize) → Holds (new_world session size)
 unfolding new_world new_server nobody no_record

@@ -77,8 +77,16 @@ cuts_cut log cuts low k lt =
     grind (arith, common_steps, low, get_or-append cuts (length log ∷ []) 0 k, get_or-append_seam cuts (length log) [] 0)
 
 -- the screen of the number that is made is the face now
-screen_last : (size : SessionSize) (log : List Entry) (cuts : List ℕ) → screen size log (cuts ++ length log ∷ []) (length (cuts ++ length log ∷ [])) ≡ face size log
-screen_last size log cuts = grind (arith, nat_tests, common_steps, length-append cuts (length log ∷ []), get_or-append_seam cuts (length log) [] 0)
+screen_last : (size : SessionSize) (log : List Entry) (cuts : List ℕ)
+    → screen size log (cuts ++ length log ∷ []) (length (cuts ++ length log ∷ [])) ≡ face size log
+screen_last size log cuts = grind (
+  arith,
+  nat_tests,
+  common_steps,
+  length-append cuts (length log ∷ []),
+  get_or-append_seam cuts
+      (length log) [] 0,
+)
 
 pub screens_cut : (size : SessionSize) (log : List Entry) (cuts : List ℕ) → AreScreens size log cuts → IsScreenshot (face size log)
     → AreScreens size log (cuts ++ length log ∷ [])
@@ -86,7 +94,8 @@ screens_cut size log cuts are is n le =
     elim (le_or n le) [
       | inl low ↦ subst IsScreenshot (sym (screen_cut size log cuts (length log) n low)) (are n low)
       | inr top ↦ (let e : length (cuts ++ length log ∷ []) ≡ n = sym top in
-          subst (λ (m : ℕ). IsScreenshot (screen size log (cuts ++ length log ∷ []) m)) e (subst IsScreenshot (sym (screen_last size log cuts)) is))
+          subst (λ (m : ℕ). IsScreenshot (screen size log (cuts ++ length log ∷ []) m)) e
+          (subst IsScreenshot (sym (screen_last size log cuts)) is))
     ]
   where
     le_or : (n : ℕ) → n ≤ length (cuts ++ length log ∷ []) → (n ≤ length cuts) ⊎ (n ≡ length (cuts ++ length log ∷ []))

@@ -76,8 +76,10 @@ get_at [] i x e = absurd (cc)
 get_at (y ∷ xs) zero x e = cc
 get_at (y ∷ xs) (suc i) x e = get_at xs i x e
 
-packed_sendable : (kind : Kind) (session client before id : ℕ) (text : List ℕ) (d : DatagramValue) → session < 2 ^ 64 → client < 2 ^ 64 → 1 ≤ id → id < 2 ^ 62
-    → before + length (pieces_of text) < 2 ^ 62 → length text ≤ 1228800 → IsIn d (datagrams_of kind session client before id (pieces_of text)) → IsDatagram d
+packed_sendable : (kind : Kind) (session client before id : ℕ) (text : List ℕ) (d : DatagramValue) → session < 2 ^ 64 → client < 2 ^ 64
+    → 1 ≤ id → id < 2 ^ 62
+    → before + length (pieces_of text) < 2 ^ 62 → length text ≤ 1228800
+    → IsIn d (datagrams_of kind session client before id (pieces_of text)) → IsDatagram d
 packed_sendable kind session client before id text d s c low high numbers short i =
     subst IsDatagram m.2 (record {
       version = refl;
@@ -94,7 +96,8 @@ packed_sendable kind session client before id text d s c low high numbers short 
     make : ℕ × List ℕ → DatagramValue
     make = datagram_with kind session client before id (length (pieces_of text))
 
-    m : (x : ℕ × List ℕ) × IsIn x (enumerate_from 0 (pieces_of text)) × (datagram_with kind session client before id (length (pieces_of text)) x ≡ d)
+    m : (x : ℕ × List ℕ) × IsIn x (enumerate_from 0 (pieces_of text))
+        × (datagram_with kind session client before id (length (pieces_of text)) x ≡ d)
     m = IsIn-map (datagram_with kind session client before id (length (pieces_of text))) d (enumerate_from 0 (pieces_of text)) i
 
     n : (k : ℕ) × (m.0.0 ≡ 0 + k) × (slice_get (pieces_of text) k ≡ Some m.0.1)
@@ -121,13 +124,18 @@ from_sendable : (w : World) (id : ℕ) → is_client_spent (w.clients id) ≡ fa
     → IsIn d (datagrams_from w.server.session id (w.clients id)) → IsDatagram d
 from_sendable w id e made k d i =
     let c = w.clients id in
-    let left = or_left (is_spent (c.acts.acked + 1) || is_spent (length c.instructions + 1)) (is_spent (c.datagrams + length (pieces_from c))) e in
-    let number = not_past (length c.instructions + 1) (or_right (is_spent (c.acts.acked + 1)) (is_spent (length c.instructions + 1)) left) in
-    let numbers = not_past (c.datagrams + length (pieces_from c)) (or_right (is_spent (c.acts.acked + 1) || is_spent (length c.instructions + 1)) (is_spent (c.datagrams + length (pieces_from c))) e) in
+    let left = or_left (is_spent (c.acts.acked + 1) || is_spent (length c.instructions + 1))
+    (is_spent (c.datagrams + length (pieces_from c))) e in
+    let number = not_past (length c.instructions + 1) (or_right (is_spent (c.acts.acked + 1)) (is_spent (length c.instructions + 1)) left)
+    in
+    let numbers = not_past (c.datagrams + length (pieces_from c))
+    (or_right (is_spent (c.acts.acked + 1) || is_spent (length c.instructions + 1)) (is_spent (c.datagrams + length (pieces_from c)))
+    e) in
     let many = up_length (up_from (w.clients id)) in
     let few = acts_length (up_from (w.clients id)).acts in
     let taken = length-take 64 (w.clients id).acts.acts in
-    packed_sendable ToServerKind w.server.session id c.datagrams (length c.instructions + 1) (up_text (up_from c)) d k.session (k.starts id made)
+    packed_sendable ToServerKind w.server.session id c.datagrams (length c.instructions + 1) (up_text (up_from c)) d k.session
+    (k.starts id made)
     (omega arith) number numbers (omega (arith, many, few, taken)) i
 
 -- ---- the server ticks
@@ -140,12 +148,14 @@ list_any-false f (y ∷ xs) x e i =
       | inr rest ↦ list_any-false f xs x (or_right (f y) (list_any f xs) e) rest
     ]
 
-to_sendable : (w : World) (now : ℕ) → is_tick_spent w.server now ≡ false → IsFaceScreen w.server now → Holds w → Counts w → (d : DatagramValue)
+to_sendable : (w : World) (now : ℕ) → is_tick_spent w.server now ≡ false → IsFaceScreen w.server now → Holds w → Counts w
+    → (d : DatagramValue)
     → IsIn d (map (λ (p : Parcel). p.datagram) (sent_by w.server now)) → IsDatagram d
 to_sendable w now e shown h k d i =
     let a = IsIn-map (λ (p : Parcel). p.datagram) d (sent_by w.server now) i in
     let f = IsIn-flat_map (parcels_to w.server now) a.0 w.server.arrival a.1 in
-    let m = IsIn-map (parcel (w.server.records f.0).address) a.0 (datagrams_to w.server.session f.0 (w.server.records f.0) (number_after w.server now) (screen_after w.server now) now) f.2 in
+    let m = IsIn-map (parcel (w.server.records f.0).address) a.0
+    (datagrams_to w.server.session f.0 (w.server.records f.0) (number_after w.server now) (screen_after w.server now) now) f.2 in
     let is : m.0 ≡ d = ap (λ (y : Parcel). y.datagram) m.2 ∙ a.2 in
     subst IsDatagram is (one f.0 f.1 m.0 m.1)
   where
@@ -155,8 +165,12 @@ to_sendable w now e shown h k d i =
     s : Screenshot
     s = screen_after w.server now
 
-    one : (id : ℕ) → IsIn id w.server.arrival → (x : DatagramValue) → IsIn x (datagrams_to w.server.session id (w.server.records id) (number_after w.server now) (screen_after w.server now) now) → IsDatagram x
-    one id there x j = go (sends r n s now) refl j (list_any-false (λ (q : ℕ). is_record_spent (w.server.records q) n s now) w.server.arrival id (or_right (makes w.server now && is_spent (number_after w.server now)) _ e) there)
+    one : (id : ℕ) → IsIn id w.server.arrival → (x : DatagramValue)
+        → IsIn x (datagrams_to w.server.session id (w.server.records id) (number_after w.server now) (screen_after w.server now) now)
+        → IsDatagram x
+    one id there x j = go (sends r n s now) refl j
+        (list_any-false (λ (q : ℕ). is_record_spent (w.server.records q) n s now) w.server.arrival id
+        (or_right (makes w.server now && is_spent (number_after w.server now)) _ e) there)
       where
         r : Record
         r = w.server.records id
@@ -167,13 +181,17 @@ to_sendable w now e shown h k d i =
             let few = most (holds_after r n s now).base.state (newest (holds_after r n s now)).state (newest_screen w now e shown h id) in
             omega (arith, long, few)
 
-        go : (b : Bool) → sends r n s now ≡ b → IsIn x (cond b (datagrams_of ToClientKind w.server.session id r.datagrams (length r.instructions + 1) (pieces_to r n s now)) [])
+        go : (b : Bool) → sends r n s now ≡ b → IsIn x
+            (cond b (datagrams_of ToClientKind w.server.session id r.datagrams (length r.instructions + 1) (pieces_to r n s now)) [])
             → (b && (is_spent (length r.instructions + 1) || is_spent (r.datagrams + length (pieces_to r n s now)))) ≡ false → IsDatagram x
         go false f y g = absurd y
         go true f y g =
-            packed_sendable ToClientKind w.server.session id r.datagrams (length r.instructions + 1) (down_text (down_to r n s now)) x k.session (k.ids id there) (omega arith)
-            (not_past (length r.instructions + 1) (or_left (is_spent (length r.instructions + 1)) (is_spent (r.datagrams + length (pieces_to r n s now))) g))
-            (not_past (r.datagrams + length (pieces_to r n s now)) (or_right (is_spent (length r.instructions + 1)) (is_spent (r.datagrams + length (pieces_to r n s now))) g))
+            packed_sendable ToClientKind w.server.session id r.datagrams (length r.instructions + 1) (down_text (down_to r n s now)) x
+            k.session (k.ids id there) (omega arith)
+            (not_past (length r.instructions + 1) (or_left (is_spent (length r.instructions + 1))
+            (is_spent (r.datagrams + length (pieces_to r n s now))) g))
+            (not_past (r.datagrams + length (pieces_to r n s now))
+            (or_right (is_spent (length r.instructions + 1)) (is_spent (r.datagrams + length (pieces_to r n s now))) g))
             short y
 
 known_ticked : (r : Record) (n : ℕ) (s : Screenshot) (now : ℕ) → (ticked r n s now).known ≡ r.known
@@ -199,10 +217,12 @@ all_room s id (completed g text) room = room
 
 room_in : (s : Server) (d : DatagramValue) → IsRoom s d.client (coming s d)
 unfolding IsRoom
-room_in s d = go (coming_gathered (gather (s.records d.client).gathering (piece_of d))) (not (is_to_server d.kind)) (not (nat_eq d.session s.session)) (s.records d.client).known refl (nat_le 64 (length s.arrival)) refl
+room_in s d = go (coming_gathered (gather (s.records d.client).gathering (piece_of d))) (not (is_to_server d.kind))
+    (not (nat_eq d.session s.session)) (s.records d.client).known refl (nat_le 64 (length s.arrival)) refl
   where
     go : (x : Coming) (a b k : Bool) → (s.records d.client).known ≡ k → (m : Bool) → nat_le 64 (length s.arrival) ≡ m
-        → IsRoom s d.client (cond a (turned_away (BadDatagram reason.Kind)) (cond b (turned_away OtherSession) (cond (not k && m) (turned_away ClientsFull) x)))
+        → IsRoom s d.client (cond a (turned_away (BadDatagram reason.Kind))
+        (cond b (turned_away OtherSession) (cond (not k && m) (turned_away ClientsFull) x)))
     go x true b k e m f = tt
     go x false true k e m f = tt
     go x false false true e m f = all_room s d.client x (λ g. let z : true ≡ false = sym e ∙ g in absurd (cc))
@@ -216,7 +236,8 @@ record IsArrival (s : Server) (id : ℕ) (ids : List ℕ) : Type 0 where
   only : (j : ℕ) → IsIn j ids → IsIn j s.arrival ⊎ (id ≡ j)
   few : length ids ≤ 64
 
-arrival_is : (w : World) (id : ℕ) → ((w.server.records id).known ≡ false → length w.server.arrival < 64) → Counts w → IsArrival w.server id (arrival_with w.server id)
+arrival_is : (w : World) (id : ℕ) → ((w.server.records id).known ≡ false → length w.server.arrival < 64) → Counts w
+    → IsArrival w.server id (arrival_with w.server id)
 arrival_is w id room k = go (w.server.records id).known refl
   where
     go : (b : Bool) → (w.server.records id).known ≡ b → IsArrival w.server id (cond b w.server.arrival (w.server.arrival ++ id ∷ []))
@@ -231,7 +252,8 @@ arrival_is w id room k = go (w.server.records id).known refl
         }
 
 -- the server hears from a start
-heard_counts : (w : World) (s : Server) (id : ℕ) (r : Record) → s.session ≡ w.server.session → s.records ≡ put w.server.records id r → s.arrival ≡ arrival_with w.server id
+heard_counts : (w : World) (s : Server) (id : ℕ) (r : Record) → s.session ≡ w.server.session → s.records ≡ put w.server.records id r
+    → s.arrival ≡ arrival_with w.server id
     → id < 2 ^ 64 → ((w.server.records id).known ≡ false → length w.server.arrival < 64) → Counts w → Counts (record w { server = s })
 heard_counts w s id r same records arrival small room k =
     let is = arrival_is w id room k in
@@ -240,7 +262,8 @@ heard_counts w s id r same records arrival small room k =
       starts = k.starts;
       arrived = subst (λ (f : ℕ → Record). (j : ℕ) → (f j).known ≡ true → IsIn j s.arrival) (sym records)
           (subst (λ (ids : List ℕ). (j : ℕ) → (put w.server.records id r j).known ≡ true → IsIn j ids) (sym arrival)
-          (on_put (λ j x. x.known ≡ true → IsIn j (arrival_with w.server id)) w.server.records id r (λ e. is.here) (λ j e f. is.stays j (k.arrived j f))));
+          (on_put (λ j x. x.known ≡ true → IsIn j (arrival_with w.server id)) w.server.records id r (λ e. is.here)
+          (λ j e f. is.stays j (k.arrived j f))));
       ids = subst (λ (ids : List ℕ). (j : ℕ) → IsIn j ids → j < 2 ^ 64) (sym arrival)
           (λ j i. elim (is.only j i) [ inl old ↦ k.ids j old | inr e ↦ subst (λ (n : ℕ). n < 2 ^ 64) e small ]);
       few = subst (λ (ids : List ℕ). length ids ≤ 64) (sym arrival) is.few;
@@ -273,14 +296,17 @@ counts-step w (Drain p n) r w' i (gone out x y e is) h k =
 counts-step w (Typed slot a) r w' i (empty_slot x e is) h k = subst Counts (sym is) k
 counts-step w (Typed slot a) r w' i (full id x y e is) h k = subst Counts (sym is) k
 counts-step w (Typed slot a) r w' i (spent id x y e is) h k = subst Counts (sym is) k
-counts-step w (Typed slot a) r w' i (typed id x y z e is) h k = subst Counts (sym is) (client_counts w id _ (k.starts id (h.slots slot id x)) k)
+counts-step w (Typed slot a) r w' i (typed id x y z e is) h k =
+    subst Counts (sym is) (client_counts w id _ (k.starts id (h.slots slot id x)) k)
 counts-step w (Typed slot a) r w' i (no_memory e is) h k = subst Counts (sym is) k
 counts-step w (ServerTick now) r w' i (spent x e is) h k = subst Counts (sym is) k
 counts-step w (ServerTick now) r w' i (did_tick x y e is) h k =
     subst Counts (sym is) (record {
       session = k.session;
       starts = k.starts;
-      arrived = (λ id f. k.arrived id (sym (known_ticked (w.server.records id) (number_after w.server (moment w.server now)) (screen_after w.server (moment w.server now)) (moment w.server now)) ∙ f));
+      arrived = (λ id f. k.arrived id
+          (sym (known_ticked (w.server.records id) (number_after w.server (moment w.server now))
+          (screen_after w.server (moment w.server now)) (moment w.server now)) ∙ f));
       ids = k.ids;
       few = k.few;
       sent = (λ d j. elim (IsIn-append_cases d w.sent (map (λ (p : Parcel). p.datagram) (sent_by w.server (moment w.server now))) j) [
@@ -290,12 +316,14 @@ counts-step w (ServerTick now) r w' i (did_tick x y e is) h k =
     })
 counts-step w (ServerTick now) r w' i (no_memory e is) h k = subst Counts (sym is) k
 counts-step w (ClientTick slot now) r w' i (empty_slot x e is) h k = subst Counts (sym is) k
-counts-step w (ClientTick slot now) r w' i (quiet id x y e is) h k = subst Counts (sym is) (client_counts w id _ (k.starts id (h.slots slot id x)) k)
+counts-step w (ClientTick slot now) r w' i (quiet id x y e is) h k =
+    subst Counts (sym is) (client_counts w id _ (k.starts id (h.slots slot id x)) k)
 counts-step w (ClientTick slot now) r w' i (spent id x y z e is) h k = subst Counts (sym is) k
 counts-step w (ClientTick slot now) r w' i (sent id x y z e is) h k =
     subst Counts (sym is) (record {
       session = k.session;
-      starts = on_put (λ j c. c.made ≡ true → j < 2 ^ 64) w.clients id (after_sending (w.clients id) (moment_of (w.clients id) now)) (λ f. k.starts id (h.slots slot id x)) (λ j f. k.starts j);
+      starts = on_put (λ j c. c.made ≡ true → j < 2 ^ 64) w.clients id (after_sending (w.clients id) (moment_of (w.clients id) now))
+          (λ f. k.starts id (h.slots slot id x)) (λ j f. k.starts j);
       arrived = k.arrived;
       ids = k.ids;
       few = k.few;
@@ -308,22 +336,28 @@ counts-step w (ClientTick slot now) r w' i (no_memory e is) h k = subst Counts (
 counts-step w (ToServer n from now) r w' i (not_sent x e is) h k = subst Counts (sym is) k
 counts-step w (ToServer n from now) r w' i (refused d f x y e is) h k = subst Counts (sym is) k
 counts-step w (ToServer n from now) r w' i (piece d g x y e is) h k =
-    subst Counts (sym is) (heard_counts w _ d.client _ refl refl refl (k.sent d (was_sent w n d x)).client (subst (IsRoom w.server d.client) y (room_in w.server d)) k)
+    subst Counts (sym is) (heard_counts w _ d.client _ refl refl refl (k.sent d (was_sent w n d x)).client
+    (subst (IsRoom w.server d.client) y (room_in w.server d)) k)
 counts-step w (ToServer n from now) r w' i (unread d g text why x y z e is) h k = subst Counts (sym is) k
 counts-step w (ToServer n from now) r w' i (all_taken d g text u x y z a e is) h k =
-    subst Counts (sym is) (heard_counts w _ d.client _ refl refl refl (k.sent d (was_sent w n d x)).client (subst (IsRoom w.server d.client) y (room_in w.server d)) k)
+    subst Counts (sym is) (heard_counts w _ d.client _ refl refl refl (k.sent d (was_sent w n d x)).client
+    (subst (IsRoom w.server d.client) y (room_in w.server d)) k)
 counts-step w (ToServer n from now) r w' i (no_room d g text u x y z a e is) h k =
-    subst Counts (sym is) (heard_counts w _ d.client _ refl refl refl (k.sent d (was_sent w n d x)).client (subst (IsRoom w.server d.client) y (room_in w.server d)) k)
+    subst Counts (sym is) (heard_counts w _ d.client _ refl refl refl (k.sent d (was_sent w n d x)).client
+    (subst (IsRoom w.server d.client) y (room_in w.server d)) k)
 counts-step w (ToServer n from now) r w' i (no_memory_at_act d g text u m x y z le lt e is) h k =
-    subst Counts (sym is) (heard_counts w _ d.client _ refl refl refl (k.sent d (was_sent w n d x)).client (subst (IsRoom w.server d.client) y (room_in w.server d)) k)
+    subst Counts (sym is) (heard_counts w _ d.client _ refl refl refl (k.sent d (was_sent w n d x)).client
+    (subst (IsRoom w.server d.client) y (room_in w.server d)) k)
 counts-step w (ToServer n from now) r w' i (no_memory e is) h k = subst Counts (sym is) k
 counts-step w (ToClient slot n now) r w' i (empty_slot x e is) h k = subst Counts (sym is) k
 counts-step w (ToClient slot n now) r w' i (not_sent x e is) h k = subst Counts (sym is) k
 counts-step w (ToClient slot n now) r w' i (refused id d f x y z e is) h k = subst Counts (sym is) k
-counts-step w (ToClient slot n now) r w' i (piece id d how g x y z e is) h k = subst Counts (sym is) (client_counts w id _ (k.starts id (h.slots slot id x)) k)
+counts-step w (ToClient slot n now) r w' i (piece id d how g x y z e is) h k =
+    subst Counts (sym is) (client_counts w id _ (k.starts id (h.slots slot id x)) k)
 counts-step w (ToClient slot n now) r w' i (unread id d g text why x y z a e is) h k = subst Counts (sym is) k
 counts-step w (ToClient slot n now) r w' i (bad_change id d g text v base x y z a b c' d' e is) h k = subst Counts (sym is) k
-counts-step w (ToClient slot n now) r w' i (whole id d g text v q x y z a b e is) h k = subst Counts (sym is) (client_counts w id _ (k.starts id (h.slots slot id x)) k)
+counts-step w (ToClient slot n now) r w' i (whole id d g text v q x y z a b e is) h k =
+    subst Counts (sym is) (client_counts w id _ (k.starts id (h.slots slot id x)) k)
 counts-step w (ToClient slot n now) r w' i (no_memory e is) h k = subst Counts (sym is) k
 counts-step w (Start slot id) r w' i (used x e is) h k = subst Counts (sym is) k
 counts-step w (Start slot id) r w' i (started x e is) h k =

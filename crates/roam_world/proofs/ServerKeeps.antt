@@ -50,20 +50,27 @@ noted_at number from = record { number = number; source = from }
 
 -- the latest number and its address after one more note
 latest_noted : (r : Record) (number : ℕ) (from : Address) → greatest_from no_note r.notes ≡ noted_at r.latest r.address
-    → greatest_from no_note (r.notes ++ noted_at number from ∷ []) ≡ noted_at (max r.latest number) (cond (nat_lt r.latest number) from r.address)
+    → greatest_from no_note (r.notes ++ noted_at number from ∷ []) ≡ noted_at (max r.latest number)
+    (cond (nat_lt r.latest number) from r.address)
 latest_noted r number from e =
-    greatest-push no_note r.notes (noted_at number from) ∙ ap (λ (b : Note). cond (nat_lt b.number number) (noted_at number from) b) e ∙ go (nat_lt r.latest number) refl
+    greatest-push no_note r.notes (noted_at number from) ∙ ap (λ (b : Note). cond (nat_lt b.number number) (noted_at number from) b) e
+    ∙ go (nat_lt r.latest number) refl
   where
-    go : (b : Bool) → nat_lt r.latest number ≡ b → cond b (noted_at number from) (noted_at r.latest r.address) ≡ noted_at (max r.latest number) (cond b from r.address)
-    go true f = let lt : r.latest < number = grind (arith, nat_tests) in let m : number ≡ max r.latest number = omega arith in ap (λ (k : ℕ). noted_at k from) m
-    go false f = let le : number ≤ r.latest = grind (arith, nat_tests) in let m : r.latest ≡ max r.latest number = omega arith in ap (λ (k : ℕ). noted_at k r.address) m
+    go : (b : Bool) → nat_lt r.latest number ≡ b → cond b (noted_at number from) (noted_at r.latest r.address) ≡ noted_at
+        (max r.latest number) (cond b from r.address)
+    go true f = let lt : r.latest < number = grind (arith, nat_tests) in let m : number ≡ max r.latest number =
+        omega arith in ap (λ (k : ℕ). noted_at k from) m
+    go false f = let le : number ≤ r.latest = grind (arith, nat_tests) in let m : r.latest ≡ max r.latest number =
+        omega arith in ap (λ (k : ℕ). noted_at k r.address) m
 
 -- the record of a start changes, and nothing was sent to it
-piece-record : (kind : Kind) (d : DatagramValue) (r r' : Record) (c : Client) → r'.instructions ≡ r.instructions → IsPiece kind d r c → IsPiece kind d r' c
+piece-record : (kind : Kind) (d : DatagramValue) (r r' : Record) (c : Client) → r'.instructions ≡ r.instructions → IsPiece kind d r c
+    → IsPiece kind d r' c
 piece-record ToClient d r r' c same p = subst (λ (vs : List DownValue). IsPieceOf (cuts_of down_text vs) (piece_of d)) (sym same) p
 piece-record ToServer d r r' c same p = p
 
-pub keeps-note : (w : World) (d : DatagramValue) (from : Address) (now : ℕ) (g : Gathering) → Gathers up_text (w.clients d.client).instructions g
+pub keeps-note : (w : World) (d : DatagramValue) (from : Address) (now : ℕ) (g : Gathering)
+    → Gathers up_text (w.clients d.client).instructions g
     → Holds w → Holds (with_server w (after_note w.server d from now g))
 keeps-note w d from now g of h =
     let r = w.server.records d.client in
@@ -76,56 +83,74 @@ keeps-note w d from now g of h =
       lines = on_put (λ j x. Line w j x (w.clients j)) w.server.records d.client (heard_from r d from now g) (record {
         truth = l.truth;
         link = l.link;
-        acts = record { count = a.count; front = a.front; low = a.low; typed = a.typed; few = a.few; below = a.below; are = a.are; told = a.told };
+        acts = record {
+          count = a.count;
+          front = a.front;
+          low = a.low;
+          typed = a.typed;
+          few = a.few;
+          below = a.below;
+          are = a.are;
+          told =
+              a.told;
+        };
         downs = l.downs;
         ups = l.ups;
         gathers_down = l.gathers_down;
         gathers_up = of;
         notes = latest_noted r d.number from l.notes;
       }) (λ j e. h.lines j);
-      pieces = (λ x i. on_put (λ j y. IsPiece x.kind x (w.server.records j) (w.clients x.client) → IsPiece x.kind x y (w.clients x.client)) w.server.records d.client (heard_from r d from now g)
+      pieces = (λ x i. on_put (λ j y. IsPiece x.kind x (w.server.records j) (w.clients x.client)
+          → IsPiece x.kind x y (w.clients x.client)) w.server.records d.client (heard_from r d from now g)
           (piece-record x.kind x r (heard_from r d from now g) (w.clients x.client) refl) (λ j e p. p) x.client (h.pieces x i));
       unused = h.unused;
       slots = h.slots;
     }
 
-pub keeps-acts : (w : World) (d : DatagramValue) (from : Address) (now : ℕ) (g : Gathering) (u : UpValue) (n : ℕ) → Gathers up_text (w.clients d.client).instructions g
-    → IsIn u (w.clients d.client).instructions → n ≤ length (new_acts w.server d u) → Holds w → Holds (with_server w (after_acts w.server d from now g u n))
+pub keeps-acts : (w : World) (d : DatagramValue) (from : Address) (now : ℕ) (g : Gathering) (u : UpValue) (n : ℕ)
+    → Gathers up_text (w.clients d.client).instructions g
+    → IsIn u (w.clients d.client).instructions → n ≤ length (new_acts w.server d u) → Holds w
+    → Holds (with_server w (after_acts w.server d from now g u n))
 keeps-acts w d from now g u n of sent few h =
     record {
       numbers = h.numbers;
       cuts = cuts_more log more cuts h.cuts;
       screens = screens_more size log more cuts h.cuts h.screens;
-      lines = on_put (λ j x. LineOf size (log ++ more) cuts (acts_of j (log ++ more)) x (w.clients j)) w.server.records d.client r' (record {
-        truth = true_acked applied (IsScreenOf size (log ++ more) cuts) r.sender c.receiver (Tells r.instructions)
-            (true_still applied (IsScreenOf size log cuts) r.sender c.receiver (Tells r.instructions) l.truth (IsScreenOf size (log ++ more) cuts) (Tells r.instructions) (is_more size log more cuts h.cuts) (λ u t. t)) u.acked;
-        link = link_acked r.sender c.receiver (Tells r.instructions) (Acks c.instructions) l.link u.acked (u, sent, refl);
-        acts =
-            (let count = a.count in
-            let stretch = a.told u sent in
-            let all : acts_of id (log ++ more) ≡ acts_of id log ++ take n new = acts_of-append id log more ∙ ap (λ (xs : List Act). acts_of id log ++ xs) (acts_of-own id (take n new)) in
-            let front : acts_of id (log ++ more) ≡ take (r.taken + n) c.typed =
-            all ∙ ap (λ (xs : List Act). xs ++ take n new) a.front ∙ front_more c.typed u.acts r.taken u.first n a.low stretch few in
-            let low : r.taken + n ≤ length c.typed = front_low c.typed u.acts r.taken u.first n a.low stretch few in
-            record {
-              count = sym (ap length front ∙ length-take-le (r.taken + n) c.typed low);
-              front = front;
-              low = low;
-              typed = a.typed;
-              few = a.few;
-              below = a.below;
-              are = a.are;
-              told = a.told;
-            });
-        downs = l.downs;
-        ups = l.ups;
-        gathers_down = l.gathers_down;
-        gathers_up = of;
-        notes = latest_noted r d.number from l.notes;
-      })
+      lines = on_put (λ j x. LineOf size (log ++ more) cuts (acts_of j (log ++ more)) x (w.clients j)) w.server.records d.client r'
+          (record {
+            truth = true_acked applied (IsScreenOf size (log ++ more) cuts) r.sender c.receiver (Tells r.instructions)
+                (true_still applied (IsScreenOf size log cuts) r.sender c.receiver (Tells r.instructions) l.truth
+                (IsScreenOf size (log ++ more) cuts) (Tells r.instructions) (is_more size log more cuts h.cuts) (λ u t. t)) u.acked;
+            link = link_acked r.sender c.receiver (Tells r.instructions) (Acks c.instructions) l.link u.acked (u, sent, refl);
+            acts =
+                (let count = a.count in
+                let stretch = a.told u sent in
+                let all : acts_of id (log ++ more) ≡ acts_of id log ++ take n new = acts_of-append id log more
+                ∙ ap (λ (xs : List Act). acts_of id log ++ xs) (acts_of-own id (take n new)) in
+                let front : acts_of id (log ++ more) ≡ take (r.taken + n) c.typed =
+                all ∙ ap (λ (xs : List Act). xs ++ take n new) a.front ∙ front_more c.typed u.acts r.taken u.first n a.low stretch few in
+                let low : r.taken + n ≤ length c.typed = front_low c.typed u.acts r.taken u.first n a.low stretch few in
+                record {
+                  count = sym (ap length front ∙ length-take-le (r.taken + n) c.typed low);
+                  front = front;
+                  low = low;
+                  typed = a.typed;
+                  few = a.few;
+                  below = a.below;
+                  are = a.are;
+                  told = a.told;
+                });
+            downs = l.downs;
+            ups = l.ups;
+            gathers_down = l.gathers_down;
+            gathers_up = of;
+            notes = latest_noted r d.number from l.notes;
+          })
           (λ j e. line-more size log more cuts (acts_of j log) (acts_of j (log ++ more)) (w.server.records j) (w.clients j) h.cuts
-          (acts_of-append j log more ∙ ap (λ (xs : List Act). acts_of j log ++ xs) (acts_of-other j id (take n new) (flip j e)) ∙ append-nil (acts_of j log)) (h.lines j));
-      pieces = (λ x i. on_put (λ j y. IsPiece x.kind x (w.server.records j) (w.clients x.client) → IsPiece x.kind x y (w.clients x.client)) w.server.records d.client r'
+          (acts_of-append j log more ∙ ap (λ (xs : List Act). acts_of j log ++ xs) (acts_of-other j id (take n new) (flip j e))
+          ∙ append-nil (acts_of j log)) (h.lines j));
+      pieces = (λ x i. on_put (λ j y. IsPiece x.kind x (w.server.records j) (w.clients x.client)
+          → IsPiece x.kind x y (w.clients x.client)) w.server.records d.client r'
           (piece-record x.kind x r r' (w.clients x.client) refl) (λ j e p. p) x.client (h.pieces x i));
       unused = h.unused;
       slots = h.slots;
@@ -173,12 +198,15 @@ keeps-acts w d from now g u n of sent few h =
 pub top_true : (Is : ℕ → Screenshot → Type 0) (s : Sending Screenshot) → HoldsTrueStates Is s → Is (newest s).number (newest s).state
 top_true Is s are = go s.base s.later are
   where
-    go : (base : Held Screenshot) (hs : List (Held Screenshot)) → Rattle.std.proofs.Common.All (λ (h : Held Screenshot). Is h.number h.state) (base ∷ hs) → Is (last_of base hs).number (last_of base hs).state
+    go : (base : Held Screenshot) (hs : List (Held Screenshot))
+        → Rattle.std.proofs.Common.All (λ (h : Held Screenshot). Is h.number h.state) (base ∷ hs)
+        → Is (last_of base hs).number (last_of base hs).state
     go base [] are = All-head (λ (h : Held Screenshot). Is h.number h.state) base [] are
     go base (h ∷ hs) are = go h hs (All-tail (λ (h : Held Screenshot). Is h.number h.state) base (h ∷ hs) are)
 
 -- what a line is that holds, with the sender s
-record HoldsLine (size : SessionSize) (log : List Entry) (cuts : List ℕ) (s : Sending Screenshot) (vs : List DownValue) (c : Client) : Type 0 where
+record HoldsLine (size : SessionSize) (log : List Entry) (cuts : List ℕ) (s : Sending Screenshot) (vs : List DownValue)
+    (c : Client) : Type 0 where
   truth : TrueLine applied (IsScreenOf size log cuts) s c.receiver (Tells vs)
   link : Link s c.receiver (Tells vs) (Acks c.instructions)
 
@@ -190,8 +218,10 @@ pub and_left : (a b : Bool) → (a && b) ≡ true → a ≡ true
 and_left true b e = refl
 and_left false b e = absurd (cc)
 
-module _ (size : SessionSize) (log : List Entry) (cuts : List ℕ) (taken : List Act) (r : Record) (c : Client) (n : ℕ) (s : Screenshot) (now : ℕ)
-    (is : IsScreenOf size log cuts n s) (screens : AreScreens size log cuts) (few : length cuts < 2 ^ 62) (l : LineOf size log cuts taken r c) where
+module _ (size : SessionSize) (log : List Entry) (cuts : List ℕ) (taken : List Act) (r : Record) (c : Client) (n : ℕ) (s : Screenshot)
+    (now : ℕ)
+    (is : IsScreenOf size log cuts n s) (screens : AreScreens size log cuts) (few : length cuts < 2 ^ 62)
+    (l : LineOf size log cuts taken r c) where
   -- after the offer
   offer_holds : HoldsLine size log cuts (holds_after r n s now) r.instructions c
   unfolding holds_after
@@ -199,11 +229,13 @@ module _ (size : SessionSize) (log : List Entry) (cuts : List ℕ) (taken : List
     where
       go : (b : Bool) → is_offered r n now ≡ b → HoldsLine size log cuts (cond b (offered r.sender n s) r.sender) r.instructions c
       go true e =
-          let above = and_right (is_live r now) (nat_lt (newest r.sender).number n) (and_left (is_live r now && nat_lt (newest r.sender).number n) (nat_lt (count r.sender) 8) e) in
+          let above = and_right (is_live r now) (nat_lt (newest r.sender).number n)
+          (and_left (is_live r now && nat_lt (newest r.sender).number n) (nat_lt (count r.sender) 8) e) in
           let room = and_right (is_live r now && nat_lt (newest r.sender).number n) (nat_lt (count r.sender) 8) e in
           record {
             truth = true_offered applied (IsScreenOf size log cuts) r.sender c.receiver (Tells r.instructions) l.truth n s is;
-            link = link_offered r.sender c.receiver (Tells r.instructions) (Acks c.instructions) l.link n s (grind (arith, nat_tests)) (grind (arith, nat_tests));
+            link = link_offered r.sender c.receiver (Tells r.instructions) (Acks c.instructions) l.link n s (grind (arith, nat_tests))
+                (grind (arith, nat_tests));
           }
       go false e = record { truth = l.truth; link = l.link }
 
@@ -227,8 +259,10 @@ module _ (size : SessionSize) (log : List Entry) (cuts : List ℕ) (taken : List
       let below = l.acts.below in
       record { floor = omega arith; old = rises; new = omega (arith, top, few); acked = omega (arith, low, below) }
 
-  tells : (u : Update) → Tells (r.instructions ++ down_to r n s now ∷ []) u → Tells r.instructions u ⊎ (u ≡ update_of (holds_after r n s now) (down_to r n s now).change)
-  tells u t = elim (IsIn-push_cases t.0 (down_to r n s now) r.instructions t.1) [ inl o ↦ inl (t.0, o, t.2) | inr e ↦ inr (sym t.2 ∙ ap update_in (sym e)) ]
+  tells : (u : Update) → Tells (r.instructions ++ down_to r n s now ∷ []) u
+      → Tells r.instructions u ⊎ (u ≡ update_of (holds_after r n s now) (down_to r n s now).change)
+  tells u t = elim (IsIn-push_cases t.0 (down_to r n s now) r.instructions t.1)
+      [ inl o ↦ inl (t.0, o, t.2) | inr e ↦ inr (sym t.2 ∙ ap update_in (sym e)) ]
 
   pub line_ticked : LineOf size log cuts taken (ticked r n s now) c
   line_ticked = go (sends r n s now)
@@ -242,8 +276,19 @@ module _ (size : SessionSize) (log : List Entry) (cuts : List ℕ) (taken : List
             (Tells (r.instructions ++ down_to r n s now ∷ [])) now (down_to r n s now).change change_leads tells;
         link = link_sent (holds_after r n s now) c.receiver (Tells r.instructions) (Acks c.instructions) offer_holds.link
             (Tells (r.instructions ++ down_to r n s now ∷ [])) now (down_to r n s now).change tells;
-        acts = record { count = a.count; front = a.front; low = a.low; typed = a.typed; few = a.few; below = a.below; are = a.are; told = a.told };
-        downs = (λ v i. elim (IsIn-push_cases v (down_to r n s now) r.instructions i) [ inl o ↦ l.downs v o | inr f ↦ subst IsDown f down_is ]);
+        acts = record {
+          count = a.count;
+          front = a.front;
+          low = a.low;
+          typed = a.typed;
+          few = a.few;
+          below = a.below;
+          are = a.are;
+          told =
+              a.told;
+        };
+        downs = (λ v i. elim (IsIn-push_cases v (down_to r n s now) r.instructions i)
+            [ inl o ↦ l.downs v o | inr f ↦ subst IsDown f down_is ]);
         ups = l.ups;
         gathers_down = gathers-more down_text r.instructions (down_to r n s now ∷ []) c.gathering l.gathers_down;
         gathers_up = l.gathers_up;
@@ -252,7 +297,17 @@ module _ (size : SessionSize) (log : List Entry) (cuts : List ℕ) (taken : List
       go false = record {
         truth = offer_holds.truth;
         link = offer_holds.link;
-        acts = record { count = a.count; front = a.front; low = a.low; typed = a.typed; few = a.few; below = a.below; are = a.are; told = a.told };
+        acts = record {
+          count = a.count;
+          front = a.front;
+          low = a.low;
+          typed = a.typed;
+          few = a.few;
+          below = a.below;
+          are = a.are;
+          told =
+              a.told;
+        };
         downs = l.downs;
         ups = l.ups;
         gathers_down = l.gathers_down;
@@ -260,7 +315,8 @@ module _ (size : SessionSize) (log : List Entry) (cuts : List ℕ) (taken : List
         notes = l.notes;
       }
 
-line-cut : (size : SessionSize) (log : List Entry) (cuts : List ℕ) (k : ℕ) (taken : List Act) (r : Record) (c : Client) → LineOf size log cuts taken r c
+line-cut : (size : SessionSize) (log : List Entry) (cuts : List ℕ) (k : ℕ) (taken : List Act) (r : Record) (c : Client)
+    → LineOf size log cuts taken r c
     → LineOf size log (cuts ++ k ∷ []) taken r c
 line-cut size log cuts k taken r c l =
     record {
@@ -275,39 +331,47 @@ line-cut size log cuts k taken r c l =
       notes = l.notes;
     }
 
-piece_ticked : (kind : Kind) (d : DatagramValue) (r : Record) (c : Client) (n : ℕ) (s : Screenshot) (now : ℕ) → IsPiece kind d r c → IsPiece kind d (ticked r n s now) c
+piece_ticked : (kind : Kind) (d : DatagramValue) (r : Record) (c : Client) (n : ℕ) (s : Screenshot) (now : ℕ) → IsPiece kind d r c
+    → IsPiece kind d (ticked r n s now) c
 piece_ticked ToServer d r c n s now p = p
 piece_ticked ToClient d r c n s now p = go (sends r n s now)
   where
-    go : (b : Bool) → IsPieceOf (cuts_of down_text (cond b (after_sent r n s now) (record r { sender = holds_after r n s now })).instructions) (piece_of d)
+    go : (b : Bool) → IsPieceOf (cuts_of down_text
+        (cond b (after_sent r n s now) (record r { sender = holds_after r n s now })).instructions) (piece_of d)
     go true = piece-more down_text r.instructions (down_to r n s now ∷ []) (piece_of d) p
     go false = p
 
 -- the datagrams of a tick to a record
-pub to_record : (session id : ℕ) (r : Record) (n : ℕ) (s : Screenshot) (now : ℕ) (d : DatagramValue) → IsIn d (datagrams_to session id r n s now)
+pub to_record : (session id : ℕ) (r : Record) (n : ℕ) (s : Screenshot) (now : ℕ) (d : DatagramValue)
+    → IsIn d (datagrams_to session id r n s now)
     → IsPacked down_text (ticked r n s now).instructions ToClient session id d
 to_record session id r n s now d i = go (sends r n s now) i
   where
     go : (b : Bool) → IsIn d (cond b (datagrams_of ToClient session id r.datagrams (length r.instructions + 1) (pieces_to r n s now)) [])
-        → IsPacked down_text (cond b (after_sent r n s now) (record r { sender = holds_after r n s now })).instructions ToClient session id d
+        → IsPacked down_text (cond b (after_sent r n s now) (record r { sender = holds_after r n s now })).instructions ToClient session
+        id d
     go true i = packed_is down_text r.instructions (down_to r n s now) ToClient session id r.datagrams d i
     go false i = absurd i
 
 -- a datagram of a tick, and where it goes
 pub record IsOfTick (s : Server) (now : ℕ) (p : Parcel) : Type 0 where
-  pub packed : IsPacked down_text (ticked (s.records p.datagram.client) (number_after s now) (screen_after s now) now).instructions ToClient s.session p.datagram.client p.datagram
+  pub packed : IsPacked down_text (ticked (s.records p.datagram.client) (number_after s now) (screen_after s now) now).instructions
+      ToClient s.session p.datagram.client p.datagram
   pub to : p.to ≡ (s.records p.datagram.client).address
 
 pub in_tick : (s : Server) (now : ℕ) (p : Parcel) → IsIn p (sent_by s now) → IsOfTick s now p
 in_tick s now p i =
     let f = IsIn-flat_map (parcels_to s now) p s.arrival i in
-    let m = IsIn-map (parcel (s.records f.0).address) p (datagrams_to s.session f.0 (s.records f.0) (number_after s now) (screen_after s now) now) f.2 in
+    let m = IsIn-map (parcel (s.records f.0).address) p
+    (datagrams_to s.session f.0 (s.records f.0) (number_after s now) (screen_after s now) now) f.2 in
     let same : m.0 ≡ p.datagram = ap (λ (y : Parcel). y.datagram) m.2 in
     let q = to_record s.session f.0 (s.records f.0) (number_after s now) (screen_after s now) now m.0 m.1 in
     let at : f.0 ≡ p.datagram.client = sym q.client_is ∙ ap (λ (y : DatagramValue). y.client) same in
     record {
-      packed = subst (λ (k : ℕ). IsPacked down_text (ticked (s.records k) (number_after s now) (screen_after s now) now).instructions ToClient s.session k p.datagram) at
-          (subst (λ (y : DatagramValue). IsPacked down_text (ticked (s.records f.0) (number_after s now) (screen_after s now) now).instructions ToClient s.session f.0 y) same q);
+      packed = subst (λ (k : ℕ). IsPacked down_text (ticked (s.records k) (number_after s now) (screen_after s now) now).instructions
+          ToClient s.session k p.datagram) at
+          (subst (λ (y : DatagramValue). IsPacked down_text
+          (ticked (s.records f.0) (number_after s now) (screen_after s now) now).instructions ToClient s.session f.0 y) same q);
       to = ap (λ (y : Parcel). y.to) (sym m.2) ∙ ap (λ (k : ℕ). (s.records k).address) at;
     }
 
@@ -318,13 +382,16 @@ record CutsHold (w : World) (cuts : List ℕ) : Type 0 where
   screens : AreScreens w.server.size w.server.log cuts
   lines : (id : ℕ) → LineOf w.server.size w.server.log cuts (acts_of id w.server.log) (w.server.records id) (w.clients id)
 
-cuts_hold : (w : World) (now : ℕ) → is_tick_spent w.server now ≡ false → IsFaceScreen w.server now → Holds w → CutsHold w (cuts_after w.server now)
+cuts_hold : (w : World) (now : ℕ) → is_tick_spent w.server now ≡ false → IsFaceScreen w.server now → Holds w
+    → CutsHold w (cuts_after w.server now)
 cuts_hold w now spent shown h = go (makes w.server now) refl (or_left _ _ spent)
   where
     s : Server
     s = w.server
 
-    go : (b : Bool) → makes w.server now ≡ b → (b && Rattle.roam_world.specs.Moments.is_spent (length (cond b (w.server.cuts ++ length w.server.log ∷ []) w.server.cuts))) ≡ false
+    go : (b : Bool) → makes w.server now ≡ b
+        → (b && Rattle.roam_world.specs.Moments.is_spent (length (cond b (w.server.cuts ++ length w.server.log ∷ []) w.server.cuts))) ≡
+        false
         → CutsHold w (cond b (w.server.cuts ++ length w.server.log ∷ []) w.server.cuts)
     go true e f = record {
       numbers = not_past (length (s.cuts ++ length s.log ∷ [])) f;
@@ -339,20 +406,25 @@ pub newest_screen : (w : World) (now : ℕ) → is_tick_spent w.server now ≡ f
     → IsScreenshot (newest (holds_after (w.server.records id) (number_after w.server now) (screen_after w.server now) now)).state
 newest_screen w now spent shown h id =
     let c = cuts_hold w now spent shown h in
-    let made : IsScreenOf w.server.size w.server.log (cuts_after w.server now) (number_after w.server now) (screen_after w.server now) = record { made = omega arith; same = refl } in
-    newest_shown w.server.size w.server.log (cuts_after w.server now) (acts_of id w.server.log) (w.server.records id) (w.clients id) (number_after w.server now) (screen_after w.server now) now
+    let made : IsScreenOf w.server.size w.server.log (cuts_after w.server now) (number_after w.server now) (screen_after w.server now) =
+    record { made = omega arith; same = refl } in
+    newest_shown w.server.size w.server.log (cuts_after w.server now) (acts_of id w.server.log) (w.server.records id) (w.clients id)
+    (number_after w.server now) (screen_after w.server now) now
     made c.screens c.numbers (c.lines id)
 
-pub keeps-tick : (w : World) (now : ℕ) → is_tick_spent w.server now ≡ false → IsFaceScreen w.server now → Holds w → Holds (after_server_tick w now)
+pub keeps-tick : (w : World) (now : ℕ) → is_tick_spent w.server now ≡ false → IsFaceScreen w.server now → Holds w
+    → Holds (after_server_tick w now)
 keeps-tick w now spent shown h =
     record {
       numbers = c.numbers;
       cuts = c.cuts_low;
       screens = c.screens;
-      lines = (λ id. line_ticked w.server.size w.server.log (cuts_after w.server now) (acts_of id w.server.log) (w.server.records id) (w.clients id) (number_after w.server now) (screen_after w.server now) now
+      lines = (λ id. line_ticked w.server.size w.server.log (cuts_after w.server now) (acts_of id w.server.log) (w.server.records id)
+          (w.clients id) (number_after w.server now) (screen_after w.server now) now
           made c.screens c.numbers (c.lines id));
       pieces = (λ d i. elim (IsIn-append_cases d w.sent (map (λ (p : Parcel). p.datagram) (sent_by w.server now)) i) [
-        | inl o ↦ piece_ticked d.kind d (w.server.records d.client) (w.clients d.client) (number_after w.server now) (screen_after w.server now) now (h.pieces d o)
+        | inl o ↦ piece_ticked d.kind d (w.server.records d.client) (w.clients d.client) (number_after w.server now)
+            (screen_after w.server now) now (h.pieces d o)
         | inr n ↦ new d n
       ]);
       unused = h.unused;
@@ -365,9 +437,14 @@ keeps-tick w now spent shown h =
     made : IsScreenOf w.server.size w.server.log (cuts_after w.server now) (number_after w.server now) (screen_after w.server now)
     made = record { made = omega arith; same = refl }
 
-    new : (d : DatagramValue) → IsIn d (map (λ (p : Parcel). p.datagram) (sent_by w.server now)) → IsPiece d.kind d (ticked (w.server.records d.client) (number_after w.server now) (screen_after w.server now) now) (w.clients d.client)
+    new : (d : DatagramValue) → IsIn d (map (λ (p : Parcel). p.datagram) (sent_by w.server now))
+        → IsPiece d.kind d (ticked (w.server.records d.client) (number_after w.server now) (screen_after w.server now) now)
+        (w.clients d.client)
     new d i =
         let m = IsIn-map (λ (p : Parcel). p.datagram) d (sent_by w.server now) i in
         let p = (in_tick w.server now m.0 m.1).packed in
-        subst (λ (x : DatagramValue). IsPiece x.kind x (ticked (w.server.records x.client) (number_after w.server now) (screen_after w.server now) now) (w.clients x.client)) m.2
-        (subst (λ (kind : Kind). IsPiece kind m.0.datagram (ticked (w.server.records m.0.datagram.client) (number_after w.server now) (screen_after w.server now) now) (w.clients m.0.datagram.client)) (sym p.kind_is) p.piece)
+        subst (λ (x : DatagramValue). IsPiece x.kind x
+        (ticked (w.server.records x.client) (number_after w.server now) (screen_after w.server now) now) (w.clients x.client)) m.2
+        (subst (λ (kind : Kind). IsPiece kind m.0.datagram
+        (ticked (w.server.records m.0.datagram.client) (number_after w.server now) (screen_after w.server now) now)
+        (w.clients m.0.datagram.client)) (sym p.kind_is) p.piece)

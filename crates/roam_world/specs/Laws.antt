@@ -126,7 +126,8 @@ OneRoundSuffices w = (slot id now : ℕ) (ks : List (ℕ × ℕ)) (reply : Reply
 -- newest is that number then.
 abbrev pub OffersNewest : World → Type 0
 OffersNewest w = (id now : ℕ) → is_live (w.server.records id) (moment w.server now) ≡ true
-    → (count (w.server.records id).sender < 8) ⊎ ((newest (w.server.records id).sender).number ≡ number_after w.server (moment w.server now))
+    → (count (w.server.records id).sender < 8) ⊎ ((newest (w.server.records id).sender).number ≡ number_after w.server
+    (moment w.server now))
     → (newest ((after_tick w.server (moment w.server now)).records id).sender).number ≡ number_after w.server (moment w.server now)
 
 -- ---- answers

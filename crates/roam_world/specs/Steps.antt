@@ -78,9 +78,9 @@ pub data ClientTickStep (w : World) (slot now : ℕ) (reply : Reply) (w' : World
       → w' ≡ after_client_sent w id (moment_of (w.clients id) now) → ClientTickStep w slot now reply w'
   no_memory : reply ≡ Failed OutOfMemory → w' ≡ w → ClientTickStep w slot now reply w'
 
--- A datagram comes to the server: it was never sent; it is refused; it makes no instruction whole; its instruction can't be read; all its new
--- acts are taken; one finds its queue full; memory is wanting at one. A stop at an act keeps what was gathered before, so that the same
--- datagram can bring the rest.
+-- A datagram comes to the server: it was never sent; it is refused; it makes no instruction whole; its instruction can't be read; all its
+-- new acts are taken; one finds its queue full; memory is wanting at one. A stop at an act keeps what was gathered before, so that the
+-- same datagram can bring the rest.
 pub data ToServerStep (w : World) (k : ℕ) (from : Address) (now : ℕ) (reply : Reply) (w' : World) : Type 0 where
   not_sent : datagram_at w.sent k ≡ None
       → reply ≡ Refused → w' ≡ w → ToServerStep w k from now reply w'
@@ -100,7 +100,8 @@ pub data ToServerStep (w : World) (k : ℕ) (from : Address) (now : ℕ) (reply 
   no_room : (d : DatagramValue) (g : Gathering) (text : List ℕ) (u : UpValue) → datagram_at w.sent k ≡ Some d
       → coming w.server d ≡ completed g text → SaysUp text u → room_for w.server d u < length (new_acts w.server d u)
       → reply ≡ Stopped Busy (room_for w.server d u)
-      → w' ≡ with_server w (after_acts w.server d from (moment w.server now) (w.server.records d.client).gathering u (room_for w.server d u))
+      → w' ≡ with_server w (after_acts w.server d from (moment w.server now) (w.server.records d.client).gathering u
+      (room_for w.server d u))
       → ToServerStep w k from now reply w'
   no_memory_at_act : (d : DatagramValue) (g : Gathering) (text : List ℕ) (u : UpValue) (n : ℕ) → datagram_at w.sent k ≡ Some d
       → coming w.server d ≡ completed g text → SaysUp text u → n ≤ room_for w.server d u → n < length (new_acts w.server d u)

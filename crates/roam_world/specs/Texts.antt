@@ -57,4 +57,5 @@ datagram_with kind session client before id count piece =
 
 -- the datagrams of an instruction: each of its pieces in its order
 abbrev pub datagrams_of : Kind → ℕ → ℕ → ℕ → ℕ → List (List ℕ) → List DatagramValue
-datagrams_of kind session client before id pieces = map (datagram_with kind session client before id (length pieces)) (enumerate_from 0 pieces)
+datagrams_of kind session client before id pieces =
+    map (datagram_with kind session client before id (length pieces)) (enumerate_from 0 pieces)

@@ -7,7 +7,8 @@ pub returns-clause-ids : goal.returns-clause-ids
 returns-clause-ids c = λ session size es rs w reaches. one_text w (holds-reached session size es rs w reaches)
 
 pub returns-clause-limits : goal.returns-clause-limits
-returns-clause-limits c = λ session size es rs w reaches. limits w (holds-reached session size es rs w reaches) (counts-reached session size es rs w reaches)
+returns-clause-limits c = λ session size es rs w reaches. limits w (holds-reached session size es rs w reaches)
+    (counts-reached session size es rs w reaches)
 
 pub returns-clause-address : goal.returns-clause-address
 returns-clause-address c = λ session size es rs w reaches. replies_to_latest w (holds-reached session size es rs w reaches)
