@@ -42,13 +42,7 @@ fn paints(alloc: Global, old: &Shot, new: &Shot, times: u32) -> Result<usize, Fa
     Ok(text.len())
 }
 
-fn measure(
-    rt: &HostRuntime,
-    name: &str,
-    old: &Shot,
-    new: &Shot,
-    times: u32,
-) -> anyhow::Result<()> {
+fn measure(rt: &HostRuntime, name: &str, old: &Shot, new: &Shot, times: u32) -> anyhow::Result<()> {
     let start = Instant::now(rt)?;
     let bytes = paints(rt.alloc(), old, new, times)?;
     let passed = start.elapsed(rt)?.as_micros();

@@ -2,12 +2,12 @@
 ghost use Rattle.roam_paint.specs.Runs.{CursorIsPlacedByRuns};
 ghost use Rattle.roam_paint.specs.Ground.{PaintedLeadsOver, OpenedBeginsBlank, ReaderRests};
 
-/// The text between two screens leads a plain terminal that shows the one to the other.
+/// The text between two screens leads a ground terminal that shows the one to the other.
 pub fn painted_leads_over()
     ensures leads { PaintedLeadsOver }
 {}
 
-/// The text that opens makes of any terminal a plain one that shows a blank screen, also within a sequence, a string or a character.
+/// The text that opens makes of any terminal a ground terminal that shows a blank screen, also within a sequence, a string or a character.
 pub fn opened_begins_blank()
     ensures begins { OpenedBeginsBlank }
 {}

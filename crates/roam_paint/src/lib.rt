@@ -1,4 +1,4 @@
-//! Paints screens on a terminal: the text that leads a plain terminal from one screen to another.
+//! Paints screens on a terminal: the text that leads a ground terminal from one screen to another.
 #![tactic(auto)]
 
 mod colours;

@@ -1,4 +1,4 @@
-//! What leads a plain terminal from one screen to another.
+//! What leads a ground terminal from one screen to another.
 ghost use Rattle.std.specs.Prelude.{◌≡◌, ◌⊎◌, ℕ, ◌+◌, ◌<◌, ◌≤◌, ◌&&◌, ◌||◌, not, ◌++◌, List, OnOk, OnErr, IfOk, IsOkUnless, [], if◌then◌else◌};
 ghost use Rattle.roam_cells.specs.Glyph.{is_right_half, is_wide};
 ghost use Rattle.roam_text.specs.Log.{Item};
@@ -194,7 +194,7 @@ fn painting(alloc: Global, old: &Shot, new: &Shot) -> Result<Vec<u8>, AllocError
     Ok(text)
 }
 
-/// Adds the text that leads a plain terminal from one screen to another; refuses want of memory, which leaves `out` as it was.
+/// Adds the text that leads a ground terminal from one screen to another; refuses want of memory, which leaves `out` as it was.
 ///
 /// The cursor is hidden; where sizes differ all is erased (ED 2, ECMA-48 8.3.39) and old counts as blank. For each row each maximal run of
 /// places that differ, widened to whole wide cells of the new screen, is written from where it begins (CUP, 8.3.21), with SGR (8.3.117)
@@ -216,7 +216,7 @@ pub fn paint(old: &Shot, new: &Shot, out: &mut Vec<u8>) -> Result<(), Fault>
     Ok(())
 }
 
-/// Adds the text that makes of any terminal state a plain terminal with a blank screen (RIS, ECMA-48 8.3.105); refuses want of memory,
+/// Adds the text that makes of any terminal state a ground terminal with a blank screen (RIS, ECMA-48 8.3.105); refuses want of memory,
 /// which leaves `out` as it was.
 pub fn open(out: &mut Vec<u8>) -> Result<(), Fault>
     ensures begins { OnOk result ((rows cols lines : ℕ) (log : List Item) → 1 ≤ (term rows cols lines log).live.screen.rows
