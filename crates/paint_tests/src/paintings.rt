@@ -1,6 +1,6 @@
 //! Paintings, each shown by a terminal that stood in the middle of a sequence before it was opened.
-use roam_paint::{open, paint};
 use roam_cells::{Cell, Shot};
+use roam_paint::{open, paint};
 use roam_term::Term;
 use std::alloc::Global;
 use std::test::*;

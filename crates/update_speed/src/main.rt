@@ -52,7 +52,13 @@ fn written(alloc: Global, base: &Shot, shot: &Shot, times: u32) -> Result<usize,
     Ok(out.len())
 }
 
-fn report(rt: &HostRuntime, name: &str, base: &Shot, shot: &Shot, times: u32) -> anyhow::Result<()> {
+fn report(
+    rt: &HostRuntime,
+    name: &str,
+    base: &Shot,
+    shot: &Shot,
+    times: u32,
+) -> anyhow::Result<()> {
     let cells = base.cells().len();
     let start = Instant::now(rt)?;
     let bytes = written(rt.alloc(), base, shot, times)?;

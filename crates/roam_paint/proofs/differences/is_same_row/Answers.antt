@@ -13,5 +13,5 @@ returns c =
     record {
       same = λ yes.
           same_slice c.args.old.now c.args.new.now same c.args.row c.from-cols.result c.requires.row (search rules)
-          (sym (ap part c.cells.ensures.cells) ∙ c.are_same.ensures.same yes ∙ ap part c.cells-2.ensures.cells);
+          (sym (ap part c.cells.ensures.cells) ∙ c.are_same_cells.ensures.same.0 yes ∙ ap part c.cells-2.ensures.cells);
     }

@@ -1,6 +1,6 @@
 use Rattle.std.proofs.Common.{refl, arith}
 use Rattle.roam_cells.proofs.Screens.{same_cells}
-use Rattle.roam_cells.proofs.shots.are_same.Goals as goal
+use Rattle.roam_cells.proofs.shots.are_same_cells.Goals as goal
 
 pub returns : goal.returns
 returns c =
