@@ -36,6 +36,8 @@ bench: all
 	bench/show.sh
 	bench/wire.sh
 	bench/face.sh
+	bench/update.sh
+	bench/paint.sh
 
 clean:
 	rm -rf crates/*/out

@@ -4,6 +4,8 @@
 #![tactic(auto)]
 
 #[cfg(test)]
+mod edges;
+#[cfg(test)]
 mod keys;
 #[cfg(test)]
 mod scrollback;
@@ -11,3 +13,5 @@ mod scrollback;
 mod sizes;
 #[cfg(test)]
 mod terms;
+#[cfg(test)]
+mod wraps;
