@@ -36,6 +36,7 @@ bench: all
 	bench/show.sh
 	bench/wire.sh
 	bench/face.sh
+	bench/history.sh
 	bench/update.sh
 	bench/paint.sh
 

@@ -784,8 +784,10 @@ fn reads(row: &[char], wanted: &str) -> bool {
 fn shows(alloc: Global, term: &Term, case: &Case) -> Result<bool, Fault> {
     let shot = term.shot(alloc, 0)?;
     let mut same = shot.cursor() == case.cursor && shot.visible() == case.visible;
-    for (row, wanted) in (0..3u16).zip(case.rows.iter()) {
-        same = same && reads(&shot.row_text(alloc, row)?, wanted);
+    for row in 0..shot.rows() {
+        let text = shot.row_text(alloc, row)?;
+        let wanted = case.rows.get(usize::from(row));
+        same = same && matches!(wanted, Some(wanted) if reads(&text, wanted));
     }
     Ok(same)
 }
