@@ -1,5 +1,5 @@
 -- What a client start makes of a datagram.
-use Rattle.std.proofs.Common.{◌≡◌, ◌⊎◌, ℕ, ◌-◌, max, List, Option, Some, None, Bool, true, false, inl, inr, refl, sym, ap, ◌∙◌, subst, cond}
+use Rattle.std.proofs.Common.{◌≡◌, ◌⊎◌, ℕ, ◌-◌, ◌<◌, ◌^◌, max, List, Option, Some, None, Bool, true, false, inl, inr, refl, sym, ap, ◌∙◌, subst, cond}
 use Rattle.std.specs.Prelude.{Ok, Err, nat_le, nat_lt, is_none, length, drop}
 use Rattle.std.specs.List.{All}
 use Rattle.std.proofs.lemmas.List.Elements.{All-drop}
@@ -69,6 +69,20 @@ acts_acked old new n e all =
     go true b = all
     go false true = all
     go false false = All-drop IsAct (n - old.acked) old.acts all
+
+-- the newest number stays below 2^62
+pub told_number : (text : List ℕ) (old : Typing) (r : Receiving Screenshot) (answer : Step) (owes : Bool) (new : Typing)
+    (r' : Receiving Screenshot) → Told text old r answer owes new r' → r.newest.number < 2 ^ 62 → r'.newest.number < 2 ^ 62
+told_number text old r answer owes new r' t low = go (step_for r t.value.old t.value.new t.value.floor) refl
+  where
+    other : (s : Step) → step_for r t.value.old t.value.new t.value.floor ≡ s → (s ≡ step.New → ⊥) → r'.newest.number < 2 ^ 62
+    other s e not =
+        subst (λ (x : Receiving Screenshot). x.newest.number < 2 ^ 62) (sym (t.delivers.other (λ f. not (sym e ∙ f)))) low
+
+    go : (s : Step) → step_for r t.value.old t.value.new t.value.floor ≡ s → r'.newest.number < 2 ^ 62
+    go step.New e = subst (λ (n : ℕ). n < 2 ^ 62) (sym (t.delivers.fresh e).number) t.says.is.new
+    go step.Old e = other step.Old e (λ f. absurd (cc))
+    go step.Gap e = other step.Gap e (λ f. absurd (cc))
 
 -- ---- bytes
 

@@ -1,5 +1,5 @@
 -- What a client start of the code stands for, and what its calls answer and leave.
-use Rattle.std.specs.Prelude.{◌≡◌, ℕ, List, [], map, length, Option, Some, None, Result, Ok, Err, Bool, true, false, nat_lt, Vec}
+use Rattle.std.specs.Prelude.{◌≡◌, ℕ, ◌+◌, ◌||◌, List, [], map, length, Option, Some, None, Result, Ok, Err, Bool, true, false, nat_lt, Vec}
 use Rattle.std.specs.declared.alloc.Global.{Global}
 use Rattle.roam_cells.specs.declared.faults.Fault.{Fault}
 use Rattle.roam_cells.specs.declared.faults.Fault.TheVariants.{OutOfMemory, Busy, BadDatagram, BadChange, Spent}
@@ -17,10 +17,12 @@ use Rattle.roam_wire.specs.Datagrams.{DatagramValue, IsDatagram, datagram_text}
 use Rattle.roam_wire.specs.Gatherers.{Gathering}
 use Rattle.roam_wire.specs.Headers.{datagram_at}
 use Rattle.roam_wire.specs.Instructions.{DownValue}
-use Rattle.roam_world.specs.Texts.{SaysDown, SaysNoDown, update_in}
+use Rattle.roam_world.specs.Texts.{SaysDown, SaysNoDown, update_in, datagrams_of}
+use Rattle.roam_world.specs.Moments.{is_spent}
+use Rattle.roam_wire.specs.declared.datagrams.Kind.TheVariants.{ToServer}
 use Rattle.roam_world.specs.Clients.{Client as ClientOf, moment_of, after_typed}
 use Rattle.roam_world.specs.Arrivals.{Hearing, IsPart, IsOld, IsGap, IsNew, sent_back, kept, fulfilled, arriving, after_piece, step_of, hearing_of, after_whole}
-use Rattle.roam_world.specs.Sendings.{is_client_due, is_client_spent, datagrams_from, after_sending, after_quiet}
+use Rattle.roam_world.specs.Sendings.{is_client_due, is_client_spent, pieces_from, datagrams_from, after_sending, after_quiet}
 use Rattle.roam_hub.specs.declared.clients.Heard.{Heard}
 use Rattle.roam_hub.specs.declared.clients.Heard.TheVariants as heard
 
@@ -58,6 +60,32 @@ view_of session id c =
 -- a start of the code stands for a start of the definitions: it has what is kept of it
 abbrev pub Stands : ClientView → ℕ → ℕ → ClientOf → Type 0
 Stands v session id c = v ≡ view_of session id c
+
+-- a start with what is kept and no history
+abbrev pub bare : ClientView → ClientOf
+bare v =
+    record {
+      made = true;
+      typed = [];
+      acts = v.acts;
+      gathering = v.gathering;
+      receiver = v.receiver;
+      sent_at = v.sent_at;
+      sent_act = v.sent_act;
+      owed = v.owed;
+      clock = v.clock;
+      datagrams = v.datagrams;
+      instructions = [];
+    }
+
+-- the datagrams of the instruction that it would send
+abbrev pub datagrams_by : ClientView → List DatagramValue
+datagrams_by v = datagrams_of ToServer v.session v.id v.datagrams (v.instructions + 1) (pieces_from (bare v))
+
+-- a number that sending needs would be past the last
+abbrev pub is_view_spent : ClientView → Bool
+is_view_spent v =
+    is_spent (v.acts.acked + 1) || is_spent (v.instructions + 1) || is_spent (v.datagrams + length (pieces_from (bare v)))
 
 -- what is answered to a datagram, as the definitions name it
 abbrev pub hearing_in : Heard → Hearing

@@ -1,17 +1,20 @@
 //! A client start: what is typed there, what it hears, what it sends.
-ghost use Rattle.std.specs.Prelude.{◌≡◌, ℕ, IfOk, IfErr, OnOk, OnErr, IsOkUnless, if◌then◌else◌};
+ghost use Rattle.std.specs.Prelude.{◌≡◌, ◌⊎◌, true, false, map, ℕ, IfOk, IfErr, OnOk, OnErr, IsOkUnless, if◌then◌else◌};
 ghost use Rattle.roam_acts.specs.Acts.{HasKey, IsInRange};
-ghost use Rattle.roam_wire.specs.Datagrams.{datagram_value};
+ghost use Rattle.roam_wire.specs.Datagrams.{datagram_text, datagram_value};
+ghost use Rattle.roam_wire.specs.Cutting.{texts_of};
 ghost use Rattle.roam_wire.specs.Gatherers.{gather, piece_of};
-ghost use Rattle.roam_world.specs.Moments.{owed_from};
+ghost use Rattle.roam_world.specs.Moments.{has_passed, is_overdue, owed_from};
+ghost use Rattle.roam_world.specs.Sendings.{is_client_due, last_waiting};
 ghost use Rattle.roam_world.specs.Clients.{Client as ClientOf, new_client, shown_number, shown_screen};
 ghost use Rattle.roam_world.specs.Arrivals.{sent_back, arriving, arriving_gathered, hearing_of};
-ghost use Rattle.roam_hub.specs.Clients.{Stands, Types, Told, NotTold, Hears, Sends, hearing_in};
+ghost use Rattle.roam_hub.specs.Clients.{Stands, Types, Told, NotTold, Hears, Sends, bare, datagrams_by, hearing_in, is_view_spent};
 
+use crate::packing::{Heading, NUMBERS, packed};
 use roam_acts::{Act, ActSender, Key};
 use roam_cells::{Fault, Reason, Shot};
 use roam_sync::{Receiver, Step};
-use roam_wire::{Datagram, Gathered, Gatherer, Kind, read_datagram, read_down};
+use roam_wire::{Datagram, Gathered, Gatherer, Kind, Up, read_datagram, read_down, write_up};
 use std::alloc::Global;
 use std::marker::Model;
 
@@ -69,7 +72,8 @@ impl Model for Client {
       instructions = c.instructions;
     } };
 
-    ghost invariant = { λ c. All IsAct c.acts.acts × (c.datagrams < 2 ^ 62) × (c.instructions < 2 ^ 62) };
+    ghost invariant = { λ c. All IsAct c.acts.acts × (c.datagrams < 2 ^ 62) × (c.instructions < 2 ^ 62)
+        × (c.receiver.newest.number < 2 ^ 62) × (c.session < 2 ^ 64) × (c.id < 2 ^ 64) };
 }
 
 // What the type of an act tells: its character is a Unicode scalar value.
@@ -147,6 +151,23 @@ fn tell(
     Ok((step, down.old < down.new))
 }
 
+// Whether so many milliseconds have passed since a moment.
+fn has_passed(long: u64, since: u64, now: u64) -> bool
+    ensures passed { result ≡ has_passed long since now }
+{
+    since <= now && now - since >= long
+}
+
+// Whether an answer has been owed for 100 ms.
+fn is_overdue(owed: Option<u64>, now: u64) -> bool
+    ensures overdue { result ≡ is_overdue owed now }
+{
+    match owed {
+        None => false,
+        Some(since) => has_passed(100, since, now),
+    }
+}
+
 impl Client {
     /// A start of this id in this session: nothing was typed, and it shows the blank screen of 24 by 80 under the number 0. Refuses want of
     /// memory.
@@ -214,6 +235,76 @@ impl Client {
                 }
             }
         }
+    }
+
+    // The number of the last act that would be sent.
+    fn last_waiting(&self) -> u64
+        ensures last { result ≡ last_waiting (bare self.now) }
+    {
+        let (first, acts) = self.acts.waiting();
+        first - 1 + acts.len() as u64
+    }
+
+    // Whether something is to be sent.
+    fn is_due(&self, now: u64) -> bool
+        ensures due { result ≡ is_client_due (bare self.now) now }
+    {
+        let Some(since) = self.sent_at else {
+            return true;
+        };
+        let unacknowledged = !self.acts.waiting().1.is_empty();
+        self.sent_act < self.last_waiting()
+            || (unacknowledged && has_passed(250, since, now))
+            || is_overdue(self.owed, now)
+            || has_passed(3000, since, now)
+    }
+
+    // The texts of the datagrams of the instruction that would be sent.
+    fn instruction(&self, alloc: Global) -> Result<Vec<Vec<u8>>, Fault>
+        ensures written { IfOk result (λ all. texts_of all.items ≡ map datagram_text (datagrams_by self.now)) }
+        ensures fit { OnOk result (is_view_spent self.now ≡ false) }
+        ensures fault { IfErr result (λ fault. (fault ≡ Fault.OutOfMemory)
+            ⊎ ((fault ≡ Fault.Spent) × (is_view_spent self.now ≡ true))) }
+    {
+        let (first, acts) = self.acts.waiting();
+        if first >= NUMBERS {
+            return Err(Fault::Spent);
+        }
+        let up = Up {
+            acked: self.receiver.newest().0,
+            first,
+            acts: Vec::from_slice(alloc, acts)?,
+        };
+        let text = write_up(alloc, &up)?;
+        let heading = Heading {
+            kind: Kind::ToServer,
+            session: self.session,
+            client: self.id,
+            before: self.datagrams,
+            id: self.instructions + 1,
+        };
+        packed(alloc, heading, text.as_slice())
+    }
+
+    /// Answers the texts of the datagrams to send at a moment, in their order; none where nothing is due. `Spent` exactly where something is
+    /// due and a number that it needs would be 2^62; `OutOfMemory`. A refusal leaves the start as it was.
+    pub fn tick(&mut self, alloc: Global, now: u64) -> Result<Vec<Vec<u8>>, Fault>
+        ensures sent { (session id : ℕ) (c : ClientOf) → Stands self.old session id c → Sends session id c now result self.new }
+        ensures err { OnErr result (self.new ≡ self.old) }
+    {
+        let moment = now.max(self.clock);
+        if !self.is_due(moment) {
+            self.clock = moment;
+            return Ok(Vec::new(alloc));
+        }
+        let datagrams = self.instruction(alloc)?;
+        self.sent_act = self.sent_act.max(self.last_waiting());
+        self.sent_at = Some(moment);
+        self.owed = None;
+        self.clock = moment;
+        self.datagrams += datagrams.len() as u64;
+        self.instructions += 1;
+        Ok(datagrams)
     }
 
     /// The number and the screen that the start shows. It takes no memory.

@@ -2,5 +2,6 @@
 #![tactic(auto)]
 
 pub mod clients;
+mod packing;
 
 pub use clients::{Client, Heard};

@@ -5,7 +5,7 @@ use Rattle.roam_wire.specs.Datagrams.{datagram_value}
 use Rattle.roam_wire.specs.Gatherers.{GathererValue, Gathering, Part, Old}
 use Rattle.roam_hub.specs.Clients.{ClientView, Told, NotTold, Hears}
 use Rattle.roam_hub.specs.declared.clients.Heard.TheVariants as heard
-use Rattle.roam_hub.proofs.Hearing.{not_datagram, not_admitted, not_gathered, piece_heard, not_told, is_told, acts_acked}
+use Rattle.roam_hub.proofs.Hearing.{not_datagram, not_admitted, not_gathered, piece_heard, not_told, is_told, acts_acked, told_number}
 use Rattle.roam_hub.proofs.clients.Client.datagram.Goals as goal
 
 pub returns-in_err-datagram-clause-heard : goal.returns-in_err-datagram-clause-heard
@@ -65,6 +65,9 @@ invariant_of-self-in-Ok c =
       acts_acked c.self.inside.acts c.tell.new.acts told.value.acked told.acts c.self.invariant.0,
       c.self.invariant.1,
       c.self.invariant.2,
+      told_number _ _ _ _ _ _ _ told c.self.invariant.3,
+      c.self.invariant.4,
+      c.self.invariant.5,
     )
 
 pub returns-clause-heard : goal.returns-clause-heard

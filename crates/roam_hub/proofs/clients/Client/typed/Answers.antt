@@ -7,4 +7,7 @@ invariant_of-self c = (
       c.self.invariant.0 (c.requires.in_range, c.facts.ensures.key),
   c.self.invariant.1,
   c.self.invariant.2,
+  c.self.invariant.3,
+  c.self.invariant.4,
+  c.self.invariant.5,
 )
