@@ -56,7 +56,7 @@ pub pack_more : (g : ℕ × List ℕ → DatagramValue) (ps done rest : List (Li
     → IsPacking g ps done rest → rest ≡ x ∷ more → y ≡ datagram_text (g (length done, x)) → IsPacking g ps (done ++ y ∷ []) more
 pack_more g ps done rest x y more p e is =
     record {
-      left = sym (ap (λ (n : ℕ). drop n ps) (grows ∙ (let z : length done + 1 ≡ suc (length done) = omega arith in z)) ∙ tail_at ps (length done) x more (sym p.left ∙ e));
+      left = sym (ap (λ (n : ℕ). drop n ps) up ∙ tail_at ps (length done) x more (sym p.left ∙ e));
       low = (let w = n.within in omega (arith, grows, w));
       written =
           ap (λ (n : ℕ). (done ++ y ∷ []) ++ map datagram_text (map g (enumerate_from n more))) grows
@@ -67,6 +67,9 @@ pack_more g ps done rest x y more p e is =
   where
     grows : length (done ++ y ∷ []) ≡ length done + 1
     grows = length-append done (y ∷ [])
+
+    up : length (done ++ y ∷ []) ≡ suc (length done)
+    up = grows ∙ (let z : length done + 1 ≡ suc (length done) = omega arith in z)
 
     n : IsNext ps (length done) x
     n = pack_next g ps done rest x more p e

@@ -152,7 +152,8 @@ pub data Hears (session id : ℕ) (c : ClientOf) (bytes : List ℕ) (now : ℕ) 
   no_memory : result ≡ Err OutOfMemory → Stands new session id c → Hears session id c bytes now result new
 
 -- A tick: nothing is due; numbers are spent; the datagrams are answered in their order; or memory is wanting.
-pub data Sends (session id : ℕ) (c : ClientOf) (now : ℕ) (result : Result (Vec (Vec ℕ Global) Global) Fault) (new : ClientView) : Type 0 where
+pub data Sends (session id : ℕ) (c : ClientOf) (now : ℕ) (result : Result (Vec (Vec ℕ Global) Global) Fault) (new : ClientView)
+    : Type 0 where
   quiet : (none : Vec (Vec ℕ Global) Global) → is_client_due c (moment_of c now) ≡ false → result ≡ Ok none → texts_of none.items ≡ []
       → Stands new session id (after_quiet c (moment_of c now)) → Sends session id c now result new
   spent : is_client_due c (moment_of c now) ≡ true → is_client_spent c ≡ true

@@ -202,8 +202,9 @@ impl Client {
         self.acts.typed(act)
     }
 
-    /// Takes the bytes of a datagram that came at a moment. Refuses `BadDatagram` for bytes that are no datagram to a client, and for a piece
-    /// or an instruction that is none; `OtherSession`; `OtherClient`; `BadChange`; `OutOfMemory`. A refusal leaves the start as it was.
+    /// Takes the bytes of a datagram that came at a moment. Refuses `BadDatagram` for bytes that are no datagram to a client, and for a
+    /// piece or an instruction that is none; `OtherSession`; `OtherClient`; `BadChange`; `OutOfMemory`. A refusal leaves the start as it
+    /// was.
     pub fn datagram(&mut self, alloc: Global, bytes: &[u8], now: u64) -> Result<Heard, Fault>
         ensures heard { (session id : ℕ) (c : ClientOf) → Stands self.old session id c
             → Hears session id c bytes.now now result self.new }
@@ -286,8 +287,8 @@ impl Client {
         packed(alloc, heading, text.as_slice())
     }
 
-    /// Answers the texts of the datagrams to send at a moment, in their order; none where nothing is due. `Spent` exactly where something is
-    /// due and a number that it needs would be 2^62; `OutOfMemory`. A refusal leaves the start as it was.
+    /// Answers the texts of the datagrams to send at a moment, in their order; none where nothing is due. `Spent` exactly where something
+    /// is due and a number that it needs would be 2^62; `OutOfMemory`. A refusal leaves the start as it was.
     pub fn tick(&mut self, alloc: Global, now: u64) -> Result<Vec<Vec<u8>>, Fault>
         ensures sent { (session id : ℕ) (c : ClientOf) → Stands self.old session id c → Sends session id c now result self.new }
         ensures err { OnErr result (self.new ≡ self.old) }

@@ -26,7 +26,8 @@ packed-requires-clause-short c =
 pub returns-clause-written : goal.returns-clause-written
 returns-clause-written c =
     let u : UpValue = record { acked = c.newest.result.0; first = c.waiting-first.result.0; acts = c.in_ok-from_slice.field-0.items } in
-    let text = text_sent c.self.inside.receiver.newest.number c.self.inside.acts u c.as_slice.result.now c.newest.ensures.number c.waiting-first.ensures.first
+    let text = text_sent c.self.inside.receiver.newest.number c.self.inside.acts u c.as_slice.result.now c.newest.ensures.number
+    c.waiting-first.ensures.first
     (c.in_ok-from_slice.ensures.items ∙ c.waiting-first.ensures.acts) (c.as_slice.ensures.value ∙ c.in_ok-text.ensures.written) in
     subst (λ (v : ClientView). IfOk c.packed.result (λ all. texts_of all.items ≡ map datagram_text (datagrams_by v))) c.self.view_is
     (subst (λ (t : List ℕ). IfOk c.packed.result (λ all. texts_of all.items ≡ map datagram_text
@@ -36,7 +37,8 @@ returns-clause-written c =
 pub returns-clause-fit : goal.returns-clause-fit
 returns-clause-fit c =
     let u : UpValue = record { acked = c.newest.result.0; first = c.waiting-first.result.0; acts = c.in_ok-from_slice.field-0.items } in
-    let text = text_sent c.self.inside.receiver.newest.number c.self.inside.acts u c.as_slice.result.now c.newest.ensures.number c.waiting-first.ensures.first
+    let text = text_sent c.self.inside.receiver.newest.number c.self.inside.acts u c.as_slice.result.now c.newest.ensures.number
+    c.waiting-first.ensures.first
     (c.in_ok-from_slice.ensures.items ∙ c.waiting-first.ensures.acts) (c.as_slice.ensures.value ∙ c.in_ok-text.ensures.written) in
     let low : is_spent (c.self.inside.acts.acked + 1) ≡ false =
     ap is_spent (sym c.waiting-first.ensures.first) ∙ (let f = c.if-first-ge-NUMBERS.false in grind (arith, nat_tests, f)) in
@@ -48,7 +50,8 @@ returns-clause-fit c =
 pub returns-clause-fault : goal.returns-clause-fault
 returns-clause-fault c =
     let u : UpValue = record { acked = c.newest.result.0; first = c.waiting-first.result.0; acts = c.in_ok-from_slice.field-0.items } in
-    let text = text_sent c.self.inside.receiver.newest.number c.self.inside.acts u c.as_slice.result.now c.newest.ensures.number c.waiting-first.ensures.first
+    let text = text_sent c.self.inside.receiver.newest.number c.self.inside.acts u c.as_slice.result.now c.newest.ensures.number
+    c.waiting-first.ensures.first
     (c.in_ok-from_slice.ensures.items ∙ c.waiting-first.ensures.acts) (c.as_slice.ensures.value ∙ c.in_ok-text.ensures.written) in
     let low : is_spent (c.self.inside.acts.acked + 1) ≡ false =
     ap is_spent (sym c.waiting-first.ensures.first) ∙ (let f = c.if-first-ge-NUMBERS.false in grind (arith, nat_tests, f)) in
