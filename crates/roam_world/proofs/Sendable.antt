@@ -59,14 +59,14 @@ act_length (Grow d) = omega arith
 act_length (Size r c) = omega arith
 act_length (View d) = omega arith
 
-acts_length : (acts : List Act) → length (acts_text acts) ≤ 5 * length acts
+pub acts_length : (acts : List Act) → length (acts_text acts) ≤ 5 * length acts
 acts_length [] = omega arith
 acts_length (a ∷ acts) =
     let one = act_length a in
     let rest = acts_length acts in
     omega (arith, one, rest, length-append (act_text a) (acts_text acts))
 
-up_length : (u : UpValue) → length (up_text u) ≡ 18 + length (acts_text u.acts)
+pub up_length : (u : UpValue) → length (up_text u) ≡ 18 + length (acts_text u.acts)
 up_length u = omega arith
 
 -- ---- the datagrams of an instruction

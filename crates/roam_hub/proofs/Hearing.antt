@@ -1,0 +1,195 @@
+-- What a client start makes of a datagram.
+use Rattle.std.proofs.Common.{◌≡◌, ◌⊎◌, ℕ, ◌-◌, ◌<◌, ◌^◌, max, List, Option, Some, None, Bool, true, false, inl, inr, refl, sym, ap, ◌∙◌, subst, cond}
+use Rattle.std.specs.Prelude.{Ok, Err, nat_le, nat_lt, is_none, length, drop}
+use Rattle.std.specs.List.{All}
+use Rattle.std.proofs.lemmas.List.Elements.{All-drop}
+use Rattle.roam_cells.specs.declared.faults.Fault.{Fault}
+use Rattle.roam_cells.specs.declared.faults.Fault.TheVariants.{OutOfMemory, BadSize, TooSmall, NoPane, PanesFull, LastPane, Busy, TooLong, BadDatagram, OtherSession, OtherClient, ClientsFull, BadChange, SendFull, Spent, BadAct}
+use Rattle.roam_cells.specs.declared.faults.Reason.TheVariants.{Fragment}
+use Rattle.roam_cells.specs.Screenshot.{Screenshot}
+use Rattle.roam_acts.specs.Acts.{IsAct}
+use Rattle.roam_acts.specs.Senders.{Typing, acked_to, last_number}
+use Rattle.roam_update.specs.Shots.{applied}
+use Rattle.roam_sync.specs.declared.receivers.Step.{Step}
+use Rattle.roam_sync.specs.declared.receivers.Step.TheVariants as step
+use Rattle.roam_sync.specs.Receivers.{Receiving, pairs, state_at, from_floor, step_for}
+use Rattle.roam_sync.specs.Lines.{Delivers}
+use Rattle.roam_wire.specs.Datagrams.{DatagramValue, IsDatagram, datagram_text}
+use Rattle.roam_wire.specs.Gatherers.{Gathering, Answer, Whole, gather, piece_of}
+use Rattle.roam_wire.specs.Headers.{datagram_at, Refuses}
+use Rattle.roam_wire.specs.Instructions.{DownValue, IsDown, down_text, reason_for}
+use Rattle.roam_world.specs.Moments.{owed_from}
+use Rattle.roam_world.specs.Texts.{SaysDown, update_in}
+use Rattle.roam_world.specs.Clients.{Client as ClientOf, moment_of}
+use Rattle.roam_world.specs.Arrivals.{sent_back, kept, arriving, arriving_gathered, hearing_of}
+use Rattle.roam_hub.specs.declared.clients.Heard.{Heard}
+use Rattle.roam_hub.specs.Clients.{ClientView, Stands, hearing_in, Told, NotTold, unread as not_read, bad_change as bad_change_of, no_memory as wants_memory, IsTextOf, Hears, no_datagram, refused, piece, unread, bad_change, whole, no_memory}
+
+-- ---- an instruction's text
+
+pub text_unread : (text : List ℕ) (r : Receiving Screenshot) (fault : Fault)
+    → (fault ≡ OutOfMemory) ⊎ (fault ≡ BadDatagram (reason_for 32 text))
+    → ((v : DownValue) → IsDown v → text ≡ down_text v → fault ≡ OutOfMemory) → NotTold text r fault
+text_unread text r fault (inl e) only = wants_memory e
+text_unread text r fault (inr e) only =
+    not_read (reason_for 32 text)
+    (record {
+      none = (λ v is t. let z : BadDatagram (reason_for 32 text) ≡ OutOfMemory = sym e ∙ only v is t in absurd (cc));
+      reason = refl;
+    }) e
+
+-- the state that a new update starts from
+pub base_held : (r : Receiving Screenshot) (old new floor : ℕ) → step_for r old new floor ≡ step.New
+    → (base : Screenshot) × (state_at old (pairs r) ≡ Some base)
+base_held r old new floor =
+    go (nat_le new r.newest.number) (state_at old (pairs r)) refl (nat_le 8 (length (from_floor floor (pairs r))))
+  where
+    go : (a : Bool) (o : Option Screenshot) → state_at old (pairs r) ≡ o → (b : Bool)
+        → cond a step.Old (cond (is_none o) step.Gap (cond b step.Gap step.New)) ≡ step.New
+        → (base : Screenshot) × (state_at old (pairs r) ≡ Some base)
+    go a (Some s) e b f = (s, e)
+    go true None e b f = absurd (cc)
+    go false None e b f = absurd (cc)
+
+pub text_refused : (text : List ℕ) (r : Receiving Screenshot) (v : DownValue) (fault : Fault) → SaysDown text v
+    → step_for r v.old v.new v.floor ≡ step.New → (fault ≡ OutOfMemory) ⊎ (fault ≡ BadChange)
+    → (fault ≡ BadChange → (base : Screenshot) → state_at v.old (pairs r) ≡ Some base → applied base v.change ≡ None) → NotTold text r fault
+text_refused text r v fault says new (inl e) bad = wants_memory e
+text_refused text r v fault says new (inr e) bad =
+    let b = base_held r v.old v.new v.floor new in
+    bad_change_of v b.0 says new b.1 (bad e b.0 b.1) e
+
+-- the acts that aren't acknowledged are still acts
+pub acts_acked : (old new : Typing) (n : ℕ) → new ≡ acked_to old n → All IsAct old.acts → All IsAct new.acts
+acts_acked old new n e all =
+    subst (λ (s : Typing). All IsAct s.acts) (sym e) (go (nat_le n old.acked) (nat_lt (last_number old) n))
+  where
+    go : (a b : Bool)
+        → All IsAct (cond {A = Typing} a old (cond {A = Typing} b old (record { acked = n; acts = drop (n - old.acked) old.acts }))).acts
+    go true b = all
+    go false true = all
+    go false false = All-drop IsAct (n - old.acked) old.acts all
+
+-- the newest number stays below 2^62
+pub told_number : (text : List ℕ) (old : Typing) (r : Receiving Screenshot) (answer : Step) (owes : Bool) (new : Typing)
+    (r' : Receiving Screenshot) → Told text old r answer owes new r' → r.newest.number < 2 ^ 62 → r'.newest.number < 2 ^ 62
+told_number text old r answer owes new r' t low = go (step_for r t.value.old t.value.new t.value.floor) refl
+  where
+    other : (s : Step) → step_for r t.value.old t.value.new t.value.floor ≡ s → (s ≡ step.New → ⊥) → r'.newest.number < 2 ^ 62
+    other s e not =
+        subst (λ (x : Receiving Screenshot). x.newest.number < 2 ^ 62) (sym (t.delivers.other (λ f. not (sym e ∙ f)))) low
+
+    go : (s : Step) → step_for r t.value.old t.value.new t.value.floor ≡ s → r'.newest.number < 2 ^ 62
+    go step.New e = subst (λ (n : ℕ). n < 2 ^ 62) (sym (t.delivers.fresh e).number) t.says.is.new
+    go step.Old e = other step.Old e (λ f. absurd (cc))
+    go step.Gap e = other step.Gap e (λ f. absurd (cc))
+
+-- ---- bytes
+
+pub not_datagram : (session id : ℕ) (c : ClientOf) (bytes : List ℕ) (now : ℕ) (fault : Fault) (new : ClientView)
+    → Stands new session id c → Refuses (datagram_at bytes) fault
+    → ((d : DatagramValue) → IsDatagram d → bytes ≡ datagram_text d → fault ≡ OutOfMemory) → Hears session id c bytes now (Err fault) new
+not_datagram session id c bytes now OutOfMemory new st why only = no_memory refl st
+not_datagram session id c bytes now (BadDatagram r) new st why only =
+    no_datagram r
+    (record { none = (λ d is t. let z : BadDatagram r ≡ OutOfMemory = only d is t in absurd (cc)); reason = why })
+    refl st
+not_datagram session id c bytes now BadSize new st why only = absurd why
+not_datagram session id c bytes now TooSmall new st why only = absurd why
+not_datagram session id c bytes now NoPane new st why only = absurd why
+not_datagram session id c bytes now PanesFull new st why only = absurd why
+not_datagram session id c bytes now LastPane new st why only = absurd why
+not_datagram session id c bytes now Busy new st why only = absurd why
+not_datagram session id c bytes now TooLong new st why only = absurd why
+not_datagram session id c bytes now OtherSession new st why only = absurd why
+not_datagram session id c bytes now OtherClient new st why only = absurd why
+not_datagram session id c bytes now ClientsFull new st why only = absurd why
+not_datagram session id c bytes now BadChange new st why only = absurd why
+not_datagram session id c bytes now SendFull new st why only = absurd why
+not_datagram session id c bytes now Spent new st why only = absurd why
+not_datagram session id c bytes now BadAct new st why only = absurd why
+
+-- ---- a datagram
+
+-- a datagram of this start: what it is there is decided by what was gathered
+abbrev pub Admits : ClientView → DatagramValue → Type 0
+Admits v d = (c : ClientOf) → arriving v.session v.id c d ≡ arriving_gathered (gather c.gathering (piece_of d))
+
+pub not_admitted : (session id : ℕ) (c : ClientOf) (bytes : List ℕ) (now : ℕ) (before : ClientView) (d : DatagramValue) (fault : Fault)
+    → Stands before session id c → IsTextOf bytes d → ((k : ClientOf) → arriving before.session before.id k d ≡ sent_back fault)
+    → Hears session id c bytes now (Err fault) before
+not_admitted session id c bytes now before d fault st is back =
+    refused d fault is (subst (λ (v : ClientView). arriving v.session v.id c d ≡ sent_back fault) st (back c)) refl st
+
+arrives : (session id : ℕ) (c : ClientOf) (before : ClientView) (d : DatagramValue) (x : Option (Answer × Gathering))
+    → Stands before session id c → Admits before d → gather before.gathering (piece_of d) ≡ x
+    → arriving session id c d ≡ arriving_gathered x
+arrives session id c before d x st ok e =
+    subst (λ (v : ClientView). arriving v.session v.id c d ≡ arriving_gathered (gather c.gathering (piece_of d))) st (ok c)
+    ∙ ap arriving_gathered (sym (ap (λ (v : ClientView). gather v.gathering (piece_of d)) st) ∙ e)
+
+gathers_as : (session id : ℕ) (c : ClientOf) (before : ClientView) (g : Gathering) → Stands before session id c → g ≡ before.gathering
+    → Stands (record before { gathering = g }) session id c
+gathers_as session id c before g st e = (λ i. record before { gathering = e i }) ∙ st
+
+pub not_gathered : (session id : ℕ) (c : ClientOf) (bytes : List ℕ) (now : ℕ) (before : ClientView) (d : DatagramValue) (fault : Fault)
+    (g : Gathering)
+    → Stands before session id c → IsTextOf bytes d → Admits before d → (fault ≡ OutOfMemory) ⊎ (fault ≡ BadDatagram Fragment)
+    → (fault ≡ BadDatagram Fragment → gather before.gathering (piece_of d) ≡ None) → g ≡ before.gathering
+    → Hears session id c bytes now (Err fault) (record before { gathering = g })
+not_gathered session id c bytes now before d fault g st is ok (inl e) bad same =
+    no_memory (ap (λ f. Err f) e) (gathers_as session id c before g st same)
+not_gathered session id c bytes now before d fault g st is ok (inr e) bad same =
+    refused d fault is
+    (arrives session id c before d None st ok (bad e) ∙ ap sent_back (sym e)) refl (gathers_as session id c before g st same)
+
+pub piece_heard : (session id : ℕ) (c : ClientOf) (bytes : List ℕ) (now : ℕ) (before : ClientView) (d : DatagramValue) (h : Heard)
+    (a : Answer) (g : Gathering) (moment : ℕ)
+    → Stands before session id c → IsTextOf bytes d → Admits before d → gather before.gathering (piece_of d) ≡ Some (a, g)
+    → arriving_gathered (Some (a, g)) ≡ kept (hearing_in h) g → moment ≡ max now before.clock
+    → Hears session id c bytes now (Ok h) (record before { gathering = g; clock = moment })
+piece_heard session id c bytes now before d h a g moment st is ok e k m =
+    piece d h g is (arrives session id c before d (Some (a, g)) st ok e ∙ k) refl
+    (λ i. record (st i) { gathering = g; clock = (m ∙ ap (λ (v : ClientView). max now v.clock) st) i })
+
+pub not_told : (session id : ℕ) (c : ClientOf) (bytes : List ℕ) (now : ℕ) (before : ClientView) (d : DatagramValue) (fault : Fault)
+    (text : List ℕ) (g g' : Gathering) (acts : Typing) (r : Receiving Screenshot)
+    → Stands before session id c → IsTextOf bytes d → Admits before d → gather before.gathering (piece_of d) ≡ Some (Whole text, g)
+    → NotTold text before.receiver fault → g' ≡ before.gathering → acts ≡ before.acts → r ≡ before.receiver
+    → Hears session id c bytes now (Err fault) (record before { acts = acts; gathering = g'; receiver = r })
+not_told session id c bytes now before d fault text g g' acts r st is ok e why same_g same_a same_r = go why
+  where
+    stays : Stands (record before { acts = acts; gathering = g'; receiver = r }) session id c
+    stays = (λ i. record before { acts = same_a i; gathering = same_g i; receiver = same_r i }) ∙ st
+
+    go : NotTold text before.receiver fault
+        → Hears session id c bytes now (Err fault) (record before { acts = acts; gathering = g'; receiver = r })
+    go (not_read w says f) =
+        unread d g text w is (arrives session id c before d (Some (Whole text, g)) st ok e) says (ap (λ x. Err x) f) stays
+    go (bad_change_of v base says new held none f) =
+        bad_change d g text v base is (arrives session id c before d (Some (Whole text, g)) st ok e) says
+        (sym (ap (λ (x : ClientView). step_for x.receiver v.old v.new v.floor) st) ∙ new)
+        (sym (ap (λ (x : ClientView). state_at v.old (pairs x.receiver)) st) ∙ held) none (ap (λ x. Err x) f) stays
+    go (wants_memory f) = no_memory (ap (λ x. Err x) f) stays
+
+pub is_told : (session id : ℕ) (c : ClientOf) (bytes : List ℕ) (now : ℕ) (before : ClientView) (d : DatagramValue) (h : Heard)
+    (text : List ℕ) (g : Gathering) (answer : Step) (newer : Bool) (acts : Typing) (r : Receiving Screenshot) (owed : Option ℕ)
+    (moment : ℕ)
+    → Stands before session id c → IsTextOf bytes d → Admits before d → gather before.gathering (piece_of d) ≡ Some (Whole text, g)
+    → Told text before.acts before.receiver answer newer acts r → hearing_in h ≡ hearing_of answer
+    → owed ≡ cond newer (owed_from before.owed moment) before.owed → moment ≡ max now before.clock
+    → Hears session id c bytes now (Ok h) (record before { acts = acts; gathering = g; receiver = r; owed = owed; clock = moment })
+is_told session id c bytes now before d h text g answer newer acts r owed moment st is ok e t how owes m =
+    whole d h g text t.value r is (arrives session id c before d (Some (Whole text, g)) st ok e) t.says
+    (subst (λ (v : ClientView). Delivers applied v.receiver (update_in t.value) r) st t.delivers) refl
+    (how ∙ ap hearing_of (t.step ∙ ap (λ (v : ClientView). step_for v.receiver t.value.old t.value.new t.value.floor) st))
+    (λ i. record (st i) {
+      acts = (t.acts ∙ ap (λ (v : ClientView). acked_to v.acts t.value.acked) st) i;
+      gathering = g;
+      receiver = r;
+      owed = (owes ∙ (λ j. cond (t.newer j) (owed_from ((st j).owed) (at j)) ((st j).owed))) i;
+      clock = at i;
+    })
+  where
+    at : moment ≡ moment_of c now
+    at = m ∙ ap (λ (v : ClientView). max now v.clock) st

@@ -1,0 +1,4 @@
+pub mod Viewing
+pub mod Hearing
+pub mod PackingTexts
+pub mod Sending

@@ -1,0 +1,12 @@
+use Rattle.roam_wire.specs.Cutting.{texts_of}
+use Rattle.std.proofs.Common.{length}
+use Rattle.roam_world.specs.Texts.{datagram_with}
+use Rattle.roam_hub.proofs.PackingTexts.{IsPacking}
+use Rattle.roam_hub.proofs.packing.datagrams.Given as goal
+
+-- the datagrams so far, and the pieces that are left
+abbrev pub invariant-loop-piece : goal.invariant-loop-piece
+invariant-loop-piece l =
+    IsPacking
+    (datagram_with l.heading.kind l.heading.session l.heading.client l.heading.before l.heading.id (length (texts_of l.fn.pieces.items)))
+    (texts_of l.fn.pieces.items) (texts_of l.all.items) (texts_of l.piece-iterator.rest.items)

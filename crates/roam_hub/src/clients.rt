@@ -1,0 +1,318 @@
+//! A client start: what is typed there, what it hears, what it sends.
+ghost use Rattle.std.specs.Prelude.{◌≡◌, ◌⊎◌, true, false, map, ℕ, IfOk, IfErr, OnOk, OnErr, IsOkUnless, if◌then◌else◌};
+ghost use Rattle.roam_acts.specs.Acts.{HasKey, IsInRange};
+ghost use Rattle.roam_wire.specs.Datagrams.{datagram_text, datagram_value};
+ghost use Rattle.roam_wire.specs.Cutting.{texts_of};
+ghost use Rattle.roam_wire.specs.Gatherers.{gather, piece_of};
+ghost use Rattle.roam_world.specs.Moments.{has_passed, is_overdue, owed_from};
+ghost use Rattle.roam_world.specs.Sendings.{is_client_due, last_waiting};
+ghost use Rattle.roam_world.specs.Clients.{Client as ClientOf, new_client, shown_number, shown_screen};
+ghost use Rattle.roam_world.specs.Arrivals.{sent_back, arriving, arriving_gathered, hearing_of};
+ghost use Rattle.roam_hub.specs.Clients.{Stands, Types, Told, NotTold, Hears, Sends, bare, datagrams_by, hearing_in, is_view_spent};
+
+use crate::packing::{Heading, NUMBERS, packed};
+use roam_acts::{Act, ActSender, Key};
+use roam_cells::{Fault, Reason, Shot};
+use roam_sync::{Receiver, Step};
+use roam_wire::{Datagram, Gathered, Gatherer, Kind, Up, read_datagram, read_down, write_up};
+use std::alloc::Global;
+use std::marker::Model;
+
+/// What a datagram was to a client start.
+#[derive(Clone, Copy, Debug, PartialEq, Eq)]
+pub enum Heard {
+    /// A piece of an instruction of which others are missing.
+    Part,
+
+    /// Nothing that isn't known: the piece was there, or a higher instruction has come since, or the screen isn't newer.
+    Old,
+
+    /// Its change starts at a screen that isn't here.
+    Gap,
+
+    /// The screen is newer, and shown from now on.
+    New,
+}
+
+/// One start of a client of a session.
+#[derive(Drop)]
+pub struct Client {
+    session: u64,
+    id: u64,
+    acts: ActSender,
+    gatherer: Gatherer,
+    receiver: Receiver<Shot>,
+    sent_at: Option<u64>,
+    sent_act: u64,
+    owed: Option<u64>,
+    clock: u64,
+    datagrams: u64,
+    instructions: u64,
+}
+
+impl Model for Client {
+    ghost use Rattle.std.specs.Prelude.{◌<◌, ◌^◌};
+    ghost use Rattle.std.specs.List.{All};
+    ghost use Rattle.roam_acts.specs.Acts.{IsAct};
+    ghost use Rattle.roam_hub.specs.Clients.{ClientView};
+
+    ghost Value = { ClientView };
+
+    ghost view = { λ c. record {
+      session = c.session;
+      id = c.id;
+      acts = c.acts;
+      gathering = c.gatherer.current;
+      receiver = c.receiver;
+      sent_at = c.sent_at;
+      sent_act = c.sent_act;
+      owed = c.owed;
+      clock = c.clock;
+      datagrams = c.datagrams;
+      instructions = c.instructions;
+    } };
+
+    ghost invariant = { λ c. All IsAct c.acts.acts × (c.datagrams < 2 ^ 62) × (c.instructions < 2 ^ 62)
+        × (c.receiver.newest.number < 2 ^ 62) × (c.session < 2 ^ 64) × (c.id < 2 ^ 64) };
+}
+
+// What the type of an act tells: its character is a Unicode scalar value.
+fn facts(act: Act)
+    ensures key { HasKey act }
+{
+    match act {
+        Act::Key(Key::Char(c)) => {
+            let _scalar = c as u32;
+        }
+        _ => {}
+    }
+}
+
+// What a datagram is answered where the receiver made this of its update.
+fn heard_of(step: Step) -> Heard
+    ensures heard { hearing_in result ≡ hearing_of step }
+{
+    match step {
+        Step::Old => Heard::Old,
+        Step::Gap => Heard::Gap,
+        Step::New => Heard::New,
+    }
+}
+
+// Since when an answer is owed, where one may be owed from now on.
+fn owed_after(owed: Option<u64>, owes: bool, now: u64) -> Option<u64>
+    ensures owed { result ≡ (if owes then owed_from owed now else owed) }
+{
+    match owed {
+        None if owes => Some(now),
+        _ => owed,
+    }
+}
+
+// Whether a datagram is for a start of this id in this session.
+fn admit(session: u64, id: u64, datagram: &Datagram) -> Result<(), Fault>
+    ensures ok { OnOk result ((c : ClientOf) → arriving session id c (datagram_value datagram.now)
+        ≡ arriving_gathered (gather c.gathering (piece_of (datagram_value datagram.now)))) }
+    ensures err { IfErr result (λ fault. (c : ClientOf) → arriving session id c (datagram_value datagram.now) ≡ sent_back fault) }
+{
+    if datagram.kind == Kind::ToServer {
+        return Err(Fault::BadDatagram(Reason::Kind));
+    }
+    if datagram.session != session {
+        return Err(Fault::OtherSession);
+    }
+    if datagram.client != id {
+        return Err(Fault::OtherClient);
+    }
+    Ok(())
+}
+
+// What the receiver makes of an instruction's text, and whether its new number is above its old one; what it acknowledges goes to the acts.
+fn tell(
+    alloc: Global,
+    acts: &mut ActSender,
+    receiver: &mut Receiver<Shot>,
+    text: &[u8],
+) -> Result<(Step, bool), Fault>
+    ensures told { IfOk result (λ t. Told text.now acts.old receiver.old t.0 t.1 acts.new receiver.new) }
+    ensures fault { IfErr result (λ fault. NotTold text.now receiver.old fault) }
+    ensures acts { OnErr result (acts.new ≡ acts.old) }
+    ensures receiver { OnErr result (receiver.new ≡ receiver.old) }
+{
+    let down = read_down(alloc, text)?;
+    let step = receiver.take(
+        alloc,
+        down.old,
+        down.new,
+        down.floor,
+        down.change.as_slice(),
+    )?;
+    acts.acked(down.acked);
+    Ok((step, down.old < down.new))
+}
+
+// Whether so many milliseconds have passed since a moment.
+fn has_passed(long: u64, since: u64, now: u64) -> bool
+    ensures passed { result ≡ has_passed long since now }
+{
+    since <= now && now - since >= long
+}
+
+// Whether an answer has been owed for 100 ms.
+fn is_overdue(owed: Option<u64>, now: u64) -> bool
+    ensures overdue { result ≡ is_overdue owed now }
+{
+    match owed {
+        None => false,
+        Some(since) => has_passed(100, since, now),
+    }
+}
+
+impl Client {
+    /// A start of this id in this session: nothing was typed, and it shows the blank screen of 24 by 80 under the number 0. Refuses want of
+    /// memory.
+    pub fn new(alloc: Global, session: u64, id: u64) -> Result<Client, Fault>
+        ensures stands { IfOk result (λ client. Stands client session id new_client) }
+        ensures fault { IsOkUnless result Fault.OutOfMemory }
+    {
+        let receiver = Receiver::new(alloc, Shot::blank(alloc, 24, 80)?)?;
+        Ok(Client {
+            session,
+            id,
+            acts: ActSender::new(alloc),
+            gatherer: Gatherer::new(alloc),
+            receiver,
+            sent_at: None,
+            sent_act: 0,
+            owed: None,
+            clock: 0,
+            datagrams: 0,
+            instructions: 0,
+        })
+    }
+
+    /// Takes an act that was typed here. `Busy` where 1,024 acts are unacknowledged, `Spent` where its number would be 2^62, `OutOfMemory`;
+    /// a refusal leaves the start as it was.
+    pub fn typed(&mut self, act: Act) -> Result<(), Fault>
+        requires in_range { IsInRange act }
+        ensures typed { (session id : ℕ) (c : ClientOf) → Stands self.old session id c → Types session id c act result self.new }
+        ensures err { OnErr result (self.new ≡ self.old) }
+    {
+        facts(act);
+        self.acts.typed(act)
+    }
+
+    /// Takes the bytes of a datagram that came at a moment. Refuses `BadDatagram` for bytes that are no datagram to a client, and for a
+    /// piece or an instruction that is none; `OtherSession`; `OtherClient`; `BadChange`; `OutOfMemory`. A refusal leaves the start as it
+    /// was.
+    pub fn datagram(&mut self, alloc: Global, bytes: &[u8], now: u64) -> Result<Heard, Fault>
+        ensures heard { (session id : ℕ) (c : ClientOf) → Stands self.old session id c
+            → Hears session id c bytes.now now result self.new }
+        ensures err { OnErr result (self.new ≡ self.old) }
+    {
+        let datagram = read_datagram(alloc, bytes)?;
+        admit(self.session, self.id, &datagram)?;
+        let moment = now.max(self.clock);
+        match self.gatherer.take(alloc, &datagram)? {
+            Gathered::Part => {
+                self.clock = moment;
+                Ok(Heard::Part)
+            }
+            Gathered::Old => {
+                self.clock = moment;
+                Ok(Heard::Old)
+            }
+            Gathered::Whole(text) => {
+                match tell(alloc, &mut self.acts, &mut self.receiver, text.as_slice()) {
+                    Err(fault) => {
+                        self.gatherer.untake();
+                        Err(fault)
+                    }
+                    Ok((step, newer)) => {
+                        self.owed = owed_after(self.owed, newer, moment);
+                        self.clock = moment;
+                        Ok(heard_of(step))
+                    }
+                }
+            }
+        }
+    }
+
+    // The number of the last act that would be sent.
+    fn last_waiting(&self) -> u64
+        ensures last { result ≡ last_waiting (bare self.now) }
+    {
+        let (first, acts) = self.acts.waiting();
+        first - 1 + acts.len() as u64
+    }
+
+    // Whether something is to be sent.
+    fn is_due(&self, now: u64) -> bool
+        ensures due { result ≡ is_client_due (bare self.now) now }
+    {
+        let Some(since) = self.sent_at else {
+            return true;
+        };
+        let unacknowledged = !self.acts.waiting().1.is_empty();
+        self.sent_act < self.last_waiting()
+            || (unacknowledged && has_passed(250, since, now))
+            || is_overdue(self.owed, now)
+            || has_passed(3000, since, now)
+    }
+
+    // The texts of the datagrams of the instruction that would be sent.
+    fn instruction(&self, alloc: Global) -> Result<Vec<Vec<u8>>, Fault>
+        ensures written { IfOk result (λ all. texts_of all.items ≡ map datagram_text (datagrams_by self.now)) }
+        ensures fit { OnOk result (is_view_spent self.now ≡ false) }
+        ensures fault { IfErr result (λ fault. (fault ≡ Fault.OutOfMemory)
+            ⊎ ((fault ≡ Fault.Spent) × (is_view_spent self.now ≡ true))) }
+    {
+        let (first, acts) = self.acts.waiting();
+        if first >= NUMBERS {
+            return Err(Fault::Spent);
+        }
+        let up = Up {
+            acked: self.receiver.newest().0,
+            first,
+            acts: Vec::from_slice(alloc, acts)?,
+        };
+        let text = write_up(alloc, &up)?;
+        let heading = Heading {
+            kind: Kind::ToServer,
+            session: self.session,
+            client: self.id,
+            before: self.datagrams,
+            id: self.instructions + 1,
+        };
+        packed(alloc, heading, text.as_slice())
+    }
+
+    /// Answers the texts of the datagrams to send at a moment, in their order; none where nothing is due. `Spent` exactly where something
+    /// is due and a number that it needs would be 2^62; `OutOfMemory`. A refusal leaves the start as it was.
+    pub fn tick(&mut self, alloc: Global, now: u64) -> Result<Vec<Vec<u8>>, Fault>
+        ensures sent { (session id : ℕ) (c : ClientOf) → Stands self.old session id c → Sends session id c now result self.new }
+        ensures err { OnErr result (self.new ≡ self.old) }
+    {
+        let moment = now.max(self.clock);
+        if !self.is_due(moment) {
+            self.clock = moment;
+            return Ok(Vec::new(alloc));
+        }
+        let datagrams = self.instruction(alloc)?;
+        self.sent_act = self.sent_act.max(self.last_waiting());
+        self.sent_at = Some(moment);
+        self.owed = None;
+        self.clock = moment;
+        self.datagrams += datagrams.len() as u64;
+        self.instructions += 1;
+        Ok(datagrams)
+    }
+
+    /// The number and the screen that the start shows. It takes no memory.
+    pub fn shown(&self) -> (u64, &Shot)
+        ensures shown { (session id : ℕ) (c : ClientOf) → Stands self.now session id c
+            → (result.0 ≡ shown_number c) × (result.1.now ≡ shown_screen c) }
+    {
+        self.receiver.newest()
+    }
+}
