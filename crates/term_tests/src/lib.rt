@@ -4,8 +4,6 @@
 #![tactic(auto)]
 
 #[cfg(test)]
-mod edges;
-#[cfg(test)]
 mod keys;
 #[cfg(test)]
 mod scrollback;
@@ -13,5 +11,3 @@ mod scrollback;
 mod sizes;
 #[cfg(test)]
 mod terms;
-#[cfg(test)]
-mod wraps;
