@@ -1,4 +1,5 @@
 pub mod Ascii
+pub mod Digits
 pub mod Joining
 pub mod Places
 pub mod Rows

@@ -1,5 +1,5 @@
 -- A test of two styles, flag by flag.
-use Rattle.std.proofs.Common.{◌≡◌, Bool, true, false, ◌&&◌, refl}
+use Rattle.std.proofs.Common.{◌≡◌, Bool, true, false, ◌&&◌, refl, sym}
 use Rattle.std.proofs.lemmas.Bool.{false≢true}
 use mathlib.Core.Bool.{beq}
 use Rattle.roam_cells.specs.declared.styles.Style.{Style}
@@ -10,11 +10,17 @@ both : (a b : Bool) → (a && b) ≡ true → (a ≡ true) × (b ≡ true)
 both true b h = (refl, h)
 both false b h = absurd (false≢true h)
 
-beq-tells : (a b : Bool) → beq a b ≡ true → a ≡ b
+pub beq-tells : (a b : Bool) → beq a b ≡ true → a ≡ b
 beq-tells true true h = refl
 beq-tells false false h = refl
 beq-tells true false h = absurd (false≢true h)
 beq-tells false true h = absurd (false≢true h)
+
+pub beq-same : (a b : Bool) → a ≡ b → beq a b ≡ true
+beq-same true true h = refl
+beq-same false false h = refl
+beq-same true false h = absurd (false≢true (sym h))
+beq-same false true h = absurd (false≢true h)
 
 -- ---- styles
 

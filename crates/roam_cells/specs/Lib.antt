@@ -1,5 +1,6 @@
 pub mod Width
 pub mod Glyph
+pub mod Inks
 pub mod Kept
 pub mod Limits
 pub mod Place

@@ -21,7 +21,7 @@ pub fn write(row: &mut [Cell], col: usize, cell: Cell)
     if cell.is_wide() {
         part_twice(row, col, col + 2);
         row[col] = cell;
-        row[col + 1] = Cell::right_half(cell.style(), cell.guard());
+        row[col + 1] = cell.right();
     } else {
         part_twice(row, col, col + 1);
         row[col] = cell;

@@ -28,6 +28,9 @@ fn shown_style(style: Style, reversed: bool) -> Style
 fn shown_cell(cell: &Cell, reversed: bool) -> Cell
     ensures cell { result ≡ shown reversed cell.now }
 {
+    if !reversed {
+        return cell.unguarded();
+    }
     let style = shown_style(cell.style(), reversed);
     if cell.is_right_half() {
         return Cell::right_half(style, false);

@@ -1,0 +1,78 @@
+-- Binary digits: a flag put in front is the last digit, and half of the number is what was there before.
+use Rattle.std.proofs.Common.{◌≡◌, ℕ, ◌+◌, ◌*◌, ◌/◌, ◌%◌, Bool, true, false, ◌==◌, refl, sym, ap, ◌∙◌, arith}
+use Rattle.roam_cells.specs.declared.styles.Style.{Style}
+use Rattle.roam_cells.specs.declared.styles.Colour.{Colour}
+use Rattle.roam_cells.specs.declared.styles.Colour.TheVariants.{Default, Index}
+use Rattle.roam_cells.specs.Inks.{digit, is_odd, flags_of, number_of, colour_of, style_of, ink_of, IsInk, inside_of, inside_back}
+use Rattle.roam_cells.specs.declared.inks.Ink.TheInside.{Inside}
+
+odd_digit : (b : Bool) (m : ℕ) → is_odd (digit b + 2 * m) ≡ b
+unfolding is_odd digit
+odd_digit true m = let one : (1 + 2 * m) % 2 ≡ 1 = omega arith in ap (λ k. k == 1) one
+odd_digit false m = let none : (0 + 2 * m) % 2 ≡ 0 = omega arith in ap (λ k. k == 1) none
+
+half_digit : (b : Bool) (m : ℕ) → (digit b + 2 * m) / 2 ≡ m
+unfolding digit
+half_digit true m = omega arith
+half_digit false m = omega arith
+
+last_digit : (b : Bool) → is_odd (digit b) ≡ b
+unfolding is_odd digit
+last_digit true = refl
+last_digit false = refl
+
+colour_back : (c : Colour) → colour_of (number_of c) ≡ c
+unfolding number_of colour_of
+colour_back Default = refl
+colour_back (Index n) = refl
+
+-- a style comes back from its numbers
+pub style_back : (s : Style) → style_of (flags_of s) (number_of s.foreground) (number_of s.background) ≡ s
+unfolding flags_of style_of
+style_back s i =
+    let f7 = digit s.strike in
+    let f6 = digit s.conceal + 2 * f7 in
+    let f5 = digit s.reverse + 2 * f6 in
+    let f4 = digit s.blink + 2 * f5 in
+    let f3 = digit s.underline + 2 * f4 in
+    let f2 = digit s.italic + 2 * f3 in
+    let f1 = digit s.faint + 2 * f2 in
+    let h1 : flags_of s / 2 ≡ f1 = half_digit s.bold f1 in
+    let h2 : flags_of s / 2 / 2 ≡ f2 = ap (λ k. k / 2) h1 ∙ half_digit s.faint f2 in
+    let h3 : flags_of s / 2 / 2 / 2 ≡ f3 = ap (λ k. k / 2) h2 ∙ half_digit s.italic f3 in
+    let h4 : flags_of s / 2 / 2 / 2 / 2 ≡ f4 = ap (λ k. k / 2) h3 ∙ half_digit s.underline f4 in
+    let h5 : flags_of s / 2 / 2 / 2 / 2 / 2 ≡ f5 = ap (λ k. k / 2) h4 ∙ half_digit s.blink f5 in
+    let h6 : flags_of s / 2 / 2 / 2 / 2 / 2 / 2 ≡ f6 = ap (λ k. k / 2) h5 ∙ half_digit s.reverse f6 in
+    let h7 : flags_of s / 2 / 2 / 2 / 2 / 2 / 2 / 2 ≡ f7 = ap (λ k. k / 2) h6 ∙ half_digit s.conceal f7 in
+    record {
+      bold = odd_digit s.bold f1 i;
+      faint = (ap is_odd h1 ∙ odd_digit s.faint f2) i;
+      italic = (ap is_odd h2 ∙ odd_digit s.italic f3) i;
+      underline = (ap is_odd h3 ∙ odd_digit s.underline f4) i;
+      blink = (ap is_odd h4 ∙ odd_digit s.blink f5) i;
+      reverse = (ap is_odd h5 ∙ odd_digit s.reverse f6) i;
+      conceal = (ap is_odd h6 ∙ odd_digit s.conceal f7) i;
+      strike = (ap is_odd h7 ∙ last_digit s.strike) i;
+      foreground = colour_back s.foreground i;
+      background = colour_back s.background i;
+    }
+
+-- an ink shows the style of which it has the numbers
+pub ink_back : (s : Style) (g : Bool) (f b n : ℕ) → f ≡ number_of s.foreground → b ≡ number_of s.background → n ≡ flags_of s
+    → ink_of (record { foreground = f; background = b; flags = n; guard = g }) ≡ record { style = s; guarded = g }
+unfolding ink_of
+ink_back s g f b n front back flags i =
+    record {
+      style = (ap (λ k. style_of k f b) flags ∙ ap (λ k. style_of (flags_of s) k b) front ∙ ap (λ k. style_of (flags_of s) (number_of s.foreground) k) back ∙ style_back s) i;
+      guarded = g;
+    }
+
+-- inks with the same numbers are one
+pub ink_same : (a b : Inside) → a.foreground ≡ b.foreground → a.background ≡ b.background → a.flags ≡ b.flags → a.guard ≡ b.guard
+    → ink_of a ≡ ink_of b
+unfolding ink_of
+ink_same a b front back flags guard i = record { style = style_of (flags i) (front i) (back i); guarded = guard i }
+
+-- what shows the same is the same
+pub fields_same : (a b : Inside) → IsInk a → IsInk b → ink_of a ≡ ink_of b → a ≡ b
+fields_same a b h k e = sym (inside_back a h) ∙ ap inside_of e ∙ inside_back b k

@@ -1,0 +1,108 @@
+-- How a cell keeps its style and its guard: each colour as a number, the flags as the binary digits of one number.
+use Rattle.std.specs.Prelude.{◌≡◌, ℕ, zero, suc, ◌+◌, ◌*◌, ◌/◌, ◌%◌, ◌<◌, ◌≤◌, Bool, true, false, ◌==◌}
+use Rattle.std.proofs.Common.{◌⊎◌, inl, inr, refl, ap, ◌∙◌, arith}
+use Rattle.std.proofs.lemmas.Bool.{cases_eq}
+use Rattle.roam_cells.specs.declared.styles.Style.{Style}
+use Rattle.roam_cells.specs.declared.styles.Colour.{Colour}
+use Rattle.roam_cells.specs.declared.styles.Colour.TheVariants.{Default, Index}
+use Rattle.roam_cells.specs.declared.inks.Ink.TheInside.{Inside}
+
+-- what a character is written with: its style (SGR, ECMA-48 8.3.117), and whether it is guarded (DECSCA, VT220 Programmer Reference)
+pub record InkValue : Type 0 where
+  pub style : Style
+  pub guarded : Bool
+
+-- a flag as a binary digit
+unfoldable pub digit : Bool → ℕ
+digit false = 0
+digit true = 1
+
+-- whether the last binary digit is 1
+unfoldable pub is_odd : ℕ → Bool
+is_odd n = n % 2 == 1
+
+-- the flags of a style, the first in the last digit
+unfoldable pub flags_of : Style → ℕ
+flags_of s =
+    digit s.bold + 2 * (digit s.faint + 2 * (digit s.italic + 2 * (digit s.underline
+    + 2 * (digit s.blink + 2 * (digit s.reverse + 2 * (digit s.conceal + 2 * digit s.strike))))))
+
+-- a colour's number: 0 is the terminal's own
+unfoldable pub number_of : Colour → ℕ
+number_of Default = 0
+number_of (Index n) = suc n
+
+unfoldable pub colour_of : ℕ → Colour
+colour_of zero = Default
+colour_of (suc n) = Index n
+
+-- the style that these numbers say
+unfoldable pub style_of : ℕ → ℕ → ℕ → Style
+style_of flags foreground background =
+    record {
+      bold = is_odd flags;
+      faint = is_odd (flags / 2);
+      italic = is_odd (flags / 2 / 2);
+      underline = is_odd (flags / 2 / 2 / 2);
+      blink = is_odd (flags / 2 / 2 / 2 / 2);
+      reverse = is_odd (flags / 2 / 2 / 2 / 2 / 2);
+      conceal = is_odd (flags / 2 / 2 / 2 / 2 / 2 / 2);
+      strike = is_odd (flags / 2 / 2 / 2 / 2 / 2 / 2 / 2);
+      foreground = colour_of foreground;
+      background = colour_of background;
+    }
+
+-- what the fields of an ink show
+unfoldable pub ink_of : Inside → InkValue
+ink_of a = record { style = style_of a.flags a.foreground a.background; guarded = a.guard }
+
+-- the flags are eight, and each colour is the terminal's own or one of 256
+pub record IsInk (a : Inside) : Type 0 where
+  pub flags : a.flags < 256
+  pub foreground : a.foreground ≤ 256
+  pub background : a.background ≤ 256
+
+-- the fields that show it
+unfoldable pub inside_of : InkValue → Inside
+inside_of v =
+    record {
+      foreground = number_of v.style.foreground;
+      background = number_of v.style.background;
+      flags = flags_of v.style;
+      guard = v.guarded;
+    }
+
+-- ---- the fields come back from what they show
+
+-- a number is odd or even
+odd_or_even : (n : ℕ) → (n % 2 ≡ 1) ⊎ (n % 2 ≡ 0)
+odd_or_even n = elim (cases_eq (n % 2) 1) [ inl odd ↦ inl odd | inr even ↦ inr (omega (arith, even)) ]
+
+digit_back : (n : ℕ) → digit (is_odd n) + 2 * (n / 2) ≡ n
+unfolding is_odd digit
+digit_back n =
+    elim (odd_or_even n) [
+      | inl odd ↦ ap (λ k. digit (k == 1) + 2 * (n / 2)) odd ∙ omega (arith, odd)
+      | inr even ↦ ap (λ k. digit (k == 1) + 2 * (n / 2)) even ∙ omega (arith, even)
+    ]
+
+number_back : (n : ℕ) → number_of (colour_of n) ≡ n
+unfolding number_of colour_of
+number_back zero = refl
+number_back (suc n) = refl
+
+flags_back : (n : ℕ) → n < 256 → flags_of (style_of n 0 0) ≡ n
+unfolding flags_of style_of
+flags_back n h =
+    let last : digit (is_odd (n / 2 / 2 / 2 / 2 / 2 / 2 / 2)) ≡ n / 2 / 2 / 2 / 2 / 2 / 2 / 2 = omega (arith, digit_back (n / 2 / 2 / 2 / 2 / 2 / 2 / 2)) in
+    omega (arith, last, digit_back (n / 2 / 2 / 2 / 2 / 2 / 2), digit_back (n / 2 / 2 / 2 / 2 / 2), digit_back (n / 2 / 2 / 2 / 2), digit_back (n / 2 / 2 / 2), digit_back (n / 2 / 2), digit_back (n / 2), digit_back n)
+
+pub inside_back : (a : Inside) → IsInk a → inside_of (ink_of a) ≡ a
+unfolding inside_of ink_of style_of colour_of flags_of
+inside_back a h i =
+    record {
+      foreground = number_back a.foreground i;
+      background = number_back a.background i;
+      flags = flags_back a.flags h.flags i;
+      guard = a.guard;
+    }
