@@ -7,7 +7,7 @@
 
 int main(int count, char **words) {
   if (count != 4) return 1;
-  size_t bytes = 28 * (size_t)atoi(words[1]) * (size_t)atoi(words[2]);
+  size_t bytes = 20 * (size_t)atoi(words[1]) * (size_t)atoi(words[2]);
   int times = atoi(words[3]);
   char *one = malloc(bytes), *other = malloc(bytes);
   if (one == NULL || other == NULL) return 1;

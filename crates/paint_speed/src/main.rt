@@ -12,7 +12,7 @@ use std::env;
 use std::time::Instant;
 
 // The bytes that a cell takes in memory.
-const CELL: usize = 28;
+const CELL: usize = 20;
 
 // Every place shows a letter, another one with another first letter.
 fn fill(term: &mut Term, rows: u16, cols: u16, first: u8) -> Result<(), Fault> {

@@ -10,7 +10,7 @@ returns-then-is_wide-clause-after c =
     let q = c.requires in
     let wide : is_wide a.cell ≡ true = sym (c.is_wide.ensures.wide) ∙ c.if-is_wide.true in
     let P = c.part_twice.new.row in
-    let half : c.right_half.result ≡ right_of a.cell = rw (c.style.ensures.style, c.guard.ensures.guard) at c.right_half.ensures.cell in
+    let half : c.right.result ≡ right_of a.cell = c.right.ensures.cell in
     ap (set (set P a.col a.cell) (a.col + 1)) half
     ∙ written_wide a.col a.row.now P a.cell q.whole c.part_twice.ensures.parted (q.room wide) wide q.no_half
 

@@ -1,0 +1,218 @@
+//! Control functions at the edges of the screen and of the margins, modes set and reset twice, saved states: each row whole, byte by byte,
+//! and cut at each place. What is wanted comes from the profile.
+//!
+//! A row has the bytes, then the three rows of the screen and its cursor after them, on a screen of 3 by 8 that was full of letters with
+//! the cursor in its first place. Control characters are written as their pictures (U+2400 to U+2421).
+use crate::rows::{bytes_of, text_of};
+use roam_term::Term;
+use std::alloc::Global;
+use std::test::*;
+
+/// Motions, at the edges of the screen and of the margins.
+static MOTIONS: &str = r##"␈|abcdefgh|ijklmnop|qrstuvwx|1 1 shown
+␍|abcdefgh|ijklmnop|qrstuvwx|1 1 shown
+␛[2;5H␍|abcdefgh|ijklmnop|qrstuvwx|2 1 shown
+␛[2;3r␛[3;2H␛[9A|abcdefgh|ijklmnop|qrstuvwx|2 2 shown
+␛[2;3r␛[1;2H␛[9A|abcdefgh|ijklmnop|qrstuvwx|1 2 shown
+␛[0A|abcdefgh|ijklmnop|qrstuvwx|1 1 shown
+␛[1;2r␛[1;2H␛[9B|abcdefgh|ijklmnop|qrstuvwx|2 2 shown
+␛[1;2r␛[3;2H␛[9B|abcdefgh|ijklmnop|qrstuvwx|3 2 shown
+␛[1;2r␛[1;2H␛[9999e|abcdefgh|ijklmnop|qrstuvwx|2 2 shown
+␛[9C|abcdefgh|ijklmnop|qrstuvwx|1 8 shown
+␛[9a|abcdefgh|ijklmnop|qrstuvwx|1 8 shown
+␛[1;3H␛[9D|abcdefgh|ijklmnop|qrstuvwx|1 1 shown
+␛[1;5H␛[E|abcdefgh|ijklmnop|qrstuvwx|2 1 shown
+␛[3;5H␛[9F|abcdefgh|ijklmnop|qrstuvwx|1 1 shown
+␛[99G|abcdefgh|ijklmnop|qrstuvwx|1 8 shown
+␛[3`|abcdefgh|ijklmnop|qrstuvwx|1 3 shown
+␛[99;99H|abcdefgh|ijklmnop|qrstuvwx|3 8 shown
+␛[2;3f|abcdefgh|ijklmnop|qrstuvwx|2 3 shown
+␛[2;3r␛[?6h␛[9;2H|abcdefgh|ijklmnop|qrstuvwx|3 2 shown
+␛[2;3r␛[?6h␛[0;0f|abcdefgh|ijklmnop|qrstuvwx|2 1 shown
+␛[2;5H␛[9d|abcdefgh|ijklmnop|qrstuvwx|3 5 shown
+␛[2;3r␛[?6h␛[2;5H␛[d|abcdefgh|ijklmnop|qrstuvwx|2 5 shown
+␉|abcdefgh|ijklmnop|qrstuvwx|1 8 shown
+␛[1;4H␛H␛[H␛[I|abcdefgh|ijklmnop|qrstuvwx|1 4 shown
+␛[1;4H␛H␛[H␛[2I|abcdefgh|ijklmnop|qrstuvwx|1 8 shown
+␛[1;4H␛H␛[1;6H␛[Z|abcdefgh|ijklmnop|qrstuvwx|1 4 shown
+␛[1;4H␛H␛[1;6H␛[9Z|abcdefgh|ijklmnop|qrstuvwx|1 1 shown
+␛[1;4H␛H␛[g␛[H␉|abcdefgh|ijklmnop|qrstuvwx|1 8 shown
+␛[1;4H␛H␛[3g␛[H␉|abcdefgh|ijklmnop|qrstuvwx|1 8 shown
+"##;
+
+/// Feeds, lines and scrolls, at and outside the margins.
+static SCROLLS: &str = r##"␛[3;5H␊|ijklmnop|qrstuvwx|        |3 5 shown
+␛[2;3H␋|abcdefgh|ijklmnop|qrstuvwx|3 3 shown
+␛[2;3H␌|abcdefgh|ijklmnop|qrstuvwx|3 3 shown
+␛[1;2r␛[3;4H␛D|abcdefgh|ijklmnop|qrstuvwx|3 4 shown
+␛[1;2r␛[2;4H␛D|ijklmnop|        |qrstuvwx|2 4 shown
+␛[3;5H␛E|ijklmnop|qrstuvwx|        |3 1 shown
+␛[2;3r␛[2;4H␛M|abcdefgh|        |ijklmnop|2 4 shown
+␛[2;3r␛[1;4H␛M|abcdefgh|ijklmnop|qrstuvwx|1 4 shown
+␛[3;4H␛M|abcdefgh|ijklmnop|qrstuvwx|2 4 shown
+␛[1;2r␛[2;4H␛[9L|abcdefgh|        |qrstuvwx|2 1 shown
+␛[1;2r␛[3;4H␛[L|abcdefgh|ijklmnop|qrstuvwx|3 4 shown
+␛[2;3r␛[2;4H␛[L|abcdefgh|        |ijklmnop|2 1 shown
+␛[2;4H␛[M|abcdefgh|qrstuvwx|        |2 1 shown
+␛[1;2r␛[3;4H␛[9M|abcdefgh|ijklmnop|qrstuvwx|3 4 shown
+␛[9S|        |        |        |1 1 shown
+␛[2;3r␛[1;4H␛[S|abcdefgh|qrstuvwx|        |1 4 shown
+␛[2T|        |        |abcdefgh|1 1 shown
+␛[1;2r␛[3;4H␛[9T|        |        |qrstuvwx|3 4 shown
+␛[2;3H␛[3;2r|abcdefgh|ijklmnop|qrstuvwx|2 3 shown
+␛[2;3H␛[0;99r|abcdefgh|ijklmnop|qrstuvwx|1 1 shown
+␛[2;3H␛[2;2r|abcdefgh|ijklmnop|qrstuvwx|2 3 shown
+␛[2;3r␛#8|EEEEEEEE|EEEEEEEE|EEEEEEEE|1 1 shown
+␛[2;3r␛#8␛[3;1H␊|EEEEEEEE|EEEEEEEE|        |3 1 shown
+␛[2;3r␛[1;8HX␛[LY|abcdefgY|ijklmnop|qrstuvwx|1 8 shown
+␛[2;3r␛[1;8HX␛[MY|abcdefgY|ijklmnop|qrstuvwx|1 8 shown
+"##;
+
+/// Edits and erasures within a row and the screen.
+static EDITS: &str = r##"␛[1;8H␛[9@|abcdefg |ijklmnop|qrstuvwx|1 8 shown
+␛[1;7H␛[@|abcdef g|ijklmnop|qrstuvwx|1 7 shown
+␛[1;7H␛[9P|abcdef  |ijklmnop|qrstuvwx|1 7 shown
+␛[P|bcdefgh |ijklmnop|qrstuvwx|1 1 shown
+␛[1;7H␛[9999X|abcdef  |ijklmnop|qrstuvwx|1 7 shown
+␛[0X| bcdefgh|ijklmnop|qrstuvwx|1 1 shown
+␛[2;3H␛[J|abcdefgh|ij      |        |2 3 shown
+␛[2;3H␛[1J|        |   lmnop|qrstuvwx|2 3 shown
+␛[2;3H␛[2J|        |        |        |2 3 shown
+␛[2;3H␛[3J|abcdefgh|ijklmnop|qrstuvwx|2 3 shown
+␛[1;8H␛[K|abcdefg |ijklmnop|qrstuvwx|1 8 shown
+␛[1K| bcdefgh|ijklmnop|qrstuvwx|1 1 shown
+␛[3;8H␛[2K|abcdefgh|ijklmnop|        |3 8 shown
+␛[1"qAB␛["q␛[?2J|AB      |        |        |1 3 shown
+␛[1"qAB␛[2"q␛[?1K|AB defgh|ijklmnop|qrstuvwx|1 3 shown
+␛[1"qAB␛[0"q␛[?J|AB      |        |        |1 3 shown
+␛[1"qAB␛[2K|        |ijklmnop|qrstuvwx|1 3 shown
+␛[1;6Hz␛[9b|abcdezzz|zzzzzzzp|qrstuvwx|2 8 shown
+z␍␛[3b|zbcdefgh|ijklmnop|qrstuvwx|1 1 shown
+z␛[5z␛[3b|zbcdefgh|ijklmnop|qrstuvwx|1 2 shown
+␛[3b|abcdefgh|ijklmnop|qrstuvwx|1 1 shown
+␛[4hZ|Zabcdefg|ijklmnop|qrstuvwx|1 2 shown
+␛[4h␛[1;8HZ|abcdefgZ|ijklmnop|qrstuvwx|1 8 shown
+"##;
+
+/// Modes that are set twice and reset twice.
+static MODES: &str = r##"␛[4h␛[4hZ␛[4l␛[4lY|ZYbcdefg|ijklmnop|qrstuvwx|1 3 shown
+␛[20h␛[20h␛[1;4H␊|abcdefgh|ijklmnop|qrstuvwx|2 1 shown
+␛[20h␛[20l␛[20l␛[1;4H␊|abcdefgh|ijklmnop|qrstuvwx|2 4 shown
+␛[?1h␛[?1h␛[?1l␛[?1l|abcdefgh|ijklmnop|qrstuvwx|1 1 shown
+␛[?5h␛[?5h␛[?5l␛[?5l|abcdefgh|ijklmnop|qrstuvwx|1 1 shown
+␛[2;3r␛[?6h␛[2;3H␛[?6h|abcdefgh|ijklmnop|qrstuvwx|2 1 shown
+␛[2;3r␛[?6h␛[2;3H␛[?6l|abcdefgh|ijklmnop|qrstuvwx|1 1 shown
+␛[?6l␛[2;3H␛[?6l|abcdefgh|ijklmnop|qrstuvwx|1 1 shown
+␛[?7l␛[?7l␛[1;8HXY|abcdefgY|ijklmnop|qrstuvwx|1 8 shown
+␛[?7l␛[?7h␛[?7h␛[1;8HXY|abcdefgX|Yjklmnop|qrstuvwx|2 2 shown
+␛[?25l␛[?25l|abcdefgh|ijklmnop|qrstuvwx|1 1 hidden
+␛[?25l␛[?25h␛[?25h|abcdefgh|ijklmnop|qrstuvwx|1 1 shown
+␛[?2004h␛[?2004h␛[?2004l␛[?2004l|abcdefgh|ijklmnop|qrstuvwx|1 1 shown
+␛[4;20hZ␊|Zabcdefg|ijklmnop|qrstuvwx|2 1 shown
+␛[?7;25l␛[1;8HXY|abcdefgY|ijklmnop|qrstuvwx|1 8 hidden
+␛[?4hZ|Zbcdefgh|ijklmnop|qrstuvwx|1 2 shown
+␛=␛=␛>␛>|abcdefgh|ijklmnop|qrstuvwx|1 1 shown
+␛[2;3H␛[?47h␛[?47h|        |        |        |2 3 shown
+␛[2;3H␛[?47hZ␛[?47l␛[?47l|abcdefgh|ijklmnop|qrstuvwx|2 4 shown
+␛[?47hZ␛[?47l␛[?47h|Z       |        |        |1 2 shown
+␛[?1047hZ␛[?1047h|Z       |        |        |1 2 shown
+␛[?1047hZ␛[?1047l␛[?1047l␛[?47h|        |        |        |1 2 shown
+␛[2;3H␛[?1049h|        |        |        |2 3 shown
+␛[2;3H␛[?1049h␛[Hxyz␛[?1049l|abcdefgh|ijklmnop|qrstuvwx|2 3 shown
+␛[?1049hZ␛[?1049h|Z       |        |        |1 2 shown
+␛[2;3H␛[?1049l|abcdefgh|ijklmnop|qrstuvwx|2 3 shown
+"##;
+
+/// Saved states, resets and sets.
+static STATES: &str = r##"␛[2;3H␛8|abcdefgh|ijklmnop|qrstuvwx|1 1 shown
+␛[2;3H␛7␛[H␛8|abcdefgh|ijklmnop|qrstuvwx|2 3 shown
+␛[2;3H␛7␛[?47h␛8|        |        |        |1 1 shown
+␛[2;3H␛7␛[?47h␛[3;5H␛7␛[?47l␛8|abcdefgh|ijklmnop|qrstuvwx|2 3 shown
+␛[2;3H␛7␛[?47h␛[3;5H␛7␛[?47l␛[?47h␛8|        |        |        |3 5 shown
+␛[1"q␛7␛[0"q␛8A␛[?2K|A       |ijklmnop|qrstuvwx|1 2 shown
+␛[2;3r␛[?6h␛7␛[?6l␛8␛[9;1H|abcdefgh|ijklmnop|qrstuvwx|3 1 shown
+␛[4h␛[2;3r␛[2;3H␛[!pZ|abcdefgh|ijZlmnop|qrstuvwx|2 4 shown
+␛[2;3r␛[3;1H␛[!p␊|ijklmnop|qrstuvwx|        |3 1 shown
+␛[?25l␛[!p|abcdefgh|ijklmnop|qrstuvwx|1 1 shown
+␛[2;3H␛7␛[!p␛8|abcdefgh|ijklmnop|qrstuvwx|1 1 shown
+␛[2;3H␛[4h␛[?25l␛c|        |        |        |1 1 shown
+␛[?47hZ␛c␛[?47h|        |        |        |1 1 shown
+␛)0␎q␏q|─qcdefgh|ijklmnop|qrstuvwx|1 3 shown
+␛*0␛Nqq|─qcdefgh|ijklmnop|qrstuvwx|1 3 shown
+␛+0␛Oqq|─qcdefgh|ijklmnop|qrstuvwx|1 3 shown
+␛*0␛nq␏q|─qcdefgh|ijklmnop|qrstuvwx|1 3 shown
+␛+0␛oq␏q|─qcdefgh|ijklmnop|qrstuvwx|1 3 shown
+␛(A#␛(B#|£#cdefgh|ijklmnop|qrstuvwx|1 3 shown
+␛(0_␛(B_| _cdefgh|ijklmnop|qrstuvwx|1 3 shown
+␇␀␚␡|abcdefgh|ijklmnop|qrstuvwx|1 1 shown
+␛[38;5mZ|Zbcdefgh|ijklmnop|qrstuvwx|1 2 shown
+"##;
+
+fn full(alloc: Global) -> Result<Term, Fail> {
+    let mut term = Term::new(alloc, 3, 8, 0)?;
+    term.feed(b"abcdefghijklmnopqrstuvwx\x1B[H")?;
+    Ok(term)
+}
+
+// The text of the screen after some bytes, in pieces of a size but for the first.
+fn text_after(alloc: Global, bytes: &[u8], first: usize, size: usize) -> Result<String, Fail> {
+    let mut term = full(alloc)?;
+    let (begin, rest) = bytes.split_at(first.min(bytes.len()));
+    term.feed(begin)?;
+    for piece in rest.chunks(size) {
+        term.feed(piece)?;
+    }
+    text_of(alloc, &term)
+}
+
+fn is_so(alloc: Global, row: &str) -> Result<bool, Fail> {
+    let Some((spelled, wanted)) = row.split_once('|') else {
+        return Ok(false);
+    };
+    let bytes = bytes_of(alloc, spelled)?;
+    let mut so = text_after(alloc, bytes.as_bytes(), 0, 1)?.as_str() == wanted;
+    for first in 0..bytes.len() {
+        so = so && text_after(alloc, bytes.as_bytes(), first, 1024)?.as_str() == wanted;
+    }
+    Ok(so)
+}
+
+// The first row of a table that isn't so.
+fn wrong<'a>(alloc: Global, table: &'a str) -> Result<Option<&'a str>, Fail> {
+    for row in table.lines() {
+        if !is_so(alloc, row)? {
+            return Ok(Some(row));
+        }
+    }
+    Ok(None)
+}
+
+#[test]
+fn motions(rt: HostRuntime) -> Result<(), Fail> {
+    assert_eq!(rt; wrong(rt.alloc(), MOTIONS)?, None);
+    Ok(())
+}
+
+#[test]
+fn feeds_lines_and_scrolls(rt: HostRuntime) -> Result<(), Fail> {
+    assert_eq!(rt; wrong(rt.alloc(), SCROLLS)?, None);
+    Ok(())
+}
+
+#[test]
+fn edits_and_erasures(rt: HostRuntime) -> Result<(), Fail> {
+    assert_eq!(rt; wrong(rt.alloc(), EDITS)?, None);
+    Ok(())
+}
+
+#[test]
+fn modes_twice(rt: HostRuntime) -> Result<(), Fail> {
+    assert_eq!(rt; wrong(rt.alloc(), MODES)?, None);
+    Ok(())
+}
+
+#[test]
+fn saved_states_resets_and_sets(rt: HostRuntime) -> Result<(), Fail> {
+    assert_eq!(rt; wrong(rt.alloc(), STATES)?, None);
+    Ok(())
+}

@@ -1,0 +1,144 @@
+//! What becomes of a pending wrap: which functions clear it, and which leave it to the character that follows (this project's profile).
+//!
+//! A row has bytes and the cursor that shows their effect: on a screen of 3 by 8 an X is written in the last column of the first row, then
+//! the bytes, then a Y. Where the wrap still pends, Y goes to the second row. Control characters are written as their pictures.
+use crate::rows::{bytes_of, cursor_of};
+use roam_term::Term;
+use std::alloc::Global;
+use std::test::*;
+
+/// Motions, feeds and edits clear it.
+static CLEARS_BY_MOVES: &str = r##"␈|1 8
+␉|1 8
+␍|1 2
+␊|2 8
+␋|2 8
+␌|2 8
+␛D|2 8
+␛E|2 2
+␛M|1 8
+␛[A|1 8
+␛[B|2 8
+␛[e|2 8
+␛[C|1 8
+␛[a|1 8
+␛[D|1 8
+␛[E|2 2
+␛[F|1 2
+␛[8G|1 8
+␛[8`|1 8
+␛[1;8H|1 8
+␛[1;8f|1 8
+␛[d|1 8
+␛[I|1 8
+␛[Z|1 2
+␛[@|1 8
+␛[P|1 8
+␛[X|1 8
+␛[L|1 2
+␛[M|1 2
+"##;
+
+/// So do erasures, accepted margins, some modes, another screen, and resets.
+static CLEARS: &str = r##"␛[J|1 8
+␛[1J|1 8
+␛[2J|1 8
+␛[K|1 8
+␛[1K|1 8
+␛[2K|1 8
+␛[?J|1 8
+␛[?2K|1 8
+␛[r|1 2
+␛[?6h|1 2
+␛[?6l|1 2
+␛[?7l|1 8
+␛[?47h|1 8
+␛[?1047h|1 8
+␛[?1049h|1 8
+␛#8|1 2
+␛c|1 2
+"##;
+
+/// All else leaves it.
+static LEAVES: &str = r##"␀|2 2
+␇|2 2
+␎␏|2 2
+␚|2 2
+␡|2 2
+␛H|2 2
+␛[g|2 2
+␛[3g|2 2
+␛[5g|2 2
+␛[S|2 2
+␛[T|2 2
+␛[4l|2 2
+␛[20h|2 2
+␛[20l|2 2
+␛[?1h|2 2
+␛[?5h|2 2
+␛[?7h|2 2
+␛[?25l|2 2
+␛[?2004h|2 2
+␛[1m|2 2
+␛[5n|2 2
+␛[c|2 2
+␛[>c|2 2
+␛[1"q|2 2
+␛[!p|2 2
+␛7|2 2
+␛=|2 2
+␛>|2 2
+␛(B|2 2
+"##;
+
+/// So do shifts, what is refused or isn't listed, strings, and a state that is restored with it; REP carries it out.
+static LEAVES_UNLISTED: &str = r##"␛n|2 2
+␛o|2 2
+␛N|2 2
+␛O|2 2
+␛[3J|2 2
+␛[3K|2 2
+␛[5z|2 2
+␛[3;2r|2 2
+␛[?47l|2 2
+␛[?1049l|2 2
+␛7␍␛8|2 2
+␛]0;x␇|2 2
+␛X␛\|2 2
+␛[b|2 3
+"##;
+
+fn is_so(alloc: Global, row: &str) -> Result<bool, Fail> {
+    let Some((spelled, wanted)) = row.split_once('|') else {
+        return Ok(false);
+    };
+    let mut term = Term::new(alloc, 3, 8, 0)?;
+    term.feed(b"\x1B[1;8HX")?;
+    term.feed(bytes_of(alloc, spelled)?.as_bytes())?;
+    term.feed(b"Y")?;
+    Ok(cursor_of(alloc, &term)?.as_str() == wanted)
+}
+
+// The first row of a table that isn't so.
+fn wrong<'a>(alloc: Global, table: &'a str) -> Result<Option<&'a str>, Fail> {
+    for row in table.lines() {
+        if !is_so(alloc, row)? {
+            return Ok(Some(row));
+        }
+    }
+    Ok(None)
+}
+
+#[test]
+fn what_clears_a_pending_wrap(rt: HostRuntime) -> Result<(), Fail> {
+    assert_eq!(rt; wrong(rt.alloc(), CLEARS_BY_MOVES)?, None);
+    assert_eq!(rt; wrong(rt.alloc(), CLEARS)?, None);
+    Ok(())
+}
+
+#[test]
+fn what_leaves_a_pending_wrap(rt: HostRuntime) -> Result<(), Fail> {
+    assert_eq!(rt; wrong(rt.alloc(), LEAVES)?, None);
+    assert_eq!(rt; wrong(rt.alloc(), LEAVES_UNLISTED)?, None);
+    Ok(())
+}
