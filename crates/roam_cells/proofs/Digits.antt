@@ -16,6 +16,10 @@ unfolding digit
 half_digit true m = omega arith
 half_digit false m = omega arith
 
+even_digit : (m n : ℕ) → n ≡ 2 * m → n ≡ digit false + 2 * m
+unfolding digit
+even_digit m n e = omega (arith, e)
+
 last_digit : (b : Bool) → is_odd (digit b) ≡ b
 unfolding is_odd digit
 last_digit true = refl
@@ -57,21 +61,30 @@ style_back s i =
       background = colour_back s.background i;
     }
 
--- an ink shows the style of which it has the numbers
-pub ink_back : (s : Style) (g : Bool) (f b n : ℕ) → f ≡ number_of s.foreground → b ≡ number_of s.background → n ≡ flags_of s
-    → ink_of (record { foreground = f; background = b; flags = n; guard = g }) ≡ record { style = s; guarded = g }
+-- an ink shows the style and the guard of which it has the numbers
+pub ink_back : (s : Style) (g : Bool) (f b n : ℕ) → f ≡ number_of s.foreground → b ≡ number_of s.background → n ≡ digit g + 2 * flags_of s
+    → ink_of (record { foreground = f; background = b; digits = n }) ≡ record { style = s; guarded = g }
 unfolding ink_of
-ink_back s g f b n front back flags i =
+ink_back s g f b n front back digits i =
     record {
-      style = (ap (λ k. style_of k f b) flags ∙ ap (λ k. style_of (flags_of s) k b) front ∙ ap (λ k. style_of (flags_of s) (number_of s.foreground) k) back ∙ style_back s) i;
-      guarded = g;
+      style = (ap (λ k. style_of (k / 2) f b) digits ∙ ap (λ k. style_of k f b) (half_digit g (flags_of s)) ∙ ap (λ k. style_of (flags_of s) k b) front
+          ∙ ap (λ k. style_of (flags_of s) (number_of s.foreground) k) back ∙ style_back s) i;
+      guarded = (ap is_odd digits ∙ odd_digit g (flags_of s)) i;
     }
 
--- inks with the same numbers are one
-pub ink_same : (a b : Inside) → a.foreground ≡ b.foreground → a.background ≡ b.background → a.flags ≡ b.flags → a.guard ≡ b.guard
-    → ink_of a ≡ ink_of b
+-- an ink without its last digit shows the same style, unguarded
+pub ink_unguarded : (a : Inside) (n : ℕ) → n ≡ a.digits / 2 * 2
+    → ink_of (record a { digits = n }) ≡ record { style = (ink_of a).style; guarded = false }
 unfolding ink_of
-ink_same a b front back flags guard i = record { style = style_of (flags i) (front i) (back i); guarded = guard i }
+ink_unguarded a n e i =
+    let half : n / 2 ≡ a.digits / 2 = omega (arith, e) in
+    let even : n ≡ digit false + 2 * (a.digits / 2) = even_digit (a.digits / 2) n (omega (arith, e)) in
+    record { style = style_of (half i) a.foreground a.background; guarded = (ap is_odd even ∙ odd_digit false (a.digits / 2)) i }
+
+-- inks with the same numbers are one
+pub ink_same : (a b : Inside) → a.foreground ≡ b.foreground → a.background ≡ b.background → a.digits ≡ b.digits → ink_of a ≡ ink_of b
+unfolding ink_of
+ink_same a b front back digits i = record { style = style_of (digits i / 2) (front i) (back i); guarded = is_odd (digits i) }
 
 -- what shows the same is the same
 pub fields_same : (a b : Inside) → IsInk a → IsInk b → ink_of a ≡ ink_of b → a ≡ b

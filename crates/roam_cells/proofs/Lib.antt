@@ -1,4 +1,5 @@
 pub mod Ascii
+pub mod Counting
 pub mod Digits
 pub mod Joining
 pub mod Places

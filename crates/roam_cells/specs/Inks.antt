@@ -1,4 +1,4 @@
--- How a cell keeps its style and its guard: each colour as a number, the flags as the binary digits of one number.
+-- How a cell keeps its style and its guard: each colour as a number, the guard and the flags as the binary digits of one number.
 use Rattle.std.specs.Prelude.{◌≡◌, ℕ, zero, suc, ◌+◌, ◌*◌, ◌/◌, ◌%◌, ◌<◌, ◌≤◌, Bool, true, false, ◌==◌}
 use Rattle.std.proofs.Common.{◌⊎◌, inl, inr, refl, ap, ◌∙◌, arith}
 use Rattle.std.proofs.lemmas.Bool.{cases_eq}
@@ -52,13 +52,13 @@ style_of flags foreground background =
       background = colour_of background;
     }
 
--- what the fields of an ink show
+-- what the fields of an ink show: the guard is the last digit, the flags stand before it
 unfoldable pub ink_of : Inside → InkValue
-ink_of a = record { style = style_of a.flags a.foreground a.background; guarded = a.guard }
+ink_of a = record { style = style_of (a.digits / 2) a.foreground a.background; guarded = is_odd a.digits }
 
--- the flags are eight, and each colour is the terminal's own or one of 256
+-- there are nine digits, and each colour is the terminal's own or one of 256
 pub record IsInk (a : Inside) : Type 0 where
-  pub flags : a.flags < 256
+  pub digits : a.digits < 512
   pub foreground : a.foreground ≤ 256
   pub background : a.background ≤ 256
 
@@ -68,8 +68,7 @@ inside_of v =
     record {
       foreground = number_of v.style.foreground;
       background = number_of v.style.background;
-      flags = flags_of v.style;
-      guard = v.guarded;
+      digits = digit v.guarded + 2 * flags_of v.style;
     }
 
 -- ---- the fields come back from what they show
@@ -97,12 +96,15 @@ flags_back n h =
     let last : digit (is_odd (n / 2 / 2 / 2 / 2 / 2 / 2 / 2)) ≡ n / 2 / 2 / 2 / 2 / 2 / 2 / 2 = omega (arith, digit_back (n / 2 / 2 / 2 / 2 / 2 / 2 / 2)) in
     omega (arith, last, digit_back (n / 2 / 2 / 2 / 2 / 2 / 2), digit_back (n / 2 / 2 / 2 / 2 / 2), digit_back (n / 2 / 2 / 2 / 2), digit_back (n / 2 / 2 / 2), digit_back (n / 2 / 2), digit_back (n / 2), digit_back n)
 
+digits_back : (a : Inside) → a.digits < 512 → digit (is_odd a.digits) + 2 * flags_of (style_of (a.digits / 2) a.foreground a.background) ≡ a.digits
+unfolding flags_of style_of
+digits_back a h = ap (λ k. digit (is_odd a.digits) + 2 * k) (flags_back (a.digits / 2) (omega arith)) ∙ digit_back a.digits
+
 pub inside_back : (a : Inside) → IsInk a → inside_of (ink_of a) ≡ a
-unfolding inside_of ink_of style_of colour_of flags_of
+unfolding inside_of ink_of style_of colour_of
 inside_back a h i =
     record {
       foreground = number_back a.foreground i;
       background = number_back a.background i;
-      flags = flags_back a.flags h.flags i;
-      guard = a.guard;
+      digits = digits_back a h.digits i;
     }

@@ -11,9 +11,8 @@ pub struct Ink {
     // 0 is the terminal's own, n + 1 the index n.
     foreground: u16,
     background: u16,
-    // Bold is the last binary digit, strike the eighth from the end.
-    flags: u8,
-    guard: bool,
+    // The guard is the last binary digit, bold the one before it, strike the ninth from the end.
+    digits: u16,
 }
 
 impl Model for Ink {
@@ -32,7 +31,7 @@ impl Model for Ink {
 
 #[tactic(auto, unfolding(crate::specs::Inks::digit))]
 #[inline]
-fn digit(flag: bool) -> u8
+fn digit(flag: bool) -> u16
     ensures digit { result ≡ digit flag }
     ensures one { result ≤ 1 }
 {
@@ -41,7 +40,7 @@ fn digit(flag: bool) -> u8
 
 #[tactic(auto, unfolding(crate::specs::Inks::is_odd))]
 #[inline]
-fn is_odd(n: u8) -> bool
+fn is_odd(n: u16) -> bool
     ensures odd { result ≡ is_odd n }
 {
     n % 2 == 1
@@ -84,8 +83,7 @@ impl Ink {
         Ink {
             foreground: number_of(style.foreground),
             background: number_of(style.background),
-            flags: digit(style.bold) + 2 * (digit(style.faint) + 2 * lines),
-            guard,
+            digits: digit(guard) + 2 * (digit(style.bold) + 2 * (digit(style.faint) + 2 * lines)),
         }
     }
 
@@ -95,7 +93,7 @@ impl Ink {
     pub fn style(&self) -> Style
         ensures style { result ≡ self.now.style }
     {
-        let flags = self.flags;
+        let flags = self.digits / 2;
         Style {
             bold: is_odd(flags),
             faint: is_odd(flags / 2),
@@ -116,7 +114,7 @@ impl Ink {
     pub fn guard(&self) -> bool
         ensures guard { result ≡ self.now.guarded }
     {
-        self.guard
+        is_odd(self.digits)
     }
 
     /// The same ink without its guard.
@@ -128,8 +126,7 @@ impl Ink {
         Ink {
             foreground: self.foreground,
             background: self.background,
-            flags: self.flags,
-            guard: false,
+            digits: self.digits / 2 * 2,
         }
     }
 
@@ -141,10 +138,7 @@ impl Ink {
         if both(self.foreground, self.background) != both(other.foreground, other.background) {
             return false;
         }
-        if self.flags != other.flags {
-            return false;
-        }
-        self.guard == other.guard
+        self.digits == other.digits
     }
 }
 

@@ -17,5 +17,6 @@ returns c = record {
         c.digit-6.ensures.digit,
         c.digit-7.ensures.digit,
         c.digit-8.ensures.digit,
+        c.digit-9.ensures.digit,
       ));
 }
