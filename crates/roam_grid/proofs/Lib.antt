@@ -10,4 +10,5 @@ pub mod Starting
 pub mod Unmarked
 pub mod UnmarkedPuts
 pub mod Stops
+pub mod Keeping
 pub mod Worked

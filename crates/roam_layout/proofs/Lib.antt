@@ -13,3 +13,4 @@ pub mod Facing
 pub mod Pointing
 pub mod Changing
 pub mod FaceRows
+pub mod Laying

@@ -16,4 +16,5 @@ pub mod Scrolls
 pub mod Sizes
 pub mod Pages
 pub mod Starting
+pub mod Keeping
 pub mod Worked

@@ -5,3 +5,4 @@ pub mod Rectangles
 pub mod Agreeing
 pub mod Entering
 pub mod Picturing
+pub mod Screening

@@ -1,9 +1,17 @@
 //! Laws of sessions.
 ghost use Rattle.std.specs.Prelude.{◌≡◌, ℕ, List, [], ◌∷◌, ◌++◌};
+ghost use Rattle.roam_cells.specs.Screenshot.{IsScreenshot};
+ghost use Rattle.roam_layout.specs.Layouts.{IsSessionSize};
+ghost use Rattle.roam_session.specs.Faces.{face};
 ghost use Rattle.roam_session.specs.Sessions.{SessionSize, Entry, session, after_entry};
 
 /// A log makes of a session what its entries make one after another.
 pub fn entries_come_one_after_another()
     ensures step { (size : SessionSize) (log : List Entry) (entry : Entry)
         → session size (log ++ entry ∷ []) ≡ after_entry (session size log) entry }
+{}
+
+/// The face of a session is a screen, whatever size of a session it begins with and whatever entries come.
+pub fn faces_are_screens()
+    ensures screen { (size : SessionSize) (log : List Entry) → IsSessionSize size.rows size.cols → IsScreenshot (face size log) }
 {}

@@ -7,3 +7,8 @@ pub mod Resizes
 pub mod Views
 pub mod Showing
 pub mod Queue
+pub mod Characters
+pub mod LastSizes
+pub mod Keeping
+pub mod Lines
+pub mod Picturing

@@ -11,3 +11,4 @@ pub mod Picture
 pub mod Stands
 pub mod Keys
 pub mod Sizes
+pub mod Screens

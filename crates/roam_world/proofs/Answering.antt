@@ -134,7 +134,7 @@ BySpent w now false r v = Are r v (Sent (length w.sent + 1) (length (sent_by w.s
 by_server_tick : (w : World) (now : ℕ) (r : Reply) (v : World) → ServerTickStep w now r v → IsAmple r
     → BySpent w (moment w.server now) (is_tick_spent w.server (moment w.server now)) r v
 by_server_tick w now r v (spent x e is) m = subst (λ (b : Bool). BySpent w (moment w.server now) b r v) (sym x) (e, is)
-by_server_tick w now r v (ticked x y e is) m = subst (λ (b : Bool). BySpent w (moment w.server now) b r v) (sym x) (e, is)
+by_server_tick w now r v (ticked x e is) m = subst (λ (b : Bool). BySpent w (moment w.server now) b r v) (sym x) (e, is)
 by_server_tick w now r v (no_memory e is) m = absurd (m.whole e)
 
 one_server_tick : (w : World) (now : ℕ) (b : Bool) (r r' : Reply) (v v' : World) → BySpent w now b r v → BySpent w now b r' v'

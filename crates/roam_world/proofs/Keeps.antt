@@ -64,6 +64,7 @@ pub keeps-input : (w : World) (entry : Entry) → ((id : ℕ) → acts_of id (en
     → Holds (with_server w (after_input w.server entry))
 keeps-input w entry none h =
     record {
+      size = h.size;
       numbers = h.numbers;
       cuts = cuts_more w.server.log (entry ∷ []) w.server.cuts h.cuts;
       screens = screens_more w.server.size w.server.log (entry ∷ []) w.server.cuts h.cuts h.screens;
@@ -90,6 +91,7 @@ pub keeps-client : (w : World) (id : ℕ) (c : Client) → c.made ≡ true → c
     → Holds w → Holds (with_client w id c)
 keeps-client w id c made same line h =
     record {
+      size = h.size;
       numbers = h.numbers;
       cuts = h.cuts;
       screens = h.screens;
@@ -319,6 +321,7 @@ pub keeps-sending : (w : World) (id now : ℕ) → (w.clients id).made ≡ true 
     → Holds (after_client_sent w id now)
 keeps-sending w id now made e h =
     record {
+      size = h.size;
       numbers = h.numbers;
       cuts = h.cuts;
       screens = h.screens;
@@ -401,6 +404,7 @@ keeps-start w slot id made h =
     let l = subst (λ (x : Client). Line w id (w.server.records id) x) is (h.lines id) in
     let a = l.acts in
     record {
+      size = h.size;
       numbers = h.numbers;
       cuts = h.cuts;
       screens = h.screens;

@@ -16,7 +16,7 @@ use Rattle.roam_wire.specs.Instructions.{DownValue, down_text}
 use Rattle.roam_world.specs.Lists.{IsIn}
 use Rattle.roam_world.specs.Texts.{datagram_with, datagrams_of}
 use Rattle.roam_world.specs.Servers.{Record, Server, moment}
-use Rattle.roam_world.specs.Ticks.{IsFaceScreen, number_after, screen_after, holds_after, sends, down_to, pieces_to, after_sent, ticked, datagrams_to, Parcel, parcel, parcels_to, sent_by, is_tick_spent}
+use Rattle.roam_world.specs.Ticks.{number_after, screen_after, holds_after, sends, down_to, pieces_to, after_sent, ticked, datagrams_to, Parcel, parcel, parcels_to, sent_by, is_tick_spent}
 use Rattle.roam_world.specs.Worlds.{World, ToClient, Reply, Failed, datagram_at, after_server_tick}
 use Rattle.roam_world.specs.Steps.{ServerTickStep, spent, ticked as did_tick, no_memory, Run}
 use Rattle.roam_world.specs.Laws.{deliveries, IsFresh, DeliversAll, OneRoundSuffices}
@@ -167,15 +167,15 @@ sent_top r n s now e =
     (sym e)
     (numbered-last r.instructions (down_to r n s now), sym (marked_newest (holds_after r n s now).base (holds_after r n s now).later))
 
-round_of : (w : World) (now id : ℕ) → is_tick_spent w.server now ≡ false → IsFaceScreen w.server now → Holds w
+round_of : (w : World) (now id : ℕ) → is_tick_spent w.server now ≡ false → Holds w
     → (k : ℕ) (d : DatagramValue) → IsFresh w (after_server_tick w now) id k d → IsRound w (after_server_tick w now) id
-round_of w now id unspent shown h k0 d0 some =
+round_of w now id unspent h k0 d0 some =
     let first = to_start w.server now id d0 (late w.sent new k0 d0 some.0 some.1) some.2 in
     let sends' = sends_to w.server.session id r n s now d0 first.1 in
     let t = sent_top r n s now sends'.0 in
     let low = (h.lines id).gathers_down.low in
     record {
-      holds = keeps-tick w now unspent shown h;
+      holds = keeps-tick w now unspent h;
       slots = refl;
       v = down_to r n s now;
       n = length r.instructions + 1;
@@ -264,9 +264,9 @@ one_round w h slot id now ks reply w' rs w'' s step fine some all run ok = go st
     go : ServerTickStep w now reply w' → (w''.clients id).receiver.newest.number ≡ (newest (w'.server.records id).sender).number
     go (spent x e is) = absurd (no_later w.sent some.0 some.1 some.2.0
         (subst (λ (q : World). datagram_at q.sent some.0 ≡ Some some.1) is some.2.1))
-    go (did_tick x y e is) =
+    go (did_tick x e is) =
         over w w' w'' slot id ks rs s
         (subst (λ (q : World). IsRound w q id) (sym is)
-        (round_of w (moment w.server now) id x y h some.0 some.1 (subst (λ (q : World). IsFresh w q id some.0 some.1) is some.2)))
+        (round_of w (moment w.server now) id x h some.0 some.1 (subst (λ (q : World). IsFresh w q id some.0 some.1) is some.2)))
         some.0 some.1 some.2 all run ok
     go (no_memory e is) = absurd (fine e)

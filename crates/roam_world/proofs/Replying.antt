@@ -24,7 +24,7 @@ use Rattle.roam_world.specs.Numbers.{IsScreenOf}
 use Rattle.roam_world.specs.Texts.{Address, SaysUp, update_in}
 use Rattle.roam_world.specs.Servers.{Server, moment, after_input}
 use Rattle.roam_world.specs.Comings.{is_to_server, Coming, turned_away, noted, completed, coming, coming_gathered, after_note, new_acts, after_acts, room_for}
-use Rattle.roam_world.specs.Ticks.{IsFaceScreen, sent_by, is_tick_spent}
+use Rattle.roam_world.specs.Ticks.{sent_by, is_tick_spent}
 use Rattle.roam_world.specs.Clients.{Client, moment_of, after_typed}
 use Rattle.roam_world.specs.Arrivals.{Hearing, Arriving, sent_back, kept, fulfilled, arriving, arriving_gathered, after_piece, step_of, hearing_of, after_whole}
 use Rattle.roam_world.specs.Sendings.{is_client_due, is_client_spent, datagrams_from, after_quiet}
@@ -193,15 +193,14 @@ typed_reply w slot act (Some id) e =
         below : (a : ℕ) → (a < 1024) ⊎ (a < 1024 → ⊥)
         below a = grind arith
 
-server_tick_reply : (w : World) (now : ℕ) (b : Bool) → is_tick_spent w.server (moment w.server now) ≡ b
-    → IsFaceScreen w.server (moment w.server now) → IsAnswered w (ServerTick now)
-server_tick_reply w now true e shown = record
+server_tick_reply : (w : World) (now : ℕ) (b : Bool) → is_tick_spent w.server (moment w.server now) ≡ b → IsAnswered w (ServerTick now)
+server_tick_reply w now true e = record
     { reply = Failed Spent; left = w; step = spent e refl refl; ample = failed_ample Spent (λ z. cc) }
-server_tick_reply w now false e shown =
+server_tick_reply w now false e =
     record {
       reply = Sent (length w.sent + 1) (length (sent_by w.server (moment w.server now)));
       left = after_server_tick w (moment w.server now);
-      step = ticked e shown refl refl;
+      step = ticked e refl refl;
       ample = sent_ample (length w.sent + 1) (length (sent_by w.server (moment w.server now)));
     }
 
@@ -376,11 +375,11 @@ client_reply w slot k now h (Some id) e (Some d) f = go (arriving w.server.sessi
         }
 
 pub has_reply : (w : World) → Holds w → HasReply w
-has_reply w h (PaneBytes pane bytes) i = pane_reply w pane bytes (refuses_bytes w.server.size w.server.log pane bytes) refl
-has_reply w h (Typed slot act) i = typed_reply w slot act (w.slots slot) refl
-has_reply w h (ServerTick now) i = server_tick_reply w now (is_tick_spent w.server (moment w.server now)) refl i
-has_reply w h (ClientTick slot now) i = client_tick_reply w slot now (w.slots slot) refl
-has_reply w h (ToServer k from now) i = server_reply w k from now h (datagram_at w.sent k) refl
-has_reply w h (ToClient slot k now) i = client_reply w slot k now h (w.slots slot) refl (datagram_at w.sent k) refl
-has_reply w h (Start slot id) i = start_reply w slot id (w.clients id).made refl
-has_reply w h (Drain pane n) i = drain_reply w pane n (output_at w.server.size w.server.log pane) refl
+has_reply w h (PaneBytes pane bytes) = pane_reply w pane bytes (refuses_bytes w.server.size w.server.log pane bytes) refl
+has_reply w h (Typed slot act) = typed_reply w slot act (w.slots slot) refl
+has_reply w h (ServerTick now) = server_tick_reply w now (is_tick_spent w.server (moment w.server now)) refl
+has_reply w h (ClientTick slot now) = client_tick_reply w slot now (w.slots slot) refl
+has_reply w h (ToServer k from now) = server_reply w k from now h (datagram_at w.sent k) refl
+has_reply w h (ToClient slot k now) = client_reply w slot k now h (w.slots slot) refl (datagram_at w.sent k) refl
+has_reply w h (Start slot id) = start_reply w slot id (w.clients id).made refl
+has_reply w h (Drain pane n) = drain_reply w pane n (output_at w.server.size w.server.log pane) refl

@@ -11,6 +11,7 @@ use Rattle.roam_sync.proofs.TrueStates.{true_at_first}
 use Rattle.roam_sync.proofs.Steps.{link_at_first}
 use Rattle.roam_wire.specs.Datagrams.{DatagramValue}
 use Rattle.roam_wire.specs.Instructions.{DownValue, down_text, UpValue, up_text}
+use Rattle.roam_layout.specs.Layouts.{IsSessionSize}
 use Rattle.roam_session.specs.Sessions.{SessionSize, Entry, Given, Did, Drained}
 use Rattle.roam_session.specs.Refusals.{stops}
 use Rattle.roam_world.specs.Lists.{IsIn}
@@ -83,7 +84,7 @@ keeps-typing w slot a r w' act (no_memory e is) h = subst Holds (sym is) h
 
 keeps-server_tick : (w : World) (now : ℕ) (r : Reply) (w' : World) → ServerTickStep w now r w' → Holds w → Holds w'
 keeps-server_tick w now r w' (spent x e is) h = subst Holds (sym is) h
-keeps-server_tick w now r w' (ticked x y e is) h = subst Holds (sym is) (keeps-tick w (moment w.server now) x y h)
+keeps-server_tick w now r w' (ticked x e is) h = subst Holds (sym is) (keeps-tick w (moment w.server now) x h)
 keeps-server_tick w now r w' (no_memory e is) h = subst Holds (sym is) h
 
 keeps-client_tick : (w : World) (slot now : ℕ) (r : Reply) (w' : World) → ClientTickStep w slot now r w' → Holds w → Holds w'
@@ -167,10 +168,11 @@ unfolding first_screen
 first_shown = blank_is_screenshot 24 80 (record
     { least_rows = omega arith; most_rows = omega arith; least_columns = omega arith; most_columns = omega arith })
 
-pub holds-new : (session : ℕ) (size : SessionSize) → Holds (new_world session size)
+pub holds-new : (session : ℕ) (size : SessionSize) → IsSessionSize size.rows size.cols → Holds (new_world session size)
 unfolding new_world new_server nobody no_record
-holds-new session size =
+holds-new session size limits =
     record {
+      size = limits;
       numbers = omega arith;
       cuts = (λ k lt. omega arith);
       screens = (λ n le. let z : 0 ≡ n = omega arith in subst (λ (m : ℕ). IsScreenshot (screen size [] [] m)) z first_shown);
@@ -205,4 +207,4 @@ keeps-run w [] (a ∷ rs) w' i r h = absurd r
 keeps-run w (e ∷ es) [] w' i r h = absurd r
 
 pub holds-reached : Always Holds
-holds-reached session size es rs w reaches = keeps-run (new_world session size) es rs w reaches.events reaches.run (holds-new session size)
+holds-reached session size es rs w reaches = keeps-run (new_world session size) es rs w reaches.events reaches.run (holds-new session size reaches.limits)

@@ -27,7 +27,7 @@ use Rattle.roam_world.specs.Moments.{is_spent}
 use Rattle.roam_world.specs.Texts.{datagram_with, datagrams_of}
 use Rattle.roam_world.specs.Servers.{Record, Server, new_server, no_record, moment}
 use Rattle.roam_world.specs.Comings.{is_to_server, Coming, turned_away, noted, completed, coming, coming_gathered, arrival_with}
-use Rattle.roam_world.specs.Ticks.{makes, number_after, screen_after, IsFaceScreen, holds_after, sends, down_to, pieces_to, after_sent, ticked, datagrams_to, is_record_spent, Parcel, parcel, parcels_to, sent_by, is_tick_spent}
+use Rattle.roam_world.specs.Ticks.{makes, number_after, screen_after, holds_after, sends, down_to, pieces_to, after_sent, ticked, datagrams_to, is_record_spent, Parcel, parcel, parcels_to, sent_by, is_tick_spent}
 use Rattle.roam_world.specs.Clients.{Client, nobody, new_client, moment_of}
 use Rattle.roam_world.specs.Sendings.{up_from, pieces_from, datagrams_from, is_client_spent, after_sending}
 use Rattle.roam_world.specs.Worlds.{World, new_world, Event, PaneBytes, Typed, ServerTick, ClientTick, ToServer, ToClient, Start, Drain, Reply, with_client}
@@ -148,10 +148,10 @@ list_any-false f (y ∷ xs) x e i =
       | inr rest ↦ list_any-false f xs x (or_right (f y) (list_any f xs) e) rest
     ]
 
-to_sendable : (w : World) (now : ℕ) → is_tick_spent w.server now ≡ false → IsFaceScreen w.server now → Holds w → Counts w
+to_sendable : (w : World) (now : ℕ) → is_tick_spent w.server now ≡ false → Holds w → Counts w
     → (d : DatagramValue)
     → IsIn d (map (λ (p : Parcel). p.datagram) (sent_by w.server now)) → IsDatagram d
-to_sendable w now e shown h k d i =
+to_sendable w now e h k d i =
     let a = IsIn-map (λ (p : Parcel). p.datagram) d (sent_by w.server now) i in
     let f = IsIn-flat_map (parcels_to w.server now) a.0 w.server.arrival a.1 in
     let m = IsIn-map (parcel (w.server.records f.0).address) a.0
@@ -178,7 +178,7 @@ to_sendable w now e shown h k d i =
         short : length (down_text (down_to r n s now)) ≤ 1228800
         short =
             let long = down_length (down_to r n s now) in
-            let few = most (holds_after r n s now).base.state (newest (holds_after r n s now)).state (newest_screen w now e shown h id) in
+            let few = most (holds_after r n s now).base.state (newest (holds_after r n s now)).state (newest_screen w now e h id) in
             omega (arith, long, few)
 
         go : (b : Bool) → sends r n s now ≡ b → IsIn x
@@ -300,7 +300,7 @@ counts-step w (Typed slot a) r w' i (typed id x y z e is) h k =
     subst Counts (sym is) (client_counts w id _ (k.starts id (h.slots slot id x)) k)
 counts-step w (Typed slot a) r w' i (no_memory e is) h k = subst Counts (sym is) k
 counts-step w (ServerTick now) r w' i (spent x e is) h k = subst Counts (sym is) k
-counts-step w (ServerTick now) r w' i (did_tick x y e is) h k =
+counts-step w (ServerTick now) r w' i (did_tick x e is) h k =
     subst Counts (sym is) (record {
       session = k.session;
       starts = k.starts;
@@ -311,7 +311,7 @@ counts-step w (ServerTick now) r w' i (did_tick x y e is) h k =
       few = k.few;
       sent = (λ d j. elim (IsIn-append_cases d w.sent (map (λ (p : Parcel). p.datagram) (sent_by w.server (moment w.server now))) j) [
         | inl o ↦ k.sent d o
-        | inr n ↦ to_sendable w (moment w.server now) x y h k d n
+        | inr n ↦ to_sendable w (moment w.server now) x h k d n
       ]);
     })
 counts-step w (ServerTick now) r w' i (no_memory e is) h k = subst Counts (sym is) k
@@ -392,4 +392,4 @@ counts-run w (e ∷ es) [] w' i r h k = absurd r
 
 pub counts-reached : Always Counts
 counts-reached session size es rs w reaches =
-    counts-run (new_world session size) es rs w reaches.events reaches.run (holds-new session size) (counts-new session size reaches.id)
+    counts-run (new_world session size) es rs w reaches.events reaches.run (holds-new session size reaches.limits) (counts-new session size reaches.id)

@@ -22,12 +22,13 @@ use Rattle.roam_wire.specs.Gatherers.{Gathering, piece_of}
 use Rattle.roam_wire.specs.Arrivals.{IsPieceOf}
 use Rattle.roam_wire.specs.Instructions.{DownValue, IsDown, down_text, UpValue, up_text}
 use Rattle.roam_session.specs.Sessions.{SessionSize, Entry, Did}
+use Rattle.roam_session.proofs.Screening.{face_is}
 use Rattle.roam_world.specs.Lists.{IsIn}
 use Rattle.roam_world.specs.Numbers.{IsScreenOf, acts_of}
 use Rattle.roam_world.specs.Texts.{Address, update_in, datagrams_of}
 use Rattle.roam_world.specs.Servers.{Note, Record, Server}
 use Rattle.roam_world.specs.Comings.{heard_from, told_by, after_note, new_acts, after_acts}
-use Rattle.roam_world.specs.Ticks.{makes, cuts_after, number_after, screen_after, IsFaceScreen, is_live, is_offered, holds_after, sends, down_to, pieces_to, after_sent, ticked, datagrams_to, Parcel, parcel, parcels_to, sent_by, is_tick_spent}
+use Rattle.roam_world.specs.Ticks.{makes, cuts_after, number_after, screen_after, is_live, is_offered, holds_after, sends, down_to, pieces_to, after_sent, ticked, datagrams_to, Parcel, parcel, parcels_to, sent_by, is_tick_spent}
 use Rattle.roam_world.specs.Clients.{Client}
 use Rattle.roam_world.specs.Worlds.{World, with_server, after_server_tick}
 use Rattle.roam_world.specs.Laws.{greatest_from, no_note}
@@ -77,6 +78,7 @@ keeps-note w d from now g of h =
     let l = h.lines d.client in
     let a = l.acts in
     record {
+      size = h.size;
       numbers = h.numbers;
       cuts = h.cuts;
       screens = h.screens;
@@ -113,6 +115,7 @@ pub keeps-acts : (w : World) (d : DatagramValue) (from : Address) (now : ℕ) (g
     → Holds (with_server w (after_acts w.server d from now g u n))
 keeps-acts w d from now g u n of sent few h =
     record {
+      size = h.size;
       numbers = h.numbers;
       cuts = cuts_more log more cuts h.cuts;
       screens = screens_more size log more cuts h.cuts h.screens;
@@ -382,9 +385,9 @@ record CutsHold (w : World) (cuts : List ℕ) : Type 0 where
   screens : AreScreens w.server.size w.server.log cuts
   lines : (id : ℕ) → LineOf w.server.size w.server.log cuts (acts_of id w.server.log) (w.server.records id) (w.clients id)
 
-cuts_hold : (w : World) (now : ℕ) → is_tick_spent w.server now ≡ false → IsFaceScreen w.server now → Holds w
+cuts_hold : (w : World) (now : ℕ) → is_tick_spent w.server now ≡ false → Holds w
     → CutsHold w (cuts_after w.server now)
-cuts_hold w now spent shown h = go (makes w.server now) refl (or_left _ _ spent)
+cuts_hold w now spent h = go (makes w.server now) refl (or_left _ _ spent)
   where
     s : Server
     s = w.server
@@ -396,26 +399,27 @@ cuts_hold w now spent shown h = go (makes w.server now) refl (or_left _ _ spent)
     go true e f = record {
       numbers = not_past (length (s.cuts ++ length s.log ∷ [])) f;
       cuts_low = cuts_cut s.log s.cuts h.cuts;
-      screens = screens_cut s.size s.log s.cuts h.screens (shown e);
+      screens = screens_cut s.size s.log s.cuts h.screens (face_is s.size s.log h.size);
       lines = λ id. line-cut s.size s.log s.cuts (length s.log) (acts_of id s.log) (s.records id) (w.clients id) (h.lines id);
     }
     go false e f = record { numbers = h.numbers; cuts_low = h.cuts; screens = h.screens; lines = h.lines }
 
 -- the screen that a tick tells a record of is a screen
-pub newest_screen : (w : World) (now : ℕ) → is_tick_spent w.server now ≡ false → IsFaceScreen w.server now → Holds w → (id : ℕ)
+pub newest_screen : (w : World) (now : ℕ) → is_tick_spent w.server now ≡ false → Holds w → (id : ℕ)
     → IsScreenshot (newest (holds_after (w.server.records id) (number_after w.server now) (screen_after w.server now) now)).state
-newest_screen w now spent shown h id =
-    let c = cuts_hold w now spent shown h in
+newest_screen w now spent h id =
+    let c = cuts_hold w now spent h in
     let made : IsScreenOf w.server.size w.server.log (cuts_after w.server now) (number_after w.server now) (screen_after w.server now) =
     record { made = omega arith; same = refl } in
     newest_shown w.server.size w.server.log (cuts_after w.server now) (acts_of id w.server.log) (w.server.records id) (w.clients id)
     (number_after w.server now) (screen_after w.server now) now
     made c.screens c.numbers (c.lines id)
 
-pub keeps-tick : (w : World) (now : ℕ) → is_tick_spent w.server now ≡ false → IsFaceScreen w.server now → Holds w
+pub keeps-tick : (w : World) (now : ℕ) → is_tick_spent w.server now ≡ false → Holds w
     → Holds (after_server_tick w now)
-keeps-tick w now spent shown h =
+keeps-tick w now spent h =
     record {
+      size = h.size;
       numbers = c.numbers;
       cuts = c.cuts_low;
       screens = c.screens;
@@ -432,7 +436,7 @@ keeps-tick w now spent shown h =
     }
   where
     c : CutsHold w (cuts_after w.server now)
-    c = cuts_hold w now spent shown h
+    c = cuts_hold w now spent h
 
     made : IsScreenOf w.server.size w.server.log (cuts_after w.server now) (number_after w.server now) (screen_after w.server now)
     made = record { made = omega arith; same = refl }

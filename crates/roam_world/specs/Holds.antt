@@ -15,6 +15,7 @@ use Rattle.roam_wire.specs.Datagrams.{DatagramValue, IsDatagram}
 use Rattle.roam_wire.specs.Gatherers.{Gathering, piece_of}
 use Rattle.roam_wire.specs.Arrivals.{IsPieceOf, GathersOf}
 use Rattle.roam_wire.specs.Instructions.{DownValue, IsDown, down_text, UpValue, IsUp, up_text}
+use Rattle.roam_layout.specs.Layouts.{IsSessionSize}
 use Rattle.roam_session.specs.Sessions.{SessionSize, Entry}
 use Rattle.roam_world.specs.Lists.{IsIn}
 use Rattle.roam_world.specs.Numbers.{screen, IsScreenOf, acts_of}
@@ -86,6 +87,7 @@ abbrev pub AreScreens : SessionSize → List Entry → List ℕ → Type 0
 AreScreens size log cuts = (n : ℕ) → n ≤ length cuts → IsScreenshot (screen size log cuts n)
 
 pub record Holds (w : World) : Type 0 where
+  pub size : IsSessionSize w.server.size.rows w.server.size.cols
   pub numbers : length w.server.cuts < 2 ^ 62
   pub cuts : AreCuts w.server.log w.server.cuts
   pub screens : AreScreens w.server.size w.server.log w.server.cuts

@@ -6,11 +6,12 @@ use Rattle.roam_sync.specs.Senders.{newest, count}
 use Rattle.roam_sync.specs.Receivers.{pairs}
 use Rattle.roam_sync.specs.TrueLines.{HoldsTrueStates, HasTrueStates}
 use Rattle.roam_wire.specs.Datagrams.{DatagramValue}
+use Rattle.roam_layout.specs.Layouts.{IsSessionSize}
 use Rattle.roam_session.specs.Sessions.{SessionSize}
 use Rattle.roam_world.specs.Lists.{IsIn, IsFront}
 use Rattle.roam_world.specs.Numbers.{screen, IsScreenOf, acts_of}
 use Rattle.roam_world.specs.Servers.{Note, nowhere, moment}
-use Rattle.roam_world.specs.Ticks.{IsFaceScreen, Parcel, sent_by, is_live, number_after, after_tick}
+use Rattle.roam_world.specs.Ticks.{Parcel, sent_by, is_live, number_after, after_tick}
 use Rattle.roam_world.specs.Clients.{shown_number, shown_screen}
 use Rattle.roam_world.specs.Arrivals.{IsGap}
 use Rattle.roam_world.specs.Worlds.{World, new_world, Event, PaneBytes, Typed, ServerTick, ClientTick, ToServer, ToClient, Start, Drain, Reply, Heard, Failed, Stopped, datagram_at}
@@ -33,9 +34,10 @@ abbrev pub AreEvents : List Event → Type 0
 AreEvents [] = Unit {0}
 AreEvents (e ∷ es) = IsEvent e × AreEvents es
 
--- a new world, of a session of this id and first size, comes to this one by these events with these replies
+-- a new world, of a session of this id and first size, which a session may have, comes to this one by these events with these replies
 pub record Reaches (session : ℕ) (size : SessionSize) (es : List Event) (rs : List Reply) (w : World) : Type 0 where
   pub id : session < 2 ^ 64
+  pub limits : IsSessionSize size.rows size.cols
   pub events : AreEvents es
   pub run : Run (new_world session size) es rs w
 
@@ -141,11 +143,6 @@ pub record IsAmple (reply : Reply) : Type 0 where
 abbrev pub HasOneReply : World → Type 0
 HasOneReply w = (e : Event) (r r' : Reply) (v v' : World) → wstep w e r v → wstep w e r' v' → IsAmple r → IsAmple r' → (r ≡ r') × (v ≡ v')
 
--- what a tick needs of its session: that the face of a number to be made is a screen
-abbrev pub IsAnswerable : World → Event → Type 0
-IsAnswerable w (ServerTick now) = IsFaceScreen w.server (moment w.server now)
-IsAnswerable w e = Unit {0}
-
 -- an event has a reply that doesn't tell of memory
 pub record IsAnswered (w : World) (e : Event) : Type 0 where
   pub reply : Reply
@@ -155,4 +152,4 @@ pub record IsAnswered (w : World) (e : Event) : Type 0 where
 
 -- each event has
 abbrev pub HasReply : World → Type 0
-HasReply w = (e : Event) → IsAnswerable w e → IsAnswered w e
+HasReply w = (e : Event) → IsAnswered w e

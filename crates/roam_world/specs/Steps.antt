@@ -19,7 +19,7 @@ use Rattle.roam_session.specs.Refusals.{refuses_bytes, output_at}
 use Rattle.roam_world.specs.Texts.{Address, SaysDown, SaysNoDown, SaysUp, SaysNoUp, update_in}
 use Rattle.roam_world.specs.Servers.{moment, after_input}
 use Rattle.roam_world.specs.Comings.{turned_away, noted, completed, coming, after_note, new_acts, after_acts, room_for}
-use Rattle.roam_world.specs.Ticks.{IsFaceScreen, sent_by, is_tick_spent}
+use Rattle.roam_world.specs.Ticks.{sent_by, is_tick_spent}
 use Rattle.roam_world.specs.Clients.{moment_of, after_typed}
 use Rattle.roam_world.specs.Arrivals.{Hearing, sent_back, kept, fulfilled, arriving, after_piece, step_of, hearing_of, after_whole}
 use Rattle.roam_world.specs.Sendings.{is_client_due, is_client_spent, datagrams_from, after_quiet}
@@ -57,7 +57,7 @@ pub data TypedStep (w : World) (slot : ℕ) (act : Act) (reply : Reply) (w' : Wo
 pub data ServerTickStep (w : World) (now : ℕ) (reply : Reply) (w' : World) : Type 0 where
   spent : is_tick_spent w.server (moment w.server now) ≡ true
       → reply ≡ Failed Spent → w' ≡ w → ServerTickStep w now reply w'
-  ticked : is_tick_spent w.server (moment w.server now) ≡ false → IsFaceScreen w.server (moment w.server now)
+  ticked : is_tick_spent w.server (moment w.server now) ≡ false
       → reply ≡ Sent (length w.sent + 1) (length (sent_by w.server (moment w.server now)))
       → w' ≡ after_server_tick w (moment w.server now) → ServerTickStep w now reply w'
   no_memory : reply ≡ Failed OutOfMemory → w' ≡ w → ServerTickStep w now reply w'

@@ -1,14 +1,13 @@
 -- A tick of the server.
-use Rattle.std.specs.Prelude.{◌≡◌, ℕ, ◌+◌, List, [], ◌∷◌, ◌++◌, length, map, None, Bool, true, false, ◌&&◌, ◌||◌, nat_lt, ◌==◌, if◌then◌else◌}
+use Rattle.std.specs.Prelude.{ℕ, ◌+◌, List, [], ◌∷◌, ◌++◌, length, map, None, Bool, false, ◌&&◌, ◌||◌, nat_lt, ◌==◌, if◌then◌else◌}
 use Rattle.std.specs.List.{flat_map, list_any}
-use Rattle.roam_cells.specs.Screenshot.{Screenshot, IsScreenshot}
+use Rattle.roam_cells.specs.Screenshot.{Screenshot}
 use Rattle.roam_update.specs.Shots.{difference}
 use Rattle.roam_sync.specs.Senders.{Sending, newest, count, offered, sent_at, is_due}
 use Rattle.roam_wire.specs.declared.datagrams.Kind.TheVariants.{ToClient}
 use Rattle.roam_wire.specs.Cutting.{pieces_of}
 use Rattle.roam_wire.specs.Datagrams.{DatagramValue}
 use Rattle.roam_wire.specs.Instructions.{DownValue, down_text}
-use Rattle.roam_session.specs.Faces.{face}
 use Rattle.roam_world.specs.Numbers.{screen}
 use Rattle.roam_world.specs.Moments.{has_passed, is_overdue, is_spent}
 use Rattle.roam_world.specs.Texts.{Address, datagrams_of}
@@ -29,10 +28,6 @@ number_after s now = length (cuts_after s now)
 
 abbrev pub screen_after : Server → ℕ → Screenshot
 screen_after s now = screen s.size s.log (cuts_after s now) (number_after s now)
-
--- where a number is made, the session's face is a screen: each call that answers a face answers one
-abbrev pub IsFaceScreen : Server → ℕ → Type 0
-IsFaceScreen s now = makes s now ≡ true → IsScreenshot (face s.size s.log)
 
 -- ---- what it does to one record, where s is the screen of the newest number n
 

@@ -36,7 +36,6 @@ pub fn one_round_suffices()
 {}
 
 /// After every list of events, each event has a reply that doesn't tell of memory, and of such replies one alone, which leaves one world.
-/// Of a tick that makes a number it is asked that the session's face is a screen, as every call that answers a face promises.
 pub fn each_event_is_answered()
     ensures reply { Always HasReply }
     ensures one { Always HasOneReply }
