@@ -121,7 +121,8 @@ module _ (s : Screen) (is : IsSound s) where
 
   plain_row : (one : ℕ → RowSource) → ((c : ℕ) → c < s.cols → IsPlainIn s.cols (one c)) → Kept s (mapped (in_row s.row one) s)
   plain_row one each =
-      with_cells (moved s.rows s.cols s.cells (in_row s.row one)) (plain_row_cells s.rows s.cols s.row s.cells one is.cells is.frame.row_in each)
+      with_cells (moved s.rows s.cols s.cells (in_row s.row one))
+      (plain_row_cells s.rows s.cols s.row s.cells one is.cells is.frame.row_in each)
 
   row_low : s.row < s.rows
   row_low = is.frame.row_in
@@ -150,7 +151,8 @@ module _ (s : Screen) (is : IsSound s) where
   pub restored_kept : (row col : ℕ) (pending : Bool) → Kept s (restored row col pending s)
   unfolding restored
   restored_kept row col pending =
-      at_place (min row (s.rows - 1)) (min col (s.cols - 1)) (pending && eqb (min col (s.cols - 1) + 1) s.cols) (omega (arith, row_low)) (omega (arith, col_low))
+      at_place (min row (s.rows - 1)) (min col (s.cols - 1)) (pending && eqb (min col (s.cols - 1) + 1) s.cols) (omega (arith, row_low))
+      (omega (arith, col_low))
       (by_pending pending)
     where
       by_pending : (b : Bool) → (b && eqb (min col (s.cols - 1) + 1) s.cols) ≡ true → min col (s.cols - 1) + 1 ≡ s.cols
@@ -244,15 +246,18 @@ module _ (s : Screen) (is : IsSound s) where
 
   pub cells_inserted_kept : (n : ℕ) → Kept s (cells_inserted n s)
   unfolding cells_inserted
-  cells_inserted_kept n = quiet s (mapped (in_row s.row (inserted s.col n)) s) (plain_row (inserted s.col n) (λ c q. inserted_plain s.cols s.col n c q))
+  cells_inserted_kept n = quiet s (mapped (in_row s.row (inserted s.col n)) s)
+      (plain_row (inserted s.col n) (λ c q. inserted_plain s.cols s.col n c q))
 
   pub cells_deleted_kept : (n : ℕ) → Kept s (cells_deleted n s)
   unfolding cells_deleted
-  cells_deleted_kept n = quiet s (mapped (in_row s.row (deleted s.cols s.col n)) s) (plain_row (deleted s.cols s.col n) (λ c q. deleted_plain s.cols s.col n c q))
+  cells_deleted_kept n = quiet s (mapped (in_row s.row (deleted s.cols s.col n)) s)
+      (plain_row (deleted s.cols s.col n) (λ c q. deleted_plain s.cols s.col n c q))
 
   blanked_kept : (from to : ℕ) → Kept s (record (mapped (in_row s.row (blanked from to)) s) { pending = false })
   blanked_kept from to =
-      quiet s (mapped (in_row s.row (blanked from to)) s) (plain_row (blanked from to) (λ c q. blanked_plain_in s.cols (leb from c && ltb c to) c q))
+      quiet s (mapped (in_row s.row (blanked from to)) s)
+      (plain_row (blanked from to) (λ c q. blanked_plain_in s.cols (leb from c && ltb c to) c q))
 
   pub cells_erased_kept : (n : ℕ) → Kept s (cells_erased n s)
   unfolding cells_erased
@@ -282,7 +287,8 @@ module _ (s : Screen) (is : IsSound s) where
       let from = line_from extent s.col in
       let to = line_to extent s.cols s.col in
       quiet s (mapped (in_row s.row (unguarded_blanked row from to)) s)
-      (plain_row (unguarded_blanked row from to) (λ c q. blanked_plain_in s.cols (leb from c && ltb c to && not (glyph_at row c).guarded) c q))
+      (plain_row (unguarded_blanked row from to)
+      (λ c q. blanked_plain_in s.cols (leb from c && ltb c to && not (glyph_at row c).guarded) c q))
 
   -- ---- whole screens
 
@@ -302,7 +308,8 @@ module _ (s : Screen) (is : IsSound s) where
             margins = (omega (arith, is.frame.size.least_rows), omega (arith, row_low));
             stops = is.frame.stops;
           };
-          cells = same_cells s.rows s.cols letter_e (ap (λ w. eqb w 2) one) refl (cell_shown 0x45 (ap (λ w. not (eqb w 0) && true && true) one) refl);
+          cells = same_cells s.rows s.cols letter_e (ap (λ w. eqb w 2) one) refl
+              (cell_shown 0x45 (ap (λ w. not (eqb w 0) && true && true) one) refl);
         };
       }
 
@@ -313,7 +320,8 @@ module _ (s : Screen) (is : IsSound s) where
 -- ---- lines that come in and go out
 
 at_start : (s t : Screen) → Kept s t → Kept s (record t { col = 0; pending = false })
-at_start s t h = kept_then s t (record t { col = 0; pending = false }) h (at_rest t h.sound t.row 0 h.sound.frame.row_in (omega (arith, h.sound.frame.col_in)))
+at_start s t h = kept_then s t (record t { col = 0; pending = false }) h
+    (at_rest t h.sound t.row 0 h.sound.frame.row_in (omega (arith, h.sound.frame.col_in)))
 
 pub lines_inserted_kept : (n : ℕ) (s : Screen) → IsSound s → Kept s (lines_inserted n s)
 unfolding lines_inserted
@@ -327,7 +335,8 @@ unfolding lines_deleted
 lines_deleted_kept n s is =
     let t = mapped (up s.row s.bottom n) s in
     either (Kept s) (is_between_margins s) (record t { col = 0; pending = false }) (wrap_cleared s)
-    (λ e. at_start s t (plain s is (up s.row s.bottom n) (up_plain s.rows s.cols s.row s.bottom n is.frame.margins.1))) (λ e. wrap_cleared_kept s is)
+    (λ e. at_start s t (plain s is (up s.row s.bottom n) (up_plain s.rows s.cols s.row s.bottom n is.frame.margins.1)))
+    (λ e. wrap_cleared_kept s is)
 
 -- ---- steps from tab stop to tab stop
 
@@ -401,7 +410,11 @@ room_ready width w s is none =
     either (Ready s) (eqb width 2 && eqb (s.col + 1) s.cols) (cond w.wraps (wrapped s) (record s { col = s.cols - 2 })) s
     (λ e. either (Ready s) w.wraps (wrapped s) (record s { col = s.cols - 2 })
     (λ k. record { kept = wrapped_kept s is; none = (wrapped_place s).1 })
-    (λ k. record { kept = at_place s is s.row (s.cols - 2) s.pending is.frame.row_in low (λ p. absurd (false≢true (sym none ∙ p))); none = none }))
+    (λ k. record {
+      kept = at_place s is s.row (s.cols - 2) s.pending is.frame.row_in low
+          (λ p. absurd (false≢true (sym none ∙ p)));
+      none = none;
+    }))
     (λ e. same)
 
 way_ready : (width : ℕ) (w : Writing) (s : Screen) → IsSound s → s.pending ≡ false → Ready s (made_way width w s)
@@ -423,7 +436,8 @@ advanced_kept : (n : ℕ) (w : Writing) (s : Screen) → IsSound s → s.pending
 unfolding advanced
 advanced_kept n w s is none =
     either (Kept s) (ltb (s.col + n) s.cols) (record s { col = s.col + n }) (record s { col = s.cols - 1; pending = w.wraps })
-    (λ e. at_place s is s.row (s.col + n) s.pending is.frame.row_in (ltb-true (s.col + n) s.cols e) (λ p. absurd (false≢true (sym none ∙ p))))
+    (λ e. at_place s is s.row (s.col + n) s.pending is.frame.row_in (ltb-true (s.col + n) s.cols e)
+    (λ p. absurd (false≢true (sym none ∙ p))))
     (λ e. at_place s is s.row (s.cols - 1) w.wraps is.frame.row_in (omega (arith, is.frame.col_in)) (λ p. omega (arith, is.frame.col_in)))
 
 pub put_on_kept : (x : Glyph) (w : Writing) (s : Screen) → IsShown x.points → IsSound s → Kept s (put_on x w s)
@@ -440,7 +454,8 @@ put_on_kept x w s shown is =
     let fourth = inked_ready x c shown third.kept.sound third.none in
     let fifth = advanced_kept n w d fourth.kept.sound fourth.none in
     kept_then s a (advanced n w d) first.kept
-    (kept_then a b (advanced n w d) second.kept (kept_then b c (advanced n w d) third.kept (kept_then c d (advanced n w d) fourth.kept fifth)))
+    (kept_then a b (advanced n w d) second.kept
+    (kept_then b c (advanced n w d) third.kept (kept_then c d (advanced n w d) fourth.kept fifth)))
 
 pub put_all_kept : (n : ℕ) (x : Glyph) (w : Writing) (s : Screen) → IsShown x.points → IsSound s → Kept s (put_all (replicate n x) w s)
 unfolding put_all

@@ -42,7 +42,8 @@ IfLaid (Refused fault) = Unit {0}
 
 -- ---- views
 
-one_view : (views : List ℕ) (i v : ℕ) → i < length views → v ≤ 500 → ((k : ℕ) → get_or views k 0 ≤ 500) → (k : ℕ) → get_or (set views i v) k 0 ≤ 500
+one_view : (views : List ℕ) (i v : ℕ) → i < length views → v ≤ 500 → ((k : ℕ) → get_or views k 0 ≤ 500) → (k : ℕ) → get_or
+    (set views i v) k 0 ≤ 500
 one_view views i v low small each k =
     elim (cases_eq k i) [
       | inl e ↦ subst (λ (n : ℕ). n ≤ 500) (sym (ap (λ j. get_or (set views i v) j 0) e ∙ get_or-set_same views i v 0 low)) small
@@ -66,7 +67,8 @@ among_range : (n k : ℕ) (t : Shape) → (k ≤ free_among n k t) × (free_amon
 among_range zero k t = (omega arith, omega arith)
 among_range (suc n) k t =
     let rest = among_range n (k + 1) t in
-    cond_both (has k t) (free_among n (k + 1) t) k (λ (m : ℕ). (k ≤ m) × (m ≤ k + suc n)) (λ e. (omega (arith, rest.0), omega (arith, rest.1))) (λ e. (omega arith, omega arith))
+    cond_both (has k t) (free_among n (k + 1) t) k (λ (m : ℕ). (k ≤ m) × (m ≤ k + suc n))
+    (λ e. (omega (arith, rest.0), omega (arith, rest.1))) (λ e. (omega arith, omega arith))
 
 session_size : (r c : ℕ) → is_session_size r c ≡ true → IsSessionSize r c
 session_size r c h = (grind (arith, nat_tests), grind (arith, nat_tests), grind (arith, nat_tests), grind (arith, nat_tests))
@@ -86,7 +88,8 @@ module _ (s : Plan) (is : IsLayout s) where
       cond_both (nat_le 9 (length (leaves s.tree))) (Refused PanesFull) (cond (is_roomy w x) (Laid _) (Refused TooSmall)) IfLaid (λ e. tt)
       (λ e. cond_both (is_roomy w x) (Laid _) (Refused TooSmall) IfLaid
       (λ roomy. record {
-        plan = plan_split s w (Two w (pos 0) (One s.focus) (One n)) s.tree (forked w s.focus n s.tree) n (slice_set s.views n 0) refl refl refl range.0 (omega (arith, range.1)) refl
+        plan = plan_split s w (Two w (pos 0) (One s.focus) (One n)) s.tree (forked w s.focus n s.tree) n
+            (slice_set s.views n 0) refl refl refl range.0 (omega (arith, range.1)) refl
             (leb-false 9 (length (leaves s.tree)) e) (length-set s.views n 0 ∙ is.plan.views) roomy is.plan;
         views = one_view s.views n 0 (omega (arith, range.1, is.plan.views)) (omega arith) is.views;
       })
@@ -104,8 +107,13 @@ module _ (s : Plan) (is : IsLayout s) where
       cond_both (is_one s.focus s.tree) (Refused LastPane) (Laid _) IfLaid (λ e. tt)
       (λ e. record { plan = plan_close s s.tree (closed s.focus s.tree) (heir s.focus s.tree) refl refl refl is.plan; views = is.views })
   laid_kept (Focus p) =
-      cond_both (has p s.tree) (Laid _) (Refused NoPane) IfLaid (λ e. record { plan = plan_focus s s.tree p refl e is.plan; views = is.views }) (λ e. tt)
-  laid_kept Next = record { plan = plan_focus s s.tree (after (first_leaf s.tree) s.focus (leaves s.tree)) refl (next_in s.focus s.tree) is.plan; views = is.views }
+      cond_both (has p s.tree) (Laid _) (Refused NoPane) IfLaid
+      (λ e. record { plan = plan_focus s s.tree p refl e is.plan; views = is.views }) (λ e. tt)
+  laid_kept Next = record {
+    plan = plan_focus s s.tree (after (first_leaf s.tree) s.focus (leaves s.tree)) refl
+        (next_in s.focus s.tree) is.plan;
+    views = is.views;
+  }
   laid_kept (Grow d) =
       cond_both (is_one s.focus s.tree) (Refused LastPane) (with_tree s (grown s.focus d s.tree (area s.rows s.cols))) IfLaid (λ e. tt)
       (λ e. tree_laid d (grown s.focus d s.tree (area s.rows s.cols)) refl)
@@ -238,6 +246,7 @@ module _ (s : Plan) (picture : ℕ → Screenshot) (is : IsLayout s) (are : AreP
         let p = place_of s.rows s.cols k (omega (arith, low, face_count s picture whole unguarded)) in
         let f : ℕ → ℕ → Glyph = λ r c. face_at s picture (r + 1) (c + 1) in
         subst (λ (g : Glyph). IsShown g.points)
-        (sym (ap (λ j. get_or (face s picture).cells j blank) (sym p.2) ∙ get_or-table s.rows s.cols f (k / s.cols) (k % s.cols) blank p.0 p.1))
+        (sym (ap (λ j. get_or (face s picture).cells j blank) (sym p.2) ∙ get_or-table s.rows s.cols f (k / s.cols)
+        (k % s.cols) blank p.0 p.1))
         (place_shown (k / s.cols + 1) (k % s.cols) p.1);
   }

@@ -33,7 +33,8 @@ pub record AreCells (rows cols : ℕ) (cells : List Glyph) : Type 0 where
 -- ---- code points
 
 one_scalar : (c : ℕ) → IsScalar c → All IsScalar (c ∷ [])
-one_scalar c h = All-from_get_or IsScalar (c ∷ []) 0 (λ k p. let e : 0 ≡ k = omega arith in subst (λ (j : ℕ). IsScalar (get_or (c ∷ []) j 0)) e h)
+one_scalar c h = All-from_get_or IsScalar (c ∷ []) 0
+    (λ k p. let e : 0 ≡ k = omega arith in subst (λ (j : ℕ). IsScalar (get_or (c ∷ []) j 0)) e h)
 
 pub cell_shown : (c : ℕ) → is_cell_text (c ∷ []) ≡ true → IsScalar c → IsShown (c ∷ [])
 cell_shown c e h = record { text = e; scalars = one_scalar c h }
@@ -64,7 +65,8 @@ table_shown rows cols f each k =
           ap (λ j. get_or (table rows cols f) j blank) (sym p.2) ∙ get_or-table rows cols f (k / cols) (k % cols) blank p.0 p.1 in
           subst (λ (g : Glyph). IsShown g.points) (sym at) (each (k / cols) (k % cols) p.0 p.1)
       | inr high ↦
-          subst (λ (g : Glyph). IsShown g.points) (sym (get_or_past (table rows cols f) k blank (omega (arith, length-table rows cols f, high)))) space_shown
+          subst (λ (g : Glyph). IsShown g.points)
+          (sym (get_or_past (table rows cols f) k blank (omega (arith, length-table rows cols f, high)))) space_shown
     ]
 
 -- ---- whole lines
@@ -129,7 +131,8 @@ module _ (rows cols new_rows new_cols : ℕ) (cells : List Glyph) (source : ℕ 
   half_pair (From r c) (From s d) p j h =
       let e = joined_means r c s d j in
       let back : d - 1 ≡ c = omega (arith, e.1) in
-      sym (ap (λ k. is_wide (cell_at cols cells k c)) e.0) ∙ sym (ap (λ k. is_wide (cell_at cols cells s k)) back) ∙ ((are.whole s p.0 d p.1).half h).1
+      sym (ap (λ k. is_wide (cell_at cols cells k c)) e.0) ∙ sym (ap (λ k. is_wide (cell_at cols cells s k)) back) ∙
+      ((are.whole s p.0 d p.1).half h).1
   half_pair (From r c) (Fresh y) p j h = absurd (false≢true j)
   half_pair (Fresh x) (From s d) p j h = absurd (false≢true j)
   half_pair (Fresh x) (Fresh y) p j h = and_left (is_wide x) (is_right_half y) j
@@ -192,7 +195,8 @@ either P false x y f g = g refl
 pub up_plain : (rows cols top bottom n : ℕ) → bottom < rows → (r c : ℕ) → r < rows → c < cols → IsPlain rows cols (up top bottom n r c)
 up_plain rows cols top bottom n low r c p q =
     either (IsPlain rows cols) (leb top r && leb r bottom) (cond (leb (r + n) bottom) (From (r + n) c) (Fresh blank)) (From r c)
-    (λ h. either (IsPlain rows cols) (leb (r + n) bottom) (From (r + n) c) (Fresh blank) (λ k. (omega (arith, leb-true (r + n) bottom k, low), q)) (λ k. refl))
+    (λ h. either (IsPlain rows cols) (leb (r + n) bottom) (From (r + n) c) (Fresh blank)
+    (λ k. (omega (arith, leb-true (r + n) bottom k, low), q)) (λ k. refl))
     (λ h. (p, q))
 
 pub down_plain : (rows cols top bottom n : ℕ) (r c : ℕ) → r < rows → c < cols → IsPlain rows cols (down top bottom n r c)
@@ -235,7 +239,8 @@ at_suits row (RowSource.Column c) (RowSource.Fresh y) h = tt
 at_suits row (RowSource.Fresh x) (RowSource.Column d) h = tt
 at_suits row (RowSource.Fresh x) (RowSource.Fresh y) h = h
 
-both_suit : (b : Bool) (row r c : ℕ) (s t : RowSource) → SuitsIn s t → Suits (cond b (at_row row s) (From r c)) (cond b (at_row row t) (From r (c + 1)))
+both_suit : (b : Bool) (row r c : ℕ) (s t : RowSource) → SuitsIn s t → Suits (cond b (at_row row s) (From r c))
+    (cond b (at_row row t) (From r (c + 1)))
 both_suit true row r c s t h = at_suits row s t h
 both_suit false row r c s t h = tt
 
@@ -245,13 +250,15 @@ module _ (rows cols row : ℕ) (cells : List Glyph) (one : ℕ → RowSource) (a
       → AreCells rows cols (moved rows cols cells (in_row row one))
   row_cells placed suits =
       recast_cells rows cols rows cols cells (in_row row one) are
-      (λ r c p q. either (IsPlaced rows cols) (eqb r row) (at_row row (one c)) (From r c) (λ h. at_placed rows cols row (one c) row_in (placed c q)) (λ h. (p, q)))
+      (λ r c p q. either (IsPlaced rows cols) (eqb r row) (at_row row (one c)) (From r c)
+      (λ h. at_placed rows cols row (one c) row_in (placed c q)) (λ h. (p, q)))
       (λ r c p q. both_suit (eqb r row) row r c (one c) (one (c + 1)) (suits c q))
 
   pub plain_row_cells : ((c : ℕ) → c < cols → IsPlainIn cols (one c)) → AreCells rows cols (moved rows cols cells (in_row row one))
   plain_row_cells plain =
       plain_cells rows cols rows cols cells (in_row row one) are
-      (λ r c p q. either (IsPlain rows cols) (eqb r row) (at_row row (one c)) (From r c) (λ h. at_plain rows cols row (one c) row_in (plain c q)) (λ h. (p, q)))
+      (λ r c p q. either (IsPlain rows cols) (eqb r row) (at_row row (one c)) (From r c)
+      (λ h. at_plain rows cols row (one c) row_in (plain c q)) (λ h. (p, q)))
 
 pub inserted_plain : (cols col n c : ℕ) → c < cols → IsPlainIn cols (inserted col n c)
 inserted_plain cols col n c q =
@@ -263,7 +270,8 @@ pub deleted_plain : (cols col n c : ℕ) → c < cols → IsPlainIn cols (delete
 deleted_plain cols col n c q =
     either (IsPlainIn cols) (ltb c col) (RowSource.Column c) (cond (ltb (c + n) cols) (RowSource.Column (c + n)) (RowSource.Fresh blank))
     (λ h. q)
-    (λ h. either (IsPlainIn cols) (ltb (c + n) cols) (RowSource.Column (c + n)) (RowSource.Fresh blank) (λ k. ltb-true (c + n) cols k) (λ k. refl))
+    (λ h. either (IsPlainIn cols) (ltb (c + n) cols) (RowSource.Column (c + n)) (RowSource.Fresh blank) (λ k. ltb-true (c + n) cols k)
+    (λ k. refl))
 
 pub blanked_plain_in : (cols : ℕ) (b : Bool) (c : ℕ) → c < cols → IsPlainIn cols (cond b (RowSource.Fresh blank) (RowSource.Column c))
 blanked_plain_in cols b c q = either (IsPlainIn cols) b (RowSource.Fresh blank) (RowSource.Column c) (λ h. refl) (λ h. q)
@@ -288,10 +296,13 @@ pub written_cells : (rows cols row col : ℕ) (cells : List Glyph) (x : Glyph) �
 written_cells rows cols row col cells x are row_in shown =
     row_cells rows cols row cells (written x col) are row_in
     (λ c q.
-    either (IsPlacedIn cols) (eqb c col) (RowSource.Fresh x) (cond (is_wide x && eqb c (col + 1)) (RowSource.Fresh (right_of x)) (RowSource.Column c))
+    either (IsPlacedIn cols) (eqb c col) (RowSource.Fresh x)
+    (cond (is_wide x && eqb c (col + 1)) (RowSource.Fresh (right_of x)) (RowSource.Column c))
     (λ h. shown)
-    (λ h. either (IsPlacedIn cols) (is_wide x && eqb c (col + 1)) (RowSource.Fresh (right_of x)) (RowSource.Column c) (λ k. half_shown) (λ k. q)))
-    (λ c q. written_suits x col c (eqb c col) (is_wide x && eqb c (col + 1)) (eqb (c + 1) col) (is_wide x && eqb (c + 1) (col + 1)) refl refl)
+    (λ h. either (IsPlacedIn cols) (is_wide x && eqb c (col + 1)) (RowSource.Fresh (right_of x)) (RowSource.Column c) (λ k. half_shown)
+    (λ k. q)))
+    (λ c q. written_suits x col c (eqb c col) (is_wide x && eqb c (col + 1)) (eqb (c + 1) col)
+    (is_wide x && eqb (c + 1) (col + 1)) refl refl)
 
 -- ---- a code point that joins
 
@@ -301,17 +312,23 @@ text_of (c ∷ cs) h = h
 
 point_shown_by : (b : Bool) (c : ℕ) (x : Glyph) → is_cell_text (x.points ++ c ∷ []) ≡ b → IsScalar c → IsShown x.points
     → IsShown (cond b (record x { points = x.points ++ c ∷ [] }) x).points
-point_shown_by true c x e s h = record { text = text_of (x.points ++ c ∷ []) e; scalars = All-append IsScalar x.points (c ∷ []) h.scalars (one_scalar c s) }
+point_shown_by true c x e s h = record {
+  text = text_of (x.points ++ c ∷ []) e;
+  scalars = All-append IsScalar x.points (c ∷ []) h.scalars
+      (one_scalar c s);
+}
 point_shown_by false c x e s h = h
 
 point_shown : (c : ℕ) (x : Glyph) → IsScalar c → IsShown x.points → IsShown (with_point c x).points
 point_shown c x s h = point_shown_by (is_cell_text (x.points ++ c ∷ [])) c x refl s h
 
-module _ (rows cols row col point : ℕ) (cells : List Glyph) (are : AreCells rows cols cells) (row_in : row < rows) (col_in : col < cols) (scalar : IsScalar point) where
+module _ (rows cols row col point : ℕ) (cells : List Glyph) (are : AreCells rows cols cells) (row_in : row < rows) (col_in : col < cols)
+    (scalar : IsScalar point) where
   abbrev base : ℕ
   base = base_column cols cells row col
 
-  base_by : (b : Bool) → is_right_half (cell_at cols cells row col) ≡ b → (cond b (col - 1) col < cols) × (is_right_half (cell_at cols cells row (cond b (col - 1) col)) ≡ false)
+  base_by : (b : Bool) → is_right_half (cell_at cols cells row col) ≡ b → (cond b (col - 1) col < cols) ×
+      (is_right_half (cell_at cols cells row (cond b (col - 1) col)) ≡ false)
   base_by true e = (omega (arith, col_in), wide_not_half (cell_at cols cells row (col - 1)) ((are.whole row row_in col col_in).half e).1)
   base_by false e = (col_in, e)
 
@@ -346,13 +363,15 @@ module _ (rows cols row col point : ℕ) (cells : List Glyph) (are : AreCells ro
               subst (λ (g : Glyph). IsShown g.points) (sym (ap (λ j. get_or new_cells j blank) e ∙ here))
               (point_shown point old_cell scalar (are.shown (row * cols + base)))
           | inr ne ↦
-              subst (λ (g : Glyph). IsShown g.points) (sym (get_or-set_other cells (row * cols + base) k (with_point point old_cell) blank ne)) (are.shown k)
+              subst (λ (g : Glyph). IsShown g.points)
+              (sym (get_or-set_other cells (row * cols + base) k (with_point point old_cell) blank ne)) (are.shown k)
         ];
   }
 
 -- ---- one cell everywhere
 
-pub same_cells : (rows cols : ℕ) (x : Glyph) → is_wide x ≡ false → is_right_half x ≡ false → IsShown x.points → AreCells rows cols (replicate (rows * cols) x)
+pub same_cells : (rows cols : ℕ) (x : Glyph) → is_wide x ≡ false → is_right_half x ≡ false → IsShown x.points → AreCells rows cols
+    (replicate (rows * cols) x)
 same_cells rows cols x w l shown =
     let all = replicate (rows * cols) x in
     let at : (r c : ℕ) → r < rows → c < cols → cell_at cols all r c ≡ x =
@@ -365,7 +384,8 @@ same_cells rows cols x w l shown =
       };
       shown = λ k. elim (cases_lt k (rows * cols)) [
         | inl low ↦ subst (λ (g : Glyph). IsShown g.points) (sym (get_or-replicate (rows * cols) k x blank low)) shown
-        | inr high ↦ subst (λ (g : Glyph). IsShown g.points) (sym (get_or_past all k blank (omega (arith, length-replicate (rows * cols) x, high)))) space_shown
+        | inr high ↦ subst (λ (g : Glyph). IsShown g.points)
+            (sym (get_or_past all k blank (omega (arith, length-replicate (rows * cols) x, high)))) space_shown
       ];
     }
 
@@ -379,5 +399,9 @@ sized_cells rows cols off v are =
     plain_cells v.rows v.cols rows cols v.cells (kept_places v.rows v.cols off) are
     (λ r c p q.
     either (IsPlain v.rows v.cols) (ltb (r + off) v.rows && ltb c v.cols) (From (r + off) c) (Fresh blank)
-    (λ h. (ltb-true (r + off) v.rows (and_left (ltb (r + off) v.rows) (ltb c v.cols) h), ltb-true c v.cols (and_right (ltb (r + off) v.rows) (ltb c v.cols) h)))
+    (λ h. (
+      ltb-true (r + off) v.rows (and_left (ltb (r + off) v.rows) (ltb c v.cols) h),
+      ltb-true c v.cols
+          (and_right (ltb (r + off) v.rows) (ltb c v.cols) h),
+    ))
     (λ h. refl))

@@ -73,7 +73,8 @@ keyed_keeps key r p is = record { first = is.first; sizes = is.sizes; size = is.
 drained_keeps : (n : ℕ) → Keeps (drained n)
 drained_keeps n r p is = record { first = is.first; sizes = is.sizes; size = is.size }
 
-changed_placed : (change : Pane → Pane) → Keeps change → (o : Option Rect) (pane : Option Pane) → IsPlaced o pane → IsPlaced o (option_map change pane)
+changed_placed : (change : Pane → Pane) → Keeps change → (o : Option Rect) (pane : Option Pane) → IsPlaced o pane → IsPlaced o
+    (option_map change pane)
 changed_placed change keeps None pane is = tt
 changed_placed change keeps (Some r) None is = is
 changed_placed change keeps (Some r) (Some p) is = keeps r p is
@@ -94,7 +95,8 @@ moved_placed from to p size is =
       size = after-append (p.rows, p.cols) p.log (Resized to.rows to.cols ∷ []);
     })
 
-given_placed : (from to : Option Rect) (pane : Option Pane) → ((r : Rect) → to ≡ Some r → IsSize r.rows r.cols) → IsPlaced from pane → IsPlaced to (given from to pane)
+given_placed : (from to : Option Rect) (pane : Option Pane) → ((r : Rect) → to ≡ Some r → IsSize r.rows r.cols) → IsPlaced from pane
+    → IsPlaced to (given from to pane)
 given_placed from None pane sizes is = tt
 given_placed None (Some to) pane sizes is = record { first = sizes to refl; sizes = tt; size = refl }
 given_placed (Some from) (Some to) None sizes is = is

@@ -32,7 +32,8 @@ each-drop P zero xs h = h
 each-drop P (suc n) [] h = tt
 each-drop P (suc n) (x ∷ xs) h = each-drop P n xs h.1
 
-each-flat : {A B : Type 0} (P : A → Type 0) (Q : B → Type 0) (f : A → List B) → ((x : A) → P x → Each Q (f x)) → (xs : List A) → Each P xs → Each Q (flat_map f xs)
+each-flat : {A B : Type 0} (P : A → Type 0) (Q : B → Type 0) (f : A → List B) → ((x : A) → P x → Each Q (f x)) → (xs : List A) → Each P xs
+    → Each Q (flat_map f xs)
 each-flat P Q f one [] h = tt
 each-flat P Q f one (x ∷ xs) h = each-append Q (f x) (flat_map f xs) (one x h.0) (each-flat P Q f one xs h.1)
 
@@ -87,7 +88,8 @@ after_string (s ∷ rest) h = h.1
 
 string_proper : (bell : Bool) (xs : List Sign) → Each IsSign xs → AreProper (control_string bell xs)
 string_proper bell xs h = record {
-  gives = each-flat IsSign IsProper resized resized_proper (front_while (in_control_string bell) xs) (front_each (in_control_string bell) xs h);
+  gives = each-flat IsSign IsProper resized resized_proper (front_while (in_control_string bell) xs)
+      (front_each (in_control_string bell) xs h);
   left = after_string (rest_while (in_control_string bell) xs) (rest_each (in_control_string bell) xs h);
 }
 
@@ -107,7 +109,8 @@ sequence_proper xs h =
     let inside = front_while in_control_sequence xs in
     let end = end_sequence (header (body_of inside)) (rest_while in_control_sequence xs) (rest_each in_control_sequence xs h) in
     record {
-      gives = each-append IsProper (flat_map acts inside) (end_control_sequence (header (body_of inside)) (rest_while in_control_sequence xs)).gives
+      gives = each-append IsProper (flat_map acts inside)
+          (end_control_sequence (header (body_of inside)) (rest_while in_control_sequence xs)).gives
           (each-flat IsSign IsProper acts acts_proper inside (front_each in_control_sequence xs h)) end.gives;
       left = end.left;
     }
@@ -145,7 +148,8 @@ escape_proper xs h =
     let inside = front_while in_escape_sequence xs in
     let end = end_escape (intermediates (body_of inside)) (rest_while in_escape_sequence xs) (rest_each in_escape_sequence xs h) in
     record {
-      gives = each-append IsProper (flat_map acts inside) (end_escape_sequence (intermediates (body_of inside)) (rest_while in_escape_sequence xs)).gives
+      gives = each-append IsProper (flat_map acts inside)
+          (end_escape_sequence (intermediates (body_of inside)) (rest_while in_escape_sequence xs)).gives
           (each-flat IsSign IsProper acts acts_proper inside (front_each in_escape_sequence xs h)) end.gives;
       left = end.left;
     }
@@ -170,7 +174,8 @@ functions_proper zero xs h = tt
 functions_proper (suc n) [] h = tt
 functions_proper (suc n) (s ∷ rest) h =
     let one = front_proper s rest h.0 h.1 in
-    each-append IsProper (front s rest).gives (functions_from n (front s rest).left) one.gives (functions_proper n (front s rest).left one.left)
+    each-append IsProper (front s rest).gives (functions_from n (front s rest).left) one.gives
+    (functions_proper n (front s rest).left one.left)
 
 -- ---- characters of bytes
 
@@ -190,7 +195,8 @@ settled_scalars (suc n) bs = by_test (is_unfinished bs) (settled_scalars n (drop
 
 gained_scalars : (before : List ℕ) (b : ℕ) → Each IsScalar (gained before b)
 unfolding gained settled
-gained_scalars before b = each-drop IsScalar (length (settled before)) (settled (before ++ b ∷ [])) (settled_scalars (length (before ++ b ∷ [])) (before ++ b ∷ []))
+gained_scalars before b = each-drop IsScalar (length (settled before)) (settled (before ++ b ∷ []))
+    (settled_scalars (length (before ++ b ∷ [])) (before ++ b ∷ []))
 
 signs_of : (cs : List ℕ) → Each IsScalar cs → Each IsSign (map character cs)
 signs_of [] h = tt
@@ -199,7 +205,8 @@ signs_of (c ∷ cs) h = (h.0, signs_of cs h.1)
 signs_proper : (before : List ℕ) (log : List Item) → AreSizes log → Each IsSign (signs_after before log)
 signs_proper before [] h = tt
 signs_proper before (Byte b ∷ log) h =
-    each-append IsSign (map character (gained before b)) (signs_after (before ++ b ∷ []) log) (signs_of (gained before b) (gained_scalars before b))
+    each-append IsSign (map character (gained before b)) (signs_after (before ++ b ∷ []) log)
+    (signs_of (gained before b) (gained_scalars before b))
     (signs_proper (before ++ b ∷ []) log h)
 signs_proper before (Resized r c ∷ log) h = (h.0, signs_proper before log h.1)
 

@@ -112,7 +112,8 @@ margins_kept : (top bottom : ℕ) (origin : Bool) (s : Screen) → IsSound s →
 margins_kept top bottom origin s is =
     let t = with_margins (top - 1) (bottom_of bottom s) s in
     either (Kept s) (ltb (top - 1) (bottom_of bottom s)) (homed origin t) s
-    (λ e. let first = grid.with_margins_kept s is (top - 1) (bottom_of bottom s) (ltb-true (top - 1) (bottom_of bottom s) e) (bottom_low bottom s is) in
+    (λ e. let first = grid.with_margins_kept s is (top - 1) (bottom_of bottom s) (ltb-true (top - 1) (bottom_of bottom s) e)
+    (bottom_low bottom s is) in
     kept_then s t (homed origin t) first (homed_kept origin t first.sound))
     (λ e. kept_same s is)
 
@@ -131,13 +132,80 @@ each_at (x ∷ xs) h zero = h.0
 each_at (x ∷ xs) h (suc k) = each_at xs h.1 k
 
 graphics_scalar : Each IsScalar special_graphics
-graphics_scalar = (refl, (refl, (refl, (refl, (refl, (refl, (refl, (refl, (refl, (refl, (refl, (refl, (refl, (refl, (refl, (refl, (refl, (refl, (refl, (refl, (refl, (refl, (refl, (refl, (refl, (refl, (refl, (refl, (refl, (refl, (refl, (refl, tt))))))))))))))))))))))))))))))))
+graphics_scalar = (
+  refl,
+  (
+    refl,
+    (
+      refl,
+      (
+        refl,
+        (
+          refl,
+          (
+            refl,
+            (
+              refl,
+              (
+                refl,
+                (
+                  refl,
+                  (
+                    refl,
+                    (
+                      refl,
+                      (
+                        refl,
+                        (
+                          refl,
+                          (
+                            refl,
+                            (
+                              refl,
+                              (
+                                refl,
+                                (
+                                  refl,
+                                  (
+                                    refl,
+                                    (
+                                      refl,
+                                      (
+                                        refl,
+                                        (
+                                          refl,
+                                          (
+                                            refl,
+                                            (refl, (refl, (refl, (refl, (refl, (refl, (refl, (refl, (refl, (refl, tt)))))))))),
+                                          ),
+                                        ),
+                                      ),
+                                    ),
+                                  ),
+                                ),
+                              ),
+                            ),
+                          ),
+                        ),
+                      ),
+                    ),
+                  ),
+                ),
+              ),
+            ),
+          ),
+        ),
+      ),
+    ),
+  ),
+)
 
 character_scalar : (set : Charset) (c : ℕ) → IsScalar c → IsScalar (character_of set c)
 character_scalar Ascii c h = h
 character_scalar UnitedKingdom c h = either IsScalar (eqb c 0x23) 0xA3 c (λ e. refl) (λ e. h)
 character_scalar DecSpecialGraphics c h =
-    either IsScalar (leb 0x5F c && leb c 0x7E) (get_or special_graphics (c - 0x5F) 0) c (λ e. each_at special_graphics graphics_scalar (c - 0x5F)) (λ e. h)
+    either IsScalar (leb 0x5F c && leb c 0x7E) (get_or special_graphics (c - 0x5F) 0) c
+    (λ e. each_at special_graphics graphics_scalar (c - 0x5F)) (λ e. h)
 
 mapped_scalar : (set : Charset) (c : ℕ) → IsScalar c → IsScalar (mapped_by set c)
 unfolding mapped_by
@@ -174,7 +242,8 @@ goes l m is kept same printed = record {
   cols = kept.cols;
   live = record {
     screen = kept.sound;
-    other = subst (λ (cells : List Glyph). AreCells m.screen.rows m.screen.cols cells) (sym same) (cells_of_size l.screen m.screen l.other kept is.other);
+    other = subst (λ (cells : List Glyph). AreCells m.screen.rows m.screen.cols cells) (sym same)
+        (cells_of_size l.screen m.screen l.other kept is.other);
     printed = printed;
   };
 }
@@ -220,10 +289,12 @@ repeated_lives n (Some c) l h is =
 saved_lives : (l : Live) → IsLive l → Lives l (saved_on l)
 saved_lives l is =
     either (Lives l) l.alternate (record l { saved_alternate = Some (keepsake l) }) (record l { saved = Some (keepsake l) })
-    (λ e. stays l (record l { saved_alternate = Some (keepsake l) }) is refl refl refl) (λ e. stays l (record l { saved = Some (keepsake l) }) is refl refl refl)
+    (λ e. stays l (record l { saved_alternate = Some (keepsake l) }) is refl refl refl)
+    (λ e. stays l (record l { saved = Some (keepsake l) }) is refl refl refl)
 
 restored_lives : (k : Saved) (l : Live) → IsLive l → Lives l (restored_to k l)
-restored_lives k l is = goes l (restored_to k l) is (grid.restored_kept l.screen is.screen k.row k.col (k.pending && l.modes.autowrap)) refl is.printed
+restored_lives k l is = goes l (restored_to k l) is
+    (grid.restored_kept l.screen is.screen k.row k.col (k.pending && l.modes.autowrap)) refl is.printed
 
 switched_lives : (l : Live) → IsLive l → Lives l (switched l)
 switched_lives l is = record {
@@ -255,7 +326,8 @@ alternate_lives p l is =
     (λ e. let a = saved_lives l is in
     let b = switched_lives (saved_on l) a.live in
     let c = blanked_lives (switched (saved_on l)) b.live in
-    lives_then l (saved_on l) (blanked (switched (saved_on l))) a (lives_then (saved_on l) (switched (saved_on l)) (blanked (switched (saved_on l))) b c))
+    lives_then l (saved_on l) (blanked (switched (saved_on l))) a
+    (lives_then (saved_on l) (switched (saved_on l)) (blanked (switched (saved_on l))) b c))
     (λ e. switched_lives l is)
 
 main_lives : (p : ℕ) (l : Live) → IsLive l → Lives l (main_shown p l)
@@ -282,7 +354,8 @@ reset_lives l is =
       live = record {
         screen = kept.sound;
         other = cells_of_size l.screen (restarted l.screen) (replicate (length l.other) blank) kept
-            (subst (λ (n : ℕ). AreCells l.screen.rows l.screen.cols (replicate n blank)) (sym is.other.count) (blank_cells l.screen.rows l.screen.cols));
+            (subst (λ (n : ℕ). AreCells l.screen.rows l.screen.cols (replicate n blank)) (sym is.other.count)
+            (blank_cells l.screen.rows l.screen.cols));
         printed = tt;
       };
     }
@@ -318,7 +391,8 @@ set_lives (Keypad application) params l is = stays l (set_by (Keypad application
 set_lives Save params l is = saved_lives l is
 set_lives Restore params l is = restored_lives (kept_of l) l is
 set_lives SoftReset params l is =
-    goes l (soft_reset l) is (grid.with_margins_kept l.screen is.screen 0 (l.screen.rows - 1) (omega (arith, is.screen.frame.size.least_rows))
+    goes l (soft_reset l) is (grid.with_margins_kept l.screen is.screen 0 (l.screen.rows - 1)
+    (omega (arith, is.screen.frame.size.least_rows))
     (omega (arith, is.screen.frame.size.least_rows))) refl is.printed
 set_lives Reset params l is = reset_lives l is
 set_lives SetStop params l is = goes l (set_by SetStop params l) is (grid.stop_set_kept l.screen is.screen) refl is.printed
@@ -358,7 +432,8 @@ commanded_lives command params l h is =
     let m = performed command params l in
     let first = performed_lives command params l h is in
     either (Lives l) (forgets command) (record m { printed = None }) m
-    (λ e. lives_then l m (record m { printed = None }) first (goes m (record m { printed = None }) first.live (kept_same m.screen first.live.screen) refl tt))
+    (λ e. lives_then l m (record m { printed = None }) first
+    (goes m (record m { printed = None }) first.live (kept_same m.screen first.live.screen) refl tt))
     (λ e. first)
 
 -- ---- the table
@@ -416,8 +491,10 @@ said_marked : (marker : ℕ) (params : List ℕ) (b : ℕ) → IsSaid (marked_co
 said_marked marker params b =
     let second = or_report (private_report params b) Nothing in
     let first = or_erase (private_erasure params b) second in
-    either IsSaid (eqb marker 0x3F) (or_set (private_setting b) first) (cond (eqb marker 0x3E) (or_report (secondary_report params b) Nothing) Nothing)
-    (λ e. said_set (private_setting b) first (said_erase (private_erasure params b) second (said_report (private_report params b) Nothing tt)))
+    either IsSaid (eqb marker 0x3F) (or_set (private_setting b) first)
+    (cond (eqb marker 0x3E) (or_report (secondary_report params b) Nothing) Nothing)
+    (λ e. said_set (private_setting b) first
+    (said_erase (private_erasure params b) second (said_report (private_report params b) Nothing tt)))
     (λ e. either IsSaid (eqb marker 0x3E) (or_report (secondary_report params b) Nothing) Nothing
     (λ k. said_report (secondary_report params b) Nothing tt) (λ k. tt))
 
@@ -425,7 +502,8 @@ said_intermediate : (i : ℕ) (params : List ℕ) (b : ℕ) → IsSaid (intermed
 said_intermediate i params b =
     either IsSaid (eqb i 0x21) (or_set (exclaimed_setting b) Nothing) (cond (eqb i 0x22) (or_set (quoted_setting params b) Nothing) Nothing)
     (λ e. said_set (exclaimed_setting b) Nothing tt)
-    (λ e. either IsSaid (eqb i 0x22) (or_set (quoted_setting params b) Nothing) Nothing (λ k. said_set (quoted_setting params b) Nothing tt) (λ k. tt))
+    (λ e. either IsSaid (eqb i 0x22) (or_set (quoted_setting params b) Nothing) Nothing
+    (λ k. said_set (quoted_setting params b) Nothing tt) (λ k. tt))
 
 said_sequence : (marker : Option ℕ) (params inter : List ℕ) (b : ℕ) → IsSaid (sequence_command marker params inter b)
 said_sequence None params [] b = said_plain params b
@@ -460,15 +538,21 @@ follows f l m same h = record { size = (λ i. (h.rows i, h.cols i)) ∙ sym same
 
 pub changed_lives : (f : Function) (l : Live) → IsProper f → IsLive l → Follows f l (changed f l)
 unfolding changed
-changed_lives (Size rows cols) l h is = record { size = (λ i. (rows-sized rows cols l i, cols-sized rows cols l i)); live = sized_live rows cols l h is }
+changed_lives (Size rows cols) l h is = record {
+  size =
+      (λ i. (rows-sized rows cols l i, cols-sized rows cols l i));
+  live = sized_live rows cols l h is;
+}
 changed_lives (Print c) l h is = follows (Print c) l (commanded (Prints c) [] l) refl (commanded_lives (Prints c) [] l h is)
 changed_lives (C0 b) l h is = follows (C0 b) l (commanded (c0_command b) [] l) refl (commanded_lives (c0_command b) [] l (said_c0 b) is)
 changed_lives (C1 b) l h is = follows (C1 b) l (commanded (c1_command b) [] l) refl (commanded_lives (c1_command b) [] l (said_c1 b) is)
 changed_lives (Esc inter b) l h is =
-    follows (Esc inter b) l (commanded (escape_command inter.items b) [] l) refl (commanded_lives (escape_command inter.items b) [] l (said_escape inter.items b) is)
+    follows (Esc inter b) l (commanded (escape_command inter.items b) [] l) refl
+    (commanded_lives (escape_command inter.items b) [] l (said_escape inter.items b) is)
 changed_lives (Csi marker params inter b) l h is =
     follows (Csi marker params inter b) l (commanded (sequence_command marker params.items inter.items b) params.items l) refl
-    (commanded_lives (sequence_command marker params.items inter.items b) params.items l (said_sequence marker params.items inter.items b) is)
+    (commanded_lives (sequence_command marker params.items inter.items b) params.items l
+    (said_sequence marker params.items inter.items b) is)
 
 pub started_lives : (rows cols : ℕ) → IsSize rows cols → IsLive (started_live rows cols)
 started_lives rows cols size = record { screen = grid.start_sound rows cols size; other = blank_cells rows cols; printed = tt }

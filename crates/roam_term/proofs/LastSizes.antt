@@ -49,13 +49,15 @@ abbrev Passes : List Sign → Front → Type 0
 Passes xs f = (p : ℕ × ℕ) → sizes_in (sizes_by p f.gives) f.left ≡ sizes_in p xs
 
 -- what passes inside a sequence gives its sizes
-while_passes : (test : Sign → Bool) (f : Sign → List Function) → ((p : ℕ × ℕ) (s : Sign) → sizes_by p (f s) ≡ size_in p s) → (xs : List Sign) (p : ℕ × ℕ)
+while_passes : (test : Sign → Bool) (f : Sign → List Function) → ((p : ℕ × ℕ) (s : Sign) → sizes_by p (f s) ≡ size_in p s) →
+    (xs : List Sign) (p : ℕ × ℕ)
     → sizes_in (sizes_by p (flat_map f (front_while test xs))) (rest_while test xs) ≡ sizes_in p xs
 while_passes test f one [] p = refl
 while_passes test f one (s ∷ xs) p = by_test (test s) (while_passes test f one xs)
   where
     by_test : (b : Bool) → ((q : ℕ × ℕ) → sizes_in (sizes_by q (flat_map f (front_while test xs))) (rest_while test xs) ≡ sizes_in q xs)
-        → sizes_in (sizes_by p (flat_map f (cond b (s ∷ front_while test xs) []))) (cond b (rest_while test xs) (s ∷ xs)) ≡ sizes_in p (s ∷ xs)
+        → sizes_in (sizes_by p (flat_map f (cond b (s ∷ front_while test xs) []))) (cond b (rest_while test xs) (s ∷ xs)) ≡ sizes_in p
+        (s ∷ xs)
     by_test true more =
         ap (λ q. sizes_in q (rest_while test xs)) (by-append p (f s) (flat_map f (front_while test xs)))
         ∙ more (sizes_by p (f s)) ∙ ap (λ q. sizes_in q xs) (one p s)
@@ -82,7 +84,8 @@ after_passes bell (Character k c ∷ xs) p = by_test (in_control_string bell (Ch
     ended Escape = refl
     ended k = refl
 
-    by_test : (b : Bool) → sizes_in p (after_control_string (rest_while (in_control_string bell) xs)) ≡ sizes_in p (rest_while (in_control_string bell) xs)
+    by_test : (b : Bool) → sizes_in p (after_control_string (rest_while (in_control_string bell) xs)) ≡ sizes_in p
+        (rest_while (in_control_string bell) xs)
         → sizes_in p (after_control_string (cond b (rest_while (in_control_string bell) xs) (Character k c ∷ xs)))
         ≡ sizes_in p (cond b (rest_while (in_control_string bell) xs) (Character k c ∷ xs))
     by_test true more = more

@@ -58,7 +58,8 @@ row_line s is i low =
     record {
       is = record {
         count = count;
-        whole = subst (λ (n : ℕ). IsWholeLine n (glyph_at row)) (sym count) (line_same s.cols (cell_at s.cols s.cells i) (glyph_at row) at (is.cells.whole i low));
+        whole = subst (λ (n : ℕ). IsWholeLine n (glyph_at row)) (sym count)
+            (line_same s.cols (cell_at s.cols s.cells i) (glyph_at row) at (is.cells.whole i low));
       };
       shown = λ k. elim (cases_lt k s.cols) [
         | inl inside ↦ subst (λ (g : Glyph). IsShown g.points) (sym (at k inside)) (is.cells.shown (i * s.cols + k))
@@ -69,7 +70,8 @@ row_line s is i low =
 top_lines : (n : ℕ) (s : Screen) → IsSound s → n ≤ s.rows → Each (IsLine s.cols) (top_rows n s)
 top_lines zero s is few = tt
 top_lines (suc n) s is few =
-    each-append (IsLine s.cols) (top_rows n s) (row_of s.cols s.cells n ∷ []) (top_lines n s is (omega (arith, few))) (row_line s is n (omega (arith, few)), tt)
+    each-append (IsLine s.cols) (top_rows n s) (row_of s.cols s.cells n ∷ []) (top_lines n s is (omega (arith, few)))
+    (row_line s is n (omega (arith, few)), tt)
 
 -- the rows at the top leave, or none
 some_lines : (b : Bool) (n : ℕ) (s : Screen) → IsSound s → n ≤ s.rows → Each (IsLine s.cols) (cond b (top_rows n s) [])
@@ -78,13 +80,15 @@ some_lines b n s is few = either (Each (IsLine s.cols)) b (top_rows n s) [] (λ 
 first_line : (b : Bool) (s : Screen) → IsSound s → Each (IsLine s.cols) (cond b (top_rows 1 s) [])
 first_line b s is = some_lines b 1 s is (omega (arith, is.frame.size.least_rows))
 
-puts_lines : (n : ℕ) (g : Glyph) (w : Writing) (s : Screen) → IsShown g.points → IsSound s → Each (IsLine s.cols) (left_by_puts (replicate n g) w s)
+puts_lines : (n : ℕ) (g : Glyph) (w : Writing) (s : Screen) → IsShown g.points → IsSound s → Each (IsLine s.cols)
+    (left_by_puts (replicate n g) w s)
 puts_lines zero g w s shown is = tt
 puts_lines (suc n) g w s shown is =
     let kept = grid.put_on_kept g w s shown is in
     each-append (IsLine s.cols) (left_by_put g w s) (left_by_puts (replicate n g) w (put_on g w s))
     (first_line (eqb s.top 0 && leaves_row (columns g) w s) s is)
-    (subst (λ (cols : ℕ). Each (IsLine cols) (left_by_puts (replicate n g) w (put_on g w s))) kept.cols (puts_lines n g w (put_on g w s) shown kept.sound))
+    (subst (λ (cols : ℕ). Each (IsLine cols) (left_by_puts (replicate n g) w (put_on g w s))) kept.cols
+    (puts_lines n g w (put_on g w s) shown kept.sound))
 
 -- ---- what a function leaves
 
@@ -101,7 +105,8 @@ edit_lines edit s is = tt
 repeat_lines : (n : ℕ) (o : Option ℕ) (l : Live) → IsPrinted o → IsLive l → Each (IsLine l.screen.cols) (left_by_repeat n o l)
 repeat_lines n None l h is = tt
 repeat_lines n (Some c) l h is =
-    either (Each (IsLine l.screen.cols)) (eqb (width_of c) 0) [] (left_by_puts (replicate n (glyph_in c l.pen)) (writing_under l.modes) l.screen) (λ e. tt)
+    either (Each (IsLine l.screen.cols)) (eqb (width_of c) 0) []
+    (left_by_puts (replicate n (glyph_in c l.pen)) (writing_under l.modes) l.screen) (λ e. tt)
     (λ e. puts_lines n (glyph_in c l.pen) (writing_under l.modes) l.screen (glyph_shown c l.pen e h) is.screen)
 
 character_lines : (c : ℕ) (l : Live) → IsLive l → Each (IsLine l.screen.cols) (left_by_character c l)
@@ -122,25 +127,32 @@ command_lines (Shifts shift) l is = tt
 command_lines (Sets setting) l is = tt
 command_lines (Reports report) l is = tt
 
-main_lines : (cols : ℕ) (alternate : Bool) (rows : List (List Glyph)) → Each (IsLine cols) rows → Each (IsLine cols) (on_main alternate rows)
+main_lines : (cols : ℕ) (alternate : Bool) (rows : List (List Glyph)) → Each (IsLine cols) rows → Each (IsLine cols)
+    (on_main alternate rows)
 main_lines cols true rows h = tt
 main_lines cols false rows h = h
 
 left_lines : (f : Function) (l : Live) → IsLive l → Each (IsLine l.screen.cols) (left f l)
 unfolding left
 left_lines (Size rows cols) l is =
-    main_lines l.screen.cols l.alternate (top_rows (leaving rows l.screen) l.screen) (top_lines (leaving rows l.screen) l.screen is.screen (omega (arith, is.screen.frame.row_in)))
-left_lines (Print c) l is = main_lines l.screen.cols l.alternate (left_by (command_of (Print c)) l) (command_lines (command_of (Print c)) l is)
+    main_lines l.screen.cols l.alternate (top_rows (leaving rows l.screen) l.screen)
+    (top_lines (leaving rows l.screen) l.screen is.screen (omega (arith, is.screen.frame.row_in)))
+left_lines (Print c) l is = main_lines l.screen.cols l.alternate (left_by (command_of (Print c)) l)
+    (command_lines (command_of (Print c)) l is)
 left_lines (C0 b) l is = main_lines l.screen.cols l.alternate (left_by (command_of (C0 b)) l) (command_lines (command_of (C0 b)) l is)
 left_lines (C1 b) l is = main_lines l.screen.cols l.alternate (left_by (command_of (C1 b)) l) (command_lines (command_of (C1 b)) l is)
-left_lines (Esc inter b) l is = main_lines l.screen.cols l.alternate (left_by (command_of (Esc inter b)) l) (command_lines (command_of (Esc inter b)) l is)
+left_lines (Esc inter b) l is = main_lines l.screen.cols l.alternate (left_by (command_of (Esc inter b)) l)
+    (command_lines (command_of (Esc inter b)) l is)
 left_lines (Csi marker params inter b) l is =
-    main_lines l.screen.cols l.alternate (left_by (command_of (Csi marker params inter b)) l) (command_lines (command_of (Csi marker params inter b)) l is)
+    main_lines l.screen.cols l.alternate (left_by (command_of (Csi marker params inter b)) l)
+    (command_lines (command_of (Csi marker params inter b)) l is)
 
 -- ---- what a history keeps
 
-with_lines : (cols : ℕ) (rows : List (List Glyph)) (h : Scrollback) → Each (IsLine cols) rows → Each (IsLine cols) h.rows → Each (IsLine cols) (with_rows rows h).rows
-with_lines cols rows h new old = each-drop (IsLine cols) (length (h.rows ++ rows) - h.lines) (h.rows ++ rows) (each-append (IsLine cols) h.rows rows old new)
+with_lines : (cols : ℕ) (rows : List (List Glyph)) (h : Scrollback) → Each (IsLine cols) rows → Each (IsLine cols) h.rows → Each
+    (IsLine cols) (with_rows rows h).rows
+with_lines cols rows h new old = each-drop (IsLine cols) (length (h.rows ++ rows) - h.lines) (h.rows ++ rows)
+    (each-append (IsLine cols) h.rows rows old new)
 
 refitted_line : (old cols : ℕ) (row : List Glyph) → IsLine old row → IsLine cols (refitted_row cols row)
 refitted_line old cols row line =
@@ -150,9 +162,11 @@ refitted_line old cols row line =
       shown = λ k. elim (cases_lt k cols) [
         | inl inside ↦
             subst (λ (g : Glyph). IsShown g.points) (sym (refitted_row_at cols row k inside))
-            (either (λ (g : Glyph). IsShown g.points) (is_wide (glyph_at row k) && eqb (k + 1) cols) (space_in (glyph_at row k)) (glyph_at row k)
+            (either (λ (g : Glyph). IsShown g.points) (is_wide (glyph_at row k) && eqb (k + 1) cols) (space_in (glyph_at row k))
+            (glyph_at row k)
             (λ e. space_shown) (λ e. line.shown k))
-        | inr past ↦ subst (λ (g : Glyph). IsShown g.points) (sym (get_or_past (refitted_row cols row) k blank (omega (arith, count, past)))) space_shown
+        | inr past ↦ subst (λ (g : Glyph). IsShown g.points)
+            (sym (get_or_past (refitted_row cols row) k blank (omega (arith, count, past)))) space_shown
       ];
     }
 
@@ -160,7 +174,8 @@ refitted_lines : (old cols : ℕ) (rows : List (List Glyph)) → Each (IsLine ol
 refitted_lines old cols [] h = tt
 refitted_lines old cols (row ∷ rows) h = (refitted_line old cols row h.0, refitted_lines old cols rows h.1)
 
-kept_lines : (f : Function) (l : Live) (h : Scrollback) → IsLive l → Each (IsLine l.screen.cols) h.rows → Each (IsLine (size_by (size_of l) f).1) (kept f l h).rows
+kept_lines : (f : Function) (l : Live) (h : Scrollback) → IsLive l → Each (IsLine l.screen.cols) h.rows → Each
+    (IsLine (size_by (size_of l) f).1) (kept f l h).rows
 unfolding kept
 kept_lines (Size rows cols) l h is lines =
     refitted_lines l.screen.cols cols (with_rows (left (Size rows cols) l) h).rows
@@ -185,14 +200,16 @@ after_is f p t h is =
     record {
       size = step.size ∙ ap (λ (q : ℕ × ℕ). size_by q f) is.size;
       live = step.live;
-      lines = subst (λ (cols : ℕ). Each (IsLine cols) (kept f t.live t.history).rows) (sym (ap (λ (q : ℕ × ℕ). q.1) step.size)) (kept_lines f t.live t.history is.live is.lines);
+      lines = subst (λ (cols : ℕ). Each (IsLine cols) (kept f t.live t.history).rows) (sym (ap (λ (q : ℕ × ℕ). q.1) step.size))
+          (kept_lines f t.live t.history is.live is.lines);
     }
 
 run_is : (fs : List Function) (p : ℕ × ℕ) (t : Terminal) → Each IsProper fs → IsTerm p t → IsTerm (sizes_by p fs) (run t fs)
 run_is [] p t h is = is
 run_is (f ∷ fs) p t h is = run_is fs (size_by p f) (after f t) h.1 (after_is f p t h.0 is)
 
-pub term_is : (rows cols lines : ℕ) (log : List Item) → IsSize rows cols → AreSizes log → IsTerm (size_after (rows, cols) log) (term rows cols lines log)
+pub term_is : (rows cols lines : ℕ) (log : List Item) → IsSize rows cols → AreSizes log → IsTerm (size_after (rows, cols) log)
+    (term rows cols lines log)
 unfolding term
 term_is rows cols lines log size sizes =
     subst (λ (p : ℕ × ℕ). IsTerm p (run (started rows cols lines) (functions_of log))) (log_sizes (rows, cols) log)

@@ -25,7 +25,8 @@ rows_of cols [] h = All-nil (IsRow cols)
 rows_of cols (row ∷ rows) h = All-cons (IsRow cols) row rows h.0.is (rows_of cols rows h.1)
 
 -- rows of a history, and then the screen, have the code points of cells
-flat_shown : (cols : ℕ) (rows : List (List Glyph)) (cells : List Glyph) → Each (IsLine cols) rows → ((k : ℕ) → IsShown (get_or cells k blank).points)
+flat_shown : (cols : ℕ) (rows : List (List Glyph)) (cells : List Glyph) → Each (IsLine cols) rows →
+    ((k : ℕ) → IsShown (get_or cells k blank).points)
     → (k : ℕ) → IsShown (get_or (flat rows ++ cells) k blank).points
 flat_shown cols [] cells h each k = each k
 flat_shown cols (row ∷ rows) cells h each k =
