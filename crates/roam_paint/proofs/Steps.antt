@@ -63,7 +63,7 @@ module _ (k : Constants) where
         screen = screen_at cells row col pending;
         other = k.other;
         alternate = false;
-        pen = record { style = g; guard = false };
+        pen = record { style = g; guarded = false };
         modes = record k.modes { insert = false; reverse_screen = false; origin = false; autowrap = true; cursor_visible = visible };
         sets = record k.sets { g0 = Ascii; locked = G0; single = None };
         saved = k.saved;

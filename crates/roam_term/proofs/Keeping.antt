@@ -41,7 +41,7 @@ use Rattle.roam_controls.specs.Parameters.{first, count}
 use Rattle.roam_controls.specs.Shifts.{c0_shift, c1_shift, locking_shift, designation_of}
 use Rattle.roam_controls.specs.Settings.{c1_setting, setting_of, private_setting, quoted_setting, exclaimed_setting, escape_setting}
 use Rattle.roam_controls.specs.Reports.{report_of, private_report, secondary_report}
-use Rattle.roam_term.specs.declared.pens.Pen.{Pen}
+use Rattle.roam_cells.specs.Inks.{InkValue}
 use Rattle.roam_term.specs.declared.pens.Saved.{Saved}
 use Rattle.roam_term.specs.Edits.{edited_by}
 use Rattle.roam_term.specs.Erasures.{erased_by}
@@ -211,7 +211,7 @@ mapped_scalar : (set : Charset) (c : ℕ) → IsScalar c → IsScalar (mapped_by
 unfolding mapped_by
 mapped_scalar set c h = either IsScalar (leb 0x21 c && leb c 0x7E) (character_of set c) c (λ e. character_scalar set c h) (λ e. h)
 
-pub glyph_shown : (c : ℕ) (pen : Pen) → eqb (width_of c) 0 ≡ false → IsScalar c → IsShown (glyph_in c pen).points
+pub glyph_shown : (c : ℕ) (pen : InkValue) → eqb (width_of c) 0 ≡ false → IsScalar c → IsShown (glyph_in c pen).points
 glyph_shown c pen e h = cell_shown c (ap (λ v. not v && true && true) e) h
 
 -- ---- what lives

@@ -2,12 +2,12 @@
 use Rattle.std.specs.Prelude.{false}
 use Rattle.roam_cells.specs.Glyph.{default_style}
 use Rattle.roam_charset.specs.Sets.{started}
-use Rattle.roam_term.specs.declared.pens.Pen.{Pen}
+use Rattle.roam_cells.specs.Inks.{InkValue}
 use Rattle.roam_term.specs.declared.pens.Saved.{Saved}
 
 -- the default rendition, unguarded
-abbrev pub plain_pen : Pen
-plain_pen = record { style = default_style; guard = false }
+abbrev pub plain_pen : InkValue
+plain_pen = record { style = default_style; guarded = false }
 
 -- what DECRC restores where nothing is saved: the start's values (this project's profile)
 abbrev pub nothing_saved : Saved

@@ -24,7 +24,7 @@ use Rattle.roam_controls.specs.declared.commands.Command.TheVariants.{Nothing, P
 use Rattle.roam_controls.specs.declared.settings.Setting.{Setting}
 use Rattle.roam_controls.specs.declared.settings.Setting.TheVariants.{Mode, PrivateMode, Rendition, Margins, Guard, Keypad, Save, Restore, SoftReset, Reset, SetStop, ClearStop, ClearStops}
 use Rattle.roam_controls.specs.declared.modes.Modes.{Modes}
-use Rattle.roam_term.specs.declared.pens.Pen.{Pen}
+use Rattle.roam_cells.specs.Inks.{InkValue}
 use Rattle.roam_term.specs.declared.pens.Saved.{Saved}
 use Rattle.roam_controls.specs.Commands.{command_of, parameters_of, forgets}
 use Rattle.roam_term.specs.Edits.{edited_by}
@@ -45,7 +45,7 @@ pub record Live : Type 0 where
   -- the cells of the screen that is not shown, and whether the alternate screen is the one shown
   pub other : List Glyph
   pub alternate : Bool
-  pub pen : Pen
+  pub pen : InkValue
   pub modes : Modes
   pub sets : GraphicSets
   -- what DECSC kept on the main and on the alternate screen
@@ -62,8 +62,8 @@ pub record Terminal : Type 0 where
 
 -- ---- printing
 
-abbrev pub glyph_in : ℕ → Pen → Glyph
-glyph_in c pen = record { points = c ∷ []; style = pen.style; guarded = pen.guard }
+abbrev pub glyph_in : ℕ → InkValue → Glyph
+glyph_in c pen = record { points = c ∷ []; style = pen.style; guarded = pen.guarded }
 
 abbrev pub writing_under : Modes → Writing
 writing_under modes = record { wraps = modes.autowrap; inserts = modes.insert }
@@ -199,7 +199,7 @@ set_by (Mode on) params s = fold (mode_set on) s params
 set_by (PrivateMode on) params s = fold (private_mode_set on) s params
 set_by Rendition params s = record s { pen = record s.pen { style = styled params s.pen.style } }
 set_by (Margins top bottom) params s = record s { screen = margins_set top bottom s.modes.origin s.screen }
-set_by (Guard on) params s = record s { pen = record s.pen { guard = on } }
+set_by (Guard on) params s = record s { pen = record s.pen { guarded = on } }
 set_by (Keypad application) params s = record s { modes = record s.modes { application_keypad = application } }
 set_by Save params s = saved_on s
 set_by Restore params s = restored_to (kept_of s) s

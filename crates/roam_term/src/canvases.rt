@@ -16,11 +16,11 @@ use crate::leaving::{
 };
 use crate::motions::move_by;
 use crate::outputs::Output;
-use crate::pens::{Pen, Saved};
+use crate::pens::{Saved, plain_pen};
 use crate::reports::answer_to;
 use crate::settings::{follow_private_mode, set_margins};
 use crate::shifts::shift_by;
-use roam_cells::{Cell, Fault};
+use roam_cells::{Cell, Fault, Ink};
 use roam_charset::{Charset, Sets};
 use roam_controls::{Command, Modes, Setting, restyled};
 use roam_grid::{Grid, Writing};
@@ -34,7 +34,7 @@ pub struct Canvas {
     pub(crate) grid: Grid,
     pub(crate) other: Grid,
     pub(crate) alternate: bool,
-    pub(crate) pen: Pen,
+    pub(crate) pen: Ink,
     pub(crate) modes: Modes,
     pub(crate) sets: Sets,
     pub(crate) saved: Option<Saved>,
@@ -78,7 +78,7 @@ impl Canvas {
             grid,
             other,
             alternate: false,
-            pen: Pen::new(),
+            pen: plain_pen(),
             modes: Modes::new(),
             sets: Sets::new(),
             saved: None,
@@ -133,7 +133,7 @@ impl Canvas {
         ensures size { IsSameSize self.old.screen self.new.screen }
     {
         let c = self.sets.map(c);
-        match Cell::of(&[c], self.pen.style, self.pen.guard) {
+        match Cell::of_ink(&[c], self.pen) {
             Some(cell) => {
                 let writing = writing_under(self.modes);
                 leave_by_put(&self.grid, cell, writing, self.alternate, history);
@@ -161,7 +161,7 @@ impl Canvas {
         ensures size { IsSameSize self.old.screen self.new.screen }
     {
         history.facts();
-        let pen = Cell::ascii(b' ', self.pen.style, self.pen.guard);
+        let pen = Cell::space(self.pen);
         put_run(
             &mut self.grid,
             pen,
@@ -267,7 +267,7 @@ impl Canvas {
         self.grid.facts();
         let bottom = self.grid.rows() - 1;
         self.grid.set_margins(0, bottom);
-        self.pen = Pen::new();
+        self.pen = plain_pen();
         self.modes.soft_reset();
         self.sets = Sets::new();
         self.saved = None;
@@ -283,7 +283,7 @@ impl Canvas {
         self.other.facts();
         self.other.blank_all();
         self.alternate = false;
-        self.pen = Pen::new();
+        self.pen = plain_pen();
         self.modes = Modes::new();
         self.sets = Sets::new();
         self.saved = None;
@@ -300,7 +300,7 @@ impl Canvas {
     {
         stays(history);
         if let Some(c) = self.printed {
-            if let Some(cell) = Cell::of(&[c], self.pen.style, self.pen.guard) {
+            if let Some(cell) = Cell::of_ink(&[c], self.pen) {
                 let writing = writing_under(self.modes);
                 put_times(&mut self.grid, cell, n, writing, self.alternate, history);
             }
@@ -314,11 +314,13 @@ impl Canvas {
         match setting {
             Setting::Mode(on) => self.set_modes(on, params),
             Setting::PrivateMode(on) => self.set_private_modes(on, params),
-            Setting::Rendition => self.pen.style = restyled(self.pen.style, params),
+            Setting::Rendition => {
+                self.pen = Ink::new(restyled(self.pen.style(), params), self.pen.guard());
+            }
             Setting::Margins(top, bottom) => {
                 set_margins(&mut self.grid, top, bottom, self.modes.origin)
             }
-            Setting::Guard(on) => self.pen.guard = on,
+            Setting::Guard(on) => self.pen = Ink::new(self.pen.style(), on),
             Setting::Keypad(application) => self.modes.application_keypad = application,
             Setting::Save => self.save(),
             Setting::Restore => self.restore(),

@@ -2,15 +2,8 @@
 ghost use Rattle.std.specs.Prelude.{◌≡◌};
 ghost use Rattle.roam_term.specs.Pens.{plain_pen, nothing_saved};
 
-use roam_cells::Style;
+use roam_cells::{Ink, Style};
 use roam_charset::Sets;
-
-/// What a printed character looks like: its graphic rendition, and whether DECSCA guards it.
-#[derive(Clone, Copy)]
-pub struct Pen {
-    pub style: Style,
-    pub guard: bool,
-}
 
 /// What DECSC keeps of a screen (VT220 Programmer Reference, chapter 4). Rows and columns count from 0.
 #[derive(Clone, Copy)]
@@ -18,21 +11,16 @@ pub struct Saved {
     pub row: usize,
     pub col: usize,
     pub pending: bool,
-    pub pen: Pen,
+    pub pen: Ink,
     pub sets: Sets,
     pub origin: bool,
 }
 
-impl Pen {
-    /// The default rendition, unguarded.
-    pub fn new() -> Self
-        ensures pen { result ≡ plain_pen }
-    {
-        Pen {
-            style: Style::default(),
-            guard: false,
-        }
-    }
+/// The pen of the start: the default rendition, unguarded.
+pub fn plain_pen() -> Ink
+    ensures pen { result ≡ plain_pen }
+{
+    Ink::new(Style::default(), false)
 }
 
 impl Saved {
@@ -44,7 +32,7 @@ impl Saved {
             row: 0,
             col: 0,
             pending: false,
-            pen: Pen::new(),
+            pen: plain_pen(),
             sets: Sets::new(),
             origin: false,
         }

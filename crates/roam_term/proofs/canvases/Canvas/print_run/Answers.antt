@@ -23,8 +23,8 @@ returns c =
           (λ i. record {
             screen =
                 (c.put_run.ensures.screen
-                ∙ ap (λ pen. put_all (map (λ b. ascii_in b pen) bytes) c.writing_under.result was.grid.screen) c.ascii-pen.ensures.cell
-                ∙ ap (λ w. put_all (map (λ b. ascii_in b (record { points = 32 ∷ []; style = was.pen.style; guarded = was.pen.guard })) bytes) w was.grid.screen) c.writing_under.ensures.writing) i;
+                ∙ ap (λ pen. put_all (map (λ b. ascii_in b pen) bytes) c.writing_under.result was.grid.screen) c.space-pen.ensures.cell
+                ∙ ap (λ w. put_all (map (λ b. ascii_in b (record { points = 32 ∷ []; style = was.pen.style; guarded = was.pen.guarded })) bytes) w was.grid.screen) c.writing_under.ensures.writing) i;
             other = was.other.screen.cells;
             alternate = was.alternate;
             pen = was.pen;
@@ -37,8 +37,8 @@ returns c =
           ∙ sym (printed-run c.args.self.now bytes c.requires.plain c.requires.set c.requires.single);
       history =
           c.put_run.ensures.history
-          ∙ ap (λ pen. with_rows (on_main was.alternate (left_by_puts (map (λ b. ascii_in b pen) bytes) c.writing_under.result was.grid.screen)) c.args.history.now) c.ascii-pen.ensures.cell
-          ∙ ap (λ w. with_rows (on_main was.alternate (left_by_puts (map (λ b. ascii_in b (record { points = 32 ∷ []; style = was.pen.style; guarded = was.pen.guard })) bytes) w was.grid.screen)) c.args.history.now)
+          ∙ ap (λ pen. with_rows (on_main was.alternate (left_by_puts (map (λ b. ascii_in b pen) bytes) c.writing_under.result was.grid.screen)) c.args.history.now) c.space-pen.ensures.cell
+          ∙ ap (λ w. with_rows (on_main was.alternate (left_by_puts (map (λ b. ascii_in b (record { points = 32 ∷ []; style = was.pen.style; guarded = was.pen.guarded })) bytes) w was.grid.screen)) c.args.history.now)
           c.writing_under.ensures.writing
           ∙ ap (λ (l : Live). with_rows (on_main l.alternate (left_by_puts (map (λ b. glyph_in b l.pen) bytes) (writing_under l.modes) l.screen)) c.args.history.now) c.self.view_is
           ∙ sym (kept-run c.args.self.now bytes c.args.history.now c.requires.plain c.requires.set c.requires.single c.facts.ensures.scrollback.few);
