@@ -39,6 +39,7 @@ bench: all
 	bench/history.sh
 	bench/update.sh
 	bench/paint.sh
+	bench/session.sh
 
 clean:
 	rm -rf crates/*/out

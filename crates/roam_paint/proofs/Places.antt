@@ -1,10 +1,12 @@
 -- What a screen shows at each place, and where it differs from another.
-use Rattle.std.proofs.Common.{◌≡◌, ◌≤◌, ◌<◌, ℕ, ◌+◌, ◌*◌, ◌-◌, Bool, true, false, not, ◌&&◌, nat_lt, eqb, inl, inr, get_or, take, drop, sym, ap, ◌∙◌, refl, arith}
+use Rattle.std.proofs.Common.{◌≡◌, ◌≤◌, ◌<◌, ℕ, ◌+◌, ◌*◌, ◌-◌, Bool, true, false, not, ◌&&◌, nat_lt, eqb, inl, inr, get_or, take, drop, length, length-take, length-drop, List, sym, ap, ◌∙◌, refl, arith}
 use Rattle.std.specs.Prelude.{if◌then◌else◌}
 use Rattle.std.proofs.lemmas.Bool.{cases_lt, and_parts, and_right, lt-ltb, le-ltb, eqb-true, not-false}
-use Rattle.roam_cells.specs.Glyph.{blank}
+use Rattle.std.proofs.lemmas.List.{ext_get_or}
+use Rattle.roam_cells.specs.Glyph.{Glyph, blank}
 use Rattle.roam_cells.specs.Place.{cell_at}
 use Rattle.roam_cells.specs.Screenshot.{Screenshot}
+use Rattle.roam_cells.proofs.Places.{row_from}
 use Rattle.roam_rows.proofs.Lifting.{part_at}
 use Rattle.roam_paint.specs.Same.{same}
 use Rattle.roam_paint.specs.Painting.{shown_at, same_size, painted_over, differs}
@@ -22,6 +24,10 @@ shown_below p r c a = ap (λ t. if (t && nat_lt c p.cols) then cell_at p.cols p.
 
 pub shown_right : (p : Screenshot) (r c : ℕ) → p.cols ≤ c → shown_at p r c ≡ blank
 shown_right p r c a = ap (λ t. if t then cell_at p.cols p.cells r c else blank) (and_right (nat_lt r p.rows) (nat_lt c p.cols) (le-ltb c p.cols a))
+
+-- the length of a part that a list has
+length-part : (a n : ℕ) (xs : List Glyph) → a + n ≤ length xs → length (take n (drop a xs)) ≡ n
+length-part a n xs h = simp (length-take, length-drop) (omega (arith, h))
 
 -- ---- what differs
 
@@ -79,3 +85,27 @@ module _ (old new : Screenshot) where
       ap (λ k. get_or old.cells (r * k + c) blank) (cols ∙ sym n_is)
       ∙ sym (part_at (r * n) n c old.cells low) ∙ ap (λ l. get_or l c blank) front ∙ part_at (r * n) n c new.cells low
       ∙ ap (λ k. get_or new.cells (r * k + c) blank) n_is)
+
+  -- and where a row differs nowhere, its cells are the same
+  pub slice_same : same_size old new ≡ true → (r n : ℕ) → r < new.rows → n ≡ new.cols → length old.cells ≡ old.rows * old.cols
+      → length new.cells ≡ new.rows * new.cols → ((c : ℕ) → differs old new r c ≡ false)
+      → take (r * n + n - r * n) (drop (r * n) old.cells) ≡ take (r * n + n - r * n) (drop (r * n) new.cells)
+  slice_same e r n r_in n_is old_size new_size none =
+      let rows = same_rows e in
+      let cols = same_cols e in
+      let old_count : length old.cells ≡ new.rows * n = old_size ∙ ap (λ k. k * old.cols) rows ∙ ap (λ k. new.rows * k) (cols ∙ sym n_is) in
+      let new_count : length new.cells ≡ new.rows * n = new_size ∙ ap (λ k. new.rows * k) (sym n_is) in
+      let fits = row_from n (r + 1) new.rows 0 (omega (arith, r_in)) in
+      let old_in : r * n + n ≤ length old.cells = omega (arith, old_count, fits) in
+      let new_in : r * n + n ≤ length new.cells = omega (arith, new_count, fits) in
+      let count : r * n + n - r * n ≡ n = omega arith in
+      let one = length-part (r * n) n old.cells old_in in
+      let two = length-part (r * n) n new.cells new_in in
+      ap (λ k. take k (drop (r * n) old.cells)) count
+      ∙ ext_get_or blank (take n (drop (r * n) old.cells)) (take n (drop (r * n) new.cells)) (one ∙ sym two) (λ c c_in.
+      let low : c < n = omega (arith, c_in, one) in
+      part_at (r * n) n c old.cells low ∙ ap (λ k. get_or old.cells (r * k + c) blank) (n_is ∙ sym cols)
+      ∙ sym (shown_inside old r c (omega (arith, r_in, rows)) (omega (arith, low, n_is, cols)))
+      ∙ sym (ap (λ b. if b then shown_at old r c else blank) e) ∙ same_cell r c (none c)
+      ∙ shown_inside new r c r_in (omega (arith, low, n_is)) ∙ ap (λ k. get_or new.cells (r * k + c) blank) (sym n_is)
+      ∙ sym (part_at (r * n) n c new.cells low)) ∙ sym (ap (λ k. take k (drop (r * n) new.cells)) count)

@@ -1,6 +1,7 @@
--- No layout command finds a queue full.
-use Rattle.std.proofs.Common.{◌≡◌, Bool, true, false, cond, length, Option, Some, None}
+-- No layout command finds a queue full, and no key changes the layout.
+use Rattle.std.proofs.Common.{◌≡◌, refl, Bool, true, false, cond, length, Option, Some, None}
 use Rattle.std.specs.Prelude.{nat_le}
+use Rattle.roam_acts.specs.declared.keys.Key.{Key as KeyOfKeyboard}
 use Rattle.roam_acts.specs.declared.acts.Act.{Act}
 use Rattle.roam_acts.specs.declared.acts.Act.TheVariants.{Key, SplitRight, SplitDown, Close, Focus, Next, Grow, Size, View}
 use Rattle.roam_cells.specs.declared.faults.Fault.TheVariants.{Busy}
@@ -9,6 +10,7 @@ use Rattle.roam_layout.specs.Rects.{is_roomy, spot, grown, fits_in}
 use Rattle.roam_layout.specs.Layouts.{Plan, Outcome, Laid, Refused, laid, split, with_tree, is_session_size, area}
 use Rattle.roam_layout.specs.declared.rects.Way.{Way}
 use Rattle.roam_layout.specs.declared.rects.Way.TheVariants.{Right, Down}
+use Rattle.roam_session.specs.Sessions.{key_in}
 
 abbrev IsFree : Outcome → Type 0
 IsFree o = o ≡ Refused Busy → ⊥
@@ -39,3 +41,15 @@ never_busy s Next = λ e. cc
 never_busy s (Grow d) = either (is_one s.focus s.tree) _ _ (λ e. cc) (tree_free s (grown s.focus d s.tree (area s.rows s.cols)))
 never_busy s (Size r c) = either (is_session_size r c) _ _ (either (fits_in s.tree (area r c)) _ _ (λ e. cc) (λ e. cc)) (λ e. cc)
 never_busy s (View d) = λ e. cc
+
+-- a key leaves the layout
+pub keys_are_laid : (s : Plan) (act : Act) (key : KeyOfKeyboard) → key_in act ≡ Some key → laid s act ≡ Laid s
+keys_are_laid s (Key k) key e = refl
+keys_are_laid s SplitRight key e = cc
+keys_are_laid s SplitDown key e = cc
+keys_are_laid s Close key e = cc
+keys_are_laid s (Focus p) key e = cc
+keys_are_laid s Next key e = cc
+keys_are_laid s (Grow d) key e = cc
+keys_are_laid s (Size r c) key e = cc
+keys_are_laid s (View d) key e = cc

@@ -216,6 +216,11 @@ pub on_errors : {A E : Type 0} (r : Result A E) (P Q : E → Type 0) (R : Type 0
 on_errors (Ok x) P Q R f p q = tt
 on_errors (Err e) P Q R f p q = f e p q
 
+-- what holds anyway holds of each answer
+pub on_any : {A E : Type 0} (r : Result A E) (P : Type 0) → P → OnOk r P
+on_any (Ok x) P p = p
+on_any (Err e) P p = tt
+
 -- a key is stopped exactly where it is refused
 pub busy_if : (v : Bool) (o : Option Fault) → o ≡ fault_if v → (o ≡ Some Busy → v ≡ true) × (v ≡ true → o ≡ Some Busy)
 busy_if true o e = (λ h. refl, λ h. e)

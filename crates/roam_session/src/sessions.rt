@@ -128,6 +128,7 @@ impl Session {
     pub fn act(&mut self, alloc: Global, client: u64, act: &Act) -> Result<(), Fault>
         requires in_range { IsInRange act.now }
         ensures done { OnOk result (Appends self.old self.new (Did client act.now)) }
+        ensures laid { OnOk result (laid self.old.plan act.now ≡ Laid self.new.plan) }
         ensures refused { IfErr result (λ fault. fault ≢ Fault.OutOfMemory → fault ≢ Fault.Busy
             → Appends self.old self.new (Did client act.now)) }
         ensures busy { (size : SessionSize) (log : List Entry)

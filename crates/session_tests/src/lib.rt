@@ -4,4 +4,8 @@
 #![tactic(auto)]
 
 #[cfg(test)]
+mod memory;
+#[cfg(test)]
+mod requests;
+#[cfg(test)]
 mod sessions;

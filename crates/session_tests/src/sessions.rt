@@ -1,19 +1,10 @@
 //! Sessions: what acts, bytes and drains make of the face and of the bytes that wait.
-use roam_acts::read_act;
+use crate::requests::Request::{self, Act, Bytes, Drain, Long};
+use crate::requests::{NINE, act, ask, is_each_drained, is_refused, wait, with_panes};
 use roam_cells::{Cell, Fault, Shot, Style};
 use roam_session::Session;
 use std::alloc::Global;
 use std::test::*;
-
-/// What is asked of a session; a long piece has 1,025 bytes.
-enum Request {
-    Bytes(u8, &'static [u8]),
-    Long(u8),
-    Act(&'static str),
-    Drain(u8, usize),
-}
-
-use Request::{Act, Bytes, Drain, Long};
 
 /// The session's size, what is asked of it and how that is refused; then the rows of its face, the cursor and whether it is visible, and
 /// the bytes that wait in some panes.
@@ -25,7 +16,7 @@ struct Row {
     waiting: &'static [(u8, Option<&'static [u8]>)],
 }
 
-static FACES: [Row; 8] = [
+static FACES: [Row; 9] = [
     Row {
         size: (4, 17),
         steps: &[],
@@ -171,6 +162,27 @@ static FACES: [Row; 8] = [
         cursor: ((1, 1), true),
         waiting: &[(1, Some(b"[1;1Rac")), (2, Some(b"b"))],
     },
+    // Each terminal has its rectangle's size.
+    Row {
+        size: (24, 80),
+        steps: &[
+            (Act("split right"), None),
+            (Act("split down"), None),
+            (Act("grow 3"), None),
+            (Bytes(1, b"\x1B[99;99H\x1B[6n"), None),
+            (Bytes(2, b"\x1B[99;99H\x1B[6n"), None),
+            (Bytes(3, b"\x1B[99;99H\x1B[6n"), None),
+            (Act("close"), None),
+            (Bytes(2, b"\x1B[99;99H\x1B[6n"), None),
+        ],
+        rows: &[],
+        cursor: ((23, 80), true),
+        waiting: &[
+            (1, Some(b"\x1B[23;39R")),
+            (2, Some(b"\x1B[8;40R\x1B[23;40R")),
+            (3, None),
+        ],
+    },
 ];
 
 // What keys send under DECCKM, DECKPAM and LNM of the pane in focus.
@@ -225,72 +237,6 @@ static KEYS: [Row; 4] = [
         waiting: &[(1, Some(b"\x1B[28~\r\n"))],
     },
 ];
-
-// Takes bytes that wait, at most all of them.
-fn drain(session: &mut Session, pane: u8, n: usize) -> Result<(), Fault> {
-    match session.output_len(pane) {
-        Some(len) => session.drain(pane, n.min(len)),
-        None => session.drain(pane, n),
-    }
-}
-
-fn act(alloc: Global, session: &mut Session, line: &str) -> Result<(), Fault> {
-    let act = read_act(line.as_bytes())?;
-    session.act(alloc, 0xA1, &act)
-}
-
-fn answer(alloc: Global, session: &mut Session, request: &Request) -> Result<(), Fault> {
-    match request {
-        Bytes(pane, piece) => session.pane_bytes(*pane, piece),
-        Long(pane) => session.pane_bytes(*pane, &[b'a'; 1025]),
-        Act(line) => act(alloc, session, line),
-        Drain(pane, n) => drain(session, *pane, *n),
-    }
-}
-
-fn is_refused(answer: Result<(), Fault>, expected: Option<Fault>) -> bool {
-    match (answer, expected) {
-        (Ok(()), None) => true,
-        (Err(fault), Some(expected)) => fault == expected,
-        _ => false,
-    }
-}
-
-// Asks one after another, and tells whether each was refused as it is said.
-fn ask(alloc: Global, session: &mut Session, steps: &[(Request, Option<Fault>)]) -> bool {
-    for (request, expected) in steps {
-        if !is_refused(answer(alloc, session, request), *expected) {
-            return false;
-        }
-    }
-    true
-}
-
-fn waits(session: &Session, pane: u8, expected: Option<&[u8]>) -> bool {
-    let mut out = [0; 64];
-    match (session.output(pane, &mut out), expected) {
-        (Ok(n), Some(bytes)) => {
-            &out[..n] == bytes
-                && session.output_len(pane) == Some(bytes.len())
-                && session.room(pane) == Some(65_536_usize.saturating_sub(bytes.len()))
-        }
-        (Err(fault), None) => {
-            fault == Fault::NoPane
-                && session.output_len(pane).is_none()
-                && session.room(pane).is_none()
-        }
-        _ => false,
-    }
-}
-
-fn wait(session: &Session, waiting: &[(u8, Option<&[u8]>)]) -> bool {
-    for (pane, expected) in waiting {
-        if !waits(session, *pane, *expected) {
-            return false;
-        }
-    }
-    true
-}
 
 fn has_row(alloc: Global, shot: &Shot, i: u16, text: &str) -> Result<bool, Fault> {
     if shot.rows() <= i {
@@ -373,53 +319,19 @@ static FULL: [(Request, Option<Fault>); 12] = [
     (Bytes(1, b"a"), None),
 ];
 
+// Whether a full queue takes no more, and room for exactly one more byte of its program is enough.
+fn takes_no_more(alloc: Global, session: &mut Session) -> bool {
+    session.room(1) == Some(1)
+        && ask(alloc, session, &FULL)
+        && session.output_len(1) == Some(65_524)
+}
+
 #[test]
 fn a_full_queue_takes_no_more(rt: HostRuntime) -> Result<(), Fail> {
     let mut session = Session::new(rt.alloc(), 4, 8)?;
     fill(rt.alloc(), &mut session)?;
-    assert_eq!(rt; session.room(1), Some(1));
-    assert!(rt; ask(rt.alloc(), &mut session, &FULL));
-    assert_eq!(rt; session.output_len(1), Some(65_524));
+    assert!(rt; takes_no_more(rt.alloc(), &mut session));
     Ok(())
-}
-
-// Eight splits of 24 by 80.
-static NINE: [&str; 12] = [
-    "split right",
-    "split down",
-    "split down",
-    "focus 1",
-    "split down",
-    "split down",
-    "focus 2",
-    "split right",
-    "focus 1",
-    "split right",
-    "focus 3",
-    "split right",
-];
-
-static DIGITS: [&[u8]; 9] = [
-    b"1\x1B[6n",
-    b"2\x1B[6n",
-    b"3\x1B[6n",
-    b"4\x1B[6n",
-    b"5\x1B[6n",
-    b"6\x1B[6n",
-    b"7\x1B[6n",
-    b"8\x1B[6n",
-    b"9\x1B[6n",
-];
-
-fn nine_panes(alloc: Global) -> Result<Session, Fault> {
-    let mut session = Session::new(alloc, 24, 80)?;
-    for line in NINE {
-        act(alloc, &mut session, line)?;
-    }
-    for k in 0..DIGITS.len() {
-        session.pane_bytes(k as u8 + 1, DIGITS[k])?;
-    }
-    Ok(session)
 }
 
 // How many cells of a face show a digit in the default style, above the last row.
@@ -437,54 +349,44 @@ fn has_each_digit_once(shot: &Shot) -> bool {
     true
 }
 
-// The output of each pane, taken in two parts.
-fn is_each_drained(session: &mut Session) -> bool {
-    for pane in 1..=9 {
-        if !waits(session, pane, Some(b"\x1B[1;2R")) || drain(session, pane, 2).is_err() {
-            return false;
-        }
-        if !waits(session, pane, Some(b"1;2R")) || drain(session, pane, 4).is_err() {
-            return false;
-        }
-        if !waits(session, pane, Some(b"")) {
-            return false;
+// Asks for an act, and tells whether each pane shows its number after it.
+fn shows_each_after(
+    alloc: Global,
+    session: &mut Session,
+    line: &str,
+    expected: Option<Fault>,
+) -> Result<bool, Fault> {
+    let answered = is_refused(act(alloc, session, line), expected);
+    Ok(has_each_digit_once(&session.face(alloc)?) && answered)
+}
+
+static SIZES: [(&str, Option<Fault>); 4] = [
+    ("split down", Some(Fault::PanesFull)),
+    ("size 100 250", None),
+    ("size 5 8", Some(Fault::TooSmall)),
+    ("size 24 80", None),
+];
+
+fn shows_each_at_all_sizes(alloc: Global, session: &mut Session) -> Result<bool, Fault> {
+    for k in 0..SIZES.len() {
+        if !shows_each_after(alloc, session, SIZES[k].0, SIZES[k].1)? {
+            return Ok(false);
         }
     }
-    true
+    Ok(true)
+}
+
+// Whether a session shows at the end what it showed first.
+fn goes_up_and_down(alloc: Global, session: &mut Session) -> Result<bool, Fault> {
+    let first = session.face(alloc)?;
+    let shown = shows_each_at_all_sizes(alloc, session)?;
+    Ok(session.face(alloc)?.is_same(&first) && shown)
 }
 
 #[test]
 fn nine_panes_go_up_and_down_and_are_drained(rt: HostRuntime) -> Result<(), Fail> {
-    let mut session = nine_panes(rt.alloc())?;
-    let first = session.face(rt.alloc())?;
-    assert!(rt; has_each_digit_once(&first));
-    let refused = act(rt.alloc(), &mut session, "split down");
-    assert!(rt; is_refused(refused, Some(Fault::PanesFull)));
-    act(rt.alloc(), &mut session, "size 100 250")?;
-    assert!(rt; has_each_digit_once(&session.face(rt.alloc())?));
-    act(rt.alloc(), &mut session, "size 24 80")?;
-    assert!(rt; session.face(rt.alloc())?.is_same(&first));
+    let mut session = with_panes(rt.alloc(), &NINE)?;
+    assert!(rt; goes_up_and_down(rt.alloc(), &mut session)?);
     assert!(rt; is_each_drained(&mut session));
-    Ok(())
-}
-
-// An act that finds no memory leaves the session, and once more with memory ends as one that was never refused.
-fn ends_alike(alloc: Global, line: &str) -> Result<bool, Fault> {
-    let mut session = nine_panes(alloc)?;
-    let before = session.face(alloc)?;
-    let mut other = nine_panes(alloc)?;
-    act(alloc, &mut other, line)?;
-    if act(alloc, &mut session, line).is_err() {
-        if !session.face(alloc)?.is_same(&before) {
-            return Ok(false);
-        }
-        act(alloc, &mut session, line)?;
-    }
-    Ok(session.face(alloc)?.is_same(&other.face(alloc)?) && is_each_drained(&mut session))
-}
-
-#[test]
-fn a_size_of_nine_panes_is_whole_or_nothing(rt: HostRuntime) -> Result<(), Fail> {
-    assert!(rt; ends_alike(rt.alloc(), "size 40 120")?);
     Ok(())
 }

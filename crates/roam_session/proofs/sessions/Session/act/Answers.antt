@@ -1,4 +1,4 @@
-use Rattle.std.proofs.Common.{◌≡◌, ℕ, ◌≢◌, inl, inr, ◌⊎◌, Some, None, sym, ◌∙◌, subst}
+use Rattle.std.proofs.Common.{◌≡◌, ℕ, ◌≢◌, inl, inr, ◌⊎◌, Some, None, sym, ap, ◌∙◌, subst}
 use Rattle.std.proofs.lemmas.Result.{IfOk-weaker}
 use Rattle.std.proofs.lemmas.Bool.{false≢true}
 use Rattle.roam_cells.specs.declared.faults.Fault.TheVariants.{OutOfMemory, Busy}
@@ -9,7 +9,8 @@ use Rattle.roam_session.specs.Refusals.{stops, fault_of}
 use Rattle.roam_session.specs.Stands.{SessionView, Appends, term_at}
 use Rattle.roam_session.specs.Steps.{IsGiven}
 use Rattle.roam_session.specs.Queues.{ChangesAt, IsKeyed}
-use Rattle.roam_session.proofs.Entering.{stands_keyed, stands_laid, stands_refused, stopped_is, not_stopped, on_both, on_errors, busy_if, not_busy}
+use Rattle.roam_session.proofs.Entering.{stands_keyed, stands_laid, stands_refused, stopped_is, not_stopped, on_any, on_both, on_errors, busy_if, not_busy}
+use Rattle.roam_session.proofs.Busyness.{keys_are_laid}
 use Rattle.roam_session.proofs.sessions.Session.act.Goals as goal
 
 pub returns-in-Some-clause-done : goal.returns-in-Some-clause-done
@@ -22,6 +23,15 @@ returns-in-Some-clause-done c =
     IfOk-weaker c.type_key.result (λ _. ChangesAt old.plan.focus (IsKeyed key) old.terms new.terms)
     (λ _. Appends old new (Did c.args.client act))
     (λ _ changes. stands_keyed old new c.args.client act key is c.type_key.ensures.plan changes) c.type_key.ensures.keyed
+
+pub returns-in-Some-clause-laid : goal.returns-in-Some-clause-laid
+returns-in-Some-clause-laid c =
+    let old = c.args.self.now.plan in
+    let new = c.type_key.new.self.plan in
+    let act = c.args.act.now in
+    let is : key_in act ≡ Some c.in-Some.key = sym c.key_in.ensures.key ∙ c.in-Some.is in
+    on_any c.type_key.result (laid old act ≡ Laid new)
+    (keys_are_laid old act c.in-Some.key is ∙ ap Laid (sym c.type_key.ensures.plan))
 
 pub returns-in-Some-clause-busy : goal.returns-in-Some-clause-busy
 returns-in-Some-clause-busy c size log h =

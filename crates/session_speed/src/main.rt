@@ -1,0 +1,174 @@
+//! Measures how fast a session works: `session_speed ROWS COLS TIMES` copies a face so many times, gives a pane so many single bytes,
+//! builds as often the face of one pane and that of nine, and splits a pane to the right, which is closed again between the splits. It
+//! prints for each its name, TIMES, the nanoseconds that passed and a number that depends on the work. Without words it does each once at
+//! 24 by 80, and prints nothing.
+#![tactic(auto)]
+
+use anyhow::{Context, bail};
+use roam_acts::{Act, read_act};
+use roam_cells::{Fault, Shot};
+use roam_session::Session;
+use std::alloc::Global;
+use std::env;
+use std::time::Instant;
+
+// Acts that make nine panes beside and below one another.
+static ACTS: [&str; 13] = [
+    "split right",
+    "split right",
+    "split down",
+    "focus 2",
+    "split down",
+    "split down",
+    "focus 1",
+    "split right",
+    "split down",
+    "focus 1",
+    "split down",
+    "grow 1",
+    "next",
+];
+
+// What the programs write before anything is measured, so many times: more than a screen of 100 by 250 has.
+static TEXT: &[u8] = b"the quick brown fox jumps over the lazy dog and comes back again";
+
+const PIECES: u16 = 500;
+
+// A session after some acts, each pane of which was written all over.
+fn written(alloc: Global, rows: u16, cols: u16, acts: &[&str]) -> Result<Session, Fault> {
+    let mut session = Session::new(alloc, rows, cols)?;
+    for line in acts {
+        session.act(alloc, 0, &read_act(line.as_bytes())?)?;
+    }
+    for pane in 1..=9 {
+        fill(&mut session, pane, TEXT)?;
+    }
+    Ok(session)
+}
+
+// Where no pane is nothing is written.
+fn fill(session: &mut Session, pane: u8, piece: &[u8]) -> Result<(), Fault> {
+    if session.room(pane).is_none() {
+        return Ok(());
+    }
+    for _ in 0..PIECES {
+        session.pane_bytes(pane, piece)?;
+    }
+    Ok(())
+}
+
+fn copies(alloc: Global, shot: &Shot, times: u32) -> Result<u64, Fault> {
+    let mut sum: u64 = 0;
+    for _ in 0..times {
+        let copy = shot.copy(alloc)?;
+        sum = sum.wrapping_add(copy.cells().len() as u64);
+    }
+    Ok(sum)
+}
+
+fn bytes(session: &mut Session, times: u32) -> Result<u64, Fault> {
+    let mut sum: u64 = 0;
+    for k in 0..times {
+        session.pane_bytes(1, &[b'a' + (k % 26) as u8])?;
+        sum = sum.wrapping_add(1);
+    }
+    Ok(sum)
+}
+
+fn faces(alloc: Global, session: &Session, times: u32) -> Result<u64, Fault> {
+    let mut sum: u64 = 0;
+    for _ in 0..times {
+        let shot = session.face(alloc)?;
+        sum = sum.wrapping_add(shot.cells().len() as u64);
+    }
+    Ok(sum)
+}
+
+// The nanoseconds of so many splits.
+fn splits(rt: &HostRuntime, session: &mut Session, times: u32) -> anyhow::Result<u128> {
+    let mut passed: u128 = 0;
+    for _ in 0..times {
+        let start = Instant::now(rt)?;
+        session.act(rt.alloc(), 0, &Act::SplitRight)?;
+        passed = passed.wrapping_add(start.elapsed(rt)?.as_nanos());
+        session.act(rt.alloc(), 0, &Act::Close)?;
+    }
+    Ok(passed)
+}
+
+fn report(rt: &HostRuntime, name: &str, times: u32, passed: u128, sum: u64) -> anyhow::Result<()> {
+    println!(rt; "{name} {times} {passed} {sum}")?;
+    Ok(())
+}
+
+fn measure_face(rt: &HostRuntime, name: &str, session: &Session, times: u32) -> anyhow::Result<()> {
+    let start = Instant::now(rt)?;
+    let sum = faces(rt.alloc(), session, times)?;
+    report(rt, name, times, start.elapsed(rt)?.as_nanos(), sum)
+}
+
+fn measure_copy(rt: &HostRuntime, session: &Session, times: u32) -> anyhow::Result<()> {
+    let shot = session.face(rt.alloc())?;
+    let start = Instant::now(rt)?;
+    let sum = copies(rt.alloc(), &shot, times)?;
+    report(rt, "copy", times, start.elapsed(rt)?.as_nanos(), sum)
+}
+
+fn measure_byte(rt: &HostRuntime, session: &mut Session, times: u32) -> anyhow::Result<()> {
+    let start = Instant::now(rt)?;
+    let sum = bytes(session, times)?;
+    report(rt, "byte", times, start.elapsed(rt)?.as_nanos(), sum)
+}
+
+fn measure_split(rt: &HostRuntime, session: &mut Session, times: u32) -> anyhow::Result<()> {
+    let passed = splits(rt, session, times)?;
+    report(rt, "split", times, passed, u64::from(times))
+}
+
+fn measure_one(rt: &HostRuntime, rows: u16, cols: u16, times: u32) -> anyhow::Result<()> {
+    let mut session = written(rt.alloc(), rows, cols, &[])?;
+    measure_copy(rt, &session, times)?;
+    measure_face(rt, "one", &session, times)?;
+    measure_byte(rt, &mut session, times)?;
+    measure_split(rt, &mut session, times)
+}
+
+fn measure_nine(rt: &HostRuntime, rows: u16, cols: u16, times: u32) -> anyhow::Result<()> {
+    let session = written(rt.alloc(), rows, cols, &ACTS)?;
+    measure_face(rt, "nine", &session, times)
+}
+
+fn measure(rt: &HostRuntime, rows: u16, cols: u16, times: u32) -> anyhow::Result<()> {
+    measure_one(rt, rows, cols, times)?;
+    measure_nine(rt, rows, cols, times)
+}
+
+// The face of nine panes, at 24 by 80.
+fn nine_at_once(alloc: Global) -> Result<u64, Fault> {
+    let session = written(alloc, 24, 80, &ACTS)?;
+    faces(alloc, &session, 1)
+}
+
+fn once(rt: &HostRuntime) -> anyhow::Result<()> {
+    if nine_at_once(rt.alloc())? != 1920 {
+        bail!("the face has other cells");
+    }
+    let mut session = written(rt.alloc(), 24, 80, &[])?;
+    bytes(&mut session, 1)?;
+    splits(rt, &mut session, 1)?;
+    Ok(())
+}
+
+fn main(rt: HostRuntime) -> anyhow::Result<()> {
+    let mut words = env::args(&rt)?;
+    words.next();
+    let Some(rows) = words.next() else {
+        return once(&rt);
+    };
+    let rows = rows.parse::<u16>().ok().context("ROWS is no number")?;
+    let cols = words.next().and_then(|word| word.parse::<u16>().ok());
+    let cols = cols.context("COLS is no number")?;
+    let times = words.next().and_then(|word| word.parse::<u32>().ok());
+    let times = times.context("TIMES is no number")?;
+    measure(&rt, rows, cols, times)
+}
