@@ -159,7 +159,7 @@ fn text_after(alloc: Global, bytes: &[u8], first: usize, size: usize) -> Result<
     let mut term = full(alloc)?;
     let (begin, rest) = bytes.split_at(first.min(bytes.len()));
     term.feed(begin)?;
-    for piece in rest.chunks(size) {
+    for piece in rest.chunks(size.max(1)) {
         term.feed(piece)?;
     }
     text_of(alloc, &term)
