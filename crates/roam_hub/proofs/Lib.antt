@@ -6,3 +6,6 @@ pub mod Entries
 pub mod Doing
 pub mod Serving
 pub mod Recording
+pub mod Addressing
+pub mod Settling
+pub mod Ticking

@@ -1,5 +1,6 @@
 -- What a server keeps of a client start, and what its calls make of it.
-use Rattle.std.specs.Prelude.{◌≡◌, ℕ, Result, Ok, Err, ◌+◌, ◌<◌, ◌≤◌, max, nat_lt, nat_eq, ◌==◌, ◌&&◌, ◌||◌, List, [], ◌∷◌, ◌++◌, length, take, map, is_some, Option, Some, None, Bool, true, if◌then◌else◌}
+use Rattle.std.specs.Prelude.{◌≡◌, ℕ, Result, Ok, Err, ◌+◌, ◌<◌, ◌≤◌, max, nat_lt, nat_eq, ◌==◌, ◌&&◌, ◌||◌, List, [], ◌∷◌, ◌++◌, length, take, map, is_some, Option, Some, None, Bool, true, if◌then◌else◌, ◌^◌}
+use Rattle.std.specs.List.{flat_map, list_any}
 use Rattle.std.specs.Map.{lookup, set_value}
 use Rattle.roam_cells.specs.declared.faults.Fault.{Fault}
 use Rattle.roam_cells.specs.declared.faults.Fault.TheVariants.{OutOfMemory, Busy, BadDatagram, ClientsFull}
@@ -8,19 +9,20 @@ use Rattle.roam_cells.specs.declared.faults.Reason.TheVariants.{Fragment}
 use Rattle.roam_cells.specs.Screenshot.{Screenshot}
 use Rattle.roam_acts.specs.declared.acts.Act.{Act}
 use Rattle.roam_acts.specs.Takers.{fresh_of}
-use Rattle.roam_sync.specs.Senders.{acked, sent_at}
+use Rattle.roam_sync.specs.Senders.{acked, sent_at, is_due, withdrawn}
 use Rattle.roam_wire.specs.declared.datagrams.Kind.TheVariants.{ToClient}
 use Rattle.roam_wire.specs.Datagrams.{DatagramValue, datagram_text}
 use Rattle.roam_wire.specs.Gatherers.{Gathering, gather, piece_of}
-use Rattle.roam_wire.specs.Instructions.{UpValue}
+use Rattle.roam_wire.specs.Instructions.{UpValue, down_text}
+use Rattle.roam_wire.specs.Cutting.{pieces_of}
 use Rattle.roam_session.specs.Sessions.{SessionSize, Entry, Did}
 use Rattle.roam_session.specs.Stands.{SessionView, Stands as SessionStands}
-use Rattle.roam_world.specs.Moments.{owed_from, is_spent}
+use Rattle.roam_world.specs.Moments.{has_passed, is_overdue, owed_from, is_spent}
 use Rattle.roam_world.specs.Texts.{Address, SaysUp, SaysNoUp, datagrams_of}
 use Rattle.roam_world.specs.Servers.{Record, no_record}
 use Rattle.roam_world.specs.Comings.{noted, completed, coming_gathered, reach}
-use Rattle.roam_world.specs.Ticks.{holds_after, sends, pieces_to}
-use Rattle.roam_hub.specs.Servers.{RecordView, kept_of, stopped}
+use Rattle.roam_world.specs.Ticks.{is_live, holds_after, down_from}
+use Rattle.roam_hub.specs.Servers.{RecordView, ServerView, kept_of, stopped}
 use Rattle.roam_hub.specs.declared.addresses.Stop.{Stop}
 use Rattle.roam_hub.specs.declared.taking.Taking.{Taking}
 
@@ -129,42 +131,80 @@ pub data NotNotedIn (old : List (ℕ × RecordView)) (d : DatagramValue) (fault 
       → NotNotedIn old d fault
   no_memory : fault ≡ OutOfMemory → NotNotedIn old d fault
 
--- ---- a tick, where s is the screen of the newest number n
+-- ---- a tick
+
+-- the pieces of the instruction that its sender would tell
+abbrev pub letter : RecordView → List (List ℕ)
+letter v = pieces_of (down_text (down_from v.sender v.taken))
+
+-- a number that sending it needs would be past the last
+abbrev pub is_letter_spent : RecordView → Bool
+is_letter_spent v = is_spent (v.instructions + 1) || is_spent (v.datagrams + length (letter v)) || is_spent v.taken
+
+-- it is sent to: it was heard of late, and its sender is due or an answer is overdue
+abbrev pub is_told : RecordView → ℕ → Bool
+is_told v now = is_live (bare v) now && (is_due v.sender now || is_overdue v.owed now)
+
+-- how many datagrams go to it
+abbrev pub pieces_told : RecordView → ℕ → Option ℕ
+pieces_told v now = if is_told v now then Some (length (letter v)) else None
+
+-- the datagrams of that instruction, for the start of an id
+abbrev pub datagrams_for : ℕ → ℕ × RecordView → List DatagramValue
+datagrams_for session e = datagrams_of ToClient session e.0 e.1.datagrams (e.1.instructions + 1) (letter e.1)
+
+-- their texts, each with where it goes
+abbrev pub letters_for : ℕ → ℕ → ℕ × RecordView → List (Address × List ℕ)
+letters_for session now e = if is_told e.1 now then map (λ d. (e.1.address, datagram_text d)) (datagrams_for session e) else []
+
+-- what is kept of it once so many datagrams were sent, or none
+abbrev pub settled_with : RecordView → Option ℕ → ℕ → RecordView
+settled_with v None now = v
+settled_with v (Some k) now =
+    record v { sender = sent_at v.sender now; owed = None; datagrams = v.datagrams + k; instructions = v.instructions + 1 }
+
+-- there are numbers for so many more datagrams
+abbrev pub HasNumbersFor : RecordView → Option ℕ → Type 0
+HasNumbersFor v None = Unit {0}
+HasNumbersFor v (Some k) = (v.datagrams + k < 2 ^ 62) × (v.instructions + 1 < 2 ^ 62)
+
+-- what is kept of it where an offer is taken back
+abbrev pub back_from : RecordView → Bool → RecordView
+back_from v offered = if offered then record v { sender = withdrawn v.sender } else v
+
+-- ---- a whole tick, where s is the screen of the newest number n
 
 -- what a record holds then
 abbrev pub held : RecordView → ℕ → Screenshot → ℕ → RecordView
 held v n s now = record v { sender = holds_after (bare v) n s now }
 
--- the pieces of the instruction to it
-abbrev pub pieces_for : RecordView → ℕ → Screenshot → ℕ → List (List ℕ)
-pieces_for v n s now = pieces_to (bare v) n s now
+abbrev pub held_entry : ℕ → Screenshot → ℕ → ℕ × RecordView → ℕ × RecordView
+held_entry n s now e = (e.0, held e.1 n s now)
 
--- the datagrams to it
-abbrev pub datagrams_for : ℕ → ℕ → RecordView → ℕ → Screenshot → ℕ → List DatagramValue
-datagrams_for session id v n s now =
-    if sends (bare v) n s now then datagrams_of ToClient session id v.datagrams (v.instructions + 1) (pieces_for v n s now) else []
-
--- their texts, with where they go
+-- what goes to its client start
 abbrev pub texts_for : ℕ → ℕ → Screenshot → ℕ → ℕ × RecordView → List (Address × List ℕ)
-texts_for session n s now e = map (λ d. (e.1.address, datagram_text d)) (datagrams_for session e.0 e.1 n s now)
+texts_for session n s now e = letters_for session now (held_entry n s now e)
 
--- a number that sending to it needs would be past the last
+-- a number that this needs would be past the last
 abbrev pub is_entry_spent : ℕ → Screenshot → ℕ → ℕ × RecordView → Bool
-is_entry_spent n s now e =
-    sends (bare e.1) n s now
-    && (is_spent (e.1.instructions + 1) || is_spent (e.1.datagrams + length (pieces_for e.1 n s now)) || is_spent e.1.taken)
+is_entry_spent n s now e = is_told (held e.1 n s now) now && is_letter_spent (held e.1 n s now)
 
 -- what is kept of it after the tick
-abbrev pub settled : RecordView → ℕ → Screenshot → ℕ → RecordView
-settled v n s now =
-    if sends (bare v) n s now
-    then record v {
-      sender = sent_at (holds_after (bare v) n s now) now;
-      owed = None;
-      datagrams = v.datagrams + length (pieces_for v n s now);
-      instructions = v.instructions + 1;
-    }
-    else held v n s now
-
 abbrev pub settled_entry : ℕ → Screenshot → ℕ → ℕ × RecordView → ℕ × RecordView
-settled_entry n s now e = (e.0, settled e.1 n s now)
+settled_entry n s now e = (e.0, settled_with (held e.1 n s now) (pieces_told (held e.1 n s now) now) now)
+
+-- whether a number is made at a moment
+abbrev pub makes_at : ServerView → ℕ → Bool
+makes_at v now = v.made == 0 || (v.input && has_passed 20 v.made_at now)
+
+-- all that goes to client starts
+abbrev pub told_by : ServerView → ℕ → Screenshot → ℕ → List (Address × List ℕ)
+told_by v n s now = flat_map (texts_for v.session n s now) v.records
+
+-- the server with what is kept of its records then
+abbrev pub ticked_by : ServerView → ℕ → Screenshot → ℕ → ServerView
+ticked_by v n s now = record v { records = map (settled_entry n s now) v.records }
+
+-- a number that one of its records needs would be past the last
+abbrev pub is_any_spent : ServerView → ℕ → Screenshot → ℕ → Bool
+is_any_spent v n s now = list_any (is_entry_spent n s now) v.records

@@ -8,6 +8,7 @@ mod packing;
 mod records;
 pub mod servers;
 mod taking;
+mod telling;
 
 pub use addresses::{Addr, Stop};
 pub use clients::{Client, Heard};

@@ -1,21 +1,26 @@
 //! The server: the session, its numbered screens, and what is kept of each client start.
-ghost use Rattle.std.specs.Prelude.{◌≡◌, ◌↔◌, ◌⊎◌, ◌≤◌, ◌-◌, ℕ, List, length, nat_eq, true, IfOk, IfErr, OnOk, OnErr, IsErrOf, IsOkUnless};
+ghost use Rattle.std.specs.Prelude.{◌≡◌, ◌↔◌, ◌⊎◌, ◌≤◌, ◌-◌, ◌+◌, ◌||◌, ℕ, List, length, nat_eq, true, false, IfOk, IfErr, OnOk, OnErr, IsErrOf, IsOkUnless};
 ghost use Rattle.std.specs.Option.{option_map};
 ghost use Rattle.roam_layout.specs.Layouts.{IsSessionSize};
 ghost use Rattle.roam_session.specs.Faces.{face};
 ghost use Rattle.roam_session.specs.Stands.{waiting_at};
 ghost use Rattle.roam_session.specs.Queues.{IsWithin, IsCopied};
 ghost use Rattle.roam_session.specs.Refusals.{fault_of, none_refused, output_at};
+ghost use Rattle.roam_cells.specs.Screenshot.{IsScreenshot};
+ghost use Rattle.roam_world.specs.Moments.{is_spent};
 ghost use Rattle.roam_world.specs.Servers.{Server as ServerOf, new_server};
 ghost use Rattle.roam_wire.specs.Datagrams.{datagram_value};
 ghost use Rattle.roam_world.specs.Comings.{is_to_server, coming, turned_away};
-ghost use Rattle.roam_hub.specs.Servers.{Stands, Feeds, Drains, Comes, address_of};
-ghost use Rattle.roam_hub.specs.Records.{answered};
+ghost use Rattle.roam_hub.specs.Servers.{Stands, Feeds, Drains, Comes, Ticks, address_of, parcels_of};
+ghost use Rattle.roam_hub.specs.Records.{answered, makes_at, told_by, ticked_by, is_any_spent};
 
 use crate::addresses::{Addr, Stop};
 use crate::arrivals::hear_in;
-use crate::records::Record;
+use crate::clients::has_passed;
+use crate::packing::NUMBERS;
+use crate::records::{News, Record};
 use crate::taking::Taking;
+use crate::telling::tell_from;
 use indexmap::IndexMap;
 use roam_cells::{Fault, Reason, Shot};
 use roam_session::Session;
@@ -209,5 +214,93 @@ impl Server {
         ensures fault { IsOkUnless result Fault.OutOfMemory }
     {
         self.session.face(alloc)
+    }
+
+    // Whether a number is made at a moment.
+    fn makes(&self, now: u64) -> bool
+        ensures makes { result ≡ makes_at self.now now }
+    {
+        self.made == 0 || (self.input && has_passed(20, self.made_at, now))
+    }
+
+    // A tick that makes no number.
+    fn tell(&mut self, alloc: Global, now: u64) -> Result<Vec<(Addr, Vec<u8>)>, Fault>
+        ensures told { IfOk result (λ all. parcels_of all.items ≡ told_by self.old self.old.made self.old.screen now) }
+        ensures ticked { OnOk result (self.new ≡ record (ticked_by self.old self.old.made self.old.screen now) { clock = now }) }
+        ensures fit { OnOk result (is_any_spent self.old self.old.made self.old.screen now ≡ false) }
+        ensures fault { IfErr result (λ fault. (fault ≡ Fault.OutOfMemory) ⊎ ((fault ≡ Fault.Spent)
+            × (is_any_spent self.old self.old.made self.old.screen now ≡ true))) }
+        ensures err { OnErr result (self.new ≡ self.old) }
+    {
+        let news = News {
+            session: self.id,
+            number: self.made,
+            now,
+        };
+        let mut parcels = Vec::new(alloc);
+        tell_from(
+            alloc,
+            news,
+            &self.screen,
+            &mut self.records,
+            0,
+            &mut parcels,
+        )?;
+        self.clock = now;
+        Ok(parcels)
+    }
+
+    // A tick that makes a number of the session's face.
+    fn make(&mut self, alloc: Global, now: u64) -> Result<Vec<(Addr, Vec<u8>)>, Fault>
+        ensures made { IfOk result (λ all. (s : ServerOf) → Stands self.old s
+            → (parcels_of all.items ≡ told_by self.old (self.old.made + 1) (face s.size s.log) now)
+            × (self.new ≡ record (ticked_by self.old (self.old.made + 1) (face s.size s.log) now) {
+              made = self.old.made + 1;
+              screen = face s.size s.log;
+              made_at = now;
+              input = false;
+              clock = now;
+            }) × IsScreenshot (face s.size s.log) × (is_any_spent self.old (self.old.made + 1) (face s.size s.log) now ≡ false)
+            × (is_spent (self.old.made + 1) ≡ false)) }
+        ensures fault { (s : ServerOf) → Stands self.old s → IfErr result (λ fault. (fault ≡ Fault.OutOfMemory)
+            ⊎ ((fault ≡ Fault.Spent) × ((is_spent (self.old.made + 1)
+            || is_any_spent self.old (self.old.made + 1) (face s.size s.log) now) ≡ true))) }
+        ensures err { OnErr result (self.new ≡ self.old) }
+    {
+        let number = self.made + 1;
+        if number >= NUMBERS {
+            return Err(Fault::Spent);
+        }
+        let screen = self.session.face(alloc)?;
+        screen.facts();
+        let news = News {
+            session: self.id,
+            number,
+            now,
+        };
+        let mut parcels = Vec::new(alloc);
+        tell_from(alloc, news, &screen, &mut self.records, 0, &mut parcels)?;
+        self.made = number;
+        self.screen = screen;
+        self.made_at = now;
+        self.input = false;
+        self.clock = now;
+        Ok(parcels)
+    }
+
+    /// Makes a number of the session's face where none was made yet, or where an input came since the last was made and 20 ms passed;
+    /// offers the newest number to each client start that was heard less than 60,000 ms ago and has room for it; and answers the
+    /// datagrams to those that are due one, in the order of arrival, each with the address that it goes to. `Spent` exactly where a
+    /// number that it needs would be 2^62; `OutOfMemory`. A refusal changes nothing.
+    pub fn tick(&mut self, alloc: Global, now: u64) -> Result<Vec<(Addr, Vec<u8>)>, Fault>
+        ensures ticked { (s : ServerOf) → Stands self.old s → Ticks s now result self.new }
+        ensures err { OnErr result (self.new ≡ self.old) }
+    {
+        let moment = now.max(self.clock);
+        if self.makes(moment) {
+            self.make(alloc, moment)
+        } else {
+            self.tell(alloc, moment)
+        }
     }
 }
