@@ -9,3 +9,4 @@ pub mod Recording
 pub mod Addressing
 pub mod Settling
 pub mod Ticking
+pub mod Beginning

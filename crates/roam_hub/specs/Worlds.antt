@@ -1,12 +1,13 @@
 -- What a world of the code stands for, and what its events and replies are.
-use Rattle.std.specs.Prelude.{◌≡◌, ℕ, ◌<◌, List, map, slice_index_or, Option, Some, None, true}
+use Rattle.std.specs.Prelude.{◌≡◌, ℕ, ◌<◌, List, map, slice_index_or, Option, Some, None, true, ◌≤◌, length}
 use Rattle.roam_acts.specs.Acts.{IsInRange}
 use Rattle.roam_wire.specs.Datagrams.{datagram_text}
 use Rattle.roam_session.specs.Sessions.{SessionSize}
 use Rattle.roam_world.specs.Lists.{IsIn}
 use Rattle.roam_world.specs.Worlds.{World, Event as EventOf, PaneBytes, Typed, ServerTick, ClientTick, ToServer, ToClient, Start, Drain, Reply as ReplyOf, Done, Sent, Taken, Heard, Refused, Failed, Stopped}
 use Rattle.roam_world.specs.Steps.{wstep}
-use Rattle.roam_world.specs.Laws.{Reaches}
+use Rattle.roam_world.specs.Laws.{Reaches, TakesActsInOrder}
+use Rattle.roam_world.specs.Numbers.{screen}
 use Rattle.roam_hub.specs.Clients.{ClientView, Stands as ClientStands, hearing_in}
 use Rattle.roam_hub.specs.Servers.{ServerView, Stands as ServerStands, address_of}
 use Rattle.roam_hub.specs.declared.worlds.Event.{Event}
@@ -76,3 +77,11 @@ pub record Steps (w : World) (e : EventOf) (r : ReplyOf) (new : WorldView) : Typ
   pub left : World
   pub step : wstep w e r left
   pub stands : Stands new left
+
+-- Each start in a slot shows a number that was made, or 0, and exactly the screen of that number; and the acts of each start that were
+-- taken are the first of those typed there, each once and in order.
+pub record ShowsSession (v : WorldView) (w : World) : Type 0 where
+  pub made : (slot : ℕ) (c : ClientView) → slice_index_or v.slots slot None ≡ Some c → c.receiver.newest.number ≤ length w.server.cuts
+  pub same : (slot : ℕ) (c : ClientView) → slice_index_or v.slots slot None ≡ Some c
+      → c.receiver.newest.state ≡ screen w.server.size w.server.log w.server.cuts c.receiver.newest.number
+  pub acts : TakesActsInOrder w

@@ -14,4 +14,4 @@ pub mod worlds;
 pub use addresses::{Addr, Stop};
 pub use clients::{Client, Heard};
 pub use servers::Server;
-pub use worlds::{Event, Reply};
+pub use worlds::{Event, Reply, World};
