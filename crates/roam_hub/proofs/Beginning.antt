@@ -28,7 +28,8 @@ stands_for_new session size server slots used sent low stands none no_used no_se
       stands =
           record {
             server = stands;
-            slots = (λ slot. subst (λ (o : Option ClientView). Fills (new_world session size).server.session (new_world session size) o None)
+            slots = (λ slot. subst (λ (o : Option ClientView). Fills (new_world session size).server.session
+                (new_world session size) o None)
                 (sym (none slot)) tt);
             used = (λ id made. subst (IsIn id) (sym no_used) (no_made id made));
             unused = (λ id there. absurd (subst (IsIn id) no_used there));
@@ -40,8 +41,10 @@ stands_for_new session size server slots used sent low stands none no_used no_se
 pub shows_session : (v : WorldView) (w : World) → Stands v w → ShowsTrueScreens w → TakesActsInOrder w → ShowsSession v w
 shows_session v w st screens acts =
     record {
-      made = (λ slot c at. made c (w.slots slot) (subst (λ (o : Option ClientView). Fills w.server.session w o (w.slots slot)) at (st.slots slot)));
-      same = (λ slot c at. same c (w.slots slot) (subst (λ (o : Option ClientView). Fills w.server.session w o (w.slots slot)) at (st.slots slot)));
+      made = (λ slot c at. made c (w.slots slot) (subst (λ (o : Option ClientView). Fills w.server.session w o (w.slots slot)) at
+          (st.slots slot)));
+      same = (λ slot c at. same c (w.slots slot) (subst (λ (o : Option ClientView). Fills w.server.session w o (w.slots slot)) at
+          (st.slots slot)));
       acts = acts;
     }
   where

@@ -127,7 +127,8 @@ acked_last {S} all base (h ∷ hs) k e = go (nat_eq h.number k) (acked_last all 
 pub newest_acked : {S : Type 0} (s : Sending S) (k : ℕ) → newest (acked s k) ≡ newest s
 newest_acked s k = acked_last (s.base, s.later) s.base s.later k refl
 
-pub acts_noted : (old : RecordView) (before after : SessionView) (d : DatagramValue) (from : Address) (now : ℕ) (text : List ℕ) (u : UpValue)
+pub acts_noted : (old : RecordView) (before after : SessionView) (d : DatagramValue) (from : Address) (now : ℕ) (text : List ℕ)
+    (u : UpValue)
     (g kept : Gathering) (t : Taking) (new : RecordView) → gather old.gathering (piece_of d) ≡ Some (Whole text, g) → SaysUp text u
     → kept ≡ (if is_some t.stopped then old.gathering else g)
     → new ≡ informed_by old d from now kept u t.taken

@@ -82,7 +82,8 @@ cut_same c log more low = rw take-append-le
 
 screen_stays : (size : SessionSize) (log more : List Entry) (cuts : List ℕ) (n : ℕ) → cut cuts n ≤ length log
     → screen size (log ++ more) cuts n ≡ screen size log cuts n
-screen_stays size log more cuts n low = ap (λ (l : List Entry). cond (nat_eq n 0) first_screen (face size l)) (cut_same (cut cuts n) log more low)
+screen_stays size log more cuts n low = ap (λ (l : List Entry). cond (nat_eq n 0) first_screen (face size l)) (cut_same
+    (cut cuts n) log more low)
 
 pub stands_input : (v : ServerView) (s : Server) (entry : Entry) (state : SessionView) → Stands v s
     → SessionStands state s.size (s.log ++ entry ∷ []) → Stands (record v { state = state; input = true }) (after_input s entry)
@@ -246,7 +247,8 @@ after_noted v s from bytes d now moment t new state st text admits m unique n = 
     acts g g' u k log e is stands =
         stands_noted v s d.client moment k log new (told_by (s.records d.client) d from (max now s.clock) g' u k) state now st
         (puts_well v s d.client new n.was n.is _ st unique n.puts
-        (subst (λ (x : RecordView). IsKept x (told_by (s.records d.client) d from (max now s.clock) g' u k)) (sym is) (informed g g' u k e)))
+        (subst (λ (x : RecordView). IsKept x (told_by (s.records d.client) d from (max now s.clock) g' u k)) (sym is)
+        (informed g g' u k e)))
         stands m
 
     go : Notes n.was v.state d from moment t n.is state
@@ -278,7 +280,8 @@ after_noted v s from bytes d now moment t new state st text admits m unique n = 
         (done s.size s.log st.log))
       where
         same_now : t.stopped ≡ None → n.is ≡ informed_by n.was d from moment g u t.taken
-        same_now none = is ∙ ap (λ (o : Option Fault). informed_by n.was d from moment (if is_some o then n.was.gathering else g) u t.taken) none
+        same_now none = is ∙ ap (λ (o : Option Fault). informed_by n.was d from moment
+            (if is_some o then n.was.gathering else g) u t.taken) none
 
         back_now : (fault : Fault) → t.stopped ≡ Some fault
             → n.is ≡ informed_by n.was d from moment n.was.gathering u t.taken
@@ -314,7 +317,8 @@ after_noted v s from bytes d now moment t new state st text admits m unique n = 
             (acts g g u (length (new_acts s d u)) (map (Did d.client) (take (length (new_acts s d u)) (new_acts s d u))) refl
             (same_now (ap (λ (y : Taking). y.stopped) x)
             ∙ ap (λ (m : ℕ). informed_by n.was d from moment g u m) (ap (λ (y : Taking). y.taken) x))
-            (subst (λ (xs : List Act). SessionStands state s.size (s.log ++ map (Did d.client) xs)) (sym (take_all (new_acts s d u))) stands)))
+            (subst (λ (xs : List Act). SessionStands state s.size (s.log ++ map (Did d.client) xs)) (sym (take_all
+            (new_acts s d u))) stands)))
         acts_told (full r x stands) =
             told_as (taking (room_for s d u) (Some Busy)) x
             (no_room d g whole u text (comes ∙ e) says r refl (back Busy (room_for s d u) x stands))
@@ -359,7 +363,8 @@ after_none v s from bytes d now fault state records st text admits same_state sa
     (none_noted v s from bytes d now fault st text admits none))
 
 -- a datagram of another direction or session
-pub not_admitted : (v : ServerView) (s : Server) (from : Address) (bytes : List ℕ) (d : DatagramValue) (now : ℕ) (fault : Fault) → Stands v s
+pub not_admitted : (v : ServerView) (s : Server) (from : Address) (bytes : List ℕ) (d : DatagramValue) (now : ℕ) (fault : Fault)
+    → Stands v s
     → IsTextOf bytes d → ((x : Server) → x.session ≡ v.session → coming x d ≡ turned_away fault)
     → Comes s from bytes now (answered (Err fault)) v
 not_admitted v s from bytes d now fault st text away = refused d fault text (away s (sym st.session)) refl st

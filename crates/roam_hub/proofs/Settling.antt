@@ -63,7 +63,8 @@ next_is k = omega arith
 
 same_value : (es : List (ℕ × RecordView)) (k : ℕ) (x y : ℕ) (v w : RecordView) → slice_get es k ≡ Some (x, v) → slice_get es k ≡ Some (y, w)
     → w ≡ v
-same_value es k x y v w e f = let z : Some (y, w) ≡ Some (x, v) = sym f ∙ e in let p : (y, w) ≡ (x, v) = cc in ap (λ (q : ℕ × RecordView). q.1) p
+same_value es k x y v w e f = let z : Some (y, w) ≡ Some (x, v) = sym f
+    ∙ e in let p : (y, w) ≡ (x, v) = cc in ap (λ (q : ℕ × RecordView). q.1) p
 
 -- ---- one record among them
 
@@ -136,7 +137,8 @@ first_spent es k e n s now at spent =
     ap (list_any (is_entry_spent n s now)) (drop_next es k e at)
     ∙ ap (λ c. c || list_any (is_entry_spent n s now) (drop (suc k) es)) spent
 
-pub set_nothing : (es : List (ℕ × RecordView)) (k x : ℕ) (v w : RecordView) → slice_get es k ≡ Some (x, v) → w ≡ v → set_value_at es k w ≡ es
+pub set_nothing : (es : List (ℕ × RecordView)) (k x : ℕ) (v w : RecordView) → slice_get es k ≡ Some (x, v) → w ≡ v
+    → set_value_at es k w ≡ es
 set_nothing [] k x v w at same = refl
 set_nothing (e ∷ es) zero x v w at same =
     let z : (x, v) ≡ e = cc in
@@ -158,7 +160,8 @@ has_numbers w now e = go (is_told w now) e
 
 -- ---- a record is as it was
 
-pub undone : (es es2 : List (ℕ × RecordView)) (k x : ℕ) (v w u : RecordView) → slice_get es k ≡ Some (x, v) → es2 ≡ set_value_at es k w → u ≡ v
+pub undone : (es es2 : List (ℕ × RecordView)) (k x : ℕ) (v w u : RecordView) → slice_get es k ≡ Some (x, v)
+    → es2 ≡ set_value_at es k w → u ≡ v
     → set_value_at es2 k u ≡ es
 undone es es2 k x v w u at e same =
     (λ i. set_value_at (e i) k (same i)) ∙ set_back es k (x, v) w at
@@ -170,5 +173,6 @@ still_there es es2 k x v w at e = ap (λ (ys : List (ℕ × RecordView)). slice_
 pub is_within : (es : List (ℕ × RecordView)) (k x : ℕ) (v : RecordView) → slice_get es k ≡ Some (x, v) → k < length es
 is_within es k x v at = within es k (x, v) at
 
-pub value_is : (es : List (ℕ × RecordView)) (k x y : ℕ) (v w : RecordView) → slice_get es k ≡ Some (x, v) → slice_get es k ≡ Some (y, w) → w ≡ v
+pub value_is : (es : List (ℕ × RecordView)) (k x y : ℕ) (v w : RecordView) → slice_get es k ≡ Some (x, v)
+    → slice_get es k ≡ Some (y, w) → w ≡ v
 value_is es k x y v w e f = same_value es k x y v w e f

@@ -86,7 +86,8 @@ kept_ticked r n s now known =
         (cond (sends r n s now) (Some (length (pieces_to r n s now))) None) now
     same =
         λ i. settled_with (record (kept_of r) { sender = holds_is r n s now known i })
-        (cond (sends_is r n s now known i) (Some (length (pieces_of (down_text (down_from (holds_is r n s now known i) r.taken))))) None) now
+        (cond (sends_is r n s now known i) (Some (length (pieces_of (down_text (down_from
+        (holds_is r n s now known i) r.taken))))) None) now
 
     go : (b : Bool) → IsKept (settled_with (record (kept_of r) { sender = holds_after r n s now })
         (cond b (Some (length (pieces_to r n s now))) None) now)

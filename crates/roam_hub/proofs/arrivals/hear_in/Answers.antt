@@ -24,7 +24,8 @@ pub returns-in-Some-clause-records : goal.returns-in-Some-clause-records
 returns-in-Some-clause-records c =
     MatchResult-weaker c.hear.result c.hear.ensures.err (λ t x. x)
     (λ fault same. (c.get_mut.follows.holds c.hear.new.self).0
-    ∙ set_same c.args.datagram.now.client c.args.records.now.entries c.in-Some.record.now c.hear.new.self (sym c.in-Some.ensures.value) same)
+    ∙ set_same c.args.datagram.now.client c.args.records.now.entries c.in-Some.record.now c.hear.new.self
+    (sym c.in-Some.ensures.value) same)
 
 pub returns-in_err-taking-clause-fault : goal.returns-in_err-taking-clause-fault
 returns-in_err-taking-clause-fault c =

@@ -4,7 +4,8 @@ use Rattle.roam_hub.proofs.taking.take_acts.Goals as goal
 
 pub returns-then-is_some-clause-acts : goal.returns-then-is_some-clause-acts
 returns-then-is_some-clause-acts c size log st =
-    done_stopped size log c.args.client c.args.acts.now c.loop-act.act-index c.loop-act.taken _ c.loop-act.session c.perform-stopped.new.session
+    done_stopped size log c.args.client c.args.acts.now c.loop-act.act-index c.loop-act.taken _ c.loop-act.session
+    c.perform-stopped.new.session
     c.perform-stopped.result c.loop-act-test.true c.loop-act.invariant.taken (c.loop-act.invariant.done size log st)
     (sym c.is_some.ensures ∙ c.if-is_some.true)
     (λ l s. c.perform-stopped.ensures.full size l s) c.perform-stopped.ensures.same

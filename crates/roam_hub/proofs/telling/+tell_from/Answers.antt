@@ -24,7 +24,8 @@ returns-in_err-prepared-clause-fault t c =
 pub returns-in_err-prepared-clause-err : goal.returns-in_err-prepared-clause-err
 returns-in_err-prepared-clause-err t c =
     let p = err_from_is_err_and c.from_residual.result c.from_residual.ensures.1 in
-    rw p.1 (set_nothing c.args.records.now.entries c.args.at c.pair_mut-record.result.0.now c.pair_mut-record.result.1.now c.prepare.new.self
+    rw p.1 (set_nothing c.args.records.now.entries c.args.at c.pair_mut-record.result.0.now c.pair_mut-record.result.1.now
+    c.prepare.new.self
     c.pair_mut-record.ensures.value c.in_err-prepared.ensures.err)
 
 pub tell_from-requires : goal.tell_from-requires
@@ -120,7 +121,8 @@ returns-in-Err-clause-fault t c =
             s.0,
             spent_is c.args.records.now.entries c.args.at c.pair_mut-record.result.0.now c.pair_mut-record.result.1.now
                 c.prepare.new.self c.args.news.number c.args.screen.now c.args.news.now
-                (record { here = c.pair_mut-record.ensures.value; held = c.in_ok-prepared.ensures.held }) false c.in_ok-prepared.ensures.fit ∙ s.1,
+                (record { here = c.pair_mut-record.ensures.value; held = c.in_ok-prepared.ensures.held }) false
+                c.in_ok-prepared.ensures.fit ∙ s.1,
           )
     ]
 
@@ -130,6 +132,7 @@ returns-in-Err-clause-err t c =
     (still_there c.args.records.now.entries c.tell_from.new.records.entries c.args.at c.pair_mut-record.result.0.now
     c.pair_mut-record.result.1.now c.prepare.new.self c.pair_mut-record.ensures.value c.in-Err.ensures.err)
     c.pair_mut-record-in-Err.ensures.value in
-    undone c.args.records.now.entries c.tell_from.new.records.entries c.args.at c.pair_mut-record.result.0.now c.pair_mut-record.result.1.now
+    undone c.args.records.now.entries c.tell_from.new.records.entries c.args.at c.pair_mut-record.result.0.now
+    c.pair_mut-record.result.1.now
     c.prepare.new.self c.undo.new.self c.pair_mut-record.ensures.value c.in-Err.ensures.err
     (c.undo.ensures.back ∙ ap (λ (v : RecordView). back_from v c.in_ok-prepared.prepared.offered) same ∙ c.in_ok-prepared.ensures.back)

@@ -88,7 +88,8 @@ returns-clause-noted c =
     (kept_as _ _ c.keep_unless.new.gatherer.current c.is_some.result _ c.keep_unless.ensures.kept c.is_some.ensures
     c.in_ok-text.ensures.before)
     (c.note-2.ensures.noted
-    ∙ informed_as (the_view c.self.inside) (datagram_value c.args.datagram.now) (address_of c.args.from) c.args.now c.keep_unless.new.gatherer.current
+    ∙ informed_as (the_view c.self.inside) (datagram_value c.args.datagram.now)
+    (address_of c.args.from) c.args.now c.keep_unless.new.gatherer.current
     (up_value c.in-Ok.up) c.take_acts-taking.result.taken c.take_acts-taking.new.taker c.acked.new.self c.owed_for-self-inside.result
     c.take_acts-taking.ensures.count c.acked.ensures.acked
     (c.owed_for-self-inside.ensures.owed

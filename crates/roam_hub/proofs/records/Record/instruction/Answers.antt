@@ -18,12 +18,14 @@ pub packed-requires-clause-short : goal.packed-requires-clause-short
 packed-requires-clause-short c =
     let t = c.in_ok-told.ensures in
     subst (λ (text : List ℕ). length text ≤ 1228800) (sym (c.as_slice.ensures.value ∙ c.in_ok-text.ensures.written))
-    (down_short (the_down c.in_ok-told.told c.taken-acked.result) c.self.inside.sender.base.state (newest c.self.inside.sender).state t.change t.leads)
+    (down_short (the_down c.in_ok-told.told c.taken-acked.result) c.self.inside.sender.base.state
+    (newest c.self.inside.sender).state t.change t.leads)
 
 pub returns-clause-written : goal.returns-clause-written
 returns-clause-written c =
     let t = c.in_ok-told.ensures in
-    let text = letter_is c.self.inside.sender c.self.inside.taker (the_down c.in_ok-told.told c.taken-acked.result) c.as_slice.result.now t.old t.new t.floor c.taken-acked.ensures.count t.change
+    let text = letter_is c.self.inside.sender c.self.inside.taker
+    (the_down c.in_ok-told.told c.taken-acked.result) c.as_slice.result.now t.old t.new t.floor c.taken-acked.ensures.count t.change
     (c.as_slice.ensures.value ∙ c.in_ok-text.ensures.written) in
     subst (λ (v : RecordView). IfOk c.packed.result (λ all. texts_of all.items
     ≡ map datagram_text (datagrams_for c.args.session (c.args.client, v)))) c.self.view_is
@@ -34,20 +36,23 @@ returns-clause-written c =
 pub returns-clause-fit : goal.returns-clause-fit
 returns-clause-fit c =
     let t = c.in_ok-told.ensures in
-    let text = letter_is c.self.inside.sender c.self.inside.taker (the_down c.in_ok-told.told c.taken-acked.result) c.as_slice.result.now t.old t.new t.floor c.taken-acked.ensures.count t.change
+    let text = letter_is c.self.inside.sender c.self.inside.taker
+    (the_down c.in_ok-told.told c.taken-acked.result) c.as_slice.result.now t.old t.new t.floor c.taken-acked.ensures.count t.change
     (c.as_slice.ensures.value ∙ c.in_ok-text.ensures.written) in
     let low : is_spent c.self.inside.taker ≡ false =
     ap is_spent (sym c.taken-acked.ensures.count) ∙ (let f = c.if-acked-ge-NUMBERS.false in grind (arith, nat_tests, f)) in
     subst (λ (v : RecordView). OnOk c.packed.result (is_letter_spent v ≡ false)) c.self.view_is
     (subst (λ (x : List ℕ). OnOk c.packed.result ((is_spent (c.self.inside.instructions + 1)
     || is_spent (c.self.inside.datagrams + length (pieces_of x)) || is_spent c.self.inside.taker) ≡ false)) text
-    (IfOk-weaker c.packed.result _ _ (λ _ e. last_fits (is_spent (c.self.inside.instructions + 1) || is_spent (c.self.inside.datagrams + length (pieces_of c.as_slice.result.now)))
+    (IfOk-weaker c.packed.result _ _ (λ _ e. last_fits (is_spent (c.self.inside.instructions + 1) || is_spent
+    (c.self.inside.datagrams + length (pieces_of c.as_slice.result.now)))
     (is_spent c.self.inside.taker) low ∙ e) c.packed.ensures.fit))
 
 pub returns-clause-fault : goal.returns-clause-fault
 returns-clause-fault c =
     let t = c.in_ok-told.ensures in
-    let text = letter_is c.self.inside.sender c.self.inside.taker (the_down c.in_ok-told.told c.taken-acked.result) c.as_slice.result.now t.old t.new t.floor c.taken-acked.ensures.count t.change
+    let text = letter_is c.self.inside.sender c.self.inside.taker
+    (the_down c.in_ok-told.told c.taken-acked.result) c.as_slice.result.now t.old t.new t.floor c.taken-acked.ensures.count t.change
     (c.as_slice.ensures.value ∙ c.in_ok-text.ensures.written) in
     let low : is_spent c.self.inside.taker ≡ false =
     ap is_spent (sym c.taken-acked.ensures.count) ∙ (let f = c.if-acked-ge-NUMBERS.false in grind (arith, nat_tests, f)) in
@@ -61,7 +66,8 @@ returns-clause-fault c =
       | inl m ↦ inl m
       | inr s ↦ inr (
         s.0,
-        last_fits (is_spent (c.self.inside.instructions + 1) || is_spent (c.self.inside.datagrams + length (pieces_of c.as_slice.result.now)))
+        last_fits (is_spent (c.self.inside.instructions + 1) || is_spent (c.self.inside.datagrams + length
+            (pieces_of c.as_slice.result.now)))
             (is_spent c.self.inside.taker) low ∙ s.1,
       )
     ])))

@@ -15,7 +15,8 @@ returns-then-not-may_be_offered-clause-held c =
 
 pub returns-clause-held : goal.returns-clause-held
 returns-clause-held c =
-    subst (λ (v : RecordView). record (the_view c.self.inside) { sender = c.offered.new.sender } ≡ held v c.args.number c.args.screen.now c.args.now)
+    subst (λ (v : RecordView). record (the_view c.self.inside) { sender = c.offered.new.sender }
+    ≡ held v c.args.number c.args.screen.now c.args.now)
     c.self.view_is
     (held_now (the_view c.self.inside) c.args.number c.args.screen.now c.args.now c.may_be_offered.result c.offered.new.sender
     c.may_be_offered.ensures.offered c.if-not-may_be_offered.false

@@ -19,7 +19,8 @@ pub returns-in_err-admit-clause-heard : goal.returns-in_err-admit-clause-heard
 returns-in_err-admit-clause-heard c s st =
     let p = err_from_is_err_and c.from_residual-in_err-admit.result c.from_residual-in_err-admit.ensures.1 in
     let found = c.in_ok-datagram.ensures.found in
-    rw (p.1, p.2) (subst (λ (v : ServerView). Comes s (address_of c.args.from) c.args.bytes.now c.args.now (stopped c.in_err-admit.field-0.0 0) v)
+    rw (p.1, p.2) (subst (λ (v : ServerView). Comes s (address_of c.args.from) c.args.bytes.now c.args.now
+    (stopped c.in_err-admit.field-0.0 0) v)
     c.self.view_is
     (not_admitted _ s (address_of c.args.from) c.args.bytes.now (datagram_value c.in_ok-datagram.datagram) c.args.now _
     (subst (λ (v : ServerView). Stands v s) (sym c.self.view_is) st) (record { is = found.0; spelled = found.1 })
@@ -29,7 +30,8 @@ pub returns-in_err-taking-clause-heard : goal.returns-in_err-taking-clause-heard
 returns-in_err-taking-clause-heard c s st =
     let p = err_from_is_err_and c.from_residual-in_err-taking.result c.from_residual-in_err-taking.ensures.1 in
     let found = c.in_ok-datagram.ensures.found in
-    rw (p.1, p.2) (after_none (the_view c.self.inside) s (address_of c.args.from) c.args.bytes.now (datagram_value c.in_ok-datagram.datagram)
+    rw (p.1, p.2) (after_none (the_view c.self.inside) s (address_of c.args.from) c.args.bytes.now
+    (datagram_value c.in_ok-datagram.datagram)
     c.args.now _ c.hear_in.new.session c.hear_in.new.records.entries
     (subst (λ (v : ServerView). Stands v s) (sym c.self.view_is) st) (record { is = found.0; spelled = found.1 })
     (record { kind = c.in_ok-admit.ensures.kind; session = c.in_ok-admit.ensures.session })
