@@ -2,3 +2,11 @@ pub mod Viewing
 pub mod Hearing
 pub mod PackingTexts
 pub mod Sending
+pub mod Entries
+pub mod Doing
+pub mod Serving
+pub mod Recording
+pub mod Addressing
+pub mod Settling
+pub mod Ticking
+pub mod Beginning

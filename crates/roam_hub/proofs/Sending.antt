@@ -105,5 +105,6 @@ fits_on v e =
     (is_spent (v.datagrams + length (pieces_from (bare v)))) e in (
       not_past (v.instructions + 1) (or_right (is_spent (v.acts.acked + 1)) (is_spent (v.instructions + 1)) left),
       not_past (v.datagrams + length (pieces_from (bare v)))
-          (or_right (is_spent (v.acts.acked + 1) || is_spent (v.instructions + 1)) (is_spent (v.datagrams + length (pieces_from (bare v)))) e),
+          (or_right (is_spent (v.acts.acked + 1) || is_spent (v.instructions + 1)) (is_spent (v.datagrams + length (pieces_from
+          (bare v)))) e),
     )

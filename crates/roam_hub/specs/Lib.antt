@@ -1,1 +1,4 @@
 pub mod Clients
+pub mod Servers
+pub mod Records
+pub mod Worlds

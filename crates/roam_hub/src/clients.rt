@@ -100,7 +100,7 @@ fn heard_of(step: Step) -> Heard
 }
 
 // Since when an answer is owed, where one may be owed from now on.
-fn owed_after(owed: Option<u64>, owes: bool, now: u64) -> Option<u64>
+pub(crate) fn owed_after(owed: Option<u64>, owes: bool, now: u64) -> Option<u64>
     ensures owed { result ≡ (if owes then owed_from owed now else owed) }
 {
     match owed {
@@ -152,14 +152,14 @@ fn tell(
 }
 
 // Whether so many milliseconds have passed since a moment.
-fn has_passed(long: u64, since: u64, now: u64) -> bool
+pub(crate) fn has_passed(long: u64, since: u64, now: u64) -> bool
     ensures passed { result ≡ has_passed long since now }
 {
     since <= now && now - since >= long
 }
 
 // Whether an answer has been owed for 100 ms.
-fn is_overdue(owed: Option<u64>, now: u64) -> bool
+pub(crate) fn is_overdue(owed: Option<u64>, now: u64) -> bool
     ensures overdue { result ≡ is_overdue owed now }
 {
     match owed {

@@ -1,7 +1,17 @@
 //! The program's two cores: the server and a client start.
 #![tactic(auto)]
 
+pub mod addresses;
+mod arrivals;
 pub mod clients;
 mod packing;
+mod records;
+pub mod servers;
+mod taking;
+mod telling;
+pub mod worlds;
 
+pub use addresses::{Addr, Stop};
 pub use clients::{Client, Heard};
+pub use servers::Server;
+pub use worlds::{Event, Reply, World};

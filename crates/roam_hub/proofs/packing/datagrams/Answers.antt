@@ -41,7 +41,8 @@ loop-piece-preserved c =
     let at : c.len-index.result ≡ length (texts_of c.loop-piece.all.items) = omega (arith, all, c.len-index.ensures) in
     let count : c.len-count.result ≡ length (texts_of c.args.pieces.items) = omega (arith, many, c.len-count.ensures) in
     let h = c.args.heading in
-    subst (λ (done : List (List ℕ)). IsPacking (datagram_with h.kind h.session h.client h.before h.id (length (texts_of c.args.pieces.items)))
+    subst (λ (done : List (List ℕ)). IsPacking (datagram_with h.kind h.session h.client h.before h.id (length
+    (texts_of c.args.pieces.items)))
     (texts_of c.args.pieces.items) done (texts_of c.next.new.self.rest.items))
     (sym (ap texts_of c.in_ok-push.ensures.items ∙ map-append _ c.loop-piece.all.items (c.in_ok-datagram.field-0 ∷ [])))
     (pack_more _ _ _ _ c.in-Some.piece.items c.in_ok-datagram.field-0.items _ c.loop-piece.invariant

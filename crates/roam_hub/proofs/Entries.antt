@@ -1,0 +1,216 @@
+-- The records of a server by their ids.
+use Rattle.std.proofs.Common.{◌≡◌, ℕ, ◌<◌, ◌≤◌, List, [], ◌∷◌, ◌++◌, length, Option, Some, None, Bool, true, false, refl, sym, ap, ◌∙◌, subst, cond, arith}
+use Rattle.std.specs.Prelude.{nat_eq, nat_le, not, ◌&&◌}
+use Rattle.std.specs.List.{IsDistinct, AllByRecursion}
+use Rattle.std.specs.Map.{keys_of, lookup, set_value}
+use Rattle.std.proofs.lemmas.Bool.Decides.{nat_tests}
+use Rattle.std.proofs.lemmas.List.{length-map}
+use Rattle.roam_world.specs.Lists.{put}
+use Rattle.roam_world.specs.Servers.{Record, no_record, Server}
+use Rattle.roam_world.specs.Comings.{arrival_with}
+use Rattle.roam_hub.specs.Servers.{RecordView, ServerView, kept_of, IsKept, AreKept, Stands}
+use Rattle.roam_hub.specs.Records.{Puts, known, added, entry_of}
+
+other_way : (i j : ℕ) (b : Bool) → nat_eq i j ≡ b → nat_eq j i ≡ b
+other_way i j true e = grind (arith, nat_tests)
+other_way i j false e = grind (arith, nat_tests)
+
+same_id : (i j : ℕ) → nat_eq i j ≡ true → i ≡ j
+same_id i j e = grind (arith, nat_tests)
+
+itself : (i : ℕ) → nat_eq i i ≡ true
+itself i = grind (arith, nat_tests)
+
+put_other : (f : ℕ → Record) (i : ℕ) (r : Record) (j : ℕ) → nat_eq i j ≡ false → put f i r j ≡ f j
+put_other f i r j e = ap (λ b. cond b r (f j)) (other_way i j false e)
+
+put_here : (f : ℕ → Record) (i : ℕ) (r : Record) (j : ℕ) → nat_eq i j ≡ true → put f i r j ≡ r
+put_here f i r j e = ap (λ b. cond b r (f j)) (other_way i j true e)
+
+abbrev Apart : ℕ → List (ℕ × RecordView) → Type 0
+Apart id es = AllByRecursion (λ y. nat_eq id y ≡ false) (keys_of es)
+
+-- an id that isn't found is apart from all
+apart_from : (id : ℕ) (es : List (ℕ × RecordView)) → lookup (nat_eq id) es ≡ None → Apart id es
+apart_from id [] none = tt
+apart_from id (e ∷ es) none = go (nat_eq id e.0) refl none (apart_from id es)
+  where
+    go : (b : Bool) → nat_eq id e.0 ≡ b → cond b (Some e.1) (lookup (nat_eq id) es) ≡ None
+        → (lookup (nat_eq id) es ≡ None → Apart id es) → (nat_eq id e.0 ≡ false) × Apart id es
+    go true f n next = absurd (cc)
+    go false f n next = (f, next n)
+
+-- ---- what is kept stays kept
+
+kept_apart : (id : ℕ) (r : Record) (es : List (ℕ × RecordView)) (records : ℕ → Record) → Apart id es → AreKept es records
+    → AreKept es (put records id r)
+kept_apart id r [] records a k = tt
+kept_apart id r (e ∷ es) records a k =
+    (subst (IsKept e.1) (sym (put_other records id r e.0 a.0)) k.0, kept_apart id r es records a.1 k.1)
+
+kept_set : (id : ℕ) (w : RecordView) (r : Record) (es : List (ℕ × RecordView)) (records : ℕ → Record) → IsDistinct nat_eq (keys_of es)
+    → IsKept w r → AreKept es records → AreKept (set_value (nat_eq id) es w) (put records id r)
+unfolding IsDistinct
+kept_set id w r [] records d is k = tt
+kept_set id w r (e ∷ es) records d is k = go (nat_eq id e.0) refl (kept_set id w r es records d.1 is k.1)
+  where
+    go : (b : Bool) → nat_eq id e.0 ≡ b → AreKept (set_value (nat_eq id) es w) (put records id r)
+        → AreKept (cond b ((e.0, w) ∷ es) (e ∷ set_value (nat_eq id) es w)) (put records id r)
+    go true f next = (
+      subst (IsKept w) (sym (put_here records id r e.0 f)) is,
+      kept_apart id r es records
+          (subst (λ (i : ℕ). Apart i es) (sym (same_id id e.0 f)) d.0) k.1,
+    )
+    go false f next = (subst (IsKept e.1) (sym (put_other records id r e.0 f)) k.0, next)
+
+kept_push : (id : ℕ) (w : RecordView) (r : Record) (es : List (ℕ × RecordView)) (records : ℕ → Record) → Apart id es → IsKept w r
+    → AreKept es records → AreKept (es ++ (id, w) ∷ []) (put records id r)
+kept_push id w r [] records a is k = (subst (IsKept w) (sym (put_here records id r id (itself id))) is, tt)
+kept_push id w r (e ∷ es) records a is k =
+    (subst (IsKept e.1) (sym (put_other records id r e.0 a.0)) k.0, kept_push id w r es records a.1 is k.1)
+
+-- ---- ids
+
+keys_set : (id : ℕ) (w : RecordView) (es : List (ℕ × RecordView)) → keys_of (set_value (nat_eq id) es w) ≡ keys_of es
+keys_set id w [] = refl
+keys_set id w (e ∷ es) = go (nat_eq id e.0) (keys_set id w es)
+  where
+    go : (b : Bool) → keys_of (set_value (nat_eq id) es w) ≡ keys_of es
+        → keys_of (cond b ((e.0, w) ∷ es) (e ∷ set_value (nat_eq id) es w)) ≡ keys_of (e ∷ es)
+    go true next = refl
+    go false next = ap (λ (ks : List ℕ). e.0 ∷ ks) next
+
+keys_push : (id : ℕ) (w : RecordView) (es : List (ℕ × RecordView)) → keys_of (es ++ (id, w) ∷ []) ≡ keys_of es ++ id ∷ []
+keys_push id w [] = refl
+keys_push id w (e ∷ es) = ap (λ (ks : List ℕ). e.0 ∷ ks) (keys_push id w es)
+
+-- ---- what isn't found
+
+none_set : (id j : ℕ) (w : RecordView) (es : List (ℕ × RecordView)) → lookup (nat_eq j) (set_value (nat_eq id) es w) ≡ None
+    → lookup (nat_eq j) es ≡ None
+none_set id j w [] n = refl
+none_set id j w (e ∷ es) n = go (nat_eq id e.0) n (none_set id j w es)
+  where
+    tail : (b : Bool) (es' : List (ℕ × RecordView)) (x : RecordView) → (lookup (nat_eq j) es' ≡ None → lookup (nat_eq j) es ≡ None)
+        → cond b (Some x) (lookup (nat_eq j) es') ≡ None → cond b (Some e.1) (lookup (nat_eq j) es) ≡ None
+    tail true es' x next m = absurd (cc)
+    tail false es' x next m = next m
+
+    go : (b : Bool) → lookup (nat_eq j) (cond b ((e.0, w) ∷ es) (e ∷ set_value (nat_eq id) es w)) ≡ None
+        → (lookup (nat_eq j) (set_value (nat_eq id) es w) ≡ None → lookup (nat_eq j) es ≡ None)
+        → cond (nat_eq j e.0) (Some e.1) (lookup (nat_eq j) es) ≡ None
+    go true m next = tail (nat_eq j e.0) es w (λ y. y) m
+    go false m next = tail (nat_eq j e.0) (set_value (nat_eq id) es w) e.1 next m
+
+none_push : (id j : ℕ) (w : RecordView) (es : List (ℕ × RecordView)) → lookup (nat_eq j) (es ++ (id, w) ∷ []) ≡ None
+    → (lookup (nat_eq j) es ≡ None) × (nat_eq j id ≡ false)
+none_push id j w [] n = go (nat_eq j id) refl n
+  where
+    go : (b : Bool) → nat_eq j id ≡ b → cond {A = Option RecordView} b (Some w) None ≡ None
+        → (lookup {K = ℕ} {X = RecordView} (nat_eq j) [] ≡ None) × (nat_eq j id ≡ false)
+    go true f m = absurd (cc)
+    go false f m = (refl, f)
+none_push id j w (e ∷ es) n = go (nat_eq j e.0) n (none_push id j w es)
+  where
+    go : (b : Bool) → cond b (Some e.1) (lookup (nat_eq j) (es ++ (id, w) ∷ [])) ≡ None
+        → (lookup (nat_eq j) (es ++ (id, w) ∷ []) ≡ None → (lookup (nat_eq j) es ≡ None) × (nat_eq j id ≡ false))
+        → (cond b (Some e.1) (lookup (nat_eq j) es) ≡ None) × (nat_eq j id ≡ false)
+    go true m next = absurd (cc)
+    go false m next = next m
+
+-- ---- a record among those of a server
+
+-- one that is found is kept of the record of its id
+found : (id : ℕ) (v : RecordView) (es : List (ℕ × RecordView)) (records : ℕ → Record) → lookup (nat_eq id) es ≡ Some v → AreKept es records
+    → IsKept v (records id)
+found id v [] records at k = absurd (cc)
+found id v (e ∷ es) records at k = go (nat_eq id e.0) refl at (λ a. found id v es records a k.1)
+  where
+    go : (b : Bool) → nat_eq id e.0 ≡ b → cond b (Some e.1) (lookup (nat_eq id) es) ≡ Some v
+        → (lookup (nat_eq id) es ≡ Some v → IsKept v (records id)) → IsKept v (records id)
+    go true f a next =
+        let same : e.1 ≡ v = cc in
+        subst (λ (x : RecordView). IsKept x (records id)) same (subst (λ (i : ℕ). IsKept e.1 (records i)) (sym (same_id id e.0 f)) k.0)
+    go false f a next = next a
+
+unknown : (r : Record) → r ≡ no_record → r.known ≡ false
+unfolding no_record
+unknown r e = ap (λ (x : Record). x.known) e
+
+-- there is room for the record of an id where one is put
+pub record PutsWell (v : ServerView) (s : Server) (id : ℕ) (new : List (ℕ × RecordView)) (r : Record) : Type 0 where
+  pub arrival : keys_of new ≡ arrival_with s id
+  pub records : AreKept new (put s.records id r)
+  pub others : (j : ℕ) → lookup (nat_eq j) new ≡ None → put s.records id r j ≡ no_record
+
+pub puts_well : (v : ServerView) (s : Server) (id : ℕ) (new : List (ℕ × RecordView)) (was is : RecordView) (r : Record) → Stands v s
+    → IsDistinct nat_eq (keys_of v.records) → Puts id v.records new was is → IsKept is r → PutsWell v s id new r
+puts_well v s id new was is r st d (known at same) k =
+    subst (λ (es : List (ℕ × RecordView)). PutsWell v s id es r) (sym same) (record {
+      arrival =
+          keys_set id is v.records ∙ st.arrival
+          ∙ sym (ap (λ b. cond b s.arrival (s.arrival ++ id ∷ [])) (found id was v.records s.records at st.records).known);
+      records = kept_set id is r v.records s.records d k st.records;
+      others = (λ j none. go j (none_set id j is v.records none) (nat_eq id j) refl);
+    })
+  where
+    go : (j : ℕ) → lookup (nat_eq j) v.records ≡ None → (b : Bool) → nat_eq id j ≡ b → put s.records id r j ≡ no_record
+    go j none true e =
+        let z : Some was ≡ None = sym at ∙ ap (λ (i : ℕ). lookup (nat_eq i) v.records) (same_id id j e) ∙ none in absurd (cc)
+    go j none false e = put_other s.records id r j e ∙ st.others j none
+puts_well v s id new was is r st d (added at few first same) k =
+    subst (λ (es : List (ℕ × RecordView)). PutsWell v s id es r) (sym same) (record {
+      arrival =
+          keys_push id is v.records ∙ ap (λ (ks : List ℕ). ks ++ id ∷ []) st.arrival
+          ∙ sym (ap (λ b. cond b s.arrival (s.arrival ++ id ∷ [])) (unknown (s.records id) (st.others id at)));
+      records = kept_push id is r v.records s.records (apart_from id v.records at) k st.records;
+      others =
+          (λ j none.
+          let n = none_push id j is v.records none in
+          put_other s.records id r j (other_way j id false n.1) ∙ st.others j n.0);
+    })
+
+-- what was kept of it
+pub was_kept : (v : ServerView) (s : Server) (id : ℕ) (new : List (ℕ × RecordView)) (was is : RecordView) → Stands v s
+    → Puts id v.records new was is → was ≡ kept_of (s.records id)
+was_kept v s id new was is st (known at same) = (found id was v.records s.records at st.records).kept
+was_kept v s id new was is st (added at few first same) = first ∙ sym (ap kept_of (st.others id at))
+
+-- as many are known as there are records
+many : (v : ServerView) (s : Server) → Stands v s → length s.arrival ≡ length v.records
+many v s st = ap (λ (ks : List ℕ). length ks) (sym st.arrival) ∙ length-map v.records (λ (e : ℕ × RecordView). e.0)
+
+-- there is room for one more record, or it is there
+pub room_is : (v : ServerView) (s : Server) (id : ℕ) → Stands v s → (lookup (nat_eq id) v.records ≡ None → length v.records < 64)
+    → (not (s.records id).known && nat_le 64 (length s.arrival)) ≡ false
+room_is v s id st free = go (lookup (nat_eq id) v.records) refl
+  where
+    few : (a b : Bool) → nat_le 64 (length s.arrival) ≡ b → length v.records < 64 → (a && b) ≡ false
+    few false b e low = refl
+    few true false e low = refl
+    few true true e low = let m = many v s st in grind (arith, nat_tests, m, low)
+
+    go : (o : Option RecordView) → lookup (nat_eq id) v.records ≡ o → (not (s.records id).known && nat_le 64 (length s.arrival)) ≡ false
+    go None e = few (not (s.records id).known) (nat_le 64 (length s.arrival)) refl (free e)
+    go (Some x) e = ap (λ b. not b && nat_le 64 (length s.arrival)) (found id x v.records s.records e st.records).known
+
+pub is_full : (v : ServerView) (s : Server) (id : ℕ) → Stands v s → lookup (nat_eq id) v.records ≡ None → 64 ≤ length v.records
+    → (not (s.records id).known && nat_le 64 (length s.arrival)) ≡ true
+is_full v s id st none full =
+    ap (λ b. not b && nat_le 64 (length s.arrival)) (unknown (s.records id) (st.others id none))
+    ∙ (let m = many v s st in grind (arith, nat_tests, m, full))
+
+-- what is kept of the record of an id
+pub entry_is : (v : ServerView) (s : Server) (id : ℕ) → Stands v s → entry_of (lookup (nat_eq id) v.records) ≡ kept_of (s.records id)
+entry_is v s id st = go (lookup (nat_eq id) v.records) refl
+  where
+    go : (o : Option RecordView) → lookup (nat_eq id) v.records ≡ o → entry_of o ≡ kept_of (s.records id)
+    go None e = sym (ap kept_of (st.others id e))
+    go (Some x) e = (found id x v.records s.records e st.records).kept
+
+-- and there is room for it
+pub has_room : (v : ServerView) (s : Server) (id : ℕ) (new : List (ℕ × RecordView)) (was is : RecordView) → Stands v s
+    → Puts id v.records new was is → (not (s.records id).known && nat_le 64 (length s.arrival)) ≡ false
+has_room v s id new was is st (known at same) =
+    ap (λ b. not b && nat_le 64 (length s.arrival)) (found id was v.records s.records at st.records).known
+has_room v s id new was is st (added at few first same) = room_is v s id st (λ none. few)

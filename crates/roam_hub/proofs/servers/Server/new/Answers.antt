@@ -1,0 +1,8 @@
+use Rattle.roam_world.specs.Numbers.{first_screen}
+use Rattle.roam_hub.proofs.Serving.{stands_new}
+use Rattle.roam_hub.proofs.servers.Server.new.Goals as goal
+
+pub returns-clause-stands : goal.returns-clause-stands
+unfolding first_screen
+returns-clause-stands c = stands_new c.args.session _ c.in_ok-panes.panes c.in_ok-screen.screen c.new-2.result.entries
+    c.in_ok-panes.ensures.stands c.in_ok-screen.ensures.blank c.new-2.ensures.empty

@@ -1,0 +1,210 @@
+-- What a server keeps of a client start, and what its calls make of it.
+use Rattle.std.specs.Prelude.{◌≡◌, ℕ, Result, Ok, Err, ◌+◌, ◌<◌, ◌≤◌, max, nat_lt, nat_eq, ◌==◌, ◌&&◌, ◌||◌, List, [], ◌∷◌, ◌++◌, length, take, map, is_some, Option, Some, None, Bool, true, if◌then◌else◌, ◌^◌}
+use Rattle.std.specs.List.{flat_map, list_any}
+use Rattle.std.specs.Map.{lookup, set_value}
+use Rattle.roam_cells.specs.declared.faults.Fault.{Fault}
+use Rattle.roam_cells.specs.declared.faults.Fault.TheVariants.{OutOfMemory, Busy, BadDatagram, ClientsFull}
+use Rattle.roam_cells.specs.declared.faults.Reason.{Reason}
+use Rattle.roam_cells.specs.declared.faults.Reason.TheVariants.{Fragment}
+use Rattle.roam_cells.specs.Screenshot.{Screenshot}
+use Rattle.roam_acts.specs.declared.acts.Act.{Act}
+use Rattle.roam_acts.specs.Takers.{fresh_of}
+use Rattle.roam_sync.specs.Senders.{acked, sent_at, is_due, withdrawn}
+use Rattle.roam_wire.specs.declared.datagrams.Kind.TheVariants.{ToClient}
+use Rattle.roam_wire.specs.Datagrams.{DatagramValue, datagram_text}
+use Rattle.roam_wire.specs.Gatherers.{Gathering, gather, piece_of}
+use Rattle.roam_wire.specs.Instructions.{UpValue, down_text}
+use Rattle.roam_wire.specs.Cutting.{pieces_of}
+use Rattle.roam_session.specs.Sessions.{SessionSize, Entry, Did}
+use Rattle.roam_session.specs.Stands.{SessionView, Stands as SessionStands}
+use Rattle.roam_world.specs.Moments.{has_passed, is_overdue, owed_from, is_spent}
+use Rattle.roam_world.specs.Texts.{Address, SaysUp, SaysNoUp, datagrams_of}
+use Rattle.roam_world.specs.Servers.{Record, no_record}
+use Rattle.roam_world.specs.Comings.{noted, completed, coming_gathered, reach}
+use Rattle.roam_world.specs.Ticks.{is_live, holds_after, down_from}
+use Rattle.roam_hub.specs.Servers.{RecordView, ServerView, kept_of, stopped}
+use Rattle.roam_hub.specs.declared.addresses.Stop.{Stop}
+use Rattle.roam_hub.specs.declared.taking.Taking.{Taking}
+
+-- a record of the definitions with what is kept and no histories
+abbrev pub bare : RecordView → Record
+bare v =
+    record {
+      known = true;
+      gathering = v.gathering;
+      taken = v.taken;
+      sender = v.sender;
+      heard_at = v.heard_at;
+      latest = v.latest;
+      address = v.address;
+      notes = [];
+      owed = v.owed;
+      datagrams = v.datagrams;
+      instructions = [];
+    }
+
+-- ---- a datagram
+
+-- so many acts were taken, and why no more were
+abbrev pub taking : ℕ → Option Fault → Taking
+taking n stop = record { taken = n; stopped = stop }
+
+-- what is answered where so many acts were taken
+abbrev pub answer_with : ℕ → Option Fault → Result ℕ Stop
+answer_with n None = Ok n
+answer_with n (Some fault) = stopped fault n
+
+-- what is answered to a datagram, by what became of its acts
+abbrev pub answered : Result Taking Fault → Result ℕ Stop
+answered (Ok t) = answer_with t.taken t.stopped
+answered (Err fault) = stopped fault 0
+
+-- Acts are done one after another: all of them; those before the first that finds its queue full; or those before one for which memory
+-- is wanting.
+pub data TakesActs (size : SessionSize) (log : List Entry) (id : ℕ) (acts : List Act) (t : Taking) (new : SessionView) : Type 0 where
+  all : reach size log id acts ≡ length acts → t ≡ taking (length acts) None
+      → SessionStands new size (log ++ map (Did id) acts) → TakesActs size log id acts t new
+  full : reach size log id acts < length acts → t ≡ taking (reach size log id acts) (Some Busy)
+      → SessionStands new size (log ++ map (Did id) (take (reach size log id acts) acts)) → TakesActs size log id acts t new
+  no_memory : (n : ℕ) → n ≤ reach size log id acts → n < length acts → t ≡ taking n (Some OutOfMemory)
+      → SessionStands new size (log ++ map (Did id) (take n acts)) → TakesActs size log id acts t new
+
+-- a datagram was heard now from there, and this is gathered then
+abbrev pub heard_by : RecordView → DatagramValue → Address → ℕ → Gathering → RecordView
+heard_by v d from now g =
+    record v {
+      gathering = g;
+      heard_at = now;
+      latest = max v.latest d.number;
+      address = if nat_lt v.latest d.number then from else v.address;
+    }
+
+-- and it brought an instruction of which n acts were taken
+abbrev pub informed_by : RecordView → DatagramValue → Address → ℕ → Gathering → UpValue → ℕ → RecordView
+informed_by v d from now g u n =
+    record (heard_by v d from now g) {
+      taken = v.taken + n;
+      sender = acked v.sender u.acked;
+      owed = if length u.acts == 0 then v.owed else owed_from v.owed now;
+    }
+
+-- A datagram is noted in a record: it makes no instruction whole, or its instruction's new acts are done; a stop leaves what was gathered
+-- before.
+pub data Notes (old : RecordView) (before : SessionView) (d : DatagramValue) (from : Address) (now : ℕ) (t : Taking) (new : RecordView)
+    (after : SessionView) : Type 0 where
+  piece : (g : Gathering) → coming_gathered (gather old.gathering (piece_of d)) ≡ noted g → t ≡ taking 0 None
+      → new ≡ heard_by old d from now g → after ≡ before → Notes old before d from now t new after
+  told : (g : Gathering) (text : List ℕ) (u : UpValue) → coming_gathered (gather old.gathering (piece_of d)) ≡ completed g text
+      → SaysUp text u → new ≡ informed_by old d from now (if is_some t.stopped then old.gathering else g) u t.taken
+      → ((size : SessionSize) (log : List Entry) → SessionStands before size log
+      → TakesActs size log d.client (fresh_of old.taken u.first u.acts) t after) → Notes old before d from now t new after
+
+-- why nothing is noted: it is no piece of what is gathered; its instruction can't be read; or memory is wanting
+pub data NotNoted (old : RecordView) (d : DatagramValue) (fault : Fault) : Type 0 where
+  no_piece : gather old.gathering (piece_of d) ≡ None → fault ≡ BadDatagram Fragment → NotNoted old d fault
+  unread : (g : Gathering) (text : List ℕ) (why : Reason) → coming_gathered (gather old.gathering (piece_of d)) ≡ completed g text
+      → SaysNoUp text why → fault ≡ BadDatagram why → NotNoted old d fault
+  no_memory : fault ≡ OutOfMemory → NotNoted old d fault
+
+-- the record of an id was one and is another: it was there, or it is new and the last of at most 64
+pub data Puts (id : ℕ) (old new : List (ℕ × RecordView)) (v w : RecordView) : Type 0 where
+  known : lookup (nat_eq id) old ≡ Some v → new ≡ set_value (nat_eq id) old w → Puts id old new v w
+  added : lookup (nat_eq id) old ≡ None → length old < 64 → v ≡ kept_of no_record → new ≡ old ++ (id, w) ∷ [] → Puts id old new v w
+
+-- a datagram is noted in the record of its client start
+pub record NotesIn (old : List (ℕ × RecordView)) (before : SessionView) (d : DatagramValue) (from : Address) (now : ℕ) (t : Taking)
+    (new : List (ℕ × RecordView)) (after : SessionView) : Type 0 where
+  pub was : RecordView
+  pub is : RecordView
+  pub puts : Puts d.client old new was is
+  pub notes : Notes was before d from now t is after
+
+-- what is kept of the record of an id, if only that nothing came
+abbrev pub entry_of : Option RecordView → RecordView
+entry_of None = kept_of no_record
+entry_of (Some v) = v
+
+-- why nothing is noted in any record: there is no room for one more, or nothing is noted in that of the client start
+pub data NotNotedIn (old : List (ℕ × RecordView)) (d : DatagramValue) (fault : Fault) : Type 0 where
+  full : lookup (nat_eq d.client) old ≡ None → 64 ≤ length old → fault ≡ ClientsFull → NotNotedIn old d fault
+  room : (lookup (nat_eq d.client) old ≡ None → length old < 64) → NotNoted (entry_of (lookup (nat_eq d.client) old)) d fault
+      → NotNotedIn old d fault
+  no_memory : fault ≡ OutOfMemory → NotNotedIn old d fault
+
+-- ---- a tick
+
+-- the pieces of the instruction that its sender would tell
+abbrev pub letter : RecordView → List (List ℕ)
+letter v = pieces_of (down_text (down_from v.sender v.taken))
+
+-- a number that sending it needs would be past the last
+abbrev pub is_letter_spent : RecordView → Bool
+is_letter_spent v = is_spent (v.instructions + 1) || is_spent (v.datagrams + length (letter v)) || is_spent v.taken
+
+-- it is sent to: it was heard of late, and its sender is due or an answer is overdue
+abbrev pub is_told : RecordView → ℕ → Bool
+is_told v now = is_live (bare v) now && (is_due v.sender now || is_overdue v.owed now)
+
+-- how many datagrams go to it
+abbrev pub pieces_told : RecordView → ℕ → Option ℕ
+pieces_told v now = if is_told v now then Some (length (letter v)) else None
+
+-- the datagrams of that instruction, for the start of an id
+abbrev pub datagrams_for : ℕ → ℕ × RecordView → List DatagramValue
+datagrams_for session e = datagrams_of ToClient session e.0 e.1.datagrams (e.1.instructions + 1) (letter e.1)
+
+-- their texts, each with where it goes
+abbrev pub letters_for : ℕ → ℕ → ℕ × RecordView → List (Address × List ℕ)
+letters_for session now e = if is_told e.1 now then map (λ d. (e.1.address, datagram_text d)) (datagrams_for session e) else []
+
+-- what is kept of it once so many datagrams were sent, or none
+abbrev pub settled_with : RecordView → Option ℕ → ℕ → RecordView
+settled_with v None now = v
+settled_with v (Some k) now =
+    record v { sender = sent_at v.sender now; owed = None; datagrams = v.datagrams + k; instructions = v.instructions + 1 }
+
+-- there are numbers for so many more datagrams
+abbrev pub HasNumbersFor : RecordView → Option ℕ → Type 0
+HasNumbersFor v None = Unit {0}
+HasNumbersFor v (Some k) = (v.datagrams + k < 2 ^ 62) × (v.instructions + 1 < 2 ^ 62)
+
+-- what is kept of it where an offer is taken back
+abbrev pub back_from : RecordView → Bool → RecordView
+back_from v offered = if offered then record v { sender = withdrawn v.sender } else v
+
+-- ---- a whole tick, where s is the screen of the newest number n
+
+-- what a record holds then
+abbrev pub held : RecordView → ℕ → Screenshot → ℕ → RecordView
+held v n s now = record v { sender = holds_after (bare v) n s now }
+
+abbrev pub held_entry : ℕ → Screenshot → ℕ → ℕ × RecordView → ℕ × RecordView
+held_entry n s now e = (e.0, held e.1 n s now)
+
+-- what goes to its client start
+abbrev pub texts_for : ℕ → ℕ → Screenshot → ℕ → ℕ × RecordView → List (Address × List ℕ)
+texts_for session n s now e = letters_for session now (held_entry n s now e)
+
+-- a number that this needs would be past the last
+abbrev pub is_entry_spent : ℕ → Screenshot → ℕ → ℕ × RecordView → Bool
+is_entry_spent n s now e = is_told (held e.1 n s now) now && is_letter_spent (held e.1 n s now)
+
+-- what is kept of it after the tick
+abbrev pub settled_entry : ℕ → Screenshot → ℕ → ℕ × RecordView → ℕ × RecordView
+settled_entry n s now e = (e.0, settled_with (held e.1 n s now) (pieces_told (held e.1 n s now) now) now)
+
+-- whether a number is made at a moment
+abbrev pub makes_at : ServerView → ℕ → Bool
+makes_at v now = v.made == 0 || (v.input && has_passed 20 v.made_at now)
+
+-- all that goes to client starts
+abbrev pub told_by : ServerView → ℕ → Screenshot → ℕ → List (Address × List ℕ)
+told_by v n s now = flat_map (texts_for v.session n s now) v.records
+
+-- the server with what is kept of its records then
+abbrev pub ticked_by : ServerView → ℕ → Screenshot → ℕ → ServerView
+ticked_by v n s now = record v { records = map (settled_entry n s now) v.records }
+
+-- a number that one of its records needs would be past the last
+abbrev pub is_any_spent : ServerView → ℕ → Screenshot → ℕ → Bool
+is_any_spent v n s now = list_any (is_entry_spent n s now) v.records

@@ -1,0 +1,170 @@
+-- What a server of the code stands for, and what its calls answer and leave.
+use Rattle.std.specs.Prelude.{◌≡◌, ℕ, ◌<◌, ◌≤◌, nat_eq, ◌&&◌, ◌||◌, List, [], ◌∷◌, length, map, Option, Some, None, Result, Ok, Err, Bool, true, false, Vec}
+use Rattle.std.specs.List.{list_any}
+use Rattle.std.specs.Map.{keys_of, lookup}
+use Rattle.std.specs.declared.alloc.Global.{Global}
+use Rattle.byteorder.specs.Endian.{big_number}
+use Rattle.roam_cells.specs.declared.faults.Fault.{Fault}
+use Rattle.roam_cells.specs.declared.faults.Fault.TheVariants.{OutOfMemory, NoPane, Busy, BadDatagram, Spent}
+use Rattle.roam_cells.specs.declared.faults.Reason.{Reason}
+use Rattle.roam_cells.specs.Screenshot.{Screenshot}
+use Rattle.roam_sync.specs.Senders.{Sending}
+use Rattle.roam_wire.specs.Datagrams.{DatagramValue, datagram_text}
+use Rattle.roam_wire.specs.Gatherers.{Gathering}
+use Rattle.roam_wire.specs.Instructions.{UpValue}
+use Rattle.roam_session.specs.Sessions.{Given, Drained}
+use Rattle.roam_session.specs.Refusals.{refuses_bytes, output_at}
+use Rattle.roam_session.specs.Stands.{SessionView, Stands as SessionStands}
+use Rattle.roam_world.specs.Moments.{is_spent}
+use Rattle.roam_world.specs.Numbers.{cut, screen}
+use Rattle.roam_world.specs.Texts.{Address, SaysUp, SaysNoUp}
+use Rattle.roam_world.specs.Servers.{Record, no_record, Server, moment, after_input}
+use Rattle.roam_world.specs.Comings.{turned_away, noted, completed, coming, after_note, new_acts, after_acts, room_for}
+use Rattle.roam_world.specs.Ticks.{IsFaceScreen, number_after, screen_after, sends, Parcel, sent_by, is_tick_spent, after_tick}
+use Rattle.roam_hub.specs.Clients.{IsTextOf, IsNoDatagram}
+use Rattle.roam_hub.specs.declared.addresses.Addr.{Addr}
+use Rattle.roam_hub.specs.declared.addresses.Stop.{Stop}
+
+-- ---- what a server stands for
+
+-- what contracts see of a record: what the definitions have of it, but for its history, and how many instructions were sent to it
+pub record RecordView : Type 0 where
+  pub gathering : Gathering
+  pub taken : ℕ
+  pub sender : Sending Screenshot
+  pub heard_at : ℕ
+  pub latest : ℕ
+  pub address : Address
+  pub owed : Option ℕ
+  pub datagrams : ℕ
+  pub instructions : ℕ
+
+-- what is kept of a record
+abbrev pub kept_of : Record → RecordView
+kept_of r =
+    record {
+      gathering = r.gathering;
+      taken = r.taken;
+      sender = r.sender;
+      heard_at = r.heard_at;
+      latest = r.latest;
+      address = r.address;
+      owed = r.owed;
+      datagrams = r.datagrams;
+      instructions = length r.instructions;
+    }
+
+-- what contracts see of a server: its session, how many numbers were made, the screen of the newest, when that was and whether an input
+-- came since, and the records by their ids in the order of arrival
+pub record ServerView : Type 0 where
+  pub session : ℕ
+  pub state : SessionView
+  pub made : ℕ
+  pub screen : Screenshot
+  pub made_at : ℕ
+  pub input : Bool
+  pub clock : ℕ
+  pub records : List (ℕ × RecordView)
+
+-- a record that is known, of which this is kept
+pub record IsKept (v : RecordView) (r : Record) : Type 0 where
+  pub known : r.known ≡ true
+  pub kept : v ≡ kept_of r
+
+-- each of these is kept of the record of its id
+abbrev pub AreKept : List (ℕ × RecordView) → (ℕ → Record) → Type 0
+AreKept [] records = Unit {0}
+AreKept (e ∷ es) records = IsKept e.1 (records e.0) × AreKept es records
+
+-- the newest number stands for a place in the log
+abbrev pub IsCut : Server → Type 0
+IsCut s = cut s.cuts (length s.cuts) ≤ length s.log
+
+-- a server of the code stands for a server of the definitions: it has what is kept of it
+pub record Stands (v : ServerView) (s : Server) : Type 0 where
+  pub session : v.session ≡ s.session
+  pub log : SessionStands v.state s.size s.log
+  pub made : v.made ≡ length s.cuts
+  pub cut : IsCut s
+  pub screen : v.screen ≡ screen s.size s.log s.cuts (length s.cuts)
+  pub made_at : v.made_at ≡ s.made_at
+  pub input : v.input ≡ s.input
+  pub clock : v.clock ≡ s.clock
+  pub arrival : keys_of v.records ≡ s.arrival
+  pub records : AreKept v.records s.records
+  pub others : (id : ℕ) → lookup (nat_eq id) v.records ≡ None → s.records id ≡ no_record
+
+-- ---- what its calls do
+
+-- bytes come from a pane's program: refused by the session, or taken
+pub data Feeds (s : Server) (pane : ℕ) (bytes : List ℕ) (result : Result (Unit {0}) Fault) (new : ServerView) : Type 0 where
+  refused : (fault : Fault) → refuses_bytes s.size s.log pane bytes ≡ Some fault → result ≡ Err fault → Stands new s
+      → Feeds s pane bytes result new
+  taken : refuses_bytes s.size s.log pane bytes ≡ None → result ≡ Ok tt → Stands new (after_input s (Given pane bytes))
+      → Feeds s pane bytes result new
+
+-- bytes go to a pane's program: there is no such pane, or they go
+pub data Drains (s : Server) (pane n : ℕ) (result : Result (Unit {0}) Fault) (new : ServerView) : Type 0 where
+  no_pane : output_at s.size s.log pane ≡ None → result ≡ Err NoPane → Stands new s → Drains s pane n result new
+  gone : (output : List ℕ) → output_at s.size s.log pane ≡ Some output → n ≤ length output → result ≡ Ok tt
+      → Stands new (after_input s (Drained pane n)) → Drains s pane n result new
+
+-- where a socket's address is
+abbrev pub address_of : Addr → Address
+address_of a = record { host = big_number 4 a.host; port = a.port }
+
+-- a refusal after so many acts
+abbrev pub stopped : Fault → ℕ → Result ℕ Stop
+stopped fault n = Err (record { fault = fault; taken = n })
+
+-- Bytes come: they are no datagram; it is refused; it makes no instruction whole; its instruction can't be read; all its new acts are
+-- taken; one finds its queue full; memory is wanting at one, or anywhere else.
+pub data Comes (s : Server) (from : Address) (bytes : List ℕ) (now : ℕ) (result : Result ℕ Stop) (new : ServerView) : Type 0 where
+  no_datagram : (why : Reason) → IsNoDatagram bytes why → result ≡ stopped (BadDatagram why) 0 → Stands new s
+      → Comes s from bytes now result new
+  refused : (d : DatagramValue) (fault : Fault) → IsTextOf bytes d → coming s d ≡ turned_away fault
+      → result ≡ stopped fault 0 → Stands new s → Comes s from bytes now result new
+  piece : (d : DatagramValue) (g : Gathering) → IsTextOf bytes d → coming s d ≡ noted g
+      → result ≡ Ok 0 → Stands new (after_note s d from (moment s now) g) → Comes s from bytes now result new
+  unread : (d : DatagramValue) (g : Gathering) (text : List ℕ) (why : Reason) → IsTextOf bytes d
+      → coming s d ≡ completed g text → SaysNoUp text why
+      → result ≡ stopped (BadDatagram why) 0 → Stands new s → Comes s from bytes now result new
+  all_taken : (d : DatagramValue) (g : Gathering) (text : List ℕ) (u : UpValue) → IsTextOf bytes d
+      → coming s d ≡ completed g text → SaysUp text u → room_for s d u ≡ length (new_acts s d u)
+      → result ≡ Ok (length (new_acts s d u))
+      → Stands new (after_acts s d from (moment s now) g u (length (new_acts s d u))) → Comes s from bytes now result new
+  no_room : (d : DatagramValue) (g : Gathering) (text : List ℕ) (u : UpValue) → IsTextOf bytes d
+      → coming s d ≡ completed g text → SaysUp text u → room_for s d u < length (new_acts s d u)
+      → result ≡ stopped Busy (room_for s d u)
+      → Stands new (after_acts s d from (moment s now) (s.records d.client).gathering u (room_for s d u))
+      → Comes s from bytes now result new
+  no_memory_at_act : (d : DatagramValue) (g : Gathering) (text : List ℕ) (u : UpValue) (n : ℕ) → IsTextOf bytes d
+      → coming s d ≡ completed g text → SaysUp text u → n ≤ room_for s d u → n < length (new_acts s d u)
+      → result ≡ stopped OutOfMemory n
+      → Stands new (after_acts s d from (moment s now) (s.records d.client).gathering u n) → Comes s from bytes now result new
+  no_memory : result ≡ stopped OutOfMemory 0 → Stands new s → Comes s from bytes now result new
+
+-- ---- a tick
+
+-- where the texts of datagrams go
+abbrev pub parcels_of : List (Addr × Vec ℕ Global) → List (Address × List ℕ)
+parcels_of all = map (λ p. (address_of p.0, p.1.items)) all
+
+abbrev pub parcel_text : Parcel → Address × List ℕ
+parcel_text p = (p.to, datagram_text p.datagram)
+
+-- a record is sent to, and as many of its acts were taken as no number can say
+abbrev pub is_ack_spent : Server → ℕ → ℕ → Bool
+is_ack_spent s now id = sends (s.records id) (number_after s now) (screen_after s now) now && is_spent (s.records id).taken
+
+-- a number that a tick needs would be past the last
+abbrev pub is_number_spent : Server → ℕ → Bool
+is_number_spent s now = is_tick_spent s now || list_any (is_ack_spent s now) s.arrival
+
+-- A tick: numbers are spent; the datagrams are answered in their order, each with its address; or memory is wanting.
+pub data Ticks (s : Server) (now : ℕ) (result : Result (Vec (Addr × Vec ℕ Global) Global) Fault) (new : ServerView) : Type 0 where
+  spent : is_number_spent s (moment s now) ≡ true → result ≡ Err Spent → Stands new s → Ticks s now result new
+  ticked : (all : Vec (Addr × Vec ℕ Global) Global) → is_number_spent s (moment s now) ≡ false → IsFaceScreen s (moment s now)
+      → result ≡ Ok all → parcels_of all.items ≡ map parcel_text (sent_by s (moment s now))
+      → Stands new (after_tick s (moment s now)) → Ticks s now result new
+  no_memory : result ≡ Err OutOfMemory → Stands new s → Ticks s now result new

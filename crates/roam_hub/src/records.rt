@@ -1,0 +1,376 @@
+//! What a server keeps of a client start.
+ghost use Rattle.std.specs.Prelude.{◌≡◌, ◌==◌, ◌⊎◌, ◌+◌, ◌++◌, ◌<◌, ◌≤◌, ◌^◌, ◌&&◌, ◌||◌, ℕ, List, length, map, max, nat_lt, true, false, is_some, if◌then◌else◌, IfOk, IfErr, OnOk, OnErr, IsTrue, IsOkUnless};
+ghost use Rattle.roam_sync.specs.Senders.{newest, count, offered, withdrawn, is_due};
+ghost use Rattle.roam_wire.specs.Cutting.{texts_of};
+ghost use Rattle.roam_wire.specs.Datagrams.{datagram_text, datagram_value};
+ghost use Rattle.roam_wire.specs.Gatherers.{untaken};
+ghost use Rattle.roam_world.specs.Moments.{is_overdue, owed_from};
+ghost use Rattle.roam_world.specs.Servers.{no_record};
+ghost use Rattle.roam_hub.specs.Servers.{kept_of, address_of, parcels_of};
+ghost use Rattle.roam_hub.specs.Records.{Notes, NotNoted, letter, is_letter_spent, is_told, pieces_told, datagrams_for, letters_for, settled_with, HasNumbersFor, back_from, held, is_entry_spent};
+
+use crate::addresses::Addr;
+use crate::clients::{is_overdue, owed_after};
+use crate::packing::{Heading, NUMBERS, packed};
+use crate::taking::{Taking, take_acts};
+use roam_acts::{Act, ActTaker};
+use roam_cells::{Fault, Shot};
+use roam_session::Session;
+use roam_sync::Sender;
+use roam_wire::{Datagram, Down, Gathered, Gatherer, Kind, read_up, write_down};
+use std::alloc::Global;
+use std::marker::Model;
+
+/// The most states that a sender holds.
+const MOST_HELD: usize = 8;
+
+/// Milliseconds after which a start that wasn't heard is sent nothing.
+const SILENCE: u64 = 60_000;
+
+/// What a server keeps of a client start.
+#[derive(Drop)]
+pub struct Record {
+    gatherer: Gatherer,
+    taker: ActTaker,
+    sender: Sender<Shot>,
+    heard_at: u64,
+    latest: u64,
+    address: Addr,
+    owed: Option<u64>,
+    datagrams: u64,
+    instructions: u64,
+}
+
+/// What a tick tells: the session's id, the newest number, and the moment.
+#[derive(Clone, Copy)]
+pub struct News {
+    pub session: u64,
+    pub number: u64,
+    pub now: u64,
+}
+
+/// What was prepared of a record at a tick: whether the newest number was offered, and how many datagrams go to its client start.
+#[derive(Clone, Copy)]
+pub struct Prepared {
+    offered: bool,
+    pieces: Option<u64>,
+}
+
+impl Model for Record {
+    ghost use Rattle.std.specs.Prelude.{◌+◌, ◌<◌, ◌^◌};
+    ghost use Rattle.roam_sync.specs.Senders.{newest};
+    ghost use Rattle.roam_hub.specs.Servers.{RecordView, address_of};
+
+    ghost Value = { RecordView };
+
+    ghost view = { λ r. record {
+      gathering = r.gatherer.current;
+      taken = r.taker;
+      sender = r.sender;
+      heard_at = r.heard_at;
+      latest = r.latest;
+      address = address_of r.address;
+      owed = r.owed;
+      datagrams = r.datagrams;
+      instructions = r.instructions;
+    } };
+
+    ghost invariant = { λ r. (r.taker < 2 ^ 62 + 64) × ((newest r.sender).number < 2 ^ 62) × (r.datagrams < 2 ^ 62)
+        × (r.instructions < 2 ^ 62) };
+}
+
+// Where the greatest-numbered datagram came from, where one of this number came from there.
+fn source(latest: u64, address: Addr, number: u64, from: Addr) -> Addr
+    ensures source { address_of result ≡ (if nat_lt latest number then address_of from else address_of address) }
+{
+    if latest < number { from } else { address }
+}
+
+// Takes the last piece back, where its instruction's acts stopped.
+fn keep_unless(gatherer: &mut Gatherer, stopped: bool)
+    ensures kept { gatherer.new.current ≡ (if stopped then (untaken gatherer.old).current else gatherer.old.current) }
+{
+    if stopped {
+        gatherer.untake();
+    }
+}
+
+// Whether a start was heard less than 60,000 ms ago.
+fn is_heard(heard_at: u64, now: u64) -> bool
+    ensures heard { result ≡ nat_lt now (heard_at + 60000) }
+{
+    now < heard_at || now - heard_at < SILENCE
+}
+
+// Whether a number is offered to a start: it was heard of late, the number is new to its sender, and fewer than eight are held.
+fn may_be_offered(sender: &Sender<Shot>, heard_at: u64, number: u64, now: u64) -> bool
+    ensures offered { result ≡ (nat_lt now (heard_at + 60000) && nat_lt (newest sender.now).number number
+        && nat_lt (count sender.now) 8) }
+{
+    is_heard(heard_at, now) && sender.newest_number() < number && sender.len() < MOST_HELD
+}
+
+// Holds one more state, where fewer than eight are held. Refuses want of memory.
+fn offered(sender: &mut Sender<Shot>, number: u64, screen: Shot) -> Result<(), Fault>
+    requires newer { (newest sender.old).number < number }
+    requires room { count sender.old < 8 }
+    ensures ok { OnOk result (sender.new ≡ offered sender.old number screen) }
+    ensures top { OnOk result ((newest sender.new).number ≡ number) }
+    ensures several { OnOk result (2 ≤ count sender.new) }
+    ensures back { OnOk result (withdrawn sender.new ≡ sender.old) }
+    ensures err { OnErr result (sender.new ≡ sender.old) }
+    ensures fault { IsOkUnless result Fault.OutOfMemory }
+{
+    sender.offer(number, screen)
+}
+
+// Whether a start is sent to: it was heard of late, and its sender is due or an answer is overdue.
+fn is_told(sender: &Sender<Shot>, heard_at: u64, owed: Option<u64>, now: u64) -> bool
+    ensures told { result ≡ (nat_lt now (heard_at + 60000) && (is_due sender.now now || is_overdue owed now)) }
+{
+    is_heard(heard_at, now) && (sender.due(now) || is_overdue(owed, now))
+}
+
+// Adds texts, each with the address that it goes to. Refuses want of memory.
+fn address(to: Addr, texts: Vec<Vec<u8>>, parcels: &mut Vec<(Addr, Vec<u8>)>) -> Result<(), Fault>
+    ensures parcels { OnOk result (parcels_of parcels.new.items ≡ parcels_of parcels.old.items
+        ++ map (λ (text : List ℕ). (address_of to, text)) (texts_of texts.items)) }
+    ensures fault { IsOkUnless result Fault.OutOfMemory }
+{
+    for text in texts {
+        parcels.push((to, text))?;
+    }
+    Ok(())
+}
+
+// Since when an answer is owed, once an instruction with these acts came.
+fn owed_for(owed: Option<u64>, acts: &[Act], now: u64) -> Option<u64>
+    ensures owed { result ≡ (if length acts.now == 0 then owed else owed_from owed now) }
+{
+    if acts.is_empty() {
+        return owed;
+    }
+    owed_after(owed, true, now)
+}
+
+impl Record {
+    /// The record of a client start from which nothing has come. Refuses want of memory.
+    pub fn new(alloc: Global) -> Result<Record, Fault>
+        ensures new { IfOk result (λ r. r ≡ kept_of no_record) }
+        ensures fault { IsOkUnless result Fault.OutOfMemory }
+    {
+        let sender = Sender::new(alloc, Shot::blank(alloc, 24, 80)?)?;
+        Ok(Record {
+            gatherer: Gatherer::new(alloc),
+            taker: ActTaker::new(),
+            sender,
+            heard_at: 0,
+            latest: 0,
+            address: Addr {
+                host: [0; 4],
+                port: 0,
+            },
+            owed: None,
+            datagrams: 0,
+            instructions: 0,
+        })
+    }
+
+    // Notes that a datagram of this number came from there.
+    fn note(&mut self, number: u64, from: Addr, now: u64)
+        ensures noted { self.new ≡ record self.old {
+          heard_at = now;
+          latest = max self.old.latest number;
+          address = if nat_lt self.old.latest number then address_of from else self.old.address;
+        } }
+    {
+        self.address = source(self.latest, self.address, number, from);
+        self.latest = self.latest.max(number);
+        self.heard_at = now;
+    }
+
+    /// Takes a datagram that came from an address at a moment, and does the new acts of an instruction that it makes whole. Refuses a
+    /// piece or an instruction that is none, and want of memory before an act; then the record and the session are as before.
+    pub fn hear(
+        &mut self,
+        alloc: Global,
+        session: &mut Session,
+        from: Addr,
+        datagram: &Datagram,
+        now: u64,
+    ) -> Result<Taking, Fault>
+        ensures noted { IfOk result (λ t. Notes self.old session.old (datagram_value datagram.now) (address_of from) now t self.new
+            session.new) }
+        ensures fault { IfErr result (λ fault. NotNoted self.old (datagram_value datagram.now) fault) }
+        ensures err { OnErr result (self.new ≡ self.old) }
+        ensures session { OnErr result (session.new ≡ session.old) }
+    {
+        let Gathered::Whole(text) = self.gatherer.take(alloc, datagram)? else {
+            self.note(datagram.number, from, now);
+            return Ok(Taking {
+                taken: 0,
+                stopped: None,
+            });
+        };
+        let up = match read_up(alloc, text.as_slice()) {
+            Ok(up) => up,
+            Err(fault) => {
+                self.gatherer.untake();
+                return Err(fault);
+            }
+        };
+        let fresh = self.taker.fresh(up.first, up.acts.as_slice());
+        let taking = take_acts(alloc, session, &mut self.taker, datagram.client, fresh);
+        keep_unless(&mut self.gatherer, taking.stopped.is_some());
+        self.sender.acked(up.acked);
+        self.owed = owed_for(self.owed, up.acts.as_slice(), now);
+        self.note(datagram.number, from, now);
+        Ok(taking)
+    }
+
+    // Offers the newest number with its screen where it may be needed, and tells whether it did. Refuses want of memory.
+    fn offer(&mut self, alloc: Global, number: u64, screen: &Shot, now: u64) -> Result<bool, Fault>
+        requires number { number < 2 ^ 62 }
+        ensures held { OnOk result (self.new ≡ held self.old number screen.now now) }
+        ensures several { IfOk result (λ offered. IsTrue offered → 2 ≤ count self.new.sender) }
+        ensures back { IfOk result (λ offered. back_from self.new offered ≡ self.old) }
+        ensures fault { IsOkUnless result Fault.OutOfMemory }
+        ensures err { OnErr result (self.new ≡ self.old) }
+    {
+        if !may_be_offered(&self.sender, self.heard_at, number, now) {
+            return Ok(false);
+        }
+        let copy = screen.copy(alloc)?;
+        offered(&mut self.sender, number, copy)?;
+        Ok(true)
+    }
+
+    // Takes an offer back, where there was one.
+    fn take_back(&mut self, offered: bool)
+        requires several { IsTrue offered → 2 ≤ count self.old.sender }
+        requires low { (newest (back_from self.old offered).sender).number < 2 ^ 62 }
+        ensures back { self.new ≡ back_from self.old offered }
+    {
+        if offered {
+            self.sender.withdraw();
+        }
+    }
+
+    // The texts of the datagrams of the instruction to it. `Spent` exactly where a number that it needs would be 2^62; `OutOfMemory`.
+    fn instruction(&self, alloc: Global, session: u64, client: u64) -> Result<Vec<Vec<u8>>, Fault>
+        requires session { session < 2 ^ 64 }
+        requires client { client < 2 ^ 64 }
+        ensures written { IfOk result (λ all. texts_of all.items ≡ map datagram_text (datagrams_for session (client, self.now))) }
+        ensures fit { OnOk result (is_letter_spent self.now ≡ false) }
+        ensures fault { IfErr result (λ fault. (fault ≡ Fault.OutOfMemory)
+            ⊎ ((fault ≡ Fault.Spent) × (is_letter_spent self.now ≡ true))) }
+    {
+        let acked = self.taker.taken();
+        if acked >= NUMBERS {
+            return Err(Fault::Spent);
+        }
+        let told = self.sender.instruction(alloc)?;
+        let down = Down {
+            old: told.old,
+            new: told.new,
+            floor: told.floor,
+            acked,
+            change: told.change,
+        };
+        let text = write_down(alloc, &down)?;
+        let heading = Heading {
+            kind: Kind::ToClient,
+            session,
+            client,
+            before: self.datagrams,
+            id: self.instructions + 1,
+        };
+        packed(alloc, heading, text.as_slice())
+    }
+
+    // Adds the texts of the datagrams to it, each with its address, where it is sent to, and tells how many.
+    fn tell(
+        &self,
+        alloc: Global,
+        news: News,
+        client: u64,
+        parcels: &mut Vec<(Addr, Vec<u8>)>,
+    ) -> Result<Option<u64>, Fault>
+        requires session { news.session < 2 ^ 64 }
+        requires client { client < 2 ^ 64 }
+        ensures pieces { IfOk result (λ pieces. pieces ≡ pieces_told self.now news.now) }
+        ensures parcels { OnOk result (parcels_of parcels.new.items ≡ parcels_of parcels.old.items
+            ++ letters_for news.session news.now (client, self.now)) }
+        ensures fit { OnOk result ((is_told self.now news.now && is_letter_spent self.now) ≡ false) }
+        ensures fault { IfErr result (λ fault. (fault ≡ Fault.OutOfMemory)
+            ⊎ ((fault ≡ Fault.Spent) × ((is_told self.now news.now && is_letter_spent self.now) ≡ true))) }
+    {
+        if !is_told(&self.sender, self.heard_at, self.owed, news.now) {
+            return Ok(None);
+        }
+        let texts = self.instruction(alloc, news.session, client)?;
+        let pieces = texts.len() as u64;
+        address(self.address, texts, parcels)?;
+        Ok(Some(pieces))
+    }
+
+    /// Offers the newest number with its screen where it may be needed, and adds the texts of the datagrams to the client start, each
+    /// with its address, where it is sent to. `Spent` exactly where a number that this needs would be 2^62; `OutOfMemory`. A refusal
+    /// leaves the record as it was.
+    pub fn prepare(
+        &mut self,
+        alloc: Global,
+        news: News,
+        client: u64,
+        screen: &Shot,
+        parcels: &mut Vec<(Addr, Vec<u8>)>,
+    ) -> Result<Prepared, Fault>
+        requires number { news.number < 2 ^ 62 }
+        requires session { news.session < 2 ^ 64 }
+        requires client { client < 2 ^ 64 }
+        ensures held { OnOk result (self.new ≡ held self.old news.number screen.now news.now) }
+        ensures pieces { IfOk result (λ p. p.pieces ≡ pieces_told self.new news.now) }
+        ensures parcels { OnOk result (parcels_of parcels.new.items ≡ parcels_of parcels.old.items
+            ++ letters_for news.session news.now (client, self.new)) }
+        ensures several { IfOk result (λ p. IsTrue p.offered → 2 ≤ count self.new.sender) }
+        ensures back { IfOk result (λ p. back_from self.new p.offered ≡ self.old) }
+        ensures low { (newest self.old.sender).number < 2 ^ 62 }
+        ensures fit { OnOk result (is_entry_spent news.number screen.now news.now (client, self.old) ≡ false) }
+        ensures fault { IfErr result (λ fault. (fault ≡ Fault.OutOfMemory)
+            ⊎ ((fault ≡ Fault.Spent) × (is_entry_spent news.number screen.now news.now (client, self.old) ≡ true))) }
+        ensures err { OnErr result (self.new ≡ self.old) }
+    {
+        let _invariant = &self.heard_at;
+        let offered = self.offer(alloc, news.number, screen, news.now)?;
+        match self.tell(alloc, news, client, parcels) {
+            Ok(pieces) => Ok(Prepared { offered, pieces }),
+            Err(fault) => {
+                self.take_back(offered);
+                Err(fault)
+            }
+        }
+    }
+
+    /// Undoes what `prepare` did.
+    pub fn undo(&mut self, prepared: Prepared)
+        requires several { IsTrue prepared.offered → 2 ≤ count self.old.sender }
+        requires low { (newest (back_from self.old prepared.offered).sender).number < 2 ^ 62 }
+        ensures back { self.new ≡ back_from self.old prepared.offered }
+    {
+        self.take_back(prepared.offered);
+    }
+
+    /// Notes that what `prepare` added is sent at a moment.
+    pub fn settle(&mut self, prepared: Prepared, now: u64)
+        requires numbers { HasNumbersFor self.old prepared.pieces }
+        ensures settled { self.new ≡ settled_with self.old prepared.pieces now }
+    {
+        let Some(pieces) = prepared.pieces else {
+            return;
+        };
+        self.sender.sent(now);
+        self.owed = None;
+        self.datagrams += pieces;
+        self.instructions += 1;
+    }
+}

@@ -1,0 +1,306 @@
+//! The server: the session, its numbered screens, and what is kept of each client start.
+ghost use Rattle.std.specs.Prelude.{◌≡◌, ◌↔◌, ◌⊎◌, ◌≤◌, ◌-◌, ◌+◌, ◌||◌, ℕ, List, length, nat_eq, true, false, IfOk, IfErr, OnOk, OnErr, IsErrOf, IsOkUnless};
+ghost use Rattle.std.specs.Option.{option_map};
+ghost use Rattle.roam_layout.specs.Layouts.{IsSessionSize};
+ghost use Rattle.roam_session.specs.Faces.{face};
+ghost use Rattle.roam_session.specs.Stands.{waiting_at};
+ghost use Rattle.roam_session.specs.Queues.{IsWithin, IsCopied};
+ghost use Rattle.roam_session.specs.Refusals.{fault_of, none_refused, output_at};
+ghost use Rattle.roam_cells.specs.Screenshot.{IsScreenshot};
+ghost use Rattle.roam_world.specs.Moments.{is_spent};
+ghost use Rattle.roam_world.specs.Servers.{Server as ServerOf, new_server};
+ghost use Rattle.roam_wire.specs.Datagrams.{datagram_value};
+ghost use Rattle.roam_world.specs.Comings.{is_to_server, coming, turned_away};
+ghost use Rattle.roam_hub.specs.Servers.{Stands, Feeds, Drains, Comes, Ticks, address_of, parcels_of};
+ghost use Rattle.roam_hub.specs.Records.{answered, makes_at, told_by, ticked_by, is_any_spent};
+
+use crate::addresses::{Addr, Stop};
+use crate::arrivals::hear_in;
+use crate::clients::has_passed;
+use crate::packing::NUMBERS;
+use crate::records::{News, Record};
+use crate::taking::Taking;
+use crate::telling::tell_from;
+use indexmap::IndexMap;
+use roam_cells::{Fault, Reason, Shot};
+use roam_session::Session;
+use roam_wire::{Datagram, Kind, read_datagram};
+use std::alloc::Global;
+use std::marker::Model;
+
+/// The server of a session.
+#[derive(Drop)]
+pub struct Server {
+    id: u64,
+    session: Session,
+    made: u64,
+    screen: Shot,
+    made_at: u64,
+    input: bool,
+    clock: u64,
+    records: IndexMap<u64, Record>,
+}
+
+impl Model for Server {
+    ghost use Rattle.std.specs.Prelude.{◌<◌, ◌^◌};
+    ghost use Rattle.std.specs.Coded.{codes};
+    ghost use Rattle.roam_layout.specs.Coding.{plan_code};
+    ghost use Rattle.roam_hub.specs.Servers.{ServerView};
+
+    ghost Value = { ServerView };
+
+    ghost coded = { Prim.hlevel (codes, plan_code) };
+
+    ghost view = { λ s. record {
+      session = s.id;
+      state = s.session;
+      made = s.made;
+      screen = s.screen;
+      made_at = s.made_at;
+      input = s.input;
+      clock = s.clock;
+      records = s.records.entries;
+    } };
+
+    ghost invariant = { λ s. (s.made < 2 ^ 62) × (s.id < 2 ^ 64) };
+}
+
+// Whether a datagram is for the server of this session.
+fn admit(session: u64, datagram: &Datagram) -> Result<(), Fault>
+    ensures kind { OnOk result (is_to_server datagram.now.kind ≡ true) }
+    ensures session { OnOk result (nat_eq datagram.now.session session ≡ true) }
+    ensures err { IfErr result (λ fault. (s : ServerOf) → s.session ≡ session
+        → coming s (datagram_value datagram.now) ≡ turned_away fault) }
+{
+    if datagram.kind == Kind::ToClient {
+        return Err(Fault::BadDatagram(Reason::Kind));
+    }
+    if datagram.session != session {
+        return Err(Fault::OtherSession);
+    }
+    Ok(())
+}
+
+// What is answered to a datagram of which so many acts were taken.
+fn answer(taking: Result<Taking, Fault>) -> Result<usize, Stop>
+    ensures answer { result ≡ answered taking }
+{
+    match taking {
+        Err(fault) => Err(Stop { fault, taken: 0 }),
+        Ok(taking) => match taking.stopped {
+            None => Ok(taking.taken),
+            Some(fault) => Err(Stop {
+                fault,
+                taken: taking.taken,
+            }),
+        },
+    }
+}
+
+impl Server {
+    /// The server of a new session of this id, of one pane that fills all rows but the last. No number was made and nothing has come.
+    /// `BadSize` outside 4 to 100 rows or 8 to 250 columns, `OutOfMemory`.
+    pub fn new(alloc: Global, session: u64, rows: u16, cols: u16) -> Result<Server, Fault>
+        ensures stands { IfOk result (λ server. Stands server (new_server session (record { rows = rows; cols = cols }))) }
+        ensures size { OnOk result (IsSessionSize rows cols) }
+        ensures bad_size { IsErrOf result Fault.BadSize ↔ (¬ IsSessionSize rows cols) }
+        ensures faults { IfErr result (λ fault. (fault ≡ Fault.BadSize) ⊎ (fault ≡ Fault.OutOfMemory)) }
+    {
+        let panes = Session::new(alloc, rows, cols)?;
+        let screen = Shot::blank(alloc, 24, 80)?;
+        Ok(Server {
+            id: session,
+            session: panes,
+            made: 0,
+            screen,
+            made_at: 0,
+            input: false,
+            clock: 0,
+            records: IndexMap::new(alloc),
+        })
+    }
+
+    /// Takes bytes that a pane's program sent. Refuses, in this order, `NoPane`, `TooLong` above 1,024 bytes, and `Busy` where the pane's
+    /// queue hasn't 12 free bytes for each; a refusal changes nothing. It takes no memory.
+    pub fn pane_bytes(&mut self, pane: u8, piece: &[u8]) -> Result<(), Fault>
+        ensures fed { (s : ServerOf) → Stands self.old s → Feeds s pane piece.now result self.new }
+        ensures err { OnErr result (self.new ≡ self.old) }
+    {
+        self.session.pane_bytes(pane, piece)?;
+        self.input = true;
+        Ok(())
+    }
+
+    // Takes the bytes of a datagram, as `datagram` does.
+    fn hear(&mut self, alloc: Global, from: Addr, bytes: &[u8], now: u64) -> Result<Taking, Fault>
+        ensures heard { (s : ServerOf) → Stands self.old s → Comes s (address_of from) bytes.now now (answered result) self.new }
+        ensures err { OnErr result (self.new ≡ self.old) }
+    {
+        let datagram = read_datagram(alloc, bytes)?;
+        admit(self.id, &datagram)?;
+        let moment = now.max(self.clock);
+        let taking = hear_in(
+            alloc,
+            &mut self.session,
+            &mut self.records,
+            from,
+            &datagram,
+            moment,
+        )?;
+        self.clock = moment;
+        self.input = self.input || taking.taken > 0;
+        Ok(taking)
+    }
+
+    /// Takes the bytes of a datagram that came from an address at a moment, does the new acts of an instruction that it makes whole, in
+    /// their order, and answers how many. Refuses `BadDatagram` for bytes that are no datagram to a server, and for a piece or an
+    /// instruction that is none; `OtherSession`; `ClientsFull` for a 65th client start; `OutOfMemory`; then nothing is changed. An act
+    /// that finds its queue full (`Busy`) or no memory (`OutOfMemory`) stops there: this act and later ones aren't taken, all before
+    /// stands, and the same datagram can bring the rest.
+    pub fn datagram(
+        &mut self,
+        alloc: Global,
+        from: Addr,
+        bytes: &[u8],
+        now: u64,
+    ) -> Result<usize, Stop>
+        ensures comes { (s : ServerOf) → Stands self.old s → Comes s (address_of from) bytes.now now result self.new }
+    {
+        answer(self.hear(alloc, from, bytes, now))
+    }
+
+    /// Copies the first bytes that wait for a pane's program, as many as fit, and tells how many. Refuses `NoPane`. It takes no memory.
+    pub fn output(&self, pane: u8, out: &mut [u8]) -> Result<usize, Fault>
+        ensures fault { (s : ServerOf) → Stands self.now s → fault_of result ≡ none_refused (output_at s.size s.log pane) }
+        ensures bytes { IfOk result (λ n. (s : ServerOf) → Stands self.now s
+            → IsCopied n out.old out.new (output_at s.size s.log pane)) }
+        ensures within { IfOk result (λ n. n ≤ length out.old) }
+        ensures err { OnErr result (out.new ≡ out.old) }
+    {
+        self.session.output(pane, out)
+    }
+
+    /// Takes the first n bytes that wait for a pane's program, at most all of them. Refuses `NoPane`. It takes no memory.
+    pub fn drain(&mut self, pane: u8, n: usize) -> Result<(), Fault>
+        requires within { IsWithin n (waiting_at self.old.state.terms pane) }
+        ensures drained { (s : ServerOf) → Stands self.old s → Drains s pane n result self.new }
+        ensures err { OnErr result (self.new ≡ self.old) }
+    {
+        self.session.drain(pane, n)?;
+        self.input = true;
+        Ok(())
+    }
+
+    /// How many bytes wait for the program of a pane that is there.
+    pub fn output_len(&self, pane: u8) -> Option<usize>
+        ensures len { (s : ServerOf) → Stands self.now s
+            → result ≡ option_map (λ (waiting : List ℕ). length waiting) (output_at s.size s.log pane) }
+        ensures waiting { result ≡ option_map (λ (waiting : List ℕ). length waiting) (waiting_at self.now.state.terms pane) }
+    {
+        self.session.output_len(pane)
+    }
+
+    /// How many more of 65,536 bytes may wait for the program of a pane that is there.
+    pub fn room(&self, pane: u8) -> Option<usize>
+        ensures room { (s : ServerOf) → Stands self.now s
+            → result ≡ option_map (λ (waiting : List ℕ). 65536 - length waiting) (output_at s.size s.log pane) }
+    {
+        self.session.room(pane)
+    }
+
+    /// The screen that the session shows now. Refuses want of memory.
+    pub fn face(&self, alloc: Global) -> Result<Shot, Fault>
+        ensures face { IfOk result (λ shot. (s : ServerOf) → Stands self.now s → shot ≡ face s.size s.log) }
+        ensures fault { IsOkUnless result Fault.OutOfMemory }
+    {
+        self.session.face(alloc)
+    }
+
+    // Whether a number is made at a moment.
+    fn makes(&self, now: u64) -> bool
+        ensures makes { result ≡ makes_at self.now now }
+    {
+        self.made == 0 || (self.input && has_passed(20, self.made_at, now))
+    }
+
+    // A tick that makes no number.
+    fn tell(&mut self, alloc: Global, now: u64) -> Result<Vec<(Addr, Vec<u8>)>, Fault>
+        ensures told { IfOk result (λ all. parcels_of all.items ≡ told_by self.old self.old.made self.old.screen now) }
+        ensures ticked { OnOk result (self.new ≡ record (ticked_by self.old self.old.made self.old.screen now) { clock = now }) }
+        ensures fit { OnOk result (is_any_spent self.old self.old.made self.old.screen now ≡ false) }
+        ensures fault { IfErr result (λ fault. (fault ≡ Fault.OutOfMemory) ⊎ ((fault ≡ Fault.Spent)
+            × (is_any_spent self.old self.old.made self.old.screen now ≡ true))) }
+        ensures err { OnErr result (self.new ≡ self.old) }
+    {
+        let news = News {
+            session: self.id,
+            number: self.made,
+            now,
+        };
+        let mut parcels = Vec::new(alloc);
+        tell_from(
+            alloc,
+            news,
+            &self.screen,
+            &mut self.records,
+            0,
+            &mut parcels,
+        )?;
+        self.clock = now;
+        Ok(parcels)
+    }
+
+    // A tick that makes a number of the session's face.
+    fn make(&mut self, alloc: Global, now: u64) -> Result<Vec<(Addr, Vec<u8>)>, Fault>
+        ensures made { IfOk result (λ all. (s : ServerOf) → Stands self.old s
+            → (parcels_of all.items ≡ told_by self.old (self.old.made + 1) (face s.size s.log) now)
+            × (self.new ≡ record (ticked_by self.old (self.old.made + 1) (face s.size s.log) now) {
+              made = self.old.made + 1;
+              screen = face s.size s.log;
+              made_at = now;
+              input = false;
+              clock = now;
+            }) × IsScreenshot (face s.size s.log) × (is_any_spent self.old (self.old.made + 1) (face s.size s.log) now ≡ false)
+            × (is_spent (self.old.made + 1) ≡ false)) }
+        ensures fault { (s : ServerOf) → Stands self.old s → IfErr result (λ fault. (fault ≡ Fault.OutOfMemory)
+            ⊎ ((fault ≡ Fault.Spent) × ((is_spent (self.old.made + 1)
+            || is_any_spent self.old (self.old.made + 1) (face s.size s.log) now) ≡ true))) }
+        ensures err { OnErr result (self.new ≡ self.old) }
+    {
+        let number = self.made + 1;
+        if number >= NUMBERS {
+            return Err(Fault::Spent);
+        }
+        let screen = self.session.face(alloc)?;
+        screen.facts();
+        let news = News {
+            session: self.id,
+            number,
+            now,
+        };
+        let mut parcels = Vec::new(alloc);
+        tell_from(alloc, news, &screen, &mut self.records, 0, &mut parcels)?;
+        self.made = number;
+        self.screen = screen;
+        self.made_at = now;
+        self.input = false;
+        self.clock = now;
+        Ok(parcels)
+    }
+
+    /// Makes a number of the session's face where none was made yet, or where an input came since the last was made and 20 ms passed;
+    /// offers the newest number to each client start that was heard less than 60,000 ms ago and has room for it; and answers the
+    /// datagrams to those that are due one, in the order of arrival, each with the address that it goes to. `Spent` exactly where a
+    /// number that it needs would be 2^62; `OutOfMemory`. A refusal changes nothing.
+    pub fn tick(&mut self, alloc: Global, now: u64) -> Result<Vec<(Addr, Vec<u8>)>, Fault>
+        ensures ticked { (s : ServerOf) → Stands self.old s → Ticks s now result self.new }
+        ensures err { OnErr result (self.new ≡ self.old) }
+    {
+        let moment = now.max(self.clock);
+        if self.makes(moment) {
+            self.make(alloc, moment)
+        } else {
+            self.tell(alloc, moment)
+        }
+    }
+}
