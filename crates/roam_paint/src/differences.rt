@@ -43,6 +43,7 @@ pub fn differs(old: &Shot, new: &Shot, row: usize, col: usize) -> bool
 /// Whether both screens have one size and no place of a row differs.
 pub fn is_same_row(old: &Shot, new: &Shot, row: usize) -> bool
     requires row { row < new.now.rows }
+    ensures size { result ≡ true → same_size old.now new.now ≡ true }
     ensures same { result ≡ true → (col : ℕ) → differs old.now new.now row col ≡ false }
     ensures other { same_size old.now new.now ≡ true → ((col : ℕ) → differs old.now new.now row col ≡ false) → result ≡ true }
 {
