@@ -2,9 +2,6 @@ pub mod Sames
 pub mod Places
 pub mod Spellings
 pub mod Loops
-pub mod Styles
-pub mod Cells
-pub mod Steps
 pub mod Walk
 pub mod Whole
 pub mod Bytes
@@ -13,7 +10,6 @@ pub mod Text
 pub mod Rests
 pub mod Escapes
 pub mod Replaced
-pub mod Sizes
 pub mod Opens
 pub mod Placings
 pub mod Worked

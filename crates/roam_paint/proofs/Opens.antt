@@ -1,26 +1,26 @@
 -- ESC c, read in any state, makes a ground terminal with a blank screen.
-use Rattle.std.proofs.Common.{◌≡◌, ◌≤◌, ◌<◌, ℕ, zero, suc, ◌+◌, ◌*◌, Bool, true, false, ◌&&◌, cond, nat_lt, List, [], ◌∷◌, ◌++◌, map, length, get_or, replicate, refl, sym, ap, ◌∙◌, subst, arith, append_assoc, length-append}
-use Rattle.std.specs.Prelude.{if◌then◌else◌, ◌==◌}
+use Rattle.std.proofs.Common.{◌≡◌, ◌≤◌, ◌<◌, ℕ, Bool, true, false, cond, nat_lt, List, [], ◌∷◌, ◌++◌, map, length, refl, sym, ap, ◌∙◌, subst, arith, append_assoc, length-append}
+use Rattle.std.specs.Prelude.{◌==◌}
 use Rattle.std.proofs.lemmas.List.{append-nil, map-append}
 use Rattle.bstr.specs.Utf8.{Decoded, decoded, bad, good, second, code_of_2}
-use Rattle.roam_cells.specs.Glyph.{Glyph, blank}
-use Rattle.roam_cells.specs.Place.{cell_at}
 use Rattle.roam_cells.specs.Screenshot.{blank_screenshot}
-use Rattle.roam_grid.specs.Frames.{restarted}
 use Rattle.roam_text.specs.Functions.{functions, functions_of}
 use Rattle.roam_text.specs.Log.{Item, Byte, Sign, character, bytes_of, signs, settled, unfinished, is_unfinished}
 use Rattle.roam_text.proofs.Bytes.{is_unfinished-true, unfinished-short, unfinished-unfinished, settled-append, unfinished-append, one-ascii, push-cut}
 use Rattle.roam_text.proofs.Fronts.{functions-nil, functions-step}
-use Rattle.roam_term.specs.Terminal.{Live, changed, reset, started, term}
+use Rattle.roam_term.specs.Terminal.{Live, changed, started, term}
+use Rattle.roam_term.specs.GroundFunctions.{IsBegun}
+use Rattle.roam_term.proofs.Grounds.{all_is_reset}
 use Rattle.roam_term.proofs.Runs.{run-live}
-use Rattle.roam_paint.specs.Ground.{AtRest, IsGround, ShowsScreen, IsSized, IsOpened, OpenedBeginsBlank}
+use Rattle.roam_paint.specs.Ground.{AtRest, IsOpened, OpenedBeginsBlank}
+use Rattle.roam_term.specs.Ground.{IsGround, ShowsScreen, IsSized}
 use Rattle.roam_paint.specs.Painting.{opened}
-use Rattle.roam_paint.specs.Sequences.{reset_all}
+use Rattle.roam_term.specs.ControlFunctions.{reset_all}
 use Rattle.roam_paint.proofs.Bytes.{signs-bytes, unfinished-bytes}
 use Rattle.roam_paint.proofs.Escapes.{functions-escape}
 use Rattle.roam_paint.proofs.Replaced.{printed_if, functions-graphic-after}
-use Rattle.roam_paint.proofs.Sizes.{size-printed}
-use Rattle.roam_paint.proofs.Steps.{acted, acted-append}
+use Rattle.roam_term.proofs.PrintedSizes.{size-printed}
+use Rattle.roam_term.proofs.Steps.{acted, acted-append}
 
 -- ---- ESC cuts an unfinished character
 
@@ -132,12 +132,6 @@ module _ (log : List Item) where
   size-by true l = size-printed 0xFFFD l
   size-by false l = record { rows = refl; cols = refl }
 
-  -- ---- RIS
-
-  resets : (l : Live) → changed reset_all l ≡ reset l
-  unfolding changed
-  resets l = refl
-
   module _ (rows cols lines : ℕ) where
     abbrev start : Live
     start = (started rows cols lines).live
@@ -152,7 +146,7 @@ module _ (log : List Item) where
     abbrev cut_off : Live
     cut_off = acted (printed_if 0xFFFD fallen.0) before
 
-    term-later : (term rows cols lines later).live ≡ reset cut_off
+    term-later : (term rows cols lines later).live ≡ changed reset_all cut_off
     unfolding term
     term-later =
         run-live (started rows cols lines) (functions_of later)
@@ -161,71 +155,27 @@ module _ (log : List Item) where
         ∙ ap (λ fs. changed reset_all (acted fs start)) fallen.1
         ∙ ap (changed reset_all) (acted-append (functions_of log) (printed_if 0xFFFD fallen.0) start)
         ∙ ap (λ l. changed reset_all (acted (printed_if 0xFFFD fallen.0) l)) (sym (run-live (started rows cols lines) (functions_of log)))
-        ∙ resets cut_off
 
     sized : IsSized before cut_off
     sized = size-by fallen.0 before
 
-    all_blank : (n k : ℕ) → get_or (replicate n blank) k blank ≡ blank
-    all_blank zero k = refl
-    all_blank (suc n) zero = refl
-    all_blank (suc n) (suc k) = all_blank n k
-
-    blank_if : (b : Bool) (x : Glyph) → x ≡ blank → (if b then x else blank) ≡ blank
-    blank_if true x e = e
-    blank_if false x e = refl
-
-    ground : 1 ≤ before.screen.rows → 1 ≤ before.screen.cols → IsGround (reset cut_off)
-    unfolding restarted
-    ground tall broad =
-        let r = sized.rows in
-        let c = sized.cols in
-        record {
-          main = refl;
-          row_in = omega (arith, tall, r);
-          col_in = omega (arith, broad, c);
-          top = refl;
-          bottom = refl;
-          ascii = refl;
-          locked = refl;
-          single = refl;
-          replaces = refl;
-          origin = refl;
-          reverse = refl;
-          wraps = refl;
-          pen = refl;
-        }
-
-    shows : (height width : ℕ) → height ≤ before.screen.rows → width ≤ before.screen.cols → ShowsScreen (reset cut_off) (blank_screenshot height width)
-    unfolding restarted
-    shows height width low narrow =
-        let r = sized.rows in
-        let c = sized.cols in
-        record {
-          rows = omega (arith, low, r);
-          cols = omega (arith, narrow, c);
-          places = λ i j p q.
-              all_blank (cut_off.screen.rows * cut_off.screen.cols) (i * cut_off.screen.cols + j)
-              ∙ sym (blank_if (nat_lt i height && nat_lt j width) (cell_at width (replicate (height * width) blank) i j)
-              (all_blank (height * width) (i * width + j)));
-          cursor_row = refl;
-          cursor_col = refl;
-          visible = refl;
-        }
-
-    size-reset : IsSized before (reset cut_off)
-    unfolding restarted
-    size-reset = record { rows = sized.rows; cols = sized.cols }
+    begins : 1 ≤ before.screen.rows → 1 ≤ before.screen.cols → IsBegun cut_off (changed reset_all cut_off)
+    begins tall broad = let r = sized.rows in let c = sized.cols in all_is_reset cut_off (omega (arith, tall, r)) (omega (arith, broad, c))
 
     pub opens : 1 ≤ before.screen.rows → 1 ≤ before.screen.cols → IsOpened rows cols lines log
-    opens tall broad = record {
-      displays = λ height width low narrow. record {
-        reader = rests-later;
-        ground = subst IsGround (sym term-later) (ground tall broad);
-        shows = subst (λ l. ShowsScreen l (blank_screenshot height width)) (sym term-later) (shows height width low narrow);
-      };
-      size = subst (λ l. IsSized before l) (sym term-later) size-reset;
-    }
+    opens tall broad =
+        let r = sized.rows in
+        let c = sized.cols in
+        let b = begins tall broad in
+        record {
+          displays = λ height width low narrow. record {
+            reader = rests-later;
+            ground = subst IsGround (sym term-later) b.ground;
+            shows = subst (λ l. ShowsScreen l (blank_screenshot height width)) (sym term-later)
+                (b.shows height width (omega (arith, low, r)) (omega (arith, narrow, c)));
+          };
+          size = subst (λ l. IsSized before l) (sym term-later) (record { rows = b.size.rows ∙ r; cols = b.size.cols ∙ c });
+        }
 
 pub opened_begins_blank : OpenedBeginsBlank
 opened_begins_blank rows cols lines log tall broad = opens log rows cols lines tall broad
