@@ -4,12 +4,9 @@ pub mod Spellings
 pub mod Loops
 pub mod Walk
 pub mod Whole
-pub mod Bytes
 pub mod Readings
 pub mod Text
 pub mod Rests
-pub mod Escapes
-pub mod Replaced
 pub mod Opens
 pub mod Placings
 pub mod Worked

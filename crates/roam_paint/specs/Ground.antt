@@ -1,18 +1,13 @@
 -- A ground terminal that shows a screen, and what leads it from one screen to another.
-use Rattle.std.specs.Prelude.{◌≡◌, ℕ, ◌≤◌, List, [], ◌++◌, map}
+use Rattle.std.specs.Prelude.{ℕ, ◌≤◌, List, ◌++◌, map}
 use Rattle.roam_cells.specs.Screenshot.{Screenshot, IsScreenshot, blank_screenshot}
-use Rattle.roam_text.specs.Functions.{functions}
-use Rattle.roam_text.specs.Log.{Item, Byte, Sign, bytes_of, signs, unfinished}
+use Rattle.roam_text.specs.Log.{Item, Byte}
+use Rattle.roam_text.specs.Resting.{AtRest}
 use Rattle.roam_text.specs.Stands.{View, Stands, IsAtRest}
 use Rattle.roam_term.specs.Ground.{IsGround, ShowsScreen, IsSized}
 use Rattle.roam_term.specs.Terminal.{term}
 use Rattle.roam_paint.specs.Colours.{AreIndexed}
 use Rattle.roam_paint.specs.Painting.{painted, opened}
-
--- the reader of a log is between characters and between sequences: what comes is read as if nothing had come before
-pub record AtRest (log : List Item) : Type 0 where
-  pub whole : unfinished (bytes_of log) ≡ []
-  pub to_come : (rest : List Sign) → functions (signs log ++ rest) ≡ functions (signs log) ++ functions rest
 
 -- a size, a number of history lines and a log make a ground terminal that shows a screen
 pub record Displays (rows cols lines : ℕ) (log : List Item) (p : Screenshot) : Type 0 where
