@@ -14,8 +14,10 @@ use Rattle.roam_text.specs.declared.functions.Function.{Function}
 use Rattle.roam_text.specs.declared.functions.Function.TheVariants.{Print}
 use Rattle.roam_cells.specs.Screenshot.{Screenshot}
 use Rattle.roam_paint.specs.Same.{same_style}
-use Rattle.roam_paint.specs.Sequences.{place_cursor, set_style, spelled}
-use Rattle.roam_paint.specs.Painting.{shown_at, same_size, differs, is_drawn, goes_on, placing, styling, drawn_cell, style_after, style_in, style_at, drawn_row, drawn_rows, opening, closing, drawn, painted}
+use Rattle.roam_term.specs.ControlFunctions.{place_cursor, set_style}
+use Rattle.roam_paint.specs.Sequences.{spelled}
+use Rattle.roam_term.specs.Ground.{shown_at}
+use Rattle.roam_paint.specs.Painting.{same_size, differs, is_drawn, goes_on, placing, styling, drawn_cell, style_after, style_in, style_at, drawn_row, drawn_rows, opening, closing, drawn, painted}
 use Rattle.roam_paint.specs.Texts.{cell_text, place_text, row_text, row_style, rows_text, rows_style, opening_text, closing_text}
 
 pub row_start : (old new : Screenshot) (r : ℕ) (g : Style) → row_text old new r g 0 ≡ []

@@ -1,231 +1,72 @@
 -- ESC c, read in any state, makes a ground terminal with a blank screen.
-use Rattle.std.proofs.Common.{◌≡◌, ◌≤◌, ◌<◌, ℕ, zero, suc, ◌+◌, ◌*◌, Bool, true, false, ◌&&◌, cond, nat_lt, List, [], ◌∷◌, ◌++◌, map, length, get_or, replicate, refl, sym, ap, ◌∙◌, subst, arith, append_assoc, length-append}
-use Rattle.std.specs.Prelude.{if◌then◌else◌, ◌==◌}
-use Rattle.std.proofs.lemmas.List.{append-nil, map-append}
-use Rattle.bstr.specs.Utf8.{Decoded, decoded, bad, good, second, code_of_2}
-use Rattle.roam_cells.specs.Glyph.{Glyph, blank}
-use Rattle.roam_cells.specs.Place.{cell_at}
+use Rattle.std.proofs.Common.{◌≡◌, ◌≤◌, ℕ, Bool, true, false, List, [], ◌∷◌, ◌++◌, map, refl, sym, ap, ◌∙◌, subst, arith}
 use Rattle.roam_cells.specs.Screenshot.{blank_screenshot}
-use Rattle.roam_grid.specs.Frames.{restarted}
-use Rattle.roam_text.specs.Functions.{functions, functions_of}
-use Rattle.roam_text.specs.Log.{Item, Byte, Sign, character, bytes_of, signs, settled, unfinished, is_unfinished}
-use Rattle.roam_text.proofs.Bytes.{is_unfinished-true, unfinished-short, unfinished-unfinished, settled-append, unfinished-append, one-ascii, push-cut}
-use Rattle.roam_text.proofs.Fronts.{functions-nil, functions-step}
-use Rattle.roam_term.specs.Terminal.{Live, changed, reset, started, term}
+use Rattle.roam_text.specs.Functions.{functions_of}
+use Rattle.roam_text.specs.Log.{Item, Byte}
+use Rattle.roam_text.proofs.Cuts.{rests-later, functions-reset}
+use Rattle.roam_text.proofs.Graphics.{printed_if}
+use Rattle.roam_term.specs.ControlFunctions.{reset_all}
+use Rattle.roam_term.specs.Ground.{ShowsScreen, IsGround, IsSized}
+use Rattle.roam_term.specs.GroundFunctions.{IsBegun}
+use Rattle.roam_term.specs.Terminal.{Live, changed, started, term}
+use Rattle.roam_term.proofs.Grounds.{all_is_reset}
+use Rattle.roam_term.proofs.PrintedSizes.{size-printed}
 use Rattle.roam_term.proofs.Runs.{run-live}
-use Rattle.roam_paint.specs.Ground.{AtRest, IsGround, ShowsScreen, IsSized, IsOpened, OpenedBeginsBlank}
+use Rattle.roam_term.proofs.Steps.{acted, acted-append}
+use Rattle.roam_paint.specs.Ground.{IsOpened, OpenedBeginsBlank}
 use Rattle.roam_paint.specs.Painting.{opened}
-use Rattle.roam_paint.specs.Sequences.{reset_all}
-use Rattle.roam_paint.proofs.Bytes.{signs-bytes, unfinished-bytes}
-use Rattle.roam_paint.proofs.Escapes.{functions-escape}
-use Rattle.roam_paint.proofs.Replaced.{printed_if, functions-graphic-after}
-use Rattle.roam_paint.proofs.Sizes.{size-printed}
-use Rattle.roam_paint.proofs.Steps.{acted, acted-append}
 
--- ---- ESC cuts an unfinished character
+size-by : (t : Bool) (l : Live) → IsSized l (acted (printed_if 0xFFFD t) l)
+size-by true l = size-printed 0xFFFD l
+size-by false l = record { rows = refl; cols = refl }
 
-no_second : (p q r s : Bool) → cond p false (cond q false (cond r false (cond s false false))) ≡ false
-no_second true q r s = refl
-no_second false true r s = refl
-no_second false false true s = refl
-no_second false false false true = refl
-no_second false false false false = refl
-
-second-escape : (a : ℕ) → second a 0x1B ≡ false
-second-escape a = no_second (a == 0xE0) (a == 0xED) (a == 0xF0) (a == 0xF4)
-
--- an unfinished character takes nothing of an ESC that follows
-same-decoded : (t : List ℕ) → length t < 4 → 0 < length t → decoded (t ++ 0x1B ∷ []) ≡ decoded t
-same-decoded [] few some = absurd (omega (arith, some))
-same-decoded (a ∷ []) few some =
-    ap (λ b. cond (nat_lt a 0x80) (good a 1) (cond (nat_lt a 0xC2) (bad 1) (cond (nat_lt 0xF4 a) (bad 1)
-    (cond b (cond (nat_lt a 0xE0) (good (code_of_2 a 0x1B) 2) (bad 2)) (bad 1))))) (second-escape a)
-same-decoded (a ∷ b ∷ []) few some = refl
-same-decoded (a ∷ b ∷ c ∷ []) few some = refl
-same-decoded (a ∷ b ∷ c ∷ d ∷ t) few some = absurd (omega (arith, few))
-
-abbrev replaced_if : Bool → List ℕ
-replaced_if true = 0xFFFD ∷ []
-replaced_if false = []
-
-record Cuts (t : List ℕ) : Type 0 where
-  is_cut : Bool
-  chars : settled (t ++ 0x1B ∷ []) ≡ replaced_if is_cut ++ 0x1B ∷ []
-  pending : unfinished (t ++ 0x1B ∷ []) ≡ []
-
-cuts : (t : List ℕ) → is_unfinished t ≡ true → Cuts t
-cuts [] h = let one = one-ascii 0x1B (omega arith) in record { is_cut = false; chars = sym one.chars; pending = sym one.pending }
-cuts (a ∷ t) h =
-    let all = a ∷ t in
-    let u = is_unfinished-true all h in
-    let same = same-decoded all (unfinished-short all h) (omega arith) in
-    let whole = u.size in
-    let size_is : (decoded (all ++ 0x1B ∷ [])).size ≡ (decoded all).size = ap (λ (x : Decoded). x.size) same in
-    let long = length-append all (0x1B ∷ []) in
-    let settles = push-cut all 0x1B h (omega arith) (ap (λ (x : Decoded). x.char) same ∙ u.none) (omega (arith, whole, size_is, long)) (0x1B ∷ []) []
-    (one-ascii 0x1B (omega arith)) in
-    record { is_cut = true; chars = sym settles.chars; pending = sym settles.pending }
-
-module _ (t : List ℕ) (h : is_unfinished t ≡ true) where
-  abbrev cut : Cuts t
-  cut = cuts t h
-
-  settled-opened : settled (t ++ 0x1B ∷ 0x63 ∷ []) ≡ replaced_if cut.is_cut ++ 0x1B ∷ 0x63 ∷ []
-  settled-opened =
-      ap settled (sym (append_assoc t (0x1B ∷ []) (0x63 ∷ []))) ∙ settled-append (t ++ 0x1B ∷ []) (0x63 ∷ [])
-      ∙ ap (λ l. l ++ settled (unfinished (t ++ 0x1B ∷ []) ++ 0x63 ∷ [])) cut.chars
-      ∙ ap (λ l. (replaced_if cut.is_cut ++ 0x1B ∷ []) ++ settled (l ++ 0x63 ∷ [])) cut.pending
-      ∙ ap (λ l. (replaced_if cut.is_cut ++ 0x1B ∷ []) ++ l) (sym (one-ascii 0x63 (omega arith)).chars)
-      ∙ append_assoc (replaced_if cut.is_cut) (0x1B ∷ []) (0x63 ∷ [])
-
-  unfinished-opened : unfinished (t ++ 0x1B ∷ 0x63 ∷ []) ≡ []
-  unfinished-opened =
-      ap unfinished (sym (append_assoc t (0x1B ∷ []) (0x63 ∷ []))) ∙ unfinished-append (t ++ 0x1B ∷ []) (0x63 ∷ [])
-      ∙ ap (λ l. unfinished (l ++ 0x63 ∷ [])) cut.pending ∙ sym (one-ascii 0x63 (omega arith)).pending
-
--- ---- the functions of a log that is followed by ESC c
-
-module _ (log : List Item) where
-  abbrev end : List ℕ
-  end = unfinished (bytes_of log)
-
-  abbrev is_cut : Bool
-  is_cut = (cut end (unfinished-unfinished (bytes_of log))).is_cut
-
+module _ (log : List Item) (rows cols lines : ℕ) where
   abbrev later : List Item
   later = log ++ map Byte opened
 
-  -- all signs before the ESC
-  abbrev known : List Sign
-  known = signs log ++ map character (replaced_if is_cut)
+  abbrev start : Live
+  start = (started rows cols lines).live
 
-  signs-later : signs later ≡ known ++ character 0x1B ∷ character 0x63 ∷ []
-  signs-later =
-      signs-bytes log opened
-      ∙ ap (λ l. signs log ++ map character l) (settled-opened end (unfinished-unfinished (bytes_of log)))
-      ∙ ap (λ l. signs log ++ l) (map-append character (replaced_if is_cut) (0x1B ∷ 0x63 ∷ []))
-      ∙ sym (append_assoc (signs log) (map character (replaced_if is_cut)) (character 0x1B ∷ character 0x63 ∷ []))
+  abbrev before : Live
+  before = (term rows cols lines log).live
 
-  after-later : (more : List Sign) → functions (signs later ++ more) ≡ functions known ++ reset_all ∷ functions more
-  after-later more =
-      ap (λ l. functions (l ++ more)) signs-later
-      ∙ ap functions (append_assoc known (character 0x1B ∷ character 0x63 ∷ []) more)
-      ∙ functions-escape 0x1B (character 0x63 ∷ more) known
-      ∙ ap (λ l. functions known ++ l) (functions-step (character 0x1B) (character 0x63 ∷ more))
+  -- whether a character that ESC cuts is printed as U+FFFD
+  abbrev is_printed : Bool
+  is_printed = (functions-reset log).0
 
-  functions-later : functions_of later ≡ functions known ++ reset_all ∷ []
-  functions-later = ap functions (sym (append-nil (signs later))) ∙ after-later [] ∙ ap (λ l. functions known ++ reset_all ∷ l) functions-nil
+  -- the terminal that is reset
+  abbrev cut_off : Live
+  cut_off = acted (printed_if 0xFFFD is_printed) before
 
-  rests-later : AtRest later
-  rests-later = record {
-    whole = unfinished-bytes log opened ∙ unfinished-opened end (unfinished-unfinished (bytes_of log));
-    to_come = λ more. after-later more ∙ sym (append_assoc (functions known) (reset_all ∷ []) (functions more))
-        ∙ sym (ap (λ l. l ++ functions more) functions-later);
-  }
+  term-later : (term rows cols lines later).live ≡ changed reset_all cut_off
+  unfolding term
+  term-later =
+      run-live (started rows cols lines) (functions_of later)
+      ∙ ap (λ fs. acted fs start) (functions-reset log).1
+      ∙ acted-append (functions_of log ++ printed_if 0xFFFD is_printed) (reset_all ∷ []) start
+      ∙ ap (changed reset_all) (acted-append (functions_of log) (printed_if 0xFFFD is_printed) start)
+      ∙ ap (λ l. changed reset_all (acted (printed_if 0xFFFD is_printed) l)) (sym (run-live (started rows cols lines) (functions_of log)))
 
-  -- what was known gives what the log gave, and perhaps a U+FFFD
-  known-by : (b : Bool) → (t : Bool) × (functions (signs log ++ map character (replaced_if b)) ≡ functions_of log ++ printed_if 0xFFFD t)
-  known-by true = functions-graphic-after 0xFFFD (signs log)
-  known-by false = (false, ap functions (append-nil (signs log)) ∙ sym (append-nil (functions_of log)))
+  sized : IsSized before cut_off
+  sized = size-by is_printed before
 
-  size-by : (t : Bool) (l : Live) → IsSized l (acted (printed_if 0xFFFD t) l)
-  size-by true l = size-printed 0xFFFD l
-  size-by false l = record { rows = refl; cols = refl }
+  begins : 1 ≤ before.screen.rows → 1 ≤ before.screen.cols → IsBegun cut_off (changed reset_all cut_off)
+  begins tall broad = let r = sized.rows in let c = sized.cols in all_is_reset cut_off (omega (arith, tall, r)) (omega (arith, broad, c))
 
-  -- ---- RIS
-
-  resets : (l : Live) → changed reset_all l ≡ reset l
-  unfolding changed
-  resets l = refl
-
-  module _ (rows cols lines : ℕ) where
-    abbrev start : Live
-    start = (started rows cols lines).live
-
-    abbrev before : Live
-    before = (term rows cols lines log).live
-
-    abbrev fallen : (t : Bool) × (functions known ≡ functions_of log ++ printed_if 0xFFFD t)
-    fallen = known-by is_cut
-
-    -- the terminal that is reset
-    abbrev cut_off : Live
-    cut_off = acted (printed_if 0xFFFD fallen.0) before
-
-    term-later : (term rows cols lines later).live ≡ reset cut_off
-    unfolding term
-    term-later =
-        run-live (started rows cols lines) (functions_of later)
-        ∙ ap (λ fs. acted fs start) functions-later
-        ∙ acted-append (functions known) (reset_all ∷ []) start
-        ∙ ap (λ fs. changed reset_all (acted fs start)) fallen.1
-        ∙ ap (changed reset_all) (acted-append (functions_of log) (printed_if 0xFFFD fallen.0) start)
-        ∙ ap (λ l. changed reset_all (acted (printed_if 0xFFFD fallen.0) l)) (sym (run-live (started rows cols lines) (functions_of log)))
-        ∙ resets cut_off
-
-    sized : IsSized before cut_off
-    sized = size-by fallen.0 before
-
-    all_blank : (n k : ℕ) → get_or (replicate n blank) k blank ≡ blank
-    all_blank zero k = refl
-    all_blank (suc n) zero = refl
-    all_blank (suc n) (suc k) = all_blank n k
-
-    blank_if : (b : Bool) (x : Glyph) → x ≡ blank → (if b then x else blank) ≡ blank
-    blank_if true x e = e
-    blank_if false x e = refl
-
-    ground : 1 ≤ before.screen.rows → 1 ≤ before.screen.cols → IsGround (reset cut_off)
-    unfolding restarted
-    ground tall broad =
-        let r = sized.rows in
-        let c = sized.cols in
-        record {
-          main = refl;
-          row_in = omega (arith, tall, r);
-          col_in = omega (arith, broad, c);
-          top = refl;
-          bottom = refl;
-          ascii = refl;
-          locked = refl;
-          single = refl;
-          replaces = refl;
-          origin = refl;
-          reverse = refl;
-          wraps = refl;
-          pen = refl;
-        }
-
-    shows : (height width : ℕ) → height ≤ before.screen.rows → width ≤ before.screen.cols → ShowsScreen (reset cut_off) (blank_screenshot height width)
-    unfolding restarted
-    shows height width low narrow =
-        let r = sized.rows in
-        let c = sized.cols in
-        record {
-          rows = omega (arith, low, r);
-          cols = omega (arith, narrow, c);
-          places = λ i j p q.
-              all_blank (cut_off.screen.rows * cut_off.screen.cols) (i * cut_off.screen.cols + j)
-              ∙ sym (blank_if (nat_lt i height && nat_lt j width) (cell_at width (replicate (height * width) blank) i j)
-              (all_blank (height * width) (i * width + j)));
-          cursor_row = refl;
-          cursor_col = refl;
-          visible = refl;
-        }
-
-    size-reset : IsSized before (reset cut_off)
-    unfolding restarted
-    size-reset = record { rows = sized.rows; cols = sized.cols }
-
-    pub opens : 1 ≤ before.screen.rows → 1 ≤ before.screen.cols → IsOpened rows cols lines log
-    opens tall broad = record {
-      displays = λ height width low narrow. record {
-        reader = rests-later;
-        ground = subst IsGround (sym term-later) (ground tall broad);
-        shows = subst (λ l. ShowsScreen l (blank_screenshot height width)) (sym term-later) (shows height width low narrow);
-      };
-      size = subst (λ l. IsSized before l) (sym term-later) size-reset;
-    }
+  pub opens : 1 ≤ before.screen.rows → 1 ≤ before.screen.cols → IsOpened rows cols lines log
+  opens tall broad =
+      let r = sized.rows in
+      let c = sized.cols in
+      let b = begins tall broad in
+      record {
+        displays = λ height width low narrow. record {
+          reader = rests-later log;
+          ground = subst IsGround (sym term-later) b.ground;
+          shows = subst (λ l. ShowsScreen l (blank_screenshot height width)) (sym term-later)
+              (b.shows height width (omega (arith, low, r)) (omega (arith, narrow, c)));
+        };
+        size = subst (λ l. IsSized before l) (sym term-later) (record { rows = b.size.rows ∙ r; cols = b.size.cols ∙ c });
+      }
 
 pub opened_begins_blank : OpenedBeginsBlank
 opened_begins_blank rows cols lines log tall broad = opens log rows cols lines tall broad

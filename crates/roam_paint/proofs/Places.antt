@@ -9,7 +9,8 @@ use Rattle.roam_cells.specs.Screenshot.{Screenshot}
 use Rattle.roam_cells.proofs.Places.{row_from}
 use Rattle.roam_rows.proofs.Lifting.{part_at}
 use Rattle.roam_paint.specs.Same.{same}
-use Rattle.roam_paint.specs.Painting.{shown_at, same_size, painted_over, differs}
+use Rattle.roam_term.specs.Ground.{shown_at}
+use Rattle.roam_paint.specs.Painting.{same_size, painted_over, differs}
 use Rattle.roam_paint.proofs.Sames.{same-true, same-same}
 
 -- ---- what a screen shows inside it and outside it

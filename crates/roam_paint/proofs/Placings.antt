@@ -8,8 +8,9 @@ use Rattle.roam_cells.specs.declared.styles.Style.{Style}
 use Rattle.roam_text.specs.declared.functions.Function.{Function}
 use Rattle.roam_text.specs.declared.functions.Function.TheVariants.{Print, Csi}
 use Rattle.roam_paint.specs.Same.{same_style}
-use Rattle.roam_paint.specs.Sequences.{place_cursor, set_style}
-use Rattle.roam_paint.specs.Painting.{Places, shown_at, differs, is_drawn, goes_on, placing, styling, drawn_cell, style_in, drawn_row, style_at, drawn_rows}
+use Rattle.roam_term.specs.ControlFunctions.{place_cursor, set_style}
+use Rattle.roam_paint.specs.Painting.{Places, differs, is_drawn, goes_on, placing, styling, drawn_cell, style_in, drawn_row, style_at, drawn_rows}
+use Rattle.roam_term.specs.Ground.{shown_at}
 use Rattle.roam_paint.specs.Runs.{BeginsRun, IsAmong, CursorIsPlacedByRuns}
 use Rattle.roam_paint.proofs.Walk.{wide_text-some, drawn_second}
 use Rattle.roam_paint.proofs.Whole.{wide_shown, half_shown}

@@ -22,7 +22,8 @@ use Rattle.roam_text.specs.ControlSequences.{Header, in_control_sequence, body_o
 use Rattle.roam_text.specs.Functions.{functions}
 use Rattle.roam_text.proofs.Fronts.{functions-step}
 use Rattle.roam_text.proofs.Entries.{functions-plain, functions-graphic}
-use Rattle.roam_paint.specs.Sequences.{parameter_text, spelled, csi}
+use Rattle.roam_paint.specs.Sequences.{parameter_text, spelled}
+use Rattle.roam_term.specs.ControlFunctions.{csi}
 
 -- ---- digits
 

@@ -5,7 +5,8 @@ use Rattle.std.specs.Prelude.{decimal}
 use Rattle.roam_cells.specs.declared.styles.Style.{Style}
 use Rattle.roam_cells.specs.declared.styles.Colour.{Colour}
 use Rattle.roam_cells.specs.declared.styles.Colour.TheVariants.{Default, Index}
-use Rattle.roam_paint.specs.Sequences.{parameter_text, flag_code, colour_codes, style_codes, spelled, place_cursor, set_style}
+use Rattle.roam_paint.specs.Sequences.{parameter_text, spelled}
+use Rattle.roam_term.specs.ControlFunctions.{flag_code, colour_codes, style_codes, place_cursor, set_style}
 use Rattle.roam_paint.specs.Texts.{code_text, colour_text}
 
 pub place_cursor_text : (b : List ℕ) (row col : ℕ) → ((((b ++ 0x1B ∷ 0x5B ∷ []) ++ decimal row) ++ 0x3B ∷ []) ++ decimal col) ++ 0x48 ∷ [] ≡ b ++ spelled (place_cursor row col)

@@ -21,14 +21,17 @@ use Rattle.roam_text.specs.Functions.{functions, functions_of}
 use Rattle.roam_text.proofs.Fronts.{functions-nil}
 use Rattle.roam_term.specs.Terminal.{Live, Terminal, run, started, term}
 use Rattle.roam_term.proofs.Runs.{run-append, run-live}
-use Rattle.roam_paint.specs.Colours.{IsColour, AreIndexed}
-use Rattle.roam_paint.specs.Ground.{IsGround, ShowsScreen, AtRest, PaintedLeadsOver}
+use Rattle.roam_term.specs.ControlFunctions.{IsColour, flag_code, colour_codes, set_style, place_cursor, hide_cursor, show_cursor, erase_all}
+use Rattle.roam_paint.specs.Colours.{AreIndexed}
+use Rattle.roam_term.specs.Ground.{IsGround, ShowsScreen, shown_at}
+use Rattle.roam_text.specs.Resting.{AtRest}
+use Rattle.roam_paint.specs.Ground.{PaintedLeadsOver}
 use Rattle.roam_paint.specs.Same.{same_style}
-use Rattle.roam_paint.specs.Sequences.{flag_code, colour_codes, set_style, place_cursor, hide_cursor, show_cursor, erase_all, spelled}
-use Rattle.roam_paint.specs.Painting.{Places, is_drawn, goes_on, placing, styling, drawn_cell, style_in, drawn_row, style_at, drawn_rows, same_size, differs, shown_at, opening, closing, drawn, painted}
-use Rattle.roam_paint.proofs.Bytes.{signs-encoded, bytes-encoded}
+use Rattle.roam_paint.specs.Sequences.{spelled}
+use Rattle.roam_paint.specs.Painting.{Places, is_drawn, goes_on, placing, styling, drawn_cell, style_in, drawn_row, style_at, drawn_rows, same_size, differs, opening, closing, drawn, painted}
+use Rattle.roam_text.proofs.Encoded.{signs-encoded, bytes-encoded}
 use Rattle.roam_paint.proofs.Readings.{AreSmall, IsFinal, Legible, legible-plain, legible-private, legible-print}
-use Rattle.roam_paint.proofs.Steps.{acted}
+use Rattle.roam_term.proofs.Steps.{acted}
 use Rattle.roam_paint.proofs.Walk.{AreScalars, IsPaintable}
 use Rattle.roam_paint.proofs.Whole.{paintable_shown, goes_over}
 

@@ -12,13 +12,12 @@ use Rattle.roam_rows.specs.Writing.{written}
 use Rattle.roam_grid.specs.Writing.{columns}
 use Rattle.roam_text.specs.declared.functions.Function.TheVariants.{Print}
 use Rattle.roam_term.specs.Terminal.{Live, changed}
-use Rattle.roam_paint.specs.Colours.{IsColour}
+use Rattle.roam_term.specs.ControlFunctions.{IsColour, place_cursor, set_style}
 use Rattle.roam_paint.specs.Same.{same_style}
-use Rattle.roam_paint.specs.Sequences.{place_cursor, set_style}
 use Rattle.roam_paint.specs.Painting.{Places, is_drawn, goes_on, placing, styling, drawn_cell, style_after, style_in, drawn_row, style_at, drawn_rows}
 use Rattle.roam_paint.proofs.Sames.{same_style-true}
-use Rattle.roam_paint.proofs.Cells.{first_of, first_wide, by, written_half, written_other}
-use Rattle.roam_paint.proofs.Steps.{acted, acted-append, Constants, at_work, goes, restyles, Printed, stands, prints_all}
+use Rattle.roam_term.proofs.Cells.{first_of, first_wide, by, written_half, written_other}
+use Rattle.roam_term.proofs.Steps.{acted, acted-append, Constants, at_work, goes, restyles, Printed, stands, prints_all}
 
 abbrev pub AreScalars : List ℕ → Type 0
 AreScalars [] = ⊤

@@ -1,5 +1,5 @@
 -- A ground terminal goes from one screen to another.
-use Rattle.std.proofs.Common.{◌≡◌, ◌≤◌, ◌<◌, ℕ, suc, ◌+◌, ◌-◌, ◌*◌, Bool, true, false, ◌&&◌, ltb, inl, inr, List, [], ◌∷◌, ◌++◌, length, Option, None, refl, sym, ap, ◌∙◌, subst, arith}
+use Rattle.std.proofs.Common.{◌≡◌, ◌≤◌, ◌<◌, ℕ, suc, ◌+◌, ◌-◌, ◌*◌, Bool, true, false, inl, inr, List, [], ◌∷◌, ◌++◌, length, Option, None, refl, sym, ap, ◌∙◌, subst, arith}
 use Rattle.std.specs.Prelude.{if◌then◌else◌, All as AllOf}
 use Rattle.std.specs.Char.{IsScalar}
 use Rattle.std.proofs.lemmas.Bool.{false≢true, cases_lt}
@@ -7,19 +7,19 @@ use Rattle.roam_cells.specs.Glyph.{Glyph, is_wide, is_right_half, right_of, blan
 use Rattle.roam_cells.specs.Place.{cell_at}
 use Rattle.roam_cells.specs.Screenshot.{Screenshot, IsScreenshot}
 use Rattle.roam_cells.specs.declared.styles.Style.{Style}
-use Rattle.roam_cells.proofs.Places.{get_or-table, place_below}
-use Rattle.roam_rows.specs.Places.{Fresh, are_joined, moved, moved_at}
-use Rattle.roam_rows.proofs.Mending.{is_wide-blank, mended-blank}
-use Rattle.roam_rows.proofs.Vertical.{shown_by}
+use Rattle.roam_cells.proofs.Places.{place_below}
+use Rattle.roam_rows.specs.Places.{moved}
+use Rattle.roam_rows.proofs.Mending.{is_wide-blank}
 use Rattle.roam_grid.specs.Erasing.{page_blanked}
 use Rattle.roam_grid.specs.declared.erasing.Extent.TheVariants.{All}
 use Rattle.roam_term.specs.Terminal.{Live, changed}
 use Rattle.roam_paint.specs.Colours.{AreIndexed}
-use Rattle.roam_paint.specs.Ground.{IsGround, ShowsScreen}
-use Rattle.roam_paint.specs.Sequences.{hide_cursor, show_cursor, erase_all, place_cursor, set_style}
-use Rattle.roam_paint.specs.Painting.{shown_at, same_size, painted_over, differs, style_at, drawn_rows, opening, closing, drawn}
+use Rattle.roam_term.specs.Ground.{IsGround, ShowsScreen, shown_at}
+use Rattle.roam_term.specs.ControlFunctions.{hide_cursor, show_cursor, erase_all, place_cursor, set_style}
+use Rattle.roam_paint.specs.Painting.{same_size, painted_over, differs, style_at, drawn_rows, opening, closing, drawn}
 use Rattle.roam_paint.proofs.Places.{shown_inside, shown_below, shown_right, same_below, same_right, same_cell}
-use Rattle.roam_paint.proofs.Steps.{acted, acted-append, Constants, at_work, goes, restyles, hides, reveals, erases}
+use Rattle.roam_term.proofs.Grounds.{constants_of, at_rest, erased_shows}
+use Rattle.roam_term.proofs.Steps.{acted, acted-append, Constants, at_work, goes, restyles, hides, reveals, erases}
 use Rattle.roam_paint.proofs.Walk.{AreScalars, IsPaintable, Walked, all_rows, all_shown}
 
 scalars_of : (xs : List ℕ) → AllOf IsScalar xs → AreScalars xs
@@ -72,66 +72,7 @@ module _ (p : Screenshot) (h : IsScreenshot p) (colours : AreIndexed p.cells) wh
   pub paintable_shown : (r c : ℕ) → r < p.rows → c < p.cols → IsPaintable (shown_at p r c)
   paintable_shown r c a b = subst IsPaintable (sym (shown_inside p r c a b)) (paintable_at r c a b)
 
--- ---- ED 2
-
-erased_shows : (rows cols : ℕ) (cells : List Glyph) (row col r c : ℕ) → r < rows → c < cols
-    → cell_at cols (moved rows cols cells (page_blanked All row col)) r c ≡ blank
-erased_shows rows cols cells row col r c p q =
-    let source = page_blanked All row col in
-    get_or-table rows cols (moved_at cols cells source) r c blank p q
-    ∙ shown_by cols cells source r c (Fresh blank) (Fresh blank) (Fresh blank) refl refl refl
-    ∙ mended-blank (ltb (c + 1) cols && are_joined (Fresh blank) (Fresh blank)) (ltb 0 c && are_joined (Fresh blank) (Fresh blank))
-
 -- ---- the whole
-
--- what painting leaves as it is
-abbrev pub constants_of : Live → Constants
-constants_of t =
-    record {
-      rows = t.screen.rows;
-      cols = t.screen.cols;
-      stops = t.screen.stops;
-      other = t.other;
-      modes = t.modes;
-      sets = t.sets;
-      saved = t.saved;
-      saved_alternate = t.saved_alternate;
-    }
-
--- a ground terminal is one at work, in the default style
-pub at_rest : (t : Live) → IsGround t
-    → t ≡ at_work (constants_of t) t.screen.cells t.screen.row t.screen.col t.screen.pending default_style t.modes.cursor_visible t.printed
-at_rest t h i = record {
-  screen = record {
-    rows = t.screen.rows;
-    cols = t.screen.cols;
-    cells = t.screen.cells;
-    row = t.screen.row;
-    col = t.screen.col;
-    pending = t.screen.pending;
-    top = h.top i;
-    bottom = h.bottom i;
-    stops = t.screen.stops;
-  };
-  other = t.other;
-  alternate = h.main i;
-  pen = h.pen i;
-  modes = record {
-    insert = h.replaces i;
-    newline = t.modes.newline;
-    cursor_keys = t.modes.cursor_keys;
-    reverse_screen = h.reverse i;
-    origin = h.origin i;
-    autowrap = h.wraps i;
-    cursor_visible = t.modes.cursor_visible;
-    bracketed_paste = t.modes.bracketed_paste;
-    application_keypad = t.modes.application_keypad;
-  };
-  sets = record { g0 = h.ascii i; g1 = t.sets.g1; g2 = t.sets.g2; g3 = t.sets.g3; locked = h.locked i; single = h.single i };
-  saved = t.saved;
-  saved_alternate = t.saved_alternate;
-  printed = t.printed;
-}
 
 module _ (still : Constants) (old new : Screenshot) (rows_in : new.rows ≤ still.rows) (cols_in : new.cols ≤ still.cols)
     (painting : IsScreenshot new) (colours : AreIndexed new.cells) where

@@ -3,13 +3,14 @@
 use Rattle.std.specs.Prelude.{ℕ, zero, suc, ◌+◌, ◌-◌, ◌==◌, ◌&&◌, ◌||◌, not, nat_lt, Bool, if◌then◌else◌, List, [], ◌∷◌, ◌++◌, map}
 use Rattle.std.specs.List.{flat_map}
 use Rattle.roam_cells.specs.Glyph.{Glyph, is_wide, is_right_half, blank, default_style}
-use Rattle.roam_cells.specs.Place.{cell_at}
 use Rattle.roam_cells.specs.Screenshot.{Screenshot}
 use Rattle.roam_cells.specs.declared.styles.Style.{Style}
 use Rattle.roam_text.specs.declared.functions.Function.{Function}
 use Rattle.roam_text.specs.declared.functions.Function.TheVariants.{Print}
 use Rattle.roam_paint.specs.Same.{same, same_style}
-use Rattle.roam_paint.specs.Sequences.{hide_cursor, show_cursor, erase_all, place_cursor, reset_all, set_style, spelled}
+use Rattle.roam_term.specs.Ground.{shown_at}
+use Rattle.roam_term.specs.ControlFunctions.{hide_cursor, show_cursor, erase_all, place_cursor, reset_all, set_style}
+use Rattle.roam_paint.specs.Sequences.{spelled}
 
 -- ---- the places
 
@@ -17,10 +18,7 @@ use Rattle.roam_paint.specs.Sequences.{hide_cursor, show_cursor, erase_all, plac
 abbrev pub Places : Type 0
 Places = ℕ → ℕ → Glyph
 
--- what a screen shows at a row and a column: outside it a blank
-abbrev pub shown_at : Screenshot → Places
-shown_at p r c = if (nat_lt r p.rows && nat_lt c p.cols) then cell_at p.cols p.cells r c else blank
-
+-- whether two screens have one size
 abbrev pub same_size : Screenshot → Screenshot → Bool
 same_size old new = (old.rows == new.rows) && (old.cols == new.cols)
 

@@ -3,8 +3,9 @@ use Rattle.std.specs.Prelude.{◌≡◌, ◌⊎◌, ℕ, ◌+◌, ◌-◌, ◌<�
 use Rattle.roam_cells.specs.Glyph.{is_right_half}
 use Rattle.roam_cells.specs.Screenshot.{Screenshot, IsScreenshot}
 use Rattle.roam_text.specs.declared.functions.Function.{Function}
-use Rattle.roam_paint.specs.Sequences.{place_cursor}
-use Rattle.roam_paint.specs.Painting.{Places, shown_at, differs, drawn_rows}
+use Rattle.roam_term.specs.ControlFunctions.{place_cursor}
+use Rattle.roam_paint.specs.Painting.{Places, differs, drawn_rows}
+use Rattle.roam_term.specs.Ground.{shown_at}
 
 -- the columns from one on and before another are a maximal run of differing places of a row
 pub record IsRun (d : ℕ → ℕ → Bool) (cols r from to : ℕ) : Type 0 where

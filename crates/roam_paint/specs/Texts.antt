@@ -8,8 +8,10 @@ use Rattle.roam_cells.specs.declared.styles.Style.{Style}
 use Rattle.roam_cells.specs.declared.styles.Colour.{Colour}
 use Rattle.roam_cells.specs.declared.styles.Colour.TheVariants.{Default, Index}
 use Rattle.roam_paint.specs.Same.{same_style}
-use Rattle.roam_paint.specs.Sequences.{place_cursor, set_style, hide_cursor, show_cursor, erase_all, spelled}
-use Rattle.roam_paint.specs.Painting.{shown_at, differs, is_drawn, goes_on, style_in, style_at}
+use Rattle.roam_term.specs.ControlFunctions.{place_cursor, set_style, hide_cursor, show_cursor, erase_all}
+use Rattle.roam_paint.specs.Sequences.{spelled}
+use Rattle.roam_term.specs.Ground.{shown_at}
+use Rattle.roam_paint.specs.Painting.{differs, is_drawn, goes_on, style_in, style_at}
 
 -- a further parameter, where a flag is set
 abbrev pub code_text : Bool → ℕ → List ℕ

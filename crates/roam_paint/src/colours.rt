@@ -1,6 +1,7 @@
 //! What is true of the colours of all cells.
 ghost use Rattle.std.specs.Prelude.{◌≡◌, ℕ};
-ghost use Rattle.roam_paint.specs.Colours.{IsColour, IsIndexed, AreIndexed};
+ghost use Rattle.roam_term.specs.ControlFunctions.{IsColour, IsIndexed};
+ghost use Rattle.roam_paint.specs.Colours.{AreIndexed};
 
 use roam_cells::{Cell, Colour, Style};
 

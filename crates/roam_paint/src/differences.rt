@@ -3,7 +3,8 @@ ghost use Rattle.std.specs.Prelude.{◌≡◌, ℕ, ◌≤◌, ◌<◌, ◌+◌,
 ghost use Rattle.roam_cells.specs.Glyph.{is_right_half, is_wide};
 ghost use Rattle.roam_cells.specs.Place.{cell_at};
 ghost use Rattle.roam_paint.specs.Same.{same};
-ghost use Rattle.roam_paint.specs.Painting.{shown_at, same_size, differs, is_drawn, goes_on};
+ghost use Rattle.roam_term.specs.Ground.{shown_at};
+ghost use Rattle.roam_paint.specs.Painting.{same_size, differs, is_drawn, goes_on};
 
 use roam_cells::{Cell, Shot, are_same_cells};
 
@@ -43,6 +44,7 @@ pub fn differs(old: &Shot, new: &Shot, row: usize, col: usize) -> bool
 /// Whether both screens have one size and no place of a row differs.
 pub fn is_same_row(old: &Shot, new: &Shot, row: usize) -> bool
     requires row { row < new.now.rows }
+    ensures size { result ≡ true → same_size old.now new.now ≡ true }
     ensures same { result ≡ true → (col : ℕ) → differs old.now new.now row col ≡ false }
     ensures other { same_size old.now new.now ≡ true → ((col : ℕ) → differs old.now new.now row col ≡ false) → result ≡ true }
 {

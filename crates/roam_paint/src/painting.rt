@@ -5,8 +5,10 @@ ghost use Rattle.roam_text.specs.Log.{Item};
 ghost use Rattle.roam_term.specs.Terminal.{term};
 ghost use Rattle.roam_paint.specs.Ground.{Displays, LeadsOver, IsOpened};
 ghost use Rattle.roam_paint.specs.Same.{same_style};
-ghost use Rattle.roam_paint.specs.Sequences.{spelled, place_cursor, set_style};
-ghost use Rattle.roam_paint.specs.Painting.{shown_at, same_size, differs, is_drawn, goes_on, style_after, painted, opened};
+ghost use Rattle.roam_paint.specs.Sequences.{spelled};
+ghost use Rattle.roam_term.specs.ControlFunctions.{place_cursor, set_style};
+ghost use Rattle.roam_term.specs.Ground.{shown_at};
+ghost use Rattle.roam_paint.specs.Painting.{same_size, differs, is_drawn, goes_on, style_after, painted, opened};
 ghost use Rattle.roam_paint.specs.Texts.{place_text, cell_text, row_text, row_style, rows_text, opening_text, closing_text};
 
 use crate::colours::colours_of;

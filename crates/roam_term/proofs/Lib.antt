@@ -12,3 +12,8 @@ pub mod LastSizes
 pub mod Keeping
 pub mod Lines
 pub mod Picturing
+pub mod Styles
+pub mod Cells
+pub mod Steps
+pub mod PrintedSizes
+pub mod Grounds

@@ -12,3 +12,6 @@ pub mod Stands
 pub mod Keys
 pub mod Sizes
 pub mod Screens
+pub mod ControlFunctions
+pub mod Ground
+pub mod GroundFunctions

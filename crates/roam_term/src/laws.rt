@@ -2,6 +2,7 @@
 ghost use Rattle.std.specs.Prelude.{◌≡◌, ℕ, List, []};
 ghost use Rattle.roam_cells.specs.Limits.{IsSize};
 ghost use Rattle.roam_text.specs.Log.{Item};
+ghost use Rattle.roam_term.specs.GroundFunctions.{CursorIsPlaced, StyleIsSet, AllIsErased, CharacterIsPrinted, CharacterIsJoined, CursorIsHidden, CursorIsShown, AllIsReset};
 ghost use Rattle.roam_term.specs.Picture.{picture};
 ghost use Rattle.roam_term.specs.Screens.{AreSizes, IsScreenOf};
 ghost use Rattle.roam_term.specs.Terminal.{reports};
@@ -12,7 +13,18 @@ pub fn nothing_read_answers_nothing()
 {}
 
 /// What a terminal shows is a screen of the last size that it was given, whatever bytes and sizes came, and at every view of its history.
-pub fn pictures_are_screens()
+/// Of a ground terminal, in whatever style, CUP (ECMA-48 8.3.21) places the cursor, SGR (8.3.117) sets a style, ED 2 (8.3.39) erases all,
+/// and DECTCEM (VT220 Programmer Reference) hides and shows the cursor; a character is printed or joins the one before it. RIS (ECMA-48
+/// 8.3.105) makes of any terminal a ground terminal with a blank screen.
+pub fn what_a_terminal_shows()
     ensures screen { (rows cols lines : ℕ) (log : List Item) (view : ℕ) → IsSize rows cols → AreSizes log
         → IsScreenOf (rows, cols) log (picture rows cols lines log view) }
+    ensures placed { CursorIsPlaced }
+    ensures styled { StyleIsSet }
+    ensures erased { AllIsErased }
+    ensures printed { CharacterIsPrinted }
+    ensures joined { CharacterIsJoined }
+    ensures hidden_cursor { CursorIsHidden }
+    ensures shown_cursor { CursorIsShown }
+    ensures reset { AllIsReset }
 {}

@@ -1,7 +1,7 @@
 use Rattle.std.proofs.Common.{ℕ, ◌<◌}
 use Rattle.std.specs.Prelude.{slice_index_or}
 use Rattle.roam_cells.specs.Glyph.{blank}
-use Rattle.roam_paint.specs.Colours.{IsIndexed}
+use Rattle.roam_term.specs.ControlFunctions.{IsIndexed}
 use Rattle.roam_paint.proofs.colours.colours_of.Given as goal
 
 abbrev pub invariant-loop-k : goal.invariant-loop-k

@@ -11,6 +11,7 @@ returns c =
     let to = from + c.from-cols.result in
     let part = λ (l : List Glyph). take (to - from) (drop from l) in
     record {
+      size = λ _. same;
       same = λ yes.
           same_slice c.args.old.now c.args.new.now same c.args.row c.from-cols.result c.requires.row (search rules)
           (sym (ap part c.cells.ensures.cells) ∙ c.are_same_cells.ensures.same.0 yes ∙ ap part c.cells-2.ensures.cells);

@@ -1,7 +1,8 @@
 use Rattle.std.proofs.Common.{[], ◌∷◌, ◌++◌, sym, ap, ◌∙◌, append_assoc}
 use Rattle.std.specs.Prelude.{if◌then◌else◌}
 use Rattle.roam_cells.specs.Glyph.{default_style}
-use Rattle.roam_paint.specs.Sequences.{spelled, place_cursor, set_style}
+use Rattle.roam_paint.specs.Sequences.{spelled}
+use Rattle.roam_term.specs.ControlFunctions.{place_cursor, set_style}
 use Rattle.roam_paint.proofs.Loops.{closing_is}
 use Rattle.roam_paint.proofs.painting.close_painting.Goals as goal
 

@@ -1,10 +1,9 @@
--- What the painter's functions make of a terminal.
+-- What control functions and characters make of a ground terminal, which may have a style.
 use Rattle.std.proofs.Common.{◌≡◌, ◌≤◌, ◌<◌, ℕ, ◌+◌, ◌-◌, ◌*◌, min, max, Bool, true, false, not, List, [], ◌∷◌, ◌++◌, map, length, set, Option, Some, None, leb, inl, inr, refl, sym, ap, ◌∙◌, subst, arith, append_assoc, length-set, length-append, get_or-set_same, get_or-set_other}
 use Rattle.std.specs.Prelude.{◌==◌, ◌&&◌, ◌⊎◌, unwrap_or, nat_le, if◌then◌else◌}
 use Rattle.std.proofs.lemmas.Bool.{lt-ltb, le-ltb, le-leb, leb-true, eq-eqb, eqb-true, ne_eqb, false≢true, cases_lt, and_parts, and_from}
 use Rattle.std.proofs.lemmas.List.{append-nil}
 use Rattle.std.proofs.lemmas.Nat.{same_from_place}
-use Rattle.unicode_width.specs.Width.{char_width}
 use Rattle.roam_cells.specs.Width.{width_of, is_answer_zero, is_joiner}
 use Rattle.roam_cells.specs.Glyph.{Glyph, is_wide, is_wide_text, is_right_half, is_empty_text, is_text, is_cell_text, are_joiners, right_of, with_point, blank}
 use Rattle.roam_cells.specs.Place.{cell_at}
@@ -27,10 +26,9 @@ use Rattle.roam_text.specs.declared.functions.Function.{Function}
 use Rattle.roam_text.specs.declared.functions.Function.TheVariants.{Print}
 use Rattle.roam_term.specs.declared.pens.Saved.{Saved}
 use Rattle.roam_term.specs.Terminal.{Live, changed, lived, printed_on, written as written_on}
-use Rattle.roam_paint.specs.Colours.{IsColour}
-use Rattle.roam_paint.specs.Sequences.{hide_cursor, show_cursor, erase_all, place_cursor, set_style}
-use Rattle.roam_paint.proofs.Cells.{first_of, by, written_hit, written_half}
-use Rattle.roam_paint.proofs.Styles.{styled-codes}
+use Rattle.roam_term.specs.ControlFunctions.{IsColour, hide_cursor, show_cursor, erase_all, place_cursor, set_style}
+use Rattle.roam_term.proofs.Cells.{first_of, by, written_hit, written_half}
+use Rattle.roam_term.proofs.Styles.{styled-codes}
 
 -- functions one after another
 abbrev pub acted : List Function → Live → Live
@@ -40,7 +38,7 @@ pub acted-append : (fs gs : List Function) (t : Live) → acted (fs ++ gs) t ≡
 acted-append [] gs t = refl
 acted-append (f ∷ fs) gs t = acted-append fs gs (changed f t)
 
--- what stays as it is while a terminal is painted: its size, and all that a ground terminal may have as it likes
+-- what stays as it is: the size, and all that a ground terminal may have as it likes
 pub record Constants : Type 0 where
   pub rows : ℕ
   pub cols : ℕ
@@ -51,7 +49,7 @@ pub record Constants : Type 0 where
   pub saved : Option Saved
   pub saved_alternate : Option Saved
 
--- a ground terminal while it is painted
+-- a ground terminal in a style
 module _ (k : Constants) where
   abbrev pub screen_at : List Glyph → ℕ → ℕ → Bool → Screen
   screen_at cells row col pending =
@@ -135,11 +133,11 @@ module _ (k : Constants) where
     abbrev outside : Screen
     outside = screen_at (moved k.rows k.cols cells (in_row row (written x col))) row (k.cols - 1) true
 
-    advances : (n : ℕ) → col + n < k.cols → advanced n w (inked x s) ≡ inside n
+    pub advances : (n : ℕ) → col + n < k.cols → advanced n w (inked x s) ≡ inside n
     unfolding advanced inked
     advances n h = ap (λ b. if b then inside n else outside) (lt-ltb (col + n) k.cols h)
 
-    pends : (n : ℕ) → k.cols ≤ col + n → advanced n w (inked x s) ≡ outside
+    pub pends : (n : ℕ) → k.cols ≤ col + n → advanced n w (inked x s) ≡ outside
     unfolding advanced inked
     pends n h = ap (λ b. if b then inside n else outside) (le-ltb (col + n) k.cols h)
 
@@ -180,7 +178,7 @@ module _ (k : Constants) where
     either_way true c = refl
     either_way false c = refl
 
-    print_is : (is_wide cell ≡ true → col + 1 < k.cols)
+    pub print_is : (is_wide cell ≡ true → col + 1 < k.cols)
         → changed (Print c) before ≡ record before { screen = advanced (columns cell) w (inked cell (screen_at cells row col false)); printed = Some c }
     unfolding changed printed_on mapped_by
     print_is fits =
@@ -193,7 +191,7 @@ module _ (k : Constants) where
     abbrev inked_cells : List Glyph
     inked_cells = moved k.rows k.cols cells (in_row row (written cell col))
 
-    inked_hit : (is_wide cell ≡ true → col + 1 < k.cols) → cell_at k.cols inked_cells row col ≡ cell
+    pub inked_hit : (is_wide cell ≡ true → col + 1 < k.cols) → cell_at k.cols inked_cells row col ≡ cell
     inked_hit fits =
         get_or-table k.rows k.cols (moved_at k.cols cells (in_row row (written cell col))) row col _ row_in col_in
         ∙ written_hit (is_wide cell) cell k.cols cells row col refl refl fits
@@ -244,7 +242,18 @@ module _ (k : Constants) where
   zero_width (Some n) h = ap (λ n. min n 2 == 0) (eqb-true n 0 h)
 
   joiner_width : (c : ℕ) → is_joiner c ≡ true → (width_of c == 0) ≡ true
-  joiner_width c h = zero_width (char_width false c) h
+  joiner_width c h = search (zero_width, h)
+
+  -- a joining character changes cells alone
+  pub joins : (j : ℕ) → is_joiner j ≡ true → (cells : List Glyph) (row col : ℕ) (pending : Bool) (g : Style) (visible : Bool) (printed : Option ℕ)
+      → changed (Print j) (at_work cells row col pending g visible printed)
+      ≡ record (at_work cells row col pending g visible printed) { screen = joined_on j (screen_at cells row col pending) }
+  unfolding changed printed_on mapped_by
+  joins j joins_it cells row col pending g visible printed =
+      let here = at_work cells row col pending g visible printed in
+      ap (λ m. written_on m here) (either_or (nat_le 0x21 j && nat_le j 0x7E) j)
+      ∙ ap (λ b. if b then record here { screen = joined_on j here.screen }
+      else record here { screen = put_on (record { points = j ∷ []; style = g; guarded = false }) w here.screen; printed = Some j }) (joiner_width j joins_it)
 
   one_or_two : (b : Bool) → 1 ≤ (if b then 2 else 1)
   one_or_two true = omega arith
@@ -274,7 +283,7 @@ module _ (k : Constants) where
     abbrev of : List ℕ → Glyph
     of ps = record { points = c ∷ ps; style = g; guarded = false }
 
-    module _ (ps : List ℕ) (j : ℕ) (t : Live) (p : Printed cells row col (of ps) visible t) (joins : is_joiner j ≡ true) (text : is_cell_text (c ∷ (ps ++ j ∷ [])) ≡ true) where
+    module _ (ps : List ℕ) (j : ℕ) (t : Live) (p : Printed cells row col (of ps) visible t) (joins_it : is_joiner j ≡ true) (text : is_cell_text (c ∷ (ps ++ j ∷ [])) ≡ true) where
       abbrev last : ℕ
       last = col + columns (of ps) - 1
 
@@ -322,16 +331,6 @@ module _ (k : Constants) where
           ap (λ n. set now (row * k.cols + n) (with_point j (cell_at k.cols now row n))) (base_by (is_wide (of ps)) refl)
           ∙ ap (λ x. set now place (with_point j x)) p.hit ∙ ap (set now place) point_is
 
-      joins_is : (cells : List Glyph) (col : ℕ) (pending : Bool) (printed : Option ℕ)
-          → changed (Print j) (at_work cells row col pending g visible printed)
-          ≡ record (at_work cells row col pending g visible printed) { screen = joined_on j (screen_at cells row col pending) }
-      unfolding changed printed_on mapped_by
-      joins_is cells col pending printed =
-          let here = at_work cells row col pending g visible printed in
-          ap (λ m. written_on m here) (either_or (nat_le 0x21 j && nat_le j 0x7E) j)
-          ∙ ap (λ b. if b then record here { screen = joined_on j here.screen }
-          else record here { screen = put_on (record { points = j ∷ []; style = g; guarded = false }) w here.screen; printed = Some j }) (joiner_width j joins)
-
       join_one : Printed cells row col (of (ps ++ j ∷ [])) visible (changed (Print j) t)
       join_one = record {
         cells' = then_;
@@ -339,7 +338,7 @@ module _ (k : Constants) where
         pending' = p.pending';
         printed' = p.printed';
         is =
-            ap (changed (Print j)) p.is ∙ joins_is now p.col' p.pending' p.printed'
+            ap (changed (Print j)) p.is ∙ joins j joins_it now row p.col' p.pending' g visible p.printed'
             ∙ ap (λ s. record (at_work now row p.col' p.pending' g visible p.printed') { screen = s }) joined_there
             ∙ ap (λ l. at_work l row p.col' p.pending' g visible p.printed') joined_is;
         size = length-set now place (of (ps ++ j ∷ [])) ∙ p.size;

@@ -10,8 +10,7 @@ use Rattle.roam_controls.specs.declared.renditions.Layer.{Layer}
 use Rattle.roam_controls.specs.declared.renditions.Layer.TheVariants.{Foreground, Background}
 use Rattle.roam_controls.specs.declared.renditions.Rendition.{Rendition}
 use Rattle.roam_controls.specs.Renditions.{coloured, with_parameter, styled}
-use Rattle.roam_paint.specs.Sequences.{flag_code, colour_codes, style_codes}
-use Rattle.roam_paint.specs.Colours.{IsColour}
+use Rattle.roam_term.specs.ControlFunctions.{flag_code, colour_codes, style_codes, IsColour}
 
 abbrev folded : Style → List ℕ → Rendition
 folded g params = fold with_parameter (record { style = g; awaited = Aspect }) params

@@ -14,7 +14,7 @@ use Rattle.roam_text.specs.ControlSequences.{Header, in_control_sequence, body_o
 use Rattle.roam_text.specs.EscapeSequences.{in_escape_sequence, escape_sequence, c1_control, upper_final, end_escape_sequence}
 use Rattle.roam_text.specs.Functions.{front, functions}
 use Rattle.roam_text.proofs.Fronts.{front-le, functions-nil, functions-step}
-use Rattle.roam_paint.proofs.Escapes.{front_while-end, rest_while-end}
+use Rattle.roam_text.proofs.Escapes.{front_while-end, rest_while-end}
 
 module _ (code : ℕ) where
   abbrev graphic : Sign

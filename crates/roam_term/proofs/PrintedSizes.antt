@@ -12,7 +12,7 @@ use Rattle.roam_grid.specs.Writing.{columns, wrapped, settled, with_room, made_w
 use Rattle.roam_grid.specs.declared.writing.Writing.{Writing}
 use Rattle.roam_text.specs.declared.functions.Function.TheVariants.{Print}
 use Rattle.roam_term.specs.Terminal.{Live, glyph_in, writing_under, written, printed_on, changed}
-use Rattle.roam_paint.specs.Ground.{IsSized}
+use Rattle.roam_term.specs.Ground.{IsSized}
 
 both : (s t u : Screen) → IsSameSize s t → IsSameSize t u → IsSameSize s u
 both s t u h k = record { rows = k.rows ∙ h.rows; cols = k.cols ∙ h.cols }

@@ -1,0 +1,71 @@
+-- Control functions by name, in the form in which every VT220 has them.
+use Rattle.std.specs.Prelude.{ℕ, ◌≤◌, ⊤, Bool, true, false, List, [], ◌∷◌, Option, Some, None}
+use Rattle.roam_cells.specs.declared.styles.Style.{Style}
+use Rattle.roam_cells.specs.declared.styles.Colour.{Colour}
+use Rattle.roam_cells.specs.declared.styles.Colour.TheVariants.{Default, Index}
+use Rattle.roam_text.specs.declared.functions.Function.{Function}
+use Rattle.roam_text.specs.declared.functions.Function.TheVariants.{Esc, Csi}
+
+-- a control sequence without intermediate bytes (ECMA-48 5.4)
+abbrev pub csi : Option ℕ → List ℕ → ℕ → Function
+csi mark params last = Csi mark (record { items = params }) (record { items = [] }) last
+
+-- the cursor is hidden, and shown (DECTCEM, VT220 Programmer Reference)
+abbrev pub hide_cursor : Function
+hide_cursor = csi (Some 0x3F) (25 ∷ []) 0x6C
+
+abbrev pub show_cursor : Function
+show_cursor = csi (Some 0x3F) (25 ∷ []) 0x68
+
+-- all is erased (ED 2, ECMA-48 8.3.39)
+abbrev pub erase_all : Function
+erase_all = csi None (2 ∷ []) 0x4A
+
+-- the cursor goes to a row and a column, both from 1 (CUP, ECMA-48 8.3.21)
+abbrev pub place_cursor : ℕ → ℕ → Function
+place_cursor row col = csi None (row ∷ col ∷ []) 0x48
+
+-- all is as at the start (RIS, ECMA-48 8.3.105)
+abbrev pub reset_all : Function
+reset_all = Esc (record { items = [] }) 0x63
+
+-- a parameter where a flag is set, before others
+abbrev pub flag_code : Bool → ℕ → List ℕ → List ℕ
+flag_code true code rest = code ∷ rest
+flag_code false code rest = rest
+
+-- the parameters of a colour after 38 or 48, before others (the indexed colours of ISO 8613-6)
+abbrev pub colour_codes : ℕ → Colour → List ℕ → List ℕ
+colour_codes code Default rest = rest
+colour_codes code (Index n) rest = code ∷ 5 ∷ n ∷ rest
+
+-- the parameters that set a style, whatever style it was: 0, each flag in the order of its number, and the colours that aren't the default
+abbrev pub style_codes : Style → List ℕ
+style_codes s =
+    0
+    ∷ flag_code s.bold 1
+    (flag_code s.faint 2
+    (flag_code s.italic 3
+    (flag_code s.underline 4
+    (flag_code s.blink 5
+    (flag_code s.reverse 7
+    (flag_code s.conceal 8
+    (flag_code s.strike 9
+    (colour_codes 38 s.foreground
+    (colour_codes 48 s.background [])))))))))
+
+-- a style is set (SGR, ECMA-48 8.3.117)
+abbrev pub set_style : Style → Function
+set_style s = csi None (style_codes s) 0x6D
+
+-- ---- the styles that SGR sets
+
+-- the default colour, or one of a table of 256
+abbrev pub IsColour : Colour → Type 0
+IsColour Default = ⊤
+IsColour (Index n) = n ≤ 255
+
+-- both colours of a style
+pub record IsIndexed (s : Style) : Type 0 where
+  pub foreground : IsColour s.foreground
+  pub background : IsColour s.background
