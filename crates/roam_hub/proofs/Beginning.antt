@@ -1,6 +1,7 @@
 -- A world of the code where nothing has happened.
 use Rattle.std.proofs.Common.{◌≡◌, ℕ, ◌<◌, ◌≤◌, ◌^◌, List, [], length, Option, Some, None, true, refl, sym, subst}
 use Rattle.std.specs.Prelude.{slice_index_or}
+use Rattle.roam_layout.specs.Layouts.{IsSessionSize}
 use Rattle.roam_session.specs.Sessions.{SessionSize}
 use Rattle.roam_world.specs.Lists.{IsIn}
 use Rattle.roam_world.specs.Clients.{nobody}
@@ -17,14 +18,14 @@ unfolding nobody
 no_made id e = absurd (cc)
 
 pub stands_for_new : (session : ℕ) (size : SessionSize) (server : ServerView) (slots : List (Option ClientView)) (used : List ℕ)
-    (sent : List (List ℕ)) → session < 2 ^ 64 → ServerStands server (new_server session size)
+    (sent : List (List ℕ)) → session < 2 ^ 64 → IsSessionSize size.rows size.cols → ServerStands server (new_server session size)
     → ((slot : ℕ) → slice_index_or slots slot None ≡ None) → used ≡ [] → sent ≡ []
     → StandsFor (record { server = server; slots = slots; used = used; sent = sent }) session size [] []
 unfolding new_world
-stands_for_new session size server slots used sent low stands none no_used no_sent =
+stands_for_new session size server slots used sent low limits stands none no_used no_sent =
     record {
       world = new_world session size;
-      reached = record { id = low; events = tt; run = refl };
+      reached = record { id = low; limits = limits; events = tt; run = refl };
       stands =
           record {
             server = stands;

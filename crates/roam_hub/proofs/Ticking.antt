@@ -19,7 +19,7 @@ use Rattle.roam_world.specs.Moments.{has_passed, is_spent}
 use Rattle.roam_world.specs.Numbers.{cut, screen, first_screen}
 use Rattle.roam_world.specs.Texts.{Address, datagrams_of}
 use Rattle.roam_world.specs.Servers.{Record, no_record, Server, moment}
-use Rattle.roam_world.specs.Ticks.{makes, cuts_after, number_after, screen_after, IsFaceScreen, holds_after, sends, down_from, down_to, pieces_to, after_sent, ticked, datagrams_to, is_record_spent, parcel, parcels_to, sent_by, after_tick}
+use Rattle.roam_world.specs.Ticks.{makes, cuts_after, number_after, screen_after, holds_after, sends, down_from, down_to, pieces_to, after_sent, ticked, datagrams_to, is_record_spent, parcel, parcels_to, sent_by, after_tick}
 use Rattle.roam_hub.specs.declared.addresses.Addr.{Addr}
 use Rattle.roam_hub.specs.Servers.{RecordView, ServerView, kept_of, IsKept, AreKept, Stands, parcels_of, parcel_text, is_ack_spent, is_number_spent, Ticks, spent, ticked as did_tick, no_memory}
 use Rattle.roam_hub.specs.Records.{bare, is_told, pieces_told, settled_with, held, texts_for, is_entry_spent, settled_entry, makes_at, told_by, ticked_by, is_any_spent}
@@ -281,10 +281,10 @@ or_move false b c = refl
 
 -- at the moment that the server goes by
 ticks_at : (s : Server) (now m : ℕ) (all : Vec (Addr × Vec ℕ Global) Global) (new : ServerView) → m ≡ moment s now
-    → is_number_spent s m ≡ false → IsFaceScreen s m → parcels_of all.items ≡ map parcel_text (sent_by s m)
+    → is_number_spent s m ≡ false → parcels_of all.items ≡ map parcel_text (sent_by s m)
     → Stands new (after_tick s m) → Ticks s now (Ok all) new
-ticks_at s now m all new at free shown texts st =
-    did_tick all (subst (λ (k : ℕ). is_number_spent s k ≡ false) at free) (subst (IsFaceScreen s) at shown) refl
+ticks_at s now m all new at free texts st =
+    did_tick all (subst (λ (k : ℕ). is_number_spent s k ≡ false) at free) refl
     (texts ∙ ap (λ (k : ℕ). map parcel_text (sent_by s k)) at) (subst (λ (k : ℕ). Stands new (after_tick s k)) at st)
 
 spent_at : (s : Server) (now m : ℕ) (fault : Fault) (new : ServerView) → m ≡ moment s now → is_number_spent s m ≡ true → fault ≡ Spent
@@ -324,7 +324,6 @@ module _ (v : ServerView) (s : Server) (now m : ℕ) (st : Stands v s) (at : m �
         → OnErr r (new ≡ v) → Ticks s now r new
     ticks_told (Ok all) new texts is free fault err =
         ticks_at s now m all new at_moment (spent_told ∙ free)
-        (λ made_now. let z : true ≡ false = sym made_now ∙ none_made in absurd (cc))
         (texts ∙ parcels_are v s v.made v.screen m st number_told screen_told)
         (subst (λ (x : ServerView). Stands x (after_tick s m)) (sym is)
         (stands_told v s v.made v.screen m st number_told screen_told none_made refl refl))
@@ -377,7 +376,7 @@ module _ (v : ServerView) (s : Server) (now m : ℕ) (st : Stands v s) (at : m �
         → OnErr r (new ≡ v) → Ticks s now r new
     ticks_made (Ok all) new ok fault err =
         ticks_at s now m all new at_moment
-        (spent_made ∙ (λ i. ok.4 i || ok.3 i)) (λ x. ok.2)
+        (spent_made ∙ (λ i. ok.4 i || ok.3 i))
         (ok.0 ∙ parcels_are v s (v.made + 1) (face s.size s.log) m st number_made face_made)
         (subst (λ (x : ServerView). Stands x (after_tick s m)) (sym ok.1)
         (stands_made v s (v.made + 1) (face s.size s.log) m st number_made face_made is_made))

@@ -20,7 +20,7 @@ use Rattle.roam_world.specs.Numbers.{cut, screen}
 use Rattle.roam_world.specs.Texts.{Address, SaysUp, SaysNoUp}
 use Rattle.roam_world.specs.Servers.{Record, no_record, Server, moment, after_input}
 use Rattle.roam_world.specs.Comings.{turned_away, noted, completed, coming, after_note, new_acts, after_acts, room_for}
-use Rattle.roam_world.specs.Ticks.{IsFaceScreen, number_after, screen_after, sends, Parcel, sent_by, is_tick_spent, after_tick}
+use Rattle.roam_world.specs.Ticks.{number_after, screen_after, sends, Parcel, sent_by, is_tick_spent, after_tick}
 use Rattle.roam_hub.specs.Clients.{IsTextOf, IsNoDatagram}
 use Rattle.roam_hub.specs.declared.addresses.Addr.{Addr}
 use Rattle.roam_hub.specs.declared.addresses.Stop.{Stop}
@@ -164,7 +164,7 @@ is_number_spent s now = is_tick_spent s now || list_any (is_ack_spent s now) s.a
 -- A tick: numbers are spent; the datagrams are answered in their order, each with its address; or memory is wanting.
 pub data Ticks (s : Server) (now : ℕ) (result : Result (Vec (Addr × Vec ℕ Global) Global) Fault) (new : ServerView) : Type 0 where
   spent : is_number_spent s (moment s now) ≡ true → result ≡ Err Spent → Stands new s → Ticks s now result new
-  ticked : (all : Vec (Addr × Vec ℕ Global) Global) → is_number_spent s (moment s now) ≡ false → IsFaceScreen s (moment s now)
+  ticked : (all : Vec (Addr × Vec ℕ Global) Global) → is_number_spent s (moment s now) ≡ false
       → result ≡ Ok all → parcels_of all.items ≡ map parcel_text (sent_by s (moment s now))
       → Stands new (after_tick s (moment s now)) → Ticks s now result new
   no_memory : result ≡ Err OutOfMemory → Stands new s → Ticks s now result new
