@@ -625,10 +625,7 @@ fn a_write_that_fails_is_told(rt: HostRuntime) {
 #[test]
 fn a_reader_that_goes_on_is_given_up(rt: HostRuntime) {
     let mut out = Vec::new(rt.alloc());
-    for (left, wanted) in [
-        (16_777_215, Ok(())),
-        (16_777_216, Err(RunFault::Read)),
-    ] {
+    for (left, wanted) in [(16_777_215, Ok(())), (16_777_216, Err(RunFault::Read))] {
         let ran = run_show(rt.alloc(), 2, 8, &mut Drip { left }, &mut out);
         assert!(rt; ran == wanted, "{left} bytes");
     }
