@@ -93,10 +93,22 @@ number_back (suc n) = refl
 flags_back : (n : ℕ) → n < 256 → flags_of (style_of n 0 0) ≡ n
 unfolding flags_of style_of
 flags_back n h =
-    let last : digit (is_odd (n / 2 / 2 / 2 / 2 / 2 / 2 / 2)) ≡ n / 2 / 2 / 2 / 2 / 2 / 2 / 2 = omega (arith, digit_back (n / 2 / 2 / 2 / 2 / 2 / 2 / 2)) in
-    omega (arith, last, digit_back (n / 2 / 2 / 2 / 2 / 2 / 2), digit_back (n / 2 / 2 / 2 / 2 / 2), digit_back (n / 2 / 2 / 2 / 2), digit_back (n / 2 / 2 / 2), digit_back (n / 2 / 2), digit_back (n / 2), digit_back n)
+    let last : digit (is_odd (n / 2 / 2 / 2 / 2 / 2 / 2 / 2)) ≡ n / 2 / 2 / 2 / 2 / 2 / 2 / 2 =
+    omega (arith, digit_back (n / 2 / 2 / 2 / 2 / 2 / 2 / 2)) in
+    omega (
+      arith,
+      last,
+      digit_back (n / 2 / 2 / 2 / 2 / 2 / 2),
+      digit_back (n / 2 / 2 / 2 / 2 / 2),
+      digit_back (n / 2 / 2 / 2 / 2),
+      digit_back (n / 2 / 2 / 2),
+      digit_back (n / 2 / 2),
+      digit_back (n / 2),
+      digit_back n,
+    )
 
-digits_back : (a : Inside) → a.digits < 512 → digit (is_odd a.digits) + 2 * flags_of (style_of (a.digits / 2) a.foreground a.background) ≡ a.digits
+digits_back : (a : Inside) → a.digits < 512
+    → digit (is_odd a.digits) + 2 * flags_of (style_of (a.digits / 2) a.foreground a.background) ≡ a.digits
 unfolding flags_of style_of
 digits_back a h = ap (λ k. digit (is_odd a.digits) + 2 * k) (flags_back (a.digits / 2) (omega arith)) ∙ digit_back a.digits
 
