@@ -1,0 +1,4 @@
+pub mod Spelled
+pub mod Wording
+pub mod Telling
+pub mod Heads

@@ -1,0 +1,54 @@
+-- The lines of a script as text (this project's profile). Words stand one space apart; decimals have no plus and no leading zero.
+use Rattle.std.specs.Prelude.{◌≡◌, ℕ, ◌<◌, ◌≤◌, List, [], ◌∷◌, ◌++◌, length, decimal, Ok}
+use Rattle.std.specs.Str.Parse.{IsNumeral, digits_value}
+use Rattle.hex.specs.Hex.{decode_of}
+use Rattle.roam_acts.specs.Lines.{Spells as SpellsAct}
+use Rattle.roam_script.specs.declared.lines.Line.{Line}
+use Rattle.roam_script.specs.declared.lines.Line.TheVariants as line
+use Rattle.roam_script.specs.Values.{LineValue, Session, Start, PaneBytes, Typed, ServerTick, ClientTick, ToServer, ToClient, Drained, Show, Face, Output}
+use Rattle.roam_script.specs.Kinds.{head_of, kind_of}
+
+-- what a line of the code says, as the definitions name it
+abbrev pub value_of : Line → LineValue
+value_of (line.Session id rows cols) = Session id rows cols
+value_of (line.Start slot id) = Start slot id
+value_of (line.PaneBytes pane bytes) = PaneBytes pane bytes.items
+value_of (line.Typed slot act) = Typed slot act
+value_of (line.ServerTick now) = ServerTick now
+value_of (line.ClientTick slot now) = ClientTick slot now
+value_of (line.ToServer number port now) = ToServer number port now
+value_of (line.ToClient slot number now) = ToClient slot number now
+value_of (line.Drained pane count) = Drained pane count
+value_of (line.Show slot) = Show slot
+value_of line.Face = Face
+value_of (line.Output pane) = Output pane
+
+-- an id in one to sixteen hexadecimal digits, in either case
+pub record IsId (text : List ℕ) (id : ℕ) : Type 0 where
+  pub digits : IsNumeral 16 text
+  pub most : length text ≤ 16
+  pub value : digits_value 16 text ≡ id
+
+-- bytes in pairs of hexadecimal digits, in either case; at least one byte
+pub record AreBytes (text bytes : List ℕ) : Type 0 where
+  pub some : 0 < length text
+  pub pairs : decode_of text ≡ Ok bytes
+
+-- what may stand after the head of a line
+abbrev pub IsArgument : LineValue → List ℕ → Type 0
+IsArgument (Session id rows cols) text = (word : List ℕ) × IsId word id × (text ≡ word ++ 0x20 ∷ (decimal rows ++ 0x20 ∷ decimal cols))
+IsArgument (Start slot id) text = (word : List ℕ) × IsId word id × (text ≡ decimal slot ++ 0x20 ∷ word)
+IsArgument (PaneBytes pane bytes) text = (word : List ℕ) × AreBytes word bytes × (text ≡ decimal pane ++ 0x20 ∷ word)
+IsArgument (Typed slot act) text = (words : List ℕ) × SpellsAct words act × (text ≡ decimal slot ++ 0x20 ∷ words)
+IsArgument (ServerTick now) text = text ≡ decimal now
+IsArgument (ClientTick slot now) text = text ≡ decimal slot ++ 0x20 ∷ decimal now
+IsArgument (ToServer number port now) text = text ≡ decimal number ++ 0x20 ∷ (decimal port ++ 0x20 ∷ decimal now)
+IsArgument (ToClient slot number now) text = text ≡ decimal slot ++ 0x20 ∷ (decimal number ++ 0x20 ∷ decimal now)
+IsArgument (Drained pane count) text = text ≡ decimal pane ++ 0x20 ∷ decimal count
+IsArgument (Show slot) text = text ≡ decimal slot
+IsArgument Face text = text ≡ []
+IsArgument (Output pane) text = text ≡ decimal pane
+
+-- a line says this: its head, and what may stand after it
+abbrev pub Says : List ℕ → LineValue → Type 0
+Says line l = (text : List ℕ) × (line ≡ head_of (kind_of l) ++ text) × IsArgument l text

@@ -1,0 +1,90 @@
+-- How the code reads lines, step by step. No public clause speaks of it: what reading means is said by the grammar of Lines.
+use Rattle.std.specs.Prelude.{ℕ, ◌+◌, ◌==◌, ◌&&◌, Bool, List, [], ◌∷◌, take, drop, length, nat_le, nat_lt, Option, Some, None, decimal, if◌then◌else◌}
+use Rattle.std.specs.Char.{digit_value}
+use Rattle.std.specs.List.{list_all, position}
+use Rattle.std.specs.Option.{option_map}
+use Rattle.std.specs.Result.{result_ok}
+use Rattle.std.specs.Str.{bytes_eq}
+use Rattle.std.specs.Str.Parse.{digits_value, without_leading_plus}
+use Rattle.hex.specs.Hex.{decode_of}
+use Rattle.roam_script.specs.declared.kinds.Kind.{Kind}
+use Rattle.roam_script.specs.declared.kinds.Kind.TheVariants as kind
+use Rattle.roam_script.specs.Values.{LineValue, Session, Start, ServerTick, ClientTick, ToServer, ToClient, Drained, Show, Face, Output}
+
+-- a number that is at most so great, and is written so and not otherwise
+abbrev pub is_number : ℕ → ℕ → List ℕ → Bool
+is_number most n text = nat_le n most && bytes_eq (decimal n) text
+
+-- the number that a text writes
+abbrev pub number_in : ℕ → List ℕ → Option ℕ
+number_in most text =
+    if is_number most (digits_value 10 (without_leading_plus text)) text then Some (digits_value 10 (without_leading_plus text)) else None
+
+-- a hexadecimal digit
+abbrev pub is_hexadecimal : ℕ → Bool
+is_hexadecimal digit = nat_lt (digit_value digit) 16
+
+-- the id that one to sixteen hexadecimal digits write
+abbrev pub id_in : List ℕ → Option ℕ
+id_in text = if nat_le 1 (length text) && nat_le (length text) 16 && list_all is_hexadecimal text then Some (digits_value 16 text) else None
+
+-- the bytes that hexadecimal digits write
+abbrev pub bytes_in : List ℕ → Option (List ℕ)
+bytes_in [] = None
+bytes_in (digit ∷ digits) = result_ok (decode_of (digit ∷ digits))
+
+-- what stands before the space at a place, and what follows it
+abbrev pub word_at : List ℕ → Option ℕ → Option (List ℕ × List ℕ)
+word_at text None = None
+word_at text (Some space) = Some (take space text, drop (space + 1) text)
+
+-- what stands before the first space, and what follows it
+abbrev pub first_word : List ℕ → Option (List ℕ × List ℕ)
+first_word text = word_at text (position (λ byte. byte == 0x20) text)
+
+-- two things that are both there
+abbrev pub pair_of : {A B : Type 0} → Option A → Option B → Option (A × B)
+pair_of None b = None
+pair_of (Some a) None = None
+pair_of (Some a) (Some b) = Some (a, b)
+
+-- what the first word is read as, and what the rest is
+abbrev pub each_of : {A B : Type 0} → (List ℕ → Option A) → (List ℕ → Option B) → Option (List ℕ × List ℕ) → Option (A × B)
+each_of first rest None = None
+each_of first rest (Some words) = pair_of (first words.0) (rest words.1)
+
+abbrev pub two_in : {A B : Type 0} → (List ℕ → Option A) → (List ℕ → Option B) → List ℕ → Option (A × B)
+two_in first rest text = each_of first rest (first_word text)
+
+-- slots, panes, numbers of 16 and of 64 bits
+abbrev pub slot_in : List ℕ → Option ℕ
+slot_in text = number_in 7 text
+
+abbrev pub byte_in : List ℕ → Option ℕ
+byte_in text = number_in 255 text
+
+abbrev pub short_in : List ℕ → Option ℕ
+short_in text = number_in 65535 text
+
+abbrev pub long_in : List ℕ → Option ℕ
+long_in text = number_in 18446744073709551615 text
+
+-- nothing more is to be told
+abbrev pub face_in : List ℕ → Option LineValue
+face_in [] = Some Face
+face_in (_ ∷ _) = None
+
+-- the line of a kind that takes neither bytes nor an act, by what follows its head
+abbrev pub plain_in : Kind → List ℕ → Option LineValue
+plain_in kind.Session text = option_map (λ p. Session p.0 p.1.0 p.1.1) (two_in id_in (two_in short_in short_in) text)
+plain_in kind.Start text = option_map (λ p. Start p.0 p.1) (two_in slot_in id_in text)
+plain_in kind.PaneBytes text = None
+plain_in kind.Typed text = None
+plain_in kind.ServerTick text = option_map ServerTick (long_in text)
+plain_in kind.ClientTick text = option_map (λ p. ClientTick p.0 p.1) (two_in slot_in long_in text)
+plain_in kind.ToServer text = option_map (λ p. ToServer p.0 p.1.0 p.1.1) (two_in long_in (two_in short_in long_in) text)
+plain_in kind.ToClient text = option_map (λ p. ToClient p.0 p.1.0 p.1.1) (two_in slot_in (two_in long_in long_in) text)
+plain_in kind.Drained text = option_map (λ p. Drained p.0 p.1) (two_in byte_in long_in text)
+plain_in kind.Show text = option_map Show (slot_in text)
+plain_in kind.Face text = face_in text
+plain_in kind.Output text = option_map Output (byte_in text)
