@@ -9,4 +9,3 @@ pub mod Recording
 pub mod Addressing
 pub mod Settling
 pub mod Ticking
-pub mod Beginning

@@ -1,4 +1,3 @@
 pub mod Clients
 pub mod Servers
 pub mod Records
-pub mod Worlds

@@ -9,9 +9,7 @@ mod records;
 pub mod servers;
 mod taking;
 mod telling;
-pub mod worlds;
 
 pub use addresses::{Addr, Stop};
 pub use clients::{Client, Heard};
 pub use servers::Server;
-pub use worlds::{Event, Reply, World};

@@ -1,6 +1,5 @@
--- A world of the code where nothing has happened.
+-- A world of the code where nothing has happened, and what starts show.
 use Rattle.std.proofs.Common.{◌≡◌, ℕ, ◌<◌, ◌≤◌, ◌^◌, List, [], length, Option, Some, None, true, refl, sym, subst}
-use Rattle.std.specs.Prelude.{slice_index_or}
 use Rattle.roam_layout.specs.Layouts.{IsSessionSize}
 use Rattle.roam_session.specs.Sessions.{SessionSize}
 use Rattle.roam_world.specs.Lists.{IsIn}
@@ -11,7 +10,7 @@ use Rattle.roam_world.specs.Laws.{ShowsTrueScreens, TakesActsInOrder}
 use Rattle.roam_world.specs.Worlds.{World, new_world}
 use Rattle.roam_hub.specs.Clients.{ClientView}
 use Rattle.roam_hub.specs.Servers.{ServerView, Stands as ServerStands}
-use Rattle.roam_hub.specs.Worlds.{WorldView, Fills, Stands, StandsFor, ShowsSession}
+use Rattle.roam_simulation.specs.Worlds.{WorldView, start_in, Fills, Stands, StandsFor, ShowsSession}
 
 no_made : (id : ℕ) → nobody.made ≡ true → IsIn id []
 unfolding nobody
@@ -19,21 +18,25 @@ no_made id e = absurd (cc)
 
 pub stands_for_new : (session : ℕ) (size : SessionSize) (server : ServerView) (slots : List (Option ClientView)) (used : List ℕ)
     (sent : List (List ℕ)) → session < 2 ^ 64 → IsSessionSize size.rows size.cols → ServerStands server (new_server session size)
-    → ((slot : ℕ) → slice_index_or slots slot None ≡ None) → used ≡ [] → sent ≡ []
-    → StandsFor (record { server = server; slots = slots; used = used; sent = sent }) session size [] []
-unfolding new_world
+    → ((slot : ℕ) → start_in slots slot ≡ None) → used ≡ [] → sent ≡ []
+    → StandsFor (record { session = session; server = server; slots = slots; used = used; sent = sent }) session size [] []
+unfolding new_world new_server
 stands_for_new session size server slots used sent low limits stands none no_used no_sent =
     record {
       world = new_world session size;
       reached = record { id = low; limits = limits; events = tt; run = refl };
       stands =
           record {
+            session = refl;
             server = stands;
-            slots = (λ slot. subst (λ (o : Option ClientView). Fills (new_world session size).server.session
-                (new_world session size) o None)
-                (sym (none slot)) tt);
-            used = (λ id made. subst (IsIn id) (sym no_used) (no_made id made));
-            unused = (λ id there. absurd (subst (IsIn id) no_used there));
+            starts =
+                record {
+                  filled = (λ slot. subst (λ (o : Option ClientView). Fills session (λ id. nobody) o None) (sym (none slot)) tt);
+                  made = (λ slot id e. absurd (cc));
+                  once = (λ slot other id e f. absurd (cc));
+                  all = (λ id made. subst (IsIn id) (sym no_used) (no_made id made));
+                  just = (λ id there. absurd (subst (IsIn id) no_used there));
+                };
             sent = no_sent;
           };
     }
@@ -42,19 +45,19 @@ stands_for_new session size server slots used sent low limits stands none no_use
 pub shows_session : (v : WorldView) (w : World) → Stands v w → ShowsTrueScreens w → TakesActsInOrder w → ShowsSession v w
 shows_session v w st screens acts =
     record {
-      made = (λ slot c at. made c (w.slots slot) (subst (λ (o : Option ClientView). Fills w.server.session w o (w.slots slot)) at
-          (st.slots slot)));
-      same = (λ slot c at. same c (w.slots slot) (subst (λ (o : Option ClientView). Fills w.server.session w o (w.slots slot)) at
-          (st.slots slot)));
+      made = (λ slot c at. made c (w.slots slot) (subst (λ (o : Option ClientView). Fills w.server.session w.clients o (w.slots slot)) at
+          (st.starts.filled slot)));
+      same = (λ slot c at. same c (w.slots slot) (subst (λ (o : Option ClientView). Fills w.server.session w.clients o (w.slots slot)) at
+          (st.starts.filled slot)));
       acts = acts;
     }
   where
-    made : (c : ClientView) (o : Option ℕ) → Fills w.server.session w (Some c) o → c.receiver.newest.number ≤ length w.server.cuts
+    made : (c : ClientView) (o : Option ℕ) → Fills w.server.session w.clients (Some c) o → c.receiver.newest.number ≤ length w.server.cuts
     made c None f = absurd f
     made c (Some id) f =
         subst (λ (x : ClientView). x.receiver.newest.number ≤ length w.server.cuts) (sym f) (screens.made id)
 
-    same : (c : ClientView) (o : Option ℕ) → Fills w.server.session w (Some c) o
+    same : (c : ClientView) (o : Option ℕ) → Fills w.server.session w.clients (Some c) o
         → c.receiver.newest.state ≡ screen w.server.size w.server.log w.server.cuts c.receiver.newest.number
     same c None f = absurd f
     same c (Some id) f =

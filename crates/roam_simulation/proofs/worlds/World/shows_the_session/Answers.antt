@@ -1,5 +1,5 @@
-use Rattle.roam_hub.proofs.Beginning.{shows_session}
-use Rattle.roam_hub.proofs.worlds.World.shows_the_session.Goals as goal
+use Rattle.roam_simulation.proofs.Beginning.{shows_session}
+use Rattle.roam_simulation.proofs.worlds.World.shows_the_session.Goals as goal
 
 pub returns : goal.returns
 returns c =

@@ -1,6 +1,6 @@
 use Rattle.std.proofs.Common.{◌≡◌, ℕ, None, length}
 use Rattle.std.specs.Prelude.{slice_index_or}
-use Rattle.roam_hub.proofs.worlds.no_clients.Given as goal
+use Rattle.roam_simulation.proofs.worlds.no_clients.Given as goal
 
 -- so many slots, and no start in any
 abbrev pub invariant-loop : goal.invariant-loop

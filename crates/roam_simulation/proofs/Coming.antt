@@ -1,0 +1,206 @@
+-- A datagram of those that were sent comes to the server, or to a start.
+use Rattle.std.proofs.Common.{◌≡◌, ℕ, ◌-◌, ◌<◌, List, length, set, Option, Some, None, Bool, true, false, refl, sym, ap, ◌∙◌, cond}
+use Rattle.std.specs.Prelude.{Result, Ok, Err, map, nat_eq, slice_get}
+use Rattle.std.specs.Option.{option_map}
+use Rattle.std.proofs.lemmas.Option.{slice_get-map}
+use Rattle.roam_cells.specs.declared.faults.Fault.{Fault}
+use Rattle.roam_wire.specs.Datagrams.{DatagramValue, IsDatagram, datagram_text}
+use Rattle.roam_world.specs.Texts.{Address}
+use Rattle.roam_world.specs.Servers.{moment}
+use Rattle.roam_world.specs.Comings.{after_note, after_acts, new_acts, room_for}
+use Rattle.roam_world.specs.Clients.{Client, moment_of}
+use Rattle.roam_world.specs.Arrivals.{Hearing, after_piece, after_whole}
+use Rattle.roam_world.specs.Limits.{Limits}
+use Rattle.roam_world.specs.Worlds.{World, ToServer, ToClient, Reply, Taken, Heard, Refused, Failed, Stopped, datagram_at, with_server, with_client}
+use Rattle.roam_world.specs.Steps.{not_sent, refused, piece, unread, all_taken, no_room, no_memory_at_act, no_memory, empty_slot, bad_change, whole}
+use Rattle.roam_world.proofs.Runs.{was_sent}
+use Rattle.roam_hub.specs.declared.addresses.Stop.{Stop}
+use Rattle.roam_hub.specs.declared.clients.Heard.{Heard as HeardAs}
+use Rattle.roam_hub.specs.Clients.{ClientView, Stands as ClientStands, hearing_in, IsTextOf, IsNoDatagram, Hears}
+use Rattle.roam_hub.specs.Clients as client
+use Rattle.roam_hub.specs.Servers.{ServerView, Stands as ServerStands, Comes}
+use Rattle.roam_hub.specs.Servers as server
+use Rattle.roam_simulation.specs.Networks.{text_at}
+use Rattle.roam_simulation.specs.Worlds.{WorldView, start_in, Stands, Steps}
+use Rattle.roam_simulation.proofs.Slots.{Sits, sits, vacant, stands_kept, stands_put, stands_served, stands_serving}
+
+-- ---- what was sent under a number
+
+text_of : (ds : List DatagramValue) (n : ℕ) → text_at (map datagram_text ds) n ≡ option_map datagram_text (datagram_at ds n)
+text_of ds n = go (nat_eq n 0)
+  where
+    go : (b : Bool) → cond b None (slice_get (map datagram_text ds) (n - 1)) ≡ option_map datagram_text (cond b None (slice_get ds (n - 1)))
+    go true = refl
+    go false = slice_get-map datagram_text ds (n - 1)
+
+-- a datagram of the list, which bytes spell
+pub record IsSent (w : World) (n : ℕ) (bytes : List ℕ) : Type 0 where
+  pub datagram : DatagramValue
+  pub at : datagram_at w.sent n ≡ Some datagram
+  pub spelled : bytes ≡ datagram_text datagram
+
+pub is_sent : (v : WorldView) (w : World) (n : ℕ) (bytes : List ℕ) → Stands v w → Some bytes ≡ text_at v.sent n → IsSent w n bytes
+is_sent v w n bytes st e = go (datagram_at w.sent n) refl (e ∙ ap (λ (xs : List (List ℕ)). text_at xs n) st.sent ∙ text_of w.sent n)
+  where
+    go : (o : Option DatagramValue) → datagram_at w.sent n ≡ o → Some bytes ≡ option_map datagram_text (datagram_at w.sent n)
+        → IsSent w n bytes
+    go None at f = absurd (let z : Some bytes ≡ option_map datagram_text None = f ∙ ap (option_map datagram_text) at in cc)
+    go (Some d) at f =
+        record {
+          datagram = d;
+          at = at;
+          spelled = (let z : Some bytes ≡ Some (datagram_text d) = f ∙ ap (option_map datagram_text) at in cc);
+        }
+
+pub none_sent : (v : WorldView) (w : World) (n : ℕ) → Stands v w → None ≡ text_at v.sent n → datagram_at w.sent n ≡ None
+none_sent v w n st e = go (datagram_at w.sent n) refl (e ∙ ap (λ (xs : List (List ℕ)). text_at xs n) st.sent ∙ text_of w.sent n)
+  where
+    go : (o : Option DatagramValue) → datagram_at w.sent n ≡ o → None ≡ option_map datagram_text (datagram_at w.sent n)
+        → datagram_at w.sent n ≡ None
+    go None at f = at
+    go (Some d) at f = absurd (let z : None ≡ Some (datagram_text d) = f ∙ ap (option_map datagram_text) at in cc)
+
+-- two datagrams with one text are equal
+abbrev pub OneText : Type 0
+OneText = (d e : DatagramValue) → IsDatagram d → IsDatagram e → datagram_text d ≡ datagram_text e → d ≡ e
+
+-- what the bytes are read as is what was sent
+read_as : (w : World) (n : ℕ) (bytes : List ℕ) (d : DatagramValue) → Limits w → OneText → IsSent w n bytes → IsTextOf bytes d
+    → datagram_at w.sent n ≡ Some d
+read_as w n bytes d l one s text =
+    s.at ∙ ap (λ x. Some x) (one s.datagram d (l.datagrams s.datagram (was_sent w n s.datagram s.at)) text.is
+    (sym s.spelled ∙ text.spelled))
+
+readable : (w : World) (n : ℕ) (bytes : List ℕ) (why : _) → Limits w → IsSent w n bytes → IsNoDatagram bytes why → ⊥
+readable w n bytes why l s none = none.none s.datagram (l.datagrams s.datagram (was_sent w n s.datagram s.at)) s.spelled
+
+-- ---- to the server
+
+-- how a datagram to the server is answered
+abbrev pub taken_by : Result ℕ Stop → Reply
+taken_by (Ok n) = Taken n
+taken_by (Err stop) = Stopped stop.fault stop.taken
+
+pub steps_not_come : (v : WorldView) (w : World) (n : ℕ) (from : Address) (now : ℕ) → Stands v w → None ≡ text_at v.sent n
+    → Steps w (ToServer n from now) Refused v
+steps_not_come v w n from now st e = record { left = w; step = not_sent (none_sent v w n st e) refl refl; stands = st }
+
+pub steps_come : (v : WorldView) (w : World) (n : ℕ) (from : Address) (now : ℕ) (bytes : List ℕ) (result : Result ℕ Stop)
+    (view : ServerView) → Stands v w → Limits w → OneText → Some bytes ≡ text_at v.sent n → Comes w.server from bytes now result view
+    → Steps w (ToServer n from now) (taken_by result) (record v { server = view })
+steps_come v w n from now bytes result view st l one known comes = go comes
+  where
+    s : IsSent w n bytes
+    s = is_sent v w n bytes st known
+
+    read : (d : DatagramValue) → IsTextOf bytes d → datagram_at w.sent n ≡ Some d
+    read d text = read_as w n bytes d l one s text
+
+    go : Comes w.server from bytes now result view → Steps w (ToServer n from now) (taken_by result) (record v { server = view })
+    go (server.no_datagram why none e stands) = absurd (readable w n bytes why l s none)
+    go (server.refused d fault text c e stands) =
+        record { left = w; step = refused d fault (read d text) c (ap taken_by e) refl; stands = stands_serving v w view st stands }
+    go (server.piece d g text c e stands) =
+        record {
+          left = with_server w (after_note w.server d from (moment w.server now) g);
+          step = piece d g (read d text) c (ap taken_by e) refl;
+          stands = stands_served v w view (after_note w.server d from (moment w.server now) g) st refl stands;
+        }
+    go (server.unread d g said why text c says e stands) =
+        record {
+          left = w;
+          step = unread d g said why (read d text) c says (ap taken_by e) refl;
+          stands = stands_serving v w view st stands;
+        }
+    go (server.all_taken d g said u text c says room e stands) =
+        record {
+          left = with_server w (after_acts w.server d from (moment w.server now) g u (length (new_acts w.server d u)));
+          step = all_taken d g said u (read d text) c says room (ap taken_by e) refl;
+          stands =
+              stands_served v w view (after_acts w.server d from (moment w.server now) g u (length (new_acts w.server d u))) st refl stands;
+        }
+    go (server.no_room d g said u text c says room e stands) =
+        record {
+          left = with_server w (after_acts w.server d from (moment w.server now) (w.server.records d.client).gathering u
+              (room_for w.server d u));
+          step = no_room d g said u (read d text) c says room (ap taken_by e) refl;
+          stands =
+              stands_served v w view (after_acts w.server d from (moment w.server now) (w.server.records d.client).gathering u
+              (room_for w.server d u)) st refl stands;
+        }
+    go (server.no_memory_at_act d g said u k text c says room low e stands) =
+        record {
+          left = with_server w (after_acts w.server d from (moment w.server now) (w.server.records d.client).gathering u k);
+          step = no_memory_at_act d g said u k (read d text) c says room low (ap taken_by e) refl;
+          stands =
+              stands_served v w view (after_acts w.server d from (moment w.server now) (w.server.records d.client).gathering u k) st refl
+              stands;
+        }
+    go (server.no_memory e stands) =
+        record { left = w; step = no_memory (ap taken_by e) refl; stands = stands_serving v w view st stands }
+
+-- ---- to a client start
+
+-- how a datagram to a start is answered
+abbrev pub heard_by : Result HeardAs Fault → Reply
+heard_by (Ok h) = Heard (hearing_in h)
+heard_by (Err fault) = Failed fault
+
+pub steps_unheard : (v : WorldView) (w : World) (slot n now : ℕ) → Stands v w → start_in v.slots slot ≡ None
+    → Steps w (ToClient slot n now) Refused v
+steps_unheard v w slot n now st at = record { left = w; step = empty_slot (vacant v w slot st at) refl refl; stands = st }
+
+pub steps_not_arrived : (v : WorldView) (w : World) (slot n now : ℕ) → Stands v w → None ≡ text_at v.sent n
+    → Steps w (ToClient slot n now) Refused v
+steps_not_arrived v w slot n now st e = record { left = w; step = not_sent (none_sent v w n st e) refl refl; stands = st }
+
+pub steps_heard : (v : WorldView) (w : World) (slot n now : ℕ) (bytes : List ℕ) (result : Result HeardAs Fault) (c c' : ClientView)
+    → Stands v w → Limits w → OneText → Some bytes ≡ text_at v.sent n → slot < length v.slots → start_in v.slots slot ≡ Some c
+    → ((session id : ℕ) (k : Client) → ClientStands c session id k → Hears session id k bytes now result c')
+    → Steps w (ToClient slot n now) (heard_by result) (record v { slots = set v.slots slot (Some c') })
+steps_heard v w slot n now bytes result c c' st l one known lt at hears = go (hears w.server.session i.id (w.clients i.id) i.stands)
+  where
+    s : IsSent w n bytes
+    s = is_sent v w n bytes st known
+
+    read : (d : DatagramValue) → IsTextOf bytes d → datagram_at w.sent n ≡ Some d
+    read d text = read_as w n bytes d l one s text
+
+    i : Sits w slot c
+    i = sits v w slot c st at
+
+    go : Hears w.server.session i.id (w.clients i.id) bytes now result c'
+        → Steps w (ToClient slot n now) (heard_by result) (record v { slots = set v.slots slot (Some c') })
+    go (client.no_datagram why none e stands) = absurd (readable w n bytes why l s none)
+    go (client.refused d fault text a e stands) =
+        record {
+          left = w;
+          step = refused i.id d fault i.at (read d text) a (ap heard_by e) refl;
+          stands = stands_kept v w slot c c' st lt i stands;
+        }
+    go (client.piece d h g text a e stands) =
+        record {
+          left = with_client w i.id (after_piece (w.clients i.id) (moment_of (w.clients i.id) now) g);
+          step = piece i.id d (hearing_in h) g i.at (read d text) a (ap heard_by e) refl;
+          stands = stands_put v w slot c c' (after_piece (w.clients i.id) (moment_of (w.clients i.id) now) g) st lt i i.made stands;
+        }
+    go (client.unread d g said why text a says e stands) =
+        record {
+          left = w;
+          step = unread i.id d g said why i.at (read d text) a says (ap heard_by e) refl;
+          stands = stands_kept v w slot c c' st lt i stands;
+        }
+    go (client.bad_change d g said x base text a says new held bad e stands) =
+        record {
+          left = w;
+          step = bad_change i.id d g said x base i.at (read d text) a says new held bad (ap heard_by e) refl;
+          stands = stands_kept v w slot c c' st lt i stands;
+        }
+    go (client.whole d h g said x r text a says told e is stands) =
+        record {
+          left = with_client w i.id (after_whole (w.clients i.id) (moment_of (w.clients i.id) now) g r x);
+          step = whole i.id d g said x r i.at (read d text) a says told (ap heard_by e ∙ ap (λ (y : Hearing). Heard y) is) refl;
+          stands = stands_put v w slot c c' (after_whole (w.clients i.id) (moment_of (w.clients i.id) now) g r x) st lt i i.made stands;
+        }
+    go (client.no_memory e stands) =
+        record { left = w; step = no_memory (ap heard_by e) refl; stands = stands_kept v w slot c c' st lt i stands }

@@ -1,0 +1,66 @@
+-- What comes from a pane's program, and what goes to it.
+use Rattle.std.proofs.Common.{◌≡◌, ℕ, ◌<◌, List, length, Option, Some, None, refl, sym, ap, subst}
+use Rattle.std.specs.Prelude.{Result, Ok, Err}
+use Rattle.std.specs.Option.{option_map}
+use Rattle.roam_cells.specs.declared.faults.Fault.{Fault}
+use Rattle.roam_cells.specs.declared.faults.Fault.TheVariants.{NoPane}
+use Rattle.roam_session.specs.Sessions.{Given, Drained}
+use Rattle.roam_session.specs.Refusals.{output_at}
+use Rattle.roam_world.specs.Servers.{after_input}
+use Rattle.roam_world.specs.Worlds.{World, PaneBytes, Drain, Reply, Done, Refused, Failed, with_server}
+use Rattle.roam_world.specs.Steps.{refused, taken, no_pane, too_many, gone}
+use Rattle.roam_hub.specs.Servers.{ServerView, Feeds, refused as feed_refused, taken as feed_taken, Drains, no_pane as drains_none, gone as drains_gone}
+use Rattle.roam_simulation.specs.Worlds.{WorldView, Stands, Steps}
+use Rattle.roam_simulation.proofs.Slots.{stands_served, stands_serving}
+
+-- how a call is answered that answers nothing but refusals
+abbrev pub done_by : Result (Unit {0}) Fault → Reply
+done_by (Ok x) = Done
+done_by (Err fault) = Failed fault
+
+pub steps_fed : (v : WorldView) (w : World) (pane : ℕ) (bytes : List ℕ) (result : Result (Unit {0}) Fault) (server : ServerView)
+    → Stands v w → Feeds w.server pane bytes result server → Steps w (PaneBytes pane bytes) (done_by result) (record v { server = server })
+steps_fed v w pane bytes result server st (feed_refused fault why e stands) =
+    record { left = w; step = refused fault why (ap done_by e) refl; stands = stands_serving v w server st stands }
+steps_fed v w pane bytes result server st (feed_taken why e stands) =
+    record {
+      left = with_server w (after_input w.server (Given pane bytes));
+      step = taken why (ap done_by e) refl;
+      stands = stands_served v w server (after_input w.server (Given pane bytes)) st refl stands;
+    }
+
+pub steps_drained : (v : WorldView) (w : World) (pane n : ℕ) (result : Result (Unit {0}) Fault) (server : ServerView)
+    → Stands v w → Drains w.server pane n result server → Steps w (Drain pane n) (done_by result) (record v { server = server })
+steps_drained v w pane n result server st (drains_none why e stands) =
+    record { left = w; step = no_pane why (ap done_by e) refl; stands = stands_serving v w server st stands }
+steps_drained v w pane n result server st (drains_gone output at le e stands) =
+    record {
+      left = with_server w (after_input w.server (Drained pane n));
+      step = gone output at le (ap done_by e) refl;
+      stands = stands_served v w server (after_input w.server (Drained pane n)) st refl stands;
+    }
+
+waiting : (o : Option (List ℕ)) (n : ℕ) → Some n ≡ option_map (λ (xs : List ℕ). length xs) o → (xs : List ℕ) × (o ≡ Some xs) × (length xs ≡ n)
+waiting None n e = absurd (cc)
+waiting (Some xs) n e = (xs, refl, let z : length xs ≡ n = cc in z)
+
+no_waiting : (o : Option (List ℕ)) → None ≡ option_map (λ (xs : List ℕ). length xs) o → o ≡ None
+no_waiting None e = refl
+no_waiting (Some xs) e = absurd (cc)
+
+pub steps_too_many : (v : WorldView) (w : World) (pane n len : ℕ) → Stands v w
+    → Some len ≡ option_map (λ (xs : List ℕ). length xs) (output_at w.server.size w.server.log pane) → len < n
+    → Steps w (Drain pane n) Refused v
+steps_too_many v w pane n len st e lt =
+    let o = waiting (output_at w.server.size w.server.log pane) len e in
+    record {
+      left = w;
+      step = too_many o.0 o.1 (subst (λ (k : ℕ). k < n) (sym o.2) lt) refl refl;
+      stands = st;
+    }
+
+pub steps_no_pane : (v : WorldView) (w : World) (pane n : ℕ) → Stands v w
+    → None ≡ option_map (λ (xs : List ℕ). length xs) (output_at w.server.size w.server.log pane)
+    → Steps w (Drain pane n) (Failed NoPane) v
+steps_no_pane v w pane n st e =
+    record { left = w; step = no_pane (no_waiting (output_at w.server.size w.server.log pane) e) refl refl; stands = st }

@@ -1,0 +1,9 @@
+pub mod Beginning
+pub mod Sending
+pub mod Slots
+pub mod Inputs
+pub mod Typing
+pub mod Ticking
+pub mod Coming
+pub mod Starting
+pub mod Stepping

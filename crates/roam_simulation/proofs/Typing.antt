@@ -1,0 +1,40 @@
+-- An act is typed at a start.
+use Rattle.std.proofs.Common.{◌≡◌, ℕ, ◌<◌, length, set, Some, None, refl, ap}
+use Rattle.std.specs.Prelude.{Result}
+use Rattle.roam_cells.specs.declared.faults.Fault.{Fault}
+use Rattle.roam_acts.specs.declared.acts.Act.{Act}
+use Rattle.roam_world.specs.Clients.{Client, after_typed}
+use Rattle.roam_world.specs.Worlds.{World, Typed, Refused, with_client}
+use Rattle.roam_world.specs.Steps.{empty_slot, full, spent, typed, no_memory}
+use Rattle.roam_hub.specs.Clients.{ClientView, Stands as ClientStands, Types, full as types_full, spent as types_spent, typed as types_typed, no_memory as types_no_memory}
+use Rattle.roam_simulation.specs.Worlds.{WorldView, start_in, Stands, Steps}
+use Rattle.roam_simulation.proofs.Inputs.{done_by}
+use Rattle.roam_simulation.proofs.Slots.{Sits, sits, vacant, stands_kept, stands_put}
+
+pub steps_typed : (v : WorldView) (w : World) (slot : ℕ) (act : Act) (result : Result (Unit {0}) Fault) (c c' : ClientView) → Stands v w
+    → slot < length v.slots → start_in v.slots slot ≡ Some c
+    → ((session id : ℕ) (k : Client) → ClientStands c session id k → Types session id k act result c')
+    → Steps w (Typed slot act) (done_by result) (record v { slots = set v.slots slot (Some c') })
+steps_typed v w slot act result c c' st lt at types = go (types w.server.session s.id (w.clients s.id) s.stands)
+  where
+    s : Sits w slot c
+    s = sits v w slot c st at
+
+    go : Types w.server.session s.id (w.clients s.id) act result c'
+        → Steps w (Typed slot act) (done_by result) (record v { slots = set v.slots slot (Some c') })
+    go (types_full f e stands) =
+        record { left = w; step = full s.id s.at f (ap done_by e) refl; stands = stands_kept v w slot c c' st lt s stands }
+    go (types_spent f e stands) =
+        record { left = w; step = spent s.id s.at f (ap done_by e) refl; stands = stands_kept v w slot c c' st lt s stands }
+    go (types_typed nf ns e stands) =
+        record {
+          left = with_client w s.id (after_typed (w.clients s.id) act);
+          step = typed s.id s.at nf ns (ap done_by e) refl;
+          stands = stands_put v w slot c c' (after_typed (w.clients s.id) act) st lt s s.made stands;
+        }
+    go (types_no_memory e stands) =
+        record { left = w; step = no_memory (ap done_by e) refl; stands = stands_kept v w slot c c' st lt s stands }
+
+pub steps_untyped : (v : WorldView) (w : World) (slot : ℕ) (act : Act) → Stands v w → start_in v.slots slot ≡ None
+    → Steps w (Typed slot act) Refused v
+steps_untyped v w slot act st at = record { left = w; step = empty_slot (vacant v w slot st at) refl refl; stands = st }

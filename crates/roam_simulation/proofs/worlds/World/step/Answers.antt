@@ -1,0 +1,16 @@
+use Rattle.roam_simulation.proofs.Stepping.{reached, stands_after}
+use Rattle.roam_simulation.proofs.worlds.World.step.Goals as goal
+
+pub returns-in-Ok : goal.returns-in-Ok
+returns-in-Ok c = record {
+  stands = λ session size es rs st.
+      stands_after _ _ session size es rs _ _ c.facts.ensures.event st
+      (c.in-Ok.ensures.steps st.world (reached _ session size es rs st) st.stands);
+}
+
+pub returns-in-Err : goal.returns-in-Err
+returns-in-Err c = record {
+  stands = λ session size es rs st.
+      stands_after _ _ session size es rs _ _ c.facts.ensures.event st
+      (c.in-Err.ensures.steps st.world (reached _ session size es rs st) st.stands);
+}

@@ -1,0 +1,3 @@
+pub mod Networks
+pub mod Events
+pub mod Worlds

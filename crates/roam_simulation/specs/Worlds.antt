@@ -1,0 +1,76 @@
+-- What a world of the code stands for.
+use Rattle.std.specs.Prelude.{◌≡◌, ℕ, List, map, slice_index_or, Option, Some, None, true, ◌≤◌, length}
+use Rattle.roam_wire.specs.Datagrams.{datagram_text}
+use Rattle.roam_session.specs.Sessions.{SessionSize}
+use Rattle.roam_world.specs.Lists.{IsIn}
+use Rattle.roam_world.specs.Clients.{Client}
+use Rattle.roam_world.specs.Worlds.{World, Event, Reply}
+use Rattle.roam_world.specs.Steps.{wstep}
+use Rattle.roam_world.specs.Laws.{Reaches, TakesActsInOrder}
+use Rattle.roam_world.specs.Numbers.{screen}
+use Rattle.roam_hub.specs.Clients.{ClientView, Stands as ClientStands}
+use Rattle.roam_hub.specs.Servers.{ServerView, Stands as ServerStands}
+
+-- what contracts see of a world: its session's id, its server, the start in each slot, the ids that were used, and the texts of all
+-- datagrams ever sent
+pub record WorldView : Type 0 where
+  pub session : ℕ
+  pub server : ServerView
+  pub slots : List (Option ClientView)
+  pub used : List ℕ
+  pub sent : List (List ℕ)
+
+-- the start in a slot, where there is one
+abbrev pub start_in : List (Option ClientView) → ℕ → Option ClientView
+start_in slots slot = slice_index_or slots slot None
+
+-- a start in a slot is that of the slot's id, and where none is no id is
+abbrev pub Fills : ℕ → (ℕ → Client) → Option ClientView → Option ℕ → Type 0
+Fills session clients None None = Unit {0}
+Fills session clients None (Some id) = ⊥
+Fills session clients (Some v) None = ⊥
+Fills session clients (Some v) (Some id) = ClientStands v session id (clients id)
+
+-- the slots have the starts of their ids, each of which was made, and none of which is in two; the used ids are those of all starts
+pub record StartsStand (session : ℕ) (slots : List (Option ClientView)) (used : List ℕ) (clients : ℕ → Client) (ids : ℕ → Option ℕ)
+    : Type 0 where
+  pub filled : (slot : ℕ) → Fills session clients (start_in slots slot) (ids slot)
+  pub made : (slot id : ℕ) → ids slot ≡ Some id → (clients id).made ≡ true
+  pub once : (slot other id : ℕ) → ids slot ≡ Some id → ids other ≡ Some id → slot ≡ other
+  pub all : (id : ℕ) → (clients id).made ≡ true → IsIn id used
+  pub just : (id : ℕ) → IsIn id used → (clients id).made ≡ true
+
+-- a world of the code is a world of the definitions
+pub record Stands (v : WorldView) (w : World) : Type 0 where
+  pub session : v.session ≡ w.server.session
+  pub server : ServerStands v.server w.server
+  pub starts : StartsStand w.server.session v.slots v.used w.clients w.slots
+  pub sent : v.sent ≡ map datagram_text w.sent
+
+-- a world of the code stands for events with their replies: some world that they reach is what it is
+pub record StandsFor (v : WorldView) (session : ℕ) (size : SessionSize) (es : List Event) (rs : List Reply) : Type 0 where
+  pub world : World
+  pub reached : Reaches session size es rs world
+  pub stands : Stands v world
+
+-- some events with their replies reach a world
+pub record IsReached (w : World) : Type 0 where
+  pub session : ℕ
+  pub size : SessionSize
+  pub events : List Event
+  pub replies : List Reply
+  pub reaches : Reaches session size events replies w
+
+-- an event with its reply makes of a world another one, for which this stands
+pub record Steps (w : World) (e : Event) (r : Reply) (new : WorldView) : Type 0 where
+  pub left : World
+  pub step : wstep w e r left
+  pub stands : Stands new left
+
+-- Each start in a slot shows a number that was made, or 0, and exactly the screen of that number; and the acts of each start that were
+-- taken are the first of those typed there, each once and in order.
+pub record ShowsSession (v : WorldView) (w : World) : Type 0 where
+  pub made : (slot : ℕ) (c : ClientView) → start_in v.slots slot ≡ Some c → c.receiver.newest.number ≤ length w.server.cuts
+  pub same : (slot : ℕ) (c : ClientView) → start_in v.slots slot ≡ Some c
+      → c.receiver.newest.state ≡ screen w.server.size w.server.log w.server.cuts c.receiver.newest.number
+  pub acts : TakesActsInOrder w

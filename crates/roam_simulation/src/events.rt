@@ -1,0 +1,77 @@
+//! What happens in a world, and how it is answered.
+ghost use Rattle.roam_world.specs.Laws.{IsEvent};
+ghost use Rattle.roam_simulation.specs.Events.{IsHandedIn, event_of};
+
+use roam_acts::{Act, Key};
+use roam_cells::Fault;
+use roam_hub::{Addr, Heard, Stop};
+
+/// One thing that happens: one whole call of the server or of a client start. Slots are 0 to 7, moments are milliseconds.
+#[derive(Debug, Drop)]
+pub enum Event {
+    /// Bytes come from the program of a pane.
+    PaneBytes(u8, Vec<u8>),
+
+    /// An act is typed at the start in a slot.
+    Typed(u8, Act),
+
+    /// The server ticks at a moment.
+    ServerTick(u64),
+
+    /// The start in a slot ticks at a moment.
+    ClientTick(u8, u64),
+
+    /// The datagram of a number, from 1, comes to the server from an address at a moment.
+    ToServer(u64, Addr, u64),
+
+    /// The datagram of a number comes to the start in a slot at a moment.
+    ToClient(u8, u64, u64),
+
+    /// A client starts in a slot, under an id.
+    Start(u8, u64),
+
+    /// So many bytes go to the program of a pane.
+    Drained(u8, u64),
+}
+
+impl Event {
+    // What the types of its parts tell: a character that is typed is a Unicode scalar value, and an id has 64 bits.
+    pub(crate) fn facts(&self)
+        requires handed_in { IsHandedIn self.now }
+        ensures event { IsEvent (event_of self.now) }
+    {
+        match self {
+            Event::Typed(_, Act::Key(Key::Char(c))) => {
+                let _scalar = *c as u32;
+            }
+            Event::Start(_, id) => {
+                let _id = *id;
+            }
+            _ => {}
+        }
+    }
+}
+
+/// How it is answered.
+#[derive(Clone, Copy, Debug, PartialEq, Eq)]
+pub enum Reply {
+    Done,
+
+    /// The number of the first datagram that was sent, or of the next one where none was; and how many were sent.
+    Sent(u64, u64),
+
+    /// So many acts were taken.
+    Taken(usize),
+
+    /// What a datagram was to a client start.
+    Heard(Heard),
+
+    /// There is no such start, datagram or output, or the id was used: nothing is done.
+    Refused,
+
+    /// The call was refused.
+    Fault(Fault),
+
+    /// A datagram to the server was refused, after so many of its acts were taken.
+    Stopped(Stop),
+}
