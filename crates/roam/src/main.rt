@@ -1,6 +1,7 @@
 //! The program `roam`.
 //!
 //! `roam show --rows R --cols C` feeds standard input to a terminal and prints the screen that it makes.
+//! `roam world` plays a script from standard input and prints the answer to each of its lines.
 #![tactic(auto)]
 
 #[cfg(test)]
@@ -9,7 +10,7 @@ mod words;
 
 use crate::words::{Refusal, Request, read_words};
 use roam_cells::Fault;
-use roam_show::{RunFault, run_show};
+use roam_show::{RunFault, run_show, run_world};
 use std::env::Env;
 use std::io::ErrorKind;
 use std::process::ExitCode;
@@ -29,6 +30,10 @@ fn main(rt: HostRuntime) -> ExitCode {
                 &mut rt.reader(),
                 &mut io::writer(&rt),
             );
+            end(&rt, ran)
+        }
+        Ok(Request::World) => {
+            let ran = run_world(rt.alloc(), &mut rt.reader(), &mut io::writer(&rt));
             end(&rt, ran)
         }
         Err(refusal) => refuse(&rt, refusal),

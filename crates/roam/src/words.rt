@@ -4,11 +4,47 @@ use clap::{Arg, Command, Error, value_parser};
 use std::alloc::{AllocError, Global};
 use std::convert::AsStr;
 
+/// What `roam world --help` says of a script.
+const LINES: &str = "\
+Lines, with one space between words:
+  session ID R C      A session begins, of R rows and C columns; the first line
+  start SLOT ID       A client starts in a slot, 0 to 7
+  pane P HEX          Bytes come from the program of pane P
+  type SLOT ACT       An act is typed: char 61, key up, split right, split down,
+                      close, focus 2, next, grow 3, size 24 80, view -1
+  stick NOW           The server ticks, at a moment in milliseconds
+  ctick SLOT NOW      The client ticks
+  up K PORT NOW       Datagram K, of all that were sent, comes to the server
+  down SLOT K NOW     Datagram K comes to the client
+  drained P N         N bytes go to the program of pane P
+  show SLOT           What the client shows
+  face                What the session shows
+  out P               What waits for the program of pane P, in hexadecimal
+Empty lines and lines that begin with # are skipped. IDs are hexadecimal.
+
+Example:
+  session 1 4 8       ok
+  start 0 a1          ok
+  ctick 0 0           sent 1-1
+  up 1 5001 0         ok 0
+  pane 1 6869         ok
+  stick 0             sent 2-2
+  down 0 2 0          new
+  show 0              state 1
+                      |hi      |
+                      |        |
+                      |        |
+                      |[1]     |
+                      cursor 1 3 shown";
+
 /// What the words ask for.
 #[derive(Drop)]
 pub enum Request {
     /// `roam show`: a screen of these rows and columns.
     Show { rows: u16, cols: u16 },
+
+    /// `roam world`: a script is played.
+    World,
 }
 
 /// Why the words ask for nothing: want of memory; words that are no text; or `clap`'s answer, a refusal or a text that was
@@ -39,12 +75,19 @@ fn show_command<'a>(alloc: Global) -> Result<Command<'a>, AllocError> {
         .arg(cols)
 }
 
+fn world_command<'a>(alloc: Global) -> Command<'a> {
+    Command::new(alloc, "world")
+        .about("Plays a script from standard input and prints the answer to each of its lines")
+        .after_help(LINES)
+}
+
 fn program<'a>(alloc: Global) -> Result<Command<'a>, AllocError> {
     Command::new(alloc, "roam")
         .version("0.1.0")
         .about("A roaming terminal multiplexer")
         .subcommand_required(true)
-        .subcommand(show_command(alloc)?)
+        .subcommand(show_command(alloc)?)?
+        .subcommand(world_command(alloc))
 }
 
 /// What the words ask for, the program's own name first.
@@ -57,6 +100,9 @@ pub fn read_words<'a, S: AsStr>(alloc: Global, words: &'a [S]) -> Result<Request
         Err(error) if error.kind() == ErrorKind::OutOfMemory => return Err(Refusal::Memory),
         Err(error) => return Err(Refusal::Clap(error)),
     };
+    if let Some(("world", _)) = matches.subcommand() {
+        return Ok(Request::World);
+    }
     if let Some(("show", inner)) = matches.subcommand()
         && let Some(rows) = inner.get_one::<u16>("rows")
         && let Some(cols) = inner.get_one::<u16>("cols")

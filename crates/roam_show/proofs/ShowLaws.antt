@@ -1,10 +1,10 @@
 -- Laws of the text that `roam show` writes.
-use Rattle.std.proofs.Common.{◌≡◌, ℕ, suc, ◌+◌, ◌*◌, ◌<◌, List, [], ◌∷◌, ◌++◌, length, map, take, get_or, encode_utf8_all, encode_utf8, append-nil, refl, ◌∙◌, ap, add-one}
+use Rattle.std.proofs.Common.{◌≡◌, ℕ, suc, ◌+◌, ◌<◌, List, [], ◌∷◌, ◌++◌, length, map, take, get_or, encode_utf8_all, encode_utf8, append-nil, refl, ◌∙◌, ap, add-one}
 use Rattle.std.proofs.lemmas.List.{take_more}
 use Rattle.std.proofs.lemmas.Str.{encodes-append}
 use Rattle.roam_cells.specs.Glyph.{Glyph}
 use Rattle.roam_cells.specs.Screenshot.{row_text}
-use Rattle.roam_text.specs.Log.{Item, Byte}
+use Rattle.roam_text.specs.Log.{Byte}
 use Rattle.roam_show.specs.ShowText.{first_rows, row_line}
 
 -- one more character

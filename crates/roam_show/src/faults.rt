@@ -16,6 +16,10 @@ pub enum RunFault {
     /// The output could not be written.
     #[error("write failed")]
     Write,
+
+    /// The line of a script with this number, from 1, says no event, or one out of place.
+    #[error("line {0}: bad event")]
+    Event(u64),
 }
 
 impl From<Fault> for RunFault {
