@@ -7,3 +7,5 @@
 mod shows;
 #[cfg(test)]
 mod streams;
+#[cfg(test)]
+mod worlds;

@@ -633,11 +633,12 @@ fn a_reader_that_goes_on_is_given_up(rt: HostRuntime) {
 
 #[test]
 fn texts_of_faults(rt: HostRuntime) -> Result<(), Fail> {
-    let texts: [(RunFault, &str); 4] = [
+    let texts: [(RunFault, &str); 5] = [
         (RunFault::Core(Fault::BadSize), "bad size"),
         (RunFault::Core(Fault::OutOfMemory), "out of memory"),
         (RunFault::Read, "read failed"),
         (RunFault::Write, "write failed"),
+        (RunFault::Event(12), "line 12: bad event"),
     ];
     for (fault, text) in texts {
         assert!(rt; fault.to_string(rt.alloc())?.as_str() == text);

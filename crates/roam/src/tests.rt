@@ -38,6 +38,7 @@ fn a_fault_is_told_with_status_1(rt: HostRuntime) {
         (RunFault::Core(Fault::OutOfMemory), "roam: out of memory"),
         (RunFault::Read, "roam: read failed"),
         (RunFault::Write, "roam: write failed"),
+        (RunFault::Event(3), "roam: line 3: bad event"),
     ];
     for (fault, wanted) in faults {
         let ear = Ear {
@@ -60,7 +61,7 @@ fn a_fault_is_told_with_status_1(rt: HostRuntime) {
 #[test]
 fn texts_of_words(rt: HostRuntime) -> Result<(), Fail> {
     let alloc = rt.alloc();
-    let rows: [(&[&str], i32, &str); 6] = [
+    let rows: [(&[&str], i32, &str); 7] = [
         (
             ["roam", "show", "--rows", "x"].as_slice(),
             2,
@@ -84,9 +85,14 @@ fn texts_of_words(rt: HostRuntime) -> Result<(), Fail> {
         (
             ["roam", "--help"].as_slice(),
             0,
-            "A roaming terminal multiplexer\n\nUsage: roam <COMMAND>\n\nCommands:\n  show  Feeds standard input to a terminal and prints the screen that it makes\n  help  Print this message or the help of the given subcommand(s)\n\nOptions:\n  -h, --help     Print help\n  -V, --version  Print version\n",
+            "A roaming terminal multiplexer\n\nUsage: roam <COMMAND>\n\nCommands:\n  show   Feeds standard input to a terminal and prints the screen that it makes\n  world  Plays a script from standard input and prints the answer to each of its lines\n  help   Print this message or the help of the given subcommand(s)\n\nOptions:\n  -h, --help     Print help\n  -V, --version  Print version\n",
         ),
         (["roam", "--version"].as_slice(), 0, "roam 0.1.0\n"),
+        (
+            ["roam", "world", "script"].as_slice(),
+            2,
+            "error: unexpected argument 'script' found\n\nUsage: roam world\n\nFor more information, try '--help'.\n",
+        ),
     ];
     for (words, code, want) in rows {
         match read_words(alloc, words) {
@@ -100,5 +106,7 @@ fn texts_of_words(rt: HostRuntime) -> Result<(), Fail> {
     }
     let asked = read_words(alloc, &["roam", "show", "--rows", "2", "--cols", "8"]);
     assert!(rt; matches!(asked, Ok(Request::Show { rows: 2, cols: 8 })));
+    let asked = read_words(alloc, &["roam", "world"]);
+    assert!(rt; matches!(asked, Ok(Request::World)));
     Ok(())
 }
