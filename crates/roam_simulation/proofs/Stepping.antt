@@ -46,7 +46,8 @@ HasRun v session size events = (rs : List Reply) × StandsFor v session size (ma
 
 pub run_one : (v v' : WorldView) (session : ℕ) (size : SessionSize) (events : List EventIn) (i : ℕ) (e : EventIn) (r : Reply)
     → i < length events → e ≡ get_or events i e → HasRun v session size (take i events)
-    → ((es : List Event) (rs : List Reply) → StandsFor v session size es rs → StandsFor v' session size (es ++ event_of e ∷ []) (rs ++ r ∷ []))
+    → ((es : List Event) (rs : List Reply) → StandsFor v session size es rs
+    → StandsFor v' session size (es ++ event_of e ∷ []) (rs ++ r ∷ []))
     → HasRun v' session size (take (i + 1) events)
 run_one v v' session size events i e r lt is run steps = (
   run.0 ++ r ∷ [],
