@@ -6,7 +6,7 @@ use Rattle.roam_session.specs.Sessions.{SessionSize}
 use Rattle.roam_world.specs.Lists.{IsIn}
 use Rattle.roam_world.specs.Clients.{Client}
 use Rattle.roam_world.specs.Arrivals.{IsGap}
-use Rattle.roam_world.specs.Worlds.{World, Event, ToClient, Reply, Heard, Failed}
+use Rattle.roam_world.specs.Worlds.{World, Event, ToClient, Reply, Done, Sent, Taken, Heard, Refused, Failed, Stopped}
 use Rattle.roam_world.specs.Steps.{wstep}
 use Rattle.roam_world.specs.Laws.{Reaches, TakesActsInOrder}
 use Rattle.roam_world.specs.Numbers.{screen}
@@ -81,3 +81,13 @@ pub record ShowsSession (v : WorldView) (w : World) : Type 0 where
 abbrev pub IsNoGap : Event → Reply → Type 0
 IsNoGap (ToClient slot number now) reply = ((reply ≡ Heard IsGap) → ⊥) × ((reply ≡ Failed BadChange) → ⊥)
 IsNoGap _ reply = Unit {0}
+
+-- a reply that nothing is done
+abbrev pub IsRefusal : Reply → Type 0
+IsRefusal Done = ⊥
+IsRefusal (Sent first count) = ⊥
+IsRefusal (Taken count) = ⊥
+IsRefusal (Heard how) = ⊥
+IsRefusal Refused = Unit {0}
+IsRefusal (Failed fault) = Unit {0}
+IsRefusal (Stopped fault taken) = ⊥

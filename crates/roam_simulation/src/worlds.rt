@@ -9,7 +9,7 @@ ghost use Rattle.roam_world.specs.Laws.{HoldAtMostEight, OffersNewest, OneRoundS
 ghost use Rattle.roam_world.specs.Worlds.{World as WorldOf, Event as EventOf, PaneBytes, Typed, ServerTick, ClientTick, ToServer, ToClient, Start, Drain, Reply as ReplyOf};
 ghost use Rattle.roam_hub.specs.Servers.{address_of};
 ghost use Rattle.roam_simulation.specs.Events.{IsHandedIn, event_of, reply_of, reply_in};
-ghost use Rattle.roam_simulation.specs.Worlds.{start_in, IsNoGap, IsReached, ShowsSession, Stands, StandsFor, Steps};
+ghost use Rattle.roam_simulation.specs.Worlds.{start_in, IsNoGap, IsReached, IsRefusal, ShowsSession, Stands, StandsFor, Steps};
 
 use crate::events::{Event, Reply};
 use crate::networks::{Batch, Network};
@@ -243,13 +243,15 @@ impl World {
     }
 
     /// Lets one event happen, and answers how. The caller's condition: the numbers of an act are in their ranges, and a client starts in a
-    /// slot of 0 to 7. Where memory is wanting (`Fault(OutOfMemory)`, or `Stopped` at a datagram to the server) all is as it was, but for
-    /// the acts that were taken before. No datagram that comes to a start leaves a gap or has a bad change, whatever was lost before.
+    /// slot of 0 to 7. `Refused` and `Fault` leave all as it was; `Stopped` at a full queue or at want of memory keeps the acts that were
+    /// taken before, and that the start was heard. No datagram that comes to a start leaves a gap or has a bad change.
     pub fn step(&mut self, alloc: Global, event: &Event) -> Reply
         requires handed_in { IsHandedIn event.now }
         ensures stands { (session : ℕ) (size : SessionSize) (es : List EventOf) (rs : List ReplyOf)
             → StandsFor self.old session size es rs
             → StandsFor self.new session size (es ++ event_of event.now ∷ []) (rs ++ reply_of result ∷ []) }
+        ensures refused { (session : ℕ) (size : SessionSize) (es : List EventOf) (rs : List ReplyOf)
+            → StandsFor self.old session size es rs → IsRefusal (reply_of result) → StandsFor self.new session size es rs }
         ensures no_gap { (session : ℕ) (size : SessionSize) (es : List EventOf) (rs : List ReplyOf)
             → StandsFor self.old session size es rs → IsNoGap (event_of event.now) (reply_of result) }
     {

@@ -1,3 +1,4 @@
+use Rattle.roam_simulation.proofs.Refusing.{stands_still}
 use Rattle.roam_simulation.proofs.Stepping.{no_gap, reached, stands_after}
 use Rattle.roam_simulation.proofs.worlds.World.step.Goals as goal
 
@@ -7,6 +8,10 @@ returns-in-Ok c =
       stands =
           λ session size es rs st.
           stands_after _ _ session size es rs _ _ c.facts.ensures.event st
+          (c.in-Ok.ensures.steps st.world (reached _ session size es rs st) st.stands);
+      refused =
+          λ session size es rs st.
+          stands_still _ _ session size es rs _ _ st
           (c.in-Ok.ensures.steps st.world (reached _ session size es rs st) st.stands);
       no_gap =
           λ session size es rs st.
@@ -20,6 +25,10 @@ returns-in-Err c =
       stands =
           λ session size es rs st.
           stands_after _ _ session size es rs _ _ c.facts.ensures.event st
+          (c.in-Err.ensures.steps st.world (reached _ session size es rs st) st.stands);
+      refused =
+          λ session size es rs st.
+          stands_still _ _ session size es rs _ _ st
           (c.in-Err.ensures.steps st.world (reached _ session size es rs st) st.stands);
       no_gap =
           λ session size es rs st.
