@@ -40,7 +40,8 @@ steps_drained v w pane n result server st (drains_gone output at le e stands) =
       stands = stands_served v w server (after_input w.server (Drained pane n)) st refl stands;
     }
 
-waiting : (o : Option (List ℕ)) (n : ℕ) → Some n ≡ option_map (λ (xs : List ℕ). length xs) o → (xs : List ℕ) × (o ≡ Some xs) × (length xs ≡ n)
+waiting : (o : Option (List ℕ)) (n : ℕ) → Some n ≡ option_map (λ (xs : List ℕ). length xs) o
+    → (xs : List ℕ) × (o ≡ Some xs) × (length xs ≡ n)
 waiting None n e = absurd (cc)
 waiting (Some xs) n e = (xs, refl, let z : length xs ≡ n = cc in z)
 

@@ -7,3 +7,4 @@ pub mod Ticking
 pub mod Coming
 pub mod Starting
 pub mod Stepping
+pub mod Refusing

@@ -3,12 +3,12 @@ use Rattle.std.proofs.Common.{◌≡◌, ℕ, ◌+◌, ◌<◌, List, [], ◌∷
 use Rattle.std.specs.Prelude.{map}
 use Rattle.std.proofs.lemmas.List.{map-append, take_more}
 use Rattle.roam_session.specs.Sessions.{SessionSize}
-use Rattle.roam_world.specs.Worlds.{World, Event, Reply, new_world}
+use Rattle.roam_world.specs.Worlds.{World, Event, PaneBytes, Typed, ServerTick, ClientTick, ToServer, ToClient, Start, Drain, Reply, new_world}
 use Rattle.roam_world.specs.Steps.{wstep, Run}
-use Rattle.roam_world.specs.Laws.{IsEvent, AreEvents}
+use Rattle.roam_world.specs.Laws.{IsEvent, AreEvents, LeavesNoGap}
 use Rattle.roam_simulation.specs.declared.events.Event.{Event as EventIn}
 use Rattle.roam_simulation.specs.Events.{event_of}
-use Rattle.roam_simulation.specs.Worlds.{WorldView, IsReached, StandsFor, Steps}
+use Rattle.roam_simulation.specs.Worlds.{WorldView, IsNoGap, IsReached, StandsFor, Steps}
 
 events_more : (es : List Event) (e : Event) → AreEvents es → IsEvent e → AreEvents (es ++ e ∷ [])
 events_more [] e are is = (is, tt)
@@ -46,7 +46,8 @@ HasRun v session size events = (rs : List Reply) × StandsFor v session size (ma
 
 pub run_one : (v v' : WorldView) (session : ℕ) (size : SessionSize) (events : List EventIn) (i : ℕ) (e : EventIn) (r : Reply)
     → i < length events → e ≡ get_or events i e → HasRun v session size (take i events)
-    → ((es : List Event) (rs : List Reply) → StandsFor v session size es rs → StandsFor v' session size (es ++ event_of e ∷ []) (rs ++ r ∷ []))
+    → ((es : List Event) (rs : List Reply) → StandsFor v session size es rs
+    → StandsFor v' session size (es ++ event_of e ∷ []) (rs ++ r ∷ []))
     → HasRun v' session size (take (i + 1) events)
 run_one v v' session size events i e r lt is run steps = (
   run.0 ++ r ∷ [],
@@ -58,3 +59,13 @@ run_one v v' session size events i e r lt is run steps = (
     more =
         ap (map event_of) (take_more events i e lt ∙ ap (λ (x : EventIn). take i events ++ x ∷ []) (sym is))
         ∙ map-append event_of (take i events) (e ∷ [])
+
+pub no_gap : (w : World) (e : Event) (r : Reply) (v : WorldView) → LeavesNoGap w → Steps w e r v → IsNoGap e r
+no_gap w (PaneBytes pane bytes) r v law s = tt
+no_gap w (Typed slot act) r v law s = tt
+no_gap w (ServerTick now) r v law s = tt
+no_gap w (ClientTick slot now) r v law s = tt
+no_gap w (ToServer k from now) r v law s = tt
+no_gap w (ToClient slot k now) r v law s = law slot k now r s.left s.step
+no_gap w (Start slot id) r v law s = tt
+no_gap w (Drain pane n) r v law s = tt

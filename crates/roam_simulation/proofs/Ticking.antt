@@ -4,7 +4,7 @@ use Rattle.std.specs.Prelude.{Ok, Err, Vec, map, ◌&&◌, ◌||◌}
 use Rattle.std.specs.List.{list_any}
 use Rattle.std.specs.declared.alloc.Global.{Global}
 use Rattle.std.proofs.lemmas.Bool.Decides.{nat_tests}
-use Rattle.std.proofs.lemmas.List.{map-append}
+use Rattle.std.proofs.lemmas.List.{length-map, map-append}
 use Rattle.roam_cells.specs.declared.faults.Fault.{Fault}
 use Rattle.roam_cells.specs.declared.faults.Fault.TheVariants.{OutOfMemory, Spent}
 use Rattle.roam_acts.specs.declared.acts.Act.{Act}
@@ -69,21 +69,12 @@ no_number_spent w now t l =
 pub sent_same : (v : WorldView) (w : World) (texts : List (List ℕ)) → Stands v w → texts ≡ v.sent → Stands (record v { sent = texts }) w
 sent_same v w texts st e = record { session = st.session; server = st.server; starts = st.starts; sent = e ∙ st.sent }
 
+lengthened : (ds : List DatagramValue) (texts : List (List ℕ)) → texts ≡ map datagram_text ds → length texts ≡ length ds
+lengthened ds texts e = ap (λ (xs : List (List ℕ)). length xs) e ∙ length-map ds datagram_text
+
 counted : (w : World) (texts : List (List ℕ)) (first : ℕ) → texts ≡ map datagram_text w.sent → first ≡ length texts + 1
     → first ≡ length w.sent + 1
-counted w texts first e is =
-    is ∙ ap (λ (xs : List (List ℕ)). length xs + 1) e ∙ ap (λ n. n + 1) (mapped w.sent)
-  where
-    mapped : (ds : List DatagramValue) → length (map datagram_text ds) ≡ length ds
-    mapped [] = refl
-    mapped (d ∷ ds) = let z = mapped ds in omega (arith, z)
-
-lengthened : (ds : List DatagramValue) (texts : List (List ℕ)) → texts ≡ map datagram_text ds → length texts ≡ length ds
-lengthened ds texts e = ap (λ (xs : List (List ℕ)). length xs) e ∙ mapped ds
-  where
-    mapped : (ds : List DatagramValue) → length (map datagram_text ds) ≡ length ds
-    mapped [] = refl
-    mapped (d ∷ ds) = let z = mapped ds in omega (arith, z)
+counted w texts first e is = is ∙ ap (λ n. n + 1) (lengthened w.sent texts e)
 
 added : (w : World) (ds : List DatagramValue) (old new texts : List (List ℕ)) → old ≡ map datagram_text w.sent → new ≡ old ++ texts
     → texts ≡ map datagram_text ds → new ≡ map datagram_text (w.sent ++ ds)
@@ -154,14 +145,10 @@ steps_ticked v w now all server texts first count st t l (ticks_ticked every s e
         texts_of_parcels all.items (sent_by w.server (moment w.server now))
         (sym (ap (λ (x : Vec (Addr × Vec ℕ Global) Global). parcels_of x.items) same) ∙ p)
 
-    mapped : (qs : List Parcel) → length (map (λ (q : Parcel). q.datagram) qs) ≡ length qs
-    mapped [] = refl
-    mapped (q ∷ qs) = let z = mapped qs in omega (arith, z)
-
     size : count ≡ length (sent_by w.server (moment w.server now))
     size =
         many ∙ lengthened (map (λ (q : Parcel). q.datagram) (sent_by w.server (moment w.server now))) (texts_in (FromServer all)) told
-        ∙ mapped (sent_by w.server (moment w.server now))
+        ∙ length-map (sent_by w.server (moment w.server now)) (λ (q : Parcel). q.datagram)
 
 -- ---- a client start
 

@@ -1,10 +1,12 @@
 -- What a world of the code stands for.
 use Rattle.std.specs.Prelude.{◌≡◌, ℕ, List, map, slice_index_or, Option, Some, None, true, ◌≤◌, length}
+use Rattle.roam_cells.specs.declared.faults.Fault.TheVariants.{BadChange}
 use Rattle.roam_wire.specs.Datagrams.{datagram_text}
 use Rattle.roam_session.specs.Sessions.{SessionSize}
 use Rattle.roam_world.specs.Lists.{IsIn}
 use Rattle.roam_world.specs.Clients.{Client}
-use Rattle.roam_world.specs.Worlds.{World, Event, Reply}
+use Rattle.roam_world.specs.Arrivals.{IsGap}
+use Rattle.roam_world.specs.Worlds.{World, Event, ToClient, Reply, Done, Sent, Taken, Heard, Refused, Failed, Stopped}
 use Rattle.roam_world.specs.Steps.{wstep}
 use Rattle.roam_world.specs.Laws.{Reaches, TakesActsInOrder}
 use Rattle.roam_world.specs.Numbers.{screen}
@@ -74,3 +76,18 @@ pub record ShowsSession (v : WorldView) (w : World) : Type 0 where
   pub same : (slot : ℕ) (c : ClientView) → start_in v.slots slot ≡ Some c
       → c.receiver.newest.state ≡ screen w.server.size w.server.log w.server.cuts c.receiver.newest.number
   pub acts : TakesActsInOrder w
+
+-- a datagram to a client start isn't answered by a gap or a bad change
+abbrev pub IsNoGap : Event → Reply → Type 0
+IsNoGap (ToClient slot number now) reply = ((reply ≡ Heard IsGap) → ⊥) × ((reply ≡ Failed BadChange) → ⊥)
+IsNoGap _ reply = Unit {0}
+
+-- a reply that nothing is done
+abbrev pub IsRefusal : Reply → Type 0
+IsRefusal Done = ⊥
+IsRefusal (Sent first count) = ⊥
+IsRefusal (Taken count) = ⊥
+IsRefusal (Heard how) = ⊥
+IsRefusal Refused = Unit {0}
+IsRefusal (Failed fault) = Unit {0}
+IsRefusal (Stopped fault taken) = ⊥

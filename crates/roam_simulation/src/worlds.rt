@@ -5,11 +5,11 @@ ghost use Rattle.std.specs.Option.{option_copied};
 ghost use Rattle.roam_acts.specs.Acts.{IsInRange};
 ghost use Rattle.roam_layout.specs.Layouts.{IsSessionSize};
 ghost use Rattle.roam_session.specs.Sessions.{SessionSize};
-ghost use Rattle.roam_world.specs.Laws.{OneRoundSuffices, OffersNewest};
+ghost use Rattle.roam_world.specs.Laws.{HoldAtMostEight, OffersNewest, OneRoundSuffices, RepliesToLatest};
 ghost use Rattle.roam_world.specs.Worlds.{World as WorldOf, Event as EventOf, PaneBytes, Typed, ServerTick, ClientTick, ToServer, ToClient, Start, Drain, Reply as ReplyOf};
 ghost use Rattle.roam_hub.specs.Servers.{address_of};
 ghost use Rattle.roam_simulation.specs.Events.{IsHandedIn, event_of, reply_of, reply_in};
-ghost use Rattle.roam_simulation.specs.Worlds.{start_in, IsReached, ShowsSession, Stands, StandsFor, Steps};
+ghost use Rattle.roam_simulation.specs.Worlds.{start_in, IsNoGap, IsReached, IsRefusal, ShowsSession, Stands, StandsFor, Steps};
 
 use crate::events::{Event, Reply};
 use crate::networks::{Batch, Network};
@@ -243,14 +243,19 @@ impl World {
     }
 
     /// Lets one event happen, and answers how. The caller's condition: the numbers of an act are in their ranges, and a client starts in a
-    /// slot of 0 to 7. Where memory is wanting (`Fault(OutOfMemory)`, or `Stopped` at a datagram to the server) all is as it was, but for
-    /// the acts that were taken before.
+    /// slot of 0 to 7. `Refused` and `Fault` leave all as it was; `Stopped` at a full queue or at want of memory keeps the acts that were
+    /// taken before, and that the start was heard. No datagram that comes to a start leaves a gap or has a bad change.
     pub fn step(&mut self, alloc: Global, event: &Event) -> Reply
         requires handed_in { IsHandedIn event.now }
         ensures stands { (session : ℕ) (size : SessionSize) (es : List EventOf) (rs : List ReplyOf)
             → StandsFor self.old session size es rs
             → StandsFor self.new session size (es ++ event_of event.now ∷ []) (rs ++ reply_of result ∷ []) }
+        ensures refused { (session : ℕ) (size : SessionSize) (es : List EventOf) (rs : List ReplyOf)
+            → StandsFor self.old session size es rs → IsRefusal (reply_of result) → StandsFor self.new session size es rs }
+        ensures no_gap { (session : ℕ) (size : SessionSize) (es : List EventOf) (rs : List ReplyOf)
+            → StandsFor self.old session size es rs → IsNoGap (event_of event.now) (reply_of result) }
     {
+        laws::lines_stay_true();
         event.facts();
         match self.perform(alloc, event) {
             Ok(reply) => reply,
@@ -299,5 +304,17 @@ impl World {
             → (stands : StandsFor self.now session size es rs) → OffersNewest stands.world }
     {
         laws::one_round_suffices();
+    }
+
+    /// No client start and no sender of a record of this world holds a ninth screen, and each datagram of a tick goes to the source of the
+    /// greatest-numbered datagram that came from its client start.
+    pub fn keeps_its_lines(&self)
+        ensures eight { (session : ℕ) (size : SessionSize) (es : List EventOf) (rs : List ReplyOf)
+            → (stands : StandsFor self.now session size es rs) → HoldAtMostEight stands.world }
+        ensures address { (session : ℕ) (size : SessionSize) (es : List EventOf) (rs : List ReplyOf)
+            → (stands : StandsFor self.now session size es rs) → RepliesToLatest stands.world }
+    {
+        laws::lines_stay_true();
+        laws::datagrams_keep_their_rules();
     }
 }

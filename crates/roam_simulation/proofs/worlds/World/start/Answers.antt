@@ -6,20 +6,24 @@ use Rattle.roam_simulation.proofs.Starting.{steps_used, steps_started}
 use Rattle.roam_simulation.proofs.worlds.World.start.Goals as goal
 
 pub returns-then-contains : goal.returns-then-contains
-returns-then-contains c = record {
-  steps = λ w st.
-      steps_used _ w c.args.slot c.args.id st
-      (subst (λ (v : WorldView). list_any (λ (x : ℕ). nat_eq x c.args.id) v.used ≡ true) c.self.view_is
-      (subst (λ (xs : List ℕ). list_any (λ (x : ℕ). nat_eq x c.args.id) xs ≡ true) c.as_slice.ensures.value
-      (sym c.contains.ensures.value ∙ c.if-contains.true)));
-}
+returns-then-contains c =
+    record {
+      steps =
+          λ w st.
+          steps_used _ w c.args.slot c.args.id st
+          (subst (λ (v : WorldView). list_any (λ (x : ℕ). nat_eq x c.args.id) v.used ≡ true) c.self.view_is
+          (subst (λ (xs : List ℕ). list_any (λ (x : ℕ). nat_eq x c.args.id) xs ≡ true) c.as_slice.ensures.value
+          (sym c.contains.ensures.value ∙ c.if-contains.true)));
+    }
 
 pub returns : goal.returns
-returns c = record {
-  steps = λ w st.
-      let s = subst (λ (v : WorldView). Stands v w) (sym c.self.view_is) st in
-      let lt : c.args.slot < length c.self.inside.slots.items = omega (arith, c.self.invariant, c.requires.slot) in
-      steps_started _ w c.args.slot c.args.id c.in_ok-client.client c.push.new.self.items s lt
-      (subst (λ (xs : List ℕ). list_any (λ (x : ℕ). nat_eq x c.args.id) xs ≡ false) c.as_slice.ensures.value
-      (sym c.contains.ensures.value ∙ c.if-contains.false)) c.in_ok-client.ensures.stands c.in_ok-push.ensures.items;
-}
+returns c =
+    record {
+      steps =
+          λ w st.
+          let s = subst (λ (v : WorldView). Stands v w) (sym c.self.view_is) st in
+          let lt : c.args.slot < length c.self.inside.slots.items = omega (arith, c.self.invariant, c.requires.slot) in
+          steps_started _ w c.args.slot c.args.id c.in_ok-client.client c.push.new.self.items s lt
+          (subst (λ (xs : List ℕ). list_any (λ (x : ℕ). nat_eq x c.args.id) xs ≡ false) c.as_slice.ensures.value
+          (sym c.contains.ensures.value ∙ c.if-contains.false)) c.in_ok-client.ensures.stands c.in_ok-push.ensures.items;
+    }
