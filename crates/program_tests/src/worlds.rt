@@ -14,31 +14,242 @@ struct Story {
 static STORIES: [Story; 7] = [
     Story {
         name: "a screen comes newest first, and an older one is old",
-        text: "> session 1 4 8\nok\n> start 0 a1\nok\n> ctick 0 0\nsent 1-1\n> up 1 5001 0\nok 0\n> stick 0\nsent 2-2\n> pane 1 61\nok\n> stick 20\nsent 3-3\n> pane 1 62\nok\n> stick 40\nsent 4-4\n> pane 1 63\nok\n> stick 60\nsent 5-5\n> down 0 5 60\nnew\n> down 0 4 70\nold\n> show 0\nstate 4\n|abc     |\n|        |\n|        |\n|[1]     |\ncursor 1 4 shown\n",
+        text: "\
+> session 1 4 8\n\
+ok\n\
+> start 0 a1\n\
+ok\n\
+> ctick 0 0\n\
+sent 1-1\n\
+> up 1 5001 0\n\
+ok 0\n\
+> stick 0\n\
+sent 2-2\n\
+> pane 1 61\n\
+ok\n\
+> stick 20\n\
+sent 3-3\n\
+> pane 1 62\n\
+ok\n\
+> stick 40\n\
+sent 4-4\n\
+> pane 1 63\n\
+ok\n\
+> stick 60\n\
+sent 5-5\n\
+> down 0 5 60\n\
+new\n\
+> down 0 4 70\n\
+old\n\
+> show 0\n\
+state 4\n\
+|abc     |\n\
+|        |\n\
+|        |\n\
+|[1]     |\n\
+cursor 1 4 shown\n",
     },
     Story {
         name: "acts are taken once, over repeats and a restart of the client",
-        text: "> session 1 4 8\nok\n> start 0 a1\nok\n> type 0 char 61\nok\n> type 0 char 62\nok\n> ctick 0 0\nsent 1-1\n> up 1 5001 0\nok 2\n> up 1 5001 0\nok 0\n> up 1 5001 0\nok 0\n> start 0 a2\nok\n> type 0 char 63\nok\n> ctick 0 10\nsent 2-2\n> up 2 5002 10\nok 1\n> up 1 5001 20\nok 0\n> out 1\n616263\n> stick 20\nsent 3-4\n> down 0 3 20\nE11\n> down 0 4 20\nnew\n",
+        text: "\
+> session 1 4 8\n\
+ok\n\
+> start 0 a1\n\
+ok\n\
+> type 0 char 61\n\
+ok\n\
+> type 0 char 62\n\
+ok\n\
+> ctick 0 0\n\
+sent 1-1\n\
+> up 1 5001 0\n\
+ok 2\n\
+> up 1 5001 0\n\
+ok 0\n\
+> up 1 5001 0\n\
+ok 0\n\
+> start 0 a2\n\
+ok\n\
+> type 0 char 63\n\
+ok\n\
+> ctick 0 10\n\
+sent 2-2\n\
+> up 2 5002 10\n\
+ok 1\n\
+> up 1 5001 20\n\
+ok 0\n\
+> out 1\n\
+616263\n\
+> stick 20\n\
+sent 3-4\n\
+> down 0 3 20\n\
+E11\n\
+> down 0 4 20\n\
+new\n",
     },
     Story {
         name: "a client that hears nothing is offered eight states, and then the screen of its own number",
-        text: "> session 1 4 8\nok\n> start 0 a1\nok\n> start 1 b1\nok\n> ctick 0 0\nsent 1-1\n> ctick 1 0\nsent 2-2\n> up 1 5001 0\nok 0\n> up 2 5002 0\nok 0\n> stick 0\nsent 3-4\n> pane 1 61\nok\n> stick 20\nsent 5-6\n> pane 1 62\nok\n> stick 40\nsent 7-8\n> pane 1 63\nok\n> stick 60\nsent 9-10\n> pane 1 64\nok\n> stick 80\nsent 11-12\n> pane 1 65\nok\n> stick 100\nsent 13-14\n> pane 1 66\nok\n> stick 120\nsent 15-16\n> down 1 16 120\nnew\n> ctick 1 120\nsent none\n> ctick 1 220\nsent 17-17\n> up 17 5002 220\nok 0\n> pane 1 67\nok\n> stick 220\nsent 18-18\n> down 1 18 220\nnew\n> show 1\nstate 8\n|abcdefg |\n|        |\n|        |\n|[1]     |\ncursor 1 8 shown\n> stick 370\nsent 19-19\n> down 0 19 370\nnew\n> show 0\nstate 7\n|abcdef  |\n|        |\n|        |\n|[1]     |\ncursor 1 7 shown\n",
+        text: "\
+> session 1 4 8\n\
+ok\n\
+> start 0 a1\n\
+ok\n\
+> start 1 b1\n\
+ok\n\
+> ctick 0 0\n\
+sent 1-1\n\
+> ctick 1 0\n\
+sent 2-2\n\
+> up 1 5001 0\n\
+ok 0\n\
+> up 2 5002 0\n\
+ok 0\n\
+> stick 0\n\
+sent 3-4\n\
+> pane 1 61\n\
+ok\n\
+> stick 20\n\
+sent 5-6\n\
+> pane 1 62\n\
+ok\n\
+> stick 40\n\
+sent 7-8\n\
+> pane 1 63\n\
+ok\n\
+> stick 60\n\
+sent 9-10\n\
+> pane 1 64\n\
+ok\n\
+> stick 80\n\
+sent 11-12\n\
+> pane 1 65\n\
+ok\n\
+> stick 100\n\
+sent 13-14\n\
+> pane 1 66\n\
+ok\n\
+> stick 120\n\
+sent 15-16\n\
+> down 1 16 120\n\
+new\n\
+> ctick 1 120\n\
+sent none\n\
+> ctick 1 220\n\
+sent 17-17\n\
+> up 17 5002 220\n\
+ok 0\n\
+> pane 1 67\n\
+ok\n\
+> stick 220\n\
+sent 18-18\n\
+> down 1 18 220\n\
+new\n\
+> show 1\n\
+state 8\n\
+|abcdefg |\n\
+|        |\n\
+|        |\n\
+|[1]     |\n\
+cursor 1 8 shown\n\
+> stick 370\n\
+sent 19-19\n\
+> down 0 19 370\n\
+new\n\
+> show 0\n\
+state 7\n\
+|abcdef  |\n\
+|        |\n\
+|        |\n\
+|[1]     |\n\
+cursor 1 7 shown\n",
     },
     Story {
         name: "layout commands that the layout refuses are taken",
-        text: "> session 1 4 17\nok\n> start 0 a1\nok\n> type 0 split right\nok\n> type 0 split right\nok\n> type 0 split down\nok\n> type 0 close\nok\n> type 0 close\nok\n> ctick 0 0\nsent 1-1\n> up 1 5001 0\nok 5\n> face\n|                 |\n|                 |\n|                 |\n|[1]              |\ncursor 1 1 shown\n> pane 9 61\nE4\n> out 9\nE4\n> down 0 9 0\nrefused\n> show 1\nrefused\n> type 1 next\nrefused\n> start 1 a1\nrefused\n> out 1\n-\n",
+        text: "\
+> session 1 4 17\n\
+ok\n\
+> start 0 a1\n\
+ok\n\
+> type 0 split right\n\
+ok\n\
+> type 0 split right\n\
+ok\n\
+> type 0 split down\n\
+ok\n\
+> type 0 close\n\
+ok\n\
+> type 0 close\n\
+ok\n\
+> ctick 0 0\n\
+sent 1-1\n\
+> up 1 5001 0\n\
+ok 5\n\
+> face\n\
+|                 |\n\
+|                 |\n\
+|                 |\n\
+|[1]              |\n\
+cursor 1 1 shown\n\
+> pane 9 61\n\
+E4\n\
+> out 9\n\
+E4\n\
+> down 0 9 0\n\
+refused\n\
+> show 1\n\
+refused\n\
+> type 1 next\n\
+refused\n\
+> start 1 a1\n\
+refused\n\
+> out 1\n\
+-\n",
     },
     Story {
         name: "a late datagram from an old address changes nothing",
-        text: "> session 1 4 8\nok\n> start 0 a1\nok\n> ctick 0 0\nsent 1-1\n> up 1 5001 0\nok 0\n> ctick 0 3000\nsent 2-2\n> up 2 6001 3000\nok 0\n> up 1 5001 3001\nok 0\n",
+        text: "\
+> session 1 4 8\n\
+ok\n\
+> start 0 a1\n\
+ok\n\
+> ctick 0 0\n\
+sent 1-1\n\
+> up 1 5001 0\n\
+ok 0\n\
+> ctick 0 3000\n\
+sent 2-2\n\
+> up 2 6001 3000\n\
+ok 0\n\
+> up 1 5001 3001\n\
+ok 0\n",
     },
     Story {
         name: "empty lines and lines that begin with # are skipped, and ids are hexadecimal in either case",
-        text: "> \n> # a session\n> session FfFf 4 8\nok\n> \n> #\n> start 7 0000000000000Ab1\nok\n> start 6 AB1\nrefused\n> pane 1 4aFf\nok\n> face\n|J\u{FFFD}      |\n|        |\n|        |\n|[1]     |\ncursor 1 3 shown\n",
+        text: "\
+> \n\
+> # a session\n\
+> session FfFf 4 8\n\
+ok\n\
+> \n\
+> #\n\
+> start 7 0000000000000Ab1\n\
+ok\n\
+> start 6 AB1\n\
+refused\n\
+> pane 1 4aFf\n\
+ok\n\
+> face\n\
+|J\u{FFFD}      |\n\
+|        |\n\
+|        |\n\
+|[1]     |\n\
+cursor 1 3 shown\n",
     },
     Story {
         name: "a script of no events prints nothing",
-        text: "> # nothing\n> \n",
+        text: "\
+> # nothing\n\
+> \n",
     },
 ];
 

@@ -54,7 +54,8 @@ pub head_fits : (line : List ℕ) (k : Kind) → headed_in kinds line ≡ Some k
 head_fits line k e = omega (arith, ap length (head_found line k e), length-append (head_of k) (drop (length (head_of k)) line))
 
 -- a line that is said has a head, and its argument behind it
-pub said : (line : List ℕ) (l : LineValue) → Says line l → (headed_in kinds line ≡ Some (kind_of l)) × IsArgument l (drop (length (head_of (kind_of l))) line)
+pub said : (line : List ℕ) (l : LineValue) → Says line l → (headed_in kinds line ≡ Some (kind_of l)) × IsArgument l (drop (length
+    (head_of (kind_of l))) line)
 said line l s =
     let head = head_of (kind_of l) in
     let behind : drop (length head) line ≡ s.0 = ap (drop (length head)) s.1 ∙ drop-append_seam head s.0 in
@@ -64,29 +65,34 @@ pub unsaid : (line : List ℕ) (l : LineValue) → headed_in kinds line ≡ None
 unsaid line l none s = let is = (said line l s).0 in absurd cc
 
 -- a line of a kind that is read tells what stands behind its head
-tells : (line : List ℕ) (k : Kind) (l : LineValue) → headed_in kinds line ≡ Some k → IsLine l → Says line l → Tells k (drop (length (head_of k)) line) l
+tells : (line : List ℕ) (k : Kind) (l : LineValue) → headed_in kinds line ≡ Some k → IsLine l → Says line l
+    → Tells k (drop (length (head_of k)) line) l
 tells line k l e is s =
     let both = said line l s in
     let one : Some k ≡ Some (kind_of l) = sym e ∙ both.0 in
     let same : kind_of l ≡ k = cc in
     record { same_kind = same; in_range = is; argument = subst (λ (x : Kind). IsArgument l (drop (length (head_of x)) line)) same both.1 }
 
-pub plain_read : (k : Kind) (text : List ℕ) (r : Option Line) → ((k ≡ kind.PaneBytes) → ⊥) → ((k ≡ kind.Typed) → ⊥) → option_map value_of r ≡ plain_in k text → IsRead k text (ok_or r BadEvent)
+pub plain_read : (k : Kind) (text : List ℕ) (r : Option Line) → ((k ≡ kind.PaneBytes) → ⊥) → ((k ≡ kind.Typed) → ⊥)
+    → option_map value_of r ≡ plain_in k text → IsRead k text (ok_or r BadEvent)
 plain_read k text (Some m) no_bytes no_act e = plain_found k text (value_of m) (sym e)
 plain_read k text None no_bytes no_act e = inr (refl, nothing)
   where
     nothing : TellsNothing k text
     nothing l t =
         let plain : IsPlain (kind_of l) = (λ p. no_bytes (sym t.same_kind ∙ p), λ p. no_act (sym t.same_kind ∙ p)) in
-        let read : plain_in k text ≡ Some l = sym (ap (λ (x : Kind). plain_in x text) t.same_kind) ∙ plain_again l text plain t.in_range t.argument in
+        let read : plain_in k text ≡ Some l = sym (ap (λ (x : Kind). plain_in x text) t.same_kind)
+        ∙ plain_again l text plain t.in_range t.argument in
         absurd cc
 
-pub is_found : (line text : List ℕ) (k : Kind) (r : Result Line LineFault) → headed_in kinds line ≡ Some k → text ≡ drop (length (head_of k)) line → IsRead k text r → IfOk r (λ l. IsLine (value_of l) × Says line (value_of l))
+pub is_found : (line text : List ℕ) (k : Kind) (r : Result Line LineFault) → headed_in kinds line ≡ Some k
+    → text ≡ drop (length (head_of k)) line → IsRead k text r → IfOk r (λ l. IsLine (value_of l) × Says line (value_of l))
 is_found line text k (Err fault) e is h = tt
 is_found line text k (Ok l) e is h =
     (h.in_range, (text, head_found line k e ∙ (λ i. head_of (sym h.same_kind i) ++ sym is i), h.argument))
 
-pub is_only : (line text : List ℕ) (k : Kind) (r : Result Line LineFault) → OneAct → headed_in kinds line ≡ Some k → text ≡ drop (length (head_of k)) line → IsRead k text r
+pub is_only : (line text : List ℕ) (k : Kind) (r : Result Line LineFault) → OneAct → headed_in kinds line ≡ Some k
+    → text ≡ drop (length (head_of k)) line → IsRead k text r
     → (l : LineValue) → IsLine l → Says line l → MatchResult r (λ m. value_of m ≡ l) (λ e. e ≡ OutOfMemory)
 is_only line text k (Ok m) one e is h l in_range s =
     one_line one k text (value_of m) l h (subst (λ (t : List ℕ). Tells k t l) (sym is) (tells line k l e in_range s))
@@ -95,7 +101,8 @@ is_only line text k (Err fault) one e is (inr bad) l in_range s =
     absurd (bad.1 l (subst (λ (t : List ℕ). Tells k t l) (sym is) (tells line k l e in_range s)))
 
 -- no bytes were read, or memory is wanting for them
-pub bytes_unread : (text : List ℕ) (words : List ℕ × List ℕ) (pane : ℕ) (fault : LineFault) (r : Result Line LineFault) → first_word text ≡ Some words
+pub bytes_unread : (text : List ℕ) (words : List ℕ × List ℕ) (pane : ℕ) (fault : LineFault) (r : Result Line LineFault)
+    → first_word text ≡ Some words
     → byte_in words.0 ≡ Some pane → (fault ≡ OutOfMemory) ⊎ ((fault ≡ BadEvent) × (bytes_in words.1 ≡ None)) → IsErrAnd r (λ e. e ≡ fault)
     → IsRead kind.PaneBytes text r
 bytes_unread text words pane fault (Ok l) is first why h = absurd h
@@ -106,4 +113,5 @@ bytes_unread text words pane fault (Err e) is first (inr bad) h =
 
 pub one_value : OneAct → (line : List ℕ) (a b : LineValue) → IsLine a → IsLine b → Says line a → Says line b → a ≡ b
 one_value one line a b p q s t =
-    one_line one (kind_of b) (drop (length (head_of (kind_of b))) line) a b (tells line (kind_of b) a (said line b t).0 p s) (tells line (kind_of b) b (said line b t).0 q t)
+    one_line one (kind_of b) (drop (length (head_of (kind_of b))) line) a b (tells line (kind_of b) a (said line b t).0 p s) (tells line
+    (kind_of b) b (said line b t).0 q t)

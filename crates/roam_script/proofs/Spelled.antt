@@ -29,7 +29,11 @@ value_of_decimal : (n : ℕ) → n < 2 ^ 64 → digits_value 10 (without_leading
 value_of_decimal n small =
     let num = decimal_is_IsNumeral n small in
     let first = digit_at (decimal n) 0 num.0.1 num.0.0 in
-    let plain : without_leading_plus (decimal n) ≡ decimal n = without_leading_plus_none (decimal n) (λ e. absurd (omega (arith, first.0, e))) in
+    let plain : without_leading_plus (decimal n) ≡ decimal n = without_leading_plus_none (decimal n) (λ e. absurd (omega (
+      arith,
+      first.0,
+      e,
+    ))) in
     rw plain num.1
 
 is_number_true : (most n : ℕ) (text : List ℕ) → is_number most n text ≡ true → (n ≤ most) × (text ≡ decimal n)
@@ -46,7 +50,8 @@ true_is_number most n le =
 pub number_again : (most n : ℕ) → n ≤ most → n < 2 ^ 64 → number_in most (decimal n) ≡ Some n
 number_again most n le small =
     let text = decimal n in
-    ap (λ (v : ℕ). cond (is_number most v text) (Some v) None) (value_of_decimal n small) ∙ ap (λ (b : Bool). cond b (Some n) None) (true_is_number most n le)
+    ap (λ (v : ℕ). cond (is_number most v text) (Some v) None) (value_of_decimal n small)
+    ∙ ap (λ (b : Bool). cond b (Some n) None) (true_is_number most n le)
 
 pub number_found : (most : ℕ) (text : List ℕ) (n : ℕ) → number_in most text ≡ Some n → (n ≤ most) × (text ≡ decimal n)
 number_found most text n e =
@@ -57,20 +62,29 @@ number_found most text n e =
 no_number : (most : ℕ) (text : List ℕ) → ((n : ℕ) → n ≤ most → text ≡ decimal n → ⊥) → number_in most text ≡ None
 no_number most text h = by (is_number most (digits_value 10 (without_leading_plus text)) text) refl
   where
-    by : (b : Bool) → is_number most (digits_value 10 (without_leading_plus text)) text ≡ b → cond b (Some (digits_value 10 (without_leading_plus text))) None ≡ None
-    by true e = let both = is_number_true most (digits_value 10 (without_leading_plus text)) text e in absurd (h (digits_value 10 (without_leading_plus text)) both.0 both.1)
+    by : (b : Bool) → is_number most (digits_value 10 (without_leading_plus text)) text ≡ b
+        → cond b (Some (digits_value 10 (without_leading_plus text))) None ≡ None
+    by true e = let both = is_number_true most (digits_value 10 (without_leading_plus text)) text e in absurd (h (digits_value 10
+        (without_leading_plus text)) both.0 both.1)
     by false e = refl
 
 -- what is no text is no number
-pub no_text : {S E : Type 0} (most : ℕ) (text : List ℕ) (r : Result S E) (P : S → Type 0) (Q : E → Type 0) → most < 2 ^ 64 → None ≡ result_ok r → MatchResult r P (λ e. (¬ (IsUtf8 text)) × Q e) → number_in most text ≡ None
+pub no_text : {S E : Type 0} (most : ℕ) (text : List ℕ) (r : Result S E) (P : S → Type 0) (Q : E → Type 0) → most < 2 ^ 64
+    → None ≡ result_ok r → MatchResult r P (λ e. (¬ (IsUtf8 text)) × Q e) → number_in most text ≡ None
 no_text most text (Ok s) P Q small none h = absurd cc
 no_text most text (Err e) P Q small none h =
-    no_number most text (λ n le is. h.0 (subst IsUtf8 (sym is) (IsUtf8-from_ascii (decimal n) (IsAscii-decimal n (omega (arith, le, small))))))
+    no_number most text (λ n le is. h.0 (subst IsUtf8 (sym is) (IsUtf8-from_ascii (decimal n) (IsAscii-decimal n (omega (
+      arith,
+      le,
+      small,
+    ))))))
 
 -- what doesn't parse is no number
-pub no_parse : {E : Type 0} (most : ℕ) (text : List ℕ) (r : Result ℕ E) → most < 2 ^ 64 → None ≡ result_ok r → ParsesUnsigned 64 10 text r → number_in most text ≡ None
+pub no_parse : {E : Type 0} (most : ℕ) (text : List ℕ) (r : Result ℕ E) → most < 2 ^ 64 → None ≡ result_ok r
+    → ParsesUnsigned 64 10 text r → number_in most text ≡ None
 no_parse most text r small none parses =
-    no_number most text (λ n le is. let ok = parse-decimal 64 n text r (omega (arith, le, small)) (omega (arith, le, small)) is parses in absurd cc)
+    no_number most text (λ n le is. let ok = parse-decimal 64 n text r (omega (arith, le, small)) (omega (arith, le, small)) is parses in
+    absurd cc)
 
 -- ---- hexadecimal digits
 
@@ -96,10 +110,12 @@ id_again text id h =
     rw (long, short, hex, value) refl
 
 -- one more digit
-pub value_more : (text : List ℕ) (i n d : ℕ) → i < length text → n ≡ digits_value 16 (take i text) → d ≡ digit_value (get_or text i 0) → n * 16 + d ≡ digits_value 16 (take (i + 1) text)
+pub value_more : (text : List ℕ) (i n d : ℕ) → i < length text → n ≡ digits_value 16 (take i text) → d ≡ digit_value (get_or text i 0)
+    → n * 16 + d ≡ digits_value 16 (take (i + 1) text)
 value_more text i n d lt is digit = (λ k. is k * 16 + digit k) ∙ sym (digits_value_more 16 text i lt)
 
-pub hexadecimal_more : (text : List ℕ) (i d : ℕ) → i < length text → list_all is_hexadecimal (take i text) ≡ true → d ≡ digit_value (get_or text i 0) → d < 16 → list_all is_hexadecimal (take (i + 1) text) ≡ true
+pub hexadecimal_more : (text : List ℕ) (i d : ℕ) → i < length text → list_all is_hexadecimal (take i text) ≡ true
+    → d ≡ digit_value (get_or text i 0) → d < 16 → list_all is_hexadecimal (take (i + 1) text) ≡ true
 hexadecimal_more text i d lt all digit small =
     let here : is_hexadecimal (get_or text i 0) ≡ true = grind (arith, nat_tests, digit, small) in
     list_all_more is_hexadecimal text i 0 lt ∙ (λ k. all k && here k)

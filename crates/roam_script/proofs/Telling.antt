@@ -55,26 +55,33 @@ two_more first middle last small medium f g h p q r =
 
 pub plain_again : (l : LineValue) (text : List ℕ) → IsPlain (kind_of l) → IsLine l → IsArgument l text → plain_in (kind_of l) text ≡ Some l
 plain_again (Session id rows cols) text plain is h =
-    let rest = two_again short_in short_in (decimal rows) (decimal cols) rows cols (decimal_word rows (omega (arith, is.1))) (short_again rows is.1) (short_again cols is.2) in
-    let all = two_again id_in (two_in short_in short_in) h.0 (decimal rows ++ 0x20 ∷ decimal cols) id (rows, cols) (id_word h.0 id h.1) (id_again h.0 id h.1) rest in
+    let rest = two_again short_in short_in (decimal rows) (decimal cols) rows cols (decimal_word rows (omega (arith, is.1))) (short_again
+    rows is.1) (short_again cols is.2) in
+    let all = two_again id_in (two_in short_in short_in) h.0 (decimal rows ++ 0x20 ∷ decimal cols) id (rows, cols) (id_word h.0 id h.1)
+    (id_again h.0 id h.1) rest in
     ap (plain_in kind.Session) h.2 ∙ ap (option_map (λ (p : ℕ × (ℕ × ℕ)). Session p.0 p.1.0 p.1.1)) all
 plain_again (Start slot id) text plain is h =
-    let all = two_again slot_in id_in (decimal slot) h.0 slot id (decimal_word slot (omega (arith, is.0))) (slot_again slot is.0) (id_again h.0 id h.1) in
+    let all = two_again slot_in id_in (decimal slot) h.0 slot id (decimal_word slot (omega (arith, is.0))) (slot_again slot is.0)
+    (id_again h.0 id h.1) in
     ap (plain_in kind.Start) h.2 ∙ ap (option_map (λ (p : ℕ × ℕ). Start p.0 p.1)) all
 plain_again (PaneBytes pane bytes) text plain is h = absurd (plain.0 refl)
 plain_again (Typed slot act) text plain is h = absurd (plain.1 refl)
 plain_again (ServerTick now) text plain is h = ap (plain_in kind.ServerTick) h ∙ ap (option_map ServerTick) (long_again now is)
 plain_again (ClientTick slot now) text plain is h =
-    let all = two_again slot_in long_in (decimal slot) (decimal now) slot now (decimal_word slot (omega (arith, is.0))) (slot_again slot is.0) (long_again now is.1) in
+    let all = two_again slot_in long_in (decimal slot) (decimal now) slot now (decimal_word slot (omega (arith, is.0))) (slot_again slot
+    is.0) (long_again now is.1) in
     ap (plain_in kind.ClientTick) h ∙ ap (option_map (λ (p : ℕ × ℕ). ClientTick p.0 p.1)) all
 plain_again (ToServer number port now) text plain is h =
-    let all = two_more number port now is.0 (omega (arith, is.1)) long_in short_in long_in (long_again number is.0) (short_again port is.1) (long_again now is.2) in
+    let all = two_more number port now is.0 (omega (arith, is.1)) long_in short_in long_in (long_again number is.0) (short_again port
+    is.1) (long_again now is.2) in
     ap (plain_in kind.ToServer) h ∙ ap (option_map (λ (p : ℕ × (ℕ × ℕ)). ToServer p.0 p.1.0 p.1.1)) all
 plain_again (ToClient slot number now) text plain is h =
-    let all = two_more slot number now (omega (arith, is.0)) is.1 slot_in long_in long_in (slot_again slot is.0) (long_again number is.1) (long_again now is.2) in
+    let all = two_more slot number now (omega (arith, is.0)) is.1 slot_in long_in long_in (slot_again slot is.0) (long_again number is.1)
+    (long_again now is.2) in
     ap (plain_in kind.ToClient) h ∙ ap (option_map (λ (p : ℕ × (ℕ × ℕ)). ToClient p.0 p.1.0 p.1.1)) all
 plain_again (Drained pane count) text plain is h =
-    let all = two_again byte_in long_in (decimal pane) (decimal count) pane count (decimal_word pane (omega (arith, is.0))) (byte_again pane is.0) (long_again count is.1) in
+    let all = two_again byte_in long_in (decimal pane) (decimal count) pane count (decimal_word pane (omega (arith, is.0))) (byte_again
+    pane is.0) (long_again count is.1) in
     ap (plain_in kind.Drained) h ∙ ap (option_map (λ (p : ℕ × ℕ). Drained p.0 p.1)) all
 plain_again (Show slot) text plain is h = ap (plain_in kind.Show) h ∙ ap (option_map Show) (slot_again slot is)
 plain_again Face text plain is h = ap (plain_in kind.Face) h
@@ -97,7 +104,8 @@ pub record IsNumber (most : ℕ) (text : List ℕ) (n : ℕ) : Type 0 where
 number_is : (most : ℕ) (text : List ℕ) (n : ℕ) → number_in most text ≡ Some n → IsNumber most text n
 number_is most text n e = let f = number_found most text n e in record { most_of = f.0; text_is = f.1 }
 
-session_found : (text : List ℕ) (p : ℕ × (ℕ × ℕ)) → two_in id_in (two_in short_in short_in) text ≡ Some p → Tells kind.Session text (Session p.0 p.1.0 p.1.1)
+session_found : (text : List ℕ) (p : ℕ × (ℕ × ℕ)) → two_in id_in (two_in short_in short_in) text ≡ Some p
+    → Tells kind.Session text (Session p.0 p.1.0 p.1.1)
 session_found text p e =
     let t = two_found id_in (two_in short_in short_in) text p e in
     let u = two_found short_in short_in t.rest p.1 t.second in
@@ -140,7 +148,8 @@ pub record AreThree (most_first most_middle most_last : ℕ) (text : List ℕ) (
   pub last_of : last ≤ most_last
   pub text_is : text ≡ decimal first ++ 0x20 ∷ (decimal middle ++ 0x20 ∷ decimal last)
 
-three_are : (l m n : ℕ) (text : List ℕ) (p : ℕ × (ℕ × ℕ)) → two_in (number_in l) (two_in (number_in m) (number_in n)) text ≡ Some p → AreThree l m n text p.0 p.1.0 p.1.1
+three_are : (l m n : ℕ) (text : List ℕ) (p : ℕ × (ℕ × ℕ)) → two_in (number_in l) (two_in (number_in m) (number_in n)) text ≡ Some p
+    → AreThree l m n text p.0 p.1.0 p.1.1
 three_are l m n text p e =
     let t = two_found (number_in l) (two_in (number_in m) (number_in n)) text p e in
     let first = number_is l t.word p.0 t.first in
@@ -168,11 +177,24 @@ plain_found kind.Typed text l e = absurd cc
 plain_found kind.ServerTick text l e =
     let m = mapped ServerTick (long_in text) l e in
     let n = number_is 18446744073709551615 text m.0 m.1 in
-    moved kind.ServerTick text (ServerTick m.0) l m.2 (record { same_kind = refl; in_range = omega (arith, n.most_of); argument = n.text_is })
+    moved kind.ServerTick text (ServerTick m.0) l m.2 (record {
+      same_kind = refl;
+      in_range = omega (arith, n.most_of);
+      argument =
+          n.text_is;
+    })
 plain_found kind.ClientTick text l e =
     let m = mapped (λ (p : ℕ × ℕ). ClientTick p.0 p.1) (two_in slot_in long_in text) l e in
     let n = numbers_are 7 18446744073709551615 text m.0 m.1 in
-    moved kind.ClientTick text (ClientTick m.0.0 m.0.1) l m.2 (record { same_kind = refl; in_range = (omega (arith, n.first_of), omega (arith, n.last_of)); argument = n.text_is })
+    moved kind.ClientTick text (ClientTick m.0.0 m.0.1) l m.2 (record {
+      same_kind = refl;
+      in_range = (
+        omega (arith, n.first_of),
+        omega
+            (arith, n.last_of),
+      );
+      argument = n.text_is;
+    })
 plain_found kind.ToServer text l e =
     let m = mapped (λ (p : ℕ × (ℕ × ℕ)). ToServer p.0 p.1.0 p.1.1) (two_in long_in (two_in short_in long_in) text) l e in
     let n = three_are 18446744073709551615 65535 18446744073709551615 text m.0 m.1 in
@@ -192,7 +214,17 @@ plain_found kind.ToClient text l e =
 plain_found kind.Drained text l e =
     let m = mapped (λ (p : ℕ × ℕ). Drained p.0 p.1) (two_in byte_in long_in text) l e in
     let n = numbers_are 255 18446744073709551615 text m.0 m.1 in
-    moved kind.Drained text (Drained m.0.0 m.0.1) l m.2 (record { same_kind = refl; in_range = (omega (arith, n.first_of), omega (arith, n.last_of)); argument = n.text_is })
+    moved kind.Drained text (Drained m.0.0 m.0.1) l m.2 (record {
+      same_kind = refl;
+      in_range = (
+        omega (arith, n.first_of),
+        omega (
+          arith,
+          n.last_of,
+        ),
+      );
+      argument = n.text_is;
+    })
 plain_found kind.Show text l e =
     let m = mapped Show (slot_in text) l e in
     let n = number_is 7 text m.0 m.1 in
@@ -217,7 +249,8 @@ bytes_again : (text bytes : List ℕ) → AreBytes text bytes → bytes_in text 
 bytes_again [] bytes h = absurd (omega (arith, h.some))
 bytes_again (d ∷ ds) bytes h = ap (λ (r : Result (List ℕ) FromHexError). result_ok r) h.pairs
 
-pub pane_bytes_found : (text : List ℕ) (p : ℕ × List ℕ) → two_in byte_in bytes_in text ≡ Some p → Tells kind.PaneBytes text (PaneBytes p.0 p.1)
+pub pane_bytes_found : (text : List ℕ) (p : ℕ × List ℕ) → two_in byte_in bytes_in text ≡ Some p
+    → Tells kind.PaneBytes text (PaneBytes p.0 p.1)
 pane_bytes_found text p e =
     let t = two_found byte_in bytes_in text p e in
     let pane = number_is 255 t.word p.0 t.first in
@@ -238,7 +271,8 @@ pub record IsTyped (text : List ℕ) (slot : ℕ) (act : Act) : Type 0 where
   pub act_is : IsAct act
   pub spells : SpellsAct words act
 
-typed_is : (text : List ℕ) (l : LineValue) → kind_of l ≡ kind.Typed → IsLine l → IsArgument l text → (slot : ℕ) × (act : Act) × IsTyped text slot act × (l ≡ Typed slot act)
+typed_is : (text : List ℕ) (l : LineValue) → kind_of l ≡ kind.Typed → IsLine l → IsArgument l text
+    → (slot : ℕ) × (act : Act) × IsTyped text slot act × (l ≡ Typed slot act)
 typed_is text (Typed slot act) k is h = (
   slot,
   act,
@@ -276,7 +310,8 @@ typed_no_slot text p e none l t =
     let is : slot_in p.0 ≡ Some q.0 = ap (λ (w : List ℕ × List ℕ). slot_in w.0) same ∙ q.2.slot_is in
     absurd cc
 
-pub typed_no_act : (text : List ℕ) (p : List ℕ × List ℕ) → first_word text ≡ Some p → ((act : Act) → IsAct act → SpellsAct p.1 act → ⊥) → TellsNothing kind.Typed text
+pub typed_no_act : (text : List ℕ) (p : List ℕ × List ℕ) → first_word text ≡ Some p → ((act : Act) → IsAct act → SpellsAct p.1 act → ⊥)
+    → TellsNothing kind.Typed text
 typed_no_act text p e none l t =
     let q = typed_is text l t.same_kind t.in_range t.argument in
     let words : List ℕ × List ℕ = (decimal q.0, q.2.words) in
@@ -284,7 +319,8 @@ typed_no_act text p e none l t =
     let same : p ≡ words = cc in
     none q.1 q.2.act_is (subst (λ (w : List ℕ × List ℕ). SpellsAct w.1 q.1) (sym same) q.2.spells)
 
-pub typed_found : (text : List ℕ) (p : List ℕ × List ℕ) (slot : ℕ) (act : Act) → first_word text ≡ Some p → slot_in p.0 ≡ Some slot → IsAct act → SpellsAct p.1 act → Tells kind.Typed text (Typed slot act)
+pub typed_found : (text : List ℕ) (p : List ℕ × List ℕ) (slot : ℕ) (act : Act) → first_word text ≡ Some p → slot_in p.0 ≡ Some slot
+    → IsAct act → SpellsAct p.1 act → Tells kind.Typed text (Typed slot act)
 typed_found text p slot act e s is spells =
     let n = number_is 7 p.0 slot s in
     record {
@@ -303,8 +339,10 @@ both_plain : (k : Kind) (text : List ℕ) (a b : LineValue) → IsPlain k → Te
 both_plain k text a b plain s t =
     let first : IsPlain (kind_of a) = (λ p. plain.0 (sym s.same_kind ∙ p), λ p. plain.1 (sym s.same_kind ∙ p)) in
     let second : IsPlain (kind_of b) = (λ p. plain.0 (sym t.same_kind ∙ p), λ p. plain.1 (sym t.same_kind ∙ p)) in
-    let read : plain_in k text ≡ Some a = sym (ap (λ (x : Kind). plain_in x text) s.same_kind) ∙ plain_again a text first s.in_range s.argument in
-    let again : plain_in k text ≡ Some b = sym (ap (λ (x : Kind). plain_in x text) t.same_kind) ∙ plain_again b text second t.in_range t.argument in
+    let read : plain_in k text ≡ Some a = sym (ap (λ (x : Kind). plain_in x text) s.same_kind)
+    ∙ plain_again a text first s.in_range s.argument in
+    let again : plain_in k text ≡ Some b = sym (ap (λ (x : Kind). plain_in x text) t.same_kind)
+    ∙ plain_again b text second t.in_range t.argument in
     cc
 
 -- bytes from a pane's program, as they were read
@@ -319,7 +357,10 @@ are_given text (PaneBytes pane bytes) k is h = record {
   pane = pane;
   bytes = bytes;
   is = refl;
-  read = ap (two_in byte_in bytes_in) h.2 ∙ two_again byte_in bytes_in (decimal pane) h.0 pane bytes (decimal_word pane (omega (arith, is))) (byte_again pane is) (bytes_again h.0 bytes h.1);
+  read = ap (two_in byte_in bytes_in) h.2 ∙ two_again byte_in bytes_in (decimal pane) h.0 pane bytes (decimal_word pane (omega (
+    arith,
+    is,
+  ))) (byte_again pane is) (bytes_again h.0 bytes h.1);
 }
 are_given text (Session id rows cols) k is h = absurd cc
 are_given text (Start slot id) k is h = absurd cc
@@ -354,7 +395,8 @@ both_typed one text s a t b p q =
     (λ i. Typed (slot i) (act i))
 
 pub one_line : OneAct → (k : Kind) (text : List ℕ) (a b : LineValue) → Tells k text a → Tells k text b → a ≡ b
-one_line one kind.PaneBytes text a b s t = both_given text a b (are_given text a s.same_kind s.in_range s.argument) (are_given text b t.same_kind t.in_range t.argument)
+one_line one kind.PaneBytes text a b s t = both_given text a b (are_given text a s.same_kind s.in_range s.argument) (are_given text b
+    t.same_kind t.in_range t.argument)
 one_line one kind.Typed text a b s t =
     let p = typed_is text a s.same_kind s.in_range s.argument in
     let q = typed_is text b t.same_kind t.in_range t.argument in

@@ -64,7 +64,8 @@ split_at text p e =
     let lt : place < length text = ltb-true place (length text) there.0 in
     let space : get_or text place 0 ≡ 32 = eqb-true _ _ (not-false _ (prefix_len_stops is_other text 0 lt)) in
     let cut : text ≡ take place text ++ 32 ∷ drop (place + 1) text =
-    sym (take-append-drop place text) ∙ ap (λ (t : List ℕ). take place text ++ t) (drop-cons text place 0 lt ∙ (λ i. space i ∷ drop (sym (add-one place) i) text)) in
+    sym (take-append-drop place text) ∙ ap (λ (t : List ℕ). take place text ++ t) (drop-cons text place 0 lt
+    ∙ (λ i. space i ∷ drop (sym (add-one place) i) text)) in
     cut ∙ ap (λ (n : ℕ). take n text ++ 32 ∷ drop (n + 1) text) there.1
 
 pub word_found : (text : List ℕ) (p : List ℕ × List ℕ) → first_word text ≡ Some p → text ≡ p.0 ++ 32 ∷ p.1

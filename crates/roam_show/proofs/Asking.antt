@@ -26,7 +26,8 @@ pub record IsStart (session : ℕ) (clients : ℕ → Client) (ids : Option ℕ)
   pub is : ids ≡ Some id
   pub stands : ClientStands v session id (clients id)
 
-pub filled : (session : ℕ) (clients : ℕ → Client) (o : Option ClientView) (ids : Option ℕ) (v : ClientView) → o ≡ Some v → Fills session clients o ids → IsStart session clients ids v
+pub filled : (session : ℕ) (clients : ℕ → Client) (o : Option ClientView) (ids : Option ℕ) (v : ClientView) → o ≡ Some v
+    → Fills session clients o ids → IsStart session clients ids v
 filled session clients None ids v e h = absurd cc
 filled session clients (Some u) None v e h = absurd h
 filled session clients (Some u) (Some id) v e h =
@@ -48,7 +49,8 @@ whole_copy n len waiting old new all long count is =
     sym (is ∙ (λ i. front i ++ back i) ∙ append-nil waiting)
 
 -- all bytes were copied
-pub all_wait : (o : Option (List ℕ)) (n len : ℕ) (old new : List ℕ) → len ≡ unwrap_or (option_map (λ (waiting : List ℕ). length waiting) o) 0 → length old ≡ len
+pub all_wait : (o : Option (List ℕ)) (n len : ℕ) (old new : List ℕ) → len ≡ unwrap_or (option_map (λ (waiting : List ℕ). length waiting)
+    o) 0 → length old ≡ len
     → None ≡ none_refused o → IsCopied n old new o → waiting_text o ≡ bytes_line new
 all_wait None n len old new is long e h = absurd h
 all_wait (Some waiting) n len old new is long e h = ap bytes_line (whole_copy n len waiting old new is long h.0 h.1)

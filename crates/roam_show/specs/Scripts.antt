@@ -88,7 +88,8 @@ pub data AnswersLine (stage : Stage) (line answer : List ℕ) (left : Stage) : T
 abbrev pub Plays : Stage → List (List ℕ) → List ℕ → Stage → Type 0
 Plays stage [] text left = (text ≡ []) × (left ≡ stage)
 Plays stage (line ∷ lines) text left =
-    (answer : List ℕ) × (mid : Stage) × (rest : List ℕ) × AnswersLine stage line answer mid × Plays mid lines rest left × (text ≡ answer ++ rest)
+    (answer : List ℕ) × (mid : Stage) × (rest : List ℕ) × AnswersLine stage line answer mid × Plays mid lines rest left × (text ≡ answer
+    ++ rest)
 
 -- all that was read is lines, the last of which needs no end, and all that was written is the answers to them
 pub record Prints (before after : Option (List ℕ)) (log : List ℕ) : Type 0 where

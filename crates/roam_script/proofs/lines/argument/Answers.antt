@@ -5,5 +5,6 @@ use Rattle.roam_script.proofs.lines.argument.Goals as goal
 
 pub returns-in_default : goal.returns-in_default
 returns-in_default c = record {
-  read = subst (IsRead c.args.kind c.args.text.now) (sym c.ok_or.ensures.value) (plain_read c.args.kind c.args.text.now c.plain.result c.in_default.not-PaneBytes c.in_default.not-Typed c.plain.ensures.line);
+  read = subst (IsRead c.args.kind c.args.text.now) (sym c.ok_or.ensures.value) (plain_read c.args.kind c.args.text.now c.plain.result
+      c.in_default.not-PaneBytes c.in_default.not-Typed c.plain.ensures.line);
 }

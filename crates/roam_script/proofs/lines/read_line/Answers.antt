@@ -11,11 +11,14 @@ split_at-requires c =
 pub returns-clause-found : goal.returns-clause-found
 returns-clause-found c =
     let found : headed_in kinds c.args.line.now ≡ Some c.in-Some.kind = search rules in
-    let behind : c.split_at.result.1.now ≡ drop (length (head_of c.in-Some.kind)) c.args.line.now = c.split_at.ensures.back ∙ ap (λ h. drop (length h) c.args.line.now) c.head.ensures.head in
+    let behind : c.split_at.result.1.now ≡ drop (length (head_of c.in-Some.kind)) c.args.line.now = c.split_at.ensures.back
+    ∙ ap (λ h. drop (length h) c.args.line.now) c.head.ensures.head in
     is_found c.args.line.now c.split_at.result.1.now c.in-Some.kind c.argument.result found behind c.argument.ensures.read
 
 pub returns-clause-only : goal.returns-clause-only
 returns-clause-only c =
     let found : headed_in kinds c.args.line.now ≡ Some c.in-Some.kind = search rules in
-    let behind : c.split_at.result.1.now ≡ drop (length (head_of c.in-Some.kind)) c.args.line.now = c.split_at.ensures.back ∙ ap (λ h. drop (length h) c.args.line.now) c.head.ensures.head in
-    is_only c.args.line.now c.split_at.result.1.now c.in-Some.kind c.argument.result c.one_act_a_line.ensures.one found behind c.argument.ensures.read
+    let behind : c.split_at.result.1.now ≡ drop (length (head_of c.in-Some.kind)) c.args.line.now = c.split_at.ensures.back
+    ∙ ap (λ h. drop (length h) c.args.line.now) c.head.ensures.head in
+    is_only c.args.line.now c.split_at.result.1.now c.in-Some.kind c.argument.result c.one_act_a_line.ensures.one found behind
+    c.argument.ensures.read

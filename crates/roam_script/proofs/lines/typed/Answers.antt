@@ -15,10 +15,15 @@ pub returns-in-Ok : goal.returns-in-Ok
 returns-in-Ok c =
     let slot : slot_in c.in-Some.first.now ≡ Some c.in-Some-slot.slot = search rules in
     record {
-      read = typed_found c.args.text.now (c.in-Some.first.now, c.in-Some.rest.now) c.in-Some-slot.slot c.in-Ok.act c.in-Some.ensures.word slot c.in-Ok.ensures.found.0 c.in-Ok.ensures.found.1;
+      read = typed_found c.args.text.now (c.in-Some.first.now, c.in-Some.rest.now) c.in-Some-slot.slot c.in-Ok.act c.in-Some.ensures.word
+          slot c.in-Ok.ensures.found.0 c.in-Ok.ensures.found.1;
     }
 
 pub returns-in-Err : goal.returns-in-Err
 returns-in-Err c = record {
-  read = inr (refl, typed_no_act c.args.text.now (c.in-Some.first.now, c.in-Some.rest.now) c.in-Some.ensures.word (λ act is spells. let ok = c.in-Err.ensures.only act is spells in absurd cc));
+  read = inr (
+    refl,
+    typed_no_act c.args.text.now (c.in-Some.first.now, c.in-Some.rest.now) c.in-Some.ensures.word (λ act is spells. let
+        ok = c.in-Err.ensures.only act is spells in absurd cc),
+  );
 }

@@ -13,7 +13,8 @@ pub loop-init : goal.loop-init
 loop-init g c = (
   [],
   Consumes-nil _,
-  fed_as Before [] [] [] [] c.new-begun.result.items (g.W.Write.contents c.args.writer.now) (g.W.Write.contents c.args.writer.now) _ 0 0 0 refl (sym c.new-begun.ensures.items) refl
+  fed_as Before [] [] [] [] c.new-begun.result.items (g.W.Write.contents c.args.writer.now) (g.W.Write.contents c.args.writer.now) _ 0 0
+      0 refl (sym c.new-begun.ensures.items) refl
       (fed_nothing Before [] (g.W.Write.contents c.args.writer.now) _ 0 tt no_bytes),
   omega arith,
 )
@@ -24,7 +25,8 @@ returns-in_default-clause-stopped g c =
     inr (
       log,
       Consumes-kept _ _ _ log c.loop.invariant.1 c.in_default.ensures.bytes,
-      stopped_unread log c.loop.begun.items (g.W.Write.contents c.args.writer.now) (g.W.Write.contents c.loop.writer) c.loop.play.world c.loop.play.lines c.loop.invariant.2,
+      stopped_unread log c.loop.begun.items (g.W.Write.contents c.args.writer.now) (g.W.Write.contents c.loop.writer) c.loop.play.world
+          c.loop.play.lines c.loop.invariant.2,
     )
 
 pub returns-then-count-eq0-clause-played : goal.returns-then-count-eq0-clause-played
@@ -37,7 +39,8 @@ returns-then-count-eq0-clause-played g c = ok_then c.line.result c.line.ensures.
       log,
       consumes_nothing _ _ _ log c.read.new.buf c.in-Ok.count c.if-count-eq0.true c.loop.invariant.1 c.in-Ok.ensures.bytes.0,
       c.in-Ok.ensures.bytes.1 c.if-count-eq0.true (omega (arith, c.read.auto.buf)),
-      prints_all log c.loop.begun.items (g.W.Write.contents c.args.writer.now) between c.loop.play.world c.loop.play.lines f after c.line.new.self.world line,
+      prints_all log c.loop.begun.items (g.W.Write.contents c.args.writer.now) between c.loop.play.world c.loop.play.lines f after
+          c.line.new.self.world line,
     ))
 
 pub returns-then-count-eq0-clause-stopped : goal.returns-then-count-eq0-clause-stopped
@@ -50,7 +53,8 @@ returns-then-count-eq0-clause-stopped g c =
     let read = consumes_nothing _ _ _ log c.read.new.buf c.in-Ok.count c.if-count-eq0.true c.loop.invariant.1 c.in-Ok.ensures.bytes.0 in
     if_err_then c.line.result _ _ c.line.ensures.fails (λ e h.
     let fails = subst (λ t. Fails f.left (c.loop.play.lines + 1) t between after e) c.as_slice.ensures.value (h f.left f.at) in
-    with_log log _ _ before after e read (stopped_last log c.loop.begun.items before between c.loop.play.world c.loop.play.lines f after e fails))
+    with_log log _ _ before after e read (stopped_last log c.loop.begun.items before between c.loop.play.world c.loop.play.lines f after
+    e fails))
 
 pub returns-in_err-piece-clause-stopped : goal.returns-in_err-piece-clause-stopped
 returns-in_err-piece-clause-stopped g c =
@@ -64,9 +68,11 @@ returns-in_err-piece-clause-stopped g c =
     let fault = c.in_err-piece.field-0.0 in
     let stops = c.in_err-piece.ensures.stopped f.left f.at f.are.last in
     passed c.from_residual.result fault
-    (λ e. (e ≡ run.Write) ⊎ ((x : List ℕ) × Consumes (g.R.Read.remaining c.args.reader.now) (g.R.Read.remaining c.read.new.self) x × Stopped Before x before after 0 e))
+    (λ e. (e ≡ run.Write) ⊎ ((x : List ℕ) × Consumes (g.R.Read.remaining c.args.reader.now) (g.R.Read.remaining c.read.new.self) x ×
+    Stopped Before x before after 0 e))
     c.from_residual.ensures.1
-    (stopped_in log c.loop.begun.items before between c.loop.play.world c.loop.play.lines f bytes after (g.R.Read.remaining c.args.reader.now) (g.R.Read.remaining c.read.new.self) fault stops read)
+    (stopped_in log c.loop.begun.items before between c.loop.play.world c.loop.play.lines f bytes after (g.R.Read.remaining
+    c.args.reader.now) (g.R.Read.remaining c.read.new.self) fault stops read)
 
 pub loop-preserved : goal.loop-preserved
 loop-preserved g c =
@@ -79,6 +85,7 @@ loop-preserved g c =
     let fed = c.in_ok-piece.ensures.fed f.left f.at f.are.last in (
       log ++ bytes,
       Consumes-trans _ _ _ log bytes c.loop.invariant.1 c.in-Ok.ensures.bytes.0,
-      fed_more Before log c.loop.begun.items bytes c.piece.new.begun.items before between after c.loop.play.world c.piece.new.self.world 0 c.loop.play.lines c.piece.new.self.lines f fed,
+      fed_more Before log c.loop.begun.items bytes c.piece.new.begun.items before between after c.loop.play.world c.piece.new.self.world
+          0 c.loop.play.lines c.piece.new.self.lines f fed,
       omega (arith, c.in_ok-piece.ensures.most, c.loop.invariant.3, length-take c.in-Ok.count c.read.new.buf, c.read.auto.buf),
     )
