@@ -80,7 +80,8 @@ impl MemoryPorts {
         ensures told { told_of self.new ≡ told_of self.old }
     {
         let text = Vec::from_slice(self.alloc, bytes)?;
-        self.datagrams.push_back((from, text))
+        self.datagrams.push_back((from, text))?;
+        Ok(())
     }
 
     /// The program of a pane writes a piece, after those that were written. One that is longer than the room it finds is cut.
@@ -88,7 +89,8 @@ impl MemoryPorts {
         ensures told { told_of self.new ≡ told_of self.old }
     {
         let text = Vec::from_slice(self.alloc, piece)?;
-        self.pieces.push_back((pane, text))
+        self.pieces.push_back((pane, text))?;
+        Ok(())
     }
 
     /// The programs of panes take at most so many bytes at once from now on.
