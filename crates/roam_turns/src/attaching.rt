@@ -71,12 +71,11 @@ fn paint_screen<C: ClientCore, P: Ports>(
     let Ok(painting) = outer.painting(alloc, number, screen) else {
         return;
     };
-    let noted = if ports.show(&painting.text) {
-        Some(painting.noted)
+    if ports.show(&painting.text) {
+        outer.note(Some(painting.noted));
     } else {
-        None
-    };
-    outer.note(noted);
+        outer.note(None);
+    }
 }
 
 // Ticks and sends; a refused tick sends nothing.
