@@ -33,13 +33,13 @@ cores_both [] ys = refl
 cores_both (Port call ∷ xs) ys = cores_both xs ys
 cores_both (Core call ∷ xs) ys = ap (λ l. call ∷ l) (cores_both xs ys)
 
-pub ports_in : {C : Type 0} (sent : List PortCall) → port_calls {C = C} (map Port sent) ≡ sent
-ports_in [] = refl
-ports_in (call ∷ sent) = ap (λ l. call ∷ l) (ports_in sent)
+pub ports_in : (C : Type 0) (sent : List PortCall) → port_calls {C = C} (map Port sent) ≡ sent
+ports_in C [] = refl
+ports_in C (call ∷ sent) = ap (λ l. call ∷ l) (ports_in C sent)
 
-pub cores_in : {C : Type 0} (sent : List PortCall) → core_calls {C = C} (map Port sent) ≡ []
-cores_in [] = refl
-cores_in (call ∷ sent) = cores_in sent
+pub cores_in : (C : Type 0) (sent : List PortCall) → core_calls {C = C} (map Port sent) ≡ []
+cores_in C [] = refl
+cores_in C (call ∷ sent) = cores_in C sent
 
 pub runs_both : {S C : Type 0} (step : S → C → S → Type 0) (old mid new : S) (xs ys : List C) → RunOf step old xs mid
     → RunOf step mid ys new → RunOf step old (xs ++ ys) new
@@ -110,9 +110,9 @@ module _ {C S : Type 0} (step : S → C → S → Type 0) where
       record {
         calls = map Port sent;
         part = refl;
-        tells = subst (Tells told told') (sym (ports_in sent)) tells;
-        makes = subst (Tells made made) (sym (cores_in sent)) (tells_none made);
-        runs = subst (λ calls. RunOf step s calls s) (sym (cores_in sent)) refl;
+        tells = subst (Tells told told') (sym (ports_in C sent)) tells;
+        makes = subst (Tells made made) (sym (cores_in C sent)) (tells_none made);
+        runs = subst (λ calls. RunOf step s calls s) (sym (cores_in C sent)) refl;
       }
 
   -- ---- in a loop

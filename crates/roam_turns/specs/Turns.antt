@@ -91,7 +91,7 @@ IsToClient now from bytes call = (answer : Result Heard Fault) × (call ≡ ToCl
 -- The screen of a number is painted where another is noted or none: it is noted already; memory is wanting, and nothing is shown; it is
 -- shown, and noted from now on; or that failed, and nothing is noted.
 pub data Paints (number : ℕ) (screen : Screenshot) (outer outer' : Option Noted) (calls : List (Call ClientCall)) : Type 0 where
-  noted : IsNoted number outer → calls ≡ [] → outer' ≡ outer → Paints number screen outer outer' calls
+  already : IsNoted number outer → calls ≡ [] → outer' ≡ outer → Paints number screen outer outer' calls
   no_memory : (IsNoted number outer → ⊥) → calls ≡ [] → outer' ≡ outer → Paints number screen outer outer' calls
   shown : (IsNoted number outer → ⊥) → calls ≡ Port (Showed (text_for outer screen) true) ∷ []
       → outer' ≡ Some (record { number = number; screen = screen }) → Paints number screen outer outer' calls

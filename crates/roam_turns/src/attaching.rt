@@ -23,7 +23,7 @@ use std::alloc::Global;
 // Types the next act, where there is one, and answers whether it was taken.
 fn type_next<C: ClientCore>(client: &mut C, next: Option<&Act>) -> bool
     requires in_range { IfSome next (λ act. IsInRange act.now) }
-    ensures types { (told : Option (List PortCall)) → Makes C.step (Types (option_copied next) result) told told
+    ensures types { (told : Option (List PortCall)) → Makes C.step (Types (option_copied next.entry) result) told told
         (C.made client.old) (C.made client.new) client.old client.new }
     ensures follows { Follows (C.number client.old) (C.screen client.old) (C.number client.new) (C.screen client.new) }
 {
@@ -112,10 +112,10 @@ pub fn attach_turn<C: ClientCore, P: Ports>(
 ) -> bool
     requires in_range { IfSome next (λ act. IsInRange act.now) }
     requires behind { IsBehind outer.old (C.number client.old) (C.screen client.old) }
-    ensures turn { Makes C.step (AttachTurn (C.number client.new) (C.screen client.new) outer.old outer.new to (option_copied next) result)
+    ensures turn { Makes C.step (AttachTurn (C.number client.new) (C.screen client.new) outer.old outer.new to (option_copied next.entry) result)
         (P.told ports.old) (P.told ports.new) (C.made client.old) (C.made client.new) client.old client.new }
     ensures leads { (calls : List (Call ClientCall))
-        → AttachTurn (C.number client.new) (C.screen client.new) outer.old outer.new to (option_copied next) result calls
+        → AttachTurn (C.number client.new) (C.screen client.new) outer.old outer.new to (option_copied next.entry) result calls
         → Leads outer.old (shown_in calls) outer.new }
     ensures behind { IsBehind outer.new (C.number client.new) (C.screen client.new) }
 {

@@ -1,4 +1,4 @@
-use Rattle.std.proofs.Common.{rules, refl, subst, take, [], ◌∷◌}
+use Rattle.std.proofs.Common.{rules, subst, take, [], ◌∷◌}
 use Rattle.roam_turns.specs.Calls.{Tells}
 use Rattle.roam_turns.specs.Calls.PortCall.{PaneGave, PaneGaveNothing}
 use Rattle.roam_turns.specs.Calls.ServerCall.{Room, PaneBytes}

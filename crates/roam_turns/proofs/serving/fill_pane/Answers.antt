@@ -1,4 +1,4 @@
-use Rattle.std.proofs.Common.{refl, subst, take, Some, None, [], ◌∷◌, arith, length-take}
+use Rattle.std.proofs.Common.{subst, take, Some, None, [], ◌∷◌, arith, length-take}
 use Rattle.roam_turns.specs.Calls.{Tells}
 use Rattle.roam_turns.specs.Calls.PortCall.{PaneTook}
 use Rattle.roam_turns.specs.Calls.ServerCall.{Output, Drain}

@@ -1,4 +1,4 @@
-use Rattle.std.proofs.Common.{◌≡◌, ◌-◌, ◌+◌, ◌++◌, suc, arith}
+use Rattle.std.proofs.Common.{◌≡◌, ◌-◌, ◌+◌, suc, arith}
 use Rattle.roam_turns.specs.Parts.{Each}
 use Rattle.roam_turns.specs.Turns.{FillsPane}
 use Rattle.roam_turns.proofs.Making.{until_start, until_more, until_done, each_one_more, each_none}

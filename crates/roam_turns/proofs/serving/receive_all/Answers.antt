@@ -46,14 +46,16 @@ loop-preserved g c =
     let from = c.in-Some.from in
     let bytes = take c.in-Some.len c.receive.new.buf in
     let bytes_len : length c.receive.new.buf ≡ 2048 = search (rules, c.receive.auto.buf, c.loop.invariant.0) in
-    let call = ToServer from bytes now c.datagram-dropped.result in
-    (bytes_len, until_more step (ReceivesUpTo (IsToServer now) 2048 32) (ReceivesUpTo (IsToServer now) 2048 left)
-    (ReceivesUpTo (IsToServer now) 2048 n) (Receives (IsToServer now) 2048) c.loop.invariant.1
-    (makes_as step (Just (Port (Received 2048 from bytes) ∷ Core call ∷ [])) (Receives (IsToServer now) 2048)
-    (makes_core step (Port (Received 2048 from bytes) ∷ []) call
-    (makes_port step [] (Received 2048 from bytes) (makes_none step)
-    (subst (λ room. Tells (g.P.Ports.told c.loop.ports) (g.P.Ports.told c.receive.new.self) (Received room from bytes ∷ []))
-    c.loop.invariant.0 c.in-Some.ensures.tells))
-    c.datagram-dropped.ensures.tells c.datagram-dropped.ensures.step)
-    (λ xs all. record { from = from; bytes = bytes; call = call; given = (c.datagram-dropped.result, refl); all = all }))
-    (receives_one_more (IsToServer now) 2048 n left e))
+    let call = ToServer from bytes now c.datagram-dropped.result in (
+      bytes_len,
+      until_more step (ReceivesUpTo (IsToServer now) 2048 32) (ReceivesUpTo (IsToServer now) 2048 left)
+          (ReceivesUpTo (IsToServer now) 2048 n) (Receives (IsToServer now) 2048) c.loop.invariant.1
+          (makes_as step (Just (Port (Received 2048 from bytes) ∷ Core call ∷ [])) (Receives (IsToServer now) 2048)
+          (makes_core step (Port (Received 2048 from bytes) ∷ []) call
+          (makes_port step [] (Received 2048 from bytes) (makes_none step)
+          (subst (λ room. Tells (g.P.Ports.told c.loop.ports) (g.P.Ports.told c.receive.new.self) (Received room from bytes ∷ []))
+          c.loop.invariant.0 c.in-Some.ensures.tells))
+          c.datagram-dropped.ensures.tells c.datagram-dropped.ensures.step)
+          (λ xs all. record { from = from; bytes = bytes; call = call; given = (c.datagram-dropped.result, refl); all = all }))
+          (receives_one_more (IsToServer now) 2048 n left e),
+    )
