@@ -1,0 +1,156 @@
+//! Each call of a turn fails in turn: later turns bring all ends to where they come without a failure.
+ghost use Rattle.std.specs.Prelude.{OnOk};
+ghost use Rattle.roam_turns.specs.Painting.{IsBehind};
+
+use crate::stage::{End, Stage, carry_down, carry_up};
+use roam_acts::{Act, Key};
+use roam_cells::{Fault, Shot};
+use roam_term::Term;
+use roam_turns::MemoryPorts;
+use roam_turns::memory::Told;
+use std::alloc::Global;
+use std::test::*;
+
+/// Milliseconds from one round to the next: more than what is not acknowledged waits.
+const APART: u64 = 300;
+
+/// Whose turn it is in which a call fails.
+#[derive(Clone, Copy, PartialEq, Eq)]
+enum Who {
+    Server,
+    First,
+    Second,
+}
+
+/// A call that fails: of a turn in a round, by its number.
+#[derive(Clone, Copy)]
+struct Failure {
+    round: u64,
+    who: Who,
+    call: u64,
+}
+
+impl Failure {
+    // The call that fails in a turn, or none.
+    fn in_turn(&self, round: u64, who: Who) -> u64 {
+        if self.round == round && self.who == who {
+            self.call
+        } else {
+            0
+        }
+    }
+}
+
+// The first row once pane 1 wrote ab and pane 2, at its right, cd.
+static TOP: &str =
+    "ab                                     │cd                                      ";
+
+// A round: the first start splits in round 0, both programs write in round 2, where the second start types a letter for pane 2.
+fn play(alloc: Global, stage: &mut Stage, round: u64, failure: Failure) -> Result<(), Fault>
+    requires first { IsBehind stage.old.first.outer stage.old.first.client.receiver.newest.number
+        stage.old.first.client.receiver.newest.state }
+    requires second { IsBehind stage.old.second.outer stage.old.second.client.receiver.newest.number
+        stage.old.second.client.receiver.newest.state }
+    ensures first { OnOk result (IsBehind stage.new.first.outer stage.new.first.client.receiver.newest.number
+        stage.new.first.client.receiver.newest.state) }
+    ensures second { OnOk result (IsBehind stage.new.second.outer stage.new.second.client.receiver.newest.number
+        stage.new.second.client.receiver.newest.state) }
+{
+    let now = round.wrapping_mul(APART);
+    let split = Act::SplitRight;
+    let key = Act::Key(Key::Char('x'));
+    let first = if round == 0 { Some(&split) } else { None };
+    let second = if round == 2 { Some(&key) } else { None };
+    stage
+        .first
+        .turn(alloc, now, failure.in_turn(round, Who::First), first);
+    stage
+        .second
+        .turn(alloc, now, failure.in_turn(round, Who::Second), second);
+    carry_up(&mut stage.first, &mut stage.ports)?;
+    carry_up(&mut stage.second, &mut stage.ports)?;
+    if round == 2 {
+        stage.ports.write(1, b"ab")?;
+        stage.ports.write(2, b"cd")?;
+    }
+    stage.turn(alloc, now, failure.in_turn(round, Who::Server));
+    carry_down(&stage.ports, &mut stage.first)?;
+    carry_down(&stage.ports, &mut stage.second)
+}
+
+fn has_top(alloc: Global, shot: &Shot) -> Result<bool, Fault> {
+    if shot.rows() == 0 {
+        return Ok(false);
+    }
+    let points = shot.row_text(alloc, 0)?;
+    Ok(points.iter().copied().eq(TOP.chars()))
+}
+
+// What a terminal shows to which all was written that was shown.
+fn terminal(alloc: Global, ports: &MemoryPorts) -> Result<Shot, Fault> {
+    let mut term = Term::new(alloc, 24, 80, 0)?;
+    for call in ports.told() {
+        if let Told::Showed(bytes, true) = call {
+            for piece in bytes.chunks(1024) {
+                term.feed(piece)?;
+            }
+        }
+    }
+    term.shot(alloc, 0)
+}
+
+// The start shows the last screen, and so does its terminal.
+fn is_shown(alloc: Global, end: &End) -> Result<bool, Fault> {
+    Ok(has_top(alloc, end.screen())? && has_top(alloc, &terminal(alloc, end.ports())?)?)
+}
+
+// How many bytes the program of pane 2 took, and whether each is an x.
+fn taken(ports: &MemoryPorts) -> (usize, bool) {
+    let mut count: usize = 0;
+    let mut are_typed = true;
+    for call in ports.told() {
+        if let Told::PaneTook(2, bytes, n) = call {
+            count = count.saturating_add(*n);
+            are_typed = are_typed && bytes.as_slice() == b"x".as_slice();
+        }
+    }
+    (count, are_typed)
+}
+
+// Whether all ends come to one end, whatever failed.
+fn settles(alloc: Global, failure: Failure) -> Result<bool, Fault> {
+    let mut stage = Stage::new(alloc)?;
+    for round in 0..14 {
+        play(alloc, &mut stage, round, failure)?;
+    }
+    Ok(
+        is_shown(alloc, &stage.first)?
+            && is_shown(alloc, &stage.second)?
+            && taken(&stage.ports) == (1, true),
+    )
+}
+
+// The first call that isn't made good, of each of the first five turns of one end.
+fn first_lost(alloc: Global, who: Who) -> Result<Option<(u64, u64)>, Fault> {
+    for round in 0..5 {
+        for call in 0..11 {
+            if !settles(alloc, Failure { round, who, call })? {
+                return Ok(Some((round, call)));
+            }
+        }
+    }
+    Ok(None)
+}
+
+#[test]
+fn a_failed_call_of_the_server_is_made_good(rt: HostRuntime) -> Result<(), Fail> {
+    assert!(rt; first_lost(rt.alloc(), Who::Server)? == None);
+    Ok(())
+}
+
+#[test]
+fn a_failed_call_of_a_start_is_made_good(rt: HostRuntime) -> Result<(), Fail> {
+    assert!(rt; first_lost(rt.alloc(), Who::First)? == None);
+    assert!(rt; first_lost(rt.alloc(), Who::Second)? == None);
+    Ok(())
+}
