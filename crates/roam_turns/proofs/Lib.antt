@@ -4,3 +4,4 @@ pub mod Letters
 pub mod Starts
 pub mod Painted
 pub mod Leading
+pub mod Hopping

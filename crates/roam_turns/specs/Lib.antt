@@ -4,3 +4,4 @@ pub mod Parts
 pub mod Turns
 pub mod Painting
 pub mod Recording
+pub mod Hops
