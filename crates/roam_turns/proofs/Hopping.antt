@@ -1,5 +1,5 @@
 -- From a session's log through a tick, its datagrams and a client start to a painted terminal.
-use Rattle.std.proofs.Common.{◌≡◌, ℕ, ◌+◌, ◌-◌, ◌<◌, ◌≤◌, Bool, true, false, ◌&&◌, eqb, List, [], ◌∷◌, ◌++◌, length, take, get_or, Option, Some, None, refl, sym, ap, ◌∙◌, subst, inl, inr, arith}
+use Rattle.std.proofs.Common.{◌≡◌, ℕ, ◌+◌, ◌-◌, ◌<◌, Bool, true, false, ◌&&◌, eqb, List, [], ◌∷◌, ◌++◌, length, take, get_or, Some, None, refl, ap, ◌∙◌, subst, inl, inr, arith}
 use Rattle.std.specs.Prelude.{nat_lt}
 use Rattle.std.specs.List.{slice_get}
 use Rattle.std.proofs.Math.Seq.{get_or-append_seam, take-length}
@@ -16,10 +16,10 @@ use Rattle.roam_session.specs.Sessions.{SessionSize, Entry}
 use Rattle.roam_session.specs.Faces.{face}
 use Rattle.roam_world.specs.Numbers.{screen}
 use Rattle.roam_world.specs.Servers.{Server, moment}
-use Rattle.roam_world.specs.Ticks.{makes, cuts_after, number_after, is_live, is_offered, after_tick}
+use Rattle.roam_world.specs.Ticks.{makes, cuts_after, number_after, is_live, after_tick}
 use Rattle.roam_world.specs.Clients.{shown_number, shown_screen}
-use Rattle.roam_world.specs.Worlds.{World, Event, ServerTick, ToClient, Reply, datagram_at, after_server_tick}
-use Rattle.roam_world.specs.Steps.{wstep, Run, ToClientStep, ServerTickStep}
+use Rattle.roam_world.specs.Worlds.{World, Event, ServerTick, Reply, datagram_at, after_server_tick}
+use Rattle.roam_world.specs.Steps.{Run, ToClientStep, ServerTickStep}
 use Rattle.roam_world.specs.Steps.ToClientStep.{empty_slot, not_sent, refused, piece, unread, bad_change, whole, no_memory}
 use Rattle.roam_world.specs.Steps.ServerTickStep.{spent, ticked, no_memory as tick_no_memory}
 use Rattle.roam_world.specs.Laws.{Reaches, AreEvents, Always, ShowsTrueScreens, OneRoundSuffices, OffersNewest, deliveries}
@@ -115,7 +115,8 @@ module _ (round_suffices : Always OneRoundSuffices) (offers : Always OffersNewes
   hop_number : shown_number (w''.clients id) ≡ number_after w.server (moment w.server now)
   hop_number =
       let m = moment w.server now in
-      let known = both_true (is_live (w.server.records id) m && nat_lt (newest (w.server.records id).sender).number (number_after w.server m))
+      let known = both_true
+      (is_live (w.server.records id) m && nat_lt (newest (w.server.records id).sender).number (number_after w.server m))
       (nat_lt (count (w.server.records id).sender) 8) r.offered in
       let live = both_true (is_live (w.server.records id) m)
       (nat_lt (newest (w.server.records id).sender).number (number_after w.server m)) known.0 in
@@ -129,14 +130,14 @@ module _ (round_suffices : Always OneRoundSuffices) (offers : Always OffersNewes
   hop_screen =
       let m = moment w.server now in
       let later : Reaches session size (es ++ ServerTick now ∷ deliveries slot ks) (rs ++ r.reply ∷ r.replies) w'' =
-          record {
-            id = reach.id;
-            limits = reach.limits;
-            events = events_on es (ServerTick now ∷ deliveries slot ks) reach.events (tt, deliveries_are slot ks);
-            run = run_on _ w w'' es (ServerTick now ∷ deliveries slot ks) rs (r.reply ∷ r.replies) reach.run (w', r.ticks, r.come);
-          } in
+      record {
+        id = reach.id;
+        limits = reach.limits;
+        events = events_on es (ServerTick now ∷ deliveries slot ks) reach.events (tt, deliveries_are slot ks);
+        run = run_on _ w w'' es (ServerTick now ∷ deliveries slot ks) rs (r.reply ∷ r.replies) reach.run (w', r.ticks, r.come);
+      } in
       let server : w''.server ≡ after_tick w.server m =
-          deliveries_leave w' slot ks r.replies w'' r.come ∙ ap (λ (x : World). x.server) (ticks_once w slot id now ks w' w'' r) in
+      deliveries_leave w' slot ks r.replies w'' r.come ∙ ap (λ (x : World). x.server) (ticks_once w slot id now ks w' w'' r) in
       (shows session size _ _ w'' later).same id
       ∙ (ap (λ (s : Server). screen s.size s.log s.cuts (shown_number (w''.clients id))) server
       ∙ (ap (λ cuts. screen w.server.size w.server.log cuts (shown_number (w''.clients id))) (cuts_made w.server m r.makes)

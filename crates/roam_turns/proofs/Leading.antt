@@ -65,7 +65,8 @@ module _ (painted_leads : PaintedLeadsOver) (opened_begins : OpenedBeginsBlank) 
       painted_leads rows cols lines (log ++ map Byte opened) blank s is indexed begun
       (omega (arith, fits.rows_fit, open_text.size.rows)) (omega (arith, fits.cols_fit, open_text.size.cols)) in
       subst (λ l. Displays rows cols lines l s)
-      (append_assoc log (map Byte opened) (map Byte (painted blank s)) ∙ ap (λ l. log ++ l) (sym (map-append Byte opened (painted blank s))))
+      (append_assoc log (map Byte opened) (map Byte (painted blank s))
+      ∙ ap (λ l. log ++ l) (sym (map-append Byte opened (painted blank s))))
       led.displays
   text_leads (Some noted) s is indexed rows cols lines log ready fits =
       (painted_leads rows cols lines log noted.screen s is indexed ready fits.rows_fit fits.cols_fit).displays

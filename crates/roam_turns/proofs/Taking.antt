@@ -16,7 +16,8 @@ less_within n m (Some waiting) less within = omega (arith, less, within)
 
 -- what was copied is the front of what waits
 pub copies : (waiting : Option (List ℕ)) (n all k : ℕ) (old new : List ℕ) → IsCopied n old new waiting
-    → Some all ≡ option_map (λ (xs : List ℕ). length xs) waiting → k ≡ min n all → Some (take k new) ≡ option_map (take (length old)) waiting
+    → Some all ≡ option_map (λ (xs : List ℕ). length xs) waiting → k ≡ min n all
+    → Some (take k new) ≡ option_map (take (length old)) waiting
 copies None n all k old new copied len least = absurd copied
 copies (Some xs) n all k old new copied len least =
     let count : all ≡ length xs = ap (λ (o : Option ℕ). unwrap_or o 0) len in

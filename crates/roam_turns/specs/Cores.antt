@@ -15,9 +15,11 @@ use Rattle.roam_turns.specs.Calls.ClientCall.{Typed, ToClient, ClientTick}
 
 -- for every server that it stood for: what the call answers, and which server it stands for then
 abbrev pub server_step : ServerView → ServerCall → ServerView → Type 0
-server_step old (ToServer from bytes now answer) new = (s : ServerOf) → ServerStands old s → Comes s (address_of from) bytes now answer new
+server_step old (ToServer from bytes now answer) new = (s : ServerOf) → ServerStands old s
+    → Comes s (address_of from) bytes now answer new
 server_step old (Room pane answer) new = (new ≡ old)
-    × ((s : ServerOf) → ServerStands old s → answer ≡ option_map (λ (waiting : List ℕ). 65536 - length waiting) (output_at s.size s.log pane))
+    × ((s : ServerOf) → ServerStands old s
+    → answer ≡ option_map (λ (waiting : List ℕ). 65536 - length waiting) (output_at s.size s.log pane))
 server_step old (PaneBytes pane bytes answer) new = (s : ServerOf) → ServerStands old s → Feeds s pane bytes answer new
 server_step old (Output pane most answer) new = (new ≡ old)
     × ((s : ServerOf) → ServerStands old s → answer ≡ option_map (take most) (output_at s.size s.log pane))
@@ -27,7 +29,8 @@ server_step old (ServerTick now answer) new = (s : ServerOf) → ServerStands ol
 
 -- for every start that it stood for: what the call answers, and which start it stands for then
 abbrev pub client_step : ClientView → ClientCall → ClientView → Type 0
-client_step old (Typed act answer) new = (session id : ℕ) (c : ClientOf) → ClientStands old session id c → Types session id c act answer new
+client_step old (Typed act answer) new = (session id : ℕ) (c : ClientOf) → ClientStands old session id c
+    → Types session id c act answer new
 client_step old (ToClient bytes now answer) new = (session id : ℕ) (c : ClientOf) → ClientStands old session id c
     → Hears session id c bytes now answer new
 client_step old (ClientTick now answer) new = (session id : ℕ) (c : ClientOf) → ClientStands old session id c

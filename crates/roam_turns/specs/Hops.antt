@@ -17,8 +17,8 @@ use Rattle.roam_world.specs.Laws.{Reaches, IsFresh, DeliversAll, deliveries}
 use Rattle.roam_hub.specs.Clients.{ClientView, Stands}
 use Rattle.roam_turns.specs.Painting.{Fits}
 
--- A tick makes a number of the session's face, offers it to a start that is in a slot and sends to it; just those datagrams come there, each
--- at least once, in any order; and memory is never wanting.
+-- A tick makes a number of the session's face, offers it to a start that is in a slot and sends to it; just those datagrams come there,
+-- each at least once, in any order; and memory is never wanting.
 pub record Round (w : World) (slot id now : ℕ) (ks : List (ℕ × ℕ)) (w' w'' : World) : Type 0 where
   pub reply : Reply
   pub replies : List Reply
@@ -32,8 +32,8 @@ pub record Round (w : World) (slot id now : ℕ) (ks : List (ℕ × ℕ)) (w' w'
   pub come : Run w' (deliveries slot ks) replies w''
   pub ample_then : IsIn (Failed OutOfMemory) replies → ⊥
 
--- The start shows the face of all that was put into the session, under the number that was made; and whatever terminal showed what the start
--- showed before, of at least the face's size, shows the face once the text between the two is written.
+-- The start shows the face of all that was put into the session, under the number that was made; and whatever terminal showed what the
+-- start showed before, of at least the face's size, shows the face once the text between the two is written.
 pub record Hops (w : World) (id now : ℕ) (w'' : World) : Type 0 where
   pub number : shown_number (w''.clients id) ≡ number_after w.server (moment w.server now)
   pub screen : shown_screen (w''.clients id) ≡ face w.server.size w.server.log

@@ -112,7 +112,8 @@ pub fn attach_turn<C: ClientCore, P: Ports>(
 ) -> bool
     requires in_range { IfSome next (λ act. IsInRange act.now) }
     requires behind { IsBehind outer.old (C.number client.old) (C.screen client.old) }
-    ensures turn { Makes C.step (AttachTurn (C.number client.new) (C.screen client.new) outer.old outer.new to (option_copied next.entry) result)
+    ensures turn { Makes C.step
+        (AttachTurn (C.number client.new) (C.screen client.new) outer.old outer.new to (option_copied next.entry) result)
         (P.told ports.old) (P.told ports.new) (C.made client.old) (C.made client.new) client.old client.new }
     ensures leads { (calls : List (Call ClientCall))
         → AttachTurn (C.number client.new) (C.screen client.new) outer.old outer.new to (option_copied next.entry) result calls

@@ -12,7 +12,8 @@ pub returns-in-Ok-clause-ticks : goal.returns-in-Ok-clause-ticks
 returns-in-Ok-clause-ticks g c =
     let step = g.C.ClientCore.step in
     let sends = c.send_texts.ensures.sends in
-    let each = subst (λ (texts : List (Vec ℕ Global)). Sends (map (letter_to c.args.to) (texts_of texts)) sends.0) c.deref.ensures.value sends.2 in
+    let each = subst (λ (texts : List (Vec ℕ Global)). Sends (map (letter_to c.args.to) (texts_of texts)) sends.0)
+    c.deref.ensures.value sends.2 in
     let call = ClientTick c.args.now (Ok (texts_of c.in-Ok.texts.items)) in
     makes_both step (Just (Core call ∷ [])) (Just (map Port sends.0)) (ClientTicks c.args.now c.args.to)
     (makes_core step [] call (makes_none step) c.in-Ok.ensures.tells c.in-Ok.ensures.step)

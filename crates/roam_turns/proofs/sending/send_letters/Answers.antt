@@ -19,7 +19,8 @@ loop-to-preserved g c =
     let within : i < length all = search rules in
     let h = c.loop-to.invariant in
     let call = Sent letter.0 letter.1 c.send.result in
-    let told = subst (λ text. Tells (g.P.Ports.told c.loop-to.ports) (g.P.Ports.told c.send.new.self) (Sent letter.0 text c.send.result ∷ []))
+    let told = subst (λ text. Tells (g.P.Ports.told c.loop-to.ports) (g.P.Ports.told c.send.new.self)
+    (Sent letter.0 text c.send.result ∷ []))
     c.deref.ensures.value c.send.ensures.tells in
     let more : letters_in (take (i + 1) all) ≡ letters_in (take i all) ++ letter ∷ [] =
     ap letters_in (take_more all i item within) ∙ (map-append (λ p. (p.0, p.1.items)) (take i all) (get_or all i item ∷ [])

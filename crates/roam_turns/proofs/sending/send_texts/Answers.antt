@@ -30,5 +30,6 @@ loop-bytes-preserved g c =
     ap (map (letter_to to)) more ∙ map-append (letter_to to) (texts_of (take i all)) (item.items ∷ []) in (
       h.0 ++ call ∷ [],
       tells_both _ _ _ h.0 (call ∷ []) h.1 told,
-      subst (λ ls. Sends ls (h.0 ++ call ∷ [])) (sym letters) (sends_more (map (letter_to to) (texts_of (take i all))) h.0 letter c.send.result h.2),
+      subst (λ ls. Sends ls (h.0 ++ call ∷ [])) (sym letters)
+          (sends_more (map (letter_to to) (texts_of (take i all))) h.0 letter c.send.result h.2),
     )

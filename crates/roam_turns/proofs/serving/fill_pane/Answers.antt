@@ -1,4 +1,4 @@
-use Rattle.std.proofs.Common.{subst, take, Some, None, [], ◌∷◌, arith, length-take}
+use Rattle.std.proofs.Common.{◌≤◌, subst, take, Some, None, [], ◌∷◌, arith, length-take}
 use Rattle.roam_turns.specs.Calls.{Tells}
 use Rattle.roam_turns.specs.Calls.PortCall.{PaneTook}
 use Rattle.roam_turns.specs.Calls.ServerCall.{Output, Drain}
@@ -11,7 +11,9 @@ use Rattle.roam_turns.proofs.serving.fill_pane.Goals as goal
 
 pub drain-refused-requires : goal.drain-refused-requires
 drain-refused-requires g c =
-    record { within = less_within c.pane_out-took.result c.in-Some.len _ (omega (arith, c.pane_out-took.ensures.within, length-take c.in-Some.len c.output.new.out)) c.in-Some.ensures.waits }
+    let less : c.pane_out-took.result ≤ c.in-Some.len =
+    omega (arith, c.pane_out-took.ensures.within, length-take c.in-Some.len c.output.new.out) in
+    record { within = less_within c.pane_out-took.result c.in-Some.len _ less c.in-Some.ensures.waits }
 
 pub returns-in-None : goal.returns-in-None
 returns-in-None g c =

@@ -11,7 +11,8 @@ pub loop-pane-preserved : goal.loop-pane-preserved
 loop-pane-preserved g c =
     let at = c.loop-pane.pane in
     let e : 10 - at ≡ suc (10 - (at + 1)) = omega arith in
-    until_more g.C.ServerCore.step (Each FillsPane 1 9) (Each FillsPane at (10 - at)) (Each FillsPane (at + 1) (10 - (at + 1))) (FillsPane at)
+    until_more g.C.ServerCore.step (Each FillsPane 1 9) (Each FillsPane at (10 - at)) (Each FillsPane (at + 1) (10 - (at + 1)))
+    (FillsPane at)
     c.loop-pane.invariant c.fill_pane.ensures.fills (each_one_more FillsPane at (10 - (at + 1)) (10 - at) e)
 
 pub returns : goal.returns
