@@ -11,7 +11,7 @@ use Rattle.roam_hub.specs.declared.addresses.Addr.{Addr}
 use Rattle.roam_turns.specs.declared.outer.Noted.{Noted}
 use Rattle.roam_turns.specs.Calls.{Letter, PortCall, ClientCall}
 use Rattle.roam_turns.specs.Calls.PortCall.{Now, Received, NothingReceived, Sent, PaneGave, PaneGaveNothing, PaneTook, Showed}
-use Rattle.roam_turns.specs.Painting.{IsReady, Fits, Leads, text_for}
+use Rattle.roam_turns.specs.Painting.{IsNoted, IsBehind, IsReady, Fits, Shows, Leads, text_for}
 use Rattle.roam_turns.specs.Parts.{Call, ReceivesUpTo}
 use Rattle.roam_turns.specs.Parts.Call.{Port, Core}
 use Rattle.roam_turns.specs.Turns.{Sends, Types, IsToClient, Paints, ClientTicks, AttachTurn, shown_in}
@@ -53,6 +53,12 @@ ticks_quiet : (now : ℕ) (to : Addr) (xs : List (Call ClientCall)) → ClientTi
 ticks_quiet now to xs h = ap shown_in h.2 ∙ sends_quiet _ h.1 h.3
 
 -- ---- what it makes of a terminal
+
+-- what is noted under the start's number is the start's screen
+pub shows_noted : (outer outer' : Option Noted) (bytes : List ℕ) (n : ℕ) (s : Screenshot) → Leads outer bytes outer' → IsBehind outer' n s
+    → IsNoted n outer' → Shows outer bytes s
+shows_noted outer None bytes n s leads behind is = absurd is
+shows_noted outer (Some noted) bytes n s leads behind is = subst (Shows outer bytes) (behind.same is) leads
 
 module _ (painted_leads : PaintedLeadsOver) (opened_begins : OpenedBeginsBlank) where
   text_leads : (outer : Option Noted) (s : Screenshot) → IsScreenshot s → AreIndexed s.cells → (rows cols lines : ℕ) (log : List Item)

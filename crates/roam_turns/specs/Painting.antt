@@ -41,10 +41,14 @@ pub record Fits (rows cols lines : ℕ) (log : List Item) (s : Screenshot) : Typ
   pub rows_fit : s.rows ≤ (term rows cols lines log).live.screen.rows
   pub cols_fit : s.cols ≤ (term rows cols lines log).live.screen.cols
 
--- Once these bytes are written, whatever terminal showed what was noted, of at least the size of what is noted now, shows that: a ground
+-- Once these bytes are written, whatever terminal showed what was noted, of at least the size of this screen, shows the screen: a ground
 -- terminal between sequences.
+abbrev pub Shows : Option Noted → List ℕ → Screenshot → Type 0
+Shows outer bytes screen =
+    (rows cols lines : ℕ) (log : List Item) → IsReady rows cols lines log outer → Fits rows cols lines log screen
+    → Displays rows cols lines (log ++ map Byte bytes) screen
+
+-- once they are written it shows what is noted then
 abbrev pub Leads : Option Noted → List ℕ → Option Noted → Type 0
 Leads outer bytes None = Unit {0}
-Leads outer bytes (Some noted) =
-    (rows cols lines : ℕ) (log : List Item) → IsReady rows cols lines log outer → Fits rows cols lines log noted.screen
-    → Displays rows cols lines (log ++ map Byte bytes) noted.screen
+Leads outer bytes (Some noted) = Shows outer bytes noted.screen

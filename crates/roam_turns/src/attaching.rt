@@ -5,7 +5,7 @@ ghost use Rattle.roam_acts.specs.Acts.{IsInRange};
 ghost use Rattle.roam_cells.specs.Screenshot.{IsScreenshot};
 ghost use Rattle.roam_paint.specs.Colours.{AreIndexed};
 ghost use Rattle.roam_turns.specs.Calls.{ClientCall, PortCall};
-ghost use Rattle.roam_turns.specs.Painting.{Follows, IsBehind, Leads};
+ghost use Rattle.roam_turns.specs.Painting.{Follows, IsNoted, IsBehind, Leads, Shows};
 ghost use Rattle.roam_turns.specs.Parts.{Call, Makes, ReceivesUpTo};
 ghost use Rattle.roam_turns.specs.Turns.{IsToClient, Types, Paints, ClientTicks, AttachTurn, shown_in};
 
@@ -118,6 +118,9 @@ pub fn attach_turn<C: ClientCore, P: Ports>(
     ensures leads { (calls : List (Call ClientCall))
         → AttachTurn (C.number client.new) (C.screen client.new) outer.old outer.new to (option_copied next.entry) result calls
         → Leads outer.old (shown_in calls) outer.new }
+    ensures shows { (calls : List (Call ClientCall))
+        → AttachTurn (C.number client.new) (C.screen client.new) outer.old outer.new to (option_copied next.entry) result calls
+        → IsNoted (C.number client.new) outer.new → Shows outer.old (shown_in calls) (C.screen client.new) }
     ensures behind { IsBehind outer.new (C.number client.new) (C.screen client.new) }
 {
     painted_leads_over();

@@ -6,6 +6,8 @@
 #[cfg(test)]
 mod failing;
 #[cfg(test)]
+mod refusing;
+#[cfg(test)]
 mod rows;
 #[cfg(test)]
 mod stage;

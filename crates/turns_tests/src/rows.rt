@@ -24,7 +24,8 @@ fn letter(call: &Told) -> char {
     }
 }
 
-fn letters(alloc: Global, calls: &[Told]) -> Result<String, AllocError> {
+/// The calls as letters.
+pub fn letters(alloc: Global, calls: &[Told]) -> Result<String, AllocError> {
     let mut text = String::new(alloc);
     for call in calls {
         text.push(letter(call))?;

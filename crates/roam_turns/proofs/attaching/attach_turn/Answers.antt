@@ -10,7 +10,7 @@ use Rattle.roam_turns.specs.Turns.{Types, IsToClient, Paints, ClientTicks, Attac
 use Rattle.roam_turns.proofs.Making.{Just, makes_none, makes_port, makes_then, makes_both, makes_as}
 use Rattle.roam_turns.proofs.Painted.{paints_at, paints_behind, behind_later}
 use Rattle.roam_turns.proofs.Starts.{follows_both}
-use Rattle.roam_turns.proofs.Leading.{turn_leads}
+use Rattle.roam_turns.proofs.Leading.{turn_leads, shows_noted}
 use Rattle.roam_turns.proofs.attaching.attach_turn.Goals as goal
 
 pub returns-clause-turn : goal.returns-clause-turn
@@ -58,3 +58,7 @@ returns-clause-behind g c =
     (follows_both _ _ _ _ _ _ c.type_next-taken.ensures.follows c.receive_all.ensures.follows)) in
     subst (λ n. IsBehind new n (g.C.ClientCore.screen c.tick_and_send.new.client)) (sym c.tick_and_send.ensures.number)
     (subst (λ s. IsBehind new (g.C.ClientCore.number before) s) (sym c.tick_and_send.ensures.screen) kept)
+
+pub returns-clause-shows : goal.returns-clause-shows
+returns-clause-shows g c calls turn is =
+    shows_noted c.args.outer.now c.paint_screen.new.outer _ _ _ (returns-clause-leads g c calls turn) (returns-clause-behind g c) is
