@@ -45,7 +45,8 @@ impl Failure {
 static TOP: &str =
     "ab                                     │cd                                      ";
 
-// A round: the first start splits in round 0, both programs write in round 2, where the second start types a letter for pane 2.
+// A round: the first start splits in round 0, both programs write in round 2, where the second start types a letter for pane 2. An act that
+// isn't taken waits for the next round.
 fn play(alloc: Global, stage: &mut Stage, round: u64, failure: Failure) -> Result<(), Fault>
     requires first { IsBehind stage.old.first.outer stage.old.first.client.receiver.newest.number
         stage.old.first.client.receiver.newest.state }
@@ -59,14 +60,20 @@ fn play(alloc: Global, stage: &mut Stage, round: u64, failure: Failure) -> Resul
     let now = round.wrapping_mul(APART);
     let split = Act::SplitRight;
     let key = Act::Key(Key::Char('x'));
-    let first = if round == 0 { Some(&split) } else { None };
-    let second = if round == 2 { Some(&key) } else { None };
-    stage
+    let first = if stage.is_split { None } else { Some(&split) };
+    let second = if stage.is_typed || round < 2 {
+        None
+    } else {
+        Some(&key)
+    };
+    let is_split = stage
         .first
         .turn(alloc, now, failure.in_turn(round, Who::First), first);
-    stage
+    let is_typed = stage
         .second
         .turn(alloc, now, failure.in_turn(round, Who::Second), second);
+    stage.is_split = stage.is_split || is_split;
+    stage.is_typed = stage.is_typed || is_typed;
     carry_up(&mut stage.first, &mut stage.ports)?;
     carry_up(&mut stage.second, &mut stage.ports)?;
     if round == 2 {
@@ -152,5 +159,33 @@ fn a_failed_call_of_the_server_is_made_good(rt: HostRuntime) -> Result<(), Fail>
 fn a_failed_call_of_a_start_is_made_good(rt: HostRuntime) -> Result<(), Fail> {
     assert!(rt; first_lost(rt.alloc(), Who::First)? == None);
     assert!(rt; first_lost(rt.alloc(), Who::Second)? == None);
+    Ok(())
+}
+
+// Whether both starts come to show the last screen, and nothing waits for a program. What the stage itself has no memory for ends it.
+fn comes_right(alloc: Global) -> Result<bool, Fault> {
+    let mut stage = Stage::new(alloc)?;
+    let none = Failure {
+        round: 0,
+        who: Who::Server,
+        call: 0,
+    };
+    for round in 0..24 {
+        play(alloc, &mut stage, round, none)?;
+    }
+    Ok(
+        has_top(alloc, stage.first.screen())?
+            && has_top(alloc, stage.second.screen())?
+            && stage.server.output_len(2) == Some(0),
+    )
+}
+
+// To be run with each of its allocations refused in turn, too: what a turn has no memory for comes in a later one.
+#[test]
+fn refused_memory_is_made_good(rt: HostRuntime) -> Result<(), Fail> {
+    match comes_right(rt.alloc()) {
+        Ok(is_right) => assert!(rt; is_right),
+        Err(fault) => assert!(rt; fault == Fault::OutOfMemory),
+    }
     Ok(())
 }

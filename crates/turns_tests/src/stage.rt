@@ -99,6 +99,9 @@ pub struct Stage {
     pub ports: MemoryPorts,
     pub first: End,
     pub second: End,
+    // Whether the act of each start was taken.
+    pub is_split: bool,
+    pub is_typed: bool,
 }
 
 impl Stage {
@@ -111,6 +114,8 @@ impl Stage {
             ports: MemoryPorts::new(alloc),
             first: End::new(alloc, 0xA1, 5001)?,
             second: End::new(alloc, 0xB1, 5002)?,
+            is_split: false,
+            is_typed: false,
         })
     }
 
