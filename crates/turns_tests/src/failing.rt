@@ -1,5 +1,6 @@
 //! Each call of a turn fails in turn: later turns bring all ends to where they come without a failure.
-ghost use Rattle.std.specs.Prelude.{OnOk};
+ghost use Rattle.std.specs.Prelude.{◌≡◌, IfSome};
+ghost use Rattle.roam_acts.specs.Acts.{IsInRange};
 ghost use Rattle.roam_turns.specs.Painting.{IsBehind};
 
 use crate::stage::{End, Stage, carry_down, carry_up};
@@ -45,44 +46,54 @@ impl Failure {
 static TOP: &str =
     "ab                                     │cd                                      ";
 
-// A round: the first start splits in round 0, both programs write in round 2, where the second start types a letter for pane 2. An act that
-// isn't taken waits for the next round.
-fn play(alloc: Global, stage: &mut Stage, round: u64, failure: Failure) -> Result<(), Fault>
-    requires first { IsBehind stage.old.first.outer stage.old.first.client.receiver.newest.number
-        stage.old.first.client.receiver.newest.state }
-    requires second { IsBehind stage.old.second.outer stage.old.second.client.receiver.newest.number
-        stage.old.second.client.receiver.newest.state }
-    ensures first { OnOk result (IsBehind stage.new.first.outer stage.new.first.client.receiver.newest.number
-        stage.new.first.client.receiver.newest.state) }
-    ensures second { OnOk result (IsBehind stage.new.second.outer stage.new.second.client.receiver.newest.number
-        stage.new.second.client.receiver.newest.state) }
+// An act that is still to be typed.
+fn next_of(is_due: bool, act: &Act) -> Option<&Act>
+    requires in_range { IsInRange act.now }
+    ensures in_range { IfSome result (λ next. IsInRange next.now) }
 {
-    let now = round.wrapping_mul(APART);
-    let split = Act::SplitRight;
-    let key = Act::Key(Key::Char('x'));
-    let first = if stage.is_split { None } else { Some(&split) };
-    let second = if stage.is_typed || round < 2 {
-        None
-    } else {
-        Some(&key)
-    };
-    let is_split = stage
-        .first
-        .turn(alloc, now, failure.in_turn(round, Who::First), first);
-    let is_typed = stage
-        .second
-        .turn(alloc, now, failure.in_turn(round, Who::Second), second);
-    stage.is_split = stage.is_split || is_split;
-    stage.is_typed = stage.is_typed || is_typed;
+    if is_due { Some(act) } else { None }
+}
+
+// What the starts sent comes to the server, which has a turn, and what it sent comes to them. Both programs write in round 2.
+fn serve(alloc: Global, stage: &mut Stage, round: u64, fails: u64) -> Result<(), Fault>
+    ensures first_client { stage.new.first.client ≡ stage.old.first.client }
+    ensures first_outer { stage.new.first.outer ≡ stage.old.first.outer }
+    ensures second_client { stage.new.second.client ≡ stage.old.second.client }
+    ensures second_outer { stage.new.second.outer ≡ stage.old.second.outer }
+{
     carry_up(&mut stage.first, &mut stage.ports)?;
     carry_up(&mut stage.second, &mut stage.ports)?;
     if round == 2 {
         stage.ports.write(1, b"ab")?;
         stage.ports.write(2, b"cd")?;
     }
-    stage.turn(alloc, now, failure.in_turn(round, Who::Server));
+    stage.turn(alloc, round.wrapping_mul(APART), fails);
     carry_down(&stage.ports, &mut stage.first)?;
     carry_down(&stage.ports, &mut stage.second)
+}
+
+// A round: the first start splits in round 0, and the second types a letter for pane 2 in round 2. An act that isn't taken waits for the
+// next round.
+fn play(alloc: Global, stage: &mut Stage, round: u64, failure: Failure) -> Result<(), Fault>
+    requires first { IsBehind stage.old.first.outer stage.old.first.client.receiver.newest.number
+        stage.old.first.client.receiver.newest.state }
+    requires second { IsBehind stage.old.second.outer stage.old.second.client.receiver.newest.number
+        stage.old.second.client.receiver.newest.state }
+    ensures first { IsBehind stage.new.first.outer stage.new.first.client.receiver.newest.number
+        stage.new.first.client.receiver.newest.state }
+    ensures second { IsBehind stage.new.second.outer stage.new.second.client.receiver.newest.number
+        stage.new.second.client.receiver.newest.state }
+{
+    let now = round.wrapping_mul(APART);
+    let split = Act::SplitRight;
+    let key = Act::Key(Key::Char('x'));
+    let first = next_of(!stage.is_split, &split);
+    let second = next_of(!stage.is_typed && round >= 2, &key);
+    let first_fails = failure.in_turn(round, Who::First);
+    let second_fails = failure.in_turn(round, Who::Second);
+    stage.is_split = stage.first.turn(alloc, now, first_fails, first) || stage.is_split;
+    stage.is_typed = stage.second.turn(alloc, now, second_fails, second) || stage.is_typed;
+    serve(alloc, stage, round, failure.in_turn(round, Who::Server))
 }
 
 fn has_top(alloc: Global, shot: &Shot) -> Result<bool, Fault> {
