@@ -1,0 +1,113 @@
+-- What a turn shows leads the outer terminal from what was noted to what is noted then.
+use Rattle.std.proofs.Common.{◌≡◌, ℕ, zero, suc, List, [], ◌∷◌, ◌++◌, map, append-nil, append_assoc, Bool, Option, Some, None, refl, sym, ap, ◌∙◌, subst, inl, inr, arith}
+use Rattle.std.proofs.lemmas.List.{map-append}
+use Rattle.roam_cells.specs.Screenshot.{Screenshot, IsScreenshot, blank_screenshot}
+use Rattle.roam_acts.specs.declared.acts.Act.{Act}
+use Rattle.roam_text.specs.Log.{Item, Byte}
+use Rattle.roam_paint.specs.Colours.{AreIndexed}
+use Rattle.roam_paint.specs.Ground.{Displays, PaintedLeadsOver, OpenedBeginsBlank}
+use Rattle.roam_paint.specs.Painting.{painted, opened}
+use Rattle.roam_hub.specs.declared.addresses.Addr.{Addr}
+use Rattle.roam_turns.specs.declared.outer.Noted.{Noted}
+use Rattle.roam_turns.specs.Calls.{Letter, PortCall, ClientCall}
+use Rattle.roam_turns.specs.Calls.PortCall.{Now, Received, NothingReceived, Sent, PaneGave, PaneGaveNothing, PaneTook, Showed}
+use Rattle.roam_turns.specs.Painting.{IsNoted, IsBehind, IsReady, Fits, Shows, Leads, text_for}
+use Rattle.roam_turns.specs.Parts.{Call, ReceivesUpTo}
+use Rattle.roam_turns.specs.Parts.Call.{Port, Core}
+use Rattle.roam_turns.specs.Turns.{Sends, Types, IsToClient, Paints, ClientTicks, AttachTurn, shown_in}
+use Rattle.roam_turns.specs.Turns.Paints.{already, no_memory, shown, failed}
+
+-- ---- what is shown in a turn
+
+pub shown_both : {C : Type 0} (xs ys : List (Call C)) → shown_in (xs ++ ys) ≡ shown_in xs ++ shown_in ys
+shown_both [] ys = refl
+shown_both (Port (Showed bytes went) ∷ xs) ys =
+    ap (λ l. bytes ++ l) (shown_both xs ys) ∙ sym (append_assoc bytes (shown_in xs) (shown_in ys))
+shown_both (Port (Now t) ∷ xs) ys = shown_both xs ys
+shown_both (Port (Received room from bytes) ∷ xs) ys = shown_both xs ys
+shown_both (Port (NothingReceived room) ∷ xs) ys = shown_both xs ys
+shown_both (Port (Sent to bytes went) ∷ xs) ys = shown_both xs ys
+shown_both (Port (PaneGave pane room bytes) ∷ xs) ys = shown_both xs ys
+shown_both (Port (PaneGaveNothing pane room) ∷ xs) ys = shown_both xs ys
+shown_both (Port (PaneTook pane bytes n) ∷ xs) ys = shown_both xs ys
+shown_both (Core call ∷ xs) ys = shown_both xs ys
+
+types_quiet : (next : Option Act) (taken : Bool) (xs : List (Call ClientCall)) → Types next taken xs → shown_in xs ≡ []
+types_quiet None taken xs h = ap shown_in h.1
+types_quiet (Some act) taken xs h = ap shown_in h.2
+
+receives_quiet : (now n : ℕ) (xs : List (Call ClientCall)) → ReceivesUpTo (IsToClient now) 2048 n xs → shown_in xs ≡ []
+unfolding ReceivesUpTo
+receives_quiet now zero xs h = ap shown_in h
+receives_quiet now (suc n) xs (inl none) = ap shown_in none
+receives_quiet now (suc n) xs (inr more) =
+    ap shown_in more.all ∙ (shown_both more.before more.after
+    ∙ (ap (λ l. l ++ shown_in more.after) (ap shown_in more.first.all) ∙ receives_quiet now n more.after more.later))
+
+sends_quiet : (letters : List Letter) (sent : List PortCall) → Sends letters sent → shown_in {C = ClientCall} (map Port sent) ≡ []
+sends_quiet [] sent h = ap (λ l. shown_in {C = ClientCall} (map Port l)) h
+sends_quiet (letter ∷ letters) sent h =
+    ap (λ l. shown_in {C = ClientCall} (map Port l)) h.2 ∙ sends_quiet letters h.1 h.3
+
+ticks_quiet : (now : ℕ) (to : Addr) (xs : List (Call ClientCall)) → ClientTicks now to xs → shown_in xs ≡ []
+ticks_quiet now to xs h = ap shown_in h.2 ∙ sends_quiet _ h.1 h.3
+
+-- ---- what it makes of a terminal
+
+-- what is noted under the start's number is the start's screen
+pub shows_noted : (outer outer' : Option Noted) (bytes : List ℕ) (n : ℕ) (s : Screenshot) → Leads outer bytes outer' → IsBehind outer' n s
+    → IsNoted n outer' → Shows outer bytes s
+shows_noted outer None bytes n s leads behind is = absurd is
+shows_noted outer (Some noted) bytes n s leads behind is = subst (Shows outer bytes) (behind.same is) leads
+
+module _ (painted_leads : PaintedLeadsOver) (opened_begins : OpenedBeginsBlank) where
+  text_leads : (outer : Option Noted) (s : Screenshot) → IsScreenshot s → AreIndexed s.cells → (rows cols lines : ℕ) (log : List Item)
+      → IsReady rows cols lines log outer → Fits rows cols lines log s → Displays rows cols lines (log ++ map Byte (text_for outer s)) s
+  text_leads None s is indexed rows cols lines log ready fits =
+      let open_text = opened_begins rows cols lines log ready.0 ready.1 in
+      let blank = blank_screenshot s.rows s.cols in
+      let begun = open_text.displays s.rows s.cols fits.rows_fit fits.cols_fit in
+      let led =
+      painted_leads rows cols lines (log ++ map Byte opened) blank s is indexed begun
+      (omega (arith, fits.rows_fit, open_text.size.rows)) (omega (arith, fits.cols_fit, open_text.size.cols)) in
+      subst (λ l. Displays rows cols lines l s)
+      (append_assoc log (map Byte opened) (map Byte (painted blank s))
+      ∙ ap (λ l. log ++ l) (sym (map-append Byte opened (painted blank s))))
+      led.displays
+  text_leads (Some noted) s is indexed rows cols lines log ready fits =
+      (painted_leads rows cols lines log noted.screen s is indexed ready fits.rows_fit fits.cols_fit).displays
+
+  same_leads : (outer : Option Noted) → Leads outer [] outer
+  same_leads None = tt
+  same_leads (Some noted) =
+      λ rows cols lines log ready fits. subst (λ l. Displays rows cols lines l noted.screen) (sym (append-nil log)) ready
+
+  pub paints_leads : (n : ℕ) (s : Screenshot) (outer outer' : Option Noted) (xs : List (Call ClientCall)) → IsScreenshot s
+      → AreIndexed s.cells → Paints n s outer outer' xs → Leads outer (shown_in xs) outer'
+  paints_leads n s outer outer' xs is indexed (already there none same) =
+      subst (Leads outer (shown_in xs)) (sym same) (subst (λ l. Leads outer l outer) (sym (ap shown_in none)) (same_leads outer))
+  paints_leads n s outer outer' xs is indexed (no_memory other none same) =
+      subst (Leads outer (shown_in xs)) (sym same) (subst (λ l. Leads outer l outer) (sym (ap shown_in none)) (same_leads outer))
+  paints_leads n s outer outer' xs is indexed (shown other text now) =
+      let all : text_for outer s ≡ shown_in xs = sym (ap shown_in text ∙ append-nil (text_for outer s)) in
+      subst (Leads outer (shown_in xs)) (sym now)
+      (λ rows cols lines log ready fits. subst (λ l. Displays rows cols lines (log ++ map Byte l) s) all
+      (text_leads outer s is indexed rows cols lines log ready fits))
+  paints_leads n s outer outer' xs is indexed (failed other text now) = subst (Leads outer (shown_in xs)) (sym now) tt
+
+  pub turn_leads : (n : ℕ) (s : Screenshot) (outer outer' : Option Noted) (to : Addr) (next : Option Act) (taken : Bool)
+      (calls : List (Call ClientCall)) → IsScreenshot s → AreIndexed s.cells → AttachTurn n s outer outer' to next taken calls
+      → Leads outer (shown_in calls) outer'
+  turn_leads n s outer outer' to next taken calls is indexed t =
+      let typing = t.parts in
+      let receiving = typing.later in
+      let painting = receiving.later in
+      let a = types_quiet next taken typing.before typing.first in
+      let b = receives_quiet t.now 32 receiving.before receiving.first in
+      let d = ticks_quiet t.now to painting.after painting.later in
+      let all : shown_in calls ≡ shown_in painting.before =
+      ap shown_in t.all ∙ (ap shown_in typing.all ∙ (shown_both typing.before typing.after
+      ∙ (ap (λ l. l ++ shown_in typing.after) a ∙ (ap shown_in receiving.all ∙ (shown_both receiving.before receiving.after
+      ∙ (ap (λ l. l ++ shown_in receiving.after) b ∙ (ap shown_in painting.all ∙ (shown_both painting.before painting.after
+      ∙ (ap (λ l. shown_in painting.before ++ l) d ∙ append-nil (shown_in painting.before)))))))))) in
+      subst (λ l. Leads outer l outer') (sym all) (paints_leads n s outer outer' painting.before is indexed painting.first)

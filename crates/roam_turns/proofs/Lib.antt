@@ -1,0 +1,7 @@
+pub mod Making
+pub mod Taking
+pub mod Letters
+pub mod Starts
+pub mod Painted
+pub mod Leading
+pub mod Hopping

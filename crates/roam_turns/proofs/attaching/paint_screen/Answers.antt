@@ -1,0 +1,32 @@
+use Rattle.std.proofs.Common.{rules, [], ◌∷◌, true, false}
+use Rattle.roam_turns.specs.Calls.PortCall.{Showed}
+use Rattle.roam_turns.specs.Painting.{IsNoted}
+use Rattle.roam_turns.specs.Parts.Call.{Port}
+use Rattle.roam_turns.specs.Turns.{Paints}
+use Rattle.roam_turns.proofs.Making.{Just, makes_none, makes_port, makes_as}
+use Rattle.roam_turns.proofs.Painted.{paints_shown, paints_failed}
+use Rattle.roam_turns.proofs.attaching.paint_screen.Goals as goal
+
+pub returns-then-show-clause-paints : goal.returns-then-show-clause-paints
+returns-then-show-clause-paints g c =
+    let step = g.C.ClientCore.step in
+    let n = g.C.ClientCore.number c.args.client.now in
+    let s = g.C.ClientCore.screen c.args.client.now in
+    let not : IsNoted c.shown-number.result.0 c.args.outer.now → ⊥ = λ h. search (rules, c.is_noted.ensures.noted.1 h) in
+    makes_as step (Just (Port (Showed c.deref.result.now true) ∷ [])) (Paints n s c.args.outer.now c.note.new.self)
+    (makes_port step [] (Showed c.deref.result.now true) (makes_none step) c.if-show.ensures.tells)
+    (paints_shown n c.shown-number.result.0 s c.shown-number.result.1.now c.args.outer.now c.note.new.self c.in-Ok.painting.text.items
+    c.deref.result.now c.shown-number.ensures.number c.shown-number.ensures.screen not c.in-Ok.ensures.text c.deref.ensures.value
+    c.in-Ok.painting.noted c.in-Ok.ensures.noted c.note.ensures.noted)
+
+pub returns-else-show-clause-paints : goal.returns-else-show-clause-paints
+returns-else-show-clause-paints g c =
+    let step = g.C.ClientCore.step in
+    let n = g.C.ClientCore.number c.args.client.now in
+    let s = g.C.ClientCore.screen c.args.client.now in
+    let not : IsNoted c.shown-number.result.0 c.args.outer.now → ⊥ = λ h. search (rules, c.is_noted.ensures.noted.1 h) in
+    makes_as step (Just (Port (Showed c.deref.result.now false) ∷ [])) (Paints n s c.args.outer.now c.note-else-show.new.self)
+    (makes_port step [] (Showed c.deref.result.now false) (makes_none step) c.if-show.ensures.tells)
+    (paints_failed n c.shown-number.result.0 s c.shown-number.result.1.now c.args.outer.now c.note-else-show.new.self
+    c.in-Ok.painting.text.items c.deref.result.now c.shown-number.ensures.number c.shown-number.ensures.screen not c.in-Ok.ensures.text
+    c.deref.ensures.value c.note-else-show.ensures.noted)

@@ -1,0 +1,35 @@
+use Rattle.std.proofs.Common.{rules, ◌≡◌, ◌++◌, [], ◌∷◌, map, take, get_or, ◌+◌, ◌<◌, length, ◌∙◌, ap, sym, subst, refl}
+use Rattle.std.proofs.lemmas.List.{take_more, map-append}
+use Rattle.roam_wire.specs.Cutting.{texts_of}
+use Rattle.roam_turns.specs.Calls.{Tells, Letter}
+use Rattle.roam_turns.specs.Calls.PortCall.{Sent}
+use Rattle.roam_turns.specs.Turns.{Sends, letter_to}
+use Rattle.roam_turns.proofs.Making.{tells_none, tells_both}
+use Rattle.roam_turns.proofs.Letters.{sends_more}
+use Rattle.roam_turns.proofs.sending.send_texts.Goals as goal
+
+pub loop-bytes-init : goal.loop-bytes-init
+loop-bytes-init g c = ([], tells_none _, refl)
+
+pub loop-bytes-preserved : goal.loop-bytes-preserved
+loop-bytes-preserved g c =
+    let all = c.args.texts.now in
+    let to = c.args.to in
+    let i = c.loop-bytes.bytes-index in
+    let item = c.bytes-item.result in
+    let letter : Letter = (to, item.items) in
+    let within : i < length all = search rules in
+    let h = c.loop-bytes.invariant in
+    let call = Sent to item.items c.send.result in
+    let told = subst (λ text. Tells (g.P.Ports.told c.loop-bytes.ports) (g.P.Ports.told c.send.new.self) (Sent to text c.send.result ∷ []))
+    c.deref.ensures.value c.send.ensures.tells in
+    let more : texts_of (take (i + 1) all) ≡ texts_of (take i all) ++ item.items ∷ [] =
+    ap texts_of (take_more all i item within) ∙ (map-append (λ v. v.items) (take i all) (get_or all i item ∷ [])
+    ∙ ap (λ x. texts_of (take i all) ++ x.items ∷ []) (sym c.bytes-item.is)) in
+    let letters : map (letter_to to) (texts_of (take (i + 1) all)) ≡ map (letter_to to) (texts_of (take i all)) ++ letter ∷ [] =
+    ap (map (letter_to to)) more ∙ map-append (letter_to to) (texts_of (take i all)) (item.items ∷ []) in (
+      h.0 ++ call ∷ [],
+      tells_both _ _ _ h.0 (call ∷ []) h.1 told,
+      subst (λ ls. Sends ls (h.0 ++ call ∷ [])) (sym letters)
+          (sends_more (map (letter_to to) (texts_of (take i all))) h.0 letter c.send.result h.2),
+    )

@@ -1,0 +1,86 @@
+-- What ports and cores tell of their calls.
+use Rattle.std.specs.Prelude.{◌≡◌, ℕ, List, [], ◌∷◌, ◌++◌, take, map, Bool, Option, Some, None, Result, Ok, Err, ⊤, Vec}
+use Rattle.std.specs.declared.alloc.Global.{Global}
+use Rattle.roam_cells.specs.declared.faults.Fault.{Fault}
+use Rattle.roam_acts.specs.declared.acts.Act.{Act}
+use Rattle.roam_wire.specs.Cutting.{texts_of}
+use Rattle.roam_hub.specs.declared.addresses.Addr.{Addr}
+use Rattle.roam_hub.specs.declared.addresses.Stop.{Stop}
+use Rattle.roam_hub.specs.declared.clients.Heard.{Heard}
+
+-- between two states these calls were made, where calls are told to the end
+abbrev pub Tells : {C : Type 0} → Option (List C) → Option (List C) → List C → Type 0
+Tells None None calls = ⊤
+Tells None (Some ys) calls = ⊥
+Tells (Some xs) None calls = ⊤
+Tells (Some xs) (Some ys) calls = ys ≡ xs ++ calls
+
+-- ---- ports
+
+-- A call of a port: the moment; a datagram that came, into room for so many bytes, and from where; none came; a datagram that was to go
+-- somewhere, and whether it went; what the program of a pane wrote, into room for so many bytes; it wrote nothing; what was handed to it,
+-- and how much of that it took; what was to be shown, and whether it was.
+pub data PortCall : Type 0 where
+  Now : ℕ → PortCall
+  Received : ℕ → Addr → List ℕ → PortCall
+  NothingReceived : ℕ → PortCall
+  Sent : Addr → List ℕ → Bool → PortCall
+  PaneGave : ℕ → ℕ → List ℕ → PortCall
+  PaneGaveNothing : ℕ → ℕ → PortCall
+  PaneTook : ℕ → List ℕ → ℕ → PortCall
+  Showed : List ℕ → Bool → PortCall
+
+-- what a receive into room for so many bytes brought
+abbrev pub received : ℕ → Option (Addr × ℕ) → List ℕ → PortCall
+received room None buf = NothingReceived room
+received room (Some r) buf = Received room r.0 (take r.1 buf)
+
+-- what a pane's program wrote into room for so many bytes
+abbrev pub pane_gave : ℕ → ℕ → Option ℕ → List ℕ → PortCall
+pane_gave pane room None buf = PaneGaveNothing pane room
+pane_gave pane room (Some n) buf = PaneGave pane room (take n buf)
+
+-- ---- cores
+
+-- a datagram's text, and where it goes
+abbrev pub Letter : Type 0
+Letter = Addr × List ℕ
+
+-- A call of the server with its answer: a datagram that came from somewhere at a moment; how much room there is for the output of a pane;
+-- bytes of a pane's program; the first bytes, so many at most, that wait for one; so many of them that went; a tick at a moment.
+pub data ServerCall : Type 0 where
+  ToServer : Addr → List ℕ → ℕ → Result ℕ Stop → ServerCall
+  Room : ℕ → Option ℕ → ServerCall
+  PaneBytes : ℕ → List ℕ → Result (Unit {0}) Fault → ServerCall
+  Output : ℕ → ℕ → Option (List ℕ) → ServerCall
+  Drain : ℕ → ℕ → Result (Unit {0}) Fault → ServerCall
+  ServerTick : ℕ → Result (List Letter) Fault → ServerCall
+
+-- a call of a client start with its answer: an act that was typed; a datagram that came at a moment; a tick at a moment
+pub data ClientCall : Type 0 where
+  Typed : Act → Result (Unit {0}) Fault → ClientCall
+  ToClient : List ℕ → ℕ → Result Heard Fault → ClientCall
+  ClientTick : ℕ → Result (List (List ℕ)) Fault → ClientCall
+
+-- what waits for a pane's program, as it was copied
+abbrev pub copied : Option ℕ → List ℕ → Option (List ℕ)
+copied None out = None
+copied (Some n) out = Some (take n out)
+
+abbrev pub letters_in : List (Addr × Vec ℕ Global) → List Letter
+letters_in all = map (λ p. (p.0, p.1.items)) all
+
+-- the letters of a server's tick
+abbrev pub letters_of : Result (Vec (Addr × Vec ℕ Global) Global) Fault → Result (List Letter) Fault
+letters_of (Ok all) = Ok (letters_in all.items)
+letters_of (Err fault) = Err fault
+
+-- the texts of a client start's tick
+abbrev pub texts_in : Result (Vec (Vec ℕ Global) Global) Fault → Result (List (List ℕ)) Fault
+texts_in (Ok all) = Ok (texts_of all.items)
+texts_in (Err fault) = Err fault
+
+-- one call after another, by the rule of a core
+abbrev pub RunOf : {S C : Type 0} → (S → C → S → Type 0) → S → List C → S → Type 0
+RunOf step old [] new = new ≡ old
+RunOf {S} step old (call ∷ calls) new = (mid : S) × step old call mid × RunOf step mid calls new

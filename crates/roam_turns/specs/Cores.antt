@@ -1,0 +1,37 @@
+-- What a call of a server or of a client start may answer and leave, as the crate of both says it.
+use Rattle.std.specs.Prelude.{◌≡◌, ℕ, ◌-◌, List, length, take, Result, Vec}
+use Rattle.std.specs.Option.{option_map}
+use Rattle.std.specs.declared.alloc.Global.{Global}
+use Rattle.roam_cells.specs.declared.faults.Fault.{Fault}
+use Rattle.roam_session.specs.Refusals.{output_at}
+use Rattle.roam_world.specs.Servers.{Server as ServerOf}
+use Rattle.roam_world.specs.Clients.{Client as ClientOf}
+use Rattle.roam_hub.specs.Servers.{ServerView, Stands as ServerStands, Feeds, Drains, Comes, Ticks, address_of}
+use Rattle.roam_hub.specs.Clients.{ClientView, Stands as ClientStands, Types, Hears, Sends}
+use Rattle.roam_hub.specs.declared.addresses.Addr.{Addr}
+use Rattle.roam_turns.specs.Calls.{ServerCall, ClientCall, letters_of, texts_in}
+use Rattle.roam_turns.specs.Calls.ServerCall.{ToServer, Room, PaneBytes, Output, Drain, ServerTick}
+use Rattle.roam_turns.specs.Calls.ClientCall.{Typed, ToClient, ClientTick}
+
+-- for every server that it stood for: what the call answers, and which server it stands for then
+abbrev pub server_step : ServerView → ServerCall → ServerView → Type 0
+server_step old (ToServer from bytes now answer) new = (s : ServerOf) → ServerStands old s
+    → Comes s (address_of from) bytes now answer new
+server_step old (Room pane answer) new = (new ≡ old)
+    × ((s : ServerOf) → ServerStands old s
+    → answer ≡ option_map (λ (waiting : List ℕ). 65536 - length waiting) (output_at s.size s.log pane))
+server_step old (PaneBytes pane bytes answer) new = (s : ServerOf) → ServerStands old s → Feeds s pane bytes answer new
+server_step old (Output pane most answer) new = (new ≡ old)
+    × ((s : ServerOf) → ServerStands old s → answer ≡ option_map (take most) (output_at s.size s.log pane))
+server_step old (Drain pane n answer) new = (s : ServerOf) → ServerStands old s → Drains s pane n answer new
+server_step old (ServerTick now answer) new = (s : ServerOf) → ServerStands old s
+    → (result : Result (Vec (Addr × Vec ℕ Global) Global) Fault) × (letters_of result ≡ answer) × Ticks s now result new
+
+-- for every start that it stood for: what the call answers, and which start it stands for then
+abbrev pub client_step : ClientView → ClientCall → ClientView → Type 0
+client_step old (Typed act answer) new = (session id : ℕ) (c : ClientOf) → ClientStands old session id c
+    → Types session id c act answer new
+client_step old (ToClient bytes now answer) new = (session id : ℕ) (c : ClientOf) → ClientStands old session id c
+    → Hears session id c bytes now answer new
+client_step old (ClientTick now answer) new = (session id : ℕ) (c : ClientOf) → ClientStands old session id c
+    → (result : Result (Vec (Vec ℕ Global) Global) Fault) × (texts_in result ≡ answer) × Sends session id c now result new

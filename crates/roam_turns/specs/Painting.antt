@@ -1,0 +1,54 @@
+-- The outer terminal: what is noted of it, and what is written to it.
+use Rattle.std.specs.Prelude.{◌≡◌, ℕ, ◌≤◌, List, ◌++◌, map, Option, Some, None}
+use Rattle.roam_cells.specs.Screenshot.{Screenshot, blank_screenshot}
+use Rattle.roam_text.specs.Log.{Item, Byte}
+use Rattle.roam_term.specs.Terminal.{term}
+use Rattle.roam_paint.specs.Painting.{painted, opened}
+use Rattle.roam_paint.specs.Ground.{Displays}
+use Rattle.roam_turns.specs.declared.outer.Noted.{Noted}
+
+-- the noted number is this one
+abbrev pub IsNoted : ℕ → Option Noted → Type 0
+IsNoted n None = ⊥
+IsNoted n (Some noted) = noted.number ≡ n
+
+-- what is written to show a screen: where none is noted the terminal is opened first, and then blank
+abbrev pub text_for : Option Noted → Screenshot → List ℕ
+text_for None screen = opened ++ painted (blank_screenshot screen.rows screen.cols) screen
+text_for (Some noted) screen = painted noted.screen screen
+
+-- ---- numbers that rise
+
+-- what is shown after what was: no lower number, and of one number one screen
+pub record Follows (n : ℕ) (s : Screenshot) (n' : ℕ) (s' : Screenshot) : Type 0 where
+  pub rises : n ≤ n'
+  pub same : n ≡ n' → s ≡ s'
+
+-- what is noted was shown before
+abbrev pub IsBehind : Option Noted → ℕ → Screenshot → Type 0
+IsBehind None n s = Unit {0}
+IsBehind (Some noted) n s = Follows noted.number noted.screen n s
+
+-- ---- what the terminal shows
+
+-- a terminal of a size, with so many lines of history, shows after a log what is noted; where nothing is, it is any terminal
+abbrev pub IsReady : ℕ → ℕ → ℕ → List Item → Option Noted → Type 0
+IsReady rows cols lines log None = (1 ≤ (term rows cols lines log).live.screen.rows) × (1 ≤ (term rows cols lines log).live.screen.cols)
+IsReady rows cols lines log (Some noted) = Displays rows cols lines log noted.screen
+
+-- a screen has at most the terminal's rows and columns
+pub record Fits (rows cols lines : ℕ) (log : List Item) (s : Screenshot) : Type 0 where
+  pub rows_fit : s.rows ≤ (term rows cols lines log).live.screen.rows
+  pub cols_fit : s.cols ≤ (term rows cols lines log).live.screen.cols
+
+-- Once these bytes are written, whatever terminal showed what was noted, of at least the size of this screen, shows the screen: a ground
+-- terminal between sequences.
+abbrev pub Shows : Option Noted → List ℕ → Screenshot → Type 0
+Shows outer bytes screen =
+    (rows cols lines : ℕ) (log : List Item) → IsReady rows cols lines log outer → Fits rows cols lines log screen
+    → Displays rows cols lines (log ++ map Byte bytes) screen
+
+-- once they are written it shows what is noted then
+abbrev pub Leads : Option Noted → List ℕ → Option Noted → Type 0
+Leads outer bytes None = Unit {0}
+Leads outer bytes (Some noted) = Shows outer bytes noted.screen

@@ -1,0 +1,22 @@
+-- What ports over memory tell.
+use Rattle.std.specs.Prelude.{List, map, Option, Some, None, if◌then◌else◌}
+use Rattle.roam_turns.specs.declared.memory.Told.{Told}
+use Rattle.roam_turns.specs.declared.memory.Told.TheVariants as wrote
+use Rattle.roam_turns.specs.declared.memory.MemoryPorts.{MemoryPorts}
+use Rattle.roam_turns.specs.Calls.{PortCall}
+use Rattle.roam_turns.specs.Calls.PortCall.{Now, Received, NothingReceived, Sent, PaneGave, PaneGaveNothing, PaneTook, Showed}
+
+-- a call as it was written down
+abbrev pub call_of : Told → PortCall
+call_of (wrote.Now moment) = Now moment
+call_of (wrote.Received room from bytes) = Received room from bytes.items
+call_of (wrote.NothingReceived room) = NothingReceived room
+call_of (wrote.Sent to bytes went) = Sent to bytes.items went
+call_of (wrote.PaneGave pane room bytes) = PaneGave pane room bytes.items
+call_of (wrote.PaneGaveNothing pane room) = PaneGaveNothing pane room
+call_of (wrote.PaneTook pane bytes n) = PaneTook pane bytes.items n
+call_of (wrote.Showed bytes went) = Showed bytes.items went
+
+-- the calls so far, unless one could not be written down
+abbrev pub told_of : MemoryPorts → Option (List PortCall)
+told_of ports = if ports.is_lost then None else Some (map call_of ports.told.items)

@@ -1,0 +1,123 @@
+-- What a turn is: the calls that it makes, of its ports and of its core, in their order.
+use Rattle.std.specs.Prelude.{◌≡◌, ℕ, ◌<◌, ◌≤◌, List, [], ◌∷◌, ◌++◌, map, Bool, Option, Some, None, Result, Ok, Err, is_ok, true, false}
+use Rattle.roam_cells.specs.declared.faults.Fault.{Fault}
+use Rattle.roam_cells.specs.Screenshot.{Screenshot}
+use Rattle.roam_acts.specs.declared.acts.Act.{Act}
+use Rattle.roam_hub.specs.declared.addresses.Addr.{Addr}
+use Rattle.roam_hub.specs.declared.addresses.Stop.{Stop}
+use Rattle.roam_hub.specs.declared.clients.Heard.{Heard}
+use Rattle.roam_turns.specs.Calls.{Letter, PortCall, ServerCall, ClientCall}
+use Rattle.roam_turns.specs.Calls.PortCall.{Now, Sent, PaneGave, PaneGaveNothing, PaneTook, Showed}
+use Rattle.roam_turns.specs.Calls.ServerCall.{ToServer, Room, PaneBytes, Output, Drain, ServerTick}
+use Rattle.roam_turns.specs.Calls.ClientCall.{Typed, ToClient, ClientTick}
+use Rattle.roam_turns.specs.declared.outer.Noted.{Noted}
+use Rattle.roam_turns.specs.Painting.{IsNoted, text_for}
+use Rattle.roam_turns.specs.Parts.{Call, Then, Each, ReceivesUpTo}
+use Rattle.roam_turns.specs.Parts.Call.{Port, Core}
+
+-- ---- both turns
+
+-- what a tick lets send: nothing where it is refused
+abbrev pub sent_in : {L : Type 0} → Result (List L) Fault → List L
+sent_in (Ok all) = all
+sent_in (Err fault) = []
+
+-- each letter is sent, in their order
+abbrev pub Sends : List Letter → List PortCall → Type 0
+Sends [] calls = calls ≡ []
+Sends (letter ∷ letters) calls =
+    (went : Bool) × (rest : List PortCall) × (calls ≡ Sent letter.0 letter.1 went ∷ rest) × Sends letters rest
+
+-- ---- the server's turn
+
+-- a datagram is handed to the server at a moment
+abbrev pub IsToServer : ℕ → Addr → List ℕ → ServerCall → Type 0
+IsToServer now from bytes call = (answer : Result ℕ Stop) × (call ≡ ToServer from bytes now answer)
+
+-- there is room for the answers to a full piece: 12 bytes for each of 1,024
+abbrev pub TakesPiece : Option ℕ → Type 0
+TakesPiece None = ⊥
+TakesPiece (Some room) = 12288 ≤ room
+
+-- A pane's program is asked for up to 1,024 bytes, where the pane is there and would take them: the pane isn't there or hasn't the room;
+-- nothing came; nothing but an empty piece; or a piece, which is handed to the server.
+pub data AsksPane (pane : ℕ) (calls : List (Call ServerCall)) : Type 0 where
+  full : (room : Option ℕ) → (TakesPiece room → ⊥) → calls ≡ Core (Room pane room) ∷ [] → AsksPane pane calls
+  nothing : (room : Option ℕ) → TakesPiece room → calls ≡ Core (Room pane room) ∷ Port (PaneGaveNothing pane 1024) ∷ []
+      → AsksPane pane calls
+  empty : (room : Option ℕ) → TakesPiece room → calls ≡ Core (Room pane room) ∷ Port (PaneGave pane 1024 []) ∷ []
+      → AsksPane pane calls
+  piece : (room : Option ℕ) (bytes : List ℕ) (answer : Result (Unit {0}) Fault) → TakesPiece room → (bytes ≡ [] → ⊥)
+      → calls ≡ Core (Room pane room) ∷ Port (PaneGave pane 1024 bytes) ∷ Core (PaneBytes pane bytes answer) ∷ []
+      → AsksPane pane calls
+
+-- Up to 1,024 bytes that wait for a pane's program are handed to it: the pane isn't there; nothing waits; it takes none; or it takes some,
+-- and just those go.
+pub data FillsPane (pane : ℕ) (calls : List (Call ServerCall)) : Type 0 where
+  no_pane : calls ≡ Core (Output pane 1024 None) ∷ [] → FillsPane pane calls
+  quiet : calls ≡ Core (Output pane 1024 (Some [])) ∷ [] → FillsPane pane calls
+  refused : (bytes : List ℕ) → (bytes ≡ [] → ⊥)
+      → calls ≡ Core (Output pane 1024 (Some bytes)) ∷ Port (PaneTook pane bytes 0) ∷ [] → FillsPane pane calls
+  took : (bytes : List ℕ) (n : ℕ) (answer : Result (Unit {0}) Fault) → (bytes ≡ [] → ⊥) → 0 < n
+      → calls ≡ Core (Output pane 1024 (Some bytes)) ∷ Port (PaneTook pane bytes n) ∷ Core (Drain pane n answer) ∷ []
+      → FillsPane pane calls
+
+-- a tick, and each of its letters is sent; a refused tick sends nothing
+abbrev pub ServerTicks : ℕ → List (Call ServerCall) → Type 0
+ServerTicks now calls =
+    (answer : Result (List Letter) Fault) × (sent : List PortCall)
+    × (calls ≡ Core (ServerTick now answer) ∷ map Port sent) × Sends (sent_in answer) sent
+
+-- the server's turn: the moment; at most 32 datagrams of up to 2,048 bytes; panes 1 to 9 are asked, then they are filled; a tick
+pub record ServeTurn (calls : List (Call ServerCall)) : Type 0 where
+  pub now : ℕ
+  pub rest : List (Call ServerCall)
+  pub all : calls ≡ Port (Now now) ∷ rest
+  pub parts : Then (ReceivesUpTo (IsToServer now) 2048 32)
+      (Then (Each AsksPane 1 9) (Then (Each FillsPane 1 9) (ServerTicks now))) rest
+
+-- ---- the turn of a client start
+
+-- the next act is typed, where there is one; whether it was taken
+abbrev pub Types : Option Act → Bool → List (Call ClientCall) → Type 0
+Types None taken calls = (taken ≡ false) × (calls ≡ [])
+Types (Some act) taken calls =
+    (answer : Result (Unit {0}) Fault) × (taken ≡ is_ok answer) × (calls ≡ Core (Typed act answer) ∷ [])
+
+-- a datagram is handed to the start at a moment, wherever it came from
+abbrev pub IsToClient : ℕ → Addr → List ℕ → ClientCall → Type 0
+IsToClient now from bytes call = (answer : Result Heard Fault) × (call ≡ ToClient bytes now answer)
+
+-- The screen of a number is painted where another is noted or none: it is noted already; memory is wanting, and nothing is shown; it is
+-- shown, and noted from now on; or that failed, and nothing is noted.
+pub data Paints (number : ℕ) (screen : Screenshot) (outer outer' : Option Noted) (calls : List (Call ClientCall)) : Type 0 where
+  already : IsNoted number outer → calls ≡ [] → outer' ≡ outer → Paints number screen outer outer' calls
+  no_memory : (IsNoted number outer → ⊥) → calls ≡ [] → outer' ≡ outer → Paints number screen outer outer' calls
+  shown : (IsNoted number outer → ⊥) → calls ≡ Port (Showed (text_for outer screen) true) ∷ []
+      → outer' ≡ Some (record { number = number; screen = screen }) → Paints number screen outer outer' calls
+  failed : (IsNoted number outer → ⊥) → calls ≡ Port (Showed (text_for outer screen) false) ∷ [] → outer' ≡ None
+      → Paints number screen outer outer' calls
+
+abbrev pub letter_to : Addr → List ℕ → Letter
+letter_to to text = (to, text)
+
+-- a tick, and each of its texts is sent to an address; a refused tick sends nothing
+abbrev pub ClientTicks : ℕ → Addr → List (Call ClientCall) → Type 0
+ClientTicks now to calls =
+    (answer : Result (List (List ℕ)) Fault) × (sent : List PortCall)
+    × (calls ≡ Core (ClientTick now answer) ∷ map Port sent) × Sends (map (letter_to to) (sent_in answer)) sent
+
+-- the turn of a client start: the moment; the next act; at most 32 datagrams of up to 2,048 bytes; its screen; a tick
+pub record AttachTurn (number : ℕ) (screen : Screenshot) (outer outer' : Option Noted) (to : Addr) (next : Option Act) (taken : Bool)
+    (calls : List (Call ClientCall)) : Type 0 where
+  pub now : ℕ
+  pub rest : List (Call ClientCall)
+  pub all : calls ≡ Port (Now now) ∷ rest
+  pub parts : Then (Types next taken) (Then (ReceivesUpTo (IsToClient now) 2048 32)
+      (Then (Paints number screen outer outer') (ClientTicks now to))) rest
+
+-- the bytes that are shown in it
+abbrev pub shown_in : {C : Type 0} → List (Call C) → List ℕ
+shown_in [] = []
+shown_in (Port (Showed bytes went) ∷ calls) = bytes ++ shown_in calls
+shown_in (_ ∷ calls) = shown_in calls

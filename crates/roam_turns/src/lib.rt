@@ -1,0 +1,18 @@
+//! One turn of a program round a core: what comes through its ports goes to the core, and what the core answers goes out.
+#![tactic(auto)]
+
+mod attaching;
+pub mod cores;
+pub mod laws;
+pub mod memory;
+mod outer;
+pub mod ports;
+mod sending;
+mod serving;
+
+pub use attaching::attach_turn;
+pub use cores::{ClientCore, ServerCore};
+pub use memory::MemoryPorts;
+pub use outer::Outer;
+pub use ports::Ports;
+pub use serving::serve_turn;

@@ -1,0 +1,226 @@
+//! Ports over memory, which tell their calls.
+ghost use Rattle.std.specs.Prelude.{◌≡◌, ◌∷◌, [], OnErr, IfOk, Some, None};
+ghost use Rattle.roam_turns.specs.Calls.{Tells};
+ghost use Rattle.roam_turns.specs.Recording.{call_of, told_of};
+
+use crate::ports::Ports;
+use roam_hub::Addr;
+use std::alloc::{AllocError, Global};
+use std::collections::VecDeque;
+
+/// A call of a port, and what it gave.
+#[derive(Debug, Drop)]
+pub enum Told {
+    /// The moment.
+    Now(u64),
+
+    /// A datagram came, into room for so many bytes.
+    Received(usize, Addr, Vec<u8>),
+
+    /// None came.
+    NothingReceived(usize),
+
+    /// A datagram was to go somewhere, and whether it went.
+    Sent(Addr, Vec<u8>, bool),
+
+    /// What the program of a pane wrote, into room for so many bytes.
+    PaneGave(u8, usize, Vec<u8>),
+
+    /// It wrote nothing.
+    PaneGaveNothing(u8, usize),
+
+    /// What was handed to the program of a pane, and how many bytes of it were taken.
+    PaneTook(u8, Vec<u8>, usize),
+
+    /// What was to be shown, and whether it was.
+    Showed(Vec<u8>, bool),
+}
+
+/// Ports over memory: what is to come is queued, and each call is written down with what it gave.
+#[derive(Drop)]
+pub struct MemoryPorts {
+    alloc: Global,
+    moment: u64,
+    datagrams: VecDeque<(Addr, Vec<u8>)>,
+    pieces: VecDeque<(u8, Vec<u8>)>,
+    appetite: usize,
+    told: Vec<Told>,
+    is_lost: bool,
+    calls: u64,
+    fails_at: u64,
+}
+
+impl MemoryPorts {
+    /// Ports at the moment 0: nothing is to come, what is handed out goes, and no call fails.
+    pub fn new(alloc: Global) -> MemoryPorts
+        ensures told { told_of result ≡ Some [] }
+    {
+        MemoryPorts {
+            alloc,
+            moment: 0,
+            datagrams: VecDeque::new(alloc),
+            pieces: VecDeque::new(alloc),
+            appetite: usize::MAX,
+            told: Vec::new(alloc),
+            is_lost: false,
+            calls: 0,
+            fails_at: 0,
+        }
+    }
+
+    /// It is this moment from now on, in milliseconds.
+    pub fn set_moment(&mut self, moment: u64)
+        ensures told { told_of self.new ≡ told_of self.old }
+    {
+        self.moment = moment;
+    }
+
+    /// A datagram is to come, after those that are.
+    pub fn deliver(&mut self, from: Addr, bytes: &[u8]) -> Result<(), AllocError>
+        ensures told { told_of self.new ≡ told_of self.old }
+    {
+        let text = Vec::from_slice(self.alloc, bytes)?;
+        self.datagrams.push_back((from, text))?;
+        Ok(())
+    }
+
+    /// The program of a pane writes a piece, after those that were written. One that is longer than the room it finds is cut.
+    pub fn write(&mut self, pane: u8, piece: &[u8]) -> Result<(), AllocError>
+        ensures told { told_of self.new ≡ told_of self.old }
+    {
+        let text = Vec::from_slice(self.alloc, piece)?;
+        self.pieces.push_back((pane, text))?;
+        Ok(())
+    }
+
+    /// The programs of panes take at most so many bytes at once from now on.
+    pub fn take_at_most(&mut self, bytes: usize)
+        ensures told { told_of self.new ≡ told_of self.old }
+    {
+        self.appetite = bytes;
+    }
+
+    /// The call of this number fails, counted from 1 and from now on; none does at 0. A moment is told whatever fails.
+    pub fn fail_at(&mut self, call: u64)
+        ensures told { told_of self.new ≡ told_of self.old }
+    {
+        self.calls = 0;
+        self.fails_at = call;
+    }
+
+    /// The calls so far, in their order, up to one for which there was no memory.
+    pub fn told(&self) -> &[Told] {
+        &self.told
+    }
+
+    // Whether the piece that is to come first is of this pane's program.
+    fn is_next(&self, pane: u8) -> bool {
+        match self.pieces.front() {
+            None => false,
+            Some((from, _)) => *from == pane,
+        }
+    }
+
+    // Counts a call, and tells whether it fails.
+    fn is_failing(&mut self) -> bool
+        ensures told { told_of self.new ≡ told_of self.old }
+    {
+        self.calls = self.calls.saturating_add(1);
+        self.calls == self.fails_at
+    }
+
+    // Writes a call down. From one that can't be, the ports tell nothing.
+    fn record(&mut self, call: Result<Told, AllocError>)
+        ensures told { IfOk call (λ it. Tells (told_of self.old) (told_of self.new) (call_of it ∷ [])) }
+        ensures lost { OnErr call (told_of self.new ≡ None) }
+    {
+        match call {
+            Ok(it) => {
+                if self.told.push(it).is_err() {
+                    self.is_lost = true;
+                }
+            }
+            Err(_) => self.is_lost = true,
+        }
+    }
+}
+
+impl Ports for MemoryPorts {
+    ghost told = { told_of };
+
+    fn now(&mut self) -> u64 {
+        let _ = self.is_failing();
+        let moment = self.moment;
+        self.record(Ok(Told::Now(moment)));
+        moment
+    }
+
+    fn receive(&mut self, buf: &mut [u8]) -> Option<(Addr, usize)> {
+        let room = buf.len();
+        let came = if self.is_failing() {
+            None
+        } else {
+            self.datagrams.pop_front()
+        };
+        match came {
+            None => {
+                self.record(Ok(Told::NothingReceived(room)));
+                None
+            }
+            Some((from, bytes)) => {
+                let len = bytes.len().min(room);
+                buf[..len].copy_from_slice(&bytes[..len]);
+                let text = Vec::from_slice(self.alloc, &buf[..len]);
+                self.record(text.map(|text| Told::Received(room, from, text)));
+                Some((from, len))
+            }
+        }
+    }
+
+    fn send(&mut self, to: Addr, bytes: &[u8]) -> bool {
+        let went = !self.is_failing();
+        let text = Vec::from_slice(self.alloc, bytes);
+        self.record(text.map(|text| Told::Sent(to, text, went)));
+        went
+    }
+
+    fn pane_in(&mut self, pane: u8, buf: &mut [u8]) -> Option<usize> {
+        let room = buf.len();
+        let wrote = if self.is_failing() || !self.is_next(pane) {
+            None
+        } else {
+            self.pieces.pop_front()
+        };
+        match wrote {
+            None => {
+                self.record(Ok(Told::PaneGaveNothing(pane, room)));
+                None
+            }
+            Some((_, bytes)) => {
+                let len = bytes.len().min(room);
+                buf[..len].copy_from_slice(&bytes[..len]);
+                let text = Vec::from_slice(self.alloc, &buf[..len]);
+                self.record(text.map(|text| Told::PaneGave(pane, room, text)));
+                Some(len)
+            }
+        }
+    }
+
+    fn pane_out(&mut self, pane: u8, bytes: &[u8]) -> usize {
+        let took = if self.is_failing() {
+            0
+        } else {
+            bytes.len().min(self.appetite)
+        };
+        let text = Vec::from_slice(self.alloc, bytes);
+        self.record(text.map(|text| Told::PaneTook(pane, text, took)));
+        took
+    }
+
+    fn show(&mut self, bytes: &[u8]) -> bool {
+        let is_shown = !self.is_failing();
+        let text = Vec::from_slice(self.alloc, bytes);
+        self.record(text.map(|text| Told::Showed(text, is_shown)));
+        is_shown
+    }
+}

@@ -1,0 +1,40 @@
+//! What a turn reaches outside its core.
+ghost use Rattle.std.specs.Prelude.{◌≡◌, ◌≤◌, length, List, [], ◌∷◌, Option, None, IfSome};
+ghost use Rattle.roam_turns.specs.Calls.{PortCall, Tells, received, pane_gave};
+ghost use Rattle.roam_turns.specs.Calls.PortCall.{Now, Sent, PaneTook, Showed};
+
+use roam_hub::Addr;
+
+/// The clock, the network, the programs of the panes and the outer terminal. Each call returns at once. A send that fails is a loss, and a
+/// receive that fails brings nothing.
+pub trait Ports {
+    // The calls made so far, where they are told.
+    ghost told: { Self → Option (List PortCall) } = { λ _. None };
+
+    /// The moment, in milliseconds.
+    fn now(&mut self) -> u64
+        ensures tells { Tells (told self.old) (told self.new) (Now result ∷ []) };
+
+    /// A datagram that came: from where, and how many bytes of `buf` it fills from the front.
+    fn receive(&mut self, buf: &mut [u8]) -> Option<(Addr, usize)>
+        ensures within { IfSome result (λ r. r.1 ≤ length buf.new) }
+        ensures tells { Tells (told self.old) (told self.new) (received (length buf.old) result buf.new ∷ []) };
+
+    /// Sends a datagram, and tells whether it went.
+    fn send(&mut self, to: Addr, bytes: &[u8]) -> bool
+        ensures tells { Tells (told self.old) (told self.new) (Sent to bytes.now result ∷ []) };
+
+    /// Bytes that the program of pane 1 to 9 wrote: how many bytes of `buf` they fill from the front.
+    fn pane_in(&mut self, pane: u8, buf: &mut [u8]) -> Option<usize>
+        ensures within { IfSome result (λ n. n ≤ length buf.new) }
+        ensures tells { Tells (told self.old) (told self.new) (pane_gave pane (length buf.old) result buf.new ∷ []) };
+
+    /// Hands bytes to the program of pane 1 to 9, and tells how many it took from the front; 0 where it takes none.
+    fn pane_out(&mut self, pane: u8, bytes: &[u8]) -> usize
+        ensures within { result ≤ length bytes.now }
+        ensures tells { Tells (told self.old) (told self.new) (PaneTook pane bytes.now result ∷ []) };
+
+    /// Writes to the outer terminal, and tells whether all was written.
+    fn show(&mut self, bytes: &[u8]) -> bool
+        ensures tells { Tells (told self.old) (told self.new) (Showed bytes.now result ∷ []) };
+}

@@ -1,0 +1,202 @@
+//! Each call of a turn fails in turn: later turns bring all ends to where they come without a failure.
+ghost use Rattle.std.specs.Prelude.{◌≡◌, IfSome};
+ghost use Rattle.roam_acts.specs.Acts.{IsInRange};
+ghost use Rattle.roam_turns.specs.Painting.{IsBehind};
+
+use crate::stage::{End, Stage, carry_down, carry_up};
+use roam_acts::{Act, Key};
+use roam_cells::{Fault, Shot};
+use roam_term::Term;
+use roam_turns::MemoryPorts;
+use roam_turns::memory::Told;
+use std::alloc::Global;
+use std::test::*;
+
+/// Milliseconds from one round to the next: more than what is not acknowledged waits.
+const APART: u64 = 300;
+
+/// Whose turn it is in which a call fails.
+#[derive(Clone, Copy, PartialEq, Eq)]
+enum Who {
+    Server,
+    First,
+    Second,
+}
+
+/// A call that fails: of a turn in a round, by its number.
+#[derive(Clone, Copy)]
+struct Failure {
+    round: u64,
+    who: Who,
+    call: u64,
+}
+
+impl Failure {
+    // The call that fails in a turn, or none.
+    fn in_turn(&self, round: u64, who: Who) -> u64 {
+        if self.round == round && self.who == who {
+            self.call
+        } else {
+            0
+        }
+    }
+}
+
+// The first row once pane 1 wrote ab and pane 2, at its right, cd.
+static TOP: &str =
+    "ab                                     │cd                                      ";
+
+// An act that is still to be typed.
+fn next_of(is_due: bool, act: &Act) -> Option<&Act>
+    requires in_range { IsInRange act.now }
+    ensures in_range { IfSome result (λ next. IsInRange next.now) }
+{
+    if is_due { Some(act) } else { None }
+}
+
+// What the starts sent comes to the server, which has a turn, and what it sent comes to them. Both programs write in round 2.
+fn serve(alloc: Global, stage: &mut Stage, round: u64, fails: u64) -> Result<(), Fault>
+    ensures first_client { stage.new.first.client ≡ stage.old.first.client }
+    ensures first_outer { stage.new.first.outer ≡ stage.old.first.outer }
+    ensures second_client { stage.new.second.client ≡ stage.old.second.client }
+    ensures second_outer { stage.new.second.outer ≡ stage.old.second.outer }
+{
+    carry_up(&mut stage.first, &mut stage.ports)?;
+    carry_up(&mut stage.second, &mut stage.ports)?;
+    if round == 2 {
+        stage.ports.write(1, b"ab")?;
+        stage.ports.write(2, b"cd")?;
+    }
+    stage.turn(alloc, round.wrapping_mul(APART), fails);
+    carry_down(&stage.ports, &mut stage.first)?;
+    carry_down(&stage.ports, &mut stage.second)
+}
+
+// A round: the first start splits in round 0, and the second types a letter for pane 2 in round 2. An act that isn't taken waits for the
+// next round.
+fn play(alloc: Global, stage: &mut Stage, round: u64, failure: Failure) -> Result<(), Fault>
+    requires first { IsBehind stage.old.first.outer stage.old.first.client.receiver.newest.number
+        stage.old.first.client.receiver.newest.state }
+    requires second { IsBehind stage.old.second.outer stage.old.second.client.receiver.newest.number
+        stage.old.second.client.receiver.newest.state }
+    ensures first { IsBehind stage.new.first.outer stage.new.first.client.receiver.newest.number
+        stage.new.first.client.receiver.newest.state }
+    ensures second { IsBehind stage.new.second.outer stage.new.second.client.receiver.newest.number
+        stage.new.second.client.receiver.newest.state }
+{
+    let now = round.wrapping_mul(APART);
+    let split = Act::SplitRight;
+    let key = Act::Key(Key::Char('x'));
+    let first = next_of(!stage.is_split, &split);
+    let second = next_of(!stage.is_typed && round >= 2, &key);
+    let first_fails = failure.in_turn(round, Who::First);
+    let second_fails = failure.in_turn(round, Who::Second);
+    stage.is_split = stage.first.turn(alloc, now, first_fails, first) || stage.is_split;
+    stage.is_typed = stage.second.turn(alloc, now, second_fails, second) || stage.is_typed;
+    serve(alloc, stage, round, failure.in_turn(round, Who::Server))
+}
+
+fn has_top(alloc: Global, shot: &Shot) -> Result<bool, Fault> {
+    if shot.rows() == 0 {
+        return Ok(false);
+    }
+    let points = shot.row_text(alloc, 0)?;
+    Ok(points.iter().copied().eq(TOP.chars()))
+}
+
+// What a terminal shows to which all was written that was shown.
+fn terminal(alloc: Global, ports: &MemoryPorts) -> Result<Shot, Fault> {
+    let mut term = Term::new(alloc, 24, 80, 0)?;
+    for call in ports.told() {
+        if let Told::Showed(bytes, true) = call {
+            for piece in bytes.chunks(1024) {
+                term.feed(piece)?;
+            }
+        }
+    }
+    term.shot(alloc, 0)
+}
+
+// The start shows the last screen, and so does its terminal.
+fn is_shown(alloc: Global, end: &End) -> Result<bool, Fault> {
+    Ok(has_top(alloc, end.screen())? && has_top(alloc, &terminal(alloc, end.ports())?)?)
+}
+
+// How many bytes the program of pane 2 took, and whether each is an x.
+fn taken(ports: &MemoryPorts) -> (usize, bool) {
+    let mut count: usize = 0;
+    let mut are_typed = true;
+    for call in ports.told() {
+        if let Told::PaneTook(2, bytes, n) = call {
+            count = count.saturating_add(*n);
+            are_typed = are_typed && bytes.as_slice() == b"x".as_slice();
+        }
+    }
+    (count, are_typed)
+}
+
+// Whether all ends come to one end, whatever failed.
+fn settles(alloc: Global, failure: Failure) -> Result<bool, Fault> {
+    let mut stage = Stage::new(alloc)?;
+    for round in 0..14 {
+        play(alloc, &mut stage, round, failure)?;
+    }
+    Ok(
+        is_shown(alloc, &stage.first)?
+            && is_shown(alloc, &stage.second)?
+            && taken(&stage.ports) == (1, true),
+    )
+}
+
+// The first call that isn't made good, of each of the first five turns of one end.
+fn first_lost(alloc: Global, who: Who) -> Result<Option<(u64, u64)>, Fault> {
+    for round in 0..5 {
+        for call in 0..11 {
+            if !settles(alloc, Failure { round, who, call })? {
+                return Ok(Some((round, call)));
+            }
+        }
+    }
+    Ok(None)
+}
+
+#[test]
+fn a_failed_call_of_the_server_is_made_good(rt: HostRuntime) -> Result<(), Fail> {
+    assert!(rt; first_lost(rt.alloc(), Who::Server)? == None);
+    Ok(())
+}
+
+#[test]
+fn a_failed_call_of_a_start_is_made_good(rt: HostRuntime) -> Result<(), Fail> {
+    assert!(rt; first_lost(rt.alloc(), Who::First)? == None);
+    assert!(rt; first_lost(rt.alloc(), Who::Second)? == None);
+    Ok(())
+}
+
+// Whether both starts come to show the last screen, and nothing waits for a program. What the stage itself has no memory for ends it.
+fn comes_right(alloc: Global) -> Result<bool, Fault> {
+    let mut stage = Stage::new(alloc)?;
+    let none = Failure {
+        round: 0,
+        who: Who::Server,
+        call: 0,
+    };
+    for round in 0..24 {
+        play(alloc, &mut stage, round, none)?;
+    }
+    Ok(
+        has_top(alloc, stage.first.screen())?
+            && has_top(alloc, stage.second.screen())?
+            && stage.server.output_len(2) == Some(0),
+    )
+}
+
+// To be run with each of its allocations refused in turn, too: what a turn has no memory for comes in a later one.
+#[test]
+fn refused_memory_is_made_good(rt: HostRuntime) -> Result<(), Fail> {
+    match comes_right(rt.alloc()) {
+        Ok(is_right) => assert!(rt; is_right),
+        Err(fault) => assert!(rt; fault == Fault::OutOfMemory),
+    }
+    Ok(())
+}

@@ -1,0 +1,163 @@
+//! The calls of a turn, in order, and what is shown and sent byte for byte.
+use crate::stage::{SERVER, Stage, carry_down, carry_up};
+use roam_cells::Fault;
+use roam_hub::Server;
+use roam_turns::memory::Told;
+use roam_turns::{MemoryPorts, serve_turn};
+use std::alloc::{AllocError, Global};
+use std::test::*;
+
+// A call as a letter; a capital brought or took something.
+fn letter(call: &Told) -> char {
+    match call {
+        Told::Now(_) => 'N',
+        Told::Received(_, _, _) => 'R',
+        Told::NothingReceived(_) => 'r',
+        Told::Sent(_, _, true) => 'S',
+        Told::Sent(_, _, false) => 's',
+        Told::PaneGave(_, _, _) => 'G',
+        Told::PaneGaveNothing(_, _) => 'g',
+        Told::PaneTook(_, _, 0) => 't',
+        Told::PaneTook(_, _, _) => 'T',
+        Told::Showed(_, true) => 'W',
+        Told::Showed(_, false) => 'w',
+    }
+}
+
+/// The calls as letters.
+pub fn letters(alloc: Global, calls: &[Told]) -> Result<String, AllocError> {
+    let mut text = String::new(alloc);
+    for call in calls {
+        text.push(letter(call))?;
+    }
+    Ok(text)
+}
+
+/// One turn of a new server: how many datagrams come, what the program of pane 1 writes, which call fails, how many bytes the program
+/// takes; the calls, and how many bytes wait for the program after it.
+#[derive(Clone, Copy)]
+struct Row {
+    datagrams: usize,
+    piece: &'static str,
+    fails: u64,
+    takes: usize,
+    calls: &'static str,
+    waits: usize,
+}
+
+fn turn_of(
+    datagrams: usize,
+    piece: &'static str,
+    fails: u64,
+    takes: usize,
+    calls: &'static str,
+    waits: usize,
+) -> Row {
+    Row {
+        datagrams,
+        piece,
+        fails,
+        takes,
+        calls,
+        waits,
+    }
+}
+
+fn rows() -> [Row; 11] {
+    [
+        turn_of(0, "", 0, 9, "Nrg", 0),
+        turn_of(2, "", 0, 9, "NRRrg", 0),
+        turn_of(31, "", 0, 9, "NRRRRRRRRRRRRRRRRRRRRRRRRRRRRRRRrg", 0),
+        // The 33rd waits for the next turn.
+        turn_of(33, "", 0, 9, "NRRRRRRRRRRRRRRRRRRRRRRRRRRRRRRRRg", 0),
+        turn_of(0, "a", 0, 9, "NrG", 0),
+        // DA is answered by 8 bytes.
+        turn_of(0, "\x1B[c", 0, 9, "NrGT", 0),
+        turn_of(0, "\x1B[c", 0, 4, "NrGT", 4),
+        turn_of(0, "\x1B[c", 0, 0, "NrGt", 8),
+        // A call that fails brings nothing, or takes nothing.
+        turn_of(2, "\x1B[c", 2, 9, "NrGT", 0),
+        turn_of(2, "\x1B[c", 5, 9, "NRRrg", 0),
+        turn_of(2, "\x1B[c", 6, 9, "NRRrGt", 8),
+    ]
+}
+
+fn is_met(alloc: Global, row: &Row) -> Result<bool, Fault> {
+    let mut server = Server::new(alloc, 1, 24, 80)?;
+    let mut ports = MemoryPorts::new(alloc);
+    for _ in 0..row.datagrams {
+        ports.deliver(SERVER, b"no datagram")?;
+    }
+    if !row.piece.is_empty() {
+        ports.write(1, row.piece.as_bytes())?;
+    }
+    ports.take_at_most(row.takes);
+    ports.fail_at(row.fails);
+    serve_turn(alloc, &mut server, &mut ports);
+    let calls = letters(alloc, ports.told())?;
+    Ok(calls.as_str() == row.calls && server.output_len(1) == Some(row.waits))
+}
+
+#[test]
+fn a_turn_makes_its_calls_in_order(rt: HostRuntime) -> Result<(), Fail> {
+    for row in &rows() {
+        assert!(rt; is_met(rt.alloc(), row)?, "{}", row.calls);
+    }
+    Ok(())
+}
+
+// Whether the last screen that was shown is this text.
+fn showed(ports: &MemoryPorts, text: &str) -> bool {
+    let mut is_shown = false;
+    for call in ports.told() {
+        if let Told::Showed(bytes, true) = call {
+            is_shown = bytes.as_slice() == text.as_bytes();
+        }
+    }
+    is_shown
+}
+
+// How many bytes each datagram has that was sent.
+fn lengths(alloc: Global, ports: &MemoryPorts) -> Result<Vec<usize>, AllocError> {
+    let mut lengths = Vec::new(alloc);
+    for call in ports.told() {
+        if let Told::Sent(_, bytes, true) = call {
+            lengths.push(bytes.len())?;
+        }
+    }
+    Ok(lengths)
+}
+
+static OPENED: &str = "\x1Bc\x1B[?25l\x1B[0m\x1B[1;1H\x1B[?25h";
+
+static STATUS: &str =
+    "\x1B[?25l\x1B[24;1H\x1B[0;7m[1]                                                                             \x1B[0m\x1B[1;1H\x1B[?25h";
+
+// Which step of a session's first three turns isn't as it is worked by hand, if any.
+fn first_fault(alloc: Global) -> Result<Option<u8>, Fault> {
+    let mut stage = Stage::new(alloc)?;
+    stage.first.turn(alloc, 0, 0, None);
+    if !showed(stage.first.ports(), OPENED) {
+        return Ok(Some(1));
+    }
+    if lengths(alloc, stage.first.ports())?.as_slice() != [60].as_slice() {
+        return Ok(Some(2));
+    }
+    carry_up(&mut stage.first, &mut stage.ports)?;
+    stage.turn(alloc, 0, 0);
+    if lengths(alloc, &stage.ports)?.len() != 1 {
+        return Ok(Some(3));
+    }
+    carry_down(&stage.ports, &mut stage.first)?;
+    stage.first.turn(alloc, 0, 0, None);
+    if !showed(stage.first.ports(), STATUS) {
+        return Ok(Some(4));
+    }
+    Ok(None)
+}
+
+#[test]
+fn a_session_is_painted(rt: HostRuntime) -> Result<(), Fail> {
+    assert!(rt; first_fault(rt.alloc())? == None);
+    Ok(())
+}

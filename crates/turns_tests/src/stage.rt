@@ -1,0 +1,149 @@
+//! A server and two client starts, each with its ports, and a network that carries what they send.
+ghost use Rattle.std.specs.Prelude.{◌≡◌, None, IfSome, IfOk};
+ghost use Rattle.roam_acts.specs.Acts.{IsInRange};
+ghost use Rattle.roam_turns.specs.Painting.{IsBehind};
+
+use roam_acts::Act;
+use roam_cells::{Fault, Shot};
+use roam_hub::{Addr, Client, Server};
+use roam_turns::memory::Told;
+use roam_turns::{MemoryPorts, Outer, attach_turn, serve_turn};
+use std::alloc::Global;
+
+pub const SESSION: u64 = 1;
+
+const HOST: [u8; 4] = [127, 0, 0, 1];
+
+/// Where the server is.
+pub const SERVER: Addr = Addr {
+    host: HOST,
+    port: 5000,
+};
+
+/// Carries the datagrams that went out since so many calls, to a port or, at 0, to any, and answers how many calls there are.
+pub fn carry(
+    from: &MemoryPorts,
+    seen: usize,
+    source: Addr,
+    port: u16,
+    to: &mut MemoryPorts,
+) -> Result<usize, Fault> {
+    for call in from.told().iter().skip(seen) {
+        if let Told::Sent(address, bytes, true) = call {
+            if port == 0 || address.port == port {
+                to.deliver(source, bytes)?;
+            }
+        }
+    }
+    Ok(from.told().len())
+}
+
+/// A client start with what is noted of its terminal.
+#[derive(Drop)]
+pub struct End {
+    client: Client,
+    outer: Outer,
+    ports: MemoryPorts,
+    address: Addr,
+    // How many calls of its ports and of the server's were carried.
+    sent: usize,
+    heard: usize,
+}
+
+impl End {
+    pub fn new(alloc: Global, id: u64, port: u16) -> Result<End, Fault>
+        ensures none { IfOk result (λ end. end.outer ≡ None) }
+    {
+        let client = Client::new(alloc, SESSION, id)?;
+        Ok(End {
+            client,
+            outer: Outer::new(),
+            ports: MemoryPorts::new(alloc),
+            address: Addr { host: HOST, port },
+            sent: 0,
+            heard: 0,
+        })
+    }
+
+    pub fn ports(&self) -> &MemoryPorts {
+        &self.ports
+    }
+
+    pub fn screen(&self) -> &Shot {
+        self.client.shown().1
+    }
+
+    /// One turn at a moment, whose call of this number fails; whether the act was taken.
+    pub fn turn(&mut self, alloc: Global, now: u64, fails: u64, next: Option<&Act>) -> bool
+        requires in_range { IfSome next (λ act. IsInRange act.now) }
+        requires behind { IsBehind self.old.outer self.old.client.receiver.newest.number self.old.client.receiver.newest.state }
+        ensures behind { IsBehind self.new.outer self.new.client.receiver.newest.number self.new.client.receiver.newest.state }
+    {
+        self.ports.set_moment(now);
+        self.ports.fail_at(fails);
+        attach_turn(
+            alloc,
+            &mut self.client,
+            &mut self.outer,
+            &mut self.ports,
+            SERVER,
+            next,
+        )
+    }
+}
+
+/// A server of 24 by 80 and two client starts.
+#[derive(Drop)]
+pub struct Stage {
+    pub server: Server,
+    pub ports: MemoryPorts,
+    pub first: End,
+    pub second: End,
+    // Whether the act of each start was taken.
+    pub is_split: bool,
+    pub is_typed: bool,
+}
+
+impl Stage {
+    pub fn new(alloc: Global) -> Result<Stage, Fault>
+        ensures first { IfOk result (λ stage. stage.first.outer ≡ None) }
+        ensures second { IfOk result (λ stage. stage.second.outer ≡ None) }
+    {
+        Ok(Stage {
+            server: Server::new(alloc, SESSION, 24, 80)?,
+            ports: MemoryPorts::new(alloc),
+            first: End::new(alloc, 0xA1, 5001)?,
+            second: End::new(alloc, 0xB1, 5002)?,
+            is_split: false,
+            is_typed: false,
+        })
+    }
+
+    /// One turn of the server at a moment, whose call of this number fails.
+    pub fn turn(&mut self, alloc: Global, now: u64, fails: u64)
+        ensures first { self.new.first ≡ self.old.first }
+        ensures second { self.new.second ≡ self.old.second }
+    {
+        self.ports.set_moment(now);
+        self.ports.fail_at(fails);
+        serve_turn(alloc, &mut self.server, &mut self.ports);
+    }
+}
+
+/// What a start sent comes to the server.
+pub fn carry_up(end: &mut End, server: &mut MemoryPorts) -> Result<(), Fault>
+    ensures client { end.new.client ≡ end.old.client }
+    ensures outer { end.new.outer ≡ end.old.outer }
+{
+    end.sent = carry(&end.ports, end.sent, end.address, 0, server)?;
+    Ok(())
+}
+
+/// What the server sent to a start comes there.
+pub fn carry_down(server: &MemoryPorts, end: &mut End) -> Result<(), Fault>
+    ensures client { end.new.client ≡ end.old.client }
+    ensures outer { end.new.outer ≡ end.old.outer }
+{
+    end.heard = carry(server, end.heard, SERVER, end.address.port, &mut end.ports)?;
+    Ok(())
+}
