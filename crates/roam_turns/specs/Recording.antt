@@ -1,5 +1,6 @@
 -- What ports over memory tell.
-use Rattle.std.specs.Prelude.{List, map, Option, Some, None, if◌then◌else◌}
+use Rattle.std.specs.Prelude.{ℕ, List, map, Option, Some, None, if◌then◌else◌}
+use Rattle.roam_hub.specs.declared.addresses.Addr.{Addr}
 use Rattle.roam_turns.specs.declared.memory.Told.{Told}
 use Rattle.roam_turns.specs.declared.memory.Told.TheVariants as wrote
 use Rattle.roam_turns.specs.declared.memory.MemoryPorts.{MemoryPorts}
@@ -20,3 +21,11 @@ call_of (wrote.Showed bytes went) = Showed bytes.items went
 -- the calls so far, unless one could not be written down
 abbrev pub told_of : MemoryPorts → Option (List PortCall)
 told_of ports = if ports.is_lost then None else Some (map call_of ports.told.items)
+
+-- the datagrams that are to come, each with where it comes from
+abbrev pub datagrams_of : MemoryPorts → List (Addr × List ℕ)
+datagrams_of ports = map (λ p. (p.0, p.1.items)) ports.datagrams.items
+
+-- the pieces that the programs of panes wrote and that are to come, each with its pane
+abbrev pub pieces_of : MemoryPorts → List (ℕ × List ℕ)
+pieces_of ports = map (λ p. (p.0, p.1.items)) ports.pieces.items

@@ -1,7 +1,7 @@
 //! Ports over memory, which tell their calls.
-ghost use Rattle.std.specs.Prelude.{◌≡◌, ◌∷◌, [], OnErr, IfOk, Some, None};
+ghost use Rattle.std.specs.Prelude.{◌≡◌, ◌∷◌, ◌++◌, [], is_ok, if◌then◌else◌, OnErr, IfOk, Some, None};
 ghost use Rattle.roam_turns.specs.Calls.{Tells};
-ghost use Rattle.roam_turns.specs.Recording.{call_of, told_of};
+ghost use Rattle.roam_turns.specs.Recording.{call_of, datagrams_of, pieces_of, told_of};
 
 use crate::ports::Ports;
 use roam_hub::Addr;
@@ -70,14 +70,16 @@ impl MemoryPorts {
 
     /// It is this moment from now on, in milliseconds.
     pub fn set_moment(&mut self, moment: u64)
-        ensures told { told_of self.new ≡ told_of self.old }
+        ensures moment { self.new ≡ record self.old { moment = moment } }
     {
         self.moment = moment;
     }
 
     /// A datagram is to come, after those that are.
     pub fn deliver(&mut self, from: Addr, bytes: &[u8]) -> Result<(), AllocError>
-        ensures told { told_of self.new ≡ told_of self.old }
+        ensures comes { datagrams_of self.new
+            ≡ (if is_ok result then datagrams_of self.old ++ (from, bytes.now) ∷ [] else datagrams_of self.old) }
+        ensures others { self.old ≡ record self.new { datagrams = self.old.datagrams } }
     {
         let text = Vec::from_slice(self.alloc, bytes)?;
         self.datagrams.push_back((from, text))?;
@@ -86,7 +88,8 @@ impl MemoryPorts {
 
     /// The program of a pane writes a piece, after those that were written. One that is longer than the room it finds is cut.
     pub fn write(&mut self, pane: u8, piece: &[u8]) -> Result<(), AllocError>
-        ensures told { told_of self.new ≡ told_of self.old }
+        ensures comes { pieces_of self.new ≡ (if is_ok result then pieces_of self.old ++ (pane, piece.now) ∷ [] else pieces_of self.old) }
+        ensures others { self.old ≡ record self.new { pieces = self.old.pieces } }
     {
         let text = Vec::from_slice(self.alloc, piece)?;
         self.pieces.push_back((pane, text))?;
@@ -95,21 +98,23 @@ impl MemoryPorts {
 
     /// The programs of panes take at most so many bytes at once from now on.
     pub fn take_at_most(&mut self, bytes: usize)
-        ensures told { told_of self.new ≡ told_of self.old }
+        ensures appetite { self.new ≡ record self.old { appetite = bytes } }
     {
         self.appetite = bytes;
     }
 
     /// The call of this number fails, counted from 1 and from now on; none does at 0. A moment is told whatever fails.
     pub fn fail_at(&mut self, call: u64)
-        ensures told { told_of self.new ≡ told_of self.old }
+        ensures fails { self.new ≡ record self.old { calls = 0; fails_at = call } }
     {
         self.calls = 0;
         self.fails_at = call;
     }
 
     /// The calls so far, in their order, up to one for which there was no memory.
-    pub fn told(&self) -> &[Told] {
+    pub fn told(&self) -> &[Told]
+        ensures told { result.now ≡ self.now.told.items }
+    {
         &self.told
     }
 
