@@ -20,6 +20,14 @@ pub enum RunFault {
     /// The line of a script with this number, from 1, says no event, or one out of place.
     #[error("line {0}: bad event")]
     Event(u64),
+
+    /// A port or a socket could not be bound.
+    #[error("cannot bind")]
+    Bind,
+
+    /// The line of this number, from 1, of a file of acts is no act.
+    #[error("line {0}: bad act")]
+    Act(u64),
 }
 
 impl From<Fault> for RunFault {
