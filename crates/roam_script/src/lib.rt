@@ -8,3 +8,4 @@ mod numbers;
 mod words;
 
 pub use lines::{Line, LineFault, is_skipped, read_line};
+pub use numbers::id;

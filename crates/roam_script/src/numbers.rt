@@ -49,8 +49,8 @@ pub(crate) fn long(text: &[u8]) -> Option<u64>
     number(text, u64::MAX)
 }
 
-/// The id that one to sixteen hexadecimal digits write.
-pub(crate) fn id(text: &[u8]) -> Option<u64>
+/// The id that one to sixteen hexadecimal digits in either case write; none where a text is something else.
+pub fn id(text: &[u8]) -> Option<u64>
     ensures id { result ≡ id_in text.now }
 {
     if text.is_empty() || text.len() > DIGITS {
