@@ -1,0 +1,74 @@
+//! `roam attach`: a client start round its socket and the outer terminal.
+use crate::keys::acts_of;
+use crate::links::loopback;
+use crate::moments::Moments;
+use crate::ports::ClientPorts;
+use roam_cells::Fault;
+use roam_hub::Client;
+use roam_show::RunFault;
+use roam_turns::{Outer, attach_turn};
+use std::fs;
+use std::fs::Files;
+use std::io::{ErrorKind, Write};
+use std::net::Net;
+use std::time::Clock;
+
+/// What `roam attach` is asked for.
+#[derive(Clone, Copy, Debug, PartialEq, Eq)]
+pub struct Attach<'a> {
+    /// The server's port on loopback.
+    pub port: u16,
+    /// The session's id.
+    pub session: u64,
+    /// The id of this client start.
+    pub client: u64,
+    /// The file with the acts to type, one a line.
+    pub keys: &'a str,
+    /// How many turns the run takes.
+    pub turns: u64,
+}
+
+/// Follows a session and types the acts of a file, one a turn where it is taken: it takes the turns, waiting where one brought nothing,
+/// and paints what the start shows. `Read` where the file can't be read, `Act` where a line of it is no act, `Bind` where no port can be
+/// bound, `Write` where the outer terminal took not all of what was last shown, `OutOfMemory`.
+pub fn run_attach<R: Files + Net + Clock + AllocGlobal, W: Write + Drop>(
+    rt: &R,
+    attach: &Attach<'_>,
+    outer: W,
+) -> Result<(), RunFault> {
+    let alloc = rt.alloc();
+    let text = match fs::read(rt, attach.keys) {
+        Ok(text) => text,
+        Err(error) if error.kind() == ErrorKind::OutOfMemory => return Err(RunFault::Core(
+            Fault::OutOfMemory,
+        )),
+        Err(_) => return Err(RunFault::Read),
+    };
+    let acts = acts_of(alloc, &text)?;
+    let mut client = Client::new(alloc, attach.session, attach.client)?;
+    let Ok(moments) = Moments::real(rt) else {
+        return Err(RunFault::Bind);
+    };
+    let mut ports = ClientPorts::bind(rt, alloc, moments, outer)?;
+    let mut shown = Outer::new();
+    let to = loopback(attach.port);
+    let mut typed = 0usize;
+    for _ in 0..attach.turns {
+        if attach_turn(
+            alloc,
+            &mut client,
+            &mut shown,
+            &mut ports,
+            to,
+            acts.get(typed),
+        ) {
+            typed += 1;
+        } else {
+            ports.rest();
+        }
+    }
+    if ports.has_failed() {
+        return Err(RunFault::Write);
+    }
+    Ok(())
+}

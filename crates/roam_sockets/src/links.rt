@@ -1,0 +1,132 @@
+//! The network and the clock, which both programs have.
+ghost use Rattle.std.specs.Prelude.{◌≤◌, length, IfSome};
+
+use crate::moments::Moments;
+use mio::net::UdpSocket;
+use mio::{Events, Interest, Poll, Registry, Token};
+use roam_cells::Fault;
+use roam_hub::Addr;
+use roam_show::RunFault;
+use std::alloc::Global;
+use std::io;
+use std::net::{IpAddr, Ipv4Addr, Net, SocketAddr};
+use std::time::{Clock, Duration};
+
+/// How many milliseconds a program waits at most where a turn brought nothing.
+const LONGEST_WAIT: u64 = 10;
+
+/// How many sources a wait reports at most; more are reported by the next.
+const MOST_EVENTS: usize = 32;
+
+/// A UDP socket on loopback, moments, and the wait for what comes.
+#[derive(Drop)]
+pub struct Link<R> {
+    socket: UdpSocket,
+    moments: Moments<R>,
+    poll: Poll,
+    events: Events<Global>,
+    quiet: bool,
+}
+
+/// A port of this machine.
+pub fn loopback(port: u16) -> Addr {
+    Addr {
+        host: [127, 0, 0, 1],
+        port,
+    }
+}
+
+fn socket_addr(addr: Addr) -> SocketAddr {
+    let [a, b, c, d] = addr.host;
+    SocketAddr::new(IpAddr::V4(Ipv4Addr::new(a, b, c, d)), addr.port)
+}
+
+impl<R: Clock + Drop> Link<R> {
+    /// Binds a port of this machine, any that is free where it is 0. `Bind` where it can't be bound, `OutOfMemory`.
+    pub fn bind<N: Net>(
+        net: &N,
+        alloc: Global,
+        port: u16,
+        moments: Moments<R>,
+    ) -> Result<Link<R>, RunFault> {
+        let Ok(events) = Events::with_capacity(alloc, MOST_EVENTS) else {
+            return Err(RunFault::Core(Fault::OutOfMemory));
+        };
+        let (Ok(poll), Ok(mut socket)) = (
+            Poll::new(net),
+            UdpSocket::bind(net, socket_addr(loopback(port))),
+        ) else {
+            return Err(RunFault::Bind);
+        };
+        // Where it isn't reported, a wait ends by its time alone.
+        let _ = poll
+            .registry()
+            .register(&mut socket, Token(0), Interest::READABLE);
+        Ok(Link {
+            socket,
+            moments,
+            poll,
+            events,
+            quiet: true,
+        })
+    }
+
+    /// The port that it is bound to.
+    pub fn port(&self) -> io::Result<u16> {
+        Ok(self.socket.local_addr()?.port())
+    }
+
+    /// What reports to the wait.
+    pub fn registry(&self) -> &Registry {
+        self.poll.registry()
+    }
+
+    /// Sets the moment, in milliseconds.
+    pub fn set_moment(&mut self, moment: u64) {
+        self.moments = Moments::Set(moment);
+    }
+
+    /// The moment, in milliseconds.
+    pub fn now(&mut self) -> u64 {
+        self.moments.now()
+    }
+
+    /// A datagram that came: from where, and how many bytes of `buf` it fills from the front.
+    pub fn receive(&mut self, buf: &mut [u8]) -> Option<(Addr, usize)>
+        ensures within { IfSome result (λ r. r.1 ≤ length buf.new) }
+    {
+        match self.socket.recv_from(buf) {
+            Ok((len, SocketAddr::V4(from))) => {
+                self.quiet = false;
+                let from = Addr {
+                    host: from.ip().octets(),
+                    port: from.port(),
+                };
+                Some((from, len))
+            }
+            _ => None,
+        }
+    }
+
+    /// Sends a datagram, and tells whether it went.
+    pub fn send(&mut self, to: Addr, bytes: &[u8]) -> bool {
+        match self.socket.send_to(bytes, socket_addr(to)) {
+            Ok(len) => len == bytes.len(),
+            Err(_) => false,
+        }
+    }
+
+    /// Notes that something came, so that there is no wait.
+    pub fn stir(&mut self) {
+        self.quiet = false;
+    }
+
+    /// Waits until something comes, ten milliseconds at most, where nothing came since the last call.
+    pub fn rest(&mut self) {
+        if self.quiet {
+            // A wait that fails is over at once.
+            let _ = self.poll.poll(&mut self.events, Some(Duration::from_millis(LONGEST_WAIT)));
+        }
+        self.quiet = true;
+    }
+}

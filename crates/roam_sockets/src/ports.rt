@@ -1,0 +1,166 @@
+//! The ports of a server and of a client start over sockets. What they carried isn't told.
+ghost use Rattle.std.specs.Prelude.{◌≤◌, length, IfSome};
+
+use crate::links::Link;
+use crate::moments::Moments;
+use crate::panes::Panes;
+use roam_hub::{Addr, Server};
+use roam_show::RunFault;
+use roam_turns::Ports;
+use std::alloc::Global;
+use std::fs::Files;
+use std::io;
+use std::io::Write;
+use std::net::Net;
+use std::time::Clock;
+
+/// The ports of a server: UDP on loopback, the sockets of its panes, a clock.
+#[derive(Drop)]
+pub struct ServerPorts<R> {
+    link: Link<R>,
+    panes: Panes,
+}
+
+impl<R: Clock + Drop> ServerPorts<R> {
+    /// Binds a port of this machine, any that is free where it is 0, and the sockets `p1` to `p9` in a folder. `Bind` where one can't be
+    /// bound, `OutOfMemory`; then nothing stays.
+    pub fn bind<N: Files + Net>(
+        rt: &N,
+        alloc: Global,
+        folder: &str,
+        port: u16,
+        moments: Moments<R>,
+    ) -> Result<ServerPorts<R>, RunFault> {
+        let link = Link::bind(rt, alloc, port, moments)?;
+        let panes = Panes::bind(rt, alloc, link.registry(), folder)?;
+        Ok(ServerPorts { link, panes })
+    }
+
+    /// The port that it is bound to.
+    pub fn port(&self) -> io::Result<u16> {
+        self.link.port()
+    }
+
+    /// Sets the moment, in milliseconds.
+    pub fn set_moment(&mut self, moment: u64) {
+        self.link.set_moment(moment);
+    }
+
+    /// Lets the peers of panes that aren't there go.
+    pub fn let_go(&mut self, server: &Server) {
+        for pane in 1..10u8 {
+            if server.room(pane).is_none() {
+                self.panes.let_go(pane);
+            }
+        }
+    }
+
+    /// Waits until something comes, ten milliseconds at most, where nothing came since the last call.
+    pub fn rest(&mut self) {
+        self.link.rest();
+    }
+
+    /// Removes the files of the panes' sockets.
+    pub fn remove(&mut self, files: &impl Files) {
+        self.panes.remove(files);
+    }
+}
+
+impl<R: Clock + Drop> Ports for ServerPorts<R> {
+    fn now(&mut self) -> u64 {
+        self.link.now()
+    }
+
+    fn receive(&mut self, buf: &mut [u8]) -> Option<(Addr, usize)> {
+        self.link.receive(buf)
+    }
+
+    fn send(&mut self, to: Addr, bytes: &[u8]) -> bool {
+        self.link.send(to, bytes)
+    }
+
+    fn pane_in(&mut self, pane: u8, buf: &mut [u8]) -> Option<usize> {
+        let count = self.panes.read(self.link.registry(), pane, buf)?;
+        self.link.stir();
+        Some(count)
+    }
+
+    fn pane_out(&mut self, pane: u8, bytes: &[u8]) -> usize {
+        let count = self.panes.write(self.link.registry(), pane, bytes);
+        if count > 0 {
+            self.link.stir();
+        }
+        count
+    }
+
+    fn show(&mut self, _bytes: &[u8]) -> bool {
+        false
+    }
+}
+
+/// The ports of a client start: UDP on loopback, a clock, and where the outer terminal's bytes go.
+#[derive(Drop)]
+pub struct ClientPorts<R, W> {
+    link: Link<R>,
+    outer: W,
+    failed: bool,
+}
+
+impl<R: Clock + Drop, W: Write + Drop> ClientPorts<R, W> {
+    /// Binds a port of this machine that is free. `Bind` where none can be bound, `OutOfMemory`.
+    pub fn bind<N: Net>(
+        net: &N,
+        alloc: Global,
+        moments: Moments<R>,
+        outer: W,
+    ) -> Result<ClientPorts<R, W>, RunFault> {
+        Ok(ClientPorts {
+            link: Link::bind(net, alloc, 0, moments)?,
+            outer,
+            failed: false,
+        })
+    }
+
+    /// Sets the moment, in milliseconds.
+    pub fn set_moment(&mut self, moment: u64) {
+        self.link.set_moment(moment);
+    }
+
+    /// Whether the outer terminal took not all of what was last shown.
+    pub fn has_failed(&self) -> bool {
+        self.failed
+    }
+
+    /// Waits until something comes, ten milliseconds at most, where nothing came since the last call.
+    pub fn rest(&mut self) {
+        self.link.rest();
+    }
+}
+
+impl<R: Clock + Drop, W: Write + Drop> Ports for ClientPorts<R, W> {
+    fn now(&mut self) -> u64 {
+        self.link.now()
+    }
+
+    fn receive(&mut self, buf: &mut [u8]) -> Option<(Addr, usize)> {
+        self.link.receive(buf)
+    }
+
+    fn send(&mut self, to: Addr, bytes: &[u8]) -> bool {
+        self.link.send(to, bytes)
+    }
+
+    fn pane_in(&mut self, _pane: u8, _buf: &mut [u8]) -> Option<usize> {
+        None
+    }
+
+    fn pane_out(&mut self, _pane: u8, _bytes: &[u8]) -> usize {
+        0
+    }
+
+    fn show(&mut self, bytes: &[u8]) -> bool {
+        let shown = self.outer.write_all(bytes).is_ok() && self.outer.flush().is_ok();
+        self.failed = !shown;
+        shown
+    }
+}

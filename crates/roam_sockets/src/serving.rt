@@ -1,0 +1,43 @@
+//! `roam serve`: a server round its sockets.
+use crate::moments::Moments;
+use crate::ports::ServerPorts;
+use roam_hub::Server;
+use roam_show::RunFault;
+use roam_turns::serve_turn;
+use std::fs::Files;
+use std::net::Net;
+use std::time::Clock;
+
+/// What `roam serve` is asked for.
+#[derive(Clone, Copy, Debug, PartialEq, Eq)]
+pub struct Serve<'a> {
+    /// The folder of the panes' sockets.
+    pub folder: &'a str,
+    /// The port on loopback.
+    pub port: u16,
+    /// The session's id.
+    pub session: u64,
+    /// How many turns the run takes.
+    pub turns: u64,
+}
+
+/// Serves a session of 24 rows and 80 columns: binds the port and the sockets `p1` to `p9` of the folder, takes the turns, waiting where
+/// one brought nothing, and removes the sockets' files. `Bind` where a name can't be bound, and nothing stays then; `OutOfMemory`.
+pub fn run_serve<R: Files + Net + Clock + AllocGlobal>(
+    rt: &R,
+    serve: &Serve<'_>,
+) -> Result<(), RunFault> {
+    let alloc = rt.alloc();
+    let mut server = Server::new(alloc, serve.session, 24, 80)?;
+    let Ok(moments) = Moments::real(rt) else {
+        return Err(RunFault::Bind);
+    };
+    let mut ports = ServerPorts::bind(rt, alloc, serve.folder, serve.port, moments)?;
+    for _ in 0..serve.turns {
+        serve_turn(alloc, &mut server, &mut ports);
+        ports.let_go(&server);
+        ports.rest();
+    }
+    ports.remove(rt);
+    Ok(())
+}

@@ -1,0 +1,11 @@
+//! Tests of the ports over real sockets, of `roam serve` and of `roam attach`, on one machine.
+//!
+//! They lie here and not beside the code, since a crate with tests is proved twice by the gate.
+#![tactic(auto)]
+
+#[cfg(test)]
+mod keys;
+#[cfg(test)]
+mod meeting;
+#[cfg(test)]
+mod runs;

@@ -1,0 +1,98 @@
+//! Runs of `roam serve` and `roam attach`: what ends them, and what stays.
+use roam_show::RunFault;
+use roam_sockets::{Attach, Moments, Serve, ServerPorts, run_attach, run_serve};
+use std::fs::{create_dir, remove_file, write};
+use std::io;
+use std::io::{ErrorKind, Write};
+use std::test::*;
+
+/// An outer terminal that is closed.
+#[derive(Drop)]
+struct Closed;
+
+impl Write for Closed {
+    fn write(&mut self, _buf: &[u8]) -> io::Result<usize> {
+        Err(io::Error::from(ErrorKind::BrokenPipe))
+    }
+
+    fn flush(&mut self) -> io::Result<()> {
+        Err(io::Error::from(ErrorKind::BrokenPipe))
+    }
+}
+
+/// A run of `serve` in a folder at any free port ends so.
+fn serves(rt: &HostRuntime, folder: &str, wanted: Result<(), RunFault>) -> bool {
+    let serve = Serve {
+        folder,
+        port: 0,
+        session: 1,
+        turns: 3,
+    };
+    run_serve(rt, &serve) == wanted
+}
+
+#[test]
+fn the_sockets_files_are_removed(rt: HostRuntime) -> Result<(), Fail> {
+    assert!(rt; serves(&rt, "missing", Err(RunFault::Bind)));
+    create_dir(&rt, "served")?;
+    assert!(rt; serves(&rt, "served", Ok(())));
+    // They could not be bound again if one had stayed.
+    assert!(rt; serves(&rt, "served", Ok(())));
+    write(&rt, "served/p5", b"a file that is there")?;
+    assert!(rt; serves(&rt, "served", Err(RunFault::Bind)));
+    remove_file(&rt, "served/p5")?;
+    assert!(rt; serves(&rt, "served", Ok(())));
+    Ok(())
+}
+
+#[test]
+fn a_port_is_bound_once(rt: HostRuntime) -> Result<(), Fail> {
+    create_dir(&rt, "first")?;
+    create_dir(&rt, "second")?;
+    let mut ports: ServerPorts<&HostRuntime> = ServerPorts::bind(
+        &rt,
+        rt.alloc(),
+        "first",
+        0,
+        Moments::Set(0),
+    )?;
+    let serve = Serve {
+        folder: "second",
+        port: ports.port()?,
+        session: 1,
+        turns: 3,
+    };
+    assert!(rt; run_serve(&rt, &serve) == Err(RunFault::Bind));
+    assert!(rt; serves(&rt, "second", Ok(())));
+    ports.remove(&rt);
+    Ok(())
+}
+
+/// A run of `attach` that types the acts of a file, and where nobody answers, ends so.
+fn attaches<W: Write + Drop>(
+    rt: &HostRuntime,
+    keys: &str,
+    outer: W,
+    wanted: Result<(), RunFault>,
+) -> bool {
+    let attach = Attach {
+        port: 9,
+        session: 1,
+        client: 0xC1,
+        keys,
+        turns: 3,
+    };
+    run_attach(rt, &attach, outer) == wanted
+}
+
+#[test]
+fn files_of_acts_and_outer_terminals(rt: HostRuntime) -> Result<(), Fail> {
+    let alloc = rt.alloc();
+    assert!(rt; attaches(&rt, "missing", Vec::new(alloc), Err(RunFault::Read)));
+    write(&rt, "good", b"char 61\nsplit right\n")?;
+    assert!(rt; attaches(&rt, "good", Vec::new(alloc), Ok(())));
+    assert!(rt; attaches(&rt, "good", Closed, Err(RunFault::Write)));
+    write(&rt, "bad", b"char 61\nsplit left\n")?;
+    assert!(rt; attaches(&rt, "bad", Vec::new(alloc), Err(RunFault::Act(2))));
+    Ok(())
+}
