@@ -2,8 +2,10 @@
 //!
 //! `roam show --rows R --cols C` feeds standard input to a terminal and prints the screen that it makes.
 //! `roam world` plays a script from standard input and prints the answer to each of its lines.
+//! `roam serve` serves a session whose panes are reached at sockets; `roam attach` follows one and paints it.
 #![tactic(auto)]
 
+mod sockets;
 #[cfg(test)]
 mod tests;
 mod words;
@@ -11,6 +13,7 @@ mod words;
 use crate::words::{Refusal, Request, read_words};
 use roam_cells::Fault;
 use roam_show::{RunFault, run_show, run_world};
+use roam_sockets::{run_attach, run_serve};
 use std::env::Env;
 use std::io::ErrorKind;
 use std::process::ExitCode;
@@ -36,6 +39,8 @@ fn main(rt: HostRuntime) -> ExitCode {
             let ran = run_world(rt.alloc(), &mut rt.reader(), &mut io::writer(&rt));
             end(&rt, ran)
         }
+        Ok(Request::Serve(serve)) => end(&rt, run_serve(&rt, &serve)),
+        Ok(Request::Attach(attach)) => end(&rt, run_attach(&rt, &attach, io::writer(&rt))),
         Err(refusal) => refuse(&rt, refusal),
     }
 }
@@ -60,6 +65,11 @@ fn refuse(rt: &HostRuntime, refusal: Refusal) -> ExitCode {
         Refusal::NoText => {
             // There is nowhere else to say that this failed.
             let _ = eprintln!(rt; "roam: bad words");
+            ExitCode::from(2)
+        }
+        Refusal::BadId => {
+            // There is nowhere else to say that this failed.
+            let _ = eprintln!(rt; "roam: bad id");
             ExitCode::from(2)
         }
         Refusal::Clap(error) => {

@@ -1,6 +1,8 @@
 //! The words of the command line.
+use crate::sockets::{attach_command, attach_of, serve_command, serve_of};
 use clap::error::ErrorKind;
 use clap::{Arg, Command, Error, value_parser};
+use roam_sockets::{Attach, Serve};
 use std::alloc::{AllocError, Global};
 use std::convert::AsStr;
 
@@ -39,20 +41,27 @@ Example:
 
 /// What the words ask for.
 #[derive(Drop)]
-pub enum Request {
+pub enum Request<'a> {
     /// `roam show`: a screen of these rows and columns.
     Show { rows: u16, cols: u16 },
 
     /// `roam world`: a script is played.
     World,
+
+    /// `roam serve`.
+    Serve(Serve<'a>),
+
+    /// `roam attach`.
+    Attach(Attach<'a>),
 }
 
-/// Why the words ask for nothing: want of memory; words that are no text; or `clap`'s answer, a refusal or a text that was
-/// asked for.
+/// Why the words ask for nothing: want of memory; words that are no text; an id that is none; or `clap`'s answer, a refusal or a text
+/// that was asked for.
 #[derive(Drop)]
 pub enum Refusal {
     Memory,
     NoText,
+    BadId,
     Clap(Error),
 }
 
@@ -87,11 +96,13 @@ fn program<'a>(alloc: Global) -> Result<Command<'a>, AllocError> {
         .about("A roaming terminal multiplexer")
         .subcommand_required(true)
         .subcommand(show_command(alloc)?)?
-        .subcommand(world_command(alloc))
+        .subcommand(world_command(alloc))?
+        .subcommand(serve_command(alloc)?)?
+        .subcommand(attach_command(alloc)?)
 }
 
 /// What the words ask for, the program's own name first.
-pub fn read_words<'a, S: AsStr>(alloc: Global, words: &'a [S]) -> Result<Request, Refusal> {
+pub fn read_words<'a, S: AsStr>(alloc: Global, words: &'a [S]) -> Result<Request<'a>, Refusal> {
     let Ok(program) = program(alloc) else {
         return Err(Refusal::Memory);
     };
@@ -100,8 +111,11 @@ pub fn read_words<'a, S: AsStr>(alloc: Global, words: &'a [S]) -> Result<Request
         Err(error) if error.kind() == ErrorKind::OutOfMemory => return Err(Refusal::Memory),
         Err(error) => return Err(Refusal::Clap(error)),
     };
-    if let Some(("world", _)) = matches.subcommand() {
-        return Ok(Request::World);
+    match matches.subcommand() {
+        Some(("world", _)) => return Ok(Request::World),
+        Some(("serve", inner)) => return Ok(Request::Serve(serve_of(inner)?)),
+        Some(("attach", inner)) => return Ok(Request::Attach(attach_of(inner)?)),
+        _ => (),
     }
     if let Some(("show", inner)) = matches.subcommand()
         && let Some(rows) = inner.get_one::<u16>("rows")
