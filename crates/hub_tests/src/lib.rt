@@ -1,7 +1,12 @@
-//! Tests of the program's cores by their public calls alone: the server and its client starts over a network that keeps every datagram.
+//! Tests of the program's cores by their public calls alone, of what no script of `roam world` can tell: where a server sends to,
+//! datagrams that no core wrote, and calls that find no memory.
 //!
 //! They lie here and not beside the code, since a crate with tests is proved twice by the gate.
 #![tactic(auto)]
 
 #[cfg(test)]
-mod rounds;
+mod lying;
+#[cfg(test)]
+mod refused;
+#[cfg(test)]
+mod roaming;
