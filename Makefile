@@ -40,6 +40,9 @@ bench: all
 	bench/update.sh
 	bench/paint.sh
 	bench/session.sh
+	bench/hub.sh
+	bench/turns.sh
+	bench/latency.sh
 
 clean:
 	rm -rf crates/*/out
