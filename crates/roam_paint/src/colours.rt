@@ -1,25 +1,14 @@
 //! What is true of the colours of all cells.
 ghost use Rattle.std.specs.Prelude.{◌≡◌, ℕ};
-ghost use Rattle.roam_term.specs.ControlFunctions.{IsColour, IsIndexed};
+ghost use Rattle.roam_term.specs.ControlFunctions.{IsIndexed};
 ghost use Rattle.roam_paint.specs.Colours.{AreIndexed};
 
-use roam_cells::{Cell, Colour, Style};
+use roam_cells::{Cell, Style};
 
-// A colour's number is a byte.
-fn colour_facts(colour: Colour)
-    ensures colour { IsColour colour }
-{
-    if let Colour::Index(index) = colour {
-        let _ = index;
-    }
-}
-
+// The number of an indexed colour is a byte.
 fn style_facts(style: Style)
     ensures indexed { IsIndexed style }
-{
-    colour_facts(style.foreground);
-    colour_facts(style.background);
-}
+{}
 
 /// The colours of each cell are in the table of 256. Nothing is done when it runs.
 pub fn colours_of(cells: &[Cell])
