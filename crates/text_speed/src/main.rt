@@ -2,6 +2,8 @@
 //! each its name, the bytes read and the microseconds that passed. Without words it reads a short text, and prints nothing.
 #![tactic(auto)]
 
+ghost use Rattle.std.specs.Prelude.{◌<◌, ◌≤◌, length};
+
 use anyhow::{Context, bail};
 use roam_text::{Dispatch, Dispatched, Out, Reader};
 use std::time::Instant;
@@ -35,7 +37,22 @@ fn dispatch_byte(reader: &mut Reader, byte: u8) -> u64 {
     }
 }
 
-// Reads a piece as a terminal does: runs of printable ASCII and whole characters at once, and the rest byte by byte.
+// Reads the parameters at the front of a piece at once, and then one byte more; it answers a number that depends on what that byte
+// dispatched, and how many bytes were read.
+fn dispatch_sequence(reader: &mut Reader, piece: &[u8]) -> (u64, usize)
+    requires some { 0 < length piece.now }
+    ensures some { 0 < result.1 }
+    ensures within { result.1 ≤ length piece.now }
+{
+    let count = reader.parameter_run(piece);
+    if count == piece.len() {
+        return (0, count);
+    }
+    (dispatch_byte(reader, piece[count]), count + 1)
+}
+
+// Reads a piece as a terminal does: runs of printable ASCII, whole characters and parameters of a sequence at once, and the rest byte by
+// byte.
 fn dispatch_piece(reader: &mut Reader, piece: &[u8]) -> u64 {
     let mut sum: u64 = 0;
     let mut at = 0;
@@ -46,7 +63,7 @@ fn dispatch_piece(reader: &mut Reader, piece: &[u8]) -> u64 {
         }
         let (value, count) = match reader.whole_character(&piece[at..]) {
             Some((c, size)) => (u64::from(c as u32), size),
-            None => (dispatch_byte(reader, piece[at]), 1),
+            None => dispatch_sequence(reader, &piece[at..]),
         };
         sum = sum.wrapping_add(value);
         at += count;
