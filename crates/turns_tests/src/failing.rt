@@ -135,17 +135,31 @@ fn taken(ports: &MemoryPorts) -> (usize, bool) {
     (count, are_typed)
 }
 
+// So many rounds.
+fn play_all(alloc: Global, stage: &mut Stage, rounds: u64, failure: Failure) -> Result<(), Fault>
+    requires first { IsBehind stage.old.first.outer stage.old.first.client.receiver.newest.number
+        stage.old.first.client.receiver.newest.state }
+    requires second { IsBehind stage.old.second.outer stage.old.second.client.receiver.newest.number
+        stage.old.second.client.receiver.newest.state }
+{
+    for round in 0..rounds {
+        play(alloc, stage, round, failure)?;
+    }
+    Ok(())
+}
+
+// Both terminals show the last screen, and the key was taken once.
+fn has_settled(alloc: Global, stage: &Stage) -> Result<bool, Fault> {
+    let is_first = is_shown(alloc, &stage.first)?;
+    let is_second = is_shown(alloc, &stage.second)?;
+    Ok(is_first && is_second && taken(&stage.ports) == (1, true))
+}
+
 // Whether all ends come to one end, whatever failed.
 fn settles(alloc: Global, failure: Failure) -> Result<bool, Fault> {
     let mut stage = Stage::new(alloc)?;
-    for round in 0..14 {
-        play(alloc, &mut stage, round, failure)?;
-    }
-    Ok(
-        is_shown(alloc, &stage.first)?
-            && is_shown(alloc, &stage.second)?
-            && taken(&stage.ports) == (1, true),
-    )
+    play_all(alloc, &mut stage, 14, failure)?;
+    has_settled(alloc, &stage)
 }
 
 // The first call that isn't made good, of each of the first five turns of one end.
@@ -173,22 +187,23 @@ fn a_failed_call_of_a_start_is_made_good(rt: HostRuntime) -> Result<(), Fail> {
     Ok(())
 }
 
-// Whether both starts come to show the last screen, and nothing waits for a program. What the stage itself has no memory for ends it.
+// Both starts show the last screen, and nothing waits for a program.
+fn is_right(alloc: Global, stage: &Stage) -> Result<bool, Fault> {
+    let is_first = has_top(alloc, stage.first.screen())?;
+    let is_second = has_top(alloc, stage.second.screen())?;
+    Ok(is_first && is_second && stage.server.output_len(2) == Some(0))
+}
+
+// Whether all comes right within 24 rounds. What the stage itself has no memory for ends it.
 fn comes_right(alloc: Global) -> Result<bool, Fault> {
-    let mut stage = Stage::new(alloc)?;
     let none = Failure {
         round: 0,
         who: Who::Server,
         call: 0,
     };
-    for round in 0..24 {
-        play(alloc, &mut stage, round, none)?;
-    }
-    Ok(
-        has_top(alloc, stage.first.screen())?
-            && has_top(alloc, stage.second.screen())?
-            && stage.server.output_len(2) == Some(0),
-    )
+    let mut stage = Stage::new(alloc)?;
+    play_all(alloc, &mut stage, 24, none)?;
+    is_right(alloc, &stage)
 }
 
 // To be run with each of its allocations refused in turn, too: what a turn has no memory for comes in a later one.

@@ -1,5 +1,8 @@
 //! The calls of a turn, in order, and what is shown and sent byte for byte.
-use crate::stage::{SERVER, Stage, carry_down, carry_up};
+ghost use Rattle.std.specs.Prelude.{◌≡◌};
+ghost use Rattle.roam_turns.specs.Painting.{IsBehind};
+
+use crate::stage::{End, SERVER, Stage, carry_down, carry_up};
 use roam_cells::Fault;
 use roam_hub::Server;
 use roam_turns::memory::Told;
@@ -133,31 +136,48 @@ static OPENED: &str = "\x1Bc\x1B[?25l\x1B[0m\x1B[1;1H\x1B[?25h";
 static STATUS: &str =
     "\x1B[?25l\x1B[24;1H\x1B[0;7m[1]                                                                             \x1B[0m\x1B[1;1H\x1B[?25h";
 
-// Which step of a session's first three turns isn't as it is worked by hand, if any.
-fn first_fault(alloc: Global) -> Result<Option<u8>, Fault> {
-    let mut stage = Stage::new(alloc)?;
-    stage.first.turn(alloc, 0, 0, None);
-    if !showed(stage.first.ports(), OPENED) {
-        return Ok(Some(1));
-    }
-    if lengths(alloc, stage.first.ports())?.as_slice() != [60].as_slice() {
-        return Ok(Some(2));
-    }
+// The first turn of a start opens its terminal, and sends one datagram of 60 bytes.
+fn opens(alloc: Global, end: &mut End) -> Result<bool, Fault>
+    requires behind { IsBehind end.old.outer end.old.client.receiver.newest.number end.old.client.receiver.newest.state }
+    ensures behind { IsBehind end.new.outer end.new.client.receiver.newest.number end.new.client.receiver.newest.state }
+{
+    end.turn(alloc, 0, 0, None);
+    let sent = lengths(alloc, end.ports())?;
+    Ok(showed(end.ports(), OPENED) && sent.as_slice() == [60].as_slice())
+}
+
+// The server's turn answers by one datagram.
+fn answers(alloc: Global, stage: &mut Stage) -> Result<bool, Fault>
+    ensures client { stage.new.first.client ≡ stage.old.first.client }
+    ensures outer { stage.new.first.outer ≡ stage.old.first.outer }
+{
     carry_up(&mut stage.first, &mut stage.ports)?;
     stage.turn(alloc, 0, 0);
-    if lengths(alloc, &stage.ports)?.len() != 1 {
-        return Ok(Some(3));
-    }
     carry_down(&stage.ports, &mut stage.first)?;
+    Ok(lengths(alloc, &stage.ports)?.len() == 1)
+}
+
+// Which step of a session's first three turns isn't as it is worked by hand, if any.
+fn first_fault(alloc: Global, stage: &mut Stage) -> Result<Option<u8>, Fault>
+    requires behind { IsBehind stage.old.first.outer stage.old.first.client.receiver.newest.number
+        stage.old.first.client.receiver.newest.state }
+{
+    if !opens(alloc, &mut stage.first)? {
+        return Ok(Some(1));
+    }
+    if !answers(alloc, stage)? {
+        return Ok(Some(2));
+    }
     stage.first.turn(alloc, 0, 0, None);
     if !showed(stage.first.ports(), STATUS) {
-        return Ok(Some(4));
+        return Ok(Some(3));
     }
     Ok(None)
 }
 
 #[test]
 fn a_session_is_painted(rt: HostRuntime) -> Result<(), Fail> {
-    assert!(rt; first_fault(rt.alloc())? == None);
+    let mut stage = Stage::new(rt.alloc())?;
+    assert!(rt; first_fault(rt.alloc(), &mut stage)? == None);
     Ok(())
 }

@@ -1,5 +1,5 @@
 use Rattle.roam_turns.specs.Painting.{IsBehind}
-use Rattle.turns_tests.proofs.failing.settles.Given as goal
+use Rattle.turns_tests.proofs.failing.play_all.Given as goal
 
 abbrev pub invariant-loop-round : goal.invariant-loop-round
 invariant-loop-round l =
