@@ -68,7 +68,8 @@ repeat_of params b = if b == 0x62 then Repeats (count (first params)) else Nothi
 -- a control sequence with neither private marker nor intermediate byte (ECMA-48, section 5.4)
 abbrev pub plain_command : List ℕ → ℕ → Command
 plain_command params b =
-    or_set (setting_of params b) (or_move (motion_of params b) (or_erase (erasure_of params b) (or_edit (edit_of params b) (or_report (report_of params b) (repeat_of params b)))))
+    or_set (setting_of params b) (or_move (motion_of params b) (or_erase (erasure_of params b)
+    (or_edit (edit_of params b) (or_report (report_of params b) (repeat_of params b)))))
 
 -- with a private marker: those of the VT220 are ? and >
 abbrev pub marked_command : ℕ → List ℕ → ℕ → Command

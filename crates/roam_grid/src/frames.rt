@@ -124,8 +124,8 @@ impl Grid {
         self.marks = [true; 100];
     }
 
-    /// Brings the screen to another size, as `fit` and `adopt` do, after as many rows have left at the top that the cursor's stays. Refuses a
-    /// size outside 2 to 100 rows and 4 to 250 columns, and want of memory, and changes nothing then.
+    /// Brings the screen to another size, as `fit` and `adopt` do, after as many rows have left at the top that the cursor's stays. Refuses
+    /// a size outside 2 to 100 rows and 4 to 250 columns, and want of memory, and changes nothing then.
     pub fn resize(&mut self, alloc: Global, rows: usize, cols: usize) -> Result<(), Fault>
         ensures screen { OnOk result (self.new.screen ≡ resized rows cols (leaving rows self.old.screen) self.old.screen) }
         ensures first { OnOk result (self.new.first ≡ 0) }

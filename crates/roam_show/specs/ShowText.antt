@@ -18,7 +18,8 @@ first_rows (suc n) cols cells = first_rows n cols cells ++ row_line (row_text co
 
 -- the cursor's row and column from 1, and whether it is shown
 abbrev pub cursor_line : Screenshot → List ℕ
-cursor_line s = codes "cursor " ++ decimal s.cursor_row ++ codes " " ++ decimal s.cursor_col ++ (if s.visible then codes " shown\n" else codes " hidden\n")
+cursor_line s = codes "cursor " ++ decimal s.cursor_row ++ codes " " ++ decimal s.cursor_col
+    ++ (if s.visible then codes " shown\n" else codes " hidden\n")
 
 abbrev pub screen_text : Screenshot → List ℕ
 screen_text s = first_rows s.rows s.cols s.cells ++ cursor_line s

@@ -23,7 +23,8 @@ CursorIsPlaced =
 
 -- SGR sets a style whole, whatever style was set
 abbrev pub StyleIsSet : Type 0
-StyleIsSet = (t : Live) (g s : Style) → IsGround t → IsIndexed s → changed (set_style s) (in_style g t) ≡ in_style s (record t { printed = None })
+StyleIsSet = (t : Live) (g s : Style) → IsGround t → IsIndexed s
+    → changed (set_style s) (in_style g t) ≡ in_style s (record t { printed = None })
 
 -- DECTCEM hides the cursor, and shows it
 abbrev pub CursorIsHidden : Type 0
@@ -60,7 +61,12 @@ character_in g c = record { points = c ∷ []; style = g; guarded = false }
 pub record IsPrinted (g : Style) (c : ℕ) (t u : Live) : Type 0 where
   pub inside : t.screen.col + columns (character_in g c) < t.screen.cols
       → u ≡ in_style g (record t {
-        screen = record t.screen { cells = with_cell (character_in g c) t.screen; col = t.screen.col + columns (character_in g c); pending = false };
+        screen =
+            record t.screen {
+              cells = with_cell (character_in g c) t.screen;
+              col = t.screen.col + columns (character_in g c);
+              pending = false;
+            };
         printed = Some c;
       })
   pub last : t.screen.cols ≤ t.screen.col + columns (character_in g c)

@@ -22,7 +22,8 @@ rows_in_view l h view = if l.alternate then 0 else min view (length h.rows)
 
 -- the last v rows of the history, and below them the screen, as far as they fit
 abbrev pub cells_in_view : ℕ → Live → Scrollback → List Glyph
-cells_in_view v l h = take (l.screen.rows * l.screen.cols) (flat_map (λ (row : List Glyph). row) (drop (length h.rows - v) h.rows) ++ l.screen.cells)
+cells_in_view v l h =
+    take (l.screen.rows * l.screen.cols) (flat_map (λ (row : List Glyph). row) (drop (length h.rows - v) h.rows) ++ l.screen.cells)
 
 -- the cursor goes down with the screen; below the last row it is hidden
 abbrev pub picture_with : ℕ → Live → Scrollback → Screenshot

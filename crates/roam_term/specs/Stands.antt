@@ -42,7 +42,8 @@ pub record Gains (old new : List ℕ) (rows cols lines : ℕ) (log later : List 
 -- items make one terminal of another: for every log that the old one stood for, the new one stands for it followed by the items
 pub record Follows (old new : TermView) (items : List Item) : Type 0 where
   pub stands : (rows cols lines : ℕ) (log : List Item) → Shows old rows cols lines log → Shows new rows cols lines (log ++ items)
-  pub gains : (rows cols lines : ℕ) (log : List Item) → Shows old rows cols lines log → Gains old.waiting new.waiting rows cols lines log (log ++ items)
+  pub gains : (rows cols lines : ℕ) (log : List Item) → Shows old rows cols lines log
+      → Gains old.waiting new.waiting rows cols lines log (log ++ items)
 
 -- a piece makes one terminal of another
 abbrev pub Fed : TermView → TermView → List ℕ → Type 0

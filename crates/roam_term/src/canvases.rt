@@ -47,7 +47,19 @@ impl Model for Canvas {
 
     ghost Value = { Live };
 
-    ghost view = { λ c. record { screen = c.grid.screen; other = c.other.screen.cells; alternate = c.alternate; pen = c.pen; modes = c.modes; sets = c.sets; saved = c.saved; saved_alternate = c.saved_alternate; printed = c.printed } };
+    ghost view = {
+        λ c. record {
+            screen = c.grid.screen;
+            other = c.other.screen.cells;
+            alternate = c.alternate;
+            pen = c.pen;
+            modes = c.modes;
+            sets = c.sets;
+            saved = c.saved;
+            saved_alternate = c.saved_alternate;
+            printed = c.printed;
+        }
+    };
 
     ghost use Rattle.roam_grid.specs.Screen.{IsSameSize};
 
@@ -129,7 +141,8 @@ impl Canvas {
     pub fn print(&mut self, c: char, history: &mut History)
         requires cols { history.old.cols ≡ self.old.screen.cols }
         ensures printed { self.new ≡ printed_on c self.old }
-        ensures history { history.new ≡ with_rows (on_main self.old.alternate (left_by_character (mapped_by (in_use self.old.sets) c) self.old)) history.old }
+        ensures history { history.new ≡ with_rows (on_main self.old.alternate
+            (left_by_character (mapped_by (in_use self.old.sets) c) self.old)) history.old }
         ensures size { IsSameSize self.old.screen self.new.screen }
     {
         let c = self.sets.map(c);

@@ -27,7 +27,8 @@ impl Term {
     pub fn key(&mut self, key: &Key) -> Result<(), Fault>
         ensures ok { IsOk result ↔ (length self.old.waiting + length (sent (key_modes self.old.live.modes) key.now) ≤ 65536) }
         ensures waiting { OnOk result (self.new.waiting ≡ self.old.waiting ++ sent (key_modes self.old.live.modes) key.now) }
-        ensures stands { OnOk result ((rows cols lines : ℕ) (log : List Item) → Shows self.old rows cols lines log → Shows self.new rows cols lines log) }
+        ensures stands { OnOk result ((rows cols lines : ℕ) (log : List Item) → Shows self.old rows cols lines log
+            → Shows self.new rows cols lines log) }
         ensures live { self.new.live ≡ self.old.live }
         ensures err { OnErr result (self.new ≡ self.old) }
         ensures fault { IsOkUnless result Fault.Busy }

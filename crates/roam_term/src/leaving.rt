@@ -160,7 +160,8 @@ fn put_front(
     ensures some { 0 < result }
     ensures within { result ≤ length bytes.now }
     ensures screen { grid.new.screen ≡ put_all (map (λ byte. ascii_in byte pen) (take result bytes.now)) writing grid.old.screen }
-    ensures history { history.new ≡ with_rows (on_main alternate (left_by_puts (map (λ byte. ascii_in byte pen) (take result bytes.now)) writing grid.old.screen)) history.old }
+    ensures history { history.new ≡ with_rows (on_main alternate
+        (left_by_puts (map (λ byte. ascii_in byte pen) (take result bytes.now)) writing grid.old.screen)) history.old }
     ensures size { IsSameSize grid.old.screen grid.new.screen }
 {
     let mut cell = pen;
@@ -183,7 +184,8 @@ pub fn put_run(
     requires printable { ArePrintable bytes.now }
     requires cols { history.old.cols ≡ grid.old.screen.cols }
     ensures screen { grid.new.screen ≡ put_all (map (λ byte. ascii_in byte pen) bytes.now) writing grid.old.screen }
-    ensures history { history.new ≡ with_rows (on_main alternate (left_by_puts (map (λ byte. ascii_in byte pen) bytes.now) writing grid.old.screen)) history.old }
+    ensures history { history.new ≡ with_rows (on_main alternate
+        (left_by_puts (map (λ byte. ascii_in byte pen) bytes.now) writing grid.old.screen)) history.old }
     ensures size { IsSameSize grid.old.screen grid.new.screen }
 {
     let mut at = 0;

@@ -115,7 +115,8 @@ fn shown_cells(
 ) -> Result<Vec<Cell>, AllocError>
     requires cols { history.now.cols ≡ canvas.now.screen.cols }
     requires within { v ≤ length history.now.rows }
-    ensures cells { IfOk result (λ cells. cells.items ≡ map (shown canvas.now.modes.reverse_screen) (cells_in_view v canvas.now history.now)) }
+    ensures cells { IfOk result (λ cells.
+        cells.items ≡ map (shown canvas.now.modes.reverse_screen) (cells_in_view v canvas.now history.now)) }
 {
     canvas.facts();
     history.facts();

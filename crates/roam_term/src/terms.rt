@@ -97,9 +97,12 @@ impl Term {
     #[inline]
     fn perform(&mut self, dispatch: Dispatch)
         requires room { length self.old.waiting + MOST_ANSWER ≤ MOST_OUTPUT }
-        ensures live { self.new.live ≡ changed (function_of dispatch self.old.reader.parameters self.old.reader.intermediates) self.old.live }
-        ensures history { self.new.history ≡ kept (function_of dispatch self.old.reader.parameters self.old.reader.intermediates) self.old.live self.old.history }
-        ensures waiting { self.new.waiting ≡ self.old.waiting ++ answer (function_of dispatch self.old.reader.parameters self.old.reader.intermediates) self.old.live }
+        ensures live { self.new.live
+            ≡ changed (function_of dispatch self.old.reader.parameters self.old.reader.intermediates) self.old.live }
+        ensures history { self.new.history
+            ≡ kept (function_of dispatch self.old.reader.parameters self.old.reader.intermediates) self.old.live self.old.history }
+        ensures waiting { self.new.waiting ≡ self.old.waiting
+            ++ answer (function_of dispatch self.old.reader.parameters self.old.reader.intermediates) self.old.live }
         ensures short { length self.new.waiting ≤ length self.old.waiting + MOST_ANSWER }
         ensures reader { self.new.reader ≡ self.old.reader }
         ensures screen { HasSize self.new self.old.live.screen.rows self.old.live.screen.cols }
@@ -114,8 +117,10 @@ impl Term {
     fn take_in(&mut self, step: Dispatched)
         requires room { length self.old.waiting + MOST_ANSWER ≤ MOST_OUTPUT }
         ensures live { self.new.live ≡ lived self.old.live (dispatched step self.old.reader.parameters self.old.reader.intermediates) }
-        ensures history { self.new.history ≡ kept_by self.old.live (dispatched step self.old.reader.parameters self.old.reader.intermediates) self.old.history }
-        ensures waiting { self.new.waiting ≡ self.old.waiting ++ answered self.old.live (dispatched step self.old.reader.parameters self.old.reader.intermediates) }
+        ensures history { self.new.history
+            ≡ kept_by self.old.live (dispatched step self.old.reader.parameters self.old.reader.intermediates) self.old.history }
+        ensures waiting { self.new.waiting ≡ self.old.waiting
+            ++ answered self.old.live (dispatched step self.old.reader.parameters self.old.reader.intermediates) }
         ensures short { length self.new.waiting ≤ length self.old.waiting + MOST_ANSWER }
         ensures reader { self.new.reader ≡ self.old.reader }
         ensures screen { HasSize self.new self.old.live.screen.rows self.old.live.screen.cols }
@@ -286,7 +291,8 @@ impl Term {
     /// The screen as it is shown, scrolled back by up to `view` rows of the history; the alternate screen isn't scrolled back. Refuses
     /// want of memory.
     pub fn shot(&self, alloc: Global, view: u16) -> Result<Shot, Fault>
-        ensures picture { IfOk result (λ shot. (rows cols lines : ℕ) (log : List Item) → Shows self.now rows cols lines log → shot ≡ picture rows cols lines log view) }
+        ensures picture { IfOk result (λ shot. (rows cols lines : ℕ) (log : List Item) → Shows self.now rows cols lines log
+            → shot ≡ picture rows cols lines log view) }
         ensures size { IfOk result (λ shot. HasSize self.now shot.rows shot.cols) }
         ensures fault { IsOkUnless result Fault.OutOfMemory }
     {

@@ -101,7 +101,8 @@ first_sixteen params = take 16 params
 
 -- what is said after a private marker, or without one
 abbrev pub unmarked : Option ℕ → List Kind → Option Header
-unmarked mark body = with_inter mark (first_sixteen (map capped (split (kinds_while is_numeric body)))) (intermediates (kinds_after is_numeric body))
+unmarked mark body =
+    with_inter mark (first_sixteen (map capped (split (kinds_while is_numeric body)))) (intermediates (kinds_after is_numeric body))
 
 -- a private marker comes first of all (ECMA-48 5.4.1); none where the sequence is recognised without effect
 abbrev pub header : List Kind → Option Header

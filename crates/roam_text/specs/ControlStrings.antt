@@ -22,4 +22,8 @@ after_control_string (s ∷ rest) = rest
 
 -- a control string with its end: of its own it gives nothing (ECMA-48 5.6)
 abbrev pub control_string : Bool → List Sign → Front
-control_string bell rest = record { gives = flat_map resized (front_while (in_control_string bell) rest); left = after_control_string (rest_while (in_control_string bell) rest) }
+control_string bell rest =
+    record {
+      gives = flat_map resized (front_while (in_control_string bell) rest);
+      left = after_control_string (rest_while (in_control_string bell) rest);
+    }
