@@ -90,6 +90,19 @@ written_over row line new len covered mended =
     fill_by_all (refitted_at (length line) row) new (length line) blank len
     (λ c q. mended c q ∙ same_at (length line) line row c (covered c q))
 
+-- a line that shows a row which ends before its last column is that row refitted
+pub short_over : (row line : List Glyph) → length row < length line → ((c : ℕ) → c < length line → glyph_at line c ≡ glyph_at row c)
+    → line ≡ refitted_row (length line) row
+short_over row line short covered =
+    fill_by_all (refitted_at (length line) row) line (length line) blank refl
+    (λ c q.
+    covered c q
+    ∙ sym
+    (elim (cases_eq (c + 1) (length line)) [
+      | inl last ↦ narrow_at (length line) row c (ap is_wide (get_or_past row c blank (omega (arith, last, short))) ∙ is_wide-blank)
+      | inr apart ↦ uncut_at (length line) row c apart
+    ]))
+
 -- the front of a whole row is padded
 pub padded_front : (cols : ℕ) (front : List Glyph) → length front ≤ cols → IsWholeRow (with_blanks cols front) → refitted_row cols front ≡ with_blanks cols front
 padded_front cols front few whole =

@@ -62,7 +62,10 @@ fn write_over(line: &mut [Cell], row: &[Cell], written: usize)
     ensures line { line.new ≡ refitted_row (length line.old) row.now }
 {
     cover(line, row, written);
-    mend_last(line);
+    // A row that ends before it leaves the last column blank, which isn't read then: it lies apart from what was written.
+    if line.len() <= row.len() {
+        mend_last(line);
+    }
 }
 
 impl Line {
