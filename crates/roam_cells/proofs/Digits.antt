@@ -1,12 +1,11 @@
 -- Binary digits: a flag put in front is the last digit, and half of the number is what was there before.
-use Rattle.std.proofs.Common.{◌≡◌, ℕ, ◌+◌, ◌*◌, ◌/◌, ◌%◌, Bool, true, false, ◌==◌, refl, sym, ap, ◌∙◌, arith}
+use Rattle.std.proofs.Common.{◌≡◌, ℕ, ◌+◌, ◌*◌, ◌/◌, ◌%◌, ◌<◌, ◌≤◌, Bool, true, false, ◌==◌, refl, ap, ◌∙◌, arith}
 use Rattle.roam_cells.specs.declared.styles.Style.{Style}
 use Rattle.roam_cells.specs.declared.styles.Colour.{Colour}
 use Rattle.roam_cells.specs.declared.styles.Colour.TheVariants.{Default, Index}
-use Rattle.roam_cells.specs.Inks.{digit, is_odd, flags_of, number_of, colour_of, style_of, ink_of, IsInk, inside_of, inside_back}
-use Rattle.roam_cells.specs.declared.inks.Ink.TheInside.{Inside}
+use Rattle.roam_cells.specs.Inks.{digit, is_odd, flags_of, number_of, colour_of, style_of, ink_numbered}
 
-odd_digit : (b : Bool) (m : ℕ) → is_odd (digit b + 2 * m) ≡ b
+pub odd_digit : (b : Bool) (m : ℕ) → is_odd (digit b + 2 * m) ≡ b
 unfolding is_odd digit
 odd_digit true m = let one : (1 + 2 * m) % 2 ≡ 1 = omega arith in ap (λ k. k == 1) one
 odd_digit false m = let none : (0 + 2 * m) % 2 ≡ 0 = omega arith in ap (λ k. k == 1) none
@@ -61,31 +60,28 @@ style_back s i =
       background = colour_back s.background i;
     }
 
--- an ink shows the style and the guard of which it has the numbers
-pub ink_back : (s : Style) (g : Bool) (f b n : ℕ) → f ≡ number_of s.foreground → b ≡ number_of s.background → n ≡ digit g + 2 * flags_of s
-    → ink_of (record { foreground = f; background = b; digits = n }) ≡ record { style = s; guarded = g }
-unfolding ink_of
-ink_back s g f b n front back digits i =
+-- the number of nine digits, a foreground and a background says the style and the guard of which it has the numbers
+pub ink_back : (s : Style) (g : Bool) (d f b n : ℕ) → d ≡ digit g + 2 * flags_of s → f ≡ number_of s.foreground → b ≡ number_of s.background
+    → n ≡ d + 512 * (f + 512 * b) → d < 512 → f ≤ 256 → ink_numbered n ≡ record { style = s; guarded = g }
+unfolding ink_numbered
+ink_back s g d f b n digits front back sum low few i =
+    let flags_in : n % 512 / 2 ≡ d / 2 = omega (arith, sum, low, few) in
+    let front_in : n / 512 % 512 ≡ f = omega (arith, sum, low, few) in
+    let back_in : n / 512 / 512 ≡ b = omega (arith, sum, low, few) in
+    let last : n ≡ digit g + 2 * (flags_of s + 256 * (f + 512 * b)) = omega (arith, sum, digits) in
     record {
-      style = (ap (λ k. style_of (k / 2) f b) digits ∙ ap (λ k. style_of k f b) (half_digit g (flags_of s)) ∙ ap (λ k. style_of (flags_of s) k b) front
-          ∙ ap (λ k. style_of (flags_of s) (number_of s.foreground) k) back ∙ style_back s) i;
-      guarded = (ap is_odd digits ∙ odd_digit g (flags_of s)) i;
+      style = (ap (λ k. style_of k (n / 512 % 512) (n / 512 / 512)) (flags_in ∙ ap (λ k. k / 2) digits ∙ half_digit g (flags_of s))
+          ∙ ap (λ k. style_of (flags_of s) k (n / 512 / 512)) (front_in ∙ front)
+          ∙ ap (λ k. style_of (flags_of s) (number_of s.foreground) k) (back_in ∙ back) ∙ style_back s) i;
+      guarded = (ap is_odd last ∙ odd_digit g (flags_of s + 256 * (f + 512 * b))) i;
     }
 
--- an ink without its last digit shows the same style, unguarded
-pub ink_unguarded : (a : Inside) (n : ℕ) → n ≡ a.digits / 2 * 2
-    → ink_of (record a { digits = n }) ≡ record { style = (ink_of a).style; guarded = false }
-unfolding ink_of
-ink_unguarded a n e i =
-    let half : n / 2 ≡ a.digits / 2 = omega (arith, e) in
-    let even : n ≡ digit false + 2 * (a.digits / 2) = even_digit (a.digits / 2) n (omega (arith, e)) in
-    record { style = style_of (half i) a.foreground a.background; guarded = (ap is_odd even ∙ odd_digit false (a.digits / 2)) i }
-
--- inks with the same numbers are one
-pub ink_same : (a b : Inside) → a.foreground ≡ b.foreground → a.background ≡ b.background → a.digits ≡ b.digits → ink_of a ≡ ink_of b
-unfolding ink_of
-ink_same a b front back digits i = record { style = style_of (digits i / 2) (front i) (back i); guarded = is_odd (digits i) }
-
--- what shows the same is the same
-pub fields_same : (a b : Inside) → IsInk a → IsInk b → ink_of a ≡ ink_of b → a ≡ b
-fields_same a b h k e = sym (inside_back a h) ∙ ap inside_of e ∙ inside_back b k
+-- the number without its last digit says the same style, unguarded
+pub ink_unguarded : (n m : ℕ) → m ≡ n / 2 * 2 → ink_numbered m ≡ record { style = (ink_numbered n).style; guarded = false }
+unfolding ink_numbered
+ink_unguarded n m e i =
+    let flags_in : m % 512 / 2 ≡ n % 512 / 2 = omega (arith, e) in
+    let front_in : m / 512 % 512 ≡ n / 512 % 512 = omega (arith, e) in
+    let back_in : m / 512 / 512 ≡ n / 512 / 512 = omega (arith, e) in
+    let even : m ≡ digit false + 2 * (n / 2) = even_digit (n / 2) m (omega (arith, e)) in
+    record { style = style_of (flags_in i) (front_in i) (back_in i); guarded = (ap is_odd even ∙ odd_digit false (n / 2)) i }

@@ -1,5 +1,4 @@
 pub mod Ascii
-pub mod Counting
 pub mod Digits
 pub mod Joining
 pub mod Places
@@ -7,3 +6,4 @@ pub mod Rows
 pub mod Scalars
 pub mod Screens
 pub mod Sameness
+pub mod Words

@@ -1,4 +1,4 @@
--- How a cell keeps its style and its guard: each colour as a number, the guard and the flags as the binary digits of one number.
+-- How a cell keeps its style and its guard as one number: the last nine binary digits are the guard and the flags, and each colour is nine.
 use Rattle.std.specs.Prelude.{◌≡◌, ℕ, zero, suc, ◌+◌, ◌*◌, ◌/◌, ◌%◌, ◌<◌, ◌≤◌, Bool, true, false, ◌==◌}
 use Rattle.std.proofs.Common.{◌⊎◌, inl, inr, refl, ap, ◌∙◌, arith}
 use Rattle.std.proofs.lemmas.Bool.{cases_eq}
@@ -52,32 +52,38 @@ style_of flags foreground background =
       background = colour_of background;
     }
 
--- what the fields of an ink show: the guard is the last digit, the flags stand before it
-unfoldable pub ink_of : Inside → InkValue
-ink_of a = record { style = style_of (a.digits / 2) a.foreground a.background; guarded = is_odd a.digits }
+-- what a number says: the guard is the last digit, the flags stand before it, then the foreground, then the background
+unfoldable pub ink_numbered : ℕ → InkValue
+ink_numbered n = record { style = style_of (n % 512 / 2) (n / 512 % 512) (n / 512 / 512); guarded = is_odd n }
 
--- there are nine digits, and each colour is the terminal's own or one of 256
-pub record IsInk (a : Inside) : Type 0 where
-  pub digits : a.digits < 512
-  pub foreground : a.foreground ≤ 256
-  pub background : a.background ≤ 256
+-- the number that says it
+unfoldable pub number_of_ink : InkValue → ℕ
+number_of_ink v = digit v.guarded + 2 * flags_of v.style + 512 * (number_of v.style.foreground + 512 * number_of v.style.background)
+
+-- each colour is the terminal's own or one of 256
+pub record IsInkNumber (n : ℕ) : Type 0 where
+  pub foreground : n / 512 % 512 ≤ 256
+  pub background : n / 512 / 512 ≤ 256
+
+-- what an ink shows is what its number says
+abbrev pub ink_of : Inside → InkValue
+ink_of a = ink_numbered a.number
+
+-- its number is one of an ink
+abbrev pub IsInk : Inside → Type 0
+IsInk a = IsInkNumber a.number
 
 -- the fields that show it
-unfoldable pub inside_of : InkValue → Inside
-inside_of v =
-    record {
-      foreground = number_of v.style.foreground;
-      background = number_of v.style.background;
-      digits = digit v.guarded + 2 * flags_of v.style;
-    }
+abbrev pub inside_of : InkValue → Inside
+inside_of v = record { number = number_of_ink v }
 
--- ---- the fields come back from what they show
+-- ---- the number comes back from what it says
 
 -- a number is odd or even
 odd_or_even : (n : ℕ) → (n % 2 ≡ 1) ⊎ (n % 2 ≡ 0)
 odd_or_even n = elim (cases_eq (n % 2) 1) [ inl odd ↦ inl odd | inr even ↦ inr (omega (arith, even)) ]
 
-digit_back : (n : ℕ) → digit (is_odd n) + 2 * (n / 2) ≡ n
+pub digit_back : (n : ℕ) → digit (is_odd n) + 2 * (n / 2) ≡ n
 unfolding is_odd digit
 digit_back n =
     elim (odd_or_even n) [
@@ -107,16 +113,13 @@ flags_back n h =
       digit_back n,
     )
 
-digits_back : (a : Inside) → a.digits < 512
-    → digit (is_odd a.digits) + 2 * flags_of (style_of (a.digits / 2) a.foreground a.background) ≡ a.digits
+digits_back : (n : ℕ) → digit (is_odd n) + 2 * flags_of (style_of (n % 512 / 2) (n / 512 % 512) (n / 512 / 512)) ≡ n % 512
 unfolding flags_of style_of
-digits_back a h = ap (λ k. digit (is_odd a.digits) + 2 * k) (flags_back (a.digits / 2) (omega arith)) ∙ digit_back a.digits
+digits_back n = ap (λ k. digit (is_odd n) + 2 * k) (flags_back (n % 512 / 2) (omega arith)) ∙ omega (arith, digit_back n)
+
+pub numbered_back : (n : ℕ) → number_of_ink (ink_numbered n) ≡ n
+unfolding number_of_ink ink_numbered style_of
+numbered_back n = omega (arith, digits_back n, number_back (n / 512 % 512), number_back (n / 512 / 512))
 
 pub inside_back : (a : Inside) → IsInk a → inside_of (ink_of a) ≡ a
-unfolding inside_of ink_of style_of colour_of
-inside_back a h i =
-    record {
-      foreground = number_back a.foreground i;
-      background = number_back a.background i;
-      digits = digits_back a h.digits i;
-    }
+inside_back a h i = record { number = numbered_back a.number i }

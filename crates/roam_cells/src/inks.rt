@@ -1,18 +1,16 @@
 //! A style and a guard as a cell keeps them.
 ghost use Rattle.std.specs.Prelude.{◌≡◌, ◌↔◌, ◌≤◌, ◌<◌, ◌+◌, ◌*◌, false, IsTrue};
-ghost use Rattle.roam_cells.specs.Inks.{digit, is_odd, number_of, colour_of};
+ghost use Rattle.roam_cells.specs.Inks.{digit, is_odd, number_of, colour_of, ink_numbered, IsInkNumber};
 
 use crate::styles::{Colour, Style};
 use std::marker::Model;
 
-/// A style and a guard in six bytes, so that cells are small and two of them are compared in a few tests.
+/// A style and a guard in four bytes, so that cells are small and two of them are compared in two tests.
 #[derive(Clone, Copy)]
 pub struct Ink {
-    // 0 is the terminal's own, n + 1 the index n.
-    foreground: u16,
-    background: u16,
-    // The guard is the last binary digit, bold the one before it, strike the ninth from the end.
-    digits: u16,
+    // Its binary digits from the last: the guard, the eight flags from bold to strike, nine of the foreground and nine of the background. A
+    // colour is 0 for the terminal's own and n + 1 for the index n.
+    number: u32,
 }
 
 impl Model for Ink {
@@ -31,7 +29,7 @@ impl Model for Ink {
 
 #[tactic(auto, unfolding(crate::specs::Inks::digit))]
 #[inline]
-fn digit(flag: bool) -> u16
+pub(crate) fn digit(flag: bool) -> u32
     ensures digit { result ≡ digit flag }
     ensures one { result ≤ 1 }
 {
@@ -40,7 +38,7 @@ fn digit(flag: bool) -> u16
 
 #[tactic(auto, unfolding(crate::specs::Inks::is_odd))]
 #[inline]
-fn is_odd(n: u16) -> bool
+pub(crate) fn is_odd(n: u32) -> bool
     ensures odd { result ≡ is_odd n }
 {
     n % 2 == 1
@@ -48,19 +46,19 @@ fn is_odd(n: u16) -> bool
 
 #[tactic(auto, unfolding(crate::specs::Inks::number_of))]
 #[inline]
-fn number_of(of: Colour) -> u16
+fn number_of(of: Colour) -> u32
     ensures number { result ≡ number_of of }
     ensures few { result ≤ 256 }
 {
     match of {
         Colour::Default => 0,
-        Colour::Index(n) => u16::from(n) + 1,
+        Colour::Index(n) => u32::from(n) + 1,
     }
 }
 
 #[tactic(auto, unfolding(crate::specs::Inks::colour_of))]
 #[inline]
-fn colour_of(number: u16) -> Colour
+fn colour_of(number: u32) -> Colour
     requires few { number ≤ 256 }
     ensures colour { result ≡ colour_of number }
 {
@@ -80,20 +78,38 @@ impl Ink {
         let marks = digit(style.conceal) + 2 * digit(style.strike);
         let looks = digit(style.blink) + 2 * (digit(style.reverse) + 2 * marks);
         let lines = digit(style.italic) + 2 * (digit(style.underline) + 2 * looks);
+        let digits = digit(guard) + 2 * (digit(style.bold) + 2 * (digit(style.faint) + 2 * lines));
         Ink {
-            foreground: number_of(style.foreground),
-            background: number_of(style.background),
-            digits: digit(guard) + 2 * (digit(style.bold) + 2 * (digit(style.faint) + 2 * lines)),
+            number: digits
+                + 512 * (number_of(style.foreground) + 512 * number_of(style.background)),
         }
     }
 
+    /// The ink of a number that an ink has.
+    #[inline]
+    pub(crate) fn numbered(number: u32) -> Self
+        requires ink { IsInkNumber number }
+        ensures ink { result ≡ ink_numbered number }
+    {
+        Ink { number }
+    }
+
+    /// Its number.
+    #[inline]
+    pub(crate) fn number(&self) -> u32
+        ensures number { ink_numbered result ≡ self.now }
+        ensures ink { IsInkNumber result }
+    {
+        self.number
+    }
+
     /// Its style.
-    #[tactic(auto, unfolding(crate::specs::Inks::ink_of, crate::specs::Inks::style_of))]
+    #[tactic(auto, unfolding(crate::specs::Inks::ink_numbered, crate::specs::Inks::style_of))]
     #[inline]
     pub fn style(&self) -> Style
         ensures style { result ≡ self.now.style }
     {
-        let flags = self.digits / 2;
+        let flags = self.number % 512 / 2;
         Style {
             bold: is_odd(flags),
             faint: is_odd(flags / 2),
@@ -103,30 +119,27 @@ impl Ink {
             reverse: is_odd(flags / 2 / 2 / 2 / 2 / 2),
             conceal: is_odd(flags / 2 / 2 / 2 / 2 / 2 / 2),
             strike: is_odd(flags / 2 / 2 / 2 / 2 / 2 / 2 / 2),
-            foreground: colour_of(self.foreground),
-            background: colour_of(self.background),
+            foreground: colour_of(self.number / 512 % 512),
+            background: colour_of(self.number / 512 / 512),
         }
     }
 
     /// Whether it is guarded.
-    #[tactic(auto, unfolding(crate::specs::Inks::ink_of))]
+    #[tactic(auto, unfolding(crate::specs::Inks::ink_numbered))]
     #[inline]
     pub fn guard(&self) -> bool
         ensures guard { result ≡ self.now.guarded }
     {
-        is_odd(self.digits)
+        is_odd(self.number)
     }
 
     /// The same ink without its guard.
-    #[tactic(auto, unfolding(crate::specs::Inks::ink_of))]
     #[inline]
     pub fn unguarded(&self) -> Self
         ensures ink { result ≡ record { style = self.now.style; guarded = false } }
     {
         Ink {
-            foreground: self.foreground,
-            background: self.background,
-            digits: self.digits / 2 * 2,
+            number: self.number / 2 * 2,
         }
     }
 
@@ -135,18 +148,6 @@ impl Ink {
     pub fn is_same(&self, other: &Self) -> bool
         ensures same { IsTrue result ↔ (self.now ≡ other.now) }
     {
-        if both(self.foreground, self.background) != both(other.foreground, other.background) {
-            return false;
-        }
-        self.digits == other.digits
+        self.number == other.number
     }
-}
-
-// Both colours as one number: they lie beside each other, so that one test compares both.
-#[inline]
-fn both(foreground: u16, background: u16) -> u32
-    ensures both { result ≡ foreground + background * 0x10000 }
-    ensures fits { foreground < 0x10000 }
-{
-    u32::from(foreground) + u32::from(background) * 0x1_0000
 }

@@ -1,4 +1,4 @@
-use Rattle.std.proofs.Common.{arith}
+use Rattle.std.proofs.Common.{refl, arith}
 use Rattle.roam_cells.specs.Inks.{flags_of}
 use Rattle.roam_cells.proofs.Digits.{ink_back}
 use Rattle.roam_cells.proofs.inks.Ink.new.Goals as goal
@@ -6,7 +6,7 @@ use Rattle.roam_cells.proofs.inks.Ink.new.Goals as goal
 pub returns : goal.returns
 unfolding flags_of
 returns c = record {
-  ink = ink_back c.args.style c.args.guard _ _ _ c.number_of.ensures.number c.number_of-2.ensures.number
+  ink = ink_back c.args.style c.args.guard _ _ _ _
       (omega (
         arith,
         c.digit.ensures.digit,
@@ -18,5 +18,17 @@ returns c = record {
         c.digit-7.ensures.digit,
         c.digit-8.ensures.digit,
         c.digit-9.ensures.digit,
-      ));
+      )) c.number_of.ensures.number c.number_of-2.ensures.number refl
+      (omega (
+        arith,
+        c.digit.ensures.one,
+        c.digit-2.ensures.one,
+        c.digit-3.ensures.one,
+        c.digit-4.ensures.one,
+        c.digit-5.ensures.one,
+        c.digit-6.ensures.one,
+        c.digit-7.ensures.one,
+        c.digit-8.ensures.one,
+        c.digit-9.ensures.one,
+      )) c.number_of.ensures.few;
 }

@@ -5,5 +5,5 @@ use Rattle.roam_cells.proofs.inks.Ink.unguarded.Goals as goal
 
 pub returns : goal.returns
 returns c = record {
-  ink = ink_unguarded c.self.inside _ refl ∙ ap (λ (v : InkValue). record { style = v.style; guarded = false }) c.self.view_is;
+  ink = ink_unguarded c.self.inside.number _ refl ∙ ap (λ (v : InkValue). record { style = v.style; guarded = false }) c.self.view_is;
 }
