@@ -1,4 +1,6 @@
 //! `roam attach`: a client start round its socket and the outer terminal.
+ghost use Rattle.std.specs.Prelude.{◌≡◌, ◌⊎◌, ◌+◌, ℕ, IfErr};
+
 use crate::keys::acts_of;
 use crate::links::loopback;
 use crate::moments::Moments;
@@ -35,7 +37,10 @@ pub fn run_attach<R: Files + Net + Clock + AllocGlobal, W: Write + Drop>(
     rt: &R,
     attach: &Attach<'_>,
     outer: W,
-) -> Result<(), RunFault> {
+) -> Result<(), RunFault>
+    ensures faults { IfErr result (λ fault. (fault ≡ RunFault.Core Fault.OutOfMemory) ⊎ (fault ≡ RunFault.Read)
+        ⊎ ((k : ℕ) × (fault ≡ RunFault.Act (k + 1))) ⊎ (fault ≡ RunFault.Bind) ⊎ (fault ≡ RunFault.Write)) }
+{
     let alloc = rt.alloc();
     let text = match fs::read(rt, attach.keys) {
         Ok(text) => text,

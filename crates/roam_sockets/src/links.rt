@@ -1,5 +1,5 @@
 //! The network and the clock, which both programs have.
-ghost use Rattle.std.specs.Prelude.{◌≤◌, length, IfSome};
+ghost use Rattle.std.specs.Prelude.{◌≡◌, ◌⊎◌, ◌≤◌, length, IfSome, IfErr};
 
 use crate::moments::Moments;
 use mio::net::UdpSocket;
@@ -48,7 +48,9 @@ impl<R: Clock + Drop> Link<R> {
         alloc: Global,
         port: u16,
         moments: Moments<R>,
-    ) -> Result<Link<R>, RunFault> {
+    ) -> Result<Link<R>, RunFault>
+        ensures faults { IfErr result (λ fault. (fault ≡ RunFault.Bind) ⊎ (fault ≡ RunFault.Core Fault.OutOfMemory)) }
+    {
         let Ok(events) = Events::with_capacity(alloc, MOST_EVENTS) else {
             return Err(RunFault::Core(Fault::OutOfMemory));
         };

@@ -1,5 +1,5 @@
 //! The sockets of the panes, where their programs are reached.
-ghost use Rattle.std.specs.Prelude.{◌≤◌, length, IfSome};
+ghost use Rattle.std.specs.Prelude.{◌≡◌, ◌⊎◌, ◌≤◌, length, IfSome, IfErr};
 
 use mio::net::{UnixListener, UnixStream};
 use mio::{Interest, Registry, Token};
@@ -29,7 +29,9 @@ impl Pane {
         registry: &Registry,
         folder: &str,
         number: u8,
-    ) -> Result<Pane, RunFault> {
+    ) -> Result<Pane, RunFault>
+        ensures faults { IfErr result (λ fault. (fault ≡ RunFault.Bind) ⊎ (fault ≡ RunFault.Core Fault.OutOfMemory)) }
+    {
         let Ok(path) = format!(in alloc; "{folder}/p{number}") else {
             return Err(RunFault::Core(Fault::OutOfMemory));
         };
@@ -110,7 +112,9 @@ impl Panes {
         alloc: Global,
         registry: &Registry,
         folder: &str,
-    ) -> Result<Panes, RunFault> {
+    ) -> Result<Panes, RunFault>
+        ensures faults { IfErr result (λ fault. (fault ≡ RunFault.Bind) ⊎ (fault ≡ RunFault.Core Fault.OutOfMemory)) }
+    {
         let Ok(all) = Vec::with_capacity(alloc, PANES) else {
             return Err(RunFault::Core(Fault::OutOfMemory));
         };
@@ -130,7 +134,9 @@ impl Panes {
         alloc: Global,
         registry: &Registry,
         folder: &str,
-    ) -> Result<(), RunFault> {
+    ) -> Result<(), RunFault>
+        ensures faults { IfErr result (λ fault. (fault ≡ RunFault.Bind) ⊎ (fault ≡ RunFault.Core Fault.OutOfMemory)) }
+    {
         for number in 1..10u8 {
             let pane = Pane::bind(rt, alloc, registry, folder, number)?;
             if self.all.push(pane).is_err() {

@@ -1,9 +1,10 @@
 //! The ports of a server and of a client start over sockets. What they carried isn't told.
-ghost use Rattle.std.specs.Prelude.{◌≤◌, length, IfSome};
+ghost use Rattle.std.specs.Prelude.{◌≡◌, ◌⊎◌, ◌≤◌, length, IfSome, IfErr};
 
 use crate::links::Link;
 use crate::moments::Moments;
 use crate::panes::Panes;
+use roam_cells::Fault;
 use roam_hub::{Addr, Server};
 use roam_show::RunFault;
 use roam_turns::Ports;
@@ -30,7 +31,9 @@ impl<R: Clock + Drop> ServerPorts<R> {
         folder: &str,
         port: u16,
         moments: Moments<R>,
-    ) -> Result<ServerPorts<R>, RunFault> {
+    ) -> Result<ServerPorts<R>, RunFault>
+        ensures faults { IfErr result (λ fault. (fault ≡ RunFault.Bind) ⊎ (fault ≡ RunFault.Core Fault.OutOfMemory)) }
+    {
         let link = Link::bind(rt, alloc, port, moments)?;
         let panes = Panes::bind(rt, alloc, link.registry(), folder)?;
         Ok(ServerPorts { link, panes })
@@ -113,7 +116,9 @@ impl<R: Clock + Drop, W: Write + Drop> ClientPorts<R, W> {
         alloc: Global,
         moments: Moments<R>,
         outer: W,
-    ) -> Result<ClientPorts<R, W>, RunFault> {
+    ) -> Result<ClientPorts<R, W>, RunFault>
+        ensures faults { IfErr result (λ fault. (fault ≡ RunFault.Bind) ⊎ (fault ≡ RunFault.Core Fault.OutOfMemory)) }
+    {
         Ok(ClientPorts {
             link: Link::bind(net, alloc, 0, moments)?,
             outer,

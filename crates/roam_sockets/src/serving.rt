@@ -1,6 +1,9 @@
 //! `roam serve`: a server round its sockets.
+ghost use Rattle.std.specs.Prelude.{◌≡◌, ◌⊎◌, IfErr};
+
 use crate::moments::Moments;
 use crate::ports::ServerPorts;
+use roam_cells::Fault;
 use roam_hub::Server;
 use roam_show::RunFault;
 use roam_turns::serve_turn;
@@ -26,7 +29,9 @@ pub struct Serve<'a> {
 pub fn run_serve<R: Files + Net + Clock + AllocGlobal>(
     rt: &R,
     serve: &Serve<'_>,
-) -> Result<(), RunFault> {
+) -> Result<(), RunFault>
+    ensures faults { IfErr result (λ fault. (fault ≡ RunFault.Bind) ⊎ (fault ≡ RunFault.Core Fault.OutOfMemory)) }
+{
     let alloc = rt.alloc();
     let mut server = Server::new(alloc, serve.session, 24, 80)?;
     let Ok(moments) = Moments::real(rt) else {
