@@ -175,6 +175,7 @@ impl Server {
         ensures bytes { IfOk result (λ n. (s : ServerOf) → Stands self.now s
             → IsCopied n out.old out.new (output_at s.size s.log pane)) }
         ensures within { IfOk result (λ n. n ≤ length out.old) }
+        ensures waiting { IfOk result (λ n. IsWithin n (waiting_at self.now.state.terms pane)) }
         ensures err { OnErr result (out.new ≡ out.old) }
     {
         self.session.output(pane, out)
