@@ -1,5 +1,5 @@
 //! The network and the clock, which both programs have.
-ghost use Rattle.std.specs.Prelude.{◌≡◌, ◌⊎◌, ◌≤◌, length, IfSome, IfErr};
+ghost use Rattle.std.specs.Prelude.{◌≡◌, ◌⊎◌, ◌≤◌, ℕ, true, false, [], ◌∷◌, length, None, IfOk, IfSome, IfErr};
 
 use crate::moments::Moments;
 use mio::net::UdpSocket;
@@ -29,7 +29,9 @@ pub struct Link<R> {
 }
 
 /// A port of this machine.
-pub fn loopback(port: u16) -> Addr {
+pub fn loopback(port: u16) -> Addr
+    ensures loopback { result ≡ record { host = 127 ∷ 0 ∷ 0 ∷ 1 ∷ []; port = port } }
+{
     Addr {
         host: [127, 0, 0, 1],
         port,
@@ -49,6 +51,8 @@ impl<R: Clock + Drop> Link<R> {
         port: u16,
         moments: Moments<R>,
     ) -> Result<Link<R>, RunFault>
+        ensures moments { IfOk result (λ link. link.moments ≡ moments) }
+        ensures quiet { IfOk result (λ link. link.quiet ≡ true) }
         ensures faults { IfErr result (λ fault. (fault ≡ RunFault.Bind) ⊎ (fault ≡ RunFault.Core Fault.OutOfMemory)) }
     {
         let Ok(events) = Events::with_capacity(alloc, MOST_EVENTS) else {
@@ -84,18 +88,25 @@ impl<R: Clock + Drop> Link<R> {
     }
 
     /// Sets the moment, in milliseconds.
-    pub fn set_moment(&mut self, moment: u64) {
+    pub fn set_moment(&mut self, moment: u64)
+        ensures moment { self.new ≡ record self.old { moments = Moments.Set moment } }
+    {
         self.moments = Moments::Set(moment);
     }
 
     /// The moment, in milliseconds.
-    pub fn now(&mut self) -> u64 {
+    pub fn now(&mut self) -> u64
+        ensures set { (moment : ℕ) → self.old.moments ≡ Moments.Set moment → result ≡ moment }
+        ensures quiet { self.new.quiet ≡ self.old.quiet }
+    {
         self.moments.now()
     }
 
     /// A datagram that came: from where, and how many bytes of `buf` it fills from the front.
     pub fn receive(&mut self, buf: &mut [u8]) -> Option<(Addr, usize)>
         ensures within { IfSome result (λ r. r.1 ≤ length buf.new) }
+        ensures stirs { IfSome result (λ _. self.new.quiet ≡ false) }
+        ensures quiet { result ≡ None → self.new.quiet ≡ self.old.quiet }
     {
         match self.socket.recv_from(buf) {
             Ok((len, SocketAddr::V4(from))) => {
@@ -119,12 +130,16 @@ impl<R: Clock + Drop> Link<R> {
     }
 
     /// Notes that something came, so that there is no wait.
-    pub fn stir(&mut self) {
+    pub fn stir(&mut self)
+        ensures stirs { self.new ≡ record self.old { quiet = false } }
+    {
         self.quiet = false;
     }
 
     /// Waits until something comes, ten milliseconds at most, where nothing came since the last call.
-    pub fn rest(&mut self) {
+    pub fn rest(&mut self)
+        ensures quiet { self.new.quiet ≡ true }
+    {
         if self.quiet {
             // A wait that fails is over at once.
             let _ = self.poll.poll(&mut self.events, Some(Duration::from_millis(LONGEST_WAIT)));

@@ -1,4 +1,6 @@
 //! Moments in milliseconds.
+ghost use Rattle.std.specs.Prelude.{◌≡◌, ℕ};
+
 use std::io;
 use std::time::{Clock, Instant};
 
@@ -21,7 +23,9 @@ impl<R: Clock + Drop> Moments<R> {
     }
 
     /// The moment now, or the one before where the clock fails.
-    pub fn now(&mut self) -> u64 {
+    pub fn now(&mut self) -> u64
+        ensures set { (moment : ℕ) → self.old ≡ Moments.Set moment → result ≡ moment }
+    {
         match self {
             Moments::Set(moment) => *moment,
             Moments::Real { clock, start, last } => {

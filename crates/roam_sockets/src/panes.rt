@@ -1,5 +1,5 @@
 //! The sockets of the panes, where their programs are reached.
-ghost use Rattle.std.specs.Prelude.{◌≡◌, ◌⊎◌, ◌≤◌, length, IfSome, IfErr};
+ghost use Rattle.std.specs.Prelude.{◌≡◌, ◌⊎◌, ◌≤◌, ◌<◌, length, IfOk, OnOk, IfSome, IfErr};
 
 use mio::net::{UnixListener, UnixStream};
 use mio::{Interest, Registry, Token};
@@ -63,6 +63,7 @@ impl Pane {
 
     // What the peer wrote, or nothing. A peer that is gone is let go.
     fn read(&mut self, buf: &mut [u8]) -> Option<usize>
+        ensures some { IfSome result (λ n. 0 < n) }
         ensures within { IfSome result (λ n. n ≤ length buf.new) }
     {
         let read = self.peer.as_mut()?.read(buf);
@@ -113,6 +114,7 @@ impl Panes {
         registry: &Registry,
         folder: &str,
     ) -> Result<Panes, RunFault>
+        ensures nine { IfOk result (λ panes. length panes.all.items ≡ 9) }
         ensures faults { IfErr result (λ fault. (fault ≡ RunFault.Bind) ⊎ (fault ≡ RunFault.Core Fault.OutOfMemory)) }
     {
         let Ok(all) = Vec::with_capacity(alloc, PANES) else {
@@ -135,6 +137,8 @@ impl Panes {
         registry: &Registry,
         folder: &str,
     ) -> Result<(), RunFault>
+        requires empty { length self.old.all.items ≡ 0 }
+        ensures nine { OnOk result (length self.new.all.items ≡ 9) }
         ensures faults { IfErr result (λ fault. (fault ≡ RunFault.Bind) ⊎ (fault ≡ RunFault.Core Fault.OutOfMemory)) }
     {
         for number in 1..10u8 {
@@ -154,6 +158,7 @@ impl Panes {
     /// What the program of a pane wrote: how many bytes of `buf` it fills from the front. A peer is taken where there is none, and let go
     /// where it is gone.
     pub fn read(&mut self, registry: &Registry, pane: u8, buf: &mut [u8]) -> Option<usize>
+        ensures some { IfSome result (λ n. 0 < n) }
         ensures within { IfSome result (λ n. n ≤ length buf.new) }
     {
         let pane = self.get_mut(pane)?;

@@ -1,5 +1,5 @@
 //! The ports of a server and of a client start over sockets. What they carried isn't told.
-ghost use Rattle.std.specs.Prelude.{◌≡◌, ◌⊎◌, ◌≤◌, length, IfSome, IfErr};
+ghost use Rattle.std.specs.Prelude.{◌≡◌, ◌⊎◌, ◌≤◌, true, false, length, IfOk, IfSome, IfErr};
 
 use crate::links::Link;
 use crate::moments::Moments;
@@ -32,6 +32,8 @@ impl<R: Clock + Drop> ServerPorts<R> {
         port: u16,
         moments: Moments<R>,
     ) -> Result<ServerPorts<R>, RunFault>
+        ensures moments { IfOk result (λ ports. ports.link.moments ≡ moments) }
+        ensures nine { IfOk result (λ ports. length ports.panes.all.items ≡ 9) }
         ensures faults { IfErr result (λ fault. (fault ≡ RunFault.Bind) ⊎ (fault ≡ RunFault.Core Fault.OutOfMemory)) }
     {
         let link = Link::bind(rt, alloc, port, moments)?;
@@ -45,7 +47,9 @@ impl<R: Clock + Drop> ServerPorts<R> {
     }
 
     /// Sets the moment, in milliseconds.
-    pub fn set_moment(&mut self, moment: u64) {
+    pub fn set_moment(&mut self, moment: u64)
+        ensures moment { self.new ≡ record self.old { link = record self.old.link { moments = Moments.Set moment } } }
+    {
         self.link.set_moment(moment);
     }
 
@@ -59,7 +63,9 @@ impl<R: Clock + Drop> ServerPorts<R> {
     }
 
     /// Waits until something comes, ten milliseconds at most, where nothing came since the last call.
-    pub fn rest(&mut self) {
+    pub fn rest(&mut self)
+        ensures quiet { self.new.link.quiet ≡ true }
+    {
         self.link.rest();
     }
 
@@ -117,6 +123,9 @@ impl<R: Clock + Drop, W: Write + Drop> ClientPorts<R, W> {
         moments: Moments<R>,
         outer: W,
     ) -> Result<ClientPorts<R, W>, RunFault>
+        ensures moments { IfOk result (λ ports. ports.link.moments ≡ moments) }
+        ensures outer { IfOk result (λ ports. ports.outer ≡ outer) }
+        ensures well { IfOk result (λ ports. ports.failed ≡ false) }
         ensures faults { IfErr result (λ fault. (fault ≡ RunFault.Bind) ⊎ (fault ≡ RunFault.Core Fault.OutOfMemory)) }
     {
         Ok(ClientPorts {
@@ -127,17 +136,23 @@ impl<R: Clock + Drop, W: Write + Drop> ClientPorts<R, W> {
     }
 
     /// Sets the moment, in milliseconds.
-    pub fn set_moment(&mut self, moment: u64) {
+    pub fn set_moment(&mut self, moment: u64)
+        ensures moment { self.new ≡ record self.old { link = record self.old.link { moments = Moments.Set moment } } }
+    {
         self.link.set_moment(moment);
     }
 
     /// Whether the outer terminal took not all of what was last shown.
-    pub fn has_failed(&self) -> bool {
+    pub fn has_failed(&self) -> bool
+        ensures failed { result ≡ self.now.failed }
+    {
         self.failed
     }
 
     /// Waits until something comes, ten milliseconds at most, where nothing came since the last call.
-    pub fn rest(&mut self) {
+    pub fn rest(&mut self)
+        ensures quiet { self.new.link.quiet ≡ true }
+    {
         self.link.rest();
     }
 }
