@@ -78,17 +78,26 @@ fn texts_of_words(rt: HostRuntime) -> Result<(), Fail> {
         (
             ["roam", "show", "--rows", "2"].as_slice(),
             2,
-            "error: the following required arguments were not provided:\n  --cols <C>\n\nUsage: roam show --rows <R> --cols <C>\n\nFor more information, try '--help'.\n",
+            "error: the following required arguments were not provided:\n  --cols <C>\n\nUsage: roam show --rows <R> --cols <C>\n\n\
+             For more information, try '--help'.\n",
         ),
         (
             ["roam", "show", "--help"].as_slice(),
             0,
-            "Feeds standard input to a terminal and prints the screen that it makes\n\nUsage: roam show --rows <R> --cols <C>\n\nOptions:\n      --rows <R>  Rows of the screen, 2 to 100\n      --cols <C>  Columns of the screen, 4 to 250\n  -h, --help      Print help\n",
+            "Feeds standard input to a terminal and prints the screen that it makes\n\nUsage: roam show --rows <R> --cols <C>\n\n\
+             Options:\n      --rows <R>  Rows of the screen, 2 to 100\n      --cols <C>  Columns of the screen, 4 to 250\n  \
+             -h, --help      Print help\n",
         ),
         (
             ["roam", "--help"].as_slice(),
             0,
-            "A roaming terminal multiplexer\n\nUsage: roam <COMMAND>\n\nCommands:\n  show    Feeds standard input to a terminal and prints the screen that it makes\n  world   Plays a script from standard input and prints the answer to each of its lines\n  serve   Serves a session of 24 rows and 80 columns, whose panes are reached at sockets\n  attach  Follows a session and paints it on standard output\n  help    Print this message or the help of the given subcommand(s)\n\nOptions:\n  -h, --help     Print help\n  -V, --version  Print version\n",
+            "A roaming terminal multiplexer\n\nUsage: roam <COMMAND>\n\nCommands:\n  \
+             show    Feeds standard input to a terminal and prints the screen that it makes\n  \
+             world   Plays a script from standard input and prints the answer to each of its lines\n  \
+             serve   Serves a session of 24 rows and 80 columns, whose panes are reached at sockets\n  \
+             attach  Follows a session and paints it on standard output\n  \
+             help    Print this message or the help of the given subcommand(s)\n\nOptions:\n  -h, --help     Print help\n  \
+             -V, --version  Print version\n",
         ),
         (["roam", "--version"].as_slice(), 0, "roam 0.1.0\n"),
         (

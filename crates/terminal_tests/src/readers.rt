@@ -337,7 +337,8 @@ const CHARACTERS_OF_BYTES: &[Row] = &[
         heading: "overlong forms",
         bytes: b"\xC0\x80\xC1\xBF\xE0\x80\x80\xF0\x80\x80\x80",
         size_after: None,
-        functions: "Print(FFFD) Print(FFFD) Print(FFFD) Print(FFFD) Print(FFFD) Print(FFFD) Print(FFFD) Print(FFFD) Print(FFFD) Print(FFFD) Print(FFFD)",
+        functions: "Print(FFFD) Print(FFFD) Print(FFFD) Print(FFFD) Print(FFFD) Print(FFFD) Print(FFFD) Print(FFFD) Print(FFFD) \
+         Print(FFFD) Print(FFFD)",
     },
     Row {
         heading: "surrogates",
@@ -355,7 +356,8 @@ const CHARACTERS_OF_BYTES: &[Row] = &[
         heading: "F5 to FF",
         bytes: b"\xF5\xF6\xF7\xF8\xF9\xFA\xFB\xFC\xFD\xFE\xFF",
         size_after: None,
-        functions: "Print(FFFD) Print(FFFD) Print(FFFD) Print(FFFD) Print(FFFD) Print(FFFD) Print(FFFD) Print(FFFD) Print(FFFD) Print(FFFD) Print(FFFD)",
+        functions: "Print(FFFD) Print(FFFD) Print(FFFD) Print(FFFD) Print(FFFD) Print(FFFD) Print(FFFD) Print(FFFD) Print(FFFD) \
+         Print(FFFD) Print(FFFD)",
     },
     Row {
         heading: "one U+FFFD for each maximal subpart (Unicode Table 3-8)",
