@@ -1,4 +1,4 @@
-// cells_compare CELLS TIMES: compares two lists of so many cells of 20 bytes that are the same TIMES times by memcmp, and prints its name,
+// cells_compare CELLS TIMES: compares two lists of so many cells of 16 bytes that are the same TIMES times by memcmp, and prints its name,
 // the cells, TIMES, the microseconds that passed and a number that depends on the work.
 #include <stdio.h>
 #include <stdlib.h>
@@ -7,7 +7,7 @@
 
 int main(int argc, char **argv) {
     if (argc != 3) return 2;
-    size_t cells = strtoul(argv[1], NULL, 10), size = cells * 20;
+    size_t cells = strtoul(argv[1], NULL, 10), size = cells * 16;
     long times = strtol(argv[2], NULL, 10), same = 0;
     unsigned char *one = malloc(size), *two = malloc(size);
     if (!one || !two) return 1;

@@ -1,6 +1,6 @@
 #!/usr/bin/env bash
 # bench/update.sh [TIMES [ROUNDS]]: the nanoseconds a cell that the change of a screen takes where nothing, one row and everything differs,
-# at 24 by 80 and at 100 by 250, beside memcmp of as many cells of 20 bytes. All run in turn, and the best of the rounds counts for each,
+# at 24 by 80 and at 100 by 250, beside memcmp of as many cells of 16 bytes. All run in turn, and the best of the rounds counts for each,
 # since other work on the machine only slows one down. It writes to a temporary folder outside the repository. It needs rt and cc.
 set -eu
 here=$(cd "$(dirname "$0")" && pwd)
