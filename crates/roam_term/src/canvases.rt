@@ -47,19 +47,17 @@ impl Model for Canvas {
 
     ghost Value = { Live };
 
-    ghost view = {
-        λ c. record {
-            screen = c.grid.screen;
-            other = c.other.screen.cells;
-            alternate = c.alternate;
-            pen = c.pen;
-            modes = c.modes;
-            sets = c.sets;
-            saved = c.saved;
-            saved_alternate = c.saved_alternate;
-            printed = c.printed;
-        }
-    };
+    ghost view = { λ c. record {
+      screen = c.grid.screen;
+      other = c.other.screen.cells;
+      alternate = c.alternate;
+      pen = c.pen;
+      modes = c.modes;
+      sets = c.sets;
+      saved = c.saved;
+      saved_alternate = c.saved_alternate;
+      printed = c.printed;
+    } };
 
     ghost use Rattle.roam_grid.specs.Screen.{IsSameSize};
 
