@@ -369,21 +369,31 @@ fn a_thousand_sizes(rt: HostRuntime) -> Result<(), Fail> {
     let alloc = rt.alloc();
     let mut term = Term::new(alloc, 2, 4, 40)?;
     let mut state = 7;
-    let mut piece = [0; 64];
     for _ in 0..1000 {
-        for byte in piece.iter_mut() {
-            *byte = (next(&mut state) % 256) as u8;
-        }
-        term.feed(&piece)?;
-        term.feed("a\u{4E2D}b\u{301}\r\n\u{4E2D}\u{4E2D}".as_bytes())?;
         let size = (
             (2 + next(&mut state) % 9) as u16,
             (4 + next(&mut state) % 30) as u16,
         );
-        term.resize(alloc, size.0, size.1)?;
-        assert!(rt; is_whole(alloc, &term, size, (next(&mut state) % 50) as u16)?);
+        assert!(rt; stays_whole(alloc, &mut term, &mut state, size)?);
     }
     Ok(())
+}
+
+// It takes some bytes, some wide and joined characters, and the size.
+fn stays_whole(
+    alloc: Global,
+    term: &mut Term,
+    state: &mut u32,
+    size: (u16, u16),
+) -> Result<bool, Fault> {
+    let mut piece = [0; 64];
+    for byte in piece.iter_mut() {
+        *byte = (next(state) % 256) as u8;
+    }
+    term.feed(&piece)?;
+    term.feed("a\u{4E2D}b\u{301}\r\n\u{4E2D}\u{4E2D}".as_bytes())?;
+    term.resize(alloc, size.0, size.1)?;
+    is_whole(alloc, term, size, (next(state) % 50) as u16)
 }
 
 #[test]
@@ -391,14 +401,27 @@ fn sizes_outside_the_limits_are_refused(rt: HostRuntime) -> Result<(), Fail> {
     let alloc = rt.alloc();
     let mut term = made(alloc, &CASES[1])?;
     for (rows, cols) in [(1, 8), (101, 8), (2, 3), (2, 251), (0, 0)] {
-        assert!(rt; term.resize(alloc, rows, cols) == Err(Fault::BadSize));
-        assert!(rt; matches!(term.fit(alloc, rows, cols), Err(Fault::BadSize)));
+        assert!(rt; refuses(alloc, &mut term, rows, cols));
     }
     assert!(rt; shows(alloc, &term, &CASES[1])?);
-    let fitted = term.fit(alloc, 3, 9)?;
-    assert!(rt; (fitted.rows(), fitted.cols(), fitted.lines()) == (3, 9, 500));
+    assert!(rt; fitted(alloc, &term, 3, 9)? == (3, 9, 500));
     assert!(rt; shows(alloc, &term, &CASES[1])?);
     Ok(())
+}
+
+fn refuses(alloc: Global, term: &mut Term, rows: u16, cols: u16) -> bool {
+    term.resize(alloc, rows, cols) == Err(Fault::BadSize)
+        && matches!(term.fit(alloc, rows, cols), Err(Fault::BadSize))
+}
+
+fn fitted(
+    alloc: Global,
+    term: &Term,
+    rows: u16,
+    cols: u16,
+) -> Result<(usize, usize, usize), Fault> {
+    let fitted = term.fit(alloc, rows, cols)?;
+    Ok((fitted.rows(), fitted.cols(), fitted.lines()))
 }
 
 // A size that is refused for want of memory changes nothing, and the same size with memory ends where it ends without a refusal.

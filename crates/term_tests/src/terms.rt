@@ -1,5 +1,5 @@
 //! The terminal of a pane: sizes, pieces, the queue of answers, renditions. What text and moves make of a screen stands with the program.
-use roam_cells::{Colour, Fault, Style};
+use roam_cells::{Colour, Fault, Shot, Style};
 use roam_term::{MOST_LINES, MOST_PIECE, Term};
 use std::alloc::Global;
 use std::test::*;
@@ -174,17 +174,18 @@ static RENDERED: [Rendered; 22] = [
     },
 ];
 
+// A character in this style, unguarded.
+fn is_drawn(shot: &Shot, style: Style) -> bool {
+    match shot.at(1, 1) {
+        Some(cell) => cell.chars() == ['a'].as_slice() && cell.style() == style && !cell.guard(),
+        None => false,
+    }
+}
+
 fn is_rendered(alloc: Global, row: &Rendered) -> Result<bool, Fail> {
     let mut term = Term::new(alloc, 2, 8, 0)?;
-    term.feed(row.before)?;
-    term.feed(b"a")?;
-    let shot = term.shot(alloc, 0)?;
-    Ok(match shot.at(1, 1) {
-        Some(cell) => cell.chars() == ['a'].as_slice()
-            && cell.style() == row.style
-            && !cell.guard(),
-        None => false,
-    })
+    let fed = term.feed(row.before) == Ok(()) && term.feed(b"a") == Ok(());
+    Ok(fed && is_drawn(&term.shot(alloc, 0)?, row.style))
 }
 
 #[test]
@@ -193,6 +194,18 @@ fn renditions(rt: HostRuntime) -> Result<(), Fail> {
         assert!(rt; is_rendered(rt.alloc(), row)?, "{:?}", row.before);
     }
     Ok(())
+}
+
+fn is_reversed(alloc: Global, input: &[u8]) -> Result<Option<bool>, Fail> {
+    let mut term = Term::new(alloc, 2, 8, 0)?;
+    if term.feed(input).is_err() {
+        return Ok(None);
+    }
+    Ok(
+        term.shot(alloc, 0)?
+            .at(1, 1)
+            .map(|cell| cell.style().reverse),
+    )
 }
 
 // The whole screen in reverse: DECSCNM turns the reverse flag of each cell, twice the same as once.
@@ -206,22 +219,25 @@ fn a_reversed_screen(rt: HostRuntime) -> Result<(), Fail> {
         (b"\x1B[?25;5ha".as_slice(), true),
     ];
     for (input, reverse) in rows {
-        let mut term = Term::new(rt.alloc(), 2, 8, 0)?;
-        term.feed(input)?;
-        let shot = term.shot(rt.alloc(), 0)?;
-        let shown = shot.at(1, 1).map(|cell| cell.style().reverse);
-        assert!(rt; shown == Some(reverse), "{input:?}");
+        assert!(rt;
+            is_reversed(rt.alloc(), input)? == Some(reverse),
+            "{input:?}"
+        );
     }
     Ok(())
+}
+
+fn size_shown(alloc: Global, term: &Term) -> Result<(u16, u16), Fail> {
+    let shot = term.shot(alloc, 0)?;
+    Ok((shot.rows(), shot.cols()))
 }
 
 #[test]
 fn sizes_and_lines(rt: HostRuntime) -> Result<(), Fail> {
     let alloc = rt.alloc();
     for (rows, cols, lines) in [(2, 4, 0), (100, 250, 500), (24, 80, 1)] {
-        let term = Term::new(alloc, rows, cols, lines)?;
-        let shot = term.shot(alloc, 0)?;
-        assert!(rt; shot.rows() == rows && shot.cols() == cols);
+        let size = size_shown(alloc, &Term::new(alloc, rows, cols, lines)?)?;
+        assert!(rt; size == (rows, cols));
     }
     for (rows, cols, lines) in [
         (1, 8, 0),
@@ -246,14 +262,29 @@ fn shows_first(alloc: Global, term: &Term, view: u16, wanted: &str) -> Result<bo
     Ok(text.as_str() == wanted)
 }
 
+// How a terminal takes a piece of so many letters, and what its first row shows then.
+fn takes_letters(
+    alloc: Global,
+    term: &mut Term,
+    count: usize,
+    taken: Result<(), Fault>,
+    wanted: &str,
+) -> Result<bool, Fail> {
+    let letters = [b'a'; MOST_PIECE + 1];
+    let fed = term.feed(&letters[..count.min(MOST_PIECE + 1)]);
+    Ok(fed == taken && shows_first(alloc, term, 0, wanted)?)
+}
+
 #[test]
 fn the_longest_piece(rt: HostRuntime) -> Result<(), Fail> {
     let alloc = rt.alloc();
     let mut term = Term::new(alloc, 2, 8, 0)?;
-    assert!(rt; term.feed(&[b'a'; MOST_PIECE + 1]) == Err(Fault::TooLong));
-    assert!(rt; shows_first(alloc, &term, 0, "        ")?);
-    term.feed(&[b'a'; MOST_PIECE])?;
-    assert!(rt; shows_first(alloc, &term, 0, "aaaaaaaa")?);
+    for (count, taken, wanted) in [
+        (MOST_PIECE + 1, Err(Fault::TooLong), "        "),
+        (MOST_PIECE, Ok(()), "aaaaaaaa"),
+    ] {
+        assert!(rt; takes_letters(alloc, &mut term, count, taken, wanted)?);
+    }
     assert!(rt; shows_first(alloc, &term, 500, "aaaaaaaa")?);
     Ok(())
 }
@@ -270,6 +301,13 @@ fn takes(term: &mut Term, wanted: &[u8]) -> bool {
 #[test]
 fn a_full_queue_refuses_a_piece_and_loses_nothing(rt: HostRuntime) -> Result<(), Fail> {
     let mut term = Term::new(rt.alloc(), 2, 8, 0)?;
+    assert!(rt; fills(&mut term));
+    assert!(rt; empties(&mut term));
+    Ok(())
+}
+
+// It takes 8,188 questions and no more, and an answer's last bytes only in two pieces.
+fn fills(term: &mut Term) -> bool {
     let mut answers = 0u32;
     for _ in 0..16_384 {
         if term.feed(b"\x1B[c").is_err() {
@@ -277,45 +315,55 @@ fn a_full_queue_refuses_a_piece_and_loses_nothing(rt: HostRuntime) -> Result<(),
         }
         answers = answers.saturating_add(1);
     }
-    assert_eq!(rt; answers, 8188);
-    assert_eq!(rt; term.output_len(), 65_504);
-    assert!(rt; term.feed(b"\x1B[c") == Err(Fault::Busy));
-    assert!(rt; term.feed(b"\x1B[") == Ok(()));
-    assert!(rt; term.feed(b"c") == Ok(()));
+    answers == 8188
+        && term.output_len() == 65_504
+        && term.feed(b"\x1B[c") == Err(Fault::Busy)
+        && term.feed(b"\x1B[") == Ok(())
+        && term.feed(b"c") == Ok(())
+}
+
+fn empties(term: &mut Term) -> bool {
+    let mut told = true;
     for _ in 0..8189 {
-        assert!(rt; takes(&mut term, b"\x1B[?62;6c"));
+        told = told && takes(term, b"\x1B[?62;6c");
     }
-    assert_eq!(rt; term.output_len(), 0);
-    Ok(())
+    told && term.output_len() == 0
+}
+
+fn has_nothing(term: &mut Term) -> bool {
+    let mut out = [7; 3];
+    let count = term.copy_output(&mut out);
+    term.take_output(0);
+    count == 0 && out == [7; 3] && term.output_len() == 0
 }
 
 #[test]
 fn nothing_waits(rt: HostRuntime) -> Result<(), Fail> {
     let mut term = Term::new(rt.alloc(), 2, 8, 0)?;
-    let mut out = [7; 3];
     assert!(rt; term.output_len() == 0);
-    assert!(rt; term.copy_output(&mut out) == 0);
-    assert!(rt; out == [7; 3]);
-    term.take_output(0);
-    assert!(rt; term.output_len() == 0);
+    assert!(rt; has_nothing(&mut term));
     Ok(())
+}
+
+fn feed_any(term: &mut Term, state: &mut u32) -> bool {
+    let mut piece = [0; MOST_PIECE];
+    for byte in piece.iter_mut() {
+        *state = state.wrapping_mul(1664525).wrapping_add(1013904223);
+        *byte = (*state >> 24) as u8;
+    }
+    term.feed(&piece) == Ok(())
 }
 
 #[test]
 fn any_bytes_are_read(rt: HostRuntime) -> Result<(), Fail> {
-    let alloc = rt.alloc();
-    let mut term = Term::new(alloc, 24, 80, 0)?;
+    let mut term = Term::new(rt.alloc(), 24, 80, 0)?;
     let mut state: u32 = 1;
-    let mut piece = [0; MOST_PIECE];
+    let mut fed = true;
     for _ in 0..200 {
-        for byte in piece.iter_mut() {
-            state = state.wrapping_mul(1664525).wrapping_add(1013904223);
-            *byte = (state >> 24) as u8;
-        }
-        term.feed(&piece)?;
+        fed = fed && feed_any(&mut term, &mut state);
     }
-    let shot = term.shot(alloc, 0)?;
-    assert!(rt; shot.cells().len() == 24 * 80);
+    assert!(rt; fed);
+    assert!(rt; size_shown(rt.alloc(), &term)? == (24, 80));
     Ok(())
 }
 
