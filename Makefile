@@ -8,7 +8,8 @@ proved = $(patsubst %,crates/%/out/proved,$(1))
 
 .PHONY: all test bench clean
 
-# As many crates side by side as there are processors. Each prints a line as it is proved.
+# As many crates side by side as there are processors. Each prints a line as it is proved. Those that stand on a common crate wait for one
+# another: rt keeps what a crate stands on to itself while it proves the crate.
 all:
 	@$(MAKE) -s --no-print-directory -j "$$(nproc)" crates/roam/out/built
 
