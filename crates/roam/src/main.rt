@@ -12,7 +12,8 @@ mod words;
 
 use crate::words::{Refusal, Request, read_words};
 use roam_cells::Fault;
-use roam_show::{RunFault, run_show, run_world};
+use roam_play::run_world;
+use roam_show::{RunFault, run_show};
 use roam_sockets::{run_attach, run_serve};
 use std::env::Env;
 use std::io::ErrorKind;

@@ -14,7 +14,7 @@ use std::alloc::{AllocError, Global};
 use std::io::{Read, Write};
 
 /// How many reads a run makes at most; the end has to be seen within them.
-pub(crate) const MOST_READS: u32 = 16_777_216;
+pub const MOST_READS: u32 = 16_777_216;
 
 // Reads to the end and feeds each piece; what the terminal answered goes into `report`.
 fn feed_all<R: Read>(
@@ -70,8 +70,8 @@ fn push_row(text: &mut String, row: &[char]) -> Result<(), AllocError>
     text.push_str("|\n")
 }
 
-// Adds each row, then the cursor's line.
-pub(crate) fn push_screen(alloc: Global, text: &mut String, shot: &Shot) -> Result<(), Fault>
+/// Adds the text of a screen: each row between bars, then the cursor's line, from row and column 1. `OutOfMemory`.
+pub fn push_screen(alloc: Global, text: &mut String, shot: &Shot) -> Result<(), Fault>
     ensures text { OnOk result (string_bytes text.new ≡ string_bytes text.old ++ screen_text shot.now) }
     ensures fault { IsOkUnless result Fault.OutOfMemory }
 {

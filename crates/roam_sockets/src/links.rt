@@ -8,7 +8,6 @@ use roam_cells::Fault;
 use roam_hub::Addr;
 use roam_show::RunFault;
 use std::alloc::Global;
-use std::io;
 use std::net::{IpAddr, Ipv4Addr, Net, SocketAddr};
 use std::time::{Clock, Duration};
 
@@ -20,8 +19,9 @@ const MOST_EVENTS: usize = 32;
 
 /// A UDP socket on loopback, moments, and the wait for what comes.
 #[derive(Drop)]
-pub struct Link<R> {
+pub(crate) struct Link<R> {
     socket: UdpSocket,
+    port: u16,
     moments: Moments<R>,
     poll: Poll,
     events: Events<Global>,
@@ -45,13 +45,14 @@ fn socket_addr(addr: Addr) -> SocketAddr {
 
 impl<R: Clock + Drop> Link<R> {
     /// Binds a port of this machine, any that is free where it is 0. `Bind` where it can't be bound, `OutOfMemory`.
-    pub fn bind<N: Net>(
+    pub(crate) fn bind<N: Net>(
         net: &N,
         alloc: Global,
         port: u16,
         moments: Moments<R>,
     ) -> Result<Link<R>, RunFault>
         ensures moments { IfOk result (λ link. link.moments ≡ moments) }
+        ensures port { IfOk result (λ link. (port ≡ 0) ⊎ (link.port ≡ port)) }
         ensures quiet { IfOk result (λ link. link.quiet ≡ true) }
         ensures faults { IfErr result (λ fault. (fault ≡ RunFault.Bind) ⊎ (fault ≡ RunFault.Core Fault.OutOfMemory)) }
     {
@@ -64,12 +65,17 @@ impl<R: Clock + Drop> Link<R> {
         ) else {
             return Err(RunFault::Bind);
         };
+        let bound = match socket.local_addr() {
+            Ok(addr) => addr.port(),
+            Err(_) => return Err(RunFault::Bind),
+        };
         // Where it isn't reported, a wait ends by its time alone.
         let _ = poll
             .registry()
             .register(&mut socket, Token(0), Interest::READABLE);
         Ok(Link {
             socket,
+            port: if port == 0 { bound } else { port },
             moments,
             poll,
             events,
@@ -78,24 +84,26 @@ impl<R: Clock + Drop> Link<R> {
     }
 
     /// The port that it is bound to.
-    pub fn port(&self) -> io::Result<u16> {
-        Ok(self.socket.local_addr()?.port())
+    pub(crate) fn port(&self) -> u16
+        ensures port { result ≡ self.now.port }
+    {
+        self.port
     }
 
     /// What reports to the wait.
-    pub fn registry(&self) -> &Registry {
+    pub(crate) fn registry(&self) -> &Registry {
         self.poll.registry()
     }
 
     /// Sets the moment, in milliseconds.
-    pub fn set_moment(&mut self, moment: u64)
+    pub(crate) fn set_moment(&mut self, moment: u64)
         ensures moment { self.new ≡ record self.old { moments = Moments.Set moment } }
     {
         self.moments = Moments::Set(moment);
     }
 
     /// The moment, in milliseconds.
-    pub fn now(&mut self) -> u64
+    pub(crate) fn now(&mut self) -> u64
         ensures set { (moment : ℕ) → self.old.moments ≡ Moments.Set moment → result ≡ moment }
         ensures quiet { self.new.quiet ≡ self.old.quiet }
     {
@@ -103,7 +111,7 @@ impl<R: Clock + Drop> Link<R> {
     }
 
     /// A datagram that came: from where, and how many bytes of `buf` it fills from the front.
-    pub fn receive(&mut self, buf: &mut [u8]) -> Option<(Addr, usize)>
+    pub(crate) fn receive(&mut self, buf: &mut [u8]) -> Option<(Addr, usize)>
         ensures within { IfSome result (λ r. r.1 ≤ length buf.new) }
         ensures stirs { IfSome result (λ _. self.new.quiet ≡ false) }
         ensures quiet { result ≡ None → self.new.quiet ≡ self.old.quiet }
@@ -122,7 +130,7 @@ impl<R: Clock + Drop> Link<R> {
     }
 
     /// Sends a datagram, and tells whether it went.
-    pub fn send(&mut self, to: Addr, bytes: &[u8]) -> bool {
+    pub(crate) fn send(&mut self, to: Addr, bytes: &[u8]) -> bool {
         match self.socket.send_to(bytes, socket_addr(to)) {
             Ok(len) => len == bytes.len(),
             Err(_) => false,
@@ -130,14 +138,14 @@ impl<R: Clock + Drop> Link<R> {
     }
 
     /// Notes that something came, so that there is no wait.
-    pub fn stir(&mut self)
+    pub(crate) fn stir(&mut self)
         ensures stirs { self.new ≡ record self.old { quiet = false } }
     {
         self.quiet = false;
     }
 
     /// Waits until something comes, ten milliseconds at most, where nothing came since the last call.
-    pub fn rest(&mut self)
+    pub(crate) fn rest(&mut self)
         ensures quiet { self.new.quiet ≡ true }
     {
         if self.quiet {

@@ -1,5 +1,5 @@
 //! Moments in milliseconds.
-ghost use Rattle.std.specs.Prelude.{◌≡◌, ℕ};
+ghost use Rattle.std.specs.Prelude.{◌≡◌, ℕ, IfOk};
 
 use std::io;
 use std::time::{Clock, Instant};
@@ -12,8 +12,10 @@ pub enum Moments<R> {
 }
 
 impl<R: Clock + Drop> Moments<R> {
-    /// Moments of a clock from now on.
-    pub fn real(clock: R) -> io::Result<Moments<R>> {
+    /// Moments of a clock from now on, which is moment 0.
+    pub fn real(clock: R) -> io::Result<Moments<R>>
+        ensures real { IfOk result (λ moments. (start : Instant) × (moments ≡ Moments.Real clock start 0)) }
+    {
         let start = Instant::now(&clock)?;
         Ok(Moments::Real {
             clock,
@@ -25,6 +27,8 @@ impl<R: Clock + Drop> Moments<R> {
     /// The moment now, or the one before where the clock fails.
     pub fn now(&mut self) -> u64
         ensures set { (moment : ℕ) → self.old ≡ Moments.Set moment → result ≡ moment }
+        ensures stays { (moment : ℕ) → self.old ≡ Moments.Set moment → self.new ≡ self.old }
+        ensures last { (clock : R) (start : Instant) (last : ℕ) → self.new ≡ Moments.Real clock start last → result ≡ last }
     {
         match self {
             Moments::Set(moment) => *moment,

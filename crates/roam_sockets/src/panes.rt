@@ -1,5 +1,5 @@
 //! The sockets of the panes, where their programs are reached.
-ghost use Rattle.std.specs.Prelude.{◌≡◌, ◌⊎◌, ◌≤◌, ◌<◌, length, IfOk, OnOk, IfSome, IfErr};
+ghost use Rattle.std.specs.Prelude.{◌≡◌, ◌⊎◌, ◌-◌, ◌≤◌, ◌<◌, length, slice_get, None, IfOk, OnOk, IfSome, IfErr};
 
 use mio::net::{UnixListener, UnixStream};
 use mio::{Interest, Registry, Token};
@@ -101,14 +101,14 @@ impl Pane {
 
 /// The sockets `p1` to `p9` of a folder, each of the pane of that number.
 #[derive(Drop)]
-pub struct Panes {
+pub(crate) struct Panes {
     all: Vec<Pane>,
 }
 
 impl Panes {
     /// Binds the sockets of a folder. `Bind` where one can't be bound, as where its file is there, `OutOfMemory`; those that were bound
     /// before are removed then.
-    pub fn bind<R: Files + Net>(
+    pub(crate) fn bind<R: Files + Net>(
         rt: &R,
         alloc: Global,
         registry: &Registry,
@@ -157,7 +157,7 @@ impl Panes {
 
     /// What the program of a pane wrote: how many bytes of `buf` it fills from the front. A peer is taken where there is none, and let go
     /// where it is gone.
-    pub fn read(&mut self, registry: &Registry, pane: u8, buf: &mut [u8]) -> Option<usize>
+    pub(crate) fn read(&mut self, registry: &Registry, pane: u8, buf: &mut [u8]) -> Option<usize>
         ensures some { IfSome result (λ n. 0 < n) }
         ensures within { IfSome result (λ n. n ≤ length buf.new) }
     {
@@ -167,7 +167,7 @@ impl Panes {
     }
 
     /// How many of the bytes the program of a pane took, 0 where none is there.
-    pub fn write(&mut self, registry: &Registry, pane: u8, bytes: &[u8]) -> usize
+    pub(crate) fn write(&mut self, registry: &Registry, pane: u8, bytes: &[u8]) -> usize
         ensures within { result ≤ length bytes.now }
     {
         let Some(pane) = self.get_mut(pane) else {
@@ -178,14 +178,18 @@ impl Panes {
     }
 
     /// Lets the peer of a pane go.
-    pub fn let_go(&mut self, pane: u8) {
-        if let Some(pane) = self.get_mut(pane) {
-            pane.peer = None;
+    pub(crate) fn let_go(&mut self, pane: u8)
+        ensures gone { 1 ≤ pane → IfSome (slice_get self.new.all.items (pane - 1)) (λ p. p.peer ≡ None) }
+        ensures count { length self.new.all.items ≡ length self.old.all.items }
+    {
+        let pane = usize::from(pane);
+        if 0 < pane && pane <= self.all.len() {
+            self.all[pane - 1].peer = None;
         }
     }
 
     /// Removes the files of the sockets.
-    pub fn remove(&mut self, files: &impl Files) {
+    pub(crate) fn remove(&self, files: &impl Files) {
         for pane in self.all.iter() {
             // A file that somebody removed before is no matter.
             let _ = remove_file(files, pane.path.as_str());

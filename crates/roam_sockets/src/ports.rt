@@ -1,16 +1,15 @@
 //! The ports of a server and of a client start over sockets. What they carried isn't told.
-ghost use Rattle.std.specs.Prelude.{◌≡◌, ◌⊎◌, ◌≤◌, true, false, length, IfOk, IfSome, IfErr};
+ghost use Rattle.std.specs.Prelude.{◌≡◌, ◌⊎◌, ◌-◌, ◌≤◌, ℕ, true, false, not, length, slice_get, None, IfOk, IfSome, IfErr};
 
 use crate::links::Link;
 use crate::moments::Moments;
 use crate::panes::Panes;
 use roam_cells::Fault;
-use roam_hub::{Addr, Server};
+use roam_hub::Addr;
 use roam_show::RunFault;
 use roam_turns::Ports;
 use std::alloc::Global;
 use std::fs::Files;
-use std::io;
 use std::io::Write;
 use std::net::Net;
 use std::time::Clock;
@@ -33,6 +32,7 @@ impl<R: Clock + Drop> ServerPorts<R> {
         moments: Moments<R>,
     ) -> Result<ServerPorts<R>, RunFault>
         ensures moments { IfOk result (λ ports. ports.link.moments ≡ moments) }
+        ensures port { IfOk result (λ ports. (port ≡ 0) ⊎ (ports.link.port ≡ port)) }
         ensures nine { IfOk result (λ ports. length ports.panes.all.items ≡ 9) }
         ensures faults { IfErr result (λ fault. (fault ≡ RunFault.Bind) ⊎ (fault ≡ RunFault.Core Fault.OutOfMemory)) }
     {
@@ -42,7 +42,9 @@ impl<R: Clock + Drop> ServerPorts<R> {
     }
 
     /// The port that it is bound to.
-    pub fn port(&self) -> io::Result<u16> {
+    pub fn port(&self) -> u16
+        ensures port { result ≡ self.now.link.port }
+    {
         self.link.port()
     }
 
@@ -53,13 +55,11 @@ impl<R: Clock + Drop> ServerPorts<R> {
         self.link.set_moment(moment);
     }
 
-    /// Lets the peers of panes that aren't there go.
-    pub fn let_go(&mut self, server: &Server) {
-        for pane in 1..10u8 {
-            if server.room(pane).is_none() {
-                self.panes.let_go(pane);
-            }
-        }
+    /// Lets the peer of a pane go, as where the pane isn't there any more.
+    pub fn let_go(&mut self, pane: u8)
+        ensures gone { 1 ≤ pane → IfSome (slice_get self.new.panes.all.items (pane - 1)) (λ p. p.peer ≡ None) }
+    {
+        self.panes.let_go(pane);
     }
 
     /// Waits until something comes, ten milliseconds at most, where nothing came since the last call.
@@ -70,13 +70,15 @@ impl<R: Clock + Drop> ServerPorts<R> {
     }
 
     /// Removes the files of the panes' sockets.
-    pub fn remove(&mut self, files: &impl Files) {
+    pub fn remove(&self, files: &impl Files) {
         self.panes.remove(files);
     }
 }
 
 impl<R: Clock + Drop> Ports for ServerPorts<R> {
-    fn now(&mut self) -> u64 {
+    fn now(&mut self) -> u64
+        ensures set { (moment : ℕ) → self.old.link.moments ≡ Moments.Set moment → result ≡ moment }
+    {
         self.link.now()
     }
 
@@ -102,7 +104,9 @@ impl<R: Clock + Drop> Ports for ServerPorts<R> {
         count
     }
 
-    fn show(&mut self, _bytes: &[u8]) -> bool {
+    fn show(&mut self, _bytes: &[u8]) -> bool
+        ensures none { result ≡ false }
+    {
         false
     }
 }
@@ -158,7 +162,9 @@ impl<R: Clock + Drop, W: Write + Drop> ClientPorts<R, W> {
 }
 
 impl<R: Clock + Drop, W: Write + Drop> Ports for ClientPorts<R, W> {
-    fn now(&mut self) -> u64 {
+    fn now(&mut self) -> u64
+        ensures set { (moment : ℕ) → self.old.link.moments ≡ Moments.Set moment → result ≡ moment }
+    {
         self.link.now()
     }
 
@@ -170,15 +176,21 @@ impl<R: Clock + Drop, W: Write + Drop> Ports for ClientPorts<R, W> {
         self.link.send(to, bytes)
     }
 
-    fn pane_in(&mut self, _pane: u8, _buf: &mut [u8]) -> Option<usize> {
+    fn pane_in(&mut self, _pane: u8, _buf: &mut [u8]) -> Option<usize>
+        ensures none { result ≡ None }
+    {
         None
     }
 
-    fn pane_out(&mut self, _pane: u8, _bytes: &[u8]) -> usize {
+    fn pane_out(&mut self, _pane: u8, _bytes: &[u8]) -> usize
+        ensures none { result ≡ 0 }
+    {
         0
     }
 
-    fn show(&mut self, bytes: &[u8]) -> bool {
+    fn show(&mut self, bytes: &[u8]) -> bool
+        ensures failed { self.new.failed ≡ not result }
+    {
         let shown = self.outer.write_all(bytes).is_ok() && self.outer.flush().is_ok();
         self.failed = !shown;
         shown

@@ -40,7 +40,11 @@ pub fn run_serve<R: Files + Net + Clock + AllocGlobal>(
     let mut ports = ServerPorts::bind(rt, alloc, serve.folder, serve.port, moments)?;
     for _ in 0..serve.turns {
         serve_turn(alloc, &mut server, &mut ports);
-        ports.let_go(&server);
+        for pane in 1..10u8 {
+            if server.room(pane).is_none() {
+                ports.let_go(pane);
+            }
+        }
         ports.rest();
     }
     ports.remove(rt);

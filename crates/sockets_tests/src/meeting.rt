@@ -99,7 +99,7 @@ fn meeting_of<'a>(rt: &'a HostRuntime, folder: &str) -> Result<Meeting<'a>, Fail
 fn a_byte_is_shown_and_a_key_is_read(rt: HostRuntime) -> Result<(), Fail> {
     create_dir(&rt, "panes")?;
     let mut meeting = meeting_of(&rt, "panes")?;
-    let to = loopback(meeting.server_ports.port()?);
+    let to = loopback(meeting.server_ports.port());
     let mut program = UnixStream::connect(&rt, "panes/p1")?;
     assert!(rt; program.write(b"a")? == 1);
     assert!(rt; meeting.meets(rt.alloc(), to, &mut program));

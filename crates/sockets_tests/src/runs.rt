@@ -58,7 +58,7 @@ fn a_port_is_bound_once(rt: HostRuntime) -> Result<(), Fail> {
     )?;
     let serve = Serve {
         folder: "second",
-        port: ports.port()?,
+        port: ports.port(),
         session: 1,
         turns: 3,
     };

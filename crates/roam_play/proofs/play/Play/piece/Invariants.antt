@@ -1,0 +1,13 @@
+use Rattle.std.proofs.Common.{◌≤◌, ◌+◌, take}
+use Rattle.roam_play.specs.Scripts.{Stage, IsOneLine}
+use Rattle.roam_play.specs.Played.{Fed, IsAt}
+use Rattle.roam_play.proofs.play.Play.piece.Given as goal
+
+-- the bytes so far were played
+abbrev pub invariant-loop-byte : goal.invariant-loop-byte
+invariant-loop-byte g l = record {
+  fed : (stage : Stage) → IsAt l.initial.self.world stage → IsOneLine l.initial.begun.items
+      → Fed stage l.initial.begun.items (take l.byte-index l.piece) l.begun.items (g.W.Write.contents l.initial.writer)
+      (g.W.Write.contents l.writer) l.self.world l.initial.self.lines l.self.lines;
+  most : l.self.lines ≤ l.initial.self.lines + l.byte-index;
+}

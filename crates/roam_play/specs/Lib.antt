@@ -1,0 +1,4 @@
+pub mod Replies
+pub mod Asked
+pub mod Scripts
+pub mod Played
