@@ -1,14 +1,17 @@
 //! `roam attach`: a client start round its socket and the outer terminal.
-ghost use Rattle.std.specs.Prelude.{◌≡◌, ◌⊎◌, ◌+◌, ℕ, IfErr};
+ghost use Rattle.std.specs.Prelude.{◌≡◌, ◌⊎◌, ◌+◌, ℕ, All, IfErr, IfOk};
+ghost use Rattle.roam_acts.specs.Acts.{IsInRange};
 
 use crate::keys::acts_of;
 use crate::links::loopback;
 use crate::moments::Moments;
 use crate::ports::ClientPorts;
+use roam_acts::Act;
 use roam_cells::Fault;
 use roam_hub::Client;
 use roam_show::RunFault;
 use roam_turns::{Outer, attach_turn};
+use std::alloc::Global;
 use std::fs;
 use std::fs::Files;
 use std::io::{ErrorKind, Write};
@@ -30,6 +33,43 @@ pub struct Attach<'a> {
     pub turns: u64,
 }
 
+// The acts of a file, one a line.
+fn acts_in<R: Files + AllocGlobal>(rt: &R, path: &str) -> Result<Vec<Act>, RunFault>
+    ensures faults { IfErr result (λ fault. (fault ≡ RunFault.Core Fault.OutOfMemory) ⊎ (fault ≡ RunFault.Read)
+        ⊎ ((k : ℕ) × (fault ≡ RunFault.Act (k + 1)))) }
+    ensures in_range { IfOk result (λ acts. All IsInRange acts.items) }
+{
+    match fs::read(rt, path) {
+        Ok(text) => acts_of(rt.alloc(), &text),
+        Err(error) if error.kind() == ErrorKind::OutOfMemory => {
+            Err(RunFault::Core(Fault::OutOfMemory))
+        }
+        Err(_) => Err(RunFault::Read),
+    }
+}
+
+// Takes the turns of a start, and waits where one brought nothing.
+fn follow<C: Clock + Drop, W: Write + Drop>(
+    alloc: Global,
+    attach: &Attach<'_>,
+    acts: &[Act],
+    client: &mut Client,
+    ports: &mut ClientPorts<C, W>,
+)
+    requires in_range { All IsInRange acts.now }
+{
+    let mut shown = Outer::new();
+    let to = loopback(attach.port);
+    let mut typed = 0usize;
+    for _ in 0..attach.turns {
+        if attach_turn(alloc, client, &mut shown, ports, to, acts.get(typed)) {
+            typed += 1;
+        } else {
+            ports.rest();
+        }
+    }
+}
+
 /// Follows a session and types the acts of a file, one a turn where it is taken: it takes the turns, waiting where one brought nothing,
 /// and paints what the start shows. `Read` where the file can't be read, `Act` where a line of it is no act, `Bind` where no port can be
 /// bound, `Write` where the outer terminal took not all of what was last shown, `OutOfMemory`.
@@ -42,36 +82,10 @@ pub fn run_attach<R: Files + Net + Clock + AllocGlobal, W: Write + Drop>(
         ⊎ ((k : ℕ) × (fault ≡ RunFault.Act (k + 1))) ⊎ (fault ≡ RunFault.Bind) ⊎ (fault ≡ RunFault.Write)) }
 {
     let alloc = rt.alloc();
-    let text = match fs::read(rt, attach.keys) {
-        Ok(text) => text,
-        Err(error) if error.kind() == ErrorKind::OutOfMemory => return Err(RunFault::Core(
-            Fault::OutOfMemory,
-        )),
-        Err(_) => return Err(RunFault::Read),
-    };
-    let acts = acts_of(alloc, &text)?;
+    let acts = acts_in(rt, attach.keys)?;
     let mut client = Client::new(alloc, attach.session, attach.client)?;
-    let Ok(moments) = Moments::real(rt) else {
-        return Err(RunFault::Bind);
-    };
-    let mut ports = ClientPorts::bind(rt, alloc, moments, outer)?;
-    let mut shown = Outer::new();
-    let to = loopback(attach.port);
-    let mut typed = 0usize;
-    for _ in 0..attach.turns {
-        if attach_turn(
-            alloc,
-            &mut client,
-            &mut shown,
-            &mut ports,
-            to,
-            acts.get(typed),
-        ) {
-            typed += 1;
-        } else {
-            ports.rest();
-        }
-    }
+    let mut ports = ClientPorts::bind(rt, alloc, Moments::real(rt), outer)?;
+    follow(alloc, attach, &acts, &mut client, &mut ports);
     if ports.has_failed() {
         return Err(RunFault::Write);
     }

@@ -1,5 +1,6 @@
 //! The sockets of the panes, where their programs are reached.
-ghost use Rattle.std.specs.Prelude.{◌≡◌, ◌⊎◌, ◌-◌, ◌≤◌, ◌<◌, length, slice_get, None, IfOk, OnOk, IfSome, IfErr};
+ghost use Rattle.std.specs.Prelude.{◌≡◌, ◌⊎◌, ◌-◌, ◌++◌, ◌≤◌, ◌<◌, [], ◌∷◌, length, map, slice_get, string_bytes, None, IfOk, OnOk, IfSome, IfErr, IsOkUnless};
+ghost use Rattle.roam_sockets.specs.Panes.{path_of, paths_of};
 
 use mio::net::{UnixListener, UnixStream};
 use mio::{Interest, Registry, Token};
@@ -30,6 +31,7 @@ impl Pane {
         folder: &str,
         number: u8,
     ) -> Result<Pane, RunFault>
+        ensures path { IfOk result (λ pane. string_bytes pane.path ≡ path_of folder.now number) }
         ensures faults { IfErr result (λ fault. (fault ≡ RunFault.Bind) ⊎ (fault ≡ RunFault.Core Fault.OutOfMemory)) }
     {
         let Ok(path) = format!(in alloc; "{folder}/p{number}") else {
@@ -115,6 +117,7 @@ impl Panes {
         folder: &str,
     ) -> Result<Panes, RunFault>
         ensures nine { IfOk result (λ panes. length panes.all.items ≡ 9) }
+        ensures paths { IfOk result (λ panes. map (λ pane. string_bytes pane.path) panes.all.items ≡ paths_of folder.now 9) }
         ensures faults { IfErr result (λ fault. (fault ≡ RunFault.Bind) ⊎ (fault ≡ RunFault.Core Fault.OutOfMemory)) }
     {
         let Ok(all) = Vec::with_capacity(alloc, PANES) else {
@@ -139,14 +142,21 @@ impl Panes {
     ) -> Result<(), RunFault>
         requires empty { length self.old.all.items ≡ 0 }
         ensures nine { OnOk result (length self.new.all.items ≡ 9) }
+        ensures paths { OnOk result (map (λ pane. string_bytes pane.path) self.new.all.items ≡ paths_of folder.now 9) }
         ensures faults { IfErr result (λ fault. (fault ≡ RunFault.Bind) ⊎ (fault ≡ RunFault.Core Fault.OutOfMemory)) }
     {
         for number in 1..10u8 {
             let pane = Pane::bind(rt, alloc, registry, folder, number)?;
-            if self.all.push(pane).is_err() {
-                return Err(RunFault::Core(Fault::OutOfMemory));
-            }
+            self.add(pane)?;
         }
+        Ok(())
+    }
+
+    fn add(&mut self, pane: Pane) -> Result<(), Fault>
+        ensures items { OnOk result (self.new.all.items ≡ self.old.all.items ++ pane ∷ []) }
+        ensures fault { IsOkUnless result Fault.OutOfMemory }
+    {
+        self.all.push(pane)?;
         Ok(())
     }
 

@@ -1,5 +1,6 @@
 //! The ports of a server and of a client start over sockets. What they carried isn't told.
-ghost use Rattle.std.specs.Prelude.{◌≡◌, ◌⊎◌, ◌-◌, ◌≤◌, ℕ, true, false, not, length, slice_get, None, IfOk, IfSome, IfErr};
+ghost use Rattle.std.specs.Prelude.{◌≡◌, ◌⊎◌, ◌-◌, ◌<◌, ◌≤◌, ℕ, true, false, not, length, map, slice_get, string_bytes, None, IfOk, IfSome, IfErr};
+ghost use Rattle.roam_sockets.specs.Panes.{paths_of};
 
 use crate::links::Link;
 use crate::moments::Moments;
@@ -34,6 +35,7 @@ impl<R: Clock + Drop> ServerPorts<R> {
         ensures moments { IfOk result (λ ports. ports.link.moments ≡ moments) }
         ensures port { IfOk result (λ ports. (port ≡ 0) ⊎ (ports.link.port ≡ port)) }
         ensures nine { IfOk result (λ ports. length ports.panes.all.items ≡ 9) }
+        ensures paths { IfOk result (λ ports. map (λ pane. string_bytes pane.path) ports.panes.all.items ≡ paths_of folder.now 9) }
         ensures faults { IfErr result (λ fault. (fault ≡ RunFault.Bind) ⊎ (fault ≡ RunFault.Core Fault.OutOfMemory)) }
     {
         let link = Link::bind(rt, alloc, port, moments)?;
@@ -65,6 +67,7 @@ impl<R: Clock + Drop> ServerPorts<R> {
     /// Waits until something comes, ten milliseconds at most, where nothing came since the last call.
     pub fn rest(&mut self)
         ensures quiet { self.new.link.quiet ≡ true }
+        ensures panes { self.new.panes ≡ self.old.panes }
     {
         self.link.rest();
     }
@@ -90,7 +93,10 @@ impl<R: Clock + Drop> Ports for ServerPorts<R> {
         self.link.send(to, bytes)
     }
 
-    fn pane_in(&mut self, pane: u8, buf: &mut [u8]) -> Option<usize> {
+    fn pane_in(&mut self, pane: u8, buf: &mut [u8]) -> Option<usize>
+        ensures some { IfSome result (λ n. 0 < n) }
+        ensures within { IfSome result (λ n. n ≤ length buf.new) }
+    {
         let count = self.panes.read(self.link.registry(), pane, buf)?;
         self.link.stir();
         Some(count)
@@ -156,6 +162,8 @@ impl<R: Clock + Drop, W: Write + Drop> ClientPorts<R, W> {
     /// Waits until something comes, ten milliseconds at most, where nothing came since the last call.
     pub fn rest(&mut self)
         ensures quiet { self.new.link.quiet ≡ true }
+        ensures failed { self.new.failed ≡ self.old.failed }
+        ensures outer { self.new.outer ≡ self.old.outer }
     {
         self.link.rest();
     }

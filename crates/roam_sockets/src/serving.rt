@@ -7,6 +7,7 @@ use roam_cells::Fault;
 use roam_hub::Server;
 use roam_show::RunFault;
 use roam_turns::serve_turn;
+use std::alloc::Global;
 use std::fs::Files;
 use std::net::Net;
 use std::time::Clock;
@@ -24,6 +25,29 @@ pub struct Serve<'a> {
     pub turns: u64,
 }
 
+// Lets the peers of panes that aren't there go.
+fn let_go<C: Clock + Drop>(server: &Server, ports: &mut ServerPorts<C>) {
+    for pane in 1..10u8 {
+        if server.room(pane).is_none() {
+            ports.let_go(pane);
+        }
+    }
+}
+
+// Takes the turns of a server, and waits where one brought nothing.
+fn serve_turns<C: Clock + Drop>(
+    alloc: Global,
+    turns: u64,
+    server: &mut Server,
+    ports: &mut ServerPorts<C>,
+) {
+    for _ in 0..turns {
+        serve_turn(alloc, server, ports);
+        let_go(server, ports);
+        ports.rest();
+    }
+}
+
 /// Serves a session of 24 rows and 80 columns: binds the port and the sockets `p1` to `p9` of the folder, takes the turns, waiting where
 /// one brought nothing, and removes the sockets' files. `Bind` where a name can't be bound, and nothing stays then; `OutOfMemory`.
 pub fn run_serve<R: Files + Net + Clock + AllocGlobal>(
@@ -34,19 +58,8 @@ pub fn run_serve<R: Files + Net + Clock + AllocGlobal>(
 {
     let alloc = rt.alloc();
     let mut server = Server::new(alloc, serve.session, 24, 80)?;
-    let Ok(moments) = Moments::real(rt) else {
-        return Err(RunFault::Bind);
-    };
-    let mut ports = ServerPorts::bind(rt, alloc, serve.folder, serve.port, moments)?;
-    for _ in 0..serve.turns {
-        serve_turn(alloc, &mut server, &mut ports);
-        for pane in 1..10u8 {
-            if server.room(pane).is_none() {
-                ports.let_go(pane);
-            }
-        }
-        ports.rest();
-    }
+    let mut ports = ServerPorts::bind(rt, alloc, serve.folder, serve.port, Moments::real(rt))?;
+    serve_turns(alloc, serve.turns, &mut server, &mut ports);
     ports.remove(rt);
     Ok(())
 }

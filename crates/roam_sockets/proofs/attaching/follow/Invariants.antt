@@ -1,5 +1,5 @@
 use Rattle.roam_turns.specs.Painting.{IsBehind}
-use Rattle.roam_sockets.proofs.attaching.run_attach.Given as goal
+use Rattle.roam_sockets.proofs.attaching.follow.Given as goal
 
 abbrev pub invariant-loop : goal.invariant-loop
 invariant-loop g l = IsBehind l.shown l.client.receiver.newest.number l.client.receiver.newest.state
