@@ -8,9 +8,10 @@ proved = $(patsubst %,crates/%/out/proved,$(1))
 
 .PHONY: all test bench clean
 
-# As many crates side by side as there are processors. Each prints a line as it is proved. Those that stand on a common crate wait for one
-# another: rt keeps what a crate stands on to itself while it proves the crate.
+# Each crate prints a line as it is proved. From nothing, as many are proved side by side as there are processors; later those that
+# changed, and those above them.
 all:
+	@if ! ls crates/*/out/proved > /dev/null 2>&1; then tools/prove_all; fi
 	@$(MAKE) -s --no-print-directory -j "$$(nproc)" crates/roam/out/built
 
 # A crate is proved once those are that it stands on.
