@@ -1,6 +1,5 @@
 -- What is asked of a world, told by what its parts stand for.
-use Rattle.std.proofs.Common.{◌≡◌, ℕ, List, [], length, codes, Option, Some, None, min, take, drop, arith, append-nil, refl, sym, subst, ap, ◌++◌, ◌∙◌, append_assoc}
-use Rattle.std.proofs.Math.Seq.{take-length, drop-length}
+use Rattle.std.proofs.Common.{◌≡◌, ℕ, List, length, codes, Option, Some, None, refl, sym, subst, ap, ◌++◌, ◌∙◌, append_assoc}
 use Rattle.std.specs.Option.{option_map}
 use Rattle.std.specs.Prelude.{Ok, Err, OnOk, Result, unwrap_or}
 use Rattle.std.specs.Fmt.{decimal}
@@ -15,6 +14,7 @@ use Rattle.roam_simulation.specs.Worlds.{Fills}
 use Rattle.roam_play.specs.Asked.{bytes_line, slot_text, waiting_text}
 use Rattle.roam_play.specs.Replies.{fault_line}
 use Rattle.roam_show.specs.ShowText.{screen_text}
+use Rattle.roam_show.proofs.Copies.{whole_copy}
 
 pub ok_then : {A E P Q : Type 0} (r : Result A E) → OnOk r P → (P → Q) → OnOk r Q
 ok_then (Ok a) h f = f h
@@ -38,15 +38,6 @@ filled session clients (Some u) (Some id) v e h =
 pub none_waits : (o : Option (List ℕ)) (fault : Fault) → Some fault ≡ none_refused o → waiting_text o ≡ fault_line fault
 none_waits None fault e = let same : fault ≡ NoPane = cc in ap fault_line (sym same)
 none_waits (Some waiting) fault e = absurd cc
-
-whole_copy : (n len : ℕ) (waiting old new : List ℕ) → len ≡ length waiting → length old ≡ len → n ≡ min (length waiting) (length old)
-    → new ≡ take n waiting ++ drop n old → waiting ≡ new
-whole_copy n len waiting old new all long count is =
-    let same : n ≡ length waiting = omega arith in
-    let gone : n ≡ length old = omega arith in
-    let front : take n waiting ≡ waiting = ap (λ (k : ℕ). take k waiting) same ∙ take-length waiting in
-    let back : drop n old ≡ [] = ap (λ (k : ℕ). drop k old) gone ∙ drop-length old in
-    sym (is ∙ (λ i. front i ++ back i) ∙ append-nil waiting)
 
 -- all bytes were copied
 pub all_wait : (o : Option (List ℕ)) (n len : ℕ) (old new : List ℕ) → len ≡ unwrap_or (option_map (λ (waiting : List ℕ). length waiting)
