@@ -25,11 +25,12 @@ crates/$(call name,$(1))/out/proved: crates.txt $(call sources,$(call name,$(1))
 endef
 $(foreach line,$(filter-out roam:%,$(below)),$(eval $(call crate,$(line))))
 
-# Only a proved program is built. It is run once, with --help; the stamp comes last, so that a broken build is never taken for one.
+# Only a proved program is built. It is run once, with --help; the stamp comes last, so that a broken build is never taken for one, and has
+# the time of the beginning.
 crates/roam/out/built: crates.txt $(call sources,roam) $(call proved,$(libraries))
-	@mkdir -p crates/roam/out
+	@mkdir -p crates/roam/out && touch crates/roam/out/begun
 	@cd crates/roam && if ! rt run -- --help > out/log 2>&1; then cat out/log >&2; exit 1; fi
-	@touch $@
+	@mv crates/roam/out/begun $@
 	@echo "roam: the program is proved and built"
 
 # Every proof from nothing, the must-fail edits, the tests and the programs.
