@@ -111,6 +111,37 @@ fn text_of(alloc: Global, term: &Term, report: &[u8]) -> Result<String, Fault>
     Ok(text)
 }
 
+// Feeds a fresh terminal with all that the reader gives, and tells the text of its screen and of what it answered.
+fn text_after<R: Read>(alloc: Global, term: &mut Term, reader: &mut R) -> Result<String, RunFault>
+    requires waiting { term.old.waiting ≡ [] }
+    ensures text { IfOk result (λ text. (log : List ℕ) × Consumes (R.remaining reader.old) (R.remaining reader.new) log
+        × IsAtEnd (R.remaining reader.new)
+        × ((rows cols : ℕ) → Shows term.old rows cols 500 [] → string_bytes text ≡ show_text rows cols log)) }
+    ensures err { IfErr result (λ e. (e ≡ RunFault.Read) ⊎ (e ≡ RunFault.Core Fault.OutOfMemory)) }
+{
+    nothing_read_answers_nothing();
+    let mut report = Vec::new(alloc);
+    feed_all(alloc, term, &mut report, reader)?;
+    Ok(text_of(alloc, term, &report)?)
+}
+
+// The text for all bytes of a reader.
+fn text_shown<R: Read>(
+    alloc: Global,
+    rows: u16,
+    cols: u16,
+    reader: &mut R,
+) -> Result<String, RunFault>
+    ensures text { IfOk result (λ text. (log : List ℕ) × Consumes (R.remaining reader.old) (R.remaining reader.new) log
+        × IsAtEnd (R.remaining reader.new) × (string_bytes text ≡ show_text rows cols log)) }
+    ensures size { OnOk result (IsTermSize rows cols 500) }
+    ensures bad_size { IsErrOf result (RunFault.Core Fault.BadSize) ↔ (¬ IsTermSize rows cols 500) }
+    ensures faults { (fault : Fault) → IsErrOf result (RunFault.Core fault) → (fault ≡ Fault.BadSize) ⊎ (fault ≡ Fault.OutOfMemory) }
+{
+    let mut term = Term::new(alloc, rows, cols, MOST_LINES)?;
+    text_after(alloc, &mut term, reader)
+}
+
 /// Feeds a terminal of this size with all that the reader gives, and writes its screen, row by row between bars, its cursor,
 /// and what it answered in hexadecimal. Refuses another size than 2 to 100 rows and 4 to 250 columns, and want of memory; a
 /// reader that fails, or that hasn't ended after 16,777,216 reads, is `Read`; a writer that fails is `Write`.
@@ -131,11 +162,7 @@ pub fn run_show<R: Read, W: Write>(
     ensures faults { (fault : Fault) → IsErrOf result (RunFault.Core fault) → (fault ≡ Fault.BadSize) ⊎ (fault ≡ Fault.OutOfMemory) }
     ensures unwritten { IfErr result (λ e. e ≢ RunFault.Write → Keeps (W.contents writer.old) (W.contents writer.new)) }
 {
-    let mut term = Term::new(alloc, rows, cols, MOST_LINES)?;
-    nothing_read_answers_nothing();
-    let mut report = Vec::new(alloc);
-    feed_all(alloc, &mut term, &mut report, reader)?;
-    let text = text_of(alloc, &term, &report)?;
+    let text = text_shown(alloc, rows, cols, reader)?;
     if writer.write_all(text.as_bytes()).is_err() {
         return Err(RunFault::Write);
     }
