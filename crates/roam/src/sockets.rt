@@ -1,88 +1,54 @@
 //! The words of `roam serve` and `roam attach`.
-use crate::words::Refusal;
+use crate::words::{Refusal, option, small_number};
 use clap::{Arg, ArgMatches, Command, value_parser};
 use roam_script::id;
 use roam_sockets::{Attach, Serve};
 use std::alloc::{AllocError, Global};
 
-fn port<'a>(alloc: Global, help: &'a str) -> Arg<'a> {
-    Arg::new(alloc, "port")
-        .long("port")
-        .value_name("P")
-        .help(help)
-        .required(true)
-        .value_parser(value_parser!(u16))
-}
-
 fn session<'a>(alloc: Global) -> Arg<'a> {
-    Arg::new(alloc, "session")
-        .long("session")
-        .value_name("H")
-        .help(
-            "The session's id, 1 to 16 hexadecimal digits; each run of serve needs one of its own, as 5e55",
-        )
-        .required(true)
+    let help =
+        "The session's id, 1 to 16 hexadecimal digits; each run of serve needs one of its own, as 5e55";
+    option(alloc, "session", "H", help)
 }
 
 fn turns<'a>(alloc: Global) -> Arg<'a> {
-    Arg::new(alloc, "turns")
-        .long("turns")
-        .value_name("N")
-        .help(
-            "How many turns the run takes; one that brings nothing waits up to 10 milliseconds, so 100000 idle ones are some 17 minutes",
-        )
-        .required(true)
-        .value_parser(value_parser!(u64))
+    let help =
+        "How many turns the run takes; one that brings nothing waits up to 10 milliseconds, so 100000 idle ones are some 17 minutes";
+    option(alloc, "turns", "N", help).value_parser(value_parser!(u64))
 }
 
 /// The subcommand `serve`.
 pub fn serve_command<'a>(alloc: Global) -> Result<Command<'a>, AllocError> {
-    let dir = Arg::new(alloc, "dir")
-        .long("dir")
-        .value_name("D")
-        .help(
-            "The folder in which the panes' sockets p1 to p9 are made, and removed at the end, as /tmp/roam",
-        )
-        .required(true);
+    let dir =
+        "The folder in which the panes' sockets p1 to p9 are made, and removed at the end, as /tmp/roam";
+    let port = "The UDP port on 127.0.0.1 at which clients reach it, as 4000";
     Command::new(alloc, "serve")
         .about("Serves a session of 24 rows and 80 columns, whose panes are reached at sockets")
         .after_help(
             "Example: roam serve --dir /tmp/roam --port 4000 --session 5e55 --turns 1000000",
         )
-        .arg(dir)?
-        .arg(port(
-            alloc,
-            "The UDP port on 127.0.0.1 at which clients reach it, as 4000",
-        ))?
+        .arg(option(alloc, "dir", "D", dir))?
+        .arg(small_number(alloc, "port", "P", port))?
         .arg(session(alloc))?
         .arg(turns(alloc))
 }
 
 /// The subcommand `attach`.
 pub fn attach_command<'a>(alloc: Global) -> Result<Command<'a>, AllocError> {
-    let client = Arg::new(alloc, "client")
-        .long("client")
-        .value_name("H")
-        .help(
-            "The id of this start of a client, 1 to 16 hexadecimal digits; each start needs one of its own, as c1",
-        )
-        .required(true);
-    let keys = Arg::new(alloc, "keys")
-        .long("keys")
-        .value_name("PATH")
-        .help(
-            "A file with the acts to type, one a line, as `char 61`, `key return` or `split right`",
-        )
-        .required(true);
+    let port = "The UDP port on 127.0.0.1 of the server, as 4000";
+    let client =
+        "The id of this start of a client, 1 to 16 hexadecimal digits; each start needs one of its own, as c1";
+    let keys =
+        "A file with the acts to type, one a line, as `char 61`, `key return` or `split right`";
     Command::new(alloc, "attach")
         .about("Follows a session and paints it on standard output")
         .after_help(
             "Example: roam attach --port 4000 --session 5e55 --client c1 --keys keys --turns 1000",
         )
-        .arg(port(alloc, "The UDP port on 127.0.0.1 of the server, as 4000"))?
+        .arg(small_number(alloc, "port", "P", port))?
         .arg(session(alloc))?
-        .arg(client)?
-        .arg(keys)?
+        .arg(option(alloc, "client", "H", client))?
+        .arg(option(alloc, "keys", "PATH", keys))?
         .arg(turns(alloc))
 }
 

@@ -65,23 +65,25 @@ pub enum Refusal {
     Clap(Error),
 }
 
+/// An option that has to be given, with a word.
+pub fn option<'a>(alloc: Global, name: &'a str, value: &'a str, help: &'a str) -> Arg<'a> {
+    Arg::new(alloc, name)
+        .long(name)
+        .value_name(value)
+        .help(help)
+        .required(true)
+}
+
+/// An option that has to be given, with a number up to 65,535.
+pub fn small_number<'a>(alloc: Global, name: &'a str, value: &'a str, help: &'a str) -> Arg<'a> {
+    option(alloc, name, value, help).value_parser(value_parser!(u16))
+}
+
 fn show_command<'a>(alloc: Global) -> Result<Command<'a>, AllocError> {
-    let rows = Arg::new(alloc, "rows")
-        .long("rows")
-        .value_name("R")
-        .help("Rows of the screen, 2 to 100")
-        .required(true)
-        .value_parser(value_parser!(u16));
-    let cols = Arg::new(alloc, "cols")
-        .long("cols")
-        .value_name("C")
-        .help("Columns of the screen, 4 to 250")
-        .required(true)
-        .value_parser(value_parser!(u16));
     Command::new(alloc, "show")
         .about("Feeds standard input to a terminal and prints the screen that it makes")
-        .arg(rows)?
-        .arg(cols)
+        .arg(small_number(alloc, "rows", "R", "Rows of the screen, 2 to 100"))?
+        .arg(small_number(alloc, "cols", "C", "Columns of the screen, 4 to 250"))
 }
 
 fn world_command<'a>(alloc: Global) -> Command<'a> {
