@@ -9,7 +9,7 @@ rounds=${2:-5}
 folder=$(mktemp -d)
 trap 'rm -rf "$folder"' EXIT
 
-(cd "$here/../crates/face_speed" && rt run >"$folder/build" 2>&1) || { cat "$folder/build" >&2; exit 1; }
+make -s -C "$here/.." crates/face_speed/out/built >"$folder/build" 2>&1 || { cat "$folder/build" >&2; exit 1; }
 for size in "24 80" "100 250"; do
   for _ in $(seq "$rounds"); do
     # shellcheck disable=SC2086

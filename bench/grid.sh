@@ -9,7 +9,7 @@ rounds=${2:-3}
 folder=$(mktemp -d)
 trap 'rm -rf "$folder"' EXIT
 
-(cd "$here/../crates/grid_speed" && rt run >"$folder/build" 2>&1) || { cat "$folder/build" >&2; exit 1; }
+make -s -C "$here/.." crates/grid_speed/out/built >"$folder/build" 2>&1 || { cat "$folder/build" >&2; exit 1; }
 for _ in $(seq "$rounds"); do
   "$here/../crates/grid_speed/out/grid_speed" "$millions"
 done | awk '

@@ -11,7 +11,7 @@ folder=$(mktemp -d)
 trap 'rm -rf "$folder"' EXIT
 
 python3 "$here/inputs.py" "$folder" "$megabytes" prose log
-(cd "$here/../crates/term_speed" && rt run >"$folder/build" 2>&1) || { cat "$folder/build" >&2; exit 1; }
+make -s -C "$here/.." crates/term_speed/out/built >"$folder/build" 2>&1 || { cat "$folder/build" >&2; exit 1; }
 printf '%-12s %-6s %10s %10s %8s\n' size input 'no lines' '500 lines' ratio
 for size in "24 80" "100 250"; do
   for input in prose log; do

@@ -10,7 +10,7 @@ rounds=${2:-5}
 folder=$(mktemp -d)
 trap 'rm -rf "$folder"' EXIT
 
-(cd "$here/../crates/hub_speed" && rt run >"$folder/build" 2>&1) || { cat "$folder/build" >&2; exit 1; }
+make -s -C "$here/.." crates/hub_speed/out/built >"$folder/build" 2>&1 || { cat "$folder/build" >&2; exit 1; }
 program=$here/../crates/hub_speed/out/hub_speed
 printf '%-12s %8s %8s %8s %8s %8s %12s\n' microseconds copy idle '64 idle' row key 'bytes a key'
 for size in "24 80" "100 250"; do

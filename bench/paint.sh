@@ -10,7 +10,7 @@ rounds=${2:-5}
 folder=$(mktemp -d)
 trap 'rm -rf "$folder"' EXIT
 
-(cd "$here/../crates/paint_speed" && rt run >"$folder/build" 2>&1) || { cat "$folder/build" >&2; exit 1; }
+make -s -C "$here/.." crates/paint_speed/out/built >"$folder/build" 2>&1 || { cat "$folder/build" >&2; exit 1; }
 cc -O2 -o "$folder/compare" "$here/paint_compare.c"
 for size in "24 80" "100 250"; do
   for _ in $(seq "$rounds"); do

@@ -9,7 +9,7 @@ rounds=${2:-5}
 folder=$(mktemp -d)
 trap 'rm -rf "$folder"' EXIT
 
-(cd "$here/../crates/session_speed" && rt run >"$folder/build" 2>&1) || { cat "$folder/build" >&2; exit 1; }
+make -s -C "$here/.." crates/session_speed/out/built >"$folder/build" 2>&1 || { cat "$folder/build" >&2; exit 1; }
 printf '%-12s %10s %10s %10s %10s %10s\n' microseconds copy byte 'one pane' 'nine panes' split
 for size in "24 80" "100 250"; do
   for _ in $(seq "$rounds"); do

@@ -12,7 +12,7 @@ trap 'rm -rf "$folder"' EXIT
 
 cc -O2 -o "$folder/table" "$here/text_table.c"
 python3 "$here/inputs.py" "$folder" "$megabytes" prose colours cursor mixed
-(cd "$here/../crates/text_speed" && rt run >"$folder/build" 2>&1) || { cat "$folder/build" >&2; exit 1; }
+make -s -C "$here/.." crates/text_speed/out/built >"$folder/build" 2>&1 || { cat "$folder/build" >&2; exit 1; }
 program=$here/../crates/text_speed/out/text_speed
 
 printf '%-8s %10s %10s %10s %15s %11s\n' input table dispatch next dispatch/table next/table

@@ -9,7 +9,7 @@ rounds=${2:-5}
 folder=$(mktemp -d)
 trap 'rm -rf "$folder"' EXIT
 
-(cd "$here/../crates/turns_speed" && rt run >"$folder/build" 2>&1) || { cat "$folder/build" >&2; exit 1; }
+make -s -C "$here/.." crates/turns_speed/out/built >"$folder/build" 2>&1 || { cat "$folder/build" >&2; exit 1; }
 printf '%14s %14s %14s %14s\n' 'idle server' 'idle client' 'nine busy' 'bytes a turn'
 for _ in $(seq "$rounds"); do
   "$here/../crates/turns_speed/out/turns_speed" "$times"

@@ -10,7 +10,7 @@ folder=$(mktemp -d)
 trap 'rm -rf "$folder"' EXIT
 
 cc -O2 -o "$folder/cells_compare" "$here/cells_compare.c"
-(cd "$here/../crates/update_speed" && rt run >"$folder/build" 2>&1) || { cat "$folder/build" >&2; exit 1; }
+make -s -C "$here/.." crates/update_speed/out/built >"$folder/build" 2>&1 || { cat "$folder/build" >&2; exit 1; }
 printf '%-10s %10s %10s %10s %10s %14s\n' 'ns a cell' memcmp equal row other equal/memcmp
 for size in "24 80" "100 250"; do
   # shellcheck disable=SC2086

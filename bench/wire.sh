@@ -9,7 +9,7 @@ rounds=${2:-5}
 folder=$(mktemp -d)
 trap 'rm -rf "$folder"' EXIT
 
-(cd "$here/../crates/wire_speed" && rt run >"$folder/build" 2>&1) || { cat "$folder/build" >&2; exit 1; }
+make -s -C "$here/.." crates/wire_speed/out/built >"$folder/build" 2>&1 || { cat "$folder/build" >&2; exit 1; }
 for _ in $(seq "$rounds"); do
   "$here/../crates/wire_speed/out/wire_speed" "$times"
 done | awk '
