@@ -400,13 +400,22 @@ fn stays_whole(
 fn sizes_outside_the_limits_are_refused(rt: HostRuntime) -> Result<(), Fail> {
     let alloc = rt.alloc();
     let mut term = made(alloc, &CASES[1])?;
-    for (rows, cols) in [(1, 8), (101, 8), (2, 3), (2, 251), (0, 0)] {
-        assert!(rt; refuses(alloc, &mut term, rows, cols));
-    }
-    assert!(rt; shows(alloc, &term, &CASES[1])?);
-    assert!(rt; fitted(alloc, &term, 3, 9)? == (3, 9, 500));
-    assert!(rt; shows(alloc, &term, &CASES[1])?);
+    assert!(rt; keeps_its_size(alloc, &mut term)?);
     Ok(())
+}
+
+// Shows the same after each refused size, and after a fit.
+fn keeps_its_size(alloc: Global, term: &mut Term) -> Result<bool, Fault> {
+    for (rows, cols) in [(1, 8), (101, 8), (2, 3), (2, 251), (0, 0)] {
+        if !refuses(alloc, term, rows, cols) {
+            return Ok(false);
+        }
+    }
+    Ok(
+        shows(alloc, term, &CASES[1])?
+            && fitted(alloc, term, 3, 9)? == (3, 9, 500)
+            && shows(alloc, term, &CASES[1])?,
+    )
 }
 
 fn refuses(alloc: Global, term: &mut Term, rows: u16, cols: u16) -> bool {

@@ -37,19 +37,30 @@ impl Case {
     }
 }
 
-// A letter in each row, and where columns are cut a wide character across the edge; then the cursor in its row.
+// A character at a place, from row and column 1.
+fn put(alloc: Global, term: &mut Term, row: u16, col: u16, c: char) -> Result<(), Fail> {
+    let text = format!(in alloc; "\x1B[{row};{col}H{c}")?;
+    term.feed(text.as_bytes())?;
+    Ok(())
+}
+
+// A row's letter, and where columns are cut a wide character across the edge.
+fn lay_row(alloc: Global, term: &mut Term, case: &Case, row: u16) -> Result<(), Fail> {
+    let place = row.saturating_add(1);
+    put(alloc, term, place, 1, case.letter(row))?;
+    if case.new.1 < case.old.1 {
+        put(alloc, term, place, case.new.1, '\u{4E2D}')?;
+    }
+    Ok(())
+}
+
+// Each row; then the cursor in its row.
 fn lay(alloc: Global, term: &mut Term, case: Case) -> Result<(), Fail> {
     if case.alternate {
         term.feed(b"\x1B[?1047h")?;
     }
     for row in 0..case.old.0 {
-        let place = row.saturating_add(1);
-        let line = format!(in alloc; "\x1B[{place};1H{}", case.letter(row))?;
-        term.feed(line.as_bytes())?;
-        if case.new.1 < case.old.1 {
-            let cut = format!(in alloc; "\x1B[{place};{}H\u{4E2D}", case.new.1)?;
-            term.feed(cut.as_bytes())?;
-        }
+        lay_row(alloc, term, &case, row)?;
     }
     let cursor = format!(in alloc; "\x1B[{};1H", case.row.saturating_add(1))?;
     term.feed(cursor.as_bytes())?;
