@@ -1,7 +1,8 @@
 # `make` proves what the program stands on and builds it; `make test` is the whole gate; `make bench` runs the benchmarks.
 # All need the kit's `rt` on the PATH; the benchmarks a C compiler and Python too.
-# A word a crate, those below it first: NAME:DEP:DEP.
-crates := $(shell tools/crates_below | tr ' ' ':')
+# What one goal stands on, or all: a word a crate, those below it first, NAME:DEP:DEP.
+goal := $(patsubst crates/%/out/built,%,$(filter crates/%/out/built,$(MAKECMDGOALS)))
+crates := $(shell tools/crates_below $(if $(word 2,$(MAKECMDGOALS)),,$(goal)) | tr ' ' ':')
 name = $(firstword $(subst :, ,$(1)))
 deps = $(wordlist 2,99,$(subst :, ,$(1)))
 files := $(shell find crates/*/src crates/*/specs crates/*/proofs -type f)
