@@ -1,55 +1,82 @@
 //! The words of `roam serve` and `roam attach`.
-use crate::words::{Refusal, option, small_number};
-use clap::{Arg, ArgMatches, Command, value_parser};
+use crate::words::{Needed, Reads, Refusal, with_options};
+use clap::{ArgMatches, Command};
 use roam_script::id;
 use roam_sockets::{Attach, Serve};
 use std::alloc::{AllocError, Global};
 
-fn session<'a>(alloc: Global) -> Arg<'a> {
-    let help =
-        "The session's id, 1 to 16 hexadecimal digits; each run of serve needs one of its own, as 5e55";
-    option(alloc, "session", "H", help)
-}
+const SESSION: Needed<'static> = Needed {
+    name: "session",
+    value: "H",
+    help: "The session's id, 1 to 16 hexadecimal digits; each run of serve needs one of its own, as 5e55",
+    reads: Reads::Word,
+};
 
-fn turns<'a>(alloc: Global) -> Arg<'a> {
-    let help =
-        "How many turns the run takes; one that brings nothing waits up to 10 milliseconds, so 100000 idle ones are some 17 minutes";
-    option(alloc, "turns", "N", help).value_parser(value_parser!(u64))
-}
+const TURNS: Needed<'static> = Needed {
+    name: "turns",
+    value: "N",
+    help: "How many turns the run takes; one that brings nothing waits up to 10 milliseconds, so 100000 idle ones are some 17 minutes",
+    reads: Reads::Large,
+};
+
+static SERVE: [Needed<'static>; 4] = [
+    Needed {
+        name: "dir",
+        value: "D",
+        help: "The folder in which the panes' sockets p1 to p9 are made, and removed at the end, as /tmp/roam",
+        reads: Reads::Word,
+    },
+    Needed {
+        name: "port",
+        value: "P",
+        help: "The UDP port on 127.0.0.1 at which clients reach it, as 4000",
+        reads: Reads::Small,
+    },
+    SESSION,
+    TURNS,
+];
+
+static ATTACH: [Needed<'static>; 5] = [
+    Needed {
+        name: "port",
+        value: "P",
+        help: "The UDP port on 127.0.0.1 of the server, as 4000",
+        reads: Reads::Small,
+    },
+    SESSION,
+    Needed {
+        name: "client",
+        value: "H",
+        help: "The id of this start of a client, 1 to 16 hexadecimal digits; each start needs one of its own, as c1",
+        reads: Reads::Word,
+    },
+    Needed {
+        name: "keys",
+        value: "PATH",
+        help: "A file with the acts to type, one a line, as `char 61`, `key return` or `split right`",
+        reads: Reads::Word,
+    },
+    TURNS,
+];
 
 /// The subcommand `serve`.
 pub fn serve_command<'a>(alloc: Global) -> Result<Command<'a>, AllocError> {
-    let dir =
-        "The folder in which the panes' sockets p1 to p9 are made, and removed at the end, as /tmp/roam";
-    let port = "The UDP port on 127.0.0.1 at which clients reach it, as 4000";
-    Command::new(alloc, "serve")
+    let command = Command::new(alloc, "serve")
         .about("Serves a session of 24 rows and 80 columns, whose panes are reached at sockets")
         .after_help(
             "Example: roam serve --dir /tmp/roam --port 4000 --session 5e55 --turns 1000000",
-        )
-        .arg(option(alloc, "dir", "D", dir))?
-        .arg(small_number(alloc, "port", "P", port))?
-        .arg(session(alloc))?
-        .arg(turns(alloc))
+        );
+    with_options(alloc, command, &SERVE)
 }
 
 /// The subcommand `attach`.
 pub fn attach_command<'a>(alloc: Global) -> Result<Command<'a>, AllocError> {
-    let port = "The UDP port on 127.0.0.1 of the server, as 4000";
-    let client =
-        "The id of this start of a client, 1 to 16 hexadecimal digits; each start needs one of its own, as c1";
-    let keys =
-        "A file with the acts to type, one a line, as `char 61`, `key return` or `split right`";
-    Command::new(alloc, "attach")
+    let command = Command::new(alloc, "attach")
         .about("Follows a session and paints it on standard output")
         .after_help(
             "Example: roam attach --port 4000 --session 5e55 --client c1 --keys keys --turns 1000",
-        )
-        .arg(small_number(alloc, "port", "P", port))?
-        .arg(session(alloc))?
-        .arg(option(alloc, "client", "H", client))?
-        .arg(option(alloc, "keys", "PATH", keys))?
-        .arg(turns(alloc))
+        );
+    with_options(alloc, command, &ATTACH)
 }
 
 // The id that a word writes.

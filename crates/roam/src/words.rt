@@ -1,7 +1,7 @@
 //! The words of the command line.
 use crate::sockets::{attach_command, attach_of, serve_command, serve_of};
 use clap::error::ErrorKind;
-use clap::{Arg, Command, Error, value_parser};
+use clap::{Arg, ArgMatches, Command, Error, value_parser};
 use roam_sockets::{Attach, Serve};
 use std::alloc::{AllocError, Global};
 use std::convert::AsStr;
@@ -65,25 +65,69 @@ pub enum Refusal {
     Clap(Error),
 }
 
-/// An option that has to be given, with a word.
-pub fn option<'a>(alloc: Global, name: &'a str, value: &'a str, help: &'a str) -> Arg<'a> {
-    Arg::new(alloc, name)
-        .long(name)
-        .value_name(value)
-        .help(help)
-        .required(true)
+/// An option that has to be given: its long name, what its value is called, its help, and how the value is read.
+pub struct Needed<'a> {
+    pub name: &'a str,
+    pub value: &'a str,
+    pub help: &'a str,
+    pub reads: Reads,
 }
 
-/// An option that has to be given, with a number up to 65,535.
-pub fn small_number<'a>(alloc: Global, name: &'a str, value: &'a str, help: &'a str) -> Arg<'a> {
-    option(alloc, name, value, help).value_parser(value_parser!(u16))
+/// How the value of an option is read: as a word, or as a number up to 65,535 or to 2^64 - 1.
+#[derive(Clone, Copy)]
+pub enum Reads {
+    Word,
+    Small,
+    Large,
 }
+
+impl<'a> Needed<'a> {
+    fn arg(&self, alloc: Global) -> Arg<'a> {
+        let arg = Arg::new(alloc, self.name)
+            .long(self.name)
+            .value_name(self.value)
+            .help(self.help)
+            .required(true);
+        match self.reads {
+            Reads::Word => arg,
+            Reads::Small => arg.value_parser(value_parser!(u16)),
+            Reads::Large => arg.value_parser(value_parser!(u64)),
+        }
+    }
+}
+
+/// The command with these options.
+pub fn with_options<'a>(
+    alloc: Global,
+    command: Command<'a>,
+    options: &[Needed<'a>],
+) -> Result<Command<'a>, AllocError> {
+    let mut command = command;
+    for option in options {
+        command = command.arg(option.arg(alloc))?;
+    }
+    Ok(command)
+}
+
+static SIZE: [Needed<'static>; 2] = [
+    Needed {
+        name: "rows",
+        value: "R",
+        help: "Rows of the screen, 2 to 100",
+        reads: Reads::Small,
+    },
+    Needed {
+        name: "cols",
+        value: "C",
+        help: "Columns of the screen, 4 to 250",
+        reads: Reads::Small,
+    },
+];
 
 fn show_command<'a>(alloc: Global) -> Result<Command<'a>, AllocError> {
-    Command::new(alloc, "show")
-        .about("Feeds standard input to a terminal and prints the screen that it makes")
-        .arg(small_number(alloc, "rows", "R", "Rows of the screen, 2 to 100"))?
-        .arg(small_number(alloc, "cols", "C", "Columns of the screen, 4 to 250"))
+    let command = Command::new(alloc, "show")
+        .about("Feeds standard input to a terminal and prints the screen that it makes");
+    with_options(alloc, command, &SIZE)
 }
 
 fn world_command<'a>(alloc: Global) -> Command<'a> {
@@ -92,27 +136,27 @@ fn world_command<'a>(alloc: Global) -> Command<'a> {
         .after_help(LINES)
 }
 
-fn program<'a>(alloc: Global) -> Result<Command<'a>, AllocError> {
-    Command::new(alloc, "roam")
-        .version("0.1.0")
-        .about("A roaming terminal multiplexer")
-        .subcommand_required(true)
-        .subcommand(show_command(alloc)?)?
-        .subcommand(world_command(alloc))?
-        .subcommand(serve_command(alloc)?)?
-        .subcommand(attach_command(alloc)?)
+// The program with one subcommand more.
+fn with_command<'a>(
+    program: Command<'a>,
+    command: Result<Command<'a>, AllocError>,
+) -> Result<Command<'a>, AllocError> {
+    program.subcommand(command?)
 }
 
-/// What the words ask for, the program's own name first.
-pub fn read_words<'a, S: AsStr>(alloc: Global, words: &'a [S]) -> Result<Request<'a>, Refusal> {
-    let Ok(program) = program(alloc) else {
-        return Err(Refusal::Memory);
-    };
-    let matches = match program.try_get_matches_from(words) {
-        Ok(matches) => matches,
-        Err(error) if error.kind() == ErrorKind::OutOfMemory => return Err(Refusal::Memory),
-        Err(error) => return Err(Refusal::Clap(error)),
-    };
+fn program<'a>(alloc: Global) -> Result<Command<'a>, AllocError> {
+    let program = Command::new(alloc, "roam")
+        .version("0.1.0")
+        .about("A roaming terminal multiplexer")
+        .subcommand_required(true);
+    let program = with_command(program, show_command(alloc))?;
+    let program = with_command(program, Ok(world_command(alloc)))?;
+    let program = with_command(program, serve_command(alloc))?;
+    with_command(program, attach_command(alloc))
+}
+
+// What the words ask for, as they were matched.
+fn request_of<'a>(matches: &ArgMatches<'a>) -> Result<Request<'a>, Refusal> {
     match matches.subcommand() {
         Some(("world", _)) => return Ok(Request::World),
         Some(("serve", inner)) => return Ok(Request::Serve(serve_of(inner)?)),
@@ -127,4 +171,16 @@ pub fn read_words<'a, S: AsStr>(alloc: Global, words: &'a [S]) -> Result<Request
     }
     // Not reached: clap takes no words without a subcommand and its two numbers.
     Err(Refusal::NoText)
+}
+
+/// What the words ask for, the program's own name first.
+pub fn read_words<'a, S: AsStr>(alloc: Global, words: &'a [S]) -> Result<Request<'a>, Refusal> {
+    let Ok(program) = program(alloc) else {
+        return Err(Refusal::Memory);
+    };
+    match program.try_get_matches_from(words) {
+        Ok(matches) => request_of(&matches),
+        Err(error) if error.kind() == ErrorKind::OutOfMemory => Err(Refusal::Memory),
+        Err(error) => Err(Refusal::Clap(error)),
+    }
 }

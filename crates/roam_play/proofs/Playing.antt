@@ -6,7 +6,7 @@ use Rattle.std.proofs.lemmas.List.Elements.{All-append, All-push}
 use Rattle.std.proofs.Math.Seq.{drop-cons}
 use Rattle.std.proofs.lemmas.List.{take-append-drop, take_more}
 use Rattle.std.specs.Io.KnownBytes.{Appends, Consumes, Keeps}
-use Rattle.std.specs.Prelude.{Ok, Err, Result, IfOk, IfErr, IfNone, IsErrAnd, codes}
+use Rattle.std.specs.Prelude.{Ok, Err, Result, IfOk, IfErr, IfNone, IfSome, IsErrAnd, codes}
 use Rattle.std.specs.List.{All, flat_map}
 use Rattle.roam_cells.specs.declared.faults.Fault.{Fault}
 use Rattle.roam_cells.specs.declared.faults.Fault.TheVariants.{BadSize, OutOfMemory}
@@ -56,6 +56,31 @@ has_begun Before o v l id rows cols answer none is at size text s = record {
 }
 has_begun (Within session size es rs) o v l id rows cols answer none is at fits text s = absurd (subst (λ (x : Option WorldView). IsAt x
     (Within session size es rs)) none at)
+
+-- no session, no stage but the first
+pub at_first : (P : Stage → Type 0) (o : Option WorldView) → o ≡ None → P Before → (stage : Stage) → IsAt o stage → P stage
+at_first P o none p Before at = p
+at_first P o none p (Within session size es rs) at = absurd (subst (λ (x : Option WorldView). IsAt x (Within session size es rs)) none at)
+
+pub answered_first : {T : Type 0} (P : T → Stage → Type 0) (r : Result (Option T) Fault) (o : Option WorldView) → o ≡ None
+    → IfOk r (λ x. IfSome x (λ t. P t Before)) → IfOk r (λ x. IfSome x (λ t. (stage : Stage) → IsAt o stage → P t stage))
+answered_first P (Err fault) o none h = tt
+answered_first P (Ok None) o none h = tt
+answered_first P (Ok (Some t)) o none h = at_first (P t) o none h
+
+pub misplaced_first : {T : Type 0} (r : Result (Option T) Fault) (o : Option WorldView) (l : LineValue) → o ≡ None
+    → IfOk r (λ x. IfNone x (is_in_place Before l ≡ false))
+    → IfOk r (λ x. IfNone x ((stage : Stage) → IsAt o stage → is_in_place stage l ≡ false))
+misplaced_first (Err fault) o l none h = tt
+misplaced_first (Ok (Some text)) o l none h = tt
+misplaced_first (Ok None) o l none h = at_first (λ stage. is_in_place stage l ≡ false) o none h
+
+pub refused_first : {T : Type 0} (A B : Fault → Type 0) (r : Result T Fault) (o : Option WorldView) (l : LineValue) → o ≡ None
+    → IfErr r (λ fault. A fault ⊎ (B fault × IsBadSession Before l))
+    → IfErr r (λ fault. A fault ⊎ (B fault × ((stage : Stage) → IsAt o stage → IsBadSession stage l)))
+refused_first A B (Ok t) o l none h = tt
+refused_first A B (Err fault) o l none (inl a) = inl a
+refused_first A B (Err fault) o l none (inr (b, bad)) = inr (b, at_first (λ stage. IsBadSession stage l) o none bad)
 
 -- out of place within a session
 pub misplaced_at : {T : Type 0} (r : Result (Option T) Fault) (o : Option WorldView) (v : WorldView) (l : LineValue) → o ≡ Some v

@@ -89,6 +89,20 @@ fn answer_in(alloc: Global, world: &mut World, line: Line) -> Result<Option<Stri
     }
 }
 
+// The answer to the line that begins a session, or none where it is another.
+fn begin(alloc: Global, world: &mut Option<World>, line: &Line) -> Result<Option<String>, Fault>
+    ensures answered { IfOk result (λ o. IfSome o (λ text. HasAnswer Before (value_of line.now) (string_bytes text) world.new)) }
+    ensures misplaced { IfOk result (λ o. IfNone o (is_in_place Before (value_of line.now) ≡ false)) }
+    ensures refused { IfErr result (λ fault. (fault ≡ Fault.OutOfMemory)
+        ⊎ ((fault ≡ Fault.BadSize) × IsBadSession Before (value_of line.now))) }
+{
+    let Line::Session(id, rows, cols) = line else {
+        return Ok(None);
+    };
+    *world = Some(World::new(alloc, *id, *rows, *cols)?);
+    Ok(Some(String::from_str(alloc, "ok\n")?))
+}
+
 // The answer to a line, or none where it is out of place.
 fn answer(alloc: Global, world: &mut Option<World>, line: Line) -> Result<Option<String>, Fault>
     requires line { IsLine (value_of line) }
@@ -100,13 +114,7 @@ fn answer(alloc: Global, world: &mut Option<World>, line: Line) -> Result<Option
 {
     match world {
         Some(world) => answer_in(alloc, world, line),
-        None => {
-            let Line::Session(id, rows, cols) = line else {
-                return Ok(None);
-            };
-            *world = Some(World::new(alloc, id, rows, cols)?);
-            Ok(Some(String::from_str(alloc, "ok\n")?))
-        }
+        None => begin(alloc, world, &line),
     }
 }
 
@@ -173,6 +181,36 @@ impl Play {
         }
         Ok(())
     }
+
+    // Plays all lines that a reader gives, from the first on.
+    fn all<R: Read, W: Write>(
+        &mut self,
+        alloc: Global,
+        reader: &mut R,
+        writer: &mut W,
+    ) -> Result<(), RunFault>
+        requires before { IsAt self.old.world Before }
+        requires none { self.old.lines ≡ 0 }
+        ensures played { OnOk result ((log : List ℕ) × Consumes (R.remaining reader.old) (R.remaining reader.new) log
+            × IsAtEnd (R.remaining reader.new)
+            × Prints (W.contents writer.old) (W.contents writer.new) log) }
+        ensures stopped { IfErr result (λ fault. (fault ≡ RunFault.Write)
+            ⊎ ((log : List ℕ) × Consumes (R.remaining reader.old) (R.remaining reader.new) log
+            × Stopped Before log (W.contents writer.old) (W.contents writer.new) 0 fault)) }
+    {
+        let mut begun = Vec::new(alloc);
+        let mut piece = [0u8; PIECE];
+        for _ in 0..MOST_READS {
+            let Ok(count) = reader.read(&mut piece) else {
+                return Err(RunFault::Read);
+            };
+            if count == 0 {
+                return self.line(alloc, begun.as_slice(), writer);
+            }
+            self.piece(alloc, &mut begun, &piece[..count], writer)?;
+        }
+        Err(RunFault::Read)
+    }
 }
 
 // Adds a byte to a line that is begun.
@@ -205,16 +243,5 @@ pub fn run_world<R: Read, W: Write>(
         world: None,
         lines: 0,
     };
-    let mut begun = Vec::new(alloc);
-    let mut piece = [0u8; PIECE];
-    for _ in 0..MOST_READS {
-        let Ok(count) = reader.read(&mut piece) else {
-            return Err(RunFault::Read);
-        };
-        if count == 0 {
-            return play.line(alloc, begun.as_slice(), writer);
-        }
-        play.piece(alloc, &mut begun, &piece[..count], writer)?;
-    }
-    Err(RunFault::Read)
+    play.all(alloc, reader, writer)
 }

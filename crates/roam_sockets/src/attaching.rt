@@ -48,15 +48,16 @@ fn acts_in<R: Files + AllocGlobal>(rt: &R, path: &str) -> Result<Vec<Act>, RunFa
     }
 }
 
-// Takes the turns of a start, and waits where one brought nothing.
+// Takes the turns of a start, and waits where one brought nothing. `Write` where the outer terminal took not all of what was last shown.
 fn follow<C: Clock + Drop, W: Write + Drop>(
     alloc: Global,
     attach: &Attach<'_>,
     acts: &[Act],
     client: &mut Client,
     ports: &mut ClientPorts<C, W>,
-)
+) -> Result<(), RunFault>
     requires in_range { All IsInRange acts.now }
+    ensures fault { IfErr result (λ fault. fault ≡ RunFault.Write) }
 {
     let mut shown = Outer::new();
     let to = loopback(attach.port);
@@ -68,6 +69,26 @@ fn follow<C: Clock + Drop, W: Write + Drop>(
             ports.rest();
         }
     }
+    if ports.has_failed() {
+        return Err(RunFault::Write);
+    }
+    Ok(())
+}
+
+// Binds a port for a start, and takes its turns.
+fn follow_from<R: Files + Net + Clock + AllocGlobal, W: Write + Drop>(
+    rt: &R,
+    attach: &Attach<'_>,
+    acts: &[Act],
+    client: &mut Client,
+    outer: W,
+) -> Result<(), RunFault>
+    requires in_range { All IsInRange acts.now }
+    ensures faults { IfErr result (λ fault. (fault ≡ RunFault.Core Fault.OutOfMemory) ⊎ (fault ≡ RunFault.Bind) ⊎ (fault ≡ RunFault.Write)) }
+{
+    let alloc = rt.alloc();
+    let mut ports = ClientPorts::bind(rt, alloc, Moments::real(rt), outer)?;
+    follow(alloc, attach, acts, client, &mut ports)
 }
 
 /// Follows a session and types the acts of a file, one a turn where it is taken: it takes the turns, waiting where one brought nothing,
@@ -81,13 +102,7 @@ pub fn run_attach<R: Files + Net + Clock + AllocGlobal, W: Write + Drop>(
     ensures faults { IfErr result (λ fault. (fault ≡ RunFault.Core Fault.OutOfMemory) ⊎ (fault ≡ RunFault.Read)
         ⊎ ((k : ℕ) × (fault ≡ RunFault.Act (k + 1))) ⊎ (fault ≡ RunFault.Bind) ⊎ (fault ≡ RunFault.Write)) }
 {
-    let alloc = rt.alloc();
     let acts = acts_in(rt, attach.keys)?;
-    let mut client = Client::new(alloc, attach.session, attach.client)?;
-    let mut ports = ClientPorts::bind(rt, alloc, Moments::real(rt), outer)?;
-    follow(alloc, attach, &acts, &mut client, &mut ports);
-    if ports.has_failed() {
-        return Err(RunFault::Write);
-    }
-    Ok(())
+    let mut client = Client::new(rt.alloc(), attach.session, attach.client)?;
+    follow_from(rt, attach, &acts, &mut client, outer)
 }

@@ -48,6 +48,21 @@ fn serve_turns<C: Clock + Drop>(
     }
 }
 
+// Serves a session that is there: binds its names, takes the turns, and removes the sockets' files.
+fn serve_bound<R: Files + Net + Clock + AllocGlobal>(
+    rt: &R,
+    serve: &Serve<'_>,
+    server: &mut Server,
+) -> Result<(), RunFault>
+    ensures faults { IfErr result (λ fault. (fault ≡ RunFault.Bind) ⊎ (fault ≡ RunFault.Core Fault.OutOfMemory)) }
+{
+    let alloc = rt.alloc();
+    let mut ports = ServerPorts::bind(rt, alloc, serve.folder, serve.port, Moments::real(rt))?;
+    serve_turns(alloc, serve.turns, server, &mut ports);
+    ports.remove(rt);
+    Ok(())
+}
+
 /// Serves a session of 24 rows and 80 columns: binds the port and the sockets `p1` to `p9` of the folder, takes the turns, waiting where
 /// one brought nothing, and removes the sockets' files. `Bind` where a name can't be bound, and nothing stays then; `OutOfMemory`.
 pub fn run_serve<R: Files + Net + Clock + AllocGlobal>(
@@ -56,10 +71,6 @@ pub fn run_serve<R: Files + Net + Clock + AllocGlobal>(
 ) -> Result<(), RunFault>
     ensures faults { IfErr result (λ fault. (fault ≡ RunFault.Bind) ⊎ (fault ≡ RunFault.Core Fault.OutOfMemory)) }
 {
-    let alloc = rt.alloc();
-    let mut server = Server::new(alloc, serve.session, 24, 80)?;
-    let mut ports = ServerPorts::bind(rt, alloc, serve.folder, serve.port, Moments::real(rt))?;
-    serve_turns(alloc, serve.turns, &mut server, &mut ports);
-    ports.remove(rt);
-    Ok(())
+    let mut server = Server::new(rt.alloc(), serve.session, 24, 80)?;
+    serve_bound(rt, serve, &mut server)
 }

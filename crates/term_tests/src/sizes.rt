@@ -22,34 +22,36 @@ impl Case {
     }
 
     // The letter of a row of the old screen, from 0; a space below it.
-    fn letter(&self, row: u16) -> char {
+    fn letter(&self, row: u16) -> u8 {
         if row < self.old.0 {
             match row {
-                0 => 'a',
-                1 => 'b',
-                2 => 'c',
-                3 => 'd',
-                _ => 'e',
+                0 => b'a',
+                1 => b'b',
+                2 => b'c',
+                3 => b'd',
+                _ => b'e',
             }
         } else {
-            ' '
+            b' '
         }
     }
 }
 
-// A character at a place, from row and column 1.
-fn put(alloc: Global, term: &mut Term, row: u16, col: u16, c: char) -> Result<(), Fail> {
-    let text = format!(in alloc; "\x1B[{row};{col}H{c}")?;
-    term.feed(text.as_bytes())?;
+// A control sequence of one number.
+fn control(alloc: Global, term: &mut Term, number: u16, end: &[u8]) -> Result<(), Fail> {
+    let start = format!(in alloc; "\x1B[{number}")?;
+    term.feed(start.as_bytes())?;
+    term.feed(end)?;
     Ok(())
 }
 
 // A row's letter, and where columns are cut a wide character across the edge.
 fn lay_row(alloc: Global, term: &mut Term, case: &Case, row: u16) -> Result<(), Fail> {
-    let place = row.saturating_add(1);
-    put(alloc, term, place, 1, case.letter(row))?;
+    control(alloc, term, row.saturating_add(1), b"H")?;
+    term.feed(&[case.letter(row)])?;
     if case.new.1 < case.old.1 {
-        put(alloc, term, place, case.new.1, '\u{4E2D}')?;
+        // from the second column to the last that stays
+        control(alloc, term, case.new.1.saturating_sub(2), "C\u{4E2D}".as_bytes())?;
     }
     Ok(())
 }
@@ -62,14 +64,12 @@ fn lay(alloc: Global, term: &mut Term, case: Case) -> Result<(), Fail> {
     for row in 0..case.old.0 {
         lay_row(alloc, term, &case, row)?;
     }
-    let cursor = format!(in alloc; "\x1B[{};1H", case.row.saturating_add(1))?;
-    term.feed(cursor.as_bytes())?;
-    Ok(())
+    control(alloc, term, case.row.saturating_add(1), b"H")
 }
 
 // A row that has a letter, or none, and nothing else.
-fn has(row: &[char], letter: char) -> bool {
-    row.first() == Some(&letter) && row.iter().skip(1).all(|c| *c == ' ')
+fn has(row: &[char], letter: u8) -> bool {
+    row.first() == Some(&(letter as char)) && row.iter().skip(1).all(|c| *c == ' ')
 }
 
 // The screen of a view whose first row is this row of the old screen.

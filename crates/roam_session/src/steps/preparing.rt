@@ -106,6 +106,13 @@ pub fn prepare(
     Ok(steps)
 }
 
+// Puts a terminal, or none, where another was or none.
+fn put(place: &mut Option<Term>, term: Option<Term>)
+    ensures put { place.new ≡ term }
+{
+    *place = term;
+}
+
 // Does a step. It takes no memory.
 fn settle(term: &mut Option<Term>, step: Step)
     requires suits { Suits step term.old }
@@ -113,8 +120,8 @@ fn settle(term: &mut Option<Term>, step: Step)
 {
     match step {
         Step::Keep => {}
-        Step::End => *term = None,
-        Step::Begin(begun) => *term = Some(begun),
+        Step::End => put(term, None),
+        Step::Begin(begun) => put(term, Some(begun)),
         Step::Fit(fitted) => {
             if let Some(term) = term {
                 term.adopt(fitted);

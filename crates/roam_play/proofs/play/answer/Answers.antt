@@ -1,16 +1,24 @@
+use Rattle.std.proofs.Common.{◌≡◌, string_bytes}
+use Rattle.roam_cells.specs.declared.faults.Fault.{Fault}
+use Rattle.roam_cells.specs.declared.faults.Fault.TheVariants as fault
 use Rattle.roam_script.specs.Lines.{value_of}
-use Rattle.std.proofs.Common.{◌≡◌, ap}
-use Rattle.roam_script.specs.Values.{Session}
-use Rattle.roam_play.proofs.Playing.{has_begun, misplaced_at}
+use Rattle.roam_play.specs.Played.{HasAnswer}
+use Rattle.roam_play.specs.Scripts.{Stage}
+use Rattle.roam_play.proofs.Playing.{answered_first, misplaced_at, misplaced_first, refused_first}
 use Rattle.roam_play.proofs.play.answer.Goals as goal
 
 pub returns-in-Some-clause-misplaced : goal.returns-in-Some-clause-misplaced
 returns-in-Some-clause-misplaced c = misplaced_at c.answer_in.result c.args.world.now c.in-Some.world (value_of c.args.line) c.in-Some.is
     c.answer_in.ensures.misplaced
 
-pub returns-in_ok-from_str-in-None-clause-answered : goal.returns-in_ok-from_str-in-None-clause-answered
-returns-in_ok-from_str-in-None-clause-answered c = λ stage at.
-    let is : value_of c.args.line ≡ Session c.in-Session.id c.in-Session.rows c.in-Session.cols = ap value_of c.in-Session.is in
-    has_begun stage c.args.world.now c.in_ok-new-in-None.field-0 (value_of c.args.line) c.in-Session.id c.in-Session.rows
-    c.in-Session.cols _ c.in-None.is is at c.in_ok-new-in-None.ensures.size c.in_ok-from_str-in-None.ensures.ok
-    c.in_ok-new-in-None.ensures.stands
+pub returns-in-None-clause-answered : goal.returns-in-None-clause-answered
+returns-in-None-clause-answered c = answered_first (λ text (stage : Stage). HasAnswer stage (value_of c.args.line) (string_bytes text)
+    c.begin.new.world) c.begin.result c.args.world.now c.in-None.is c.begin.ensures.answered
+
+pub returns-in-None-clause-misplaced : goal.returns-in-None-clause-misplaced
+returns-in-None-clause-misplaced c = misplaced_first c.begin.result c.args.world.now (value_of c.args.line) c.in-None.is
+    c.begin.ensures.misplaced
+
+pub returns-in-None-clause-refused : goal.returns-in-None-clause-refused
+returns-in-None-clause-refused c = refused_first (λ (f : Fault). f ≡ fault.OutOfMemory) (λ (f : Fault). f ≡ fault.BadSize) c.begin.result
+    c.args.world.now (value_of c.args.line) c.in-None.is c.begin.ensures.refused
