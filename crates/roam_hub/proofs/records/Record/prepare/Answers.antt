@@ -1,4 +1,4 @@
-use Rattle.std.proofs.Common.{◌∙◌, ap, sym, inl, inr}
+use Rattle.std.proofs.Common.{◌≡◌, ◌∙◌, ap, sym, inl, inr, subst, false}
 use Rattle.std.specs.Prelude.{◌&&◌}
 use Rattle.roam_hub.specs.Servers.{RecordView}
 use Rattle.roam_hub.specs.Records.{is_told, is_letter_spent}
@@ -10,3 +10,10 @@ returns-in-Err-clause-fault c =
       | inl m ↦ inl m
       | inr s ↦ inr (s.0, sym (ap (λ (v : RecordView). is_told v c.args.news.now && is_letter_spent v) c.in_ok-offered.ensures.held) ∙ s.1)
     ]
+
+pub returns-in-Ok-clause-fit : goal.returns-in-Ok-clause-fit
+returns-in-Ok-clause-fit c = subst (λ (v : RecordView). (is_told v c.args.news.now && is_letter_spent v) ≡ false)
+    c.in_ok-offered.ensures.held c.in-Ok.ensures.fit
+
+pub returns-in-Err-clause-err : goal.returns-in-Err-clause-err
+returns-in-Err-clause-err c = c.take_back.ensures.back ∙ c.in_ok-offered.ensures.back
