@@ -125,8 +125,9 @@ static SIZE: [Needed<'static>; 2] = [
 ];
 
 fn show_command<'a>(alloc: Global) -> Result<Command<'a>, AllocError> {
-    let command = Command::new(alloc, "show")
-        .about("Feeds standard input to a terminal and prints the screen that it makes");
+    let command = Command::new(alloc, "show").about(
+        "Feeds standard input to a terminal and prints the screen that it makes",
+    );
     with_options(alloc, command, &SIZE)
 }
 

@@ -84,7 +84,8 @@ fn follow_from<R: Files + Net + Clock + AllocGlobal, W: Write + Drop>(
     outer: W,
 ) -> Result<(), RunFault>
     requires in_range { All IsInRange acts.now }
-    ensures faults { IfErr result (λ fault. (fault ≡ RunFault.Core Fault.OutOfMemory) ⊎ (fault ≡ RunFault.Bind) ⊎ (fault ≡ RunFault.Write)) }
+    ensures faults { IfErr result (λ fault. (fault ≡ RunFault.Core Fault.OutOfMemory) ⊎ (fault ≡ RunFault.Bind)
+        ⊎ (fault ≡ RunFault.Write)) }
 {
     let alloc = rt.alloc();
     let mut ports = ClientPorts::bind(rt, alloc, Moments::real(rt), outer)?;

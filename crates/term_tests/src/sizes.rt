@@ -51,7 +51,12 @@ fn lay_row(alloc: Global, term: &mut Term, case: &Case, row: u16) -> Result<(), 
     term.feed(&[case.letter(row)])?;
     if case.new.1 < case.old.1 {
         // from the second column to the last that stays
-        control(alloc, term, case.new.1.saturating_sub(2), "C\u{4E2D}".as_bytes())?;
+        control(
+            alloc,
+            term,
+            case.new.1.saturating_sub(2),
+            "C\u{4E2D}".as_bytes(),
+        )?;
     }
     Ok(())
 }
