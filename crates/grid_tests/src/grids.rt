@@ -120,7 +120,7 @@ fn text_of(alloc: Global, row: &[Cell]) -> Result<String, AllocError> {
     Ok(text)
 }
 
-const ROWS: [Row; 31] = [
+static ROWS: [Row; 31] = [
     Row {
         name: "two lines",
         size: (2, 8),
@@ -468,31 +468,50 @@ const ROWS: [Row; 31] = [
     },
 ];
 
+// Whether the rows of a grid have these texts.
+fn has_rows(alloc: Global, grid: &Grid, wanted: &[&str]) -> Result<bool, AllocError> {
+    for i in 0..grid.rows() {
+        let text = text_of(alloc, grid.row(i))?;
+        if wanted.get(i) != Some(&text.as_str()) {
+            return Ok(false);
+        }
+    }
+    Ok(grid.rows() == wanted.len())
+}
+
+// Whether the acts of a row leave what it says, on a grid whose first row was turned so often.
+fn leaves(alloc: Global, row: &Row, turns: usize) -> Result<bool, Fail> {
+    let mut grid = Grid::new(alloc, row.size.0, row.size.1)?;
+    grid.scroll_up(turns);
+    play(&mut grid, row.acts);
+    let placed = grid.cursor() == row.cursor && grid.pending() == row.pending;
+    Ok(has_rows(alloc, &grid, row.shows)? && placed)
+}
+
 // Each row on a grid as it is made, and again on one whose first row is turned.
 #[test]
 fn acts_leave_their_screens(rt: HostRuntime) -> Result<(), Fail> {
     for row in &ROWS {
         for turns in 0..2usize {
-            let mut grid = Grid::new(rt.alloc(), row.size.0, row.size.1)?;
-            grid.scroll_up(turns);
-            play(&mut grid, row.acts);
-            assert_eq!(rt; grid.rows(), row.shows.len(), "{}", row.name);
-            for i in 0..row.shows.len() {
-                if i < grid.rows() {
-                    let text = text_of(rt.alloc(), grid.row(i))?;
-                    assert_eq!(rt;
-                        text.as_str(),
-                        row.shows[i],
-                        "{}, row {i}, turned {turns}",
-                        row.name
-                    );
-                }
-            }
-            assert_eq!(rt; grid.cursor(), row.cursor, "{}, turned {turns}", row.name);
-            assert_eq!(rt; grid.pending(), row.pending, "{}, turned {turns}", row.name);
+            assert!(rt; leaves(rt.alloc(), row, turns)?, "{}", row.name);
         }
     }
     Ok(())
+}
+
+fn is_refused(alloc: Global, rows: usize, cols: usize) -> bool {
+    match Grid::new(alloc, rows, cols) {
+        Ok(_) => false,
+        Err(fault) => fault == Fault::BadSize,
+    }
+}
+
+fn is_made(alloc: Global, rows: usize, cols: usize) -> Result<bool, Fault> {
+    let grid = Grid::new(alloc, rows, cols)?;
+    let sized = (grid.rows(), grid.cols()) == (rows, cols);
+    let counted = grid.buffer().len() == rows.saturating_mul(cols);
+    let placed = grid.cursor() == (1, 1) && grid.margins() == (0, rows.saturating_sub(1));
+    Ok(sized && counted && placed)
 }
 
 #[test]
@@ -505,17 +524,10 @@ fn sizes_in_the_limits_alone_are_made(rt: HostRuntime) -> Result<(), Fail> {
         (0, 0),
         (usize::MAX, usize::MAX),
     ] {
-        match Grid::new(rt.alloc(), rows, cols) {
-            Ok(_) => assert!(rt; false, "{rows} by {cols}"),
-            Err(fault) => assert_eq!(rt; fault, Fault::BadSize, "{rows} by {cols}"),
-        }
+        assert!(rt; is_refused(rt.alloc(), rows, cols), "{rows}");
     }
     for (rows, cols) in [(2, 4), (24, 80), (100, 250)] {
-        let grid = Grid::new(rt.alloc(), rows, cols)?;
-        assert_eq!(rt; (grid.rows(), grid.cols()), (rows, cols));
-        assert_eq!(rt; grid.cursor(), (1, 1));
-        assert_eq!(rt; grid.margins(), (0, rows.saturating_sub(1)));
-        assert_eq!(rt; grid.buffer().len(), rows.saturating_mul(cols));
+        assert!(rt; is_made(rt.alloc(), rows, cols)?, "{rows}");
     }
     Ok(())
 }
@@ -527,35 +539,40 @@ fn a_grid_is_made_where_there_is_memory(rt: HostRuntime) -> Result<(), Fail> {
     Ok(())
 }
 
-#[test]
-fn the_first_row_goes_round(rt: HostRuntime) -> Result<(), Fail> {
-    let mut grid = Grid::new(rt.alloc(), 3, 8)?;
-    for _ in 0..5 {
-        grid.scroll_up(1);
-    }
-    assert_eq!(rt; grid.first(), 2);
-    grid.scroll_down(1);
-    assert_eq!(rt; grid.first(), 1);
-    // Ten lines on three rows: seven scroll.
+// Ten lines on three rows: seven scroll.
+fn write_lines(grid: &mut Grid) {
+    let writing = Writing {
+        wraps: true,
+        inserts: false,
+    };
     for k in 0..10u8 {
-        grid.put_run(
-            Cell::blank(),
-            &[b'0' + k],
-            Writing {
-                wraps: true,
-                inserts: false,
-            },
-        );
+        grid.put_run(Cell::blank(), &[b'0' + k], writing);
         if k < 9 {
             grid.carriage_return();
             grid.index();
         }
     }
-    assert_eq!(rt; grid.first(), 2);
+}
+
+// The first rows after five rows that scrolled up, one that scrolled down, and ten lines.
+fn first_rows(grid: &mut Grid) -> [usize; 3] {
+    for _ in 0..5 {
+        grid.scroll_up(1);
+    }
+    let up = grid.first();
+    grid.scroll_down(1);
+    let down = grid.first();
+    write_lines(grid);
+    [up, down, grid.first()]
+}
+
+#[test]
+fn the_first_row_goes_round(rt: HostRuntime) -> Result<(), Fail> {
+    let mut grid = Grid::new(rt.alloc(), 3, 8)?;
+    assert_eq!(rt; first_rows(&mut grid), [2, 1, 2]);
     let text = text_of(rt.alloc(), grid.buffer())?;
     assert_eq!(rt; text.as_str(), "8       9       7       ");
-    grid.set_margins(0, 1);
-    grid.scroll_up(1);
+    play(&mut grid, &[Act::Margins(1, 2), Act::ScrollUp(1)]);
     assert_eq!(rt; grid.first(), 2);
     Ok(())
 }

@@ -48,7 +48,7 @@ struct Row {
     marked: &'static [usize],
 }
 
-const WRITING: [Row; 17] = [
+static WRITING: [Row; 17] = [
     Row {
         name: "nothing",
         before: &[],
@@ -153,7 +153,7 @@ const WRITING: [Row; 17] = [
     },
 ];
 
-const JOINING: [Row; 5] = [
+static JOINING: [Row; 5] = [
     Row {
         name: "a joiner",
         before: &[Act::Go(2, 1), Act::Type("e")],
@@ -186,7 +186,7 @@ const JOINING: [Row; 5] = [
     },
 ];
 
-const MOVES: [Row; 9] = [
+static MOVES: [Row; 9] = [
     Row {
         name: "moves of the cursor",
         before: &[Act::Type("abc")],
@@ -243,7 +243,7 @@ const MOVES: [Row; 9] = [
     },
 ];
 
-const SCROLLS: [Row; 10] = [
+static SCROLLS: [Row; 10] = [
     Row {
         name: "SU with full margins",
         before: &[],
@@ -306,7 +306,7 @@ const SCROLLS: [Row; 10] = [
     },
 ];
 
-const EDITS: [Row; 12] = [
+static EDITS: [Row; 12] = [
     Row {
         name: "ICH",
         before: &[Act::Go(2, 8)],
@@ -381,7 +381,7 @@ const EDITS: [Row; 12] = [
     },
 ];
 
-const SCREENS: [Row; 5] = [
+static SCREENS: [Row; 5] = [
     Row {
         name: "DECALN",
         before: &[],

@@ -232,22 +232,33 @@ fn size_shown(alloc: Global, term: &Term) -> Result<(u16, u16), Fail> {
     Ok((shot.rows(), shot.cols()))
 }
 
+static MADE: [(u16, u16, u16); 3] = [(2, 4, 0), (100, 250, 500), (24, 80, 1)];
+
+static REFUSED: [(u16, u16, u16); 6] = [
+    (1, 8, 0),
+    (101, 8, 0),
+    (2, 3, 0),
+    (2, 251, 0),
+    (2, 8, 501),
+    (0, 0, 65535),
+];
+
+fn is_made(alloc: Global, rows: u16, cols: u16, lines: u16) -> Result<bool, Fail> {
+    let term = Term::new(alloc, rows, cols, lines)?;
+    Ok(size_shown(alloc, &term)? == (rows, cols))
+}
+
+fn is_refused(alloc: Global, rows: u16, cols: u16, lines: u16) -> bool {
+    matches!(Term::new(alloc, rows, cols, lines), Err(Fault::BadSize))
+}
+
 #[test]
 fn sizes_and_lines(rt: HostRuntime) -> Result<(), Fail> {
-    let alloc = rt.alloc();
-    for (rows, cols, lines) in [(2, 4, 0), (100, 250, 500), (24, 80, 1)] {
-        let size = size_shown(alloc, &Term::new(alloc, rows, cols, lines)?)?;
-        assert!(rt; size == (rows, cols));
+    for (rows, cols, lines) in MADE.iter() {
+        assert!(rt; is_made(rt.alloc(), *rows, *cols, *lines)?);
     }
-    for (rows, cols, lines) in [
-        (1, 8, 0),
-        (101, 8, 0),
-        (2, 3, 0),
-        (2, 251, 0),
-        (2, 8, 501),
-        (0, 0, 65535),
-    ] {
-        assert!(rt; matches!(Term::new(alloc, rows, cols, lines), Err(Fault::BadSize)));
+    for (rows, cols, lines) in REFUSED.iter() {
+        assert!(rt; is_refused(rt.alloc(), *rows, *cols, *lines));
     }
     Ok(())
 }
@@ -275,17 +286,17 @@ fn takes_letters(
     Ok(fed == taken && shows_first(alloc, term, 0, wanted)?)
 }
 
+// One letter more than a piece may have, then as many as it may.
+fn takes_the_longest(alloc: Global, term: &mut Term) -> Result<bool, Fail> {
+    let refused = takes_letters(alloc, term, MOST_PIECE + 1, Err(Fault::TooLong), "        ")?;
+    let taken = takes_letters(alloc, term, MOST_PIECE, Ok(()), "aaaaaaaa")?;
+    Ok(refused && taken && shows_first(alloc, term, 500, "aaaaaaaa")?)
+}
+
 #[test]
 fn the_longest_piece(rt: HostRuntime) -> Result<(), Fail> {
-    let alloc = rt.alloc();
-    let mut term = Term::new(alloc, 2, 8, 0)?;
-    for (count, taken, wanted) in [
-        (MOST_PIECE + 1, Err(Fault::TooLong), "        "),
-        (MOST_PIECE, Ok(()), "aaaaaaaa"),
-    ] {
-        assert!(rt; takes_letters(alloc, &mut term, count, taken, wanted)?);
-    }
-    assert!(rt; shows_first(alloc, &term, 500, "aaaaaaaa")?);
+    let mut term = Term::new(rt.alloc(), 2, 8, 0)?;
+    assert!(rt; takes_the_longest(rt.alloc(), &mut term)?);
     Ok(())
 }
 
@@ -354,35 +365,36 @@ fn feed_any(term: &mut Term, state: &mut u32) -> bool {
     term.feed(&piece) == Ok(())
 }
 
-#[test]
-fn any_bytes_are_read(rt: HostRuntime) -> Result<(), Fail> {
-    let mut term = Term::new(rt.alloc(), 24, 80, 0)?;
+fn takes_any(term: &mut Term) -> bool {
     let mut state: u32 = 1;
     let mut fed = true;
     for _ in 0..200 {
-        fed = fed && feed_any(&mut term, &mut state);
+        fed = fed && feed_any(term, &mut state);
     }
-    assert!(rt; fed);
-    assert!(rt; size_shown(rt.alloc(), &term)? == (24, 80));
-    Ok(())
+    fed
 }
 
 #[test]
+fn any_bytes_are_read(rt: HostRuntime) -> Result<(), Fail> {
+    let mut term = Term::new(rt.alloc(), 24, 80, 0)?;
+    assert!(rt; takes_any(&mut term) && size_shown(rt.alloc(), &term)? == (24, 80));
+    Ok(())
+}
+
+// Whether the cursor is behind two letters, or memory is refused.
+fn is_behind_two(alloc: Global, term: &Term) -> bool {
+    match term.shot(alloc, 0) {
+        Ok(shot) => shot.cursor() == (1, 3),
+        Err(fault) => fault == Fault::OutOfMemory,
+    }
+}
+
+// A call after one that was refused memory finds the terminal as it was.
+#[test]
 fn refused_memory_changes_nothing(rt: HostRuntime) {
-    let alloc = rt.alloc();
-    let Ok(mut term) = Term::new(alloc, 2, 8, 0) else {
+    let Ok(mut term) = Term::new(rt.alloc(), 2, 8, 0) else {
         return;
     };
     assert!(rt; term.feed(b"ab") == Ok(()));
-    let shot = match term.shot(alloc, 0) {
-        Ok(shot) => shot,
-        Err(fault) => {
-            assert!(rt; fault == Fault::OutOfMemory);
-            match term.shot(alloc, 0) {
-                Ok(shot) => shot,
-                Err(_) => return,
-            }
-        }
-    };
-    assert!(rt; shot.cursor() == (1, 3));
+    assert!(rt; is_behind_two(rt.alloc(), &term) && is_behind_two(rt.alloc(), &term));
 }

@@ -124,20 +124,22 @@ fn bold() -> Style {
     style
 }
 
+// Whether code points make the cell that a row of the table says, or none.
+fn makes(text: &Text) -> bool {
+    match Cell::of(text.points, bold(), true) {
+        Some(cell) => {
+            let shaped = cell.is_wide() == text.wide && cell.is_narrow() != text.wide;
+            let kept = cell.style() == bold() && cell.guard() && !cell.is_right_half();
+            text.makes && cell.chars() == text.points && shaped && kept
+        }
+        None => !text.makes,
+    }
+}
+
 #[test]
 fn cells_of_code_points(rt: HostRuntime) {
     for text in &TEXTS {
-        match Cell::of(text.points, bold(), true) {
-            Some(cell) => {
-                assert!(rt; text.makes, "at {:?}", text.points);
-                assert_eq!(rt; cell.chars(), text.points);
-                assert_eq!(rt; cell.is_wide(), text.wide, "at {:?}", text.points);
-                assert_eq!(rt; cell.is_narrow(), !text.wide, "at {:?}", text.points);
-                assert_eq!(rt; cell.style(), bold());
-                assert!(rt; cell.guard() && !cell.is_right_half());
-            }
-            None => assert!(rt; !text.makes, "at {:?}", text.points),
-        }
+        assert!(rt; makes(text), "{:?}", text.points);
     }
 }
 
@@ -166,53 +168,91 @@ fn wide() -> Cell {
     }
 }
 
-#[test]
-fn well_formed_cells(rt: HostRuntime) {
+fn blanks_are_whole() -> bool {
+    let s = Cell::blank();
+    let all = [s, s, s, s];
+    let rows = is_well_formed(&[], 4) && is_well_formed(&all, 4) && is_well_formed(&all, 2);
+    let others = is_well_formed(&all, 0) || is_well_formed(&[], 0) || is_well_formed(&all, 3);
+    rows && !others
+}
+
+fn halves_want_each_other() -> bool {
     let s = Cell::blank();
     let w = wide();
     let r = Cell::right_half(Style::default(), false);
+    let pairs = is_well_formed(&[s, w, r, s], 4) && is_well_formed(&[w, r, w, r], 4);
+    let right = is_well_formed(&[r, s, s, s], 4) || is_well_formed(&[s, r, s, s], 4);
+    let left = is_well_formed(&[w, s, s, s], 4) || is_well_formed(&[s, s, s, w], 4);
+    pairs && !right && !left && !is_well_formed(&[w, r, r, s], 4)
+}
+
+// A wide character in the last column, its right half in the next row.
+fn halves_are_in_one_row() -> bool {
+    let s = Cell::blank();
+    let cells = [
+        s,
+        s,
+        s,
+        wide(),
+        Cell::right_half(Style::default(), false),
+        s,
+        s,
+        s,
+    ];
+    is_well_formed(&cells, 8) && !is_well_formed(&cells, 4)
+}
+
+fn halves_are_of_one_ink() -> bool {
+    let s = Cell::blank();
+    let w = wide();
     let guarded = Cell::right_half(Style::default(), true);
     let styled = Cell::right_half(bold(), false);
-    assert!(rt; is_well_formed(&[], 4));
-    assert!(rt; is_well_formed(&[s, s, s, s], 4) && is_well_formed(&[s, s, s, s], 2));
-    assert!(rt; !is_well_formed(&[s, s, s, s], 0) && !is_well_formed(&[], 0));
-    assert!(rt; !is_well_formed(&[s, s, s, s], 3));
-    assert!(rt; is_well_formed(&[s, w, r, s], 4) && is_well_formed(&[w, r, w, r], 4));
-    assert!(rt; !is_well_formed(&[r, s, s, s], 4) && !is_well_formed(&[s, r, s, s], 4));
-    assert!(rt; !is_well_formed(&[w, s, s, s], 4) && !is_well_formed(&[w, r, r, s], 4));
-    assert!(rt; !is_well_formed(&[s, s, s, w], 4));
-    assert!(rt; !is_well_formed(&[w, styled, s, s], 4) && !is_well_formed(&[w, guarded, s, s], 4));
-    // A wide character in the last column, its right half in the next row.
-    assert!(rt; !is_well_formed(&[s, s, s, w, r, s, s, s], 4));
-    assert!(rt; is_well_formed(&[s, s, s, w, r, s, s, s], 8));
-    assert!(rt; are_unguarded(&[s, w, r]) && !are_unguarded(&[s, w, guarded]));
+    !is_well_formed(&[w, styled, s, s], 4) && !is_well_formed(&[w, guarded, s, s], 4)
+}
+
+fn guards_are_found() -> bool {
+    let s = Cell::blank();
+    let r = Cell::right_half(Style::default(), false);
+    let guarded = Cell::right_half(Style::default(), true);
+    are_unguarded(&[s, wide(), r]) && !are_unguarded(&[s, wide(), guarded])
+}
+
+#[test]
+fn well_formed_cells(rt: HostRuntime) {
+    assert!(rt; blanks_are_whole());
+    assert!(rt; halves_want_each_other());
+    assert!(rt; halves_are_in_one_row());
+    assert!(rt; halves_are_of_one_ink());
+    assert!(rt; guards_are_found());
+}
+
+static SIZES: [(u16, u16, bool); 8] = [
+    (2, 4, true),
+    (100, 250, true),
+    (1, 8, false),
+    (101, 8, false),
+    (2, 3, false),
+    (2, 251, false),
+    (0, 0, false),
+    (65_535, 65_535, false),
+];
+
+// Whether a blank screen of a size is made where it fits, and refused where it doesn't.
+fn is_blank_where(alloc: Global, rows: u16, cols: u16, fits: bool) -> bool {
+    match Shot::blank(alloc, rows, cols) {
+        Ok(shot) => {
+            let counted = shot.cells().len() == rows as usize * cols as usize;
+            fits && shot.rows() == rows && shot.cols() == cols && counted
+        }
+        Err(fault) => !fits && fault == Fault::BadSize,
+    }
 }
 
 #[test]
 fn sizes_of_a_blank_screen(rt: HostRuntime) {
-    let rows = [
-        (2, 4, true),
-        (100, 250, true),
-        (1, 8, false),
-        (101, 8, false),
-        (2, 3, false),
-        (2, 251, false),
-        (0, 0, false),
-        (65_535, 65_535, false),
-    ];
-    for (rows, cols, fits) in rows {
-        assert_eq!(rt; is_size(rows, cols), fits, "at {rows} by {cols}");
-        match Shot::blank(rt.alloc(), rows, cols) {
-            Ok(shot) => {
-                assert!(rt; fits, "at {rows} by {cols}");
-                assert!(rt; shot.rows() == rows && shot.cols() == cols);
-                assert_eq!(rt; shot.cells().len(), rows as usize * cols as usize);
-            }
-            Err(fault) => {
-                assert_eq!(rt; fault, Fault::BadSize);
-                assert!(rt; !fits, "at {rows} by {cols}");
-            }
-        }
+    for (rows, cols, fits) in SIZES.iter() {
+        assert!(rt; is_size(*rows, *cols) == *fits, "{rows}");
+        assert!(rt; is_blank_where(rt.alloc(), *rows, *cols, *fits), "{rows}");
     }
 }
 
@@ -245,51 +285,106 @@ fn sample(alloc: Global) -> Result<Shot, Fault> {
     screen_from(alloc, &[wide(), half, a, wide(), half])
 }
 
+fn has_row(alloc: Global, shot: &Shot, row: u16, wanted: &[char]) -> Result<bool, Fault> {
+    let text = shot.row_text(alloc, row)?;
+    Ok(text.as_slice() == wanted)
+}
+
+// Whether a copy is the same screen, and a blank one isn't.
+fn is_copied(alloc: Global, shot: &Shot) -> Result<bool, Fault> {
+    let copy = shot.copy(alloc)?;
+    Ok(copy.is_same(shot) && !is_blank(alloc, shot)?)
+}
+
+fn is_blank(alloc: Global, shot: &Shot) -> Result<bool, Fault> {
+    let blank = Shot::blank(alloc, 2, 8)?;
+    Ok(blank.is_same(shot))
+}
+
 #[test]
 fn a_screen_of_cells(rt: HostRuntime) -> Result<(), Fail> {
     let alloc = rt.alloc();
     let shot = sample(alloc)?;
     shot.facts();
-    assert!(rt; shot.rows() == 2 && shot.cols() == 8);
-    assert!(rt; shot.cursor() == (1, 6) && !shot.visible());
-    assert_eq!(rt;
-        shot.row_text(alloc, 0)?.as_slice(),
-        ['\u{4E2D}', 'a', '\u{4E2D}', ' ', ' ', ' '].as_slice()
+    let placed = shot.cursor() == (1, 6) && !shot.visible();
+    assert!(rt; shot.rows() == 2 && shot.cols() == 8 && placed);
+    assert!(rt;
+        has_row(
+            alloc,
+            &shot,
+            0,
+            &['\u{4E2D}', 'a', '\u{4E2D}', ' ', ' ', ' ']
+        )?
     );
-    assert_eq!(rt; shot.row_text(alloc, 1)?.as_slice(), [' '; 8].as_slice());
-    let copy = shot.copy(alloc)?;
-    assert!(rt; copy.is_same(&shot));
-    assert!(rt; !copy.is_same(&Shot::blank(alloc, 2, 8)?));
-    assert!(rt; !Shot::blank(alloc, 2, 8)?.is_same(&Shot::blank(alloc, 2, 9)?));
-    let half = Cell::right_half(Style::default(), false);
-    assert!(rt; screen_from(alloc, &[half])?.is_same(&Shot::blank(alloc, 2, 8)?));
+    assert!(rt; has_row(alloc, &shot, 1, &[' '; 8])?);
+    assert!(rt; is_copied(alloc, &shot)?);
     Ok(())
+}
+
+// A lone half makes no screen; another size is another screen.
+#[test]
+fn other_screens(rt: HostRuntime) -> Result<(), Fail> {
+    let half = Cell::right_half(Style::default(), false);
+    let shot = screen_from(rt.alloc(), &[half])?;
+    assert!(rt; is_blank(rt.alloc(), &shot)?);
+    let wider = Shot::blank(rt.alloc(), 2, 9)?;
+    assert!(rt; !is_blank(rt.alloc(), &wider)?);
+    Ok(())
+}
+
+static OUTSIDE: [(u16, u16); 5] = [(0, 1), (1, 0), (3, 1), (1, 9), (65_535, 65_535)];
+
+static INSIDE: [(u16, u16, char); 6] = [
+    (1, 1, '\u{4E2D}'),
+    (1, 3, 'a'),
+    (1, 6, ' '),
+    (1, 8, ' '),
+    (2, 1, ' '),
+    (2, 8, ' '),
+];
+
+fn has_at(shot: &Shot, row: u16, col: u16, c: char) -> bool {
+    match shot.at(row, col) {
+        Some(cell) => cell.chars() == [c].as_slice(),
+        None => false,
+    }
+}
+
+fn has_places(shot: &Shot) -> bool {
+    let half = match shot.at(1, 2) {
+        Some(cell) => cell.is_right_half(),
+        None => false,
+    };
+    let none = OUTSIDE
+        .iter()
+        .all(|(row, col)| shot.at(*row, *col).is_none());
+    half && none
+        && INSIDE
+            .iter()
+            .all(|(row, col, c)| has_at(shot, *row, *col, *c))
 }
 
 #[test]
 fn places_of_a_screen(rt: HostRuntime) -> Result<(), Fail> {
     let shot = sample(rt.alloc())?;
-    for (row, col) in [(0, 1), (1, 0), (3, 1), (1, 9), (65_535, 65_535)] {
-        assert!(rt; shot.at(row, col).is_none(), "at {row} {col}");
-    }
-    for (row, col, c) in [
-        (1, 1, '\u{4E2D}'),
-        (1, 3, 'a'),
-        (1, 6, ' '),
-        (1, 8, ' '),
-        (2, 1, ' '),
-        (2, 8, ' '),
-    ] {
-        match shot.at(row, col) {
-            Some(cell) => assert_eq!(rt; cell.chars(), [c].as_slice(), "at {row} {col}"),
-            None => assert!(rt; false, "at {row} {col}"),
-        }
-    }
-    match shot.at(1, 2) {
-        Some(cell) => assert!(rt; cell.is_right_half()),
-        None => assert!(rt; false),
-    }
+    assert!(rt; has_places(&shot));
     Ok(())
+}
+
+fn is_the_sample(shot: &Shot) -> bool {
+    let placed = shot.cursor() == (1, 6) && !shot.visible();
+    shot.rows() == 2 && shot.cols() == 8 && placed && has_at(shot, 1, 3, 'a')
+}
+
+fn is_wanting<T: Drop>(refused: &Result<T, Fault>) -> bool {
+    matches!(refused, Err(Fault::OutOfMemory))
+}
+
+fn text_is_wanting(alloc: Global, shot: &Shot) -> bool {
+    match shot.row_text(alloc, 0) {
+        Ok(text) => text.len() == 6,
+        Err(fault) => fault == Fault::OutOfMemory,
+    }
 }
 
 // Each allocation of a screen's calls refused in turn: the only fault is want of memory, and the screen stays.
@@ -299,26 +394,13 @@ fn refused_memory_leaves_a_screen(rt: HostRuntime) {
     let shot = match sample(alloc) {
         Ok(shot) => shot,
         Err(fault) => {
-            assert_eq!(rt; fault, Fault::OutOfMemory);
+            assert!(rt; fault == Fault::OutOfMemory);
             return;
         }
     };
-    match Shot::blank(alloc, 2, 8) {
-        Ok(blank) => assert!(rt; !blank.is_same(&shot)),
-        Err(fault) => assert_eq!(rt; fault, Fault::OutOfMemory),
-    }
-    match shot.copy(alloc) {
-        Ok(copy) => assert!(rt; copy.is_same(&shot)),
-        Err(fault) => assert_eq!(rt; fault, Fault::OutOfMemory),
-    }
-    match shot.row_text(alloc, 0) {
-        Ok(text) => assert_eq!(rt; text.len(), 6),
-        Err(fault) => assert_eq!(rt; fault, Fault::OutOfMemory),
-    }
-    assert!(rt; shot.cursor() == (1, 6) && !shot.visible());
-    assert!(rt; shot.rows() == 2 && shot.cols() == 8);
-    match shot.at(1, 3) {
-        Some(cell) => assert!(rt; cell.is_same(&Cell::ascii(b'a', bold(), false))),
-        None => assert!(rt; false),
-    }
+    let blank = is_blank(alloc, &shot);
+    assert!(rt; blank == Ok(false) || is_wanting(&blank));
+    let copied = is_copied(alloc, &shot);
+    assert!(rt; copied == Ok(true) || is_wanting(&copied));
+    assert!(rt; text_is_wanting(alloc, &shot) && is_the_sample(&shot));
 }
