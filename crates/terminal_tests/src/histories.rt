@@ -157,7 +157,7 @@ struct Case {
     pens: &'static str,
 }
 
-static CASES: [Case; 17] = [
+const CASES: [Case; 17] = [
     Case {
         row: &[("\u{4E2D}", 3), ("cdefgh", 0)],
         from: 8,
@@ -386,7 +386,7 @@ fn rows_go_on_after_a_size(rt: HostRuntime) -> Result<(), Fail> {
 
 /// Fronts that are pushed into a history of one line of 8 columns, its columns afterwards, and the length of its row in use: no
 /// contract tells that, and a push and a copy cost it.
-static FRONTS: [(&[&str], usize, usize); 6] = [
+const FRONTS: [(&[&str], usize, usize); 6] = [
     (&["abc"], 8, 3),
     (&["abcdefgh", "ab"], 8, 2),
     (&["ab", "abcdefgh"], 8, 8),

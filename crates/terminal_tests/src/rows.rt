@@ -167,7 +167,7 @@ fn shown(alloc: Global, row: &[Cell]) -> Result<(String, String), AllocError> {
     Ok((text, pens))
 }
 
-static CASES: [Case; 57] = [
+const CASES: [Case; 57] = [
     Case {
         name: "a wide cell over two narrow ones",
         size: (2, 8),
@@ -823,7 +823,7 @@ fn acts_leave_their_rows(rt: HostRuntime) -> Result<(), Fail> {
 }
 
 /// Acts, a row, and the length of its columns in use: no contract tells that, and scrolls and erasures cost it.
-static FRONTS: [(&[Act], usize); 14] = [
+const FRONTS: [(&[Act], usize); 14] = [
     (&[], 0),
     (&[Act::Put(0, 0, "ab", 0)], 2),
     (&[Act::Put(0, 3, "\u{4E2D}", 0)], 5),
@@ -853,7 +853,7 @@ fn a_row_is_lent_up_to_where_it_is_written(rt: HostRuntime) -> Result<(), Fail> 
 }
 
 /// A row's text, a column and a code point that joins it, a column, and what stands there then.
-static JOINS: [(&str, usize, &str, usize, &[char]); 7] = [
+const JOINS: [(&str, usize, &str, usize, &[char]); 7] = [
     ("ab", 0, "\u{301}", 0, &['a', '\u{301}']),
     ("ab", 0, "\u{301}", 1, &['b']),
     ("\u{4E2D}b", 1, "\u{301}", 0, &['\u{4E2D}', '\u{301}']),
