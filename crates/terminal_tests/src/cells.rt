@@ -379,7 +379,11 @@ fn places_of_a_screen(rt: HostRuntime) -> Result<(), Fail> {
 
 fn is_the_sample(shot: &Shot) -> bool {
     let placed = shot.cursor() == (1, 6) && !shot.visible();
-    shot.rows() == 2 && shot.cols() == 8 && placed && has_at(shot, 1, 3, 'a')
+    let bold_a = match shot.at(1, 3) {
+        Some(cell) => cell.is_same(&Cell::ascii(b'a', bold(), false)),
+        None => false,
+    };
+    shot.rows() == 2 && shot.cols() == 8 && placed && bold_a
 }
 
 fn is_wanting<T: Drop>(refused: &Result<T, Fault>) -> bool {
