@@ -1,0 +1,173 @@
+//! What the words ask for, and the texts of `clap` that a user reads.
+use roam_command::{Refusal, Request, read_words};
+use std::alloc::Global;
+use std::test::*;
+
+/// Words that ask for a text or are refused, the exit status, and the text.
+struct Told {
+    words: &'static [&'static str],
+    status: i32,
+    text: &'static str,
+}
+
+static TOLD: [Told; 8] = [
+    Told {
+        words: &["roam", "show", "--rows", "x"],
+        status: 2,
+        text: "error: invalid value 'x' for '--rows <R>': invalid digit found in string\n\nFor more information, try '--help'.\n",
+    },
+    Told {
+        words: &["roam", "show", "--rows", "70000", "--cols", "8"],
+        status: 2,
+        text: "error: invalid value '70000' for '--rows <R>': 70000 is not in 0..=65535\n\nFor more information, try '--help'.\n",
+    },
+    Told {
+        words: &["roam", "show", "--rows", "2"],
+        status: 2,
+        text: "error: the following required arguments were not provided:\n  --cols <C>\n\nUsage: roam show --rows <R> --cols <C>\n\n\
+             For more information, try '--help'.\n",
+    },
+    Told {
+        words: &["roam", "show", "--help"],
+        status: 0,
+        text: "Feeds standard input to a terminal and prints the screen that it makes\n\nUsage: roam show --rows <R> --cols <C>\n\n\
+             Options:\n      --rows <R>  Rows of the screen, 2 to 100\n      --cols <C>  Columns of the screen, 4 to 250\n  \
+             -h, --help      Print help\n",
+    },
+    Told {
+        words: &["roam", "--help"],
+        status: 0,
+        text: "A roaming terminal multiplexer\n\nUsage: roam <COMMAND>\n\nCommands:\n  \
+             show    Feeds standard input to a terminal and prints the screen that it makes\n  \
+             world   Plays a script from standard input and prints the answer to each of its lines\n  \
+             serve   Serves a session of 24 rows and 80 columns, whose panes are reached at sockets\n  \
+             attach  Follows a session and paints it on standard output\n  \
+             help    Print this message or the help of the given subcommand(s)\n\nOptions:\n  -h, --help     Print help\n  \
+             -V, --version  Print version\n",
+    },
+    Told {
+        words: &["roam", "--version"],
+        status: 0,
+        text: "roam 0.1.0\n",
+    },
+    Told {
+        words: &["roam", "world", "script"],
+        status: 2,
+        text: "error: unexpected argument 'script' found\n\nUsage: roam world\n\nFor more information, try '--help'.\n",
+    },
+    Told {
+        words: &["roam", "serve", "--dir", "d", "--port", "65536"],
+        status: 2,
+        text: "error: invalid value '65536' for '--port <P>': 65536 is not in 0..=65535\n\nFor more information, try '--help'.\n",
+    },
+];
+
+fn is_told(alloc: Global, told: &Told) -> bool {
+    match read_words(alloc, told.words) {
+        Err(Refusal::Clap(error)) => match error.to_string(alloc) {
+            Ok(text) => error.exit_code() == told.status && text.as_str() == told.text,
+            Err(_) => false,
+        },
+        _ => false,
+    }
+}
+
+#[test]
+fn texts_of_words(rt: HostRuntime) {
+    for told in &TOLD {
+        assert!(rt; is_told(rt.alloc(), told), "{}", told.text);
+    }
+}
+
+#[test]
+fn words_of_show_and_world(rt: HostRuntime) {
+    let asked = read_words(rt.alloc(), &["roam", "show", "--rows", "2", "--cols", "8"]);
+    assert!(rt; matches!(asked, Ok(Request::Show { rows: 2, cols: 8 })));
+    let asked = read_words(rt.alloc(), &["roam", "world"]);
+    assert!(rt; matches!(asked, Ok(Request::World)));
+}
+
+static SERVE: [&str; 10] = [
+    "roam",
+    "serve",
+    "--dir",
+    "d",
+    "--port",
+    "4000",
+    "--session",
+    "5E55",
+    "--turns",
+    "9",
+];
+
+static ATTACH: [&str; 12] = [
+    "roam",
+    "attach",
+    "--turns",
+    "18446744073709551615",
+    "--keys",
+    "k",
+    "--client",
+    "ffffffffffffffff",
+    "--session",
+    "0",
+    "--port",
+    "1",
+];
+
+#[test]
+fn words_of_serve(rt: HostRuntime) {
+    let served = match read_words(rt.alloc(), &SERVE) {
+        Ok(
+            Request::Serve {
+                folder,
+                port,
+                session,
+                turns,
+            },
+        ) => folder == "d" && port == 4000 && session == 0x5E55 && turns == 9,
+        _ => false,
+    };
+    assert!(rt; served);
+}
+
+#[test]
+fn words_of_attach(rt: HostRuntime) {
+    let attached = match read_words(rt.alloc(), &ATTACH) {
+        Ok(
+            Request::Attach {
+                port,
+                session,
+                client,
+                keys,
+                turns,
+            },
+        ) => port == 1 && session == 0 && client == u64::MAX && keys == "k" && turns == u64::MAX,
+        _ => false,
+    };
+    assert!(rt; attached);
+}
+
+/// The words of `serve` with this id are refused for it.
+fn is_no_id(alloc: Global, id: &str) -> bool {
+    let words = [
+        "roam",
+        "serve",
+        "--dir",
+        "d",
+        "--port",
+        "1",
+        "--session",
+        id,
+        "--turns",
+        "1",
+    ];
+    matches!(read_words(alloc, &words), Err(Refusal::BadId))
+}
+
+#[test]
+fn ids_that_are_none(rt: HostRuntime) {
+    for id in ["", "g", "0x1", "+1", "5e 55", "00000000000000001"] {
+        assert!(rt; is_no_id(rt.alloc(), id), "{id}");
+    }
+}
