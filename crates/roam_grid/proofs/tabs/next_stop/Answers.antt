@@ -1,4 +1,4 @@
-use Rattle.std.proofs.Common.{◌∙◌, ◌+◌, ◌-◌, cond, sym, ap, arith}
+use Rattle.std.proofs.Common.{◌∙◌, ◌+◌, ◌-◌, cond, sym, ap, arith, rules}
 use Rattle.roam_grid.specs.Tabs.{stop_from}
 use Rattle.roam_grid.proofs.Stops.{from_step, from_none, next_inside}
 use Rattle.roam_grid.proofs.tabs.next_stop.Goals as goal
@@ -30,3 +30,6 @@ returns-clause-stop c =
     let a = c.args in
     sym (next_inside a.last a.col a.stops.now (omega (arith, c.if-col-last.false)) ∙ sym l.invariant.stop
     ∙ from_none (a.last - l.at) l.at a.stops.now (omega (arith, c.loop-at-test.false)))
+
+pub loop-at-init : goal.loop-at-init
+loop-at-init c = search rules

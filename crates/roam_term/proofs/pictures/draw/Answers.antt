@@ -1,4 +1,4 @@
-use Rattle.std.proofs.Common.{◌-◌, length, drop, subst}
+use Rattle.std.proofs.Common.{◌-◌, length, drop, subst, rules}
 use Rattle.std.specs.Prelude.{All}
 use Rattle.std.proofs.lemmas.List.Elements.{All-drop}
 use Rattle.roam_history.specs.Histories.{IsRow}
@@ -24,3 +24,6 @@ new-requires-clause-whole c =
 pub new-requires-clause-unguarded : goal.new-requires-clause-unguarded
 new-requires-clause-unguarded c =
     rw c.in_ok-cells.ensures.cells (shown_unguarded c.args.canvas.now.modes.reverse_screen (cells_in_view c.rows_in_view-v.result c.args.canvas.now c.args.history.now))
+
+pub returns-clause-shown : goal.returns-clause-shown
+returns-clause-shown c = search rules

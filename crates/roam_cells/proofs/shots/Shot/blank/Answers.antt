@@ -9,3 +9,6 @@ invariant_of-result c =
     let yes : IsTrue c.is_size.result = search rules in
     let blank : IsScreenshot (blank_screenshot c.args.rows c.args.cols) = blank_is_screenshot c.args.rows c.args.cols (c.is_size.ensures.size.0 yes) in
     search (rules, blank)
+
+pub returns-clause-blank : goal.returns-clause-blank
+returns-clause-blank c = search rules

@@ -1,0 +1,5 @@
+use Rattle.std.proofs.Common.{rules}
+use Rattle.roam_charset.proofs.sets.Sets.shift.Goals as goal
+
+pub returns : goal.returns
+returns c = search rules
