@@ -1,5 +1,5 @@
-# `make` proves what the program stands on and builds it; `make test` is the whole gate; `make bench` runs the benchmarks.
-# All need the kit's `rt` on the PATH; the benchmarks a C compiler and Python too.
+# `make` proves what the program stands on and builds it; `make show` builds the program that has `roam show` alone; `make test` is the
+# whole gate; `make bench` runs the benchmarks. All need the kit's `rt` on the PATH; the benchmarks a C compiler and Python too.
 # What one goal stands on, or all: a word a crate, those below it first, NAME:DEP:DEP.
 goal := $(patsubst crates/%/out/built,%,$(filter crates/%/out/built,$(MAKECMDGOALS)))
 crates := $(shell tools/crates_below $(if $(word 2,$(MAKECMDGOALS)),,$(goal)) | tr ' ' ':')
@@ -9,13 +9,16 @@ files := $(shell find crates/*/src crates/*/specs crates/*/proofs -type f)
 sources = $(filter crates/$(1)/%,$(files))
 built = $(patsubst %,crates/%/out/built,$(1))
 
-.PHONY: all test bench clean
+.PHONY: all show test bench clean
+
+all: program = roam
+show: program = show_program
 
 # Each crate prints a line as it is proved; as many go side by side as there are processors. One build waits for another of the same tree.
-all:
+all show:
 	@mkdir -p crates/roam/out
-	@flock crates/roam/out/lock $(MAKE) -s --no-print-directory -j "$$(nproc)" crates/roam/out/built
-	@crates/roam/out/roam --help > /dev/null
+	@flock crates/roam/out/lock $(MAKE) -s --no-print-directory -j "$$(nproc)" crates/$(program)/out/built
+	@crates/$(program)/out/$(program) --help > /dev/null
 
 # A crate is proved, and a program built, once those are proved that it stands on.
 define crate
@@ -24,9 +27,10 @@ crates/$(call name,$(1))/out/built: crates.txt $(call sources,$(call name,$(1)))
 endef
 $(foreach line,$(crates),$(eval $(call crate,$(line))))
 
-# Every proof from nothing, the must-fail edits, the tests and the programs.
+# Every proof from nothing, the must-fail edits, the tests and the programs: one job a processor, and one processor a job, since a proof
+# that is shared out costs half as much again. More than four don't fit into the memory of such a machine.
 test:
-	rt ci
+	RT_JOBS=$$(nproc | awk '{ print ($$1 < 4 ? $$1 : 4) }') rt ci
 
 bench: all
 	bench/text.sh

@@ -1,7 +1,8 @@
 //! What `roam show` prints: rows by ECMA-48, the VT220 and this project's profile, and what becomes of a run that fails.
 use crate::streams::{Cut, Drip, Narrow};
 use roam_cells::Fault;
-use roam_show::{RunFault, run_show};
+use roam_faults::RunFault;
+use roam_show::run_show;
 use std::alloc::Global;
 use std::test::*;
 

@@ -1,8 +1,8 @@
 //! What `roam world` prints: scripts with the answers that the rules ask for, and what becomes of a run that fails.
 use crate::streams::{Cut, Narrow};
 use roam_cells::Fault;
+use roam_faults::RunFault;
 use roam_play::run_world;
-use roam_show::RunFault;
 use std::alloc::Global;
 use std::test::*;
 

@@ -6,8 +6,9 @@
 #![tactic(auto)]
 
 use roam_command::{Request, asked, end, words_of};
+use roam_faults::RunFault;
 use roam_play::run_world;
-use roam_show::{RunFault, run_show};
+use roam_show::run_show;
 use roam_sockets::{Attach, Serve, run_attach, run_serve};
 use std::io;
 use std::process::ExitCode;

@@ -4,7 +4,7 @@ ghost use Rattle.std.specs.Process.{exit_status};
 
 use crate::words::{Refusal, Request, read_words};
 use roam_cells::Fault;
-use roam_show::RunFault;
+use roam_faults::RunFault;
 use std::env;
 use std::env::Env;
 use std::io::ErrorKind;

@@ -16,8 +16,8 @@ use Rattle.roam_world.specs.Worlds.{Event, Reply}
 use Rattle.roam_script.specs.Values.{LineValue, Session}
 use Rattle.roam_script.specs.Skipped.{is_skipped}
 use Rattle.roam_simulation.specs.Worlds.{WorldView, StandsFor}
-use Rattle.roam_show.specs.declared.faults.RunFault.{RunFault}
-use Rattle.roam_show.specs.declared.faults.RunFault.TheVariants as run
+use Rattle.roam_faults.specs.declared.faults.RunFault.{RunFault}
+use Rattle.roam_faults.specs.declared.faults.RunFault.TheVariants as run
 use Rattle.roam_play.specs.Asked.{asked_in}
 use Rattle.roam_play.specs.Replies.{reply_line}
 use Rattle.roam_play.specs.Scripts.{Stage, Before, Within, Answers, AnswersLine, AreLines, BeginsWith, Ends, IsBadSession, IsEvent, IsOneLine, IsReason, Plays, Prints, Stopped, ended, event_in, is_in_place, size_of}

@@ -4,8 +4,8 @@ use Rattle.std.specs.Io.KnownBytes.{Appends, Keeps}
 use Rattle.roam_cells.specs.declared.faults.Fault.TheVariants.{OutOfMemory}
 use Rattle.roam_script.specs.Values.{LineValue}
 use Rattle.roam_simulation.specs.Worlds.{WorldView, StandsFor}
-use Rattle.roam_show.specs.declared.faults.RunFault.{RunFault}
-use Rattle.roam_show.specs.declared.faults.RunFault.TheVariants as run
+use Rattle.roam_faults.specs.declared.faults.RunFault.{RunFault}
+use Rattle.roam_faults.specs.declared.faults.RunFault.TheVariants as run
 use Rattle.roam_play.specs.Scripts.{Stage, Before, Within, AnswersLine, Answers, Plays, Ends, AreLines}
 
 -- a world of the code is that of a stage

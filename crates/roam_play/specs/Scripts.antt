@@ -12,8 +12,8 @@ use Rattle.roam_world.specs.Laws.{Reaches}
 use Rattle.roam_script.specs.Values.{LineValue, IsLine, Session, Start, PaneBytes, Typed, ServerTick, ClientTick, ToServer, ToClient, Drained, Show, Face, Output}
 use Rattle.roam_script.specs.Lines.{Says}
 use Rattle.roam_script.specs.Skipped.{is_skipped}
-use Rattle.roam_show.specs.declared.faults.RunFault.{RunFault}
-use Rattle.roam_show.specs.declared.faults.RunFault.TheVariants as run
+use Rattle.roam_faults.specs.declared.faults.RunFault.{RunFault}
+use Rattle.roam_faults.specs.declared.faults.RunFault.TheVariants as run
 use Rattle.roam_play.specs.Replies.{reply_line}
 use Rattle.roam_play.specs.Asked.{asked_in}
 

@@ -1,11 +1,8 @@
-//! What `roam show` prints: the screen that a pane's bytes make, and what the terminal answered. What any run of the program fails by
-//! stands here too.
+//! What `roam show` prints: the screen that a pane's bytes make, and what the terminal answered.
 //!
 //! It stands below the program, so that its clauses and edits don't pay for reading the command line's library.
 #![tactic(auto)]
 
-mod faults;
 mod show;
 
-pub use faults::RunFault;
 pub use show::{MOST_READS, push_screen, run_show};

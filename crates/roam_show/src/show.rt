@@ -6,8 +6,8 @@ ghost use Rattle.roam_term.specs.Terminal.{reports};
 ghost use Rattle.roam_term.specs.Stands.{Shows, IsTermSize};
 ghost use Rattle.roam_show.specs.ShowText.{row_line, screen_text, output_line, show_text};
 
-use crate::faults::RunFault;
 use roam_cells::{Fault, Shot};
+use roam_faults::RunFault;
 use roam_term::laws::nothing_read_answers_nothing;
 use roam_term::{MOST_LINES, MOST_PIECE, Term};
 use std::alloc::{AllocError, Global};

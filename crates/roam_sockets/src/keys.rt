@@ -7,7 +7,7 @@ ghost use Rattle.roam_sockets.specs.Keys.{lines_of, AreLinesOf, FailsAt};
 
 use roam_acts::{Act, read_act};
 use roam_cells::Fault;
-use roam_show::RunFault;
+use roam_faults::RunFault;
 use std::alloc::Global;
 
 // The place of the first LF.

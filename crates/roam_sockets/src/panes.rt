@@ -5,7 +5,7 @@ ghost use Rattle.roam_sockets.specs.Panes.{path_of, paths_of};
 use mio::net::{UnixListener, UnixStream};
 use mio::{Interest, Registry, Token};
 use roam_cells::Fault;
-use roam_show::RunFault;
+use roam_faults::RunFault;
 use std::alloc::Global;
 use std::fs::{Files, remove_file};
 use std::io::{ErrorKind, Read, Write};

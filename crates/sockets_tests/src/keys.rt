@@ -1,7 +1,7 @@
 //! Files of acts.
 use roam_acts::Act;
 use roam_cells::Fault;
-use roam_show::RunFault;
+use roam_faults::RunFault;
 use roam_sockets::acts_of;
 use std::alloc::Global;
 use std::test::*;

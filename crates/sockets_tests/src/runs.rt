@@ -1,5 +1,5 @@
 //! Runs of `roam serve` and `roam attach`: what ends them, and what stays.
-use roam_show::RunFault;
+use roam_faults::RunFault;
 use roam_sockets::{Attach, Moments, Serve, ServerPorts, run_attach, run_serve};
 use std::fs::{create_dir, remove_file, write};
 use std::io;

@@ -4,175 +4,73 @@ use roam_term::{MOST_LINES, MOST_PIECE, Term};
 use std::alloc::Global;
 use std::test::*;
 
-const PLAIN: Style = Style {
-    bold: false,
-    faint: false,
-    italic: false,
-    underline: false,
-    blink: false,
-    reverse: false,
-    conceal: false,
-    strike: false,
-    foreground: Colour::Default,
-    background: Colour::Default,
-};
+// What is fed, and the style in which a character stands that is printed then. An index is up to 255: one above is passed over, and an empty
+// one is 0; 2 and three numbers are passed over; otherwise, or cut short, the rest says nothing. Other numbers, private markers and
+// intermediate bytes change nothing.
+const RENDERED: &str = "\
+\x1B[1m|bold
+\x1B[2;3m|faint italic
+\x1B[4;5m|underline blink
+\x1B[21m|underline
+\x1B[7;8;9m|reverse conceal strike
+\x1B[1;2;3;4;5;7;8;9m\x1B[22;23;24;25;27;28;29m|plain
+\x1B[1;31;42m\x1B[m|plain
+\x1B[1;31;42m\x1B[;4m|underline
+\x1B[30;47m|foreground=0 background=7
+\x1B[97;100m|foreground=15 background=8
+\x1B[31;41m\x1B[39;49m|plain
+\x1B[38;5;255;48;5;0m|foreground=255 background=0
+\x1B[38;5;256;1m|bold
+\x1B[38;5;;1m|foreground=0 bold
+\x1B[38;2;1;4;7;1m|bold
+\x1B[48;2;1;4;7;3m|italic
+\x1B[1;38;3;4m|bold
+\x1B[1;38m|bold
+\x1B[1;48;5m|bold
+\x1B[38;2;4m|plain
+\x1B[6;10;26;38;9;1m|plain
+\x1B[?1m\x1B[>4m\x1B[1 m|plain";
 
-/// The style in which a character stands that is printed after some bytes.
-struct Rendered {
-    before: &'static [u8],
-    style: Style,
+fn add_colour(style: &mut Style, word: &str) -> bool {
+    let Some((name, index)) = word.split_once('=') else {
+        return false;
+    };
+    let Ok(index) = index.parse::<u8>() else {
+        return false;
+    };
+    match name {
+        "foreground" => style.foreground = Colour::Index(index),
+        "background" => style.background = Colour::Index(index),
+        _ => return false,
+    }
+    true
 }
 
-static RENDERED: [Rendered; 22] = [
-    Rendered {
-        before: b"\x1B[1m",
-        style: Style {
-            bold: true,
-            ..PLAIN
-        },
-    },
-    Rendered {
-        before: b"\x1B[2;3m",
-        style: Style {
-            faint: true,
-            italic: true,
-            ..PLAIN
-        },
-    },
-    Rendered {
-        before: b"\x1B[4;5m",
-        style: Style {
-            underline: true,
-            blink: true,
-            ..PLAIN
-        },
-    },
-    Rendered {
-        before: b"\x1B[21m",
-        style: Style {
-            underline: true,
-            ..PLAIN
-        },
-    },
-    Rendered {
-        before: b"\x1B[7;8;9m",
-        style: Style {
-            reverse: true,
-            conceal: true,
-            strike: true,
-            ..PLAIN
-        },
-    },
-    Rendered {
-        before: b"\x1B[1;2;3;4;5;7;8;9m\x1B[22;23;24;25;27;28;29m",
-        style: PLAIN,
-    },
-    Rendered {
-        before: b"\x1B[1;31;42m\x1B[m",
-        style: PLAIN,
-    },
-    Rendered {
-        before: b"\x1B[1;31;42m\x1B[;4m",
-        style: Style {
-            underline: true,
-            ..PLAIN
-        },
-    },
-    Rendered {
-        before: b"\x1B[30;47m",
-        style: Style {
-            foreground: Colour::Index(0),
-            background: Colour::Index(7),
-            ..PLAIN
-        },
-    },
-    Rendered {
-        before: b"\x1B[97;100m",
-        style: Style {
-            foreground: Colour::Index(15),
-            background: Colour::Index(8),
-            ..PLAIN
-        },
-    },
-    Rendered {
-        before: b"\x1B[31;41m\x1B[39;49m",
-        style: PLAIN,
-    },
-    // An index up to 255; one above is passed over, and an empty one is 0.
-    Rendered {
-        before: b"\x1B[38;5;255;48;5;0m",
-        style: Style {
-            foreground: Colour::Index(255),
-            background: Colour::Index(0),
-            ..PLAIN
-        },
-    },
-    Rendered {
-        before: b"\x1B[38;5;256;1m",
-        style: Style {
-            bold: true,
-            ..PLAIN
-        },
-    },
-    Rendered {
-        before: b"\x1B[38;5;;1m",
-        style: Style {
-            foreground: Colour::Index(0),
-            bold: true,
-            ..PLAIN
-        },
-    },
-    // 2 and three numbers are passed over.
-    Rendered {
-        before: b"\x1B[38;2;1;4;7;1m",
-        style: Style {
-            bold: true,
-            ..PLAIN
-        },
-    },
-    Rendered {
-        before: b"\x1B[48;2;1;4;7;3m",
-        style: Style {
-            italic: true,
-            ..PLAIN
-        },
-    },
-    // Otherwise, or cut short, the rest says nothing.
-    Rendered {
-        before: b"\x1B[1;38;3;4m",
-        style: Style {
-            bold: true,
-            ..PLAIN
-        },
-    },
-    Rendered {
-        before: b"\x1B[1;38m",
-        style: Style {
-            bold: true,
-            ..PLAIN
-        },
-    },
-    Rendered {
-        before: b"\x1B[1;48;5m",
-        style: Style {
-            bold: true,
-            ..PLAIN
-        },
-    },
-    Rendered {
-        before: b"\x1B[38;2;4m",
-        style: PLAIN,
-    },
-    // Other numbers, private markers and intermediate bytes change nothing.
-    Rendered {
-        before: b"\x1B[6;10;26;38;9;1m",
-        style: PLAIN,
-    },
-    Rendered {
-        before: b"\x1B[?1m\x1B[>4m\x1B[1 m",
-        style: PLAIN,
-    },
-];
+fn add(style: &mut Style, word: &str) -> bool {
+    match word {
+        "plain" => {}
+        "bold" => style.bold = true,
+        "faint" => style.faint = true,
+        "italic" => style.italic = true,
+        "underline" => style.underline = true,
+        "blink" => style.blink = true,
+        "reverse" => style.reverse = true,
+        "conceal" => style.conceal = true,
+        "strike" => style.strike = true,
+        _ => return add_colour(style, word),
+    }
+    true
+}
+
+fn style_of(words: &str) -> Option<Style> {
+    let mut style = Style::default();
+    for word in words.split(' ') {
+        if !add(&mut style, word) {
+            return None;
+        }
+    }
+    Some(style)
+}
 
 // A character in this style, unguarded.
 fn is_drawn(shot: &Shot, style: Style) -> bool {
@@ -182,16 +80,22 @@ fn is_drawn(shot: &Shot, style: Style) -> bool {
     }
 }
 
-fn is_rendered(alloc: Global, row: &Rendered) -> Result<bool, Fail> {
+fn is_rendered(alloc: Global, line: &str) -> Result<bool, Fail> {
+    let Some((before, words)) = line.split_once('|') else {
+        return Ok(false);
+    };
+    let Some(style) = style_of(words) else {
+        return Ok(false);
+    };
     let mut term = Term::new(alloc, 2, 8, 0)?;
-    let fed = term.feed(row.before) == Ok(()) && term.feed(b"a") == Ok(());
-    Ok(fed && is_drawn(&term.shot(alloc, 0)?, row.style))
+    let fed = term.feed(before.as_bytes()) == Ok(()) && term.feed(b"a") == Ok(());
+    Ok(fed && is_drawn(&term.shot(alloc, 0)?, style))
 }
 
 #[test]
 fn renditions(rt: HostRuntime) -> Result<(), Fail> {
-    for row in &RENDERED {
-        assert!(rt; is_rendered(rt.alloc(), row)?, "{:?}", row.before);
+    for line in RENDERED.lines() {
+        assert!(rt; is_rendered(rt.alloc(), line)?, "{line:?}");
     }
     Ok(())
 }

@@ -4,32 +4,67 @@ ghost use Rattle.std.specs.Prelude.{◌≡◌, IfSome};
 use roam_cells::columns::is_joiner;
 use roam_cells::limits::is_size;
 use roam_cells::*;
-use std::alloc::Global;
+use std::alloc::{AllocError, Global};
 use std::test::Fail;
+
+// The texts of the refusals.
+const FAULTS: &str = "\
+out of memory
+bad size
+too small
+no such pane
+too many panes
+only one pane
+queue is full
+too long
+bad datagram
+other session
+other client
+too many clients
+bad change
+too many states
+numbers spent
+bad act";
+
+fn fault_of_a_screen(text: &str) -> Option<Fault> {
+    match text {
+        "out of memory" => Some(Fault::OutOfMemory),
+        "bad size" => Some(Fault::BadSize),
+        "too small" => Some(Fault::TooSmall),
+        "no such pane" => Some(Fault::NoPane),
+        "too many panes" => Some(Fault::PanesFull),
+        "only one pane" => Some(Fault::LastPane),
+        "queue is full" => Some(Fault::Busy),
+        "too long" => Some(Fault::TooLong),
+        _ => None,
+    }
+}
+
+fn fault_of_a_link(text: &str) -> Option<Fault> {
+    match text {
+        "bad datagram" => Some(Fault::BadDatagram(Reason::Fragment)),
+        "other session" => Some(Fault::OtherSession),
+        "other client" => Some(Fault::OtherClient),
+        "too many clients" => Some(Fault::ClientsFull),
+        "bad change" => Some(Fault::BadChange),
+        "too many states" => Some(Fault::SendFull),
+        "numbers spent" => Some(Fault::Spent),
+        "bad act" => Some(Fault::BadAct),
+        _ => None,
+    }
+}
+
+fn is_text(alloc: Global, text: &str) -> Result<bool, AllocError> {
+    let Some(fault) = fault_of_a_screen(text).or(fault_of_a_link(text)) else {
+        return Ok(false);
+    };
+    Ok(format!(in alloc; "{fault}")?.as_str() == text)
+}
 
 #[test]
 fn each_fault_has_its_text(rt: HostRuntime) -> Result<(), Fail> {
-    let rows = [
-        (Fault::OutOfMemory, "out of memory"),
-        (Fault::BadSize, "bad size"),
-        (Fault::TooSmall, "too small"),
-        (Fault::NoPane, "no such pane"),
-        (Fault::PanesFull, "too many panes"),
-        (Fault::LastPane, "only one pane"),
-        (Fault::Busy, "queue is full"),
-        (Fault::TooLong, "too long"),
-        (Fault::BadDatagram(Reason::Fragment), "bad datagram"),
-        (Fault::OtherSession, "other session"),
-        (Fault::OtherClient, "other client"),
-        (Fault::ClientsFull, "too many clients"),
-        (Fault::BadChange, "bad change"),
-        (Fault::SendFull, "too many states"),
-        (Fault::Spent, "numbers spent"),
-        (Fault::BadAct, "bad act"),
-    ];
-    for (fault, text) in rows {
-        let shown = format!(in rt.alloc(); "{fault}")?;
-        assert_eq!(rt; shown.as_str(), text);
+    for text in FAULTS.lines() {
+        assert!(rt; is_text(rt.alloc(), text)?, "{text}");
     }
     Ok(())
 }
@@ -143,22 +178,39 @@ fn cells_of_code_points(rt: HostRuntime) {
     }
 }
 
+fn halves_become_spaces() -> bool {
+    let half = Cell::right_half(bold(), true);
+    let space = half.space_in();
+    half.is_right_half()
+        && half.chars().is_empty()
+        && space.is_same(&Cell::ascii(b' ', bold(), true))
+        && !space.is_same(&Cell::blank())
+}
+
+fn cells_take_characters() -> bool {
+    let mut cell = Cell::right_half(bold(), true);
+    cell.set_ascii(b'~');
+    let plain = cell.unguarded();
+    cell.chars() == ['~'].as_slice()
+        && cell.is_same(&Cell::ascii(b'~', bold(), true))
+        && plain.is_same(&Cell::ascii(b'~', bold(), false))
+        && !plain.is_same(&cell)
+}
+
+fn styles_are_told_apart() -> bool {
+    let three = Colour::Index(3);
+    bold().is_same(bold())
+        && !bold().is_same(Style::default())
+        && three.is_same(Colour::Index(3))
+        && !three.is_same(Colour::Index(4))
+        && !Colour::Index(0).is_same(Colour::Default)
+}
+
 #[test]
 fn cells_made_from_cells(rt: HostRuntime) {
-    let half = Cell::right_half(bold(), true);
-    assert!(rt; half.is_right_half() && half.chars().is_empty());
-    assert!(rt; half.space_in().is_same(&Cell::ascii(b' ', bold(), true)));
-    assert!(rt; !half.space_in().is_same(&Cell::blank()));
-    let mut cell = half;
-    cell.set_ascii(b'~');
-    assert_eq!(rt; cell.chars(), ['~'].as_slice());
-    assert!(rt; cell.is_same(&Cell::ascii(b'~', bold(), true)));
-    assert!(rt; cell.unguarded().is_same(&Cell::ascii(b'~', bold(), false)));
-    assert!(rt; !cell.unguarded().is_same(&cell));
-    assert!(rt; bold().is_same(bold()) && !bold().is_same(Style::default()));
-    assert!(rt; Colour::Index(3).is_same(Colour::Index(3)));
-    assert!(rt; !Colour::Index(3).is_same(Colour::Index(4)));
-    assert!(rt; !Colour::Index(0).is_same(Colour::Default));
+    assert!(rt; halves_become_spaces());
+    assert!(rt; cells_take_characters());
+    assert!(rt; styles_are_told_apart());
 }
 
 fn wide() -> Cell {

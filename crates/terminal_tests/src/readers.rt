@@ -457,38 +457,46 @@ fn push_control_sequence(
     Ok(())
 }
 
+fn push_code(text: &mut String, name: &str, code: u32) -> Result<(), Fail> {
+    write!(text, "{name}({code:02X}) ")?;
+    Ok(())
+}
+
+fn push_size(text: &mut String, rows: u16, cols: u16) -> Result<(), Fail> {
+    write!(text, "Size({rows} {cols}) ")?;
+    Ok(())
+}
+
 fn push_function(text: &mut String, function: &Function) -> Result<(), Fail> {
     match function {
-        Function::Print(c) => write!(text, "Print({:X}) ", *c as u32)?,
-        Function::C0(code) => write!(text, "C0({code:02X}) ")?,
-        Function::C1(code) => write!(text, "C1({code:02X}) ")?,
-        Function::Esc { inter, last } => push_escape_sequence(text, inter.as_slice(), *last)?,
+        Function::Print(c) => push_code(text, "Print", *c as u32),
+        Function::C0(code) => push_code(text, "C0", u32::from(*code)),
+        Function::C1(code) => push_code(text, "C1", u32::from(*code)),
+        Function::Esc { inter, last } => push_escape_sequence(text, inter.as_slice(), *last),
         Function::Csi {
             mark,
             params,
             inter,
             last,
-        } => push_control_sequence(text, *mark, params.as_slice(), inter.as_slice(), *last)?,
-        Function::Size(rows, cols) => write!(text, "Size({rows} {cols}) ")?,
+        } => push_control_sequence(text, *mark, params.as_slice(), inter.as_slice(), *last),
+        Function::Size(rows, cols) => push_size(text, *rows, *cols),
     }
-    Ok(())
 }
 
 fn push_dispatch(text: &mut String, reader: &Reader, dispatch: Dispatch) -> Result<(), Fail> {
     match dispatch {
-        Dispatch::Print(c) => write!(text, "Print({:X}) ", c as u32)?,
-        Dispatch::C0(code) => write!(text, "C0({code:02X}) ")?,
-        Dispatch::C1(code) => write!(text, "C1({code:02X}) ")?,
-        Dispatch::Esc { last } => push_escape_sequence(text, reader.intermediates(), last)?,
+        Dispatch::Print(c) => push_code(text, "Print", c as u32),
+        Dispatch::C0(code) => push_code(text, "C0", u32::from(code)),
+        Dispatch::C1(code) => push_code(text, "C1", u32::from(code)),
+        Dispatch::Esc { last } => push_escape_sequence(text, reader.intermediates(), last),
         Dispatch::Csi { mark, last } => push_control_sequence(
             text,
             mark,
             reader.parameters(),
             reader.intermediates(),
             last,
-        )?,
+        ),
     }
-    Ok(())
 }
 
 // Reads a piece by `next` alone.
@@ -512,7 +520,7 @@ fn read_by_dispatch(text: &mut String, reader: &mut Reader, piece: &[u8]) -> Res
     while at < piece.len() {
         let run = reader.plain_run(&piece[at..]);
         for byte in &piece[at..at + run] {
-            write!(text, "Print({byte:X}) ")?;
+            push_code(text, "Print", u32::from(*byte))?;
         }
         at += run;
         if at < piece.len() {

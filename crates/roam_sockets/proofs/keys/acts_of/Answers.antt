@@ -2,7 +2,7 @@ use Rattle.std.proofs.Common.{arith, ◌≡◌, ◌+◌, ◌∷◌, ℕ, [], len
 use Rattle.std.proofs.lemmas.Bool.{eqb-true}
 use Rattle.std.proofs.lemmas.List.{nil_from_length}
 use Rattle.std.proofs.lemmas.List.Elements.{All-append}
-use Rattle.roam_show.specs.declared.faults.RunFault.TheVariants.{Act}
+use Rattle.roam_faults.specs.declared.faults.RunFault.TheVariants.{Act}
 use Rattle.roam_acts.specs.declared.acts.Act.{Act as ActOf}
 use Rattle.roam_acts.specs.Acts.{IsInRange}
 use Rattle.roam_sockets.specs.Keys.{lines_of, IsLineOf}

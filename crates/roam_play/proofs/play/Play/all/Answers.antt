@@ -2,7 +2,7 @@ use Rattle.std.proofs.Common.{◌≡◌, ◌+◌, ◌++◌, [], List, ℕ, ◌�
 use Rattle.std.proofs.lemmas.List.{length-take}
 use Rattle.std.specs.Io.KnownBytes.{Consumes}
 use Rattle.std.proofs.KnownBytes.{Consumes-nil, Consumes-trans, Consumes-kept}
-use Rattle.roam_show.specs.declared.faults.RunFault.TheVariants as run
+use Rattle.roam_faults.specs.declared.faults.RunFault.TheVariants as run
 use Rattle.roam_play.specs.Scripts.{Before, Stopped}
 use Rattle.roam_play.specs.Played.{Fails, Told}
 use Rattle.roam_play.proofs.Asking.{ok_then}

@@ -1,6 +1,6 @@
 use Rattle.std.proofs.Common.{◌≡◌, ◌+◌, ◌++◌, [], ◌∷◌, ◌⊎◌, inr, refl, take, drop, get_or, sym, subst, ap, arith}
 use Rattle.std.proofs.KnownBytes.{Keeps-refl}
-use Rattle.roam_show.specs.declared.faults.RunFault.TheVariants as run
+use Rattle.roam_faults.specs.declared.faults.RunFault.TheVariants as run
 use Rattle.roam_play.specs.Scripts.{Stage, IsOneLine, Stopped}
 use Rattle.roam_play.specs.Scripts as script
 use Rattle.roam_play.specs.Played.{Fails, IsAt, Told}

@@ -32,7 +32,7 @@ pub enum RunFault {
 
 impl From<Fault> for RunFault {
     ghost use Rattle.std.specs.Prelude.{◌≡◌};
-    ghost use Rattle.roam_show.specs.declared.faults.RunFault.TheVariants.{Core};
+    ghost use Rattle.roam_faults.specs.declared.faults.RunFault.TheVariants.{Core};
 
     ghost from_gives = { λ fault e. e ≡ Core fault };
 
