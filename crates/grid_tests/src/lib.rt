@@ -4,6 +4,10 @@
 #![tactic(auto)]
 
 #[cfg(test)]
+mod acts;
+#[cfg(test)]
+mod cases;
+#[cfg(test)]
 mod grids;
 #[cfg(test)]
 mod marks;

@@ -1,537 +1,130 @@
 //! Tests of marks: which rows each call marks.
-ghost use Rattle.std.specs.Prelude.{◌≡◌, IsTrue};
-ghost use Rattle.roam_rows.specs.Writing.{ArePrintable};
-
-use roam_cells::{Cell, Fault, Style, width};
-use roam_grid::{Extent, Grid, Writing};
+//!
+//! A line has a name; what is done to a grid of 5 rows and 8 columns before its marks are cleared, and after; and the rows, from 1, that are
+//! marked then.
+use crate::acts::{number, play};
+use crate::cases::turned_grid;
+use roam_cells::Fault;
+use roam_grid::Grid;
 use std::alloc::Global;
 use std::test::Fail;
 
-/// What is done to a grid in a row of a table; rows and columns count from 1, as in control functions.
-#[derive(Clone, Copy)]
-enum Act {
-    /// Each character by itself.
-    Type(&'static str),
-    /// Printable ASCII at once.
-    Run(&'static str),
-    Guarded(&'static str),
-    /// DECAWM and IRM.
-    Modes(bool, bool),
-    Go(usize, usize),
-    Moves,
-    Margins(usize, usize),
-    Stops,
-    Index,
-    ReverseIndex,
-    ScrollUp(usize),
-    ScrollDown(usize),
-    InsertCells(usize),
-    DeleteCells(usize),
-    EraseCells,
-    InsertLines(usize),
-    DeleteLines(usize),
-    Page(Extent),
-    Line(Extent),
-    SelectivePage(Extent),
-    SelectiveLine(Extent),
-    Align,
-    BlankAll,
-    Restart,
-    MarkAll,
-}
+const WRITING: &str = "\
+nothing|||
+a character||CUP 3 1, text a|3
+the same character again|text a|CUP 1 1, text a|1
+a wide character||CUP 4 2, text \u{5168}|4
+a wrap|CUP 2 8, text a|text b|3
+a wrap on the last row|CUP 5 8, text a|text b|1 2 3 4 5
+a wrap on the bottom margin|DECSTBM 2 4, CUP 4 8, text a|text b|2 3 4
+a wrap on the last row below the margins|DECSTBM 2 4, CUP 5 8, text a|text b|5
+a wide character in the last column|CUP 2 8|text \u{5168}|3
+a wide character in the last column of the bottom margin|DECSTBM 3 4, CUP 4 8|text \u{5168}|3 4
+a wide character in the last column without DECAWM|wraps off, insert off, CUP 2 8|wraps off, insert off, text \u{5168}|2
+a character under IRM|text abc, CUP 1 1|wraps on, insert on, text d|1
+a run||CUP 2 3, run abc|2
+a run up to the last column||CUP 2 1, run abcdefgh|2
+a run over two rows||CUP 2 7, run abc|2 3
+a run that scrolls|DECSTBM 1 3|CUP 3 7, run abc|1 2 3
+a run under IRM||wraps on, insert on, CUP 4 7, run abc|4 5";
 
-/// The rows, from 1, that acts mark on a grid of 5 rows and 8 columns with no mark on, after others.
-struct Row {
-    name: &'static str,
-    before: &'static [Act],
-    acts: &'static [Act],
-    marked: &'static [usize],
-}
+const JOINING: &str = "\
+a joiner|CUP 2 1, text e|text \u{301}|2
+a joiner in the first column||text \u{301}|
+a joiner of a wide character|CUP 3 1, text \u{5168}|text \u{301}|3
+a fourth code point|text e\u{301}\u{302}|text \u{303}|
+a joiner where a wrap pends|CUP 2 8, text e|text \u{301}|2";
 
-static WRITING: [Row; 17] = [
-    Row {
-        name: "nothing",
-        before: &[],
-        acts: &[],
-        marked: &[],
-    },
-    Row {
-        name: "a character",
-        before: &[],
-        acts: &[Act::Go(3, 1), Act::Type("a")],
-        marked: &[3],
-    },
-    Row {
-        name: "the same character again",
-        before: &[Act::Type("a")],
-        acts: &[Act::Go(1, 1), Act::Type("a")],
-        marked: &[1],
-    },
-    Row {
-        name: "a wide character",
-        before: &[],
-        acts: &[Act::Go(4, 2), Act::Type("\u{5168}")],
-        marked: &[4],
-    },
-    Row {
-        name: "a wrap",
-        before: &[Act::Go(2, 8), Act::Type("a")],
-        acts: &[Act::Type("b")],
-        marked: &[3],
-    },
-    Row {
-        name: "a wrap on the last row",
-        before: &[Act::Go(5, 8), Act::Type("a")],
-        acts: &[Act::Type("b")],
-        marked: &[1, 2, 3, 4, 5],
-    },
-    Row {
-        name: "a wrap on the bottom margin",
-        before: &[Act::Margins(2, 4), Act::Go(4, 8), Act::Type("a")],
-        acts: &[Act::Type("b")],
-        marked: &[2, 3, 4],
-    },
-    Row {
-        name: "a wrap on the last row below the margins",
-        before: &[Act::Margins(2, 4), Act::Go(5, 8), Act::Type("a")],
-        acts: &[Act::Type("b")],
-        marked: &[5],
-    },
-    Row {
-        name: "a wide character in the last column",
-        before: &[Act::Go(2, 8)],
-        acts: &[Act::Type("\u{5168}")],
-        marked: &[3],
-    },
-    Row {
-        name: "a wide character in the last column of the bottom margin",
-        before: &[Act::Margins(3, 4), Act::Go(4, 8)],
-        acts: &[Act::Type("\u{5168}")],
-        marked: &[3, 4],
-    },
-    Row {
-        name: "a wide character in the last column without DECAWM",
-        before: &[Act::Modes(false, false), Act::Go(2, 8)],
-        acts: &[Act::Modes(false, false), Act::Type("\u{5168}")],
-        marked: &[2],
-    },
-    Row {
-        name: "a character under IRM",
-        before: &[Act::Type("abc"), Act::Go(1, 1)],
-        acts: &[Act::Modes(true, true), Act::Type("d")],
-        marked: &[1],
-    },
-    Row {
-        name: "a run",
-        before: &[],
-        acts: &[Act::Go(2, 3), Act::Run("abc")],
-        marked: &[2],
-    },
-    Row {
-        name: "a run up to the last column",
-        before: &[],
-        acts: &[Act::Go(2, 1), Act::Run("abcdefgh")],
-        marked: &[2],
-    },
-    Row {
-        name: "a run over two rows",
-        before: &[],
-        acts: &[Act::Go(2, 7), Act::Run("abc")],
-        marked: &[2, 3],
-    },
-    Row {
-        name: "a run that scrolls",
-        before: &[Act::Margins(1, 3)],
-        acts: &[Act::Go(3, 7), Act::Run("abc")],
-        marked: &[1, 2, 3],
-    },
-    Row {
-        name: "a run under IRM",
-        before: &[],
-        acts: &[Act::Modes(true, true), Act::Go(4, 7), Act::Run("abc")],
-        marked: &[4, 5],
-    },
-];
+const MOVES: &str = "\
+moves of the cursor|text abc|moves, CUP 9999 9999|
+margins and tab stops|text abc|DECSTBM 2 4, HTS, TBC 0, TBC 3|
+IND above the bottom margin||IND|
+IND on the last row|CUP 5 1|IND|1 2 3 4 5
+IND on the bottom margin|DECSTBM 2 4, CUP 4 1|IND|2 3 4
+IND on the last row below the margins|DECSTBM 2 4, CUP 5 1|IND|
+RI below the top margin|CUP 2 1|RI|
+RI on the top margin|DECSTBM 2 4, CUP 2 1|RI|2 3 4
+RI on the first row above the margins|DECSTBM 2 4, CUP 1 1|RI|";
 
-static JOINING: [Row; 5] = [
-    Row {
-        name: "a joiner",
-        before: &[Act::Go(2, 1), Act::Type("e")],
-        acts: &[Act::Type("\u{301}")],
-        marked: &[2],
-    },
-    Row {
-        name: "a joiner in the first column",
-        before: &[],
-        acts: &[Act::Type("\u{301}")],
-        marked: &[],
-    },
-    Row {
-        name: "a joiner of a wide character",
-        before: &[Act::Go(3, 1), Act::Type("\u{5168}")],
-        acts: &[Act::Type("\u{301}")],
-        marked: &[3],
-    },
-    Row {
-        name: "a fourth code point",
-        before: &[Act::Type("e\u{301}\u{302}")],
-        acts: &[Act::Type("\u{303}")],
-        marked: &[],
-    },
-    Row {
-        name: "a joiner where a wrap pends",
-        before: &[Act::Go(2, 8), Act::Type("e")],
-        acts: &[Act::Type("\u{301}")],
-        marked: &[2],
-    },
-];
+const SCROLLS: &str = "\
+SU with full margins||SU 1|1 2 3 4 5
+SU within margins|DECSTBM 2 3|SU 1|2 3
+SU by more rows than there are|DECSTBM 2 4|SU 9999|2 3 4
+SU by none||SU 0|
+SD within margins|DECSTBM 3 5|SD 2|3 4 5
+SD by none||SD 0|
+IL between the margins|DECSTBM 2 4, CUP 3 1|IL 1|3 4
+IL above the margins|DECSTBM 2 4, CUP 1 1|IL 1|
+DL on the bottom margin|DECSTBM 2 4, CUP 4 1|DL 9999|4
+DL below the margins|DECSTBM 2 4, CUP 5 1|DL 1|";
 
-static MOVES: [Row; 9] = [
-    Row {
-        name: "moves of the cursor",
-        before: &[Act::Type("abc")],
-        acts: &[Act::Moves, Act::Go(9999, 9999)],
-        marked: &[],
-    },
-    Row {
-        name: "margins and tab stops",
-        before: &[Act::Type("abc")],
-        acts: &[Act::Margins(2, 4), Act::Stops],
-        marked: &[],
-    },
-    Row {
-        name: "IND above the bottom margin",
-        before: &[],
-        acts: &[Act::Index],
-        marked: &[],
-    },
-    Row {
-        name: "IND on the last row",
-        before: &[Act::Go(5, 1)],
-        acts: &[Act::Index],
-        marked: &[1, 2, 3, 4, 5],
-    },
-    Row {
-        name: "IND on the bottom margin",
-        before: &[Act::Margins(2, 4), Act::Go(4, 1)],
-        acts: &[Act::Index],
-        marked: &[2, 3, 4],
-    },
-    Row {
-        name: "IND on the last row below the margins",
-        before: &[Act::Margins(2, 4), Act::Go(5, 1)],
-        acts: &[Act::Index],
-        marked: &[],
-    },
-    Row {
-        name: "RI below the top margin",
-        before: &[Act::Go(2, 1)],
-        acts: &[Act::ReverseIndex],
-        marked: &[],
-    },
-    Row {
-        name: "RI on the top margin",
-        before: &[Act::Margins(2, 4), Act::Go(2, 1)],
-        acts: &[Act::ReverseIndex],
-        marked: &[2, 3, 4],
-    },
-    Row {
-        name: "RI on the first row above the margins",
-        before: &[Act::Margins(2, 4), Act::Go(1, 1)],
-        acts: &[Act::ReverseIndex],
-        marked: &[],
-    },
-];
+const EDITS: &str = "\
+ICH|CUP 2 8|ICH 1|2
+ICH of none|CUP 2 8|ICH 0|
+DCH|CUP 3 1|DCH 9999|3
+ECH of blank cells|CUP 5 4|ECH 1|5
+EL|CUP 4 4|EL start|4
+ED to the end|CUP 3 4|ED end|3 4 5
+ED to the start|CUP 3 4|ED start|1 2 3
+ED of all|CUP 3 4|ED all|1 2 3 4 5
+DECSEL where all cells are guarded|text ab, guard on, text cdefgh, guard off, CUP 1 3|DECSEL end|
+DECSEL where one isn't|text ab, guard on, text cdefgh, guard off, CUP 1 2|DECSEL end|1
+DECSED round a guarded row|CUP 2 1, guard on, text abcdefgh, guard off, CUP 1 8|DECSED end|1 3 4 5
+DECSED to the start, of a row guarded up to the cursor|CUP 3 1, guard on, text abcd, guard off, CUP 3 4|DECSED start|1 2";
 
-static SCROLLS: [Row; 10] = [
-    Row {
-        name: "SU with full margins",
-        before: &[],
-        acts: &[Act::ScrollUp(1)],
-        marked: &[1, 2, 3, 4, 5],
-    },
-    Row {
-        name: "SU within margins",
-        before: &[Act::Margins(2, 3)],
-        acts: &[Act::ScrollUp(1)],
-        marked: &[2, 3],
-    },
-    Row {
-        name: "SU by more rows than there are",
-        before: &[Act::Margins(2, 4)],
-        acts: &[Act::ScrollUp(9999)],
-        marked: &[2, 3, 4],
-    },
-    Row {
-        name: "SU by none",
-        before: &[],
-        acts: &[Act::ScrollUp(0)],
-        marked: &[],
-    },
-    Row {
-        name: "SD within margins",
-        before: &[Act::Margins(3, 5)],
-        acts: &[Act::ScrollDown(2)],
-        marked: &[3, 4, 5],
-    },
-    Row {
-        name: "SD by none",
-        before: &[],
-        acts: &[Act::ScrollDown(0)],
-        marked: &[],
-    },
-    Row {
-        name: "IL between the margins",
-        before: &[Act::Margins(2, 4), Act::Go(3, 1)],
-        acts: &[Act::InsertLines(1)],
-        marked: &[3, 4],
-    },
-    Row {
-        name: "IL above the margins",
-        before: &[Act::Margins(2, 4), Act::Go(1, 1)],
-        acts: &[Act::InsertLines(1)],
-        marked: &[],
-    },
-    Row {
-        name: "DL on the bottom margin",
-        before: &[Act::Margins(2, 4), Act::Go(4, 1)],
-        acts: &[Act::DeleteLines(9999)],
-        marked: &[4],
-    },
-    Row {
-        name: "DL below the margins",
-        before: &[Act::Margins(2, 4), Act::Go(5, 1)],
-        acts: &[Act::DeleteLines(1)],
-        marked: &[],
-    },
-];
+const SCREENS: &str = "\
+DECALN||DECALN|1 2 3 4 5
+every cell blanked||blank|1 2 3 4 5
+RIS||restart|1 2 3 4 5
+all put on||mark|1 2 3 4 5
+marks stay on||text a, CUP 4 1, text b, moves|1 4";
 
-static EDITS: [Row; 12] = [
-    Row {
-        name: "ICH",
-        before: &[Act::Go(2, 8)],
-        acts: &[Act::InsertCells(1)],
-        marked: &[2],
-    },
-    Row {
-        name: "ICH of none",
-        before: &[Act::Go(2, 8)],
-        acts: &[Act::InsertCells(0)],
-        marked: &[],
-    },
-    Row {
-        name: "DCH",
-        before: &[Act::Go(3, 1)],
-        acts: &[Act::DeleteCells(9999)],
-        marked: &[3],
-    },
-    Row {
-        name: "ECH of blank cells",
-        before: &[Act::Go(5, 4)],
-        acts: &[Act::EraseCells],
-        marked: &[5],
-    },
-    Row {
-        name: "EL",
-        before: &[Act::Go(4, 4)],
-        acts: &[Act::Line(Extent::ToStart)],
-        marked: &[4],
-    },
-    Row {
-        name: "ED to the end",
-        before: &[Act::Go(3, 4)],
-        acts: &[Act::Page(Extent::ToEnd)],
-        marked: &[3, 4, 5],
-    },
-    Row {
-        name: "ED to the start",
-        before: &[Act::Go(3, 4)],
-        acts: &[Act::Page(Extent::ToStart)],
-        marked: &[1, 2, 3],
-    },
-    Row {
-        name: "ED of all",
-        before: &[Act::Go(3, 4)],
-        acts: &[Act::Page(Extent::All)],
-        marked: &[1, 2, 3, 4, 5],
-    },
-    Row {
-        name: "DECSEL where all cells are guarded",
-        before: &[Act::Type("ab"), Act::Guarded("cdefgh"), Act::Go(1, 3)],
-        acts: &[Act::SelectiveLine(Extent::ToEnd)],
-        marked: &[],
-    },
-    Row {
-        name: "DECSEL where one isn't",
-        before: &[Act::Type("ab"), Act::Guarded("cdefgh"), Act::Go(1, 2)],
-        acts: &[Act::SelectiveLine(Extent::ToEnd)],
-        marked: &[1],
-    },
-    Row {
-        name: "DECSED round a guarded row",
-        before: &[Act::Go(2, 1), Act::Guarded("abcdefgh"), Act::Go(1, 8)],
-        acts: &[Act::SelectivePage(Extent::ToEnd)],
-        marked: &[1, 3, 4, 5],
-    },
-    Row {
-        name: "DECSED to the start, of a row guarded up to the cursor",
-        before: &[Act::Go(3, 1), Act::Guarded("abcd"), Act::Go(3, 4)],
-        acts: &[Act::SelectivePage(Extent::ToStart)],
-        marked: &[1, 2],
-    },
-];
-
-static SCREENS: [Row; 5] = [
-    Row {
-        name: "DECALN",
-        before: &[],
-        acts: &[Act::Align],
-        marked: &[1, 2, 3, 4, 5],
-    },
-    Row {
-        name: "every cell blanked",
-        before: &[],
-        acts: &[Act::BlankAll],
-        marked: &[1, 2, 3, 4, 5],
-    },
-    Row {
-        name: "RIS",
-        before: &[],
-        acts: &[Act::Restart],
-        marked: &[1, 2, 3, 4, 5],
-    },
-    Row {
-        name: "all put on",
-        before: &[],
-        acts: &[Act::MarkAll],
-        marked: &[1, 2, 3, 4, 5],
-    },
-    Row {
-        name: "marks stay on",
-        before: &[],
-        acts: &[Act::Type("a"), Act::Go(4, 1), Act::Type("b"), Act::Moves],
-        marked: &[1, 4],
-    },
-];
-
-fn is_printable(bytes: &[u8]) -> bool
-    ensures printable { IsTrue result → ArePrintable bytes.now }
-{
-    for byte in bytes {
-        if *byte < 0x20 || 0x7E < *byte {
-            return false;
+fn is_marked(row: usize, marked: &str) -> bool {
+    for word in marked.split(' ') {
+        if number(word) == Some(row) {
+            return true;
         }
     }
-    true
+    false
 }
 
-fn type_text(grid: &mut Grid, text: &str, guard: bool, writing: Writing) {
-    for c in text.chars() {
-        if width(c) == 0 {
-            grid.join(c);
-        } else if let Some(cell) = Cell::of(&[c], Style::default(), guard) {
-            if !cell.is_right_half() {
-                grid.put(cell, writing);
-            }
-        }
-    }
-}
-
-fn run_text(grid: &mut Grid, text: &str, writing: Writing) {
-    let bytes = text.as_bytes();
-    if is_printable(bytes) {
-        grid.put_run(Cell::blank(), bytes, writing);
-    }
-}
-
-// Every move that stays between the margins.
-fn move_round(grid: &mut Grid) {
-    grid.backspace();
-    grid.carriage_return();
-    grid.move_up(9999);
-    grid.move_down(2);
-    grid.move_right(9999);
-    grid.move_left(1);
-    grid.tab(1);
-    grid.back_tab(1);
-    grid.restore(1, 7, true);
-    grid.clear_wrap();
-}
-
-fn set_stops(grid: &mut Grid) {
-    grid.set_stop();
-    grid.clear_stop();
-    grid.clear_stops();
-}
-
-fn edit(grid: &mut Grid, act: Act) {
-    match act {
-        Act::InsertCells(n) => grid.insert_cells(n),
-        Act::DeleteCells(n) => grid.delete_cells(n),
-        Act::EraseCells => grid.erase_cells(1),
-        Act::InsertLines(n) => grid.insert_lines(n),
-        Act::DeleteLines(n) => grid.delete_lines(n),
-        Act::Page(extent) => grid.erase_in_page(extent),
-        Act::Line(extent) => grid.erase_in_line(extent),
-        Act::SelectivePage(extent) => grid.erase_selectively_in_page(extent),
-        Act::SelectiveLine(extent) => grid.erase_selectively_in_line(extent),
-        Act::Align => grid.align(),
-        Act::BlankAll => grid.blank_all(),
-        Act::Restart => grid.restart(),
-        Act::MarkAll => grid.mark_all(),
-        _ => {}
-    }
-}
-
-fn play(grid: &mut Grid, acts: &[Act]) {
-    let mut writing = Writing {
-        wraps: true,
-        inserts: false,
-    };
-    for act in acts {
-        match *act {
-            Act::Type(text) => type_text(grid, text, false, writing),
-            Act::Guarded(text) => type_text(grid, text, true, writing),
-            Act::Run(text) => run_text(grid, text, writing),
-            Act::Modes(wraps, inserts) => writing = Writing { wraps, inserts },
-            Act::Go(row, col) => grid.move_to(row.saturating_sub(1), col.saturating_sub(1)),
-            Act::Moves => move_round(grid),
-            Act::Margins(top, bottom) => {
-                if 0 < top && top < bottom && bottom <= grid.rows() {
-                    grid.set_margins(top - 1, bottom - 1);
-                }
-            }
-            Act::Stops => set_stops(grid),
-            Act::Index => grid.index(),
-            Act::ReverseIndex => grid.reverse_index(),
-            Act::ScrollUp(n) => grid.scroll_up(n),
-            Act::ScrollDown(n) => grid.scroll_down(n),
-            other => edit(grid, other),
-        }
-    }
-}
-
-fn marks_are(grid: &Grid, marked: &[usize]) -> bool {
+fn marks_are(grid: &Grid, marked: &str) -> bool {
     for (i, on) in grid.marks().iter().enumerate() {
-        if *on != marked.contains(&(i + 1)) {
+        if *on != is_marked(i.saturating_add(1), marked) {
             return false;
         }
     }
     true
 }
 
-// The name of the first row whose acts mark other rows than it says: on a grid as it is made, and again on ones whose first row is turned,
-// since marks are of rows of the screen.
-fn first_wrong(alloc: Global, rows: &[Row]) -> Result<Option<&'static str>, Fault> {
-    for row in rows {
-        for turns in 0..3usize {
-            let mut grid = Grid::new(alloc, 5, 8)?;
-            grid.scroll_up(turns);
-            play(&mut grid, row.before);
-            grid.clear_marks();
-            play(&mut grid, row.acts);
-            if !marks_are(&grid, row.marked) {
-                return Ok(Some(row.name));
+fn marks(alloc: Global, grid: &mut Grid, before: &str, acts: &str) -> Result<bool, Fault> {
+    if !play(alloc, grid, before)? {
+        return Ok(false);
+    }
+    grid.clear_marks();
+    play(alloc, grid, acts)
+}
+
+// A line on a grid whose rows were turned so often.
+fn holds(alloc: Global, line: &str, turned: usize) -> Result<bool, Fault> {
+    let mut parts = line.split('|').skip(1);
+    if let Some(before) = parts.next()
+        && let Some(acts) = parts.next()
+        && let Some(marked) = parts.next()
+    {
+        let mut grid = turned_grid(alloc, (5, 8), turned)?;
+        return Ok(marks(alloc, &mut grid, before, acts)? && marks_are(&grid, marked));
+    }
+    Ok(false)
+}
+
+// The first line whose acts mark other rows than it says: on a grid as it is made, and again on ones whose first row is turned, since marks
+// are of rows of the screen.
+fn first_wrong<'a>(alloc: Global, lines: &'a str) -> Result<Option<&'a str>, Fault> {
+    for line in lines.lines() {
+        for turned in 0..3usize {
+            if !holds(alloc, line, turned)? {
+                return Ok(Some(line));
             }
         }
     }
@@ -540,67 +133,81 @@ fn first_wrong(alloc: Global, rows: &[Row]) -> Result<Option<&'static str>, Faul
 
 #[test]
 fn writing_marks_its_rows(rt: HostRuntime) -> Result<(), Fail> {
-    assert_eq!(rt; first_wrong(rt.alloc(), &WRITING)?, None);
+    assert_eq!(rt; first_wrong(rt.alloc(), WRITING)?, None);
     Ok(())
 }
 
 #[test]
 fn joining_marks_its_row(rt: HostRuntime) -> Result<(), Fail> {
-    assert_eq!(rt; first_wrong(rt.alloc(), &JOINING)?, None);
+    assert_eq!(rt; first_wrong(rt.alloc(), JOINING)?, None);
     Ok(())
 }
 
 #[test]
 fn moves_mark_what_scrolls(rt: HostRuntime) -> Result<(), Fail> {
-    assert_eq!(rt; first_wrong(rt.alloc(), &MOVES)?, None);
+    assert_eq!(rt; first_wrong(rt.alloc(), MOVES)?, None);
     Ok(())
 }
 
 #[test]
 fn scrolls_mark_the_rows_that_go(rt: HostRuntime) -> Result<(), Fail> {
-    assert_eq!(rt; first_wrong(rt.alloc(), &SCROLLS)?, None);
+    assert_eq!(rt; first_wrong(rt.alloc(), SCROLLS)?, None);
     Ok(())
 }
 
 #[test]
 fn edits_mark_their_rows(rt: HostRuntime) -> Result<(), Fail> {
-    assert_eq!(rt; first_wrong(rt.alloc(), &EDITS)?, None);
+    assert_eq!(rt; first_wrong(rt.alloc(), EDITS)?, None);
     Ok(())
 }
 
 #[test]
 fn changes_of_the_whole_screen_mark_all_rows(rt: HostRuntime) -> Result<(), Fail> {
-    assert_eq!(rt; first_wrong(rt.alloc(), &SCREENS)?, None);
+    assert_eq!(rt; first_wrong(rt.alloc(), SCREENS)?, None);
     Ok(())
+}
+
+fn all_are(grid: &Grid, on: bool) -> bool {
+    grid.marks().len() == grid.rows() && grid.marks().iter().all(|marked| *marked == on)
+}
+
+// Whether all marks of a new grid are on, and off once they are cleared.
+fn begins_marked(alloc: Global, rows: usize, cols: usize) -> Result<bool, Fault> {
+    let mut grid = Grid::new(alloc, rows, cols)?;
+    let marked = all_are(&grid, true);
+    grid.clear_marks();
+    Ok(grid.rows() == rows && marked && all_are(&grid, false))
 }
 
 #[test]
 fn all_marks_are_on_at_first(rt: HostRuntime) -> Result<(), Fail> {
     for (rows, cols) in [(2, 4), (24, 80), (100, 250)] {
-        let mut grid = Grid::new(rt.alloc(), rows, cols)?;
-        assert_eq!(rt; grid.marks().len(), rows);
-        assert!(rt; grid.marks().iter().all(|marked| *marked));
-        grid.clear_marks();
-        assert!(rt; grid.marks().iter().all(|marked| !*marked));
+        assert!(rt; begins_marked(rt.alloc(), rows, cols)?);
     }
     Ok(())
+}
+
+fn frame_marks(grid: &mut Grid, other: &Grid) -> bool {
+    grid.clear_marks();
+    if grid.rows() == other.rows() && grid.cols() == other.cols() {
+        grid.take_frame(other);
+    }
+    all_are(grid, true)
+}
+
+fn size_marks(alloc: Global, grid: &mut Grid, rows: usize, cols: usize) -> Result<bool, Fault> {
+    grid.clear_marks();
+    let fitted = Grid::fit(alloc, rows, cols)?;
+    grid.adopt(fitted, 0);
+    Ok(grid.rows() == rows && all_are(grid, true))
 }
 
 #[test]
 fn another_frame_and_another_size_mark_all_rows(rt: HostRuntime) -> Result<(), Fail> {
     let mut grid = Grid::new(rt.alloc(), 5, 8)?;
-    let other = Grid::new(rt.alloc(), 5, 8)?;
-    grid.clear_marks();
-    if grid.rows() == other.rows() && grid.cols() == other.cols() {
-        grid.take_frame(&other);
-    }
-    assert!(rt; grid.marks().iter().all(|marked| *marked));
+    assert!(rt; frame_marks(&mut grid, &Grid::new(rt.alloc(), 5, 8)?));
     for (rows, cols) in [(3, 8), (7, 8), (5, 4)] {
-        grid.clear_marks();
-        let fitted = Grid::fit(rt.alloc(), rows, cols)?;
-        grid.adopt(fitted, 0);
-        assert_eq!(rt; grid.marks().len(), rows);
-        assert!(rt; grid.marks().iter().all(|marked| *marked));
+        assert!(rt; size_marks(rt.alloc(), &mut grid, rows, cols)?);
     }
     Ok(())
 }

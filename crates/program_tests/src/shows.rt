@@ -6,525 +6,589 @@ use roam_show::run_show;
 use std::alloc::Global;
 use std::test::*;
 
-/// One run: the input on a screen of 2 by 8, and what it prints.
-struct Row {
-    name: &'static str,
-    input: &'static [u8],
-    text: &'static str,
-}
+// Runs on a screen of 2 by 8, with an empty line between them: a name, the input, and what is printed.
+const ROWS: &str = "\
+EL clears a pending wrap
+abcdefgh\x1B[Kx
+|abcdefgx|
+|        |
+cursor 1 8 shown
+output -
 
-static ROWS: [Row; 67] = [
-    Row {
-        name: "EL clears a pending wrap",
-        input: b"abcdefgh\x1B[Kx",
-        text: "|abcdefgx|\n|        |\ncursor 1 8 shown\noutput -\n",
-    },
-    Row {
-        name: "ICH moves the cells from the cursor on",
-        input: b"abc\x1B[1G\x1B[2@x",
-        text: "|x abc   |\n|        |\ncursor 1 2 shown\noutput -\n",
-    },
-    Row {
-        name: "RI on the first row scrolls down",
-        input: b"a\x1BMb",
-        text: "| b      |\n|a       |\ncursor 1 3 shown\noutput -\n",
-    },
-    Row {
-        name: "DECSEL leaves a guarded cell",
-        input: b"a\x1B[1\"qb\x1B[0\"qc\x1B[?2K",
-        text: "| b      |\n|        |\ncursor 1 4 shown\noutput -\n",
-    },
-    Row {
-        name: "DECSED leaves a guarded cell",
-        input: b"a\x1B[1\"qb\x1B[0\"qc\r\nd\x1B[?2J",
-        text: "| b      |\n|        |\ncursor 2 2 shown\noutput -\n",
-    },
-    Row {
-        name: "1049 saves and restores the cursor",
-        input: b"ab\x1B[?1049hx\x1B[?1049lc",
-        text: "|abc     |\n|        |\ncursor 1 4 shown\noutput -\n",
-    },
-    Row {
-        name: "DCH of a right half leaves a space",
-        input: b"1\xE4\xB8\xAD2\x1B[3G\x1B[P",
-        text: "|1 2     |\n|        |\ncursor 1 3 shown\noutput -\n",
-    },
-    Row {
-        name: "DCH of halves of two characters joins none",
-        input: b"\xE4\xB8\xAD\xE4\xB8\xAD\x1B[2G\x1B[2P",
-        text: "|        |\n|        |\ncursor 1 2 shown\noutput -\n",
-    },
-    Row {
-        name: "REP writes the last character again",
-        input: b"ab\x1B[3b",
-        text: "|abbbb   |\n|        |\ncursor 1 6 shown\noutput -\n",
-    },
-    Row {
-        name: "a move makes REP forget",
-        input: b"ab\x1B[1G\x1B[3b",
-        text: "|ab      |\n|        |\ncursor 1 1 shown\noutput -\n",
-    },
-    Row {
-        name: "DECALN fills the screen",
-        input: b"ab\x1B#8",
-        text: "|EEEEEEEE|\n|EEEEEEEE|\ncursor 1 1 shown\noutput -\n",
-    },
-    Row {
-        name: "IRM makes way",
-        input: b"abc\x1B[1G\x1B[4hx\x1B[4ly",
-        text: "|xybc    |\n|        |\ncursor 1 3 shown\noutput -\n",
-    },
-    Row {
-        name: "HT without a stop goes to the last column",
-        input: b"\tb",
-        text: "|       b|\n|        |\ncursor 1 8 shown\noutput -\n",
-    },
-    Row {
-        name: "HTS sets a stop",
-        input: b"ab\x1BH\r\tx",
-        text: "|abx     |\n|        |\ncursor 1 4 shown\noutput -\n",
-    },
-    Row {
-        name: "TBC 3 clears all stops",
-        input: b"ab\x1BH\r\x1B[3g\tx",
-        text: "|ab     x|\n|        |\ncursor 1 8 shown\noutput -\n",
-    },
-    Row {
-        name: "CBT goes to the stop before",
-        input: b"ab\x1BHcde\x1B[Zx",
-        text: "|abxde   |\n|        |\ncursor 1 4 shown\noutput -\n",
-    },
-    Row {
-        name: "SU leaves the cursor",
-        input: b"a\r\nb\x1B[Sc",
-        text: "|b       |\n| c      |\ncursor 2 3 shown\noutput -\n",
-    },
-    Row {
-        name: "SD leaves the cursor",
-        input: b"a\x1B[Tb",
-        text: "| b      |\n|a       |\ncursor 1 3 shown\noutput -\n",
-    },
-    Row {
-        name: "IL goes to the first column",
-        input: b"ab\x1B[Lc",
-        text: "|c       |\n|ab      |\ncursor 1 2 shown\noutput -\n",
-    },
-    Row {
-        name: "DL takes the row out",
-        input: b"abc\r\ndef\x1B[1;3H\x1B[Mx",
-        text: "|xef     |\n|        |\ncursor 1 2 shown\noutput -\n",
-    },
-    Row {
-        name: "ECH blanks cells",
-        input: b"abcd\x1B[1G\x1B[2X",
-        text: "|  cd    |\n|        |\ncursor 1 1 shown\noutput -\n",
-    },
-    Row {
-        name: "DECRC goes back",
-        input: b"a\x1B7bc\x1B8x",
-        text: "|axc     |\n|        |\ncursor 1 3 shown\noutput -\n",
-    },
-    Row {
-        name: "DECRC with nothing saved goes to the start",
-        input: b"ab\x1B8x",
-        text: "|xb      |\n|        |\ncursor 1 2 shown\noutput -\n",
-    },
-    Row {
-        name: "RIS blanks the screen",
-        input: b"ab\x1B[4h\x1Bcc",
-        text: "|c       |\n|        |\ncursor 1 2 shown\noutput -\n",
-    },
-    Row {
-        name: "DECSTR ends IRM and leaves the cursor",
-        input: b"\x1B[4h\x1B[!pab\x1B[1Gx",
-        text: "|xb      |\n|        |\ncursor 1 2 shown\noutput -\n",
-    },
-    Row {
-        name: "47 leaves the cursor",
-        input: b"ab\x1B[?47hc\x1B[?47l",
-        text: "|ab      |\n|        |\ncursor 1 4 shown\noutput -\n",
-    },
-    Row {
-        name: "1047 blanks the alternate screen",
-        input: b"\x1B[?1047hx\x1B[?1047l\x1B[?47h",
-        text: "|        |\n|        |\ncursor 1 2 shown\noutput -\n",
-    },
-    Row {
-        name: "empty input",
-        input: b"",
-        text: "|        |\n|        |\ncursor 1 1 shown\noutput -\n",
-    },
-    Row {
-        name: "two lines",
-        input: b"abc\r\ndef",
-        text: "|abc     |\n|def     |\ncursor 2 4 shown\noutput -\n",
-    },
-    Row {
-        name: "a line feed on the last row scrolls",
-        input: b"a\r\nb\r\nc",
-        text: "|b       |\n|c       |\ncursor 2 2 shown\noutput -\n",
-    },
-    Row {
-        name: "ED 1 erases up to the cursor",
-        input: b"abcd\x1B[1;3H\x1B[1J",
-        text: "|   d    |\n|        |\ncursor 1 3 shown\noutput -\n",
-    },
-    Row {
-        name: "CUP stops at the last row",
-        input: b"\x1B[99999;1Hx",
-        text: "|        |\n|x       |\ncursor 2 2 shown\noutput -\n",
-    },
-    Row {
-        name: "a full row keeps the cursor",
-        input: b"abcdefgh",
-        text: "|abcdefgh|\n|        |\ncursor 1 8 shown\noutput -\n",
-    },
-    Row {
-        name: "the next character wraps",
-        input: b"abcdefghi",
-        text: "|abcdefgh|\n|i       |\ncursor 2 2 shown\noutput -\n",
-    },
-    Row {
-        name: "a wide character doesn't fit the last column",
-        input: b"1234567\xE4\xB8\xAD",
-        text: "|1234567 |\n|\u{4E2D}      |\ncursor 2 3 shown\noutput -\n",
-    },
-    Row {
-        name: "three code points a cell",
-        input: b"a\xCC\x81\xCC\x81\xCC\x81\xCC\x81",
-        text: "|a\u{301}\u{301}       |\n|        |\ncursor 1 2 shown\noutput -\n",
-    },
-    Row {
-        name: "a line feed inside a control sequence acts before it",
-        input: b"a\x1B[2\n;3Hb",
-        text: "|a       |\n|  b     |\ncursor 2 4 shown\noutput -\n",
-    },
-    Row {
-        name: "a broken character is U+FFFD, and the byte after it is read",
-        input: b"\xE4\xB8\x41",
-        text: "|\u{FFFD}A      |\n|        |\ncursor 1 3 shown\noutput -\n",
-    },
-    Row {
-        name: "DEC Special Graphics in G0",
-        input: b"\x1B(0qx\x1B(Bq",
-        text: "|\u{2500}\u{2502}q     |\n|        |\ncursor 1 4 shown\noutput -\n",
-    },
-    Row {
-        name: "control strings show nothing",
-        input: b"\x1B]0;t\x07y\x1BPqq\x1B\\z",
-        text: "|yz      |\n|        |\ncursor 1 3 shown\noutput -\n",
-    },
-    Row {
-        name: "CAN ends a control sequence",
-        input: b"a\x1B[2\x18b",
-        text: "|ab      |\n|        |\ncursor 1 3 shown\noutput -\n",
-    },
-    Row {
-        name: "CSI as U+009B",
-        input: b"\xC2\x9B2;3Hx",
-        text: "|        |\n|  x     |\ncursor 2 4 shown\noutput -\n",
-    },
-    Row {
-        name: "the United Kingdom set in G0",
-        input: b"\x1B(A#",
-        text: "|\u{A3}       |\n|        |\ncursor 1 2 shown\noutput -\n",
-    },
-    Row {
-        name: "BS stops at the first column",
-        input: b"ab\x08\x08\x08c",
-        text: "|cb      |\n|        |\ncursor 1 2 shown\noutput -\n",
-    },
-    Row {
-        name: "BS clears a pending wrap",
-        input: b"abcdefgh\x08x",
-        text: "|abcdefxh|\n|        |\ncursor 1 8 shown\noutput -\n",
-    },
-    Row {
-        name: "VT and FF are line feeds",
-        input: b"a\x0Bb\x0Cc",
-        text: "| b      |\n|  c     |\ncursor 2 4 shown\noutput -\n",
-    },
-    Row {
-        name: "IND and NEL as ESC and a byte",
-        input: b"a\x1BDb\x1BEc",
-        text: "| b      |\n|c       |\ncursor 2 2 shown\noutput -\n",
-    },
-    Row {
-        name: "HVP is CUP",
-        input: b"\x1B[2;3fx",
-        text: "|        |\n|  x     |\ncursor 2 4 shown\noutput -\n",
-    },
-    Row {
-        name: "CUP with parameters 0 and none",
-        input: b"abc\x1B[0;0Hx\x1B[;3Hy\x1B[Hz",
-        text: "|zby     |\n|        |\ncursor 1 2 shown\noutput -\n",
-    },
-    Row {
-        name: "ED 0, ED 2, and ED 3, which is none",
-        input: b"abcdefghijkl\x1B[1;3H\x1B[J\x1B[2;1Hm\x1B[3J",
-        text: "|ab      |\n|m       |\ncursor 2 2 shown\noutput -\n",
-    },
-    Row {
-        name: "ED 2 leaves the cursor",
-        input: b"abc\x1B[2J",
-        text: "|        |\n|        |\ncursor 1 4 shown\noutput -\n",
-    },
-    Row {
-        name: "EL 0, in the last column too",
-        input: b"abcdefgh\x1B[Kx",
-        text: "|abcdefgx|\n|        |\ncursor 1 8 shown\noutput -\n",
-    },
-    Row {
-        name: "EL 1 and EL 2",
-        input: b"abcd\x1B[1;2H\x1B[1K\x1B[2;1Hef\x1B[2K",
-        text: "|  cd    |\n|        |\ncursor 2 3 shown\noutput -\n",
-    },
-    Row {
-        name: "locking shifts of G1, G2 and G3",
-        input: b"\x1B)0\x1B*A\x1B+0\x0Eq\x0Fq\x1Bn#\x1Boq\x0F#",
-        text: "|\u{2500}q\u{A3}\u{2500}#   |\n|        |\ncursor 1 6 shown\noutput -\n",
-    },
-    Row {
-        name: "single shifts are spent by one character",
-        input: b"\x1B*0\x1B+A\x1BNqq\x1BO##",
-        text: "|\u{2500}q\u{A3}#    |\n|        |\ncursor 1 5 shown\noutput -\n",
-    },
-    Row {
-        name: "a single shift is spent by a character that no set touches",
-        input: b"\x1B*0\x1BN\xE4\xB8\xADq",
-        text: "|\u{4E2D}q     |\n|        |\ncursor 1 4 shown\noutput -\n",
-    },
-    Row {
-        name: "a joined character in the first column is dropped",
-        input: b"\xCC\x81a",
-        text: "|a       |\n|        |\ncursor 1 2 shown\noutput -\n",
-    },
-    Row {
-        name: "a joined character with a wrap pending joins the last cell",
-        input: b"abcdefgh\xCC\x81i",
-        text: "|abcdefgh\u{301}|\n|i       |\ncursor 2 2 shown\noutput -\n",
-    },
-    Row {
-        name: "a joined character after a wide one joins its left half",
-        input: b"\xE4\xB8\xAD\xCC\x81",
-        text: "|\u{4E2D}\u{301}      |\n|        |\ncursor 1 3 shown\noutput -\n",
-    },
-    Row {
-        name: "a character over half of a wide one makes a space of the other half",
-        input: b"\xE4\xB8\xAD\x1B[1;1Hx\x1B[2;1H\xE4\xB8\xAD\x1B[2;2Hy",
-        text: "|x       |\n| y      |\ncursor 2 3 shown\noutput -\n",
-    },
-    Row {
-        name: "IND and NEL as one character",
-        input: b"a\xC2\x84b\xC2\x85c",
-        text: "| b      |\n|c       |\ncursor 2 2 shown\noutput -\n",
-    },
-    Row {
-        name: "functions that are not listed",
-        input: b"ab\x1B[5 q\x1B[1v\x07\x1B#3\x1B%GX",
-        text: "|abX     |\n|        |\ncursor 1 4 shown\noutput -\n",
-    },
-    Row {
-        name: "erasures with another parameter or an intermediate byte leave a pending wrap",
-        input: b"abcdefgh\x1B[3J\x1B[ Ki",
-        text: "|abcdefgh|\n|i       |\ncursor 2 2 shown\noutput -\n",
-    },
-    Row {
-        name: "without DECAWM a wide character in the last column goes one column to the left",
-        input: b"\x1B[?7l1234567\xE4\xB8\xAD",
-        text: "|123456\u{4E2D}|\n|        |\ncursor 1 8 shown\noutput -\n",
-    },
-    Row {
-        name: "resetting DECAWM clears a pending wrap, setting it leaves one",
-        input: b"abcdefgh\x1B[?7hi\x1B[1;8Hh\x1B[?7l\x1B[?7hx",
-        text: "|abcdefgx|\n|i       |\ncursor 1 8 shown\noutput -\n",
-    },
-    Row {
-        name: "LNM lets a line feed return",
-        input: b"\x1B[20hab\nc\x1B[20ld\x1B[Ae",
-        text: "|abe     |\n|cd      |\ncursor 1 4 shown\noutput -\n",
-    },
-    Row {
-        name: "SGR, a keypad mode and a guard leave a pending wrap",
-        input: b"abcdefgh\x1B[1m\x1B=\x1B>\x1B[1\"qi",
-        text: "|abcdefgh|\n|i       |\ncursor 2 2 shown\noutput -\n",
-    },
-];
+ICH moves the cells from the cursor on
+abc\x1B[1G\x1B[2@x
+|x abc   |
+|        |
+cursor 1 2 shown
+output -
+
+RI on the first row scrolls down
+a\x1BMb
+| b      |
+|a       |
+cursor 1 3 shown
+output -
+
+DECSEL leaves a guarded cell
+a\x1B[1\"qb\x1B[0\"qc\x1B[?2K
+| b      |
+|        |
+cursor 1 4 shown
+output -
+
+DECSED leaves a guarded cell
+a\x1B[1\"qb\x1B[0\"qc\r\nd\x1B[?2J
+| b      |
+|        |
+cursor 2 2 shown
+output -
+
+1049 saves and restores the cursor
+ab\x1B[?1049hx\x1B[?1049lc
+|abc     |
+|        |
+cursor 1 4 shown
+output -
+
+DCH of a right half leaves a space
+1\u{4E2D}2\x1B[3G\x1B[P
+|1 2     |
+|        |
+cursor 1 3 shown
+output -
+
+DCH of halves of two characters joins none
+\u{4E2D}\u{4E2D}\x1B[2G\x1B[2P
+|        |
+|        |
+cursor 1 2 shown
+output -
+
+REP writes the last character again
+ab\x1B[3b
+|abbbb   |
+|        |
+cursor 1 6 shown
+output -
+
+a move makes REP forget
+ab\x1B[1G\x1B[3b
+|ab      |
+|        |
+cursor 1 1 shown
+output -
+
+DECALN fills the screen
+ab\x1B#8
+|EEEEEEEE|
+|EEEEEEEE|
+cursor 1 1 shown
+output -
+
+IRM makes way
+abc\x1B[1G\x1B[4hx\x1B[4ly
+|xybc    |
+|        |
+cursor 1 3 shown
+output -
+
+HT without a stop goes to the last column
+\x09b
+|       b|
+|        |
+cursor 1 8 shown
+output -
+
+HTS sets a stop
+ab\x1BH\r\x09x
+|abx     |
+|        |
+cursor 1 4 shown
+output -
+
+TBC 3 clears all stops
+ab\x1BH\r\x1B[3g\x09x
+|ab     x|
+|        |
+cursor 1 8 shown
+output -
+
+CBT goes to the stop before
+ab\x1BHcde\x1B[Zx
+|abxde   |
+|        |
+cursor 1 4 shown
+output -
+
+SU leaves the cursor
+a\r\nb\x1B[Sc
+|b       |
+| c      |
+cursor 2 3 shown
+output -
+
+SD leaves the cursor
+a\x1B[Tb
+| b      |
+|a       |
+cursor 1 3 shown
+output -
+
+IL goes to the first column
+ab\x1B[Lc
+|c       |
+|ab      |
+cursor 1 2 shown
+output -
+
+DL takes the row out
+abc\r\ndef\x1B[1;3H\x1B[Mx
+|xef     |
+|        |
+cursor 1 2 shown
+output -
+
+ECH blanks cells
+abcd\x1B[1G\x1B[2X
+|  cd    |
+|        |
+cursor 1 1 shown
+output -
+
+DECRC goes back
+a\x1B7bc\x1B8x
+|axc     |
+|        |
+cursor 1 3 shown
+output -
+
+DECRC with nothing saved goes to the start
+ab\x1B8x
+|xb      |
+|        |
+cursor 1 2 shown
+output -
+
+RIS blanks the screen
+ab\x1B[4h\x1Bcc
+|c       |
+|        |
+cursor 1 2 shown
+output -
+
+DECSTR ends IRM and leaves the cursor
+\x1B[4h\x1B[!pab\x1B[1Gx
+|xb      |
+|        |
+cursor 1 2 shown
+output -
+
+47 leaves the cursor
+ab\x1B[?47hc\x1B[?47l
+|ab      |
+|        |
+cursor 1 4 shown
+output -
+
+1047 blanks the alternate screen
+\x1B[?1047hx\x1B[?1047l\x1B[?47h
+|        |
+|        |
+cursor 1 2 shown
+output -
+
+two lines
+abc\r\ndef
+|abc     |
+|def     |
+cursor 2 4 shown
+output -
+
+a line feed on the last row scrolls
+a\r\nb\r\nc
+|b       |
+|c       |
+cursor 2 2 shown
+output -
+
+ED 1 erases up to the cursor
+abcd\x1B[1;3H\x1B[1J
+|   d    |
+|        |
+cursor 1 3 shown
+output -
+
+CUP stops at the last row
+\x1B[99999;1Hx
+|        |
+|x       |
+cursor 2 2 shown
+output -
+
+a full row keeps the cursor
+abcdefgh
+|abcdefgh|
+|        |
+cursor 1 8 shown
+output -
+
+the next character wraps
+abcdefghi
+|abcdefgh|
+|i       |
+cursor 2 2 shown
+output -
+
+a wide character doesn't fit the last column
+1234567\u{4E2D}
+|1234567 |
+|\u{4E2D}      |
+cursor 2 3 shown
+output -
+
+three code points a cell
+a\u{301}\u{301}\u{301}\u{301}
+|a\u{301}\u{301}       |
+|        |
+cursor 1 2 shown
+output -
+
+a line feed inside a control sequence acts before it
+a\x1B[2\n;3Hb
+|a       |
+|  b     |
+cursor 2 4 shown
+output -
+
+DEC Special Graphics in G0
+\x1B(0qx\x1B(Bq
+|\u{2500}\u{2502}q     |
+|        |
+cursor 1 4 shown
+output -
+
+control strings show nothing
+\x1B]0;t\x07y\x1BPqq\x1B\\z
+|yz      |
+|        |
+cursor 1 3 shown
+output -
+
+CAN ends a control sequence
+a\x1B[2\x18b
+|ab      |
+|        |
+cursor 1 3 shown
+output -
+
+CSI as U+009B
+\u{9B}2;3Hx
+|        |
+|  x     |
+cursor 2 4 shown
+output -
+
+the United Kingdom set in G0
+\x1B(A#
+|\u{A3}       |
+|        |
+cursor 1 2 shown
+output -
+
+BS stops at the first column
+ab\x08\x08\x08c
+|cb      |
+|        |
+cursor 1 2 shown
+output -
+
+BS clears a pending wrap
+abcdefgh\x08x
+|abcdefxh|
+|        |
+cursor 1 8 shown
+output -
+
+VT and FF are line feeds
+a\x0Bb\x0Cc
+| b      |
+|  c     |
+cursor 2 4 shown
+output -
+
+IND and NEL as ESC and a byte
+a\x1BDb\x1BEc
+| b      |
+|c       |
+cursor 2 2 shown
+output -
+
+HVP is CUP
+\x1B[2;3fx
+|        |
+|  x     |
+cursor 2 4 shown
+output -
+
+CUP with parameters 0 and none
+abc\x1B[0;0Hx\x1B[;3Hy\x1B[Hz
+|zby     |
+|        |
+cursor 1 2 shown
+output -
+
+ED 0, ED 2, and ED 3, which is none
+abcdefghijkl\x1B[1;3H\x1B[J\x1B[2;1Hm\x1B[3J
+|ab      |
+|m       |
+cursor 2 2 shown
+output -
+
+ED 2 leaves the cursor
+abc\x1B[2J
+|        |
+|        |
+cursor 1 4 shown
+output -
+
+EL 0, in the last column too
+abcdefgh\x1B[Kx
+|abcdefgx|
+|        |
+cursor 1 8 shown
+output -
+
+EL 1 and EL 2
+abcd\x1B[1;2H\x1B[1K\x1B[2;1Hef\x1B[2K
+|  cd    |
+|        |
+cursor 2 3 shown
+output -
+
+locking shifts of G1, G2 and G3
+\x1B)0\x1B*A\x1B+0\x0Eq\x0Fq\x1Bn#\x1Boq\x0F#
+|\u{2500}q\u{A3}\u{2500}#   |
+|        |
+cursor 1 6 shown
+output -
+
+single shifts are spent by one character
+\x1B*0\x1B+A\x1BNqq\x1BO##
+|\u{2500}q\u{A3}#    |
+|        |
+cursor 1 5 shown
+output -
+
+a single shift is spent by a character that no set touches
+\x1B*0\x1BN\u{4E2D}q
+|\u{4E2D}q     |
+|        |
+cursor 1 4 shown
+output -
+
+a joined character in the first column is dropped
+\u{301}a
+|a       |
+|        |
+cursor 1 2 shown
+output -
+
+a joined character with a wrap pending joins the last cell
+abcdefgh\u{301}i
+|abcdefgh\u{301}|
+|i       |
+cursor 2 2 shown
+output -
+
+a joined character after a wide one joins its left half
+\u{4E2D}\u{301}
+|\u{4E2D}\u{301}      |
+|        |
+cursor 1 3 shown
+output -
+
+a character over half of a wide one makes a space of the other half
+\u{4E2D}\x1B[1;1Hx\x1B[2;1H\u{4E2D}\x1B[2;2Hy
+|x       |
+| y      |
+cursor 2 3 shown
+output -
+
+IND and NEL as one character
+a\u{84}b\u{85}c
+| b      |
+|c       |
+cursor 2 2 shown
+output -
+
+functions that are not listed
+ab\x1B[5 q\x1B[1v\x07\x1B#3\x1B%GX
+|abX     |
+|        |
+cursor 1 4 shown
+output -
+
+erasures with another parameter or an intermediate byte leave a pending wrap
+abcdefgh\x1B[3J\x1B[ Ki
+|abcdefgh|
+|i       |
+cursor 2 2 shown
+output -
+
+without DECAWM a wide character in the last column goes one column to the left
+\x1B[?7l1234567\u{4E2D}
+|123456\u{4E2D}|
+|        |
+cursor 1 8 shown
+output -
+
+resetting DECAWM clears a pending wrap, setting it leaves one
+abcdefgh\x1B[?7hi\x1B[1;8Hh\x1B[?7l\x1B[?7hx
+|abcdefgx|
+|i       |
+cursor 1 8 shown
+output -
+
+LNM lets a line feed return
+\x1B[20hab\nc\x1B[20ld\x1B[Ae
+|abe     |
+|cd      |
+cursor 1 4 shown
+output -
+
+SGR, a keypad mode and a guard leave a pending wrap
+abcdefgh\x1B[1m\x1B=\x1B>\x1B[1\"qi
+|abcdefgh|
+|i       |
+cursor 2 2 shown
+output -";
 
 /// The rows of six below each other where all are blank.
 const SIX_BLANK: &str = "|        |\n|        |\n|        |\n|        |\n|        |\n|        |\n";
 
-/// Where the cursor of a screen of 6 by 8 is after some moves on blank rows, and what was answered.
-struct Moved {
-    name: &'static str,
-    input: &'static [u8],
-    cursor: &'static str,
-    output: &'static str,
-}
+// Runs on a screen of 6 by 8 whose rows stay blank: a name, the input, where the cursor is then, and what was answered.
+const MOVED: &str = "\
+margins that do not rise are not taken|\x1B[5;5r\x1B[4;2r\x1B[9B|6 1 shown|-
+CUD stops at the bottom margin|\x1B[2;4r\x1B[9999B|4 1 shown|-
+CUD from below the bottom margin stops at the last row|\x1B[2;4r\x1B[5;3H\x1B[9B|6 3 shown|-
+CUU stops at the top margin|\x1B[2;4r\x1B[3;5H\x1B[9A|2 5 shown|-
+CUU from above the top margin stops at the first row|\x1B[3;5r\x1B[2;5H\x1B[9A|1 5 shown|-
+a bottom margin beyond the screen, or none, is the last row|\x1B[3;99r\x1B[3;1H\x1B[9B\x1B[2r\x1B[9B|6 1 shown|-
+margins send the cursor home|\x1B[4;4H\x1B[2;5r|1 1 shown|-
+CUF and CUB stop at the edges|\x1B[99C\x1B[B\x1B[3D\x1B[B\x1B[99D\x1B[0C|3 2 shown|-
+CNL and CPL go to the first column|\x1B[3;4H\x1B[2E\x1B[C\x1B[F|4 1 shown|-
+CHA and HPA|\x1B[5G\x1B[B\x1B[99`\x1B[B\x1B[3`|3 3 shown|-
+HPR, VPR and VPA|\x1B[3a\x1B[2e\x1B[5d|5 4 shown|-
+DECOM goes home, and rows count from the top margin|\x1B[3;5r\x1B[4;4H\x1B[?6h\x1B[2;4H|4 4 shown|-
+under DECOM rows stop at the bottom margin|\x1B[3;5r\x1B[?6h\x1B[9;2H|5 2 shown|-
+VPA under DECOM|\x1B[3;5r\x1B[?6h\x1B[2;3H\x1B[3d|5 3 shown|-
+resetting DECOM goes home|\x1B[3;5r\x1B[?6h\x1B[2;3H\x1B[?6l|1 1 shown|-
+a report of the cursor under DECOM|\x1B[3;5r\x1B[?6h\x1B[2;4H\x1B[6n|4 4 shown|1b5b323b3452
+reports of the cursor, the status, the printer|\x1B[4;4H\x1B[6n\x1B[5n\x1B[?15n|4 4 shown|1b5b343b34521b5b306e1b5b3f31336e
+both device attributes|\x1B[c\x1B[0;5c\x1B[>c|1 1 shown|1b5b3f36323b36631b5b3f36323b36631b5b3e313b31303b3063
+reports that are not listed|\x1B[7n\x1B[1c\x1B[>1c\x1B[?6n\x1B[?c\x1B[>6n\x1B[ c|1 1 shown|-
+DECTCEM among several modes, one of which is not kept|\x1B[?25l\x1B[?25h\x1B[?7;25;3l|1 1 hidden|-";
 
-static MOVED: [Moved; 20] = [
-    Moved {
-        name: "margins that do not rise are not taken",
-        input: b"\x1B[5;5r\x1B[4;2r\x1B[9B",
-        cursor: "6 1 shown",
-        output: "-",
-    },
-    Moved {
-        name: "CUD stops at the bottom margin",
-        input: b"\x1B[2;4r\x1B[9999B",
-        cursor: "4 1 shown",
-        output: "-",
-    },
-    Moved {
-        name: "CUD from below the bottom margin stops at the last row",
-        input: b"\x1B[2;4r\x1B[5;3H\x1B[9B",
-        cursor: "6 3 shown",
-        output: "-",
-    },
-    Moved {
-        name: "CUU stops at the top margin",
-        input: b"\x1B[2;4r\x1B[3;5H\x1B[9A",
-        cursor: "2 5 shown",
-        output: "-",
-    },
-    Moved {
-        name: "CUU from above the top margin stops at the first row",
-        input: b"\x1B[3;5r\x1B[2;5H\x1B[9A",
-        cursor: "1 5 shown",
-        output: "-",
-    },
-    Moved {
-        name: "a bottom margin beyond the screen, or none, is the last row",
-        input: b"\x1B[3;99r\x1B[3;1H\x1B[9B\x1B[2r\x1B[9B",
-        cursor: "6 1 shown",
-        output: "-",
-    },
-    Moved {
-        name: "margins send the cursor home",
-        input: b"\x1B[4;4H\x1B[2;5r",
-        cursor: "1 1 shown",
-        output: "-",
-    },
-    Moved {
-        name: "CUF and CUB stop at the edges",
-        input: b"\x1B[99C\x1B[B\x1B[3D\x1B[B\x1B[99D\x1B[0C",
-        cursor: "3 2 shown",
-        output: "-",
-    },
-    Moved {
-        name: "CNL and CPL go to the first column",
-        input: b"\x1B[3;4H\x1B[2E\x1B[C\x1B[F",
-        cursor: "4 1 shown",
-        output: "-",
-    },
-    Moved {
-        name: "CHA and HPA",
-        input: b"\x1B[5G\x1B[B\x1B[99`\x1B[B\x1B[3`",
-        cursor: "3 3 shown",
-        output: "-",
-    },
-    Moved {
-        name: "HPR, VPR and VPA",
-        input: b"\x1B[3a\x1B[2e\x1B[5d",
-        cursor: "5 4 shown",
-        output: "-",
-    },
-    Moved {
-        name: "DECOM goes home, and rows count from the top margin",
-        input: b"\x1B[3;5r\x1B[4;4H\x1B[?6h\x1B[2;4H",
-        cursor: "4 4 shown",
-        output: "-",
-    },
-    Moved {
-        name: "under DECOM rows stop at the bottom margin",
-        input: b"\x1B[3;5r\x1B[?6h\x1B[9;2H",
-        cursor: "5 2 shown",
-        output: "-",
-    },
-    Moved {
-        name: "VPA under DECOM",
-        input: b"\x1B[3;5r\x1B[?6h\x1B[2;3H\x1B[3d",
-        cursor: "5 3 shown",
-        output: "-",
-    },
-    Moved {
-        name: "resetting DECOM goes home",
-        input: b"\x1B[3;5r\x1B[?6h\x1B[2;3H\x1B[?6l",
-        cursor: "1 1 shown",
-        output: "-",
-    },
-    Moved {
-        name: "a report of the cursor under DECOM",
-        input: b"\x1B[3;5r\x1B[?6h\x1B[2;4H\x1B[6n",
-        cursor: "4 4 shown",
-        output: "1b5b323b3452",
-    },
-    Moved {
-        name: "reports of the cursor, the status, the printer",
-        input: b"\x1B[4;4H\x1B[6n\x1B[5n\x1B[?15n",
-        cursor: "4 4 shown",
-        output: "1b5b343b34521b5b306e1b5b3f31336e",
-    },
-    Moved {
-        name: "both device attributes",
-        input: b"\x1B[c\x1B[0;5c\x1B[>c",
-        cursor: "1 1 shown",
-        output: "1b5b3f36323b36631b5b3f36323b36631b5b3e313b31303b3063",
-    },
-    Moved {
-        name: "reports that are not listed",
-        input: b"\x1B[7n\x1B[1c\x1B[>1c\x1B[?6n\x1B[?c\x1B[>6n\x1B[ c",
-        cursor: "1 1 shown",
-        output: "-",
-    },
-    Moved {
-        name: "DECTCEM among several modes, one of which is not kept",
-        input: b"\x1B[?25l\x1B[?25h\x1B[?7;25;3l",
-        cursor: "1 1 hidden",
-        output: "-",
-    },
-];
-
-fn moves(alloc: Global, row: &Moved, mut reader: Cut<'_>) -> Result<bool, Fail> {
+fn moves(alloc: Global, mut reader: Cut<'_>, cursor: &str, output: &str) -> Result<bool, Fail> {
     let mut out = Vec::new(alloc);
     run_show(alloc, 6, 8, &mut reader, &mut out)?;
-    let wanted = format!(in alloc; "{SIX_BLANK}cursor {}\noutput {}\n", row.cursor, row.output)?;
+    let wanted = format!(in alloc; "{SIX_BLANK}cursor {cursor}\noutput {output}\n")?;
     Ok(out.as_slice() == wanted.as_bytes())
+}
+
+// Whether a line holds, its input in pieces of this size.
+fn moves_in_pieces(alloc: Global, line: &str, size: usize) -> Result<bool, Fail> {
+    let mut parts = line.split('|').skip(1);
+    if let Some(input) = parts.next()
+        && let Some(cursor) = parts.next()
+        && let Some(output) = parts.next()
+    {
+        return moves(
+            alloc,
+            Cut::new(input.as_bytes(), size, size),
+            cursor,
+            output,
+        );
+    }
+    Ok(false)
 }
 
 #[test]
 fn moves_and_reports(rt: HostRuntime) -> Result<(), Fail> {
-    for row in &MOVED {
+    for line in MOVED.lines() {
         for size in 1..4usize {
-            let pieces = Cut::new(row.input, size, size);
-            assert!(rt; moves(rt.alloc(), row, pieces)?, "{} by {size}", row.name);
+            assert!(rt;
+                moves_in_pieces(rt.alloc(), line, size)?,
+                "{line:?} by {size}"
+            );
         }
     }
     Ok(())
 }
 
-fn shows(alloc: Global, row: &Row, mut reader: Cut<'_>) -> Result<bool, Fail> {
-    let mut out = Vec::new(alloc);
-    run_show(alloc, 2, 8, &mut reader, &mut out)?;
-    Ok(out.as_slice() == row.text.as_bytes())
+/// An input, and what is printed for it but for the first bar and the last line feed.
+#[derive(Clone, Copy)]
+struct Run<'a> {
+    input: &'a [u8],
+    inside: &'a str,
 }
 
-// Whether a row shows its text, its input whole, byte by byte, and cut in two at each place.
-fn shows_however_cut(alloc: Global, row: &Row) -> Result<bool, Fail> {
-    for cut in 1..row.input.len() {
-        if !shows(alloc, row, Cut::new(row.input, cut, usize::MAX))? {
+fn run_of(block: &str) -> Option<Run<'_>> {
+    let (_, rest) = block.split_once('\n')?;
+    let (input, inside) = rest.split_once("\n|")?;
+    Some(Run {
+        input: input.as_bytes(),
+        inside,
+    })
+}
+
+fn is_printed(out: &[u8], inside: &str) -> bool {
+    matches!(out, [b'|', shown @ .., b'\n'] if shown == inside.as_bytes())
+}
+
+fn shows(alloc: Global, run: &Run<'_>, mut reader: Cut<'_>) -> Result<bool, Fail> {
+    let mut out = Vec::new(alloc);
+    run_show(alloc, 2, 8, &mut reader, &mut out)?;
+    Ok(is_printed(out.as_slice(), run.inside))
+}
+
+// Whether a run shows its text, its input whole, byte by byte, and cut in two at each place.
+fn shows_however_cut(alloc: Global, run: &Run<'_>) -> Result<bool, Fail> {
+    for cut in 1..run.input.len() {
+        if !shows(alloc, run, Cut::new(run.input, cut, usize::MAX))? {
             return Ok(false);
         }
     }
-    let single = shows(alloc, row, Cut::new(row.input, 1, 1))?;
-    Ok(single && shows(alloc, row, Cut::new(row.input, usize::MAX, usize::MAX))?)
+    let single = shows(alloc, run, Cut::new(run.input, 1, 1))?;
+    Ok(single && shows(alloc, run, Cut::new(run.input, usize::MAX, usize::MAX))?)
+}
+
+fn holds(alloc: Global, block: &str) -> Result<bool, Fail> {
+    match run_of(block) {
+        Some(run) => shows_however_cut(alloc, &run),
+        None => Ok(false),
+    }
 }
 
 #[test]
 fn rows_of_show(rt: HostRuntime) -> Result<(), Fail> {
-    for row in &ROWS {
-        assert!(rt; shows_however_cut(rt.alloc(), row)?, "{}", row.name);
+    for block in ROWS.split("\n\n") {
+        assert!(rt; holds(rt.alloc(), block)?, "{block:?}");
     }
+    Ok(())
+}
+
+fn prints(alloc: Global, input: &[u8], inside: &str) -> Result<bool, Fail> {
+    shows_however_cut(alloc, &Run { input, inside })
+}
+
+// A broken character is U+FFFD, and the byte after it is read.
+#[test]
+fn broken_characters_and_none(rt: HostRuntime) -> Result<(), Fail> {
+    let broken = "\u{FFFD}A      |\n|        |\ncursor 1 3 shown\noutput -";
+    assert!(rt; prints(rt.alloc(), b"\xE4\xB8\x41", broken)?);
+    let none = "        |\n|        |\ncursor 1 1 shown\noutput -";
+    assert!(rt; prints(rt.alloc(), b"", none)?);
     Ok(())
 }
 
