@@ -1,6 +1,7 @@
 //! Rows of keys and acts, and the two ends.
-use roam_acts::{Act, ActSender, ActTaker, Key, KeyModes, read_act, read_acts, write_acts};
+use roam_acts::{Act, ActSender, ActTaker, Key, read_act, read_acts, write_acts};
 use roam_cells::{Fault, Reason};
+use roam_keys::KeyModes;
 use std::alloc::Global;
 use std::test::*;
 

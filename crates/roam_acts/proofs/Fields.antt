@@ -14,8 +14,8 @@ use Rattle.std.proofs.Math.Seq.{take-append_seam, drop-append_seam}
 use Rattle.roam_acts.specs.declared.acts.Act.{Act}
 use Rattle.roam_acts.specs.declared.acts.Act.TheVariants.{SplitRight, SplitDown, Close, Focus, Next, Grow, Size, View}
 use Rattle.roam_acts.specs.declared.acts.Act.TheVariants as act
-use Rattle.roam_acts.specs.declared.keys.Key.{Key}
-use Rattle.roam_acts.specs.declared.keys.Key.TheVariants.{Char}
+use Rattle.roam_keys.specs.declared.keys.Key.{Key}
+use Rattle.roam_keys.specs.declared.keys.Key.TheVariants.{Char}
 use Rattle.roam_acts.specs.declared.kinds.Kind.{Kind}
 use Rattle.roam_acts.specs.declared.kinds.Kind.TheVariants as kind
 use Rattle.roam_acts.specs.Acts.{is_in_range, IsAct, IsKey, HasKey}

@@ -4,15 +4,12 @@ use Rattle.std.specs.Fmt.{digits}
 use Rattle.roam_acts.specs.declared.acts.Act.{Act}
 use Rattle.roam_acts.specs.declared.acts.Act.TheVariants.{SplitRight, Close, Focus, Grow, Next, Size, View}
 use Rattle.roam_acts.specs.declared.acts.Act.TheVariants as act
-use Rattle.roam_acts.specs.declared.keys.Key.{Key}
-use Rattle.roam_acts.specs.declared.keys.Key.TheVariants.{Backspace, Char, F15, Pad7, PadEnter, Pf3, Prev, Return, Up}
-use Rattle.roam_acts.specs.declared.sent.KeyModes.{KeyModes}
+use Rattle.roam_keys.specs.declared.keys.Key.TheVariants.{Backspace, Char, F15, Pad7, PadEnter, Pf3, Prev, Up}
 use Rattle.roam_acts.specs.Acts.{is_in_range}
 use Rattle.roam_acts.specs.Bytes.{acts_text}
 use Rattle.roam_acts.specs.Keys.{name_of, named_keys, number_of}
 use Rattle.roam_acts.specs.Lines.{line_of}
 use Rattle.roam_acts.specs.Senders.{acked_to, start, typed}
-use Rattle.roam_acts.specs.Sent.{sent}
 use Rattle.roam_acts.specs.Takers.{fresh_of}
 
 -- every number from 1 to 45 is a key's
@@ -24,25 +21,6 @@ numbers = refl
 names : map name_of (Up ∷ Pf3 ∷ Prev ∷ F15 ∷ Pad7 ∷ PadEnter ∷ Backspace ∷ [])
     ≡ codes "up" ∷ codes "pf3" ∷ codes "prev" ∷ codes "f15" ∷ codes "pad7" ∷ codes "padenter" ∷ codes "backspace" ∷ []
 names = refl
-
-abbrev typed_keys : List Key
-typed_keys = Up ∷ Pf3 ∷ Prev ∷ F15 ∷ Pad7 ∷ PadEnter ∷ Return ∷ []
-
-abbrev normal : KeyModes
-normal = record { application_cursor = false; application_keypad = false; new_line = false }
-
-plainly : map (sent normal) typed_keys
-    ≡ (0x1B ∷ 0x5B ∷ 0x41 ∷ []) ∷ (0x1B ∷ 0x4F ∷ 0x52 ∷ []) ∷ (0x1B ∷ 0x5B ∷ 0x35 ∷ 0x7E ∷ [])
-    ∷ (0x1B ∷ 0x5B ∷ 0x32 ∷ 0x38 ∷ 0x7E ∷ []) ∷ (0x37 ∷ []) ∷ (0x0D ∷ []) ∷ (0x0D ∷ []) ∷ []
-plainly = refl
-
-abbrev all_set : KeyModes
-all_set = record { application_cursor = true; application_keypad = true; new_line = true }
-
-with_modes : map (sent all_set) typed_keys
-    ≡ (0x1B ∷ 0x4F ∷ 0x41 ∷ []) ∷ (0x1B ∷ 0x4F ∷ 0x52 ∷ []) ∷ (0x1B ∷ 0x5B ∷ 0x35 ∷ 0x7E ∷ [])
-    ∷ (0x1B ∷ 0x5B ∷ 0x32 ∷ 0x38 ∷ 0x7E ∷ []) ∷ (0x1B ∷ 0x4F ∷ 0x77 ∷ []) ∷ (0x1B ∷ 0x4F ∷ 0x4D ∷ []) ∷ (0x0D ∷ 0x0A ∷ []) ∷ []
-with_modes = refl
 
 -- a character, backspace, a split, two growths, a size and a view
 abbrev acts : List Act

@@ -7,8 +7,8 @@ use Rattle.std.proofs.lemmas.Bool.Decides.{Decides-eqb}
 use Rattle.std.proofs.lemmas.List.{length-append}
 use Rattle.std.proofs.lemmas.Slice.Eq.{bytes_eq-Decides, starts_is}
 use Rattle.std.proofs.lemmas.Bool.{and_parts, eqb-true}
-use Rattle.roam_acts.specs.declared.keys.Key.{Key}
-use Rattle.roam_acts.specs.declared.keys.Key.TheVariants.{Char}
+use Rattle.roam_keys.specs.declared.keys.Key.{Key}
+use Rattle.roam_keys.specs.declared.keys.Key.TheVariants.{Char}
 use Rattle.roam_acts.specs.declared.kinds.Kind.{Kind}
 use Rattle.roam_acts.specs.declared.kinds.Kind.TheVariants as kind
 use Rattle.roam_acts.specs.Acts.{IsKey}

@@ -3,8 +3,8 @@ use Rattle.std.specs.Prelude.{◌≤◌, ◌≤ℤ◌, pos, negsuc, Bool, true, 
 use Rattle.std.specs.Char.{IsScalar}
 use Rattle.roam_acts.specs.declared.acts.Act.{Act}
 use Rattle.roam_acts.specs.declared.acts.Act.TheVariants.{Key, SplitRight, SplitDown, Close, Focus, Next, Grow, Size, View}
-use Rattle.roam_acts.specs.declared.keys.Key.{Key as KeyOfKeyboard}
-use Rattle.roam_acts.specs.declared.keys.Key.TheVariants.{Char}
+use Rattle.roam_keys.specs.declared.keys.Key.{Key as KeyOfKeyboard}
+use Rattle.roam_keys.specs.declared.keys.Key.TheVariants.{Char}
 
 -- an act's numbers are in their ranges (this project's profile)
 abbrev pub IsInRange : Act → Type 0

@@ -5,8 +5,8 @@ use Rattle.byteorder.specs.Endian.{big_bytes}
 use Rattle.roam_acts.specs.declared.acts.Act.{Act}
 use Rattle.roam_acts.specs.declared.acts.Act.TheVariants.{SplitRight, SplitDown, Close, Focus, Next, Grow, Size, View}
 use Rattle.roam_acts.specs.declared.acts.Act.TheVariants as act
-use Rattle.roam_acts.specs.declared.keys.Key.{Key}
-use Rattle.roam_acts.specs.declared.keys.Key.TheVariants.{Char}
+use Rattle.roam_keys.specs.declared.keys.Key.{Key}
+use Rattle.roam_keys.specs.declared.keys.Key.TheVariants.{Char}
 use Rattle.roam_acts.specs.Keys.{number_of}
 use Rattle.roam_acts.specs.Kinds.{kind_of, tag_of}
 

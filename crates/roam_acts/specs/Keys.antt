@@ -2,8 +2,8 @@
 use Rattle.std.specs.Prelude.{ℕ, ◌==◌, List, [], ◌∷◌, codes, Option}
 use Rattle.std.specs.List.{find}
 use Rattle.std.specs.Str.{bytes_eq}
-use Rattle.roam_acts.specs.declared.keys.Key.{Key}
-use Rattle.roam_acts.specs.declared.keys.Key.TheVariants.{Char, Up, Down, Right, Left, Pf1, Pf2, Pf3, Pf4, Find, Insert, Remove, Select, Prev, Next, F6, F7, F8, F9, F10, F11, F12, F13, F14, F15, F16, F17, F18, F19, F20, Pad0, Pad1, Pad2, Pad3, Pad4, Pad5, Pad6, Pad7, Pad8, Pad9, PadMinus, PadComma, PadPeriod, PadEnter, Return, Backspace}
+use Rattle.roam_keys.specs.declared.keys.Key.{Key}
+use Rattle.roam_keys.specs.declared.keys.Key.TheVariants.{Char, Up, Down, Right, Left, Pf1, Pf2, Pf3, Pf4, Find, Insert, Remove, Select, Prev, Next, F6, F7, F8, F9, F10, F11, F12, F13, F14, F15, F16, F17, F18, F19, F20, Pad0, Pad1, Pad2, Pad3, Pad4, Pad5, Pad6, Pad7, Pad8, Pad9, PadMinus, PadComma, PadPeriod, PadEnter, Return, Backspace}
 
 -- a key's line in the table of keys
 pub record Entry : Type 0 where

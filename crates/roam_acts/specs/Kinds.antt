@@ -3,8 +3,8 @@ use Rattle.std.specs.Prelude.{ℕ, ◌==◌, List, [], ◌∷◌, codes, Option}
 use Rattle.std.specs.List.{find, starts_with}
 use Rattle.roam_acts.specs.declared.acts.Act.{Act}
 use Rattle.roam_acts.specs.declared.acts.Act.TheVariants as act
-use Rattle.roam_acts.specs.declared.keys.Key.{Key}
-use Rattle.roam_acts.specs.declared.keys.Key.TheVariants as key
+use Rattle.roam_keys.specs.declared.keys.Key.{Key}
+use Rattle.roam_keys.specs.declared.keys.Key.TheVariants as key
 use Rattle.roam_acts.specs.declared.kinds.Kind.{Kind}
 use Rattle.roam_acts.specs.declared.kinds.Kind.TheVariants.{Char, Named, SplitRight, SplitDown, Close, Focus, Next, Grow, Size, View}
 use Rattle.std.specs.Prelude.{nat_eq}

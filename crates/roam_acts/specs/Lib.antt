@@ -1,7 +1,6 @@
 pub mod Keys
 pub mod Acts
 pub mod Kinds
-pub mod Sent
 pub mod Senders
 pub mod Takers
 pub mod Reading

@@ -5,8 +5,8 @@ use Rattle.std.specs.Str.Parse.{IsNumeral, digits_value}
 use Rattle.roam_acts.specs.declared.acts.Act.{Act}
 use Rattle.roam_acts.specs.declared.acts.Act.TheVariants.{SplitRight, SplitDown, Close, Focus, Next, Grow, Size, View}
 use Rattle.roam_acts.specs.declared.acts.Act.TheVariants as act
-use Rattle.roam_acts.specs.declared.keys.Key.{Key}
-use Rattle.roam_acts.specs.declared.keys.Key.TheVariants.{Char}
+use Rattle.roam_keys.specs.declared.keys.Key.{Key}
+use Rattle.roam_keys.specs.declared.keys.Key.TheVariants.{Char}
 use Rattle.roam_acts.specs.Keys.{name_of}
 use Rattle.roam_acts.specs.Kinds.{head_of, kind_of}
 

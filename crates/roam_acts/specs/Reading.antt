@@ -11,7 +11,7 @@ use Rattle.byteorder.specs.Endian.{big_number}
 use lib.Utf8.{scalar}
 use Rattle.roam_acts.specs.declared.acts.Act.{Act}
 use Rattle.roam_acts.specs.declared.acts.Act.TheVariants as act
-use Rattle.roam_acts.specs.declared.keys.Key.TheVariants as key
+use Rattle.roam_keys.specs.declared.keys.Key.TheVariants as key
 use Rattle.roam_acts.specs.declared.kinds.Kind.{Kind}
 use Rattle.roam_acts.specs.declared.kinds.Kind.TheVariants.{Char, Named, SplitRight, SplitDown, Close, Focus, Next, Grow, Size, View}
 use Rattle.roam_acts.specs.Acts.{is_in_range}

@@ -2,7 +2,7 @@
 ghost use Rattle.std.specs.Prelude.{◌≡◌, ◌↔◌, IsTrue};
 ghost use Rattle.roam_acts.specs.Acts.{is_in_range, IsInRange};
 
-use crate::keys::Key;
+use roam_keys::Key;
 
 // The greatest number of a pane; the first is 1.
 pub(crate) const PANES: u8 = 9;

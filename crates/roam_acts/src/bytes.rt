@@ -7,10 +7,11 @@ ghost use Rattle.roam_acts.specs.Bytes.{act_text, acts_text, fields_of};
 ghost use Rattle.roam_acts.specs.Reading.{act_of_fields, acts_in, first_act};
 
 use crate::acts::Act;
-use crate::keys::Key;
+use crate::keys::{entry, numbered};
 use crate::kinds::Kind;
 use byteorder::{BigEndian, ByteOrder};
 use roam_cells::{Fault, Reason};
+use roam_keys::Key;
 use std::alloc::{AllocError, Global};
 
 // The bytes that follow an act's tag, and zeros up to four.
@@ -20,7 +21,7 @@ fn fields_of(act: Act) -> [u8; 4]
     let mut fields = [0u8; 4];
     match act {
         Act::Key(Key::Char(c)) => BigEndian::write_u32(&mut fields, c as u32),
-        Act::Key(key) => fields[0] = key.entry().0,
+        Act::Key(key) => fields[0] = entry(key).0,
         Act::Focus(pane) => fields[0] = pane,
         Act::Grow(by) | Act::View(by) => BigEndian::write_i16(&mut fields, by),
         Act::Size(rows, cols) => {
@@ -67,7 +68,7 @@ fn act_of_fields(kind: Kind, fields: &[u8]) -> Option<Act>
 {
     let act = match kind {
         Kind::Char => Act::Key(Key::Char(char::from_u32(BigEndian::read_u32(fields))?)),
-        Kind::Named => Act::Key(Key::numbered(fields[0])?),
+        Kind::Named => Act::Key(numbered(fields[0])?),
         Kind::SplitRight => Act::SplitRight,
         Kind::SplitDown => Act::SplitDown,
         Kind::Close => Act::Close,

@@ -3,10 +3,10 @@ ghost use Rattle.std.specs.Prelude.{◌≡◌, ◌≤◌};
 ghost use Rattle.roam_acts.specs.Kinds.{head_of, headed_in, kind_of, kinds, tag_of, tagged_in, width_of};
 
 use crate::acts::Act;
-use crate::keys::Key;
+use roam_keys::Key;
 
 /// The kinds of acts: a key's act is that of a character or that of a named key.
-#[derive(Clone, Copy, Debug, PartialEq, Eq)]
+#[derive(Clone, Copy)]
 pub(crate) enum Kind {
     Char,
     Named,

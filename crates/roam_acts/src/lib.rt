@@ -3,18 +3,16 @@
 
 pub mod acts;
 pub mod bytes;
-pub mod keys;
+mod keys;
 mod kinds;
 pub mod laws;
 pub mod lines;
 pub mod senders;
-pub mod sent;
 pub mod takers;
 
 pub use acts::Act;
 pub use bytes::{read_acts, write_acts};
-pub use keys::Key;
 pub use lines::read_act;
+pub use roam_keys::Key;
 pub use senders::ActSender;
-pub use sent::{KeyModes, Sent};
 pub use takers::ActTaker;

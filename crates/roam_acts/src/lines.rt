@@ -9,10 +9,11 @@ ghost use Rattle.roam_acts.specs.Lines.{key_argument, line_of, Spells};
 ghost use Rattle.roam_acts.specs.Reading.{act_in, act_of_argument, bare, focus_of, natural, number_in, scalar_in, size_at, size_of};
 
 use crate::acts::{Act, PANES};
-use crate::keys::Key;
+use crate::keys::{entry, named};
 use crate::kinds::Kind;
 use itoa::Buffer;
 use roam_cells::Fault;
+use roam_keys::Key;
 use std::fmt;
 
 // How many digits a code point may have.
@@ -43,7 +44,7 @@ fn write_key<W: fmt::Write>(key: Key, f: &mut fmt::Formatter<W>) -> fmt::Result
 {
     match key {
         Key::Char(c) => fmt::LowerHex::fmt(&(c as u32), f),
-        _ => f.write_str(key.entry().1),
+        _ => f.write_str(entry(key).1),
     }
 }
 
@@ -134,7 +135,7 @@ fn act_of_argument(kind: Kind, text: &[u8]) -> Option<Act>
 {
     match kind {
         Kind::Char => Some(Act::Key(Key::Char(scalar(text)?))),
-        Kind::Named => Some(Act::Key(Key::named(text)?)),
+        Kind::Named => Some(Act::Key(named(text)?)),
         Kind::SplitRight => bare(Act::SplitRight, text),
         Kind::SplitDown => bare(Act::SplitDown, text),
         Kind::Close => bare(Act::Close, text),

@@ -2,7 +2,7 @@
 use crate::commands::program;
 use clap::error::ErrorKind;
 use clap::{ArgMatches, Error};
-use roam_script::id;
+use roam_numbers::id;
 use std::alloc::Global;
 use std::convert::AsStr;
 
@@ -27,8 +27,8 @@ pub enum Request<'a> {
         turns: u64,
     },
 
-    /// `roam attach`: a client start with this id for so many turns, of the session that is served on this port of loopback, with the acts of
-    /// the file `keys`.
+    /// `roam attach`: a client start with this id for so many turns, of the session that is served on this port of loopback, with the
+    /// acts of the file `keys`.
     Attach {
         port: u16,
         session: u64,

@@ -1,4 +1,3 @@
-pub mod Spelled
 pub mod Wording
 pub mod Telling
 pub mod Heads

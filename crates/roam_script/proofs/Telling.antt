@@ -14,10 +14,11 @@ use Rattle.roam_script.specs.declared.kinds.Kind.{Kind}
 use Rattle.roam_script.specs.declared.kinds.Kind.TheVariants as kind
 use Rattle.roam_script.specs.Values.{LineValue, IsLine, Session, Start, PaneBytes, Typed, ServerTick, ClientTick, ToServer, ToClient, Drained, Show, Face, Output}
 use Rattle.roam_script.specs.Kinds.{kind_of}
-use Rattle.roam_script.specs.Lines.{AreBytes, IsArgument, IsId}
-use Rattle.roam_script.specs.Reading.{byte_in, bytes_in, face_in, first_word, id_in, long_in, number_in, plain_in, short_in, slot_in, two_in}
+use Rattle.roam_numbers.specs.Numbers.{IsId, id_in, number_in}
+use Rattle.roam_script.specs.Lines.{AreBytes, IsArgument}
+use Rattle.roam_script.specs.Reading.{byte_in, bytes_in, face_in, first_word, long_in, plain_in, short_in, slot_in, two_in}
 use Rattle.roam_script.specs.Told.{Tells, TellsNothing}
-use Rattle.roam_script.proofs.Spelled.{id_again, id_found, number_again, number_found}
+use Rattle.roam_numbers.proofs.Spelled.{id_again, id_found, number_again, number_found}
 use Rattle.roam_script.proofs.Wording.{digits_are_word, two_again, two_found, word_again, word_found, IsWord}
 
 -- ---- words

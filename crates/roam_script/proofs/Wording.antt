@@ -10,7 +10,7 @@ use Rattle.std.specs.Char.{digit_value}
 use Rattle.std.specs.Prelude.{not}
 use Rattle.std.specs.Str.Parse.{AllDigits}
 use Rattle.roam_script.specs.Reading.{each_of, first_word, pair_of, two_in, word_at}
-use Rattle.roam_script.proofs.Spelled.{chosen_some}
+use Rattle.roam_numbers.proofs.Spelled.{chosen_some}
 
 -- a byte that is no space
 abbrev pub is_other : ℕ → Bool

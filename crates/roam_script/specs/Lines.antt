@@ -1,8 +1,8 @@
 -- The lines of a script as text (this project's profile). Words stand one space apart; decimals have no plus and no leading zero.
 use Rattle.std.specs.Prelude.{◌≡◌, ℕ, ◌<◌, ◌≤◌, List, [], ◌∷◌, ◌++◌, length, decimal, Ok}
-use Rattle.std.specs.Str.Parse.{IsNumeral, digits_value}
 use Rattle.hex.specs.Hex.{decode_of}
 use Rattle.roam_acts.specs.Lines.{Spells as SpellsAct}
+use Rattle.roam_numbers.specs.Numbers.{IsId}
 use Rattle.roam_script.specs.declared.lines.Line.{Line}
 use Rattle.roam_script.specs.declared.lines.Line.TheVariants as line
 use Rattle.roam_script.specs.Values.{LineValue, Session, Start, PaneBytes, Typed, ServerTick, ClientTick, ToServer, ToClient, Drained, Show, Face, Output}
@@ -22,12 +22,6 @@ value_of (line.Drained pane count) = Drained pane count
 value_of (line.Show slot) = Show slot
 value_of line.Face = Face
 value_of (line.Output pane) = Output pane
-
--- an id in one to sixteen hexadecimal digits, in either case
-pub record IsId (text : List ℕ) (id : ℕ) : Type 0 where
-  pub digits : IsNumeral 16 text
-  pub most : length text ≤ 16
-  pub value : digits_value 16 text ≡ id
 
 -- bytes in pairs of hexadecimal digits, in either case; at least one byte
 pub record AreBytes (text bytes : List ℕ) : Type 0 where

@@ -1,32 +1,13 @@
 -- How the code reads lines, step by step. No public clause speaks of it: what reading means is said by the grammar of Lines.
-use Rattle.std.specs.Prelude.{ℕ, ◌+◌, ◌==◌, ◌&&◌, Bool, List, [], ◌∷◌, take, drop, length, nat_le, nat_lt, Option, Some, None, decimal, if◌then◌else◌}
-use Rattle.std.specs.Char.{digit_value}
-use Rattle.std.specs.List.{list_all, position}
+use Rattle.std.specs.Prelude.{ℕ, ◌+◌, ◌==◌, List, [], ◌∷◌, take, drop, Option, Some, None}
+use Rattle.std.specs.List.{position}
 use Rattle.std.specs.Option.{option_map}
 use Rattle.std.specs.Result.{result_ok}
-use Rattle.std.specs.Str.{bytes_eq}
-use Rattle.std.specs.Str.Parse.{digits_value, without_leading_plus}
 use Rattle.hex.specs.Hex.{decode_of}
+use Rattle.roam_numbers.specs.Numbers.{id_in, number_in}
 use Rattle.roam_script.specs.declared.kinds.Kind.{Kind}
 use Rattle.roam_script.specs.declared.kinds.Kind.TheVariants as kind
 use Rattle.roam_script.specs.Values.{LineValue, Session, Start, ServerTick, ClientTick, ToServer, ToClient, Drained, Show, Face, Output}
-
--- a number that is at most so great, and is written so and not otherwise
-abbrev pub is_number : ℕ → ℕ → List ℕ → Bool
-is_number most n text = nat_le n most && bytes_eq (decimal n) text
-
--- the number that a text writes
-abbrev pub number_in : ℕ → List ℕ → Option ℕ
-number_in most text =
-    if is_number most (digits_value 10 (without_leading_plus text)) text then Some (digits_value 10 (without_leading_plus text)) else None
-
--- a hexadecimal digit
-abbrev pub is_hexadecimal : ℕ → Bool
-is_hexadecimal digit = nat_lt (digit_value digit) 16
-
--- the id that one to sixteen hexadecimal digits write
-abbrev pub id_in : List ℕ → Option ℕ
-id_in text = if nat_le 1 (length text) && nat_le (length text) 16 && list_all is_hexadecimal text then Some (digits_value 16 text) else None
 
 -- the bytes that hexadecimal digits write
 abbrev pub bytes_in : List ℕ → Option (List ℕ)

@@ -8,4 +8,3 @@ mod numbers;
 mod words;
 
 pub use lines::{Line, LineFault, is_skipped, read_line};
-pub use numbers::id;

@@ -8,11 +8,12 @@ ghost use Rattle.roam_script.specs.Reading.{bytes_in, plain_in};
 ghost use Rattle.roam_script.specs.Told.{IsRead};
 
 use crate::kinds::Kind;
-use crate::numbers::{byte, id, long, short, slot};
+use crate::numbers::{byte, long, short, slot};
 use crate::words::word;
 use hex::FromHexError;
 use roam_acts::laws::one_act_a_line;
 use roam_acts::{Act, read_act};
+use roam_numbers::id;
 use std::alloc::Global;
 use thiserror::Error;
 

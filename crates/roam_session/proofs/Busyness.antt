@@ -1,7 +1,7 @@
 -- No layout command finds a queue full, and no key changes the layout.
 use Rattle.std.proofs.Common.{◌≡◌, refl, Bool, true, false, cond, length, Option, Some, None}
 use Rattle.std.specs.Prelude.{nat_le}
-use Rattle.roam_acts.specs.declared.keys.Key.{Key as KeyOfKeyboard}
+use Rattle.roam_keys.specs.declared.keys.Key.{Key as KeyOfKeyboard}
 use Rattle.roam_acts.specs.declared.acts.Act.{Act}
 use Rattle.roam_acts.specs.declared.acts.Act.TheVariants.{Key, SplitRight, SplitDown, Close, Focus, Next, Grow, Size, View}
 use Rattle.roam_cells.specs.declared.faults.Fault.TheVariants.{Busy}

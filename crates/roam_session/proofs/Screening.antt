@@ -8,7 +8,7 @@ use Rattle.roam_cells.specs.Limits.{IsSize}
 use Rattle.roam_cells.specs.Screenshot.{Screenshot, IsScreenshot}
 use Rattle.roam_text.specs.Log.{Item, Byte, Resized}
 use Rattle.roam_acts.specs.declared.acts.Act.{Act}
-use Rattle.roam_acts.specs.declared.keys.Key.{Key}
+use Rattle.roam_keys.specs.declared.keys.Key.{Key}
 use Rattle.roam_term.specs.Picture.{picture}
 use Rattle.roam_term.specs.Screens.{AreSizes, size_after, IsScreenOf}
 use Rattle.roam_term.proofs.Picturing.{picture_screen}

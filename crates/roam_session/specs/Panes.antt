@@ -2,8 +2,8 @@
 use Rattle.std.specs.Prelude.{ℕ, ◌==◌, ◌&&◌, Bool, List, [], ◌∷◌, ◌++◌, map, drop, length, Option, Some, None, if◌then◌else◌}
 use Rattle.std.specs.Option.{option_map}
 use Rattle.roam_text.specs.Log.{Item, Byte, Resized}
-use Rattle.roam_acts.specs.declared.keys.Key.{Key}
-use Rattle.roam_acts.specs.Sent.{sent}
+use Rattle.roam_keys.specs.declared.keys.Key.{Key}
+use Rattle.roam_keys.specs.Sent.{sent}
 use Rattle.roam_term.specs.Keys.{key_modes}
 use Rattle.roam_term.specs.Terminal.{Live, term, reports}
 use Rattle.roam_layout.specs.declared.rects.Rect.{Rect}

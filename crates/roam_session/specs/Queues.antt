@@ -3,8 +3,8 @@ use Rattle.std.specs.Prelude.{◌≡◌, ℕ, ◌+◌, ◌≤◌, ◌++◌, nat_
 use Rattle.roam_cells.specs.declared.faults.Fault.{Fault}
 use Rattle.roam_cells.specs.declared.faults.Fault.TheVariants.{Busy}
 use Rattle.roam_text.specs.Log.{Item}
-use Rattle.roam_acts.specs.declared.keys.Key.{Key}
-use Rattle.roam_acts.specs.Sent.{sent}
+use Rattle.roam_keys.specs.declared.keys.Key.{Key}
+use Rattle.roam_keys.specs.Sent.{sent}
 use Rattle.roam_term.specs.Keys.{key_modes}
 use Rattle.roam_term.specs.Stands.{TermView, Shows, Fed, HasSize}
 use Rattle.roam_session.specs.Stands.{term_at}

@@ -1,7 +1,7 @@
 -- What a session refuses after a log, and the bytes that wait in its panes (this project's profile).
 use Rattle.std.specs.Prelude.{ℕ, ◌+◌, ◌*◌, Bool, false, nat_lt, List, length, Option, Some, None, Result, Ok, Err, if◌then◌else◌}
 use Rattle.std.specs.Option.{option_map}
-use Rattle.roam_acts.specs.declared.keys.Key.{Key}
+use Rattle.roam_keys.specs.declared.keys.Key.{Key}
 use Rattle.roam_acts.specs.declared.acts.Act.{Act}
 use Rattle.roam_cells.specs.declared.faults.Fault.{Fault}
 use Rattle.roam_cells.specs.declared.faults.Fault.TheVariants.{NoPane, TooLong, Busy}

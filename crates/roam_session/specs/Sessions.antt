@@ -4,7 +4,7 @@ use Rattle.std.specs.Option.{option_map}
 use Rattle.std.specs.List.{fold}
 use Rattle.roam_acts.specs.declared.acts.Act.{Act}
 use Rattle.roam_acts.specs.declared.acts.Act.TheVariants.{Key}
-use Rattle.roam_acts.specs.declared.keys.Key.{Key as KeyOfKeyboard}
+use Rattle.roam_keys.specs.declared.keys.Key.{Key as KeyOfKeyboard}
 use Rattle.roam_layout.specs.Rects.{rect_in}
 use Rattle.roam_layout.specs.Layouts.{Plan, Outcome, Laid, Refused, start, laid, panes}
 use Rattle.roam_session.specs.Panes.{Pane, given, fed, keyed, drained}

@@ -1,5 +1,5 @@
 -- What a keyboard sends under the modes of a terminal.
-use Rattle.roam_acts.specs.declared.sent.KeyModes.{KeyModes}
+use Rattle.roam_keys.specs.declared.sent.KeyModes.{KeyModes}
 use Rattle.roam_controls.specs.declared.modes.Modes.{Modes}
 
 -- the modes that change what keys send: DECCKM, DECKPAM and LNM (VT220 Programmer Reference)

@@ -1,15 +1,15 @@
 //! What a keyboard sends to a terminal's output.
 ghost use Rattle.std.specs.Prelude.{◌≡◌, ◌+◌, ◌≤◌, ◌↔◌, ◌++◌, ℕ, List, length, IsOk, OnOk, OnErr, IsOkUnless};
-ghost use Rattle.roam_acts.specs.Sent.{sent};
+ghost use Rattle.roam_keys.specs.Sent.{sent};
 ghost use Rattle.roam_text.specs.Log.{Item};
 ghost use Rattle.roam_term.specs.Keys.{key_modes};
 ghost use Rattle.roam_term.specs.Stands.{Shows};
 
 use crate::outputs::MOST_OUTPUT;
 use crate::terms::Term;
-use roam_acts::{Key, KeyModes};
 use roam_cells::Fault;
 use roam_controls::Modes;
+use roam_keys::{Key, KeyModes};
 
 fn key_modes(modes: Modes) -> KeyModes
     ensures modes { result ≡ key_modes modes }

@@ -9,8 +9,8 @@ use Rattle.roam_cells.specs.Screenshot.{Screenshot}
 use Rattle.roam_acts.specs.declared.acts.Act.{Act}
 use Rattle.roam_acts.specs.declared.acts.Act.TheVariants.{SplitRight, SplitDown, Close, Focus, Next, Grow, Size, View}
 use Rattle.roam_acts.specs.declared.acts.Act.TheVariants as act
-use Rattle.roam_acts.specs.declared.keys.Key.{Key}
-use Rattle.roam_acts.specs.declared.keys.Key.TheVariants.{Char}
+use Rattle.roam_keys.specs.declared.keys.Key.{Key}
+use Rattle.roam_keys.specs.declared.keys.Key.TheVariants.{Char}
 use Rattle.roam_acts.specs.Bytes.{act_text, acts_text, key_fields}
 use Rattle.roam_sync.specs.Senders.{newest}
 use Rattle.roam_update.proofs.Bounds.{most}

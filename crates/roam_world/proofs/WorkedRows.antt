@@ -5,7 +5,7 @@ use Rattle.roam_cells.specs.declared.faults.Fault.TheVariants.{BadDatagram, Othe
 use Rattle.roam_cells.specs.declared.faults.Reason.TheVariants as reason
 use Rattle.roam_acts.specs.declared.acts.Act.{Act}
 use Rattle.roam_acts.specs.declared.acts.Act.TheVariants.{Key, SplitRight, SplitDown, Close}
-use Rattle.roam_acts.specs.declared.keys.Key.TheVariants.{Char}
+use Rattle.roam_keys.specs.declared.keys.Key.TheVariants.{Char}
 use Rattle.roam_cells.specs.Screenshot.{Screenshot}
 use Rattle.roam_sync.specs.declared.senders.Held.{Held}
 use Rattle.roam_sync.specs.declared.receivers.Step.TheVariants as step

@@ -1,7 +1,7 @@
 -- The bytes that go to the program of a pane: the bytes of keys, and what the pane's terminal answers.
 use Rattle.std.specs.Prelude.{◌≡◌, ℕ, ◌==◌, List, [], ◌∷◌, ◌++◌, take, Option, Some, None, if◌then◌else◌, true}
 use Rattle.std.specs.Prelude.{is_some}
-use Rattle.roam_acts.specs.declared.keys.Key.{Key}
+use Rattle.roam_keys.specs.declared.keys.Key.{Key}
 use Rattle.roam_session.specs.Panes.{Pane, answers, key_bytes}
 use Rattle.roam_session.specs.Sessions.{Entry, Given, Did, Drained, SessionSize, SessionState, session, key_in}
 use Rattle.roam_session.specs.Refusals.{output_at}

@@ -1,7 +1,7 @@
 use Rattle.std.proofs.Common.{◌≡◌, ◌<◌, ◌^◌, None, ◌∙◌, sym, ap, rules, arith}
-use Rattle.roam_script.specs.Reading.{number_in}
-use Rattle.roam_script.proofs.Spelled.{no_parse, no_text}
-use Rattle.roam_script.proofs.numbers.number.Goals as goal
+use Rattle.roam_numbers.specs.Numbers.{number_in}
+use Rattle.roam_numbers.proofs.Spelled.{no_parse, no_text}
+use Rattle.roam_numbers.proofs.numbers.number.Goals as goal
 
 pub returns-in_err-text-clause-number : goal.returns-in_err-text-clause-number
 returns-in_err-text-clause-number c =

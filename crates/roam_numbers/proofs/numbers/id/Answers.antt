@@ -1,7 +1,7 @@
 use Rattle.std.proofs.Common.{◌≡◌, ◌<◌, ◌≤◌, get_or, arith, rules}
 use Rattle.std.specs.Char.{digit_value}
-use Rattle.roam_script.proofs.Spelled.{hexadecimal_more, power_more, small_power, value_more}
-use Rattle.roam_script.proofs.numbers.id.Goals as goal
+use Rattle.roam_numbers.proofs.Spelled.{hexadecimal_more, power_more, small_power, value_more}
+use Rattle.roam_numbers.proofs.numbers.id.Goals as goal
 
 pub overflow_mul-number : goal.overflow_mul-number
 overflow_mul-number c =

@@ -1,9 +1,9 @@
 -- What a key sends (VT220 Programmer Reference, chapter 3: the codes of the keyboard).
 use Rattle.std.specs.Prelude.{ℕ, List, [], ◌∷◌, ◌++◌, codes, if◌then◌else◌}
 use Rattle.std.specs.Char.{encode_utf8}
-use Rattle.roam_acts.specs.declared.keys.Key.{Key}
-use Rattle.roam_acts.specs.declared.keys.Key.TheVariants.{Char, Up, Down, Right, Left, Pf1, Pf2, Pf3, Pf4, Find, Insert, Remove, Select, Prev, Next, F6, F7, F8, F9, F10, F11, F12, F13, F14, F15, F16, F17, F18, F19, F20, Pad0, Pad1, Pad2, Pad3, Pad4, Pad5, Pad6, Pad7, Pad8, Pad9, PadMinus, PadComma, PadPeriod, PadEnter, Return, Backspace}
-use Rattle.roam_acts.specs.declared.sent.KeyModes.{KeyModes}
+use Rattle.roam_keys.specs.declared.keys.Key.{Key}
+use Rattle.roam_keys.specs.declared.keys.Key.TheVariants.{Char, Up, Down, Right, Left, Pf1, Pf2, Pf3, Pf4, Find, Insert, Remove, Select, Prev, Next, F6, F7, F8, F9, F10, F11, F12, F13, F14, F15, F16, F17, F18, F19, F20, Pad0, Pad1, Pad2, Pad3, Pad4, Pad5, Pad6, Pad7, Pad8, Pad9, PadMinus, PadComma, PadPeriod, PadEnter, Return, Backspace}
+use Rattle.roam_keys.specs.declared.sent.KeyModes.{KeyModes}
 
 -- ESC O and a final byte
 abbrev pub single_shift : ℕ → List ℕ

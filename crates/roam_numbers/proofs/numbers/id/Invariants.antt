@@ -1,8 +1,8 @@
 use Rattle.std.proofs.Common.{◌≡◌, ◌<◌, ◌^◌, true, take}
 use Rattle.std.specs.List.{list_all}
 use Rattle.std.specs.Str.Parse.{digits_value}
-use Rattle.roam_script.specs.Reading.{is_hexadecimal}
-use Rattle.roam_script.proofs.numbers.id.Given as goal
+use Rattle.roam_numbers.specs.Numbers.{is_hexadecimal}
+use Rattle.roam_numbers.proofs.numbers.id.Given as goal
 
 -- the digits so far, and the number that they write
 abbrev pub invariant-loop-digit : goal.invariant-loop-digit

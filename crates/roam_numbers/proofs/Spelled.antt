@@ -16,8 +16,7 @@ use Rattle.std.specs.Prelude.{Result, Ok, Err}
 use Rattle.std.specs.Result.{MatchResult, result_ok}
 use Rattle.std.specs.Str.{bytes_eq, IsUtf8}
 use Rattle.std.specs.Str.Parse.{AllDigits, ParsesUnsigned, digits_value, without_leading_plus}
-use Rattle.roam_script.specs.Lines.{IsId}
-use Rattle.roam_script.specs.Reading.{id_in, is_hexadecimal, is_number, number_in}
+use Rattle.roam_numbers.specs.Numbers.{IsId, id_in, is_hexadecimal, is_number, number_in}
 
 pub chosen_some : {X : Type 0} (b : Bool) (x y : X) → cond b (Some x) None ≡ Some y → (b ≡ true) × (x ≡ y)
 chosen_some true x y e = (refl, cc)

@@ -1,6 +1,6 @@
 //! What a key sends: the codes of the VT220's keyboard under its modes.
 ghost use Rattle.std.specs.Prelude.{◌≡◌, ◌+◌, ◌≤◌, ◌++◌, [], ◌∷◌, length, if◌then◌else◌};
-ghost use Rattle.roam_acts.specs.Sent.{cursor_key, keypad_key, numbered, return_key, sent, single_shift};
+ghost use Rattle.roam_keys.specs.Sent.{cursor_key, keypad_key, numbered, return_key, sent, single_shift};
 
 use crate::keys::Key;
 use std::marker::Model;

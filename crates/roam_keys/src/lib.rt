@@ -1,0 +1,8 @@
+//! Keys, and what they send to a program.
+#![tactic(auto)]
+
+pub mod keys;
+pub mod sent;
+
+pub use keys::Key;
+pub use sent::{KeyModes, Sent};

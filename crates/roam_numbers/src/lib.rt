@@ -1,0 +1,6 @@
+//! How numbers and ids are written in the lines of scripts and in the words of the command line.
+#![tactic(auto)]
+
+mod numbers;
+
+pub use numbers::{id, number};
