@@ -46,11 +46,11 @@ fn measure_way(
 }
 
 // Each way as often as it does about the work of writing so many characters.
-fn measure_grid(rt: &HostRuntime, rows: usize, cols: usize, count: u64) -> anyhow::Result<()> {
-    let mut grid = Grid::new(rt.alloc(), rows, cols)?;
+fn measure_ways(rt: &HostRuntime, grid: &mut Grid, count: u64) -> anyhow::Result<()> {
+    let cols = grid.cols();
     let third = cols / 3;
     let lines = count / cols.max(1) as u64;
-    let pages = lines / rows.max(1) as u64;
+    let pages = lines / grid.rows().max(1) as u64;
     let moves = pages.saturating_mul(20);
     let ways = [
         ("put", Way::Singly, count),
@@ -66,11 +66,16 @@ fn measure_grid(rt: &HostRuntime, rows: usize, cols: usize, count: u64) -> anyho
         ("scroll-between", Way::ScrollBetween, moves),
     ];
     for (name, way, times) in ways {
-        measure_way(rt, &mut grid, name, way, times)?;
+        measure_way(rt, grid, name, way, times)?;
     }
     let (row, col) = grid.cursor();
     println!(rt; "end {row} {col}")?;
     Ok(())
+}
+
+fn measure_grid(rt: &HostRuntime, rows: usize, cols: usize, count: u64) -> anyhow::Result<()> {
+    let mut grid = Grid::new(rt.alloc(), rows, cols)?;
+    measure_ways(rt, &mut grid, count)
 }
 
 fn measure_flat(rt: &HostRuntime, rows: usize, cols: usize, count: u64) -> anyhow::Result<()>

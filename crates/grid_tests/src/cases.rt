@@ -1,8 +1,8 @@
 //! What acts leave on a grid, as text: cases with an empty line between them.
 //!
-//! A case has a name, and then a line as `2 8 mixed: CUP 1 1, ICH 1`: rows, columns, what is done before, and what is done. Then comes each
-//! row, beside what its cells look like (`.` plain, `b` bold, `g` guarded, `B` both; nothing where all are plain), and the cursor, `pending`
-//! where a wrap is.
+//! A case has a name, and then a line as `2 8 mixed: CUP 1 1, ICH 1`: rows, columns, what is done before, and what is done. Then comes
+//! each row, beside what its cells look like (`.` plain, `b` bold, `g` guarded, `B` both; nothing where all are plain), and the cursor,
+//! `pending` where a wrap is.
 use crate::acts::{pair, play};
 use roam_cells::{Cell, Fault};
 use roam_grid::Grid;
@@ -18,8 +18,8 @@ const TWO: &str = "text a, guard on, text b, guard off, NEL, text c, guard on, t
 
 const FOUR: &str = "text a, NEL, text b, NEL, text c, NEL, text d";
 
-// What is done before a case's own acts: nothing; a row of narrow, wide and joined cells, up to a pending wrap; a wide character in columns 4
-// and 5; two rows, guarded in part; four rows.
+// What is done before a case's own acts: nothing; a row of narrow, wide and joined cells, up to a pending wrap; a wide character in
+// columns 4 and 5; two rows, guarded in part; four rows.
 fn acts_before(start: &str) -> Option<&'static str> {
     match start {
         "blank" => Some(""),

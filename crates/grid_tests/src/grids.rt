@@ -1,5 +1,5 @@
-//! What is written, moved, erased and scrolled on a grid, as cases of a text, on grids as made and with the first row turned; and how a grid
-//! is made.
+//! What is written, moved, erased and scrolled on a grid, as cases of a text, on grids as made and with the first row turned; and how a
+//! grid is made.
 use crate::acts::play;
 use crate::cases::{first_wrong, reads};
 use roam_cells::{Cell, Fault};

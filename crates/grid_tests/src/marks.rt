@@ -1,7 +1,7 @@
 //! Tests of marks: which rows each call marks.
 //!
-//! A line has a name; what is done to a grid of 5 rows and 8 columns before its marks are cleared, and after; and the rows, from 1, that are
-//! marked then.
+//! A line has a name; what is done to a grid of 5 rows and 8 columns before its marks are cleared, and after; and the rows, from 1, that
+//! are marked then.
 use crate::acts::{number, play};
 use crate::cases::turned_grid;
 use roam_cells::Fault;

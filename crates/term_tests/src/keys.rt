@@ -1,112 +1,67 @@
 //! Keys: what each kind sends under the modes of a terminal, and a queue that is full.
-use roam_acts::Key;
+use roam_acts::{Act, Key, read_act};
 use roam_cells::Fault;
 use roam_term::Term;
+use std::alloc::Global;
 use std::test::*;
 
-/// The bytes that a key sends after some bytes were read.
-struct Case {
-    before: &'static [u8],
-    key: Key,
-    sent: &'static [u8],
+// What was read before, the act, and the bytes that its key sends then; a bar ends each.
+const SENT: &str = "\
+|key up|\x1B[A|
+\x1B[?1h|key left|\x1BOD|
+\x1B[?1h\x1B[?1l|key left|\x1B[D|
+\x1B[?1h\x1B[!p|key right|\x1B[C|
+\x1B[?1h|key pf1|\x1BOP|
+|key next|\x1B[6~|
+|key f20|\x1B[34~|
+|key pad5|5|
+\x1B=|key pad5|\x1BOu|
+\x1B=\x1B>|key padcomma|,|
+\x1B=|key padenter|\x1BOM|
+\x1B[20h|key padenter|\r\n|
+|key return|\r|
+\x1B[20h|key return|\r\n|
+|key backspace|\x7F|
+\x1B[20h\x1B=\x1B[?1h|char 4e2d|\u{4E2D}";
+
+fn key_of(line: &str) -> Option<Key> {
+    match read_act(line.as_bytes()) {
+        Ok(Act::Key(key)) => Some(key),
+        _ => None,
+    }
 }
 
-static CASES: [Case; 16] = [
-    Case {
-        before: b"",
-        key: Key::Up,
-        sent: b"\x1B[A",
-    },
-    Case {
-        before: b"\x1B[?1h",
-        key: Key::Left,
-        sent: b"\x1BOD",
-    },
-    Case {
-        before: b"\x1B[?1h\x1B[?1l",
-        key: Key::Left,
-        sent: b"\x1B[D",
-    },
-    Case {
-        before: b"\x1B[?1h\x1B[!p",
-        key: Key::Right,
-        sent: b"\x1B[C",
-    },
-    Case {
-        before: b"\x1B[?1h",
-        key: Key::Pf1,
-        sent: b"\x1BOP",
-    },
-    Case {
-        before: b"",
-        key: Key::Next,
-        sent: b"\x1B[6~",
-    },
-    Case {
-        before: b"",
-        key: Key::F20,
-        sent: b"\x1B[34~",
-    },
-    Case {
-        before: b"",
-        key: Key::Pad5,
-        sent: b"5",
-    },
-    Case {
-        before: b"\x1B=",
-        key: Key::Pad5,
-        sent: b"\x1BOu",
-    },
-    Case {
-        before: b"\x1B=\x1B>",
-        key: Key::PadComma,
-        sent: b",",
-    },
-    Case {
-        before: b"\x1B=",
-        key: Key::PadEnter,
-        sent: b"\x1BOM",
-    },
-    Case {
-        before: b"\x1B[20h",
-        key: Key::PadEnter,
-        sent: b"\r\n",
-    },
-    Case {
-        before: b"",
-        key: Key::Return,
-        sent: b"\r",
-    },
-    Case {
-        before: b"\x1B[20h",
-        key: Key::Return,
-        sent: b"\r\n",
-    },
-    Case {
-        before: b"",
-        key: Key::Backspace,
-        sent: b"\x7F",
-    },
-    Case {
-        before: b"\x1B[20h\x1B=\x1B[?1h",
-        key: Key::Char('\u{4E2D}'),
-        sent: b"\xE4\xB8\xAD",
-    },
-];
-
-fn sends(term: &mut Term, case: &Case) -> Result<bool, Fail> {
-    term.feed(case.before)?;
-    term.key(&case.key)?;
+fn is_waiting(term: &mut Term, sent: &str) -> bool {
     let mut out = [0; 8];
     let count = term.copy_output(&mut out);
-    Ok(&out[..count] == case.sent)
+    &out[..count] == sent.as_bytes()
+}
+
+fn sends_after(term: &mut Term, before: &str, key: Key, sent: &str) -> Result<bool, Fault> {
+    term.feed(before.as_bytes())?;
+    term.key(&key)?;
+    Ok(is_waiting(term, sent))
+}
+
+fn sends(alloc: Global, before: &str, key: Key, sent: &str) -> Result<bool, Fault> {
+    let mut term = Term::new(alloc, 2, 8, 0)?;
+    sends_after(&mut term, before, key, sent)
+}
+
+fn holds(alloc: Global, case: &str) -> Result<bool, Fault> {
+    if let Some((before, rest)) = case.split_once('|')
+        && let Some((line, sent)) = rest.split_once('|')
+        && let Some(key) = key_of(line)
+    {
+        return sends(alloc, before, key, sent);
+    }
+    Ok(false)
 }
 
 #[test]
 fn keys_under_their_modes(rt: HostRuntime) -> Result<(), Fail> {
-    for case in CASES.iter() {
-        let mut term = Term::new(rt.alloc(), 2, 8, 0)?;
-        assert!(rt; sends(&mut term, case)?);
+    for case in SENT.split("|\n") {
+        assert!(rt; holds(rt.alloc(), case)?, "{case:?}");
     }
     Ok(())
 }
@@ -114,9 +69,13 @@ fn keys_under_their_modes(rt: HostRuntime) -> Result<(), Fail> {
 // Five bytes each, up to the last but one of the queue.
 #[test]
 fn a_key_that_does_not_fit_is_refused(rt: HostRuntime) -> Result<(), Fail> {
-    let mut term = Term::new(rt.alloc(), 2, 8, 0)?;
-    assert!(rt; is_filled(&mut term));
+    assert!(rt; is_refused_when_full(rt.alloc())?);
     Ok(())
+}
+
+fn is_refused_when_full(alloc: Global) -> Result<bool, Fault> {
+    let mut term = Term::new(alloc, 2, 8, 0)?;
+    Ok(is_filled(&mut term))
 }
 
 fn is_filled(term: &mut Term) -> bool {

@@ -6,6 +6,8 @@
 #[cfg(test)]
 mod keys;
 #[cfg(test)]
+mod pairs;
+#[cfg(test)]
 mod scrollback;
 #[cfg(test)]
 mod sizes;

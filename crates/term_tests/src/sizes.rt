@@ -21,6 +21,16 @@ impl Case {
         self.row.saturating_add(1).saturating_sub(self.new.0)
     }
 
+    // The cursor's row afterwards, from 1.
+    fn place(&self) -> u16 {
+        self.row.saturating_sub(self.leaving()).saturating_add(1)
+    }
+
+    // How many of the rows that leave are kept: none on the alternate screen.
+    fn kept(&self) -> u16 {
+        if self.alternate { 0 } else { self.leaving() }
+    }
+
     // The letter of a row of the old screen, from 0; a space below it.
     fn letter(&self, row: u16) -> u8 {
         if row < self.old.0 {
@@ -100,27 +110,42 @@ fn cursor_is(
     Ok(shot.cursor() == (row, 1) && shot.visible() == visible)
 }
 
+// The screen after the new size, and its cursor.
+fn shows_the_screen(alloc: Global, term: &Term, case: Case) -> Result<bool, Fault> {
+    let off = case.leaving();
+    Ok(shows(alloc, term, case, 0, off)? && cursor_is(alloc, term, 0, case.place(), true)?)
+}
+
+// A view of all that left, and of one row more.
+fn shows_what_left(alloc: Global, term: &Term, case: Case) -> Result<bool, Fault> {
+    let off = case.leaving();
+    let first = off.saturating_sub(case.kept());
+    Ok(
+        shows(alloc, term, case, off, first)?
+            && shows(alloc, term, case, off.saturating_add(1), first)?,
+    )
+}
+
+// The cursor in the view of all that left.
+fn moves_the_cursor(alloc: Global, term: &Term, case: Case) -> Result<bool, Fault> {
+    let below = case.place().saturating_add(case.kept());
+    let row = below.min(case.new.0);
+    cursor_is(alloc, term, case.leaving(), row, below <= case.new.0)
+}
+
+fn takes_its_size(alloc: Global, term: &mut Term, case: Case) -> Result<bool, Fail> {
+    lay(alloc, term, case)?;
+    term.resize(alloc, case.new.0, case.new.1)?;
+    Ok(
+        shows_the_screen(alloc, term, case)?
+            && shows_what_left(alloc, term, case)?
+            && moves_the_cursor(alloc, term, case)?,
+    )
+}
+
 fn holds(alloc: Global, case: Case) -> Result<bool, Fail> {
     let mut term = Term::new(alloc, case.old.0, case.old.1, 500)?;
-    lay(alloc, &mut term, case)?;
-    term.resize(alloc, case.new.0, case.new.1)?;
-    let off = case.leaving();
-    let place = case.row.saturating_sub(off).saturating_add(1);
-    let shown = shows(alloc, &term, case, 0, off)? && cursor_is(alloc, &term, 0, place, true)?;
-    let kept = if case.alternate { 0 } else { off };
-    let first = off.saturating_sub(kept);
-    // a view of all that left, and of one more
-    let viewed = shows(alloc, &term, case, off, first)?
-        && shows(alloc, &term, case, off.saturating_add(1), first)?;
-    let below = place.saturating_add(kept);
-    let moved = cursor_is(
-        alloc,
-        &term,
-        off,
-        below.min(case.new.0),
-        below <= case.new.0,
-    )?;
-    Ok(shown && viewed && moved)
+    takes_its_size(alloc, &mut term, case)
 }
 
 fn each_to(alloc: Global, old: (u16, u16), new: (u16, u16), alternate: bool) -> Result<bool, Fail> {

@@ -4,8 +4,8 @@ use roam_term::{MOST_LINES, MOST_PIECE, Term};
 use std::alloc::Global;
 use std::test::*;
 
-// What is fed, and the style in which a character stands that is printed then. An index is up to 255: one above is passed over, and an empty
-// one is 0; 2 and three numbers are passed over; otherwise, or cut short, the rest says nothing. Other numbers, private markers and
+// What is fed, and the style in which a character stands that is printed then. An index is up to 255: one above is passed over, and an
+// empty one is 0; 2 and three numbers are passed over; otherwise, or cut short, the rest says nothing. Other numbers, private markers and
 // intermediate bytes change nothing.
 const RENDERED: &str = "\
 \x1B[1m|bold
@@ -80,6 +80,12 @@ fn is_drawn(shot: &Shot, style: Style) -> bool {
     }
 }
 
+fn draws(alloc: Global, term: &mut Term, before: &str, style: Style) -> Result<bool, Fail> {
+    term.feed(before.as_bytes())?;
+    term.feed(b"a")?;
+    Ok(is_drawn(&term.shot(alloc, 0)?, style))
+}
+
 fn is_rendered(alloc: Global, line: &str) -> Result<bool, Fail> {
     let Some((before, words)) = line.split_once('|') else {
         return Ok(false);
@@ -88,8 +94,7 @@ fn is_rendered(alloc: Global, line: &str) -> Result<bool, Fail> {
         return Ok(false);
     };
     let mut term = Term::new(alloc, 2, 8, 0)?;
-    let fed = term.feed(before.as_bytes()) == Ok(()) && term.feed(b"a") == Ok(());
-    Ok(fed && is_drawn(&term.shot(alloc, 0)?, style))
+    draws(alloc, &mut term, before, style)
 }
 
 #[test]
@@ -100,34 +105,35 @@ fn renditions(rt: HostRuntime) -> Result<(), Fail> {
     Ok(())
 }
 
-fn is_reversed(alloc: Global, input: &[u8]) -> Result<Option<bool>, Fail> {
-    let mut term = Term::new(alloc, 2, 8, 0)?;
-    if term.feed(input).is_err() {
-        return Ok(None);
-    }
-    Ok(
-        term.shot(alloc, 0)?
-            .at(1, 1)
-            .map(|cell| cell.style().reverse),
-    )
+fn reverses(alloc: Global, term: &mut Term, input: &str) -> Result<Option<bool>, Fail> {
+    term.feed(input.as_bytes())?;
+    let shot = term.shot(alloc, 0)?;
+    Ok(shot.at(1, 1).map(|cell| cell.style().reverse))
 }
+
+fn is_reversed(alloc: Global, input: &str) -> Result<Option<bool>, Fail> {
+    let mut term = Term::new(alloc, 2, 8, 0)?;
+    reverses(alloc, &mut term, input)
+}
+
+// Inputs that leave the first character in reverse, and one that doesn't.
+const REVERSED: &str = "\
+\x1B[?5ha
+\x1B[?5h\x1B[?5ha
+\x1B[?25;5ha";
+
+const REVERSED_TWICE: &str = "\x1B[7m\x1B[?5ha";
+
+const REVERSED_AND_BACK: &str = "\x1B[?5ha\x1B[?5l";
 
 // The whole screen in reverse: DECSCNM turns the reverse flag of each cell, twice the same as once.
 #[test]
 fn a_reversed_screen(rt: HostRuntime) -> Result<(), Fail> {
-    let rows: [(&[u8], bool); 5] = [
-        (b"\x1B[?5ha".as_slice(), true),
-        (b"\x1B[?5h\x1B[?5ha".as_slice(), true),
-        (b"\x1B[7m\x1B[?5ha".as_slice(), false),
-        (b"\x1B[?5ha\x1B[?5l".as_slice(), false),
-        (b"\x1B[?25;5ha".as_slice(), true),
-    ];
-    for (input, reverse) in rows {
-        assert!(rt;
-            is_reversed(rt.alloc(), input)? == Some(reverse),
-            "{input:?}"
-        );
+    for input in REVERSED.lines() {
+        assert!(rt; is_reversed(rt.alloc(), input)? == Some(true), "{input:?}");
     }
+    assert!(rt; is_reversed(rt.alloc(), REVERSED_TWICE)? == Some(false));
+    assert!(rt; is_reversed(rt.alloc(), REVERSED_AND_BACK)? == Some(false));
     Ok(())
 }
 
@@ -147,9 +153,13 @@ static REFUSED: [(u16, u16, u16); 6] = [
     (0, 0, 65535),
 ];
 
-fn is_made(alloc: Global, rows: u16, cols: u16, lines: u16) -> Result<bool, Fail> {
+fn size_made(alloc: Global, rows: u16, cols: u16, lines: u16) -> Result<(u16, u16), Fail> {
     let term = Term::new(alloc, rows, cols, lines)?;
-    Ok(size_shown(alloc, &term)? == (rows, cols))
+    size_shown(alloc, &term)
+}
+
+fn is_made(alloc: Global, rows: u16, cols: u16, lines: u16) -> Result<bool, Fail> {
+    Ok(size_made(alloc, rows, cols, lines)? == (rows, cols))
 }
 
 fn is_refused(alloc: Global, rows: u16, cols: u16, lines: u16) -> bool {
@@ -197,10 +207,30 @@ fn takes_the_longest(alloc: Global, term: &mut Term) -> Result<bool, Fail> {
     Ok(refused && taken && shows_first(alloc, term, 500, "aaaaaaaa")?)
 }
 
+/// What is tried of a terminal of 2 rows and 8 columns.
+#[derive(Clone, Copy)]
+enum Trial {
+    LongestPiece,
+    FullQueue,
+    NothingWaits,
+}
+
+fn tries(alloc: Global, term: &mut Term, trial: Trial) -> Result<bool, Fail> {
+    match trial {
+        Trial::LongestPiece => takes_the_longest(alloc, term),
+        Trial::FullQueue => Ok(fills(term) && empties(term)),
+        Trial::NothingWaits => Ok(term.output_len() == 0 && has_nothing(term)),
+    }
+}
+
+fn is_tried(alloc: Global, trial: Trial) -> Result<bool, Fail> {
+    let mut term = Term::new(alloc, 2, 8, 0)?;
+    tries(alloc, &mut term, trial)
+}
+
 #[test]
 fn the_longest_piece(rt: HostRuntime) -> Result<(), Fail> {
-    let mut term = Term::new(rt.alloc(), 2, 8, 0)?;
-    assert!(rt; takes_the_longest(rt.alloc(), &mut term)?);
+    assert!(rt; is_tried(rt.alloc(), Trial::LongestPiece)?);
     Ok(())
 }
 
@@ -215,9 +245,7 @@ fn takes(term: &mut Term, wanted: &[u8]) -> bool {
 // Each of these answers has 8 bytes. A piece needs 12 free bytes for each of its own.
 #[test]
 fn a_full_queue_refuses_a_piece_and_loses_nothing(rt: HostRuntime) -> Result<(), Fail> {
-    let mut term = Term::new(rt.alloc(), 2, 8, 0)?;
-    assert!(rt; fills(&mut term));
-    assert!(rt; empties(&mut term));
+    assert!(rt; is_tried(rt.alloc(), Trial::FullQueue)?);
     Ok(())
 }
 
@@ -254,9 +282,7 @@ fn has_nothing(term: &mut Term) -> bool {
 
 #[test]
 fn nothing_waits(rt: HostRuntime) -> Result<(), Fail> {
-    let mut term = Term::new(rt.alloc(), 2, 8, 0)?;
-    assert!(rt; term.output_len() == 0);
-    assert!(rt; has_nothing(&mut term));
+    assert!(rt; is_tried(rt.alloc(), Trial::NothingWaits)?);
     Ok(())
 }
 
@@ -278,10 +304,18 @@ fn takes_any(term: &mut Term) -> bool {
     fed
 }
 
+fn stays_at_size(alloc: Global, term: &mut Term) -> Result<bool, Fail> {
+    Ok(takes_any(term) && size_shown(alloc, term)? == (24, 80))
+}
+
+fn reads_any(alloc: Global) -> Result<bool, Fail> {
+    let mut term = Term::new(alloc, 24, 80, 0)?;
+    stays_at_size(alloc, &mut term)
+}
+
 #[test]
 fn any_bytes_are_read(rt: HostRuntime) -> Result<(), Fail> {
-    let mut term = Term::new(rt.alloc(), 24, 80, 0)?;
-    assert!(rt; takes_any(&mut term) && size_shown(rt.alloc(), &term)? == (24, 80));
+    assert!(rt; reads_any(rt.alloc())?);
     Ok(())
 }
 
@@ -293,12 +327,19 @@ fn is_behind_two(alloc: Global, term: &Term) -> bool {
     }
 }
 
+fn survives_refusals(alloc: Global, term: &mut Term) -> bool {
+    term.feed(b"ab") == Ok(()) && is_behind_two(alloc, term) && is_behind_two(alloc, term)
+}
+
+fn survives(alloc: Global) -> bool {
+    match Term::new(alloc, 2, 8, 0) {
+        Ok(mut term) => survives_refusals(alloc, &mut term),
+        Err(fault) => fault == Fault::OutOfMemory,
+    }
+}
+
 // A call after one that was refused memory finds the terminal as it was.
 #[test]
 fn refused_memory_changes_nothing(rt: HostRuntime) {
-    let Ok(mut term) = Term::new(rt.alloc(), 2, 8, 0) else {
-        return;
-    };
-    assert!(rt; term.feed(b"ab") == Ok(()));
-    assert!(rt; is_behind_two(rt.alloc(), &term) && is_behind_two(rt.alloc(), &term));
+    assert!(rt; survives(rt.alloc()));
 }

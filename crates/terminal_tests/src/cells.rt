@@ -69,89 +69,55 @@ fn each_fault_has_its_text(rt: HostRuntime) -> Result<(), Fail> {
     Ok(())
 }
 
+// A character, its columns, and what it does. `unicode_width` gives U+17D8 three columns.
+const WIDTHS: &str = "\
+A 1 stands
+\u{4E2D} 2 stands
+\u{301} 0 joins
+\u{200B} 0 joins
+\x07 0 stands
+\u{AD} 0 joins
+\u{1F600} 2 stands
+\u{FE0F} 0 joins
+\u{17D8} 2 stands";
+
+fn has_width(line: &str) -> bool {
+    let Some((c, rest)) = line.split_once(' ') else {
+        return false;
+    };
+    let Some(c) = c.chars().next() else {
+        return false;
+    };
+    let wanted = match rest {
+        "0 joins" => (0, true),
+        "0 stands" => (0, false),
+        "1 stands" => (1, false),
+        "2 stands" => (2, false),
+        _ => return false,
+    };
+    (width(c), is_joiner(c)) == wanted
+}
+
 #[test]
 fn widths_of_characters(rt: HostRuntime) {
-    let rows = [
-        ('A', 1, false),
-        ('\u{4E2D}', 2, false),
-        ('\u{301}', 0, true),
-        ('\u{200B}', 0, true),
-        ('\u{7}', 0, false),
-        ('\u{AD}', 0, true),
-        ('\u{1F600}', 2, false),
-        ('\u{FE0F}', 0, true),
-        // `unicode_width` gives it three columns.
-        ('\u{17D8}', 2, false),
-    ];
-    for (c, columns, joins) in rows {
-        assert_eq!(rt; width(c), columns, "at {c:?}");
-        assert_eq!(rt; is_joiner(c), joins, "at {c:?}");
+    for line in WIDTHS.lines() {
+        assert!(rt; has_width(line), "{line:?}");
     }
 }
 
-struct Text {
-    points: &'static [char],
-    makes: bool,
-    wide: bool,
-}
-
-static TEXTS: [Text; 11] = [
-    Text {
-        points: &[],
-        makes: false,
-        wide: false,
-    },
-    Text {
-        points: &['a'],
-        makes: true,
-        wide: false,
-    },
-    Text {
-        points: &['a', '\u{301}'],
-        makes: true,
-        wide: false,
-    },
-    Text {
-        points: &['a', '\u{301}', '\u{301}'],
-        makes: true,
-        wide: false,
-    },
-    Text {
-        points: &['a', '\u{301}', '\u{301}', '\u{301}'],
-        makes: false,
-        wide: false,
-    },
-    Text {
-        points: &['\u{4E2D}'],
-        makes: true,
-        wide: true,
-    },
-    Text {
-        points: &['\u{4E2D}', '\u{301}'],
-        makes: true,
-        wide: true,
-    },
-    Text {
-        points: &['a', 'b'],
-        makes: false,
-        wide: false,
-    },
-    Text {
-        points: &['\u{301}'],
-        makes: false,
-        wide: false,
-    },
-    Text {
-        points: &['\u{7}'],
-        makes: false,
-        wide: false,
-    },
-    Text {
-        points: &['a', '\u{7}'],
-        makes: false,
-        wide: false,
-    },
-];
+// Code points, and the cell that they make in a style and with a guard, or none.
+const TEXTS: &str = "\
+|none
+a|narrow
+a\u{301}|narrow
+a\u{301}\u{301}|narrow
+a\u{301}\u{301}\u{301}|none
+\u{4E2D}|wide
+\u{4E2D}\u{301}|wide
+ab|none
+\u{301}|none
+\x07|none
+a\x07|none";
 
 fn bold() -> Style {
     let mut style = Style::default();
@@ -159,23 +125,38 @@ fn bold() -> Style {
     style
 }
 
-// Whether code points make the cell that a row of the table says, or none.
-fn makes(text: &Text) -> bool {
-    match Cell::of(text.points, bold(), true) {
-        Some(cell) => {
-            let shaped = cell.is_wide() == text.wide && cell.is_narrow() != text.wide;
-            let kept = cell.style() == bold() && cell.guard() && !cell.is_right_half();
-            text.makes && cell.chars() == text.points && shaped && kept
-        }
-        None => !text.makes,
+// What kind of cell code points make, if one that keeps them, its style and its guard.
+fn kind_made(points: &[char]) -> Option<&'static str> {
+    let Some(cell) = Cell::of(points, bold(), true) else {
+        return Some("none");
+    };
+    if cell.chars() != points || cell.style() != bold() || !cell.guard() || cell.is_right_half() {
+        return None;
+    }
+    match (cell.is_narrow(), cell.is_wide()) {
+        (true, false) => Some("narrow"),
+        (false, true) => Some("wide"),
+        _ => None,
     }
 }
 
-#[test]
-fn cells_of_code_points(rt: HostRuntime) {
-    for text in &TEXTS {
-        assert!(rt; makes(text), "{:?}", text.points);
+fn makes(alloc: Global, line: &str) -> Result<bool, AllocError> {
+    let Some((text, kind)) = line.split_once('|') else {
+        return Ok(false);
+    };
+    let mut points = Vec::new(alloc);
+    for c in text.chars() {
+        points.push(c)?;
     }
+    Ok(kind_made(&points) == Some(kind))
+}
+
+#[test]
+fn cells_of_code_points(rt: HostRuntime) -> Result<(), Fail> {
+    for line in TEXTS.lines() {
+        assert!(rt; makes(rt.alloc(), line)?, "{line:?}");
+    }
+    Ok(())
 }
 
 fn halves_become_spaces() -> bool {

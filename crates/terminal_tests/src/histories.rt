@@ -7,31 +7,38 @@ use roam_history::{Fitted, History, MOST_LINES, laws};
 use std::alloc::{AllocError, Global};
 use std::test::Fail;
 
-/// Parts of a row, each in the style and guard of a pen: plain (0), bold (1), guarded (2) or both (3).
-type Parts = &'static [(&'static str, u8)];
-
-fn style_of(pen: u8) -> Style {
+// The style and the guard of a pen.
+fn ink_of(pen: char) -> (Style, bool) {
     let mut style = Style::default();
-    style.bold = pen % 2 == 1;
-    style
+    style.bold = pen == '1' || pen == '3';
+    (style, pen == '2' || pen == '3')
 }
 
-fn add(cells: &mut Vec<Cell>, text: &str, pen: u8) -> Result<(), AllocError> {
-    for c in text.chars() {
-        if let Some(cell) = Cell::of(&[c], style_of(pen), 2 <= pen) {
-            cells.push(cell)?;
-            if cell.is_wide() {
-                cells.push(Cell::right_half(cell.style(), cell.guard()))?;
-            }
+fn add(cells: &mut Vec<Cell>, c: char, pen: char) -> Result<(), AllocError> {
+    let (style, guard) = ink_of(pen);
+    if let Some(cell) = Cell::of(&[c], style, guard) {
+        cells.push(cell)?;
+        if cell.is_wide() {
+            cells.push(Cell::right_half(cell.style(), cell.guard()))?;
         }
     }
     Ok(())
 }
 
-fn cells_of(alloc: Global, parts: &[(&'static str, u8)]) -> Result<Vec<Cell>, AllocError> {
+// The cells of these characters, each with its pen.
+fn cells_of(alloc: Global, text: &str, pens: &str) -> Result<Vec<Cell>, AllocError> {
     let mut cells = Vec::new(alloc);
-    for (text, pen) in parts {
-        add(&mut cells, text, *pen)?;
+    for (c, pen) in text.chars().zip(pens.chars()) {
+        add(&mut cells, c, pen)?;
+    }
+    Ok(cells)
+}
+
+// The cells of these characters, all plain.
+fn plain_cells(alloc: Global, text: &str) -> Result<Vec<Cell>, AllocError> {
+    let mut cells = Vec::new(alloc);
+    for c in text.chars() {
+        add(&mut cells, c, '0')?;
     }
     Ok(cells)
 }
@@ -58,8 +65,7 @@ fn counted(alloc: Global, lines: usize, rows: u16) -> Result<History, Fault> {
     let mut history = History::new(alloc, lines, 8)?;
     for k in 0..rows {
         let number = u32::from(k) + 1;
-        let mut cells = Vec::new(alloc);
-        add(&mut cells, format!(in alloc; "{number}")?.as_str(), 0)?;
+        let mut cells = plain_cells(alloc, format!(in alloc; "{number}")?.as_str())?;
         if k % 2 == 0 {
             for _ in cells.len()..8 {
                 cells.push(Cell::blank())?;
@@ -148,175 +154,96 @@ fn the_last_rows_are_kept(rt: HostRuntime) -> Result<(), Fail> {
     Ok(())
 }
 
-/// A row of a history, and what it shows at other columns.
-struct Case {
-    row: Parts,
+// A row of a history, and what it shows at other columns: from how many columns to how many; its characters and their pens; each column, a
+// right half as `~`, and its pen. A pen is plain (0), bold (1), guarded (2) or both (3).
+const REFITTED: &str = "\
+8 to 4|\u{4E2D}cdefgh|3000000|\u{4E2D}~cd|3300
+8 to 4|a\u{4E2D}defgh|0300000|a\u{4E2D}~d|0330
+8 to 4|ab\u{4E2D}efgh|0030000|ab\u{4E2D}~|0033
+8 to 4|abc\u{4E2D}fgh|0003000|abc |0003
+8 to 4|abcd\u{4E2D}gh|0000300|abcd|0000
+8 to 4|abcde\u{4E2D}h|0000030|abcd|0000
+8 to 4|abcdef\u{4E2D}|0000003|abcd|0000
+8 to 4|abc\u{4E2D}|1111|abc |1111
+5 to 4|abc\u{4E2D}|3332|abc |3332
+8 to 7|abcdef\u{4E2D}|0000001|abcdef |0000001
+8 to 8|abcdef\u{4E2D}|0000001|abcdef\u{4E2D}~|00000011
+8 to 10|abcdef\u{4E2D}|2222221|abcdef\u{4E2D}~  |2222221100
+8 to 5|\u{4E2D}\u{4E2D}\u{4E2D}\u{4E2D}|2222|\u{4E2D}~\u{4E2D}~ |22222
+8 to 5|ab|11|ab   |11000
+4 to 9|ab|11|ab       |110000000
+4 to 5|abcd|3333|abcd |33330
+6 to 4|||    |0000";
+
+/// A line of these.
+#[derive(Clone, Copy)]
+struct Case<'a> {
     from: usize,
     to: usize,
-    text: &'static str,
-    pens: &'static str,
+    row: &'a str,
+    row_pens: &'a str,
+    text: &'a str,
+    pens: &'a str,
 }
 
-const CASES: [Case; 17] = [
-    Case {
-        row: &[("\u{4E2D}", 3), ("cdefgh", 0)],
-        from: 8,
-        to: 4,
-        text: "\u{4E2D}~cd",
-        pens: "3300",
-    },
-    Case {
-        row: &[("a", 0), ("\u{4E2D}", 3), ("defgh", 0)],
-        from: 8,
-        to: 4,
-        text: "a\u{4E2D}~d",
-        pens: "0330",
-    },
-    Case {
-        row: &[("ab", 0), ("\u{4E2D}", 3), ("efgh", 0)],
-        from: 8,
-        to: 4,
-        text: "ab\u{4E2D}~",
-        pens: "0033",
-    },
-    Case {
-        row: &[("abc", 0), ("\u{4E2D}", 3), ("fgh", 0)],
-        from: 8,
-        to: 4,
-        text: "abc ",
-        pens: "0003",
-    },
-    Case {
-        row: &[("abcd", 0), ("\u{4E2D}", 3), ("gh", 0)],
-        from: 8,
-        to: 4,
-        text: "abcd",
-        pens: "0000",
-    },
-    Case {
-        row: &[("abcde", 0), ("\u{4E2D}", 3), ("h", 0)],
-        from: 8,
-        to: 4,
-        text: "abcd",
-        pens: "0000",
-    },
-    Case {
-        row: &[("abcdef", 0), ("\u{4E2D}", 3)],
-        from: 8,
-        to: 4,
-        text: "abcd",
-        pens: "0000",
-    },
-    Case {
-        row: &[("abc", 1), ("\u{4E2D}", 1)],
-        from: 8,
-        to: 4,
-        text: "abc ",
-        pens: "1111",
-    },
-    Case {
-        row: &[("abc", 3), ("\u{4E2D}", 2)],
-        from: 5,
-        to: 4,
-        text: "abc ",
-        pens: "3332",
-    },
-    Case {
-        row: &[("abcdef", 0), ("\u{4E2D}", 1)],
-        from: 8,
-        to: 7,
-        text: "abcdef ",
-        pens: "0000001",
-    },
-    Case {
-        row: &[("abcdef", 0), ("\u{4E2D}", 1)],
-        from: 8,
-        to: 8,
-        text: "abcdef\u{4E2D}~",
-        pens: "00000011",
-    },
-    Case {
-        row: &[("abcdef", 2), ("\u{4E2D}", 1)],
-        from: 8,
-        to: 10,
-        text: "abcdef\u{4E2D}~  ",
-        pens: "2222221100",
-    },
-    Case {
-        row: &[("\u{4E2D}\u{4E2D}\u{4E2D}\u{4E2D}", 2)],
-        from: 8,
-        to: 5,
-        text: "\u{4E2D}~\u{4E2D}~ ",
-        pens: "22222",
-    },
-    Case {
-        row: &[("ab", 1)],
-        from: 8,
-        to: 5,
-        text: "ab   ",
-        pens: "11000",
-    },
-    Case {
-        row: &[("ab", 1)],
-        from: 4,
-        to: 9,
-        text: "ab       ",
-        pens: "110000000",
-    },
-    Case {
-        row: &[("abcd", 3)],
-        from: 4,
-        to: 5,
-        text: "abcd ",
-        pens: "33330",
-    },
-    Case {
-        row: &[],
-        from: 6,
-        to: 4,
-        text: "    ",
-        pens: "0000",
-    },
-];
-
-/// Whether each row of a full history of two shows it, both where it is refitted and where it adopts.
-fn is_refitted(alloc: Global, case: &Case) -> Result<bool, Fault> {
-    let cells = cells_of(alloc, case.row)?;
-    for split in [false, true] {
-        let mut history = History::new(alloc, 2, case.from)?;
-        for _ in 0..3 {
-            push(&mut history, &cells);
-        }
-        if split {
-            let fitted = history.fit(alloc, case.to)?;
-            if fitted.lines() == history.lines() {
-                history.adopt(fitted);
-            }
-        } else {
-            history.refit(alloc, case.to)?;
-        }
-        if history.len() != 2 || history.cols() != case.to || history.lines() != 2 {
-            return Ok(false);
-        }
-        for i in 0..2 {
-            if !shows(alloc, &history, i, case.text, case.pens)? {
-                return Ok(false);
-            }
-        }
+fn case_of(line: &str) -> Option<Case<'_>> {
+    let mut parts = line.split('|');
+    let (from, to) = parts.next()?.split_once(" to ")?;
+    let case = Case {
+        from: from.parse::<usize>().ok()?,
+        to: to.parse::<usize>().ok()?,
+        row: parts.next()?,
+        row_pens: parts.next()?,
+        text: parts.next()?,
+        pens: parts.next()?,
+    };
+    if case.row.chars().count() == case.row_pens.chars().count() {
+        Some(case)
+    } else {
+        None
     }
-    Ok(true)
+}
+
+// A full history of two of these rows at other columns, by `refit`, or by `fit` and `adopt`.
+fn refitted(alloc: Global, case: &Case<'_>, in_parts: bool) -> Result<History, Fault> {
+    let mut history = History::new(alloc, 2, case.from)?;
+    let cells = cells_of(alloc, case.row, case.row_pens)?;
+    for _ in 0..3 {
+        push(&mut history, &cells);
+    }
+    if in_parts {
+        let fitted = history.fit(alloc, case.to)?;
+        if fitted.lines() == history.lines() {
+            history.adopt(fitted);
+        }
+    } else {
+        history.refit(alloc, case.to)?;
+    }
+    Ok(history)
+}
+
+// Whether both rows show what the case says.
+fn is_refitted(alloc: Global, case: &Case<'_>, in_parts: bool) -> Result<bool, Fault> {
+    let history = refitted(alloc, case, in_parts)?;
+    let sized = history.len() == 2 && history.cols() == case.to && history.lines() == 2;
+    Ok(
+        sized
+            && shows(alloc, &history, 0, case.text, case.pens)?
+            && shows(alloc, &history, 1, case.text, case.pens)?,
+    )
+}
+
+fn holds(alloc: Global, line: &str) -> Result<bool, Fault> {
+    match case_of(line) {
+        Some(case) => Ok(is_refitted(alloc, &case, false)? && is_refitted(alloc, &case, true)?),
+        None => Ok(false),
+    }
 }
 
 #[test]
 fn rows_are_cut_and_padded(rt: HostRuntime) -> Result<(), Fail> {
-    for case in &CASES {
-        assert!(rt;
-            is_refitted(rt.alloc(), case)?,
-            "{} to {}: {:?}",
-            case.from,
-            case.to,
-            case.text
-        );
+    for line in REFITTED.lines() {
+        assert!(rt; holds(rt.alloc(), line)?, "{line:?}");
     }
     Ok(())
 }
@@ -376,7 +303,7 @@ fn rows_go_on_after_a_size(rt: HostRuntime) -> Result<(), Fail> {
         );
     }
     assert!(rt; counts(rt.alloc(), &history, 2, 3)?);
-    push(&mut history, &cells_of(rt.alloc(), &[("5", 0)])?);
+    push(&mut history, &plain_cells(rt.alloc(), "5")?);
     assert!(rt; counts(rt.alloc(), &history, 3, 3)?);
     laws::nothing_was_pushed();
     laws::one_more_was_pushed();
@@ -384,28 +311,43 @@ fn rows_go_on_after_a_size(rt: HostRuntime) -> Result<(), Fail> {
     Ok(())
 }
 
-/// Fronts that are pushed into a history of one line of 8 columns, its columns afterwards, and the length of its row in use: no
-/// contract tells that, and a push and a copy cost it.
-const FRONTS: [(&[&str], usize, usize); 6] = [
-    (&["abc"], 8, 3),
-    (&["abcdefgh", "ab"], 8, 2),
-    (&["ab", "abcdefgh"], 8, 8),
-    (&["abcdefgh", ""], 8, 0),
-    (&["abcdef"], 4, 4),
-    (&["abcdef"], 250, 6),
-];
+// Fronts that are pushed into a history of one line of 8 columns, its columns afterwards, and the length of its row in use: no contract
+// tells that, and a push and a copy cost it.
+const FRONTS: &str = "\
+abc to 8: 3
+abcdefgh,ab to 8: 2
+ab,abcdefgh to 8: 8
+abcdefgh, to 8: 0
+abcdef to 4: 4
+abcdef to 250: 6";
+
+fn length_in_use(alloc: Global, fronts: &str, cols: usize) -> Result<Option<usize>, Fault> {
+    let mut history = History::new(alloc, 1, 8)?;
+    for front in fronts.split(',') {
+        push(&mut history, &plain_cells(alloc, front)?);
+    }
+    history.refit(alloc, cols)?;
+    if history.len() == 0 {
+        return Ok(None);
+    }
+    Ok(Some(history.front_of_row(0).len()))
+}
+
+fn is_lent(alloc: Global, line: &str) -> Result<bool, Fault> {
+    if let Some((fronts, rest)) = line.split_once(" to ")
+        && let Some((cols, length)) = rest.split_once(": ")
+        && let Ok(cols) = cols.parse::<usize>()
+        && let Ok(length) = length.parse::<usize>()
+    {
+        return Ok(length_in_use(alloc, fronts, cols)? == Some(length));
+    }
+    Ok(false)
+}
 
 #[test]
 fn a_row_is_lent_up_to_where_it_is_written(rt: HostRuntime) -> Result<(), Fail> {
-    for (fronts, cols, wanted) in &FRONTS {
-        let mut history = History::new(rt.alloc(), 1, 8)?;
-        for front in *fronts {
-            push(&mut history, &cells_of(rt.alloc(), &[(*front, 0)])?);
-        }
-        history.refit(rt.alloc(), *cols)?;
-        if 0 < history.len() {
-            assert_eq!(rt; history.front_of_row(0).len(), *wanted);
-        }
+    for line in FRONTS.lines() {
+        assert!(rt; is_lent(rt.alloc(), line)?, "{line:?}");
     }
     Ok(())
 }

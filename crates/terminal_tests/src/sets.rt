@@ -2,48 +2,24 @@
 use roam_charset::{Charset, Element, Sets};
 use std::test::*;
 
-// The codes 5/15 to 7/14 and what DEC Special Graphics has there, in the order of the VT220's table.
-static SPECIAL_GRAPHICS: [(char, char); 32] = [
-    ('_', '\u{20}'),
-    ('`', '\u{25C6}'),
-    ('a', '\u{2592}'),
-    ('b', '\u{2409}'),
-    ('c', '\u{240C}'),
-    ('d', '\u{240D}'),
-    ('e', '\u{240A}'),
-    ('f', '\u{B0}'),
-    ('g', '\u{B1}'),
-    ('h', '\u{2424}'),
-    ('i', '\u{240B}'),
-    ('j', '\u{2518}'),
-    ('k', '\u{2510}'),
-    ('l', '\u{250C}'),
-    ('m', '\u{2514}'),
-    ('n', '\u{253C}'),
-    ('o', '\u{23BA}'),
-    ('p', '\u{23BB}'),
-    ('q', '\u{2500}'),
-    ('r', '\u{23BC}'),
-    ('s', '\u{23BD}'),
-    ('t', '\u{251C}'),
-    ('u', '\u{2524}'),
-    ('v', '\u{2534}'),
-    ('w', '\u{252C}'),
-    ('x', '\u{2502}'),
-    ('y', '\u{2264}'),
-    ('z', '\u{2265}'),
-    ('{', '\u{3C0}'),
-    ('|', '\u{2260}'),
-    ('}', '\u{A3}'),
-    ('~', '\u{B7}'),
-];
+// The codes 5/15 to 7/14, and what DEC Special Graphics has there, in the order of the VT220's table.
+const CODES: &str = "_`abcdefghijklmnopqrstuvwxyz{|}~";
+
+const SPECIAL_GRAPHICS: &str = "\
+\u{20}\u{25C6}\u{2592}\u{2409}\u{240C}\u{240D}\u{240A}\u{B0}\
+\u{B1}\u{2424}\u{240B}\u{2518}\u{2510}\u{250C}\u{2514}\u{253C}\
+\u{23BA}\u{23BB}\u{2500}\u{23BC}\u{23BD}\u{251C}\u{2524}\u{2534}\
+\u{252C}\u{2502}\u{2264}\u{2265}\u{3C0}\u{2260}\u{A3}\u{B7}";
 
 #[test]
 fn special_graphics(rt: HostRuntime) -> Result<(), Fail> {
-    for (code, shown) in &SPECIAL_GRAPHICS {
-        assert!(rt; Charset::DecSpecialGraphics.map(*code) == *shown);
-        assert!(rt; Charset::Ascii.map(*code) == *code);
-    }
+    assert!(rt;
+        CODES
+            .chars()
+            .map(|code| Charset::DecSpecialGraphics.map(code))
+            .eq(SPECIAL_GRAPHICS.chars())
+    );
+    assert!(rt; CODES.chars().all(|code| Charset::Ascii.map(code) == code));
     for code in '!'..='^' {
         assert!(rt; Charset::DecSpecialGraphics.map(code) == code);
     }
