@@ -12,14 +12,14 @@ trap 'rm -rf "$folder"' EXIT
 
 cc -O2 -o "$folder/table" "$here/text_table.c"
 python3 "$here/inputs.py" "$folder" "$megabytes" prose colours cursor mixed
-make -s -C "$here/.." crates/text_speed/out/built >"$folder/build" 2>&1 || { cat "$folder/build" >&2; exit 1; }
-program=$here/../crates/text_speed/out/text_speed
+make -s -C "$here/.." crates/terminal_speed/out/built >"$folder/build" 2>&1 || { cat "$folder/build" >&2; exit 1; }
+program=$here/../crates/terminal_speed/out/terminal_speed
 
 printf '%-8s %10s %10s %10s %15s %11s\n' input table dispatch next dispatch/table next/table
 for input in prose colours cursor mixed; do
   for _ in $(seq "$rounds"); do
     "$folder/table" "$folder/$input" "$times"
-    "$program" "$folder/$input" "$times"
+    "$program" reader "$folder/$input" "$times"
   done | awk -v input="$input" '
     { now = $2 * $3 / $4; if (now > speed[$1]) speed[$1] = now }
     END { printf "%-8s %10.0f %10.0f %10.0f %15.2f %11.2f\n", input, speed["table"], speed["dispatch"], speed["next"],

@@ -36,33 +36,40 @@ Example:
                       |[1]     |
                       cursor 1 3 shown";
 
-static SIZE: [Needed<'static>; 2] = [
-    Needed {
-        name: "rows",
-        value: "R",
-        help: "Rows of the screen, 2 to 100",
-        reads: Reads::Small,
-    },
-    Needed {
-        name: "cols",
-        value: "C",
-        help: "Columns of the screen, 4 to 250",
-        reads: Reads::Small,
-    },
-];
-
-fn show_command<'a>(alloc: Global) -> Result<Command<'a>, AllocError> {
-    let command = Command::new(alloc, "show").about(
-        "Feeds standard input to a terminal and prints the screen that it makes",
-    );
-    with_options(alloc, command, &SIZE)
+/// A subcommand: its name, what it does, what else its help says, and the options that have to be given.
+struct Subcommand {
+    name: &'static str,
+    about: &'static str,
+    more: Option<&'static str>,
+    options: &'static [Needed<'static>],
 }
 
-fn world_command<'a>(alloc: Global) -> Command<'a> {
-    Command::new(alloc, "world")
-        .about("Plays a script from standard input and prints the answer to each of its lines")
-        .after_help(LINES)
-}
+const SHOW: Subcommand = Subcommand {
+    name: "show",
+    about: "Feeds standard input to a terminal and prints the screen that it makes",
+    more: None,
+    options: &[
+        Needed {
+            name: "rows",
+            value: "R",
+            help: "Rows of the screen, 2 to 100",
+            reads: Reads::Small,
+        },
+        Needed {
+            name: "cols",
+            value: "C",
+            help: "Columns of the screen, 4 to 250",
+            reads: Reads::Small,
+        },
+    ],
+};
+
+const WORLD: Subcommand = Subcommand {
+    name: "world",
+    about: "Plays a script from standard input and prints the answer to each of its lines",
+    more: Some(LINES),
+    options: &[],
+};
 
 const SESSION: Needed<'static> = Needed {
     name: "session",
@@ -78,80 +85,86 @@ const TURNS: Needed<'static> = Needed {
     reads: Reads::Large,
 };
 
-static SERVE: [Needed<'static>; 4] = [
-    Needed {
-        name: "dir",
-        value: "D",
-        help: "The folder in which the panes' sockets p1 to p9 are made, and removed at the end, as /tmp/roam",
-        reads: Reads::Word,
-    },
-    Needed {
-        name: "port",
-        value: "P",
-        help: "The UDP port on 127.0.0.1 at which clients reach it, as 4000",
-        reads: Reads::Small,
-    },
-    SESSION,
-    TURNS,
-];
+const SERVE: Subcommand = Subcommand {
+    name: "serve",
+    about: "Serves a session of 24 rows and 80 columns, whose panes are reached at sockets",
+    more: Some("Example: roam serve --dir /tmp/roam --port 4000 --session 5e55 --turns 1000000"),
+    options: &[
+        Needed {
+            name: "dir",
+            value: "D",
+            help: "The folder in which the panes' sockets p1 to p9 are made, and removed at the end, as /tmp/roam",
+            reads: Reads::Word,
+        },
+        Needed {
+            name: "port",
+            value: "P",
+            help: "The UDP port on 127.0.0.1 at which clients reach it, as 4000",
+            reads: Reads::Small,
+        },
+        SESSION,
+        TURNS,
+    ],
+};
 
-static ATTACH: [Needed<'static>; 5] = [
-    Needed {
-        name: "port",
-        value: "P",
-        help: "The UDP port on 127.0.0.1 of the server, as 4000",
-        reads: Reads::Small,
-    },
-    SESSION,
-    Needed {
-        name: "client",
-        value: "H",
-        help: "The id of this start of a client, 1 to 16 hexadecimal digits; each start needs one of its own, as c1",
-        reads: Reads::Word,
-    },
-    Needed {
-        name: "keys",
-        value: "PATH",
-        help: "A file with the acts to type, one a line, as `char 61`, `key return` or `split right`",
-        reads: Reads::Word,
-    },
-    TURNS,
-];
+const ATTACH: Subcommand = Subcommand {
+    name: "attach",
+    about: "Follows a session and paints it on standard output",
+    more: Some(
+        "Example: roam attach --port 4000 --session 5e55 --client c1 --keys keys --turns 1000",
+    ),
+    options: &[
+        Needed {
+            name: "port",
+            value: "P",
+            help: "The UDP port on 127.0.0.1 of the server, as 4000",
+            reads: Reads::Small,
+        },
+        SESSION,
+        Needed {
+            name: "client",
+            value: "H",
+            help: "The id of this start of a client, 1 to 16 hexadecimal digits; each start needs one of its own, as c1",
+            reads: Reads::Word,
+        },
+        Needed {
+            name: "keys",
+            value: "PATH",
+            help: "A file with the acts to type, one a line, as `char 61`, `key return` or `split right`",
+            reads: Reads::Word,
+        },
+        TURNS,
+    ],
+};
 
-fn serve_command<'a>(alloc: Global) -> Result<Command<'a>, AllocError> {
-    let command = Command::new(alloc, "serve")
-        .about("Serves a session of 24 rows and 80 columns, whose panes are reached at sockets")
-        .after_help(
-            "Example: roam serve --dir /tmp/roam --port 4000 --session 5e55 --turns 1000000",
-        );
-    with_options(alloc, command, &SERVE)
+static SUBCOMMANDS: [Subcommand; 4] = [SHOW, WORLD, SERVE, ATTACH];
+
+fn command_of<'a>(alloc: Global, subcommand: &Subcommand) -> Result<Command<'a>, AllocError> {
+    let command = Command::new(alloc, subcommand.name).about(subcommand.about);
+    let command = match subcommand.more {
+        Some(text) => command.after_help(text),
+        None => command,
+    };
+    with_options(alloc, command, subcommand.options)
 }
 
-fn attach_command<'a>(alloc: Global) -> Result<Command<'a>, AllocError> {
-    let command = Command::new(alloc, "attach")
-        .about("Follows a session and paints it on standard output")
-        .after_help(
-            "Example: roam attach --port 4000 --session 5e55 --client c1 --keys keys --turns 1000",
-        );
-    with_options(alloc, command, &ATTACH)
-}
-
-// The program with one subcommand more.
-fn with_command<'a>(
-    program: Command<'a>,
-    command: Result<Command<'a>, AllocError>,
-) -> Result<Command<'a>, AllocError> {
-    program.subcommand(command?)
+fn commands_of<'a>(
+    alloc: Global,
+    subcommands: &[Subcommand],
+) -> Result<Vec<Command<'a>>, AllocError> {
+    let mut commands = Vec::new(alloc);
+    for subcommand in subcommands {
+        commands.push(command_of(alloc, subcommand)?)?;
+    }
+    Ok(commands)
 }
 
 /// The program `roam` and its subcommands.
 pub fn program<'a>(alloc: Global) -> Result<Command<'a>, AllocError> {
-    let program = Command::new(alloc, "roam")
+    let commands = commands_of(alloc, &SUBCOMMANDS)?;
+    Command::new(alloc, "roam")
         .version("0.1.0")
         .about("A roaming terminal multiplexer")
-        .subcommand_required(true);
-    let program = with_command(program, show_command(alloc))?;
-    let program = with_command(program, Ok(world_command(alloc)))?;
-    let program = with_command(program, serve_command(alloc))?;
-    with_command(program, attach_command(alloc))
+        .subcommand_required(true)
+        .subcommands(commands)
 }

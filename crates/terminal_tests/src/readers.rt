@@ -1,7 +1,7 @@
 //! Worked rows: what bytes ask for, by ECMA-48, ECMA-35, the Unicode Standard and this project's profile.
 use roam_text::{Dispatch, Dispatched, Function, Out, Reader};
+use std::alloc::Global;
 use std::fmt::Write;
-use std::process::Abort;
 use std::test::Fail;
 
 /// Bytes, maybe a new size of 3 rows by 8 columns after some of them, and the functions that they ask for. These are written with all
@@ -539,7 +539,7 @@ fn read_by_dispatch(text: &mut String, reader: &mut Reader, piece: &[u8]) -> Res
 }
 
 /// How the bytes of a row are handed over.
-#[derive(Clone, Copy, Debug)]
+#[derive(Clone, Copy)]
 enum Way {
     /// By `next`, which takes no piece.
     Next,
@@ -566,104 +566,146 @@ fn read(text: &mut String, reader: &mut Reader, bytes: &[u8], way: Way) -> Resul
     Ok(())
 }
 
-fn check_row(rt: &(impl Abort + AllocGlobal), row: &Row, way: Way) -> Result<(), Fail> {
-    let mut text = String::new(rt.alloc());
+// Reads a row, handed over so, and a size of 3 rows by 8 columns where one falls.
+fn read_row(text: &mut String, row: &Row, way: Way) -> Result<(), Fail> {
     let mut reader = Reader::new();
-    let size_at = row.size_after.unwrap_or(row.bytes.len());
-    let (before, after) = row.bytes.split_at(size_at.min(row.bytes.len()));
-    read(&mut text, &mut reader, before, way)?;
-    if row.size_after.is_some() {
-        push_function(&mut text, &reader.size(3, 8))?;
-    }
-    read(&mut text, &mut reader, after, way)?;
-    assert_eq!(rt;
-        text.as_str().trim_end(),
-        row.functions,
-        "{}, {way:?}",
-        row.heading
-    );
-    Ok(())
+    let Some(at) = row.size_after else {
+        return read(text, &mut reader, row.bytes, way);
+    };
+    let (before, after) = row.bytes.split_at(at.min(row.bytes.len()));
+    read(text, &mut reader, before, way)?;
+    push_function(text, &reader.size(3, 8))?;
+    read(text, &mut reader, after, way)
 }
 
-fn check_rows(rt: &(impl Abort + AllocGlobal), rows: &[Row]) -> Result<(), Fail> {
-    for row in rows {
-        check_row(rt, row, Way::Next)?;
-        check_row(rt, row, Way::Pieces(1))?;
-        check_row(rt, row, Way::Pieces(row.bytes.len()))?;
-        for at in 0..row.bytes.len() {
-            check_row(rt, row, Way::Cut(at))?;
+fn holds_by(alloc: Global, row: &Row, way: Way) -> Result<bool, Fail> {
+    let mut text = String::new(alloc);
+    read_row(&mut text, row, way)?;
+    Ok(text.as_str().trim_end() == row.functions)
+}
+
+// Whether a row's bytes ask for its functions however they are handed over.
+fn holds(alloc: Global, row: &Row) -> Result<bool, Fail> {
+    for way in [Way::Next, Way::Pieces(1), Way::Pieces(row.bytes.len())] {
+        if !holds_by(alloc, row, way)? {
+            return Ok(false);
         }
     }
-    Ok(())
+    for at in 0..row.bytes.len() {
+        if !holds_by(alloc, row, Way::Cut(at))? {
+            return Ok(false);
+        }
+    }
+    Ok(true)
+}
+
+// The heading of the first row that doesn't hold.
+fn first_wrong(alloc: Global, rows: &[Row]) -> Result<Option<&'static str>, Fail> {
+    for row in rows {
+        if !holds(alloc, row)? {
+            return Ok(Some(row.heading));
+        }
+    }
+    Ok(None)
 }
 
 #[test]
 fn graphic_characters_and_controls(rt: HostRuntime) -> Result<(), Fail> {
-    check_rows(&rt, GRAPHIC_CHARACTERS_AND_CONTROLS)
+    assert_eq!(rt;
+        first_wrong(rt.alloc(), GRAPHIC_CHARACTERS_AND_CONTROLS)?,
+        None
+    );
+    Ok(())
 }
 
 #[test]
 fn escape_sequences(rt: HostRuntime) -> Result<(), Fail> {
-    check_rows(&rt, ESCAPE_SEQUENCES)
+    assert_eq!(rt; first_wrong(rt.alloc(), ESCAPE_SEQUENCES)?, None);
+    Ok(())
 }
 
 #[test]
 fn control_sequences(rt: HostRuntime) -> Result<(), Fail> {
-    check_rows(&rt, CONTROL_SEQUENCES)
+    assert_eq!(rt; first_wrong(rt.alloc(), CONTROL_SEQUENCES)?, None);
+    Ok(())
 }
 
 #[test]
 fn control_strings(rt: HostRuntime) -> Result<(), Fail> {
-    check_rows(&rt, CONTROL_STRINGS)
+    assert_eq!(rt; first_wrong(rt.alloc(), CONTROL_STRINGS)?, None);
+    Ok(())
 }
 
 #[test]
 fn characters_of_bytes(rt: HostRuntime) -> Result<(), Fail> {
-    check_rows(&rt, CHARACTERS_OF_BYTES)
+    assert_eq!(rt; first_wrong(rt.alloc(), CHARACTERS_OF_BYTES)?, None);
+    Ok(())
 }
 
 #[test]
 fn sizes_among_bytes(rt: HostRuntime) -> Result<(), Fail> {
-    check_rows(&rt, SIZES_AMONG_BYTES)
+    assert_eq!(rt; first_wrong(rt.alloc(), SIZES_AMONG_BYTES)?, None);
+    Ok(())
 }
 
-// Reads a million times this byte, which completes nothing.
-fn read_a_million(rt: &impl Abort, reader: &mut Reader, byte: u8) {
+/// What begins something long, a byte that goes on with it a million times, what ends it, and the functions that all ask for.
+struct Long {
+    first: &'static [u8],
+    byte: u8,
+    last: &'static [u8],
+    functions: &'static str,
+}
+
+static LONG: [Long; 3] = [
+    Long {
+        first: b"\x1BP",
+        byte: b'a',
+        last: b"\xC2\x9Cx",
+        functions: "Print(78) ",
+    },
+    Long {
+        first: b"\x1B[",
+        byte: b'9',
+        last: b"m",
+        functions: "Csi(9999 6D) ",
+    },
+    Long {
+        first: b"\x1B[7",
+        byte: b';',
+        last: b"m",
+        functions: "Csi(7;0;0;0;0;0;0;0;0;0;0;0;0;0;0;0 6D) ",
+    },
+];
+
+// Whether a byte, read a million times, completes nothing.
+fn completes_nothing(reader: &mut Reader, byte: u8) -> bool {
     for _ in 0..500_000 {
-        assert!(rt; matches!(reader.dispatch(byte), Dispatched::Nothing));
-        assert!(rt; matches!(reader.next(byte), Out::Nothing));
+        if !matches!(reader.dispatch(byte), Dispatched::Nothing)
+            || !matches!(reader.next(byte), Out::Nothing)
+        {
+            return false;
+        }
     }
+    true
+}
+
+fn read_long(text: &mut String, long: &Long) -> Result<bool, Fail> {
+    let mut reader = Reader::new();
+    read_by_next(text, &mut reader, long.first)?;
+    let completed = !completes_nothing(&mut reader, long.byte);
+    read_by_next(text, &mut reader, long.last)?;
+    Ok(!completed)
+}
+
+fn is_long_read(alloc: Global, long: &Long) -> Result<bool, Fail> {
+    let mut text = String::new(alloc);
+    Ok(read_long(&mut text, long)? && text.as_str() == long.functions)
 }
 
 #[test]
-fn a_million_bytes_of_a_string(rt: HostRuntime) -> Result<(), Fail> {
-    let mut text = String::new(rt.alloc());
-    let mut reader = Reader::new();
-    read_by_next(&mut text, &mut reader, b"\x1BP")?;
-    read_a_million(&rt, &mut reader, b'a');
-    read_by_next(&mut text, &mut reader, b"\xC2\x9Cx")?;
-    assert_eq!(&rt; text.as_str(), "Print(78) ");
-    Ok(())
-}
-
-#[test]
-fn a_million_bytes_of_a_parameter(rt: HostRuntime) -> Result<(), Fail> {
-    let mut text = String::new(rt.alloc());
-    let mut reader = Reader::new();
-    read_by_next(&mut text, &mut reader, b"\x1B[")?;
-    read_a_million(&rt, &mut reader, b'9');
-    read_by_next(&mut text, &mut reader, b"m")?;
-    assert_eq!(&rt; text.as_str(), "Csi(9999 6D) ");
-    Ok(())
-}
-
-#[test]
-fn a_million_parameters(rt: HostRuntime) -> Result<(), Fail> {
-    let mut text = String::new(rt.alloc());
-    let mut reader = Reader::new();
-    read_by_next(&mut text, &mut reader, b"\x1B[7")?;
-    read_a_million(&rt, &mut reader, b';');
-    read_by_next(&mut text, &mut reader, b"m")?;
-    assert_eq!(&rt; text.as_str(), "Csi(7;0;0;0;0;0;0;0;0;0;0;0;0;0;0;0 6D) ");
+fn a_million_bytes(rt: HostRuntime) -> Result<(), Fail> {
+    for long in LONG.iter() {
+        assert!(rt; is_long_read(rt.alloc(), long)?, "{}", long.functions);
+    }
     Ok(())
 }

@@ -1,19 +1,13 @@
-//! Measures how fast a grid is written, scrolled and edited: `grid_speed MILLIONS` does the work of that many million characters in ten
-//! slices, and for each slice and way prints its name, the rows, the columns, how often it was done and the microseconds. Without words
-//! it does a moment's work, and prints nothing.
-#![tactic(auto)]
-
+//! How fast a grid is written, scrolled and edited, beside one flat list of cells.
 ghost use Rattle.std.specs.Prelude.{◌≤◌};
 
-mod flat;
-mod grids;
-
-use anyhow::{Context, bail};
-use flat::Flat;
-use grids::Way;
+use crate::flat::{self, Flat};
+use crate::ways::{self, Way};
+use crate::words;
+use anyhow::bail;
 use roam_cells::Cell;
 use roam_grid::Grid;
-use std::env;
+use std::env::Args;
 use std::time::Instant;
 
 /// The slices that the work is done in.
@@ -41,7 +35,7 @@ fn measure_way(
 ) -> anyhow::Result<()> {
     let size = (grid.rows(), grid.cols());
     let start = Instant::now(rt)?;
-    grids::work(grid, way, times);
+    ways::work(grid, way, times);
     report(rt, name, size, times, start)
 }
 
@@ -100,11 +94,11 @@ fn measure_flat(rt: &HostRuntime, rows: usize, cols: usize, count: u64) -> anyho
     Ok(())
 }
 
-// A moment's work, and where the cursor has to be after it.
-fn try_all(rt: &HostRuntime) -> anyhow::Result<()> {
+/// Does a moment's work, after which the cursor has to be in the last place.
+pub fn try_once(rt: &HostRuntime) -> anyhow::Result<()> {
     let mut grid = Grid::new(rt.alloc(), 24, 80)?;
-    grids::work(&mut grid, Way::Singly, 10_000);
-    grids::work(&mut grid, Way::Runs, 10_000);
+    ways::work(&mut grid, Way::Singly, 10_000);
+    ways::work(&mut grid, Way::Runs, 10_000);
     if grid.cursor() != (24, 80) {
         bail!("the cursor is not where 20,000 characters leave it");
     }
@@ -115,24 +109,20 @@ fn try_all(rt: &HostRuntime) -> anyhow::Result<()> {
         Way::ShiftCells,
         Way::ScrollBetween,
     ] {
-        grids::work(&mut grid, way, 10);
+        ways::work(&mut grid, way, 10);
     }
     Ok(())
 }
 
-fn main(rt: HostRuntime) -> anyhow::Result<()> {
-    let mut words = env::args(&rt)?;
-    words.next();
-    let Some(word) = words.next() else {
-        return try_all(&rt);
-    };
-    let millions = word.parse::<u16>().ok().context("MILLIONS is no number")?;
-    // In slices, one size after the other, so that other work on the machine slows neither alone.
+/// Does the work of as many million characters as the words say, in slices, one size after the other, so that other work on the machine
+/// slows neither alone.
+pub fn measure(rt: &HostRuntime, words: &mut Args) -> anyhow::Result<()> {
+    let millions = words::number(words, "MILLIONS")?;
     let count = u64::from(millions) * 1_000_000 / SLICES;
     for _ in 0..SLICES {
         for (rows, cols) in [(24, 80), (100, 250)] {
-            measure_grid(&rt, rows, cols, count)?;
-            measure_flat(&rt, rows, cols, count)?;
+            measure_grid(rt, rows, cols, count)?;
+            measure_flat(rt, rows, cols, count)?;
         }
     }
     Ok(())

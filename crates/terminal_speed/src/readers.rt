@@ -1,16 +1,11 @@
-//! Measures how fast a reader takes bytes: `text_speed FILE TIMES` reads the file that many times in each of two ways, and prints for
-//! each its name, the bytes read and the microseconds that passed. Without words it reads a short text, and prints nothing.
-#![tactic(auto)]
-
+//! How fast a reader takes bytes.
 ghost use Rattle.std.specs.Prelude.{◌<◌, ◌≤◌, length};
 
-use anyhow::{Context, bail};
+use crate::words;
+use anyhow::bail;
 use roam_text::{Dispatch, Dispatched, Out, Reader};
+use std::env::Args;
 use std::time::Instant;
-use std::{env, fs};
-
-/// Bytes of a piece, as a terminal is given them.
-const PIECE: usize = 1024;
 
 // A number that depends on all that was dispatched, so that no work can be left out.
 fn weight(reader: &Reader, dispatch: Dispatch) -> u64 {
@@ -88,7 +83,7 @@ fn dispatch_all(bytes: &[u8], times: u32) -> u64 {
     let mut reader = Reader::new();
     let mut sum: u64 = 0;
     for _ in 0..times {
-        for piece in bytes.chunks(PIECE) {
+        for piece in bytes.chunks(words::PIECE) {
             sum = sum.wrapping_add(dispatch_piece(&mut reader, piece));
         }
     }
@@ -99,14 +94,14 @@ fn next_all(bytes: &[u8], times: u32) -> u64 {
     let mut reader = Reader::new();
     let mut sum: u64 = 0;
     for _ in 0..times {
-        for piece in bytes.chunks(PIECE) {
+        for piece in bytes.chunks(words::PIECE) {
             sum = sum.wrapping_add(next_piece(&mut reader, piece));
         }
     }
     sum
 }
 
-fn measure(rt: &HostRuntime, bytes: &[u8], times: u32) -> anyhow::Result<()> {
+fn report(rt: &HostRuntime, bytes: &[u8], times: u32) -> anyhow::Result<()> {
     let start = Instant::now(rt)?;
     let sum = dispatch_all(bytes, times);
     let dispatched = start.elapsed(rt)?.as_micros();
@@ -119,20 +114,18 @@ fn measure(rt: &HostRuntime, bytes: &[u8], times: u32) -> anyhow::Result<()> {
     Ok(())
 }
 
-fn main(rt: HostRuntime) -> anyhow::Result<()> {
-    let mut words = env::args(&rt)?;
-    words.next();
-    let Some(path) = words.next() else {
-        let text = b"abc \x1B[1;31mred\x1B[m\r\n\x1B[2;3Hcaf\xC3\xA9\r\n".as_slice();
-        if dispatch_all(text, 1000) == 0 || next_all(text, 1000) == 0 {
-            bail!("the text gave nothing");
-        }
-        return Ok(());
-    };
-    let times = match words.next() {
-        Some(word) => word.parse::<u32>().ok().context("TIMES is no number")?,
-        None => 1,
-    };
-    let bytes = fs::read(&rt, &path)?;
-    measure(&rt, &bytes, times)
+/// Reads a short text.
+pub fn try_once() -> anyhow::Result<()> {
+    let text = b"abc \x1B[1;31mred\x1B[m\r\n\x1B[2;3Hcaf\xC3\xA9\r\n".as_slice();
+    if dispatch_all(text, 1000) == 0 || next_all(text, 1000) == 0 {
+        bail!("the text gave nothing");
+    }
+    Ok(())
+}
+
+/// Reads a file as often as the words say, in each of two ways.
+pub fn measure(rt: &HostRuntime, words: &mut Args) -> anyhow::Result<()> {
+    let bytes = words::file(rt, words)?;
+    let times = words::number(words, "TIMES")?;
+    report(rt, &bytes, times)
 }
