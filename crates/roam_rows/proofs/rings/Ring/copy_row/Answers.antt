@@ -1,4 +1,4 @@
-use Rattle.std.proofs.Common.{◌≡◌, ◌∙◌, ◌<◌, List, ap, sym, subst, refl, arith, length, set}
+use Rattle.std.proofs.Common.{rules, ◌≡◌, ◌∙◌, ◌*◌, ◌<◌, ◌≤◌, List, ap, sym, subst, refl, arith, length, set}
 use Rattle.std.proofs.lemmas.List.{with_items_is}
 use Rattle.std.specs.Vec.{with_items}
 use Rattle.roam_cells.specs.Glyph.{Glyph}
@@ -62,3 +62,18 @@ pub returns : goal.returns
 returns c =
     let d = done (goal.at.returns c).After-blank_between in
     record { copied = rw (← c.self.view_is) d.2 }
+
+pub copy_within-requires : goal.copy_within-requires
+copy_within-requires c =
+    let f = c.self.inside in
+    let k = c.self.invariant in
+    let s = c.place-from.ensures in
+    let read = read_length f.lengths.items c.place-from.result c.index-size.result.now (omega (arith, k.lengths.count, s.low)) c.index-size.ensures in
+    let few : c.index-size.result.now ≤ f.cols = omega (arith, read, k.lengths.low c.place-from.result s.low) in
+    let long : length c.as_mut_slice-cells.result.now ≡ f.rows * f.cols = ap (length {A = Glyph}) c.as_mut_slice-cells.ensures.value ∙ k.turned.size in
+    record {
+      start_le_end = omega arith;
+      in_bounds = omega (arith, few, long, c.start_of-source_start.ensures.room);
+      dest_in_bounds = omega (arith, few, long, c.start_of-target_start.ensures.room);
+      not_exhausted = search rules;
+    }
