@@ -348,18 +348,6 @@ fn is_blank(alloc: Global, shot: &Shot) -> Result<bool, Fault> {
     Ok(blank.is_same(shot))
 }
 
-#[test]
-fn a_screen_of_cells(rt: HostRuntime) -> Result<(), Fail> {
-    let alloc = rt.alloc();
-    let shot = sample(alloc)?;
-    shot.facts();
-    let placed = shot.cursor() == (1, 6) && !shot.visible();
-    assert!(rt; shot.rows() == 2 && shot.cols() == 8 && placed);
-    assert!(rt; has_rows(alloc, &shot)?);
-    assert!(rt; is_copied(alloc, &shot)?);
-    Ok(())
-}
-
 // A lone half makes no screen; another size is another screen.
 #[test]
 fn other_screens(rt: HostRuntime) -> Result<(), Fail> {
@@ -403,13 +391,6 @@ fn has_places(shot: &Shot) -> bool {
             .all(|(row, col, c)| has_at(shot, *row, *col, *c))
 }
 
-#[test]
-fn places_of_a_screen(rt: HostRuntime) -> Result<(), Fail> {
-    let shot = sample(rt.alloc())?;
-    assert!(rt; has_places(&shot));
-    Ok(())
-}
-
 fn is_the_sample(shot: &Shot) -> bool {
     let placed = shot.cursor() == (1, 6) && !shot.visible();
     let bold_a = match shot.at(1, 3) {
@@ -417,6 +398,20 @@ fn is_the_sample(shot: &Shot) -> bool {
         None => false,
     };
     shot.rows() == 2 && shot.cols() == 8 && placed && bold_a
+}
+
+// Whether all that the sample is asked for is what it has.
+fn is_told(alloc: Global, shot: &Shot) -> Result<bool, Fault> {
+    shot.facts();
+    let placed = is_the_sample(shot) && has_places(shot);
+    Ok(placed && has_rows(alloc, shot)? && is_copied(alloc, shot)?)
+}
+
+#[test]
+fn a_screen_of_cells(rt: HostRuntime) -> Result<(), Fail> {
+    let shot = sample(rt.alloc())?;
+    assert!(rt; is_told(rt.alloc(), &shot)?);
+    Ok(())
 }
 
 fn is_wanting<T: Drop>(refused: &Result<T, Fault>) -> bool {

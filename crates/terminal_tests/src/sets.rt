@@ -11,21 +11,26 @@ const SPECIAL_GRAPHICS: &str = "\
 \u{23BA}\u{23BB}\u{2500}\u{23BC}\u{23BD}\u{251C}\u{2524}\u{2534}\
 \u{252C}\u{2502}\u{2264}\u{2265}\u{3C0}\u{2260}\u{A3}\u{B7}";
 
+fn maps_special_graphics() -> bool {
+    CODES
+        .chars()
+        .map(|code| Charset::DecSpecialGraphics.map(code))
+        .eq(SPECIAL_GRAPHICS.chars())
+}
+
+// Whether characters outside those codes are themselves.
+fn keeps_others() -> bool {
+    let below = ('!'..='^').all(|code| Charset::DecSpecialGraphics.map(code) == code);
+    let ascii = CODES.chars().all(|code| Charset::Ascii.map(code) == code);
+    let outside = Charset::DecSpecialGraphics.map(' ') == ' '
+        && Charset::DecSpecialGraphics.map('\u{7F}') == '\u{7F}';
+    below && ascii && outside
+}
+
 #[test]
-fn special_graphics(rt: HostRuntime) -> Result<(), Fail> {
-    assert!(rt;
-        CODES
-            .chars()
-            .map(|code| Charset::DecSpecialGraphics.map(code))
-            .eq(SPECIAL_GRAPHICS.chars())
-    );
-    assert!(rt; CODES.chars().all(|code| Charset::Ascii.map(code) == code));
-    for code in '!'..='^' {
-        assert!(rt; Charset::DecSpecialGraphics.map(code) == code);
-    }
-    assert!(rt; Charset::DecSpecialGraphics.map(' ') == ' ');
-    assert!(rt; Charset::DecSpecialGraphics.map('\u{7F}') == '\u{7F}');
-    Ok(())
+fn special_graphics(rt: HostRuntime) {
+    assert!(rt; maps_special_graphics());
+    assert!(rt; keeps_others());
 }
 
 #[test]
