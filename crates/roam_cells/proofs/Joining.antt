@@ -66,7 +66,7 @@ and_right false b h = absurd (false≢true h)
 leb-means : (a b : ℕ) → leb a b ≡ true → a ≤ b
 leb-means a b h = grind (arith, common_steps)
 
-text_few : (ps : List ℕ) → is_text ps ≡ true → length ps ≤ 3
+pub text_few : (ps : List ℕ) → is_text ps ≡ true → length ps ≤ 3
 text_few [] h = omega arith
 text_few (p ∷ ps) h = let few : length ps ≤ 2 = leb-means (length ps) 2 (and_right (not (eqb (width_of p) 0) && are_joiners ps) (leb (length ps) 2) h) in omega arith
 

@@ -1,5 +1,6 @@
 pub mod Ascii
 pub mod Digits
+pub mod Gathered
 pub mod Joining
 pub mod Places
 pub mod Rows

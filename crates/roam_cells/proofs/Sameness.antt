@@ -1,6 +1,6 @@
 -- A test of two styles, flag by flag.
-use Rattle.std.proofs.Common.{◌≡◌, Bool, true, false, ◌&&◌, refl, sym}
-use Rattle.std.proofs.lemmas.Bool.{false≢true}
+use Rattle.std.proofs.Common.{◌≡◌, Bool, true, false, ◌&&◌, refl, sym, ap, ◌∙◌}
+use Rattle.std.proofs.lemmas.Bool.{false≢true, and_from}
 use mathlib.Core.Bool.{beq}
 use Rattle.roam_cells.specs.declared.styles.Style.{Style}
 
@@ -57,3 +57,17 @@ styles-tell s t h front back i =
       foreground = front i;
       background = back i;
     }
+
+beq-self : (a : Bool) → beq a a ≡ true
+beq-self true = refl
+beq-self false = refl
+
+flags-self : (s : Style) → flags s s ≡ true
+flags-self s =
+    let weights_are = and_from _ _ (beq-self s.bold) (beq-self s.faint) in
+    let lines_are = and_from _ _ (and_from _ _ weights_are (beq-self s.italic)) (beq-self s.underline) in
+    let looks_are = and_from _ _ (and_from _ _ lines_are (beq-self s.blink)) (beq-self s.reverse) in
+    and_from _ _ (and_from _ _ looks_are (beq-self s.conceal)) (beq-self s.strike)
+
+pub flags-same : (s t : Style) → s ≡ t → flags s t ≡ true
+flags-same s t is = ap (flags s) (sym is) ∙ flags-self s

@@ -1,5 +1,5 @@
 -- Text that is printed at once.
-use Rattle.std.proofs.Common.{◌≡◌, ◌≤◌, ◌<◌, ℕ, zero, suc, ◌-◌, ◌==◌, Bool, true, false, List, [], ◌∷◌, ◌++◌, map, length, get_or, Option, Some, None, refl, sym, ap, ◌∙◌, arith, replicate}
+use Rattle.std.proofs.Common.{◌≡◌, ◌≤◌, ◌<◌, ℕ, zero, suc, ◌-◌, ◌==◌, Bool, true, false, not, List, [], ◌∷◌, ◌++◌, map, length, get_or, Option, Some, None, refl, sym, ap, ◌∙◌, arith, replicate}
 use Rattle.std.specs.Prelude.{if◌then◌else◌, unwrap_or, nat_le, ◌&&◌}
 use Rattle.roam_cells.proofs.Ascii.{ascii_width}
 use Rattle.roam_charset.specs.Charsets.{mapped_by}
@@ -11,7 +11,9 @@ use Rattle.roam_text.specs.declared.functions.Function.TheVariants.{Print}
 use Rattle.roam_text.specs.Functions.{ArePlain}
 use Rattle.roam_grid.specs.declared.writing.Writing.{Writing}
 use Rattle.roam_grid.specs.Screen.{Screen}
-use Rattle.roam_cells.specs.Glyph.{Glyph}
+use Rattle.roam_cells.specs.Glyph.{Glyph, is_cell_text}
+use Rattle.roam_cells.specs.Inks.{InkValue}
+use Rattle.roam_cells.specs.Width.{width_of}
 use Rattle.roam_grid.specs.Writing.{put_on, put_all, joined_on}
 use Rattle.roam_history.specs.Histories.{Scrollback}
 use Rattle.roam_term.specs.Leaving.{left_by_put, left_by_puts}
@@ -130,3 +132,21 @@ put_step g w s n m e = ap (λ k. put_all (replicate k g) w s) e
 pub put_none : (g : Glyph) (w : Writing) (s : Screen) (n : ℕ) → n ≡ 0 → put_all (replicate n g) w s ≡ s
 unfolding put_all
 put_none g w s n e = ap (λ k. put_all (replicate k g) w s) e
+
+inked_by : (b : Bool) (x cell : Glyph) → (if (not b && true) && true then Some x else None) ≡ Some cell → (b ≡ false) × (cell ≡ x)
+inked_by true x cell e = absurd cc
+inked_by false x cell e = (refl, cc)
+
+-- a cell of one character, which has a width
+pub inked : (c : ℕ) (pen : InkValue) (cell : Glyph) → (if is_cell_text (c ∷ []) then Some (glyph_in c pen) else None) ≡ Some cell
+    → ((width_of c == 0) ≡ false) × (cell ≡ glyph_in c pen)
+inked c pen cell e = inked_by (width_of c == 0) (glyph_in c pen) cell e
+
+inkless_by : (b : Bool) (x : Glyph) → (if (not b && true) && true then Some x else None) ≡ None → b ≡ true
+inkless_by true x e = refl
+inkless_by false x e = absurd cc
+
+-- a character that makes no cell by itself has no width
+pub inkless : (c : ℕ) (pen : InkValue) → (if is_cell_text (c ∷ []) then Some (glyph_in c pen) else None) ≡ None
+    → (width_of c == 0) ≡ true
+inkless c pen e = inkless_by (width_of c == 0) (glyph_in c pen) e

@@ -1,4 +1,4 @@
-use Rattle.std.proofs.Common.{◌∙◌, ◌+◌, ◌<◌, List, ap, sym, subst, arith, set}
+use Rattle.std.proofs.Common.{◌≡◌, ◌∙◌, ◌+◌, ◌*◌, ◌<◌, ◌≤◌, List, ap, sym, subst, arith, length, set}
 use Rattle.std.proofs.lemmas.List.{with_items_is}
 use Rattle.std.specs.Vec.{with_items}
 use Rattle.roam_cells.specs.Glyph.{Glyph}
@@ -43,3 +43,13 @@ invariant_of-self c =
 
 pub returns-clause-blanked : goal.returns-clause-blanked
 returns-clause-blanked c = rw (← c.self.view_is) (done (goal.at.returns-clause-blanked c).After-blank_between).2
+
+pub blank_between-requires : goal.blank_between-requires
+blank_between-requires c =
+    let f = c.self.inside in
+    let k = c.self.invariant in
+    let place = c.place-at.ensures in
+    let read = read_length f.lengths.items c.place-at.result c.index.result.now (omega (arith, k.lengths.count, place.low)) c.index.ensures in
+    let few : c.index.result.now ≤ f.cols = omega (arith, read, k.lengths.low c.place-at.result place.low) in
+    let long : length c.deref_mut.result.now ≡ f.rows * f.cols = ap (length {A = Glyph}) c.deref_mut.ensures.value ∙ k.turned.size in
+    record { range = (omega arith, omega (arith, few, long, c.start_of-start.ensures.room)) }

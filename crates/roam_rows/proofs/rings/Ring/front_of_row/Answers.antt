@@ -1,4 +1,5 @@
-use Rattle.std.proofs.Common.{◌≡◌, ap, ◌+◌, ◌-◌, ◌<◌, take, drop, length, arith}
+use Rattle.std.proofs.Common.{◌≡◌, ◌∙◌, ap, ◌+◌, ◌-◌, ◌*◌, ◌<◌, ◌≤◌, take, drop, length, arith}
+use Rattle.roam_cells.specs.Glyph.{Glyph}
 use Rattle.roam_rows.specs.Rows.{Rows}
 use Rattle.roam_rows.proofs.Written.{read_length}
 use Rattle.roam_rows.proofs.Buffers.{front_of_row, length-front}
@@ -31,3 +32,14 @@ returns-clause-few c =
     let long : length (take u (drop a f.cells.items)) ≡ u =
     length-front f.rows f.cols f.first c.place-at.result a u f.cells.items f.lengths.items k.turned k.lengths place.low c.start_of-start.ensures.start read in
     rw (← c.self.view_is, c.deref.ensures.value, size, long) (omega (arith, read, k.lengths.low c.place-at.result place.low))
+
+pub slice_bounds-result-end : goal.slice_bounds-result-end
+slice_bounds-result-end c =
+    let f = c.self.inside in
+    let k = c.self.invariant in
+    let place = c.place-at.ensures in
+    let u = c.index.result.now in
+    let read = read_length f.lengths.items c.place-at.result u (omega (arith, k.lengths.count, place.low)) c.index.ensures in
+    let few : u ≤ f.cols = omega (arith, read, k.lengths.low c.place-at.result place.low) in
+    let long : length c.deref.result.now ≡ f.rows * f.cols = ap (length {A = Glyph}) c.deref.ensures.value ∙ k.turned.size in
+    omega (arith, few, long, c.start_of-start.ensures.room)

@@ -80,3 +80,12 @@ returns c =
     let f = c.self.inside in
     let d = done (goal.at.returns c).After-insert in
     record { ring = rw (← c.self.view_is, c.deref_mut.ensures.value) (ap (rows_by f.rows f.cols f.first) d.2) }
+
+pub length_inserted-requires : goal.length_inserted-requires
+length_inserted-requires c =
+    let f = c.self.inside in
+    let k = c.self.invariant in
+    let at = c.place-at in
+    let len = c.index-len in
+    let read = read_length f.lengths.items at.result len.result.now (omega (arith, k.lengths.count, at.ensures.low)) len.ensures in
+    record { few = (k.turned.limits.most_columns, omega (arith, read, k.lengths.low at.result at.ensures.low)) }
