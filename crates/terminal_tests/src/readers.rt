@@ -4,9 +4,9 @@ use std::alloc::{AllocError, Global};
 use std::fmt::Write;
 
 /// Rows of a heading, bytes and the functions that these ask for, with an empty line between them. A character is the byte of its code,
-/// but `␊` LF, `␍` CR, and `⇕` no byte: there a new size of 3 rows by 8 columns falls. Functions are written with all numbers but parameters
-/// and sizes in hexadecimal: `Print(41)`, `C0(0A)`, `C1(85)`, `Esc(28 30)` for intermediate bytes and final byte, `Csi(3F 2;4 20 71)` for
-/// private marker, parameters, intermediate bytes and final byte, `Size(3 8)`; `-` is none.
+/// but `␊` LF, `␍` CR, and `⇕` no byte: there a new size of 3 rows by 8 columns falls. Functions are written with all numbers but
+/// parameters and sizes in hexadecimal: `Print(41)`, `C0(0A)`, `C1(85)`, `Esc(28 30)` for intermediate bytes and final byte,
+/// `Csi(3F 2;4 20 71)` for private marker, parameters, intermediate bytes and final byte, `Size(3 8)`; `-` is none.
 const GRAPHIC_CHARACTERS_AND_CONTROLS: &str = "\
 printable ASCII and U+00A0 up are printed
  ~\u{C2}\u{A0}\u{C3}\u{A9}
