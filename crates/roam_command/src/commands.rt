@@ -1,5 +1,5 @@
 //! The subcommands, with their options and their helps.
-use crate::options::{Needed, Reads, with_options};
+use crate::options::{Needed, Reads};
 use clap::Command;
 use std::alloc::{AllocError, Global};
 
@@ -140,31 +140,33 @@ const ATTACH: Subcommand = Subcommand {
 static SUBCOMMANDS: [Subcommand; 4] = [SHOW, WORLD, SERVE, ATTACH];
 
 fn command_of<'a>(alloc: Global, subcommand: &Subcommand) -> Result<Command<'a>, AllocError> {
-    let command = Command::new(alloc, subcommand.name).about(subcommand.about);
-    let command = match subcommand.more {
-        Some(text) => command.after_help(text),
-        None => command,
-    };
-    with_options(alloc, command, subcommand.options)
+    let mut command = Command::new(alloc, subcommand.name).about(subcommand.about);
+    if let Some(text) = subcommand.more {
+        command = command.after_help(text);
+    }
+    for option in subcommand.options {
+        command = command.arg(option.arg(alloc))?;
+    }
+    Ok(command)
 }
 
-fn commands_of<'a>(
+fn with_subcommand<'a>(
     alloc: Global,
-    subcommands: &[Subcommand],
-) -> Result<Vec<Command<'a>>, AllocError> {
-    let mut commands = Vec::new(alloc);
-    for subcommand in subcommands {
-        commands.push(command_of(alloc, subcommand)?)?;
-    }
-    Ok(commands)
+    program: Command<'a>,
+    subcommand: &Subcommand,
+) -> Result<Command<'a>, AllocError> {
+    let command = command_of(alloc, subcommand)?;
+    program.subcommand(command)
 }
 
 /// The program `roam` and its subcommands.
 pub fn program<'a>(alloc: Global) -> Result<Command<'a>, AllocError> {
-    let commands = commands_of(alloc, &SUBCOMMANDS)?;
-    Command::new(alloc, "roam")
+    let mut program = Command::new(alloc, "roam")
         .version("0.1.0")
         .about("A roaming terminal multiplexer")
-        .subcommand_required(true)
-        .subcommands(commands)
+        .subcommand_required(true);
+    for subcommand in &SUBCOMMANDS {
+        program = with_subcommand(alloc, program, subcommand)?;
+    }
+    Ok(program)
 }

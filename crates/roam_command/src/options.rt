@@ -1,6 +1,6 @@
 //! The options of a subcommand, as rows of tables.
-use clap::{Arg, Command, value_parser};
-use std::alloc::{AllocError, Global};
+use clap::{Arg, value_parser};
+use std::alloc::Global;
 
 /// An option that has to be given: its long name, what its value is called, its help, and how the value is read.
 pub struct Needed<'a> {
@@ -19,7 +19,8 @@ pub enum Reads {
 }
 
 impl<'a> Needed<'a> {
-    fn arg(&self, alloc: Global) -> Arg<'a> {
+    /// The option as `clap` takes it.
+    pub fn arg(&self, alloc: Global) -> Arg<'a> {
         let arg = Arg::new(alloc, self.name)
             .long(self.name)
             .value_name(self.value)
@@ -31,17 +32,4 @@ impl<'a> Needed<'a> {
             Reads::Large => arg.value_parser(value_parser!(u64)),
         }
     }
-}
-
-/// The command with these options.
-pub fn with_options<'a>(
-    alloc: Global,
-    command: Command<'a>,
-    options: &[Needed<'a>],
-) -> Result<Command<'a>, AllocError> {
-    let mut command = command;
-    for option in options {
-        command = command.arg(option.arg(alloc))?;
-    }
-    Ok(command)
 }
