@@ -1,8 +1,8 @@
-use Rattle.std.proofs.Common.{◌≡◌, ◌++◌, [], map, take, ◌∙◌, ap, sym, subst}
+use Rattle.std.proofs.Common.{rules, ◌≡◌, ◌≤◌, ◌++◌, [], map, take, length, length-take, arith, ◌∙◌, ap, sym, subst}
 use Rattle.std.proofs.KnownBytes.{Consumes-nil, Consumes-trans}
 use Rattle.roam_text.specs.Log.{Byte}
 use Rattle.roam_term.specs.Terminal.{reports}
-use Rattle.roam_term.specs.Stands.{Shows}
+use Rattle.roam_term.specs.Stands.{Shows, IsAccepted}
 use Rattle.roam_show.proofs.ShowLaws.{map-append}
 use Rattle.roam_show.proofs.show.feed_all.Goals as goal
 
@@ -29,3 +29,14 @@ loop-preserved g c =
           ),
       c.in_ok-take_report.ensures.waiting,
     )
+
+-- a piece that was read, with an empty queue, isn't refused
+pub returns-in_err-feed-clause-err : goal.returns-in_err-feed-clause-err
+returns-in_err-feed-clause-err g c =
+    let piece = take c.in-Ok.count c.read.new.buf in
+    let long = length-take c.in-Ok.count c.read.new.buf in
+    let none : length c.loop.term.waiting ≡ 0 = ap length c.loop.invariant.3 in
+    let short : length piece ≤ 1024 = omega (arith, long, c.read.auto.buf, c.in-Ok.ensures.bound) in
+    let accepted : IsAccepted c.loop.term.waiting piece = record { short = short; room = omega (arith, none, short) } in
+    let bad = c.in_err-feed.ensures.ok.1 accepted in
+    absurd (search rules)
