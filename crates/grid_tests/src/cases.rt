@@ -88,19 +88,42 @@ pub fn turned_grid(alloc: Global, size: (usize, usize), turned: usize) -> Result
     Ok(grid)
 }
 
+/// What a case begins with: a size, and what is done before its own acts.
+#[derive(Clone, Copy)]
+struct Start {
+    size: (usize, usize),
+    before: &'static str,
+}
+
+fn start_of(words: &str) -> Option<Start> {
+    let (size, start) = words.rsplit_once(' ')?;
+    Some(Start {
+        size: pair(size)?,
+        before: acts_before(start)?,
+    })
+}
+
+// Whether the acts of a case, done after those before them, leave what its last lines show.
+fn shows_after(
+    alloc: Global,
+    grid: &mut Grid,
+    before: &str,
+    acts: &str,
+    lines: Lines<'_>,
+) -> Result<bool, Fault> {
+    Ok(play(alloc, grid, before)? && play(alloc, grid, acts)? && shows(grid, lines))
+}
+
 // A case on a grid whose rows were turned so often.
 fn holds(alloc: Global, case: &str, turned: usize) -> Result<bool, Fault> {
     let mut lines = case.lines();
     lines.next();
     if let Some(line) = lines.next()
         && let Some((start, acts)) = line.split_once(": ")
-        && let Some((size, start)) = start.rsplit_once(' ')
-        && let Some(size) = pair(size)
-        && let Some(before) = acts_before(start)
+        && let Some(start) = start_of(start)
     {
-        let mut grid = turned_grid(alloc, size, turned)?;
-        let played = play(alloc, &mut grid, before)? && play(alloc, &mut grid, acts)?;
-        return Ok(played && shows(&grid, lines));
+        let mut grid = turned_grid(alloc, start.size, turned)?;
+        return shows_after(alloc, &mut grid, start.before, acts, lines);
     }
     Ok(false)
 }

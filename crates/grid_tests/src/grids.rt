@@ -289,49 +289,50 @@ fn first_rows(grid: &mut Grid) -> [usize; 3] {
     [up, down, grid.first()]
 }
 
+// Rows that scroll between margins leave the first row where it is.
+fn goes_round(alloc: Global, grid: &mut Grid) -> Result<bool, Fault> {
+    let turned = first_rows(grid) == [2, 1, 2] && reads(grid.buffer(), "8       9       7       ");
+    Ok(turned && play(alloc, grid, "DECSTBM 1 2, SU 1")? && grid.first() == 2)
+}
+
 #[test]
 fn the_first_row_goes_round(rt: HostRuntime) -> Result<(), Fail> {
     let mut grid = Grid::new(rt.alloc(), 3, 8)?;
-    assert_eq!(rt; first_rows(&mut grid), [2, 1, 2]);
-    assert!(rt; reads(grid.buffer(), "8       9       7       "));
-    assert!(rt; play(rt.alloc(), &mut grid, "DECSTBM 1 2, SU 1")?);
-    assert_eq!(rt; grid.first(), 2);
+    assert!(rt; goes_round(rt.alloc(), &mut grid)?);
     Ok(())
 }
 
-// Whether a row leaves where a character of so many columns comes next, with or without DECAWM, after acts; none where one is not known.
-fn leaves_after(
-    alloc: Global,
-    grid: &mut Grid,
-    acts: &str,
-    columns: usize,
-    wraps: bool,
-) -> Result<Option<bool>, Fault> {
-    let writing = Writing {
-        wraps,
-        inserts: false,
-    };
-    let played = play(alloc, grid, acts)?;
-    Ok(if played {
-        Some(grid.leaves(columns, writing))
-    } else {
-        None
-    })
+/// Acts after those of the rows before, the columns of a character that comes next, whether it wraps (DECAWM), and whether a row leaves.
+static LEAVES: [(&str, usize, bool, bool); 5] = [
+    // In the row above the bottom margin.
+    ("CUP 1 8", 2, true, false),
+    // Where one column is left.
+    ("CUP 2 7, text a", 1, true, false),
+    // Where two are wanted.
+    ("", 2, true, true),
+    // Without DECAWM.
+    ("", 2, false, false),
+    // With a wrap pending.
+    ("text b", 1, true, true),
+];
+
+// The first row that doesn't hold.
+fn first_wrong_row(alloc: Global, grid: &mut Grid) -> Result<Option<&'static str>, Fault> {
+    for (acts, columns, wraps, leaves) in LEAVES.iter() {
+        let writing = Writing {
+            wraps: *wraps,
+            inserts: false,
+        };
+        if !play(alloc, grid, *acts)? || grid.leaves(*columns, writing) != *leaves {
+            return Ok(Some(*acts));
+        }
+    }
+    Ok(None)
 }
 
-// In the row above the bottom margin; where one column is left; where two are wanted; without DECAWM; with a wrap pending.
 #[test]
 fn a_row_leaves_where_a_character_scrolls(rt: HostRuntime) -> Result<(), Fail> {
     let mut grid = Grid::new(rt.alloc(), 2, 8)?;
-    for (acts, columns, wraps, wanted) in [
-        ("CUP 1 8", 2, true, false),
-        ("CUP 2 7, text a", 1, true, false),
-        ("", 2, true, true),
-        ("", 2, false, false),
-        ("text b", 1, true, true),
-    ] {
-        let leaves = leaves_after(rt.alloc(), &mut grid, acts, columns, wraps)?;
-        assert!(rt; leaves == Some(wanted), "{acts}");
-    }
+    assert_eq!(rt; first_wrong_row(rt.alloc(), &mut grid)?, None);
     Ok(())
 }

@@ -79,45 +79,48 @@ fn next_piece(reader: &mut Reader, piece: &[u8]) -> u64 {
     sum
 }
 
-fn dispatch_all(bytes: &[u8], times: u32) -> u64 {
+/// How a reader is asked.
+#[derive(Clone, Copy)]
+enum Asked {
+    /// As a terminal asks it.
+    Dispatch,
+    /// For whole functions.
+    Next,
+}
+
+fn read_all(bytes: &[u8], times: u32, asked: Asked) -> u64 {
     let mut reader = Reader::new();
     let mut sum: u64 = 0;
     for _ in 0..times {
         for piece in bytes.chunks(words::PIECE) {
-            sum = sum.wrapping_add(dispatch_piece(&mut reader, piece));
+            let read = match asked {
+                Asked::Dispatch => dispatch_piece(&mut reader, piece),
+                Asked::Next => next_piece(&mut reader, piece),
+            };
+            sum = sum.wrapping_add(read);
         }
     }
     sum
 }
 
-fn next_all(bytes: &[u8], times: u32) -> u64 {
-    let mut reader = Reader::new();
-    let mut sum: u64 = 0;
-    for _ in 0..times {
-        for piece in bytes.chunks(words::PIECE) {
-            sum = sum.wrapping_add(next_piece(&mut reader, piece));
-        }
-    }
-    sum
-}
-
-fn report(rt: &HostRuntime, bytes: &[u8], times: u32) -> anyhow::Result<()> {
+fn report(
+    rt: &HostRuntime,
+    name: &str,
+    bytes: &[u8],
+    times: u32,
+    asked: Asked,
+) -> anyhow::Result<()> {
     let start = Instant::now(rt)?;
-    let sum = dispatch_all(bytes, times);
-    let dispatched = start.elapsed(rt)?.as_micros();
-    let start = Instant::now(rt)?;
-    let count = next_all(bytes, times);
-    let answered = start.elapsed(rt)?.as_micros();
-    let read = bytes.len() as u64;
-    println!(rt; "dispatch {read} {times} {dispatched} {sum}")?;
-    println!(rt; "next {read} {times} {answered} {count}")?;
+    let sum = read_all(bytes, times, asked);
+    let micros = start.elapsed(rt)?.as_micros();
+    println!(rt; "{name} {} {times} {micros} {sum}", bytes.len())?;
     Ok(())
 }
 
 /// Reads a short text.
 pub fn try_once() -> anyhow::Result<()> {
     let text = b"abc \x1B[1;31mred\x1B[m\r\n\x1B[2;3Hcaf\xC3\xA9\r\n".as_slice();
-    if dispatch_all(text, 1000) == 0 || next_all(text, 1000) == 0 {
+    if read_all(text, 1000, Asked::Dispatch) == 0 || read_all(text, 1000, Asked::Next) == 0 {
         bail!("the text gave nothing");
     }
     Ok(())
@@ -127,5 +130,6 @@ pub fn try_once() -> anyhow::Result<()> {
 pub fn measure(rt: &HostRuntime, words: &mut Args) -> anyhow::Result<()> {
     let bytes = words::file(rt, words)?;
     let times = words::number(words, "TIMES")?;
-    report(rt, &bytes, times)
+    report(rt, "dispatch", &bytes, times, Asked::Dispatch)?;
+    report(rt, "next", &bytes, times, Asked::Next)
 }

@@ -348,14 +348,22 @@ fn is_blank(alloc: Global, shot: &Shot) -> Result<bool, Fault> {
     Ok(blank.is_same(shot))
 }
 
+fn is_lone_half_blank(alloc: Global) -> Result<bool, Fault> {
+    let half = Cell::right_half(Style::default(), false);
+    let shot = screen_from(alloc, &[half])?;
+    is_blank(alloc, &shot)
+}
+
+fn is_wider_blank(alloc: Global) -> Result<bool, Fault> {
+    let wider = Shot::blank(alloc, 2, 9)?;
+    is_blank(alloc, &wider)
+}
+
 // A lone half makes no screen; another size is another screen.
 #[test]
 fn other_screens(rt: HostRuntime) -> Result<(), Fail> {
-    let half = Cell::right_half(Style::default(), false);
-    let shot = screen_from(rt.alloc(), &[half])?;
-    assert!(rt; is_blank(rt.alloc(), &shot)?);
-    let wider = Shot::blank(rt.alloc(), 2, 9)?;
-    assert!(rt; !is_blank(rt.alloc(), &wider)?);
+    assert!(rt; is_lone_half_blank(rt.alloc())?);
+    assert!(rt; !is_wider_blank(rt.alloc())?);
     Ok(())
 }
 
@@ -414,26 +422,30 @@ fn a_screen_of_cells(rt: HostRuntime) -> Result<(), Fail> {
     Ok(())
 }
 
-fn is_wanting<T: Drop>(refused: &Result<T, Fault>) -> bool {
-    matches!(refused, Err(Fault::OutOfMemory))
+// Whether a call answered this, or wanted memory.
+fn is_or_wants(answer: Result<bool, Fault>, wanted: bool) -> bool {
+    match answer {
+        Ok(answer) => answer == wanted,
+        Err(fault) => fault == Fault::OutOfMemory,
+    }
+}
+
+fn stays_the_sample(alloc: Global, shot: &Shot) -> bool {
+    is_or_wants(is_blank(alloc, shot), false)
+        && is_or_wants(is_copied(alloc, shot), true)
+        && is_or_wants(has_rows(alloc, shot), true)
+        && is_the_sample(shot)
+}
+
+fn survives(alloc: Global) -> bool {
+    match sample(alloc) {
+        Ok(shot) => stays_the_sample(alloc, &shot),
+        Err(fault) => fault == Fault::OutOfMemory,
+    }
 }
 
 // Each allocation of a screen's calls refused in turn: the only fault is want of memory, and the screen stays.
 #[test]
 fn refused_memory_leaves_a_screen(rt: HostRuntime) {
-    let alloc = rt.alloc();
-    let shot = match sample(alloc) {
-        Ok(shot) => shot,
-        Err(fault) => {
-            assert!(rt; fault == Fault::OutOfMemory);
-            return;
-        }
-    };
-    let blank = is_blank(alloc, &shot);
-    assert!(rt; blank == Ok(false) || is_wanting(&blank));
-    let copied = is_copied(alloc, &shot);
-    assert!(rt; copied == Ok(true) || is_wanting(&copied));
-    let read = has_rows(alloc, &shot);
-    assert!(rt; read == Ok(true) || is_wanting(&read));
-    assert!(rt; is_the_sample(&shot));
+    assert!(rt; survives(rt.alloc()));
 }

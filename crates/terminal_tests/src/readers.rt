@@ -273,13 +273,27 @@ a size in a cancelled sequence
 \x1B[2⇕\x18x
 Size(3 8) Print(78)";
 
-fn push_escape_sequence(text: &mut String, inter: &[u8], last: u8) -> Result<(), AllocError> {
-    text.push_str("Esc(")?;
+// The intermediate bytes and the final byte of a sequence.
+fn push_end(text: &mut String, inter: &[u8], last: u8) -> Result<(), AllocError> {
     for byte in inter {
         write!(text, "{byte:02X} ")?;
     }
     write!(text, "{last:02X}) ")?;
     Ok(())
+}
+
+fn push_escape_sequence(text: &mut String, inter: &[u8], last: u8) -> Result<(), AllocError> {
+    text.push_str("Esc(")?;
+    push_end(text, inter, last)
+}
+
+fn push_parameters(text: &mut String, params: &[u16]) -> Result<(), AllocError> {
+    let mut before = "";
+    for number in params {
+        write!(text, "{before}{number}")?;
+        before = ";";
+    }
+    text.push(' ')
 }
 
 fn push_control_sequence(
@@ -293,17 +307,8 @@ fn push_control_sequence(
     if let Some(mark) = mark {
         write!(text, "{mark:02X} ")?;
     }
-    let mut before = "";
-    for number in params {
-        write!(text, "{before}{number}")?;
-        before = ";";
-    }
-    text.push_str(" ")?;
-    for byte in inter {
-        write!(text, "{byte:02X} ")?;
-    }
-    write!(text, "{last:02X}) ")?;
-    Ok(())
+    push_parameters(text, params)?;
+    push_end(text, inter, last)
 }
 
 fn push_code(text: &mut String, name: &str, code: u32) -> Result<(), AllocError> {
@@ -404,19 +409,19 @@ enum Way {
 
 fn read(text: &mut String, reader: &mut Reader, bytes: &[u8], way: Way) -> Result<(), AllocError> {
     match way {
-        Way::Next => read_by_next(text, reader, bytes)?,
+        Way::Next => read_by_next(text, reader, bytes),
         Way::Pieces(size) => {
             for piece in bytes.chunks(size.max(1)) {
                 read_by_dispatch(text, reader, piece)?;
             }
+            Ok(())
         }
         Way::Cut(at) => {
             let (front, back) = bytes.split_at(at.min(bytes.len()));
             read_by_dispatch(text, reader, front)?;
-            read_by_dispatch(text, reader, back)?;
+            read_by_dispatch(text, reader, back)
         }
     }
-    Ok(())
 }
 
 /// A row as it is read.
@@ -465,11 +470,15 @@ fn read_row(text: &mut String, row: &Row<'_>, way: Way) -> Result<(), AllocError
     read(text, &mut reader, after, way)
 }
 
+fn are_wanted(read: &str, wanted: &str) -> bool {
+    let functions = read.trim_end();
+    functions == wanted || functions.is_empty() && wanted == "-"
+}
+
 fn holds_by(alloc: Global, row: &Row<'_>, way: Way) -> Result<bool, AllocError> {
     let mut text = String::new(alloc);
     read_row(&mut text, row, way)?;
-    let functions = text.as_str().trim_end();
-    Ok(functions == row.functions || functions.is_empty() && row.functions == "-")
+    Ok(are_wanted(text.as_str(), row.functions))
 }
 
 // Whether a row's bytes ask for its functions however they are handed over.

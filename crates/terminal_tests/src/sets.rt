@@ -65,55 +65,58 @@ fn no_set_touches_other_characters(rt: HostRuntime) -> Result<(), Fail> {
     Ok(())
 }
 
-#[test]
-fn a_locking_shift_stays(rt: HostRuntime) -> Result<(), Fail> {
+fn locks() -> bool {
     let mut sets = Sets::new();
-    assert!(rt; sets.is_ascii());
-    assert!(rt; sets.map('q') == 'q');
+    let fresh = sets.is_ascii() && sets.map('q') == 'q';
     sets.designate(Element::G1, Charset::DecSpecialGraphics);
-    assert!(rt; sets.map('q') == 'q');
+    let designated = sets.map('q') == 'q';
     sets.shift(Element::G1);
-    assert!(rt; !sets.is_ascii());
-    assert!(rt; sets.map('q') == '\u{2500}');
-    assert!(rt; sets.map('x') == '\u{2502}');
+    let locked = !sets.is_ascii() && sets.map('q') == '\u{2500}' && sets.map('x') == '\u{2502}';
     sets.shift(Element::G0);
-    assert!(rt; sets.map('q') == 'q');
-    Ok(())
+    fresh && designated && locked && sets.map('q') == 'q'
 }
 
 #[test]
-fn a_single_shift_is_spent_by_any_character(rt: HostRuntime) -> Result<(), Fail> {
+fn a_locking_shift_stays(rt: HostRuntime) {
+    assert!(rt; locks());
+}
+
+// The second of two single shifts counts.
+fn shifts_once() -> bool {
     let mut sets = Sets::new();
     sets.designate(Element::G2, Charset::UnitedKingdom);
     sets.designate(Element::G3, Charset::DecSpecialGraphics);
     sets.single_shift(Element::G2);
-    assert!(rt; !sets.is_ascii());
-    assert!(rt; sets.map('#') == '\u{A3}');
-    assert!(rt; sets.map('#') == '#');
+    let spent = !sets.is_ascii() && sets.map('#') == '\u{A3}' && sets.map('#') == '#';
     sets.single_shift(Element::G3);
-    assert!(rt; sets.map('\u{4E2D}') == '\u{4E2D}');
-    assert!(rt; sets.map('q') == 'q');
+    let by_any = sets.map('\u{4E2D}') == '\u{4E2D}' && sets.map('q') == 'q';
     sets.single_shift(Element::G2);
     sets.single_shift(Element::G3);
-    assert!(rt; sets.map('q') == '\u{2500}');
-    assert!(rt; sets.is_ascii());
-    Ok(())
+    spent && by_any && sets.map('q') == '\u{2500}' && sets.is_ascii()
 }
 
 #[test]
-fn each_element_has_its_own_set(rt: HostRuntime) -> Result<(), Fail> {
+fn a_single_shift_is_spent_by_any_character(rt: HostRuntime) {
+    assert!(rt; shifts_once());
+}
+
+// Whether an element has a set of its own, which goes back to ASCII.
+fn is_designated(element: Element) -> bool {
     let mut sets = Sets::new();
+    sets.designate(element, Charset::UnitedKingdom);
+    sets.shift(element);
+    let shown = sets.map('#') == '\u{A3}';
+    sets.designate(element, Charset::Ascii);
+    let locked = Sets {
+        locked: element,
+        ..Sets::new()
+    };
+    shown && sets == locked
+}
+
+#[test]
+fn each_element_has_its_own_set(rt: HostRuntime) {
     for element in [Element::G0, Element::G1, Element::G2, Element::G3] {
-        sets.designate(element, Charset::UnitedKingdom);
-        sets.shift(element);
-        assert!(rt; sets.map('#') == '\u{A3}');
-        sets.designate(element, Charset::Ascii);
-        assert!(rt;
-            sets == Sets {
-                locked: element,
-                ..Sets::new()
-            }
-        );
+        assert!(rt; is_designated(element));
     }
-    Ok(())
 }
