@@ -1,4 +1,4 @@
-//! Tests of the crates between a pane's bytes and its screen, by their public calls alone.
+//! Tests of what the terminal stands on, by public calls alone: the reader, the graphic sets, cells and screens.
 //!
 //! They lie here and not beside the code, since a crate with tests is proved twice by the gate.
 #![tactic(auto)]
@@ -6,10 +6,6 @@
 #[cfg(test)]
 mod cells;
 #[cfg(test)]
-mod histories;
-#[cfg(test)]
 mod readers;
-#[cfg(test)]
-mod rows;
 #[cfg(test)]
 mod sets;

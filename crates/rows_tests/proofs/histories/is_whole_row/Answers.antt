@@ -1,7 +1,7 @@
 use Rattle.std.proofs.Common.{◌≡◌, ◌∙◌, ◌+◌, ◌-◌, ◌*◌, ◌<◌, ℕ, List, ap, arith, length, sym}
 use Rattle.roam_cells.specs.Glyph.{Glyph, is_wide, is_right_half, right_of}
 use Rattle.roam_cells.specs.Place.{glyph_at, cell_at, AreWhole, IsWholeRow}
-use Rattle.terminal_tests.proofs.histories.is_whole_row.Goals as goal
+use Rattle.rows_tests.proofs.histories.is_whole_row.Goals as goal
 
 -- one row alone
 only_row : (row : List Glyph) → AreWhole 1 (length row) row → IsWholeRow row

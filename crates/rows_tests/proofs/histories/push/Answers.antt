@@ -4,7 +4,7 @@ use Rattle.roam_cells.specs.Glyph.{Glyph, is_wide, is_right_half, right_of}
 use Rattle.roam_cells.specs.Place.{glyph_at, IsWholeRow}
 use Rattle.roam_history.specs.Lines.{with_blanks}
 use Rattle.roam_history.proofs.Refitting.{glyph-with_blanks, length-with_blanks, is_wide-blank, not_past}
-use Rattle.terminal_tests.proofs.histories.push.Goals as goal
+use Rattle.rows_tests.proofs.histories.push.Goals as goal
 
 -- a whole row with blanks after it
 padded_whole : (cols : ℕ) (front : List Glyph) → length front ≤ cols → IsWholeRow front → IsWholeRow (with_blanks cols front)
