@@ -234,7 +234,7 @@ fn is_made(alloc: Global, rows: usize, cols: usize) -> Result<bool, Fault> {
     let sized = (grid.rows(), grid.cols()) == (rows, cols);
     let counted = grid.buffer().len() == rows.saturating_mul(cols);
     let placed = grid.cursor() == (1, 1) && grid.margins() == (0, rows.saturating_sub(1));
-    Ok(sized && counted && placed)
+    Ok(sized && counted && placed && grid.first() == 0)
 }
 
 #[test]
@@ -252,13 +252,6 @@ fn sizes_in_the_limits_alone_are_made(rt: HostRuntime) -> Result<(), Fail> {
     for (rows, cols) in [(2, 4), (24, 80), (100, 250)] {
         assert!(rt; is_made(rt.alloc(), rows, cols)?, "{rows}");
     }
-    Ok(())
-}
-
-#[test]
-fn a_grid_is_made_where_there_is_memory(rt: HostRuntime) -> Result<(), Fail> {
-    let grid = Grid::new(rt.alloc(), 3, 8)?;
-    assert_eq!(rt; grid.first(), 0);
     Ok(())
 }
 

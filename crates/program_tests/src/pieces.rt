@@ -137,7 +137,7 @@ fn a_reversed_screen(rt: HostRuntime) -> Result<(), Fail> {
     Ok(())
 }
 
-fn size_shown(alloc: Global, term: &Term) -> Result<(u16, u16), Fail> {
+fn size_shown(alloc: Global, term: &Term) -> Result<(u16, u16), Fault> {
     let shot = term.shot(alloc, 0)?;
     Ok((shot.rows(), shot.cols()))
 }
@@ -153,28 +153,19 @@ static REFUSED: [(u16, u16, u16); 6] = [
     (0, 0, 65535),
 ];
 
-fn size_made(alloc: Global, rows: u16, cols: u16, lines: u16) -> Result<(u16, u16), Fail> {
+fn size_made(alloc: Global, rows: u16, cols: u16, lines: u16) -> Result<(u16, u16), Fault> {
     let term = Term::new(alloc, rows, cols, lines)?;
     size_shown(alloc, &term)
 }
 
-fn is_made(alloc: Global, rows: u16, cols: u16, lines: u16) -> Result<bool, Fail> {
-    Ok(size_made(alloc, rows, cols, lines)? == (rows, cols))
-}
-
-fn is_refused(alloc: Global, rows: u16, cols: u16, lines: u16) -> bool {
-    matches!(Term::new(alloc, rows, cols, lines), Err(Fault::BadSize))
-}
-
 #[test]
-fn sizes_and_lines(rt: HostRuntime) -> Result<(), Fail> {
+fn sizes_and_lines(rt: HostRuntime) {
     for (rows, cols, lines) in MADE.iter() {
-        assert!(rt; is_made(rt.alloc(), *rows, *cols, *lines)?);
+        assert!(rt; size_made(rt.alloc(), *rows, *cols, *lines) == Ok((*rows, *cols)));
     }
     for (rows, cols, lines) in REFUSED.iter() {
-        assert!(rt; is_refused(rt.alloc(), *rows, *cols, *lines));
+        assert!(rt; size_made(rt.alloc(), *rows, *cols, *lines) == Err(Fault::BadSize));
     }
-    Ok(())
 }
 
 // What a screen shows in its first row.
@@ -207,12 +198,13 @@ fn takes_the_longest(alloc: Global, term: &mut Term) -> Result<bool, Fail> {
     Ok(refused && taken && shows_first(alloc, term, 500, "aaaaaaaa")?)
 }
 
-/// What is tried of a terminal of 2 rows and 8 columns.
+/// What is tried of a terminal.
 #[derive(Clone, Copy)]
 enum Trial {
     LongestPiece,
     FullQueue,
     NothingWaits,
+    AnyBytes,
 }
 
 fn tries(alloc: Global, term: &mut Term, trial: Trial) -> Result<bool, Fail> {
@@ -220,17 +212,18 @@ fn tries(alloc: Global, term: &mut Term, trial: Trial) -> Result<bool, Fail> {
         Trial::LongestPiece => takes_the_longest(alloc, term),
         Trial::FullQueue => Ok(fills(term) && empties(term)),
         Trial::NothingWaits => Ok(term.output_len() == 0 && has_nothing(term)),
+        Trial::AnyBytes => stays_at_size(alloc, term),
     }
 }
 
-fn is_tried(alloc: Global, trial: Trial) -> Result<bool, Fail> {
-    let mut term = Term::new(alloc, 2, 8, 0)?;
+fn is_tried(alloc: Global, rows: u16, cols: u16, trial: Trial) -> Result<bool, Fail> {
+    let mut term = Term::new(alloc, rows, cols, 0)?;
     tries(alloc, &mut term, trial)
 }
 
 #[test]
 fn the_longest_piece(rt: HostRuntime) -> Result<(), Fail> {
-    assert!(rt; is_tried(rt.alloc(), Trial::LongestPiece)?);
+    assert!(rt; is_tried(rt.alloc(), 2, 8, Trial::LongestPiece)?);
     Ok(())
 }
 
@@ -245,7 +238,7 @@ fn takes(term: &mut Term, wanted: &[u8]) -> bool {
 // Each of these answers has 8 bytes. A piece needs 12 free bytes for each of its own.
 #[test]
 fn a_full_queue_refuses_a_piece_and_loses_nothing(rt: HostRuntime) -> Result<(), Fail> {
-    assert!(rt; is_tried(rt.alloc(), Trial::FullQueue)?);
+    assert!(rt; is_tried(rt.alloc(), 2, 8, Trial::FullQueue)?);
     Ok(())
 }
 
@@ -282,7 +275,7 @@ fn has_nothing(term: &mut Term) -> bool {
 
 #[test]
 fn nothing_waits(rt: HostRuntime) -> Result<(), Fail> {
-    assert!(rt; is_tried(rt.alloc(), Trial::NothingWaits)?);
+    assert!(rt; is_tried(rt.alloc(), 2, 8, Trial::NothingWaits)?);
     Ok(())
 }
 
@@ -308,14 +301,9 @@ fn stays_at_size(alloc: Global, term: &mut Term) -> Result<bool, Fail> {
     Ok(takes_any(term) && size_shown(alloc, term)? == (24, 80))
 }
 
-fn reads_any(alloc: Global) -> Result<bool, Fail> {
-    let mut term = Term::new(alloc, 24, 80, 0)?;
-    stays_at_size(alloc, &mut term)
-}
-
 #[test]
 fn any_bytes_are_read(rt: HostRuntime) -> Result<(), Fail> {
-    assert!(rt; reads_any(rt.alloc())?);
+    assert!(rt; is_tried(rt.alloc(), 24, 80, Trial::AnyBytes)?);
     Ok(())
 }
 

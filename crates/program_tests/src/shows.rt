@@ -592,19 +592,32 @@ fn broken_characters_and_none(rt: HostRuntime) -> Result<(), Fail> {
     Ok(())
 }
 
-#[test]
-fn many_lines_scroll(rt: HostRuntime) -> Result<(), Fail> {
-    let alloc = rt.alloc();
+// Whether all of a text is printed so on a screen of this size.
+fn is_shown_on(
+    alloc: Global,
+    rows: u16,
+    cols: u16,
+    input: &str,
+    wanted: &str,
+) -> Result<bool, Fail> {
+    let mut out = Vec::new(alloc);
+    run_show(alloc, rows, cols, &mut input.as_bytes(), &mut out)?;
+    Ok(out.as_slice() == wanted.as_bytes())
+}
+
+fn numbered_lines(alloc: Global) -> Result<String, Fail> {
     let mut input = String::new(alloc);
     for line in 1..5001 {
         write!(input, "{line}\r\n")?;
     }
-    let mut out = Vec::new(alloc);
-    run_show(alloc, 3, 8, &mut input.as_bytes(), &mut out)?;
-    assert!(rt;
-        out.as_slice()
-            == b"|4999    |\n|5000    |\n|        |\ncursor 3 1 shown\noutput -\n".as_slice()
-    );
+    Ok(input)
+}
+
+#[test]
+fn many_lines_scroll(rt: HostRuntime) -> Result<(), Fail> {
+    let wanted = "|4999    |\n|5000    |\n|        |\ncursor 3 1 shown\noutput -\n";
+    let input = numbered_lines(rt.alloc())?;
+    assert!(rt; is_shown_on(rt.alloc(), 3, 8, &input, wanted)?);
     Ok(())
 }
 
@@ -633,12 +646,9 @@ fn joined_text(alloc: Global) -> Result<String, Fail> {
 // 125,000 bytes in, 125,533 out.
 #[test]
 fn the_largest_screen_is_written_whole(rt: HostRuntime) -> Result<(), Fail> {
-    let alloc = rt.alloc();
-    let input = joined_input(alloc)?;
-    let wanted = joined_text(alloc)?;
-    let mut out = Vec::new(alloc);
-    run_show(alloc, 100, 250, &mut input.as_bytes(), &mut out)?;
-    assert!(rt; out.as_slice() == wanted.as_bytes());
+    let input = joined_input(rt.alloc())?;
+    let wanted = joined_text(rt.alloc())?;
+    assert!(rt; is_shown_on(rt.alloc(), 100, 250, &input, &wanted)?);
     Ok(())
 }
 
@@ -692,6 +702,10 @@ fn a_reader_that_goes_on_is_given_up(rt: HostRuntime) {
     }
 }
 
+fn has_text(alloc: Global, fault: RunFault, wanted: &str) -> Result<bool, Fail> {
+    Ok(fault.to_string(alloc)?.as_str() == wanted)
+}
+
 #[test]
 fn texts_of_faults(rt: HostRuntime) -> Result<(), Fail> {
     let texts: [(RunFault, &str); 5] = [
@@ -702,7 +716,7 @@ fn texts_of_faults(rt: HostRuntime) -> Result<(), Fail> {
         (RunFault::Event(12), "line 12: bad event"),
     ];
     for (fault, text) in texts {
-        assert!(rt; fault.to_string(rt.alloc())?.as_str() == text);
+        assert!(rt; has_text(rt.alloc(), fault, text)?);
     }
     Ok(())
 }
