@@ -1,7 +1,6 @@
 //! What a run that failed says on standard error, and its exit status.
 use roam_cells::Fault;
-use roam_command::end;
-use roam_faults::RunFault;
+use roam_faults::{RunFault, end};
 use std::alloc::Global;
 use std::cell::Cell;
 use std::fmt::Display;

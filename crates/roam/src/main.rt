@@ -5,8 +5,8 @@
 //! `roam serve` serves a session whose panes are reached at sockets; `roam attach` follows one and paints it.
 #![tactic(auto)]
 
-use roam_command::{Request, asked, end, words_of};
-use roam_faults::RunFault;
+use roam_command::{Request, asked, words_of};
+use roam_faults::{RunFault, end};
 use roam_play::run_world;
 use roam_show::run_show;
 use roam_sockets::{Attach, Serve, run_attach, run_serve};

@@ -1,8 +1,10 @@
-//! What a run of the program fails by, whichever of its commands it is.
+//! What a run of the program fails by, whichever of its commands it is, and how it ends.
 //!
 //! It stands low, on the cores' refusals alone, so that no command and the command line stand on one another.
 #![tactic(auto)]
 
+mod ends;
 mod faults;
 
+pub use ends::end;
 pub use faults::RunFault;

@@ -3,7 +3,8 @@
 //! `./roam show` runs it where the whole program is not built, since it is proved in a fraction of the time.
 #![tactic(auto)]
 
-use roam_command::{Request, asked, end, words_of};
+use roam_command::{Request, asked, words_of};
+use roam_faults::end;
 use roam_show::run_show;
 use std::io;
 use std::process::ExitCode;

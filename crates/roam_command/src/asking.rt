@@ -1,10 +1,10 @@
-//! How a run ends: its text on standard error and its exit status.
-ghost use Rattle.std.specs.Prelude.{◌≡◌, ◌≤◌, IfErr, IfOk};
+//! The words of a run and what they ask for; where that is no run, it is told, and the run has an exit status.
+ghost use Rattle.std.specs.Prelude.{◌≤◌, IfErr};
 ghost use Rattle.std.specs.Process.{exit_status};
 
 use crate::words::{Refusal, Request, read_words};
 use roam_cells::Fault;
-use roam_faults::RunFault;
+use roam_faults::{RunFault, end};
 use std::env;
 use std::env::Env;
 use std::io::ErrorKind;
@@ -65,21 +65,6 @@ fn refuse(rt: &HostRuntime, refusal: Refusal) -> ExitCode
                 Ok(()) => ExitCode::from(code),
                 Err(_) => end(rt, Err(RunFault::Write)),
             }
-        }
-    }
-}
-
-/// The exit status of a run, 0 or 1; of one that failed, `roam: ` and its fault's text is a line of standard error.
-pub fn end(rt: &impl Eprint, ran: Result<(), RunFault>) -> ExitCode
-    ensures ended { IfOk ran (λ _. exit_status result ≡ 0) }
-    ensures failed { IfErr ran (λ _. exit_status result ≡ 1) }
-{
-    match ran {
-        Ok(()) => ExitCode::SUCCESS,
-        Err(fault) => {
-            // There is nowhere else to say that this failed.
-            let _ = eprintln!(rt; "roam: {fault}");
-            ExitCode::FAILURE
         }
     }
 }
