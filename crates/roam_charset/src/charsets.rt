@@ -3,7 +3,7 @@ ghost use Rattle.std.specs.Prelude.{◌≡◌, ◌≤◌};
 ghost use Rattle.roam_charset.specs.Charsets.{mapped_by, special_graphic};
 
 /// A set of 94 graphic characters.
-#[derive(Clone, Copy, Debug, PartialEq, Eq)]
+#[derive(Clone, Copy, PartialEq, Eq)]
 pub enum Charset {
     /// ASCII, ECMA-6's International Reference Version.
     Ascii,

@@ -6,7 +6,7 @@ ghost use Rattle.roam_charset.specs.Sets.{started, designated, set_in, in_use, s
 use crate::charsets::Charset;
 
 /// A code element, to which a set can be designated (ECMA-35).
-#[derive(Clone, Copy, Debug, PartialEq, Eq)]
+#[derive(Clone, Copy, PartialEq, Eq)]
 pub enum Element {
     G0,
     G1,
@@ -15,7 +15,7 @@ pub enum Element {
 }
 
 /// The designated sets and the shifts of a terminal.
-#[derive(Clone, Copy, Debug, PartialEq, Eq)]
+#[derive(Clone, Copy, PartialEq, Eq)]
 pub struct Sets {
     /// The set that is designated to G0.
     pub g0: Charset,

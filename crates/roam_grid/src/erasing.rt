@@ -8,7 +8,7 @@ use crate::grids::Grid;
 use crate::marks::{mark_row, mark_rows, mark_unguarded};
 
 /// What ED and EL erase: from the cursor to the end, from the start to the cursor, or all; the cursor's place too.
-#[derive(Clone, Copy, Debug, PartialEq, Eq)]
+#[derive(Clone, Copy)]
 pub enum Extent {
     ToEnd,
     ToStart,
