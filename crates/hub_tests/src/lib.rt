@@ -1,9 +1,11 @@
-//! Tests of the program's cores by their public calls alone, of what no script of `roam world` can tell: where a server sends to,
-//! datagrams that no core wrote, and calls that find no memory.
+//! Tests of datagrams and of the program's cores by their public calls alone; of the cores, what no script of `roam world` can tell: where
+//! a server sends to, datagrams that no core wrote, and calls that find no memory.
 //!
 //! They lie here and not beside the code, since a crate with tests is proved twice by the gate.
 #![tactic(auto)]
 
+#[cfg(test)]
+mod datagrams;
 #[cfg(test)]
 mod lying;
 #[cfg(test)]
