@@ -3,7 +3,7 @@
 //! that depends on the work. Without words it makes one face of 24 by 80, and prints nothing.
 #![tactic(auto)]
 
-ghost use Rattle.std.specs.Prelude.{◌≡◌, map, IfOk};
+ghost use Rattle.std.specs.Prelude.{IfOk};
 ghost use Rattle.roam_layout.specs.Layouts.{panes};
 ghost use Rattle.roam_layout.specs.Faces.{ArePictures};
 

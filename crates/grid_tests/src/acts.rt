@@ -4,7 +4,7 @@
 //! are all moves that stay between the margins, `mark` puts all marks on.
 //!
 //! It is text, since a table of text is proved at once, whatever its length.
-ghost use Rattle.std.specs.Prelude.{◌≡◌, IsTrue};
+ghost use Rattle.std.specs.Prelude.{IsTrue};
 ghost use Rattle.roam_rows.specs.Writing.{ArePrintable};
 
 use roam_cells::{Cell, Fault, Style, width};

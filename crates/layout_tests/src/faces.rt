@@ -1,8 +1,7 @@
 //! Rows of faces: a session's size, acts one after another, what the panes show, and then each row, the cursor and whether it is visible.
-ghost use Rattle.std.specs.Prelude.{◌≡◌, length, map, IfOk};
-ghost use Rattle.roam_layout.specs.Changes.{size_of};
+ghost use Rattle.std.specs.Prelude.{◌≡◌, length, IfOk};
 ghost use Rattle.roam_layout.specs.Layouts.{panes};
-ghost use Rattle.roam_layout.specs.Faces.{picture_size, ArePictures};
+ghost use Rattle.roam_layout.specs.Faces.{ArePictures};
 
 use roam_acts::read_act;
 use roam_cells::{Cell, Fault, Shot, Style, are_unguarded, is_well_formed};

@@ -1,6 +1,6 @@
 //! The terminal of a pane, fed by pieces: sizes, the queue of answers, renditions. What text and moves make of a screen stands in `shows`.
 use roam_cells::{Colour, Fault, Shot, Style};
-use roam_term::{MOST_LINES, MOST_PIECE, Term};
+use roam_term::{MOST_PIECE, Term};
 use std::alloc::Global;
 use std::test::*;
 

@@ -99,10 +99,6 @@ number_found number k e =
     let both = found (λ x. eqb (number_of x) number) is_named named_keys k refl e in
     (named k both.1, eqb-true _ _ both.0)
 
-pub numbered_again : (k : Key) → kind_of_key k ≡ kind.Named → numbered_in named_keys (number_of k) ≡ Some k
-numbered_again (Char _) e = absurd cc
-numbered_again _ e = refl
-
 pub record IsNameOf (text : List ℕ) (k : Key) : Type 0 where
   pub is_key : IsKey k
   pub kind : kind_of_key k ≡ kind.Named

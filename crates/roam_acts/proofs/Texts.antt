@@ -73,13 +73,6 @@ one_list (x ∷ xs) (y ∷ ys) p q e =
 abbrev pub SoFar : ℕ → List ℕ → ℕ → List Act → List ℕ → Type 0
 SoFar count bytes counter acts rest = acts_in count bytes ≡ option_map (λ more. acts ++ more) (acts_in (count - counter) rest)
 
-same_option : (r : Option (List Act)) → r ≡ option_map (λ more. [] ++ more) r
-same_option None = refl
-same_option (Some acts) = refl
-
-pub sofar_start : (count : ℕ) (bytes : List ℕ) → SoFar count bytes 0 [] bytes
-sofar_start count bytes = same_option (acts_in count bytes) ∙ ap (λ (n : ℕ). option_map (λ more. [] ++ more) (acts_in n bytes)) (omega arith)
-
 one_more : (n : ℕ) (rest : List ℕ) → acts_in (suc n) rest ≡ and_then (acts_in n) (first_act rest)
 unfolding acts_in
 one_more n rest = refl

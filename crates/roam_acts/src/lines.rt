@@ -1,10 +1,9 @@
 //! Acts as lines of text, in both directions.
-ghost use Rattle.std.specs.Prelude.{◌≡◌, ◌+◌, ◌≤◌, ◌==◌, length, drop, Some, None, Ok, IfOk, IsOkUnless, MatchResult};
+ghost use Rattle.std.specs.Prelude.{◌≡◌, ◌+◌, ◌==◌, Some, None, Ok, IfOk, IsOkUnless};
 ghost use Rattle.std.specs.Fmt.{WritesOnOk};
 ghost use Rattle.std.specs.List.{position};
 ghost use Rattle.roam_acts.specs.declared.acts.Act.{Act};
 ghost use Rattle.roam_acts.specs.Acts.{IsAct, IsInRange};
-ghost use Rattle.roam_acts.specs.Kinds.{head_of};
 ghost use Rattle.roam_acts.specs.Lines.{key_argument, line_of, Spells};
 ghost use Rattle.roam_acts.specs.Reading.{act_in, act_of_argument, bare, focus_of, natural, number_in, scalar_in, size_at, size_of};
 

@@ -16,12 +16,6 @@ beq-tells false false h = refl
 beq-tells true false h = absurd (false≢true h)
 beq-tells false true h = absurd (false≢true h)
 
-pub beq-same : (a b : Bool) → a ≡ b → beq a b ≡ true
-beq-same true true h = refl
-beq-same false false h = refl
-beq-same true false h = absurd (false≢true (sym h))
-beq-same false true h = absurd (false≢true h)
-
 -- ---- styles
 
 abbrev weights : Style → Style → Bool

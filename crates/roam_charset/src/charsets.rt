@@ -1,5 +1,5 @@
 //! The graphic character sets, as tables.
-ghost use Rattle.std.specs.Prelude.{◌≡◌, ◌≤◌};
+ghost use Rattle.std.specs.Prelude.{◌≡◌};
 ghost use Rattle.roam_charset.specs.Charsets.{mapped_by, special_graphic};
 
 /// A set of 94 graphic characters.

@@ -1,8 +1,6 @@
 //! Erasures.
 ghost use Rattle.std.specs.Prelude.{◌≡◌, ◌<◌, ◌≤◌};
-ghost use Rattle.roam_rows.specs.Places.{in_row};
-ghost use Rattle.roam_rows.specs.Rows.{mapped, with_row};
-ghost use Rattle.roam_grid.specs.Erasing.{line_from, line_to, page_from, page_to, page_blanked, page_unguarded_blanked};
+ghost use Rattle.roam_grid.specs.Erasing.{line_from, line_to, page_from, page_to};
 
 use crate::grids::Grid;
 use crate::marks::{mark_row, mark_rows, mark_unguarded};

@@ -1,5 +1,5 @@
 //! What becomes of a whole screen at once.
-ghost use Rattle.std.specs.Prelude.{◌≡◌, ◌↔◌, ◌⊎◌, ◌<◌, ◌≤◌, IfOk, IfErr, IsErrOf, OnOk, OnErr};
+ghost use Rattle.std.specs.Prelude.{◌≡◌, ◌↔◌, ◌⊎◌, ◌<◌, IfOk, IfErr, IsErrOf, OnOk, OnErr};
 ghost use Rattle.roam_cells.specs.Limits.{IsSize};
 ghost use Rattle.roam_grid.specs.Frames.{aligned, all_blank, restarted, framed_as, leaving, resized};
 ghost use Rattle.roam_grid.specs.Marks.{all_on};

@@ -1,5 +1,5 @@
 //! Runs of printable ASCII that are written at once.
-ghost use Rattle.std.specs.Prelude.{◌≡◌, ℕ, ◌+◌, ◌<◌, ◌≤◌, false, length, map};
+ghost use Rattle.std.specs.Prelude.{◌≡◌, ◌+◌, ◌<◌, ◌≤◌, false, length, map};
 ghost use Rattle.roam_cells.specs.Glyph.{ascii_in};
 ghost use Rattle.roam_rows.specs.Places.{in_row};
 ghost use Rattle.roam_rows.specs.Writing.{ArePrintable, written_run};

@@ -1,6 +1,6 @@
 //! Tab stops as a list of flags, a flag a column from 0.
-ghost use Rattle.std.specs.Prelude.{◌≡◌, ◌+◌, ◌-◌, ◌<◌, ◌≤◌, length};
-ghost use Rattle.roam_grid.specs.Tabs.{start_stops, is_start_stop, stop_from, next_stop, stop_before, stops_on, stops_back};
+ghost use Rattle.std.specs.Prelude.{◌≡◌, ◌+◌, ◌-◌, ◌<◌, ◌≤◌};
+ghost use Rattle.roam_grid.specs.Tabs.{start_stops, is_start_stop, next_stop, stop_before, stops_on, stops_back};
 
 /// The tab stops at the start.
 pub fn stops_at_start() -> [bool; 250]

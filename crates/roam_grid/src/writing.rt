@@ -1,5 +1,5 @@
 //! Writing characters at the cursor.
-ghost use Rattle.std.specs.Prelude.{◌≡◌, ◌+◌, ◌<◌, ◌≤◌, true, false};
+ghost use Rattle.std.specs.Prelude.{◌≡◌, ◌+◌, ◌<◌, ◌≤◌, false};
 ghost use Rattle.roam_cells.specs.Glyph.{is_right_half};
 
 use crate::grids::Grid;

@@ -1,5 +1,5 @@
 //! The history itself.
-ghost use Rattle.std.specs.Prelude.{◌≡◌, ◌≤◌, ◌<◌, ◌↔◌, ◌⊎◌, length, replicate, IfOk, IfErr, IsErrOf, OnOk, OnErr, option_copied, slice_get, slice_index_or, []};
+ghost use Rattle.std.specs.Prelude.{◌≡◌, ◌≤◌, ◌<◌, ◌↔◌, ◌⊎◌, length, replicate, IfOk, IfErr, IsErrOf, option_copied, slice_get, slice_index_or, []};
 ghost use Rattle.circular_buffer.specs.Buffer.{buffer};
 ghost use Rattle.roam_cells.specs.Glyph.{blank};
 ghost use Rattle.roam_cells.specs.Place.{IsWholeRow};

@@ -164,11 +164,6 @@ noted_known id old new was is before after d from now t same at set notes =
       notes = notes;
     }
 
-pub none_found : {R : Type 0} (now : R → RecordView) (r : Option R) (o : Option RecordView) → ((x : R) → r ≡ Some x → ⊥)
-    → (r ≡ None → o ≡ None) → o ≡ None
-none_found now None o not same = same refl
-none_found now (Some x) o not same = absurd (not x refl)
-
 pub known_not_noted : (id : ℕ) (old : List (ℕ × RecordView)) (was : RecordView) (d : DatagramValue) (fault : Fault) → id ≡ d.client
     → lookup (nat_eq id) old ≡ Some was → NotNoted was d fault → NotNotedIn old d fault
 known_not_noted id old was d fault same at none =

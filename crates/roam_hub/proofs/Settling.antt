@@ -126,10 +126,6 @@ module _ (es : List (ℕ × RecordView)) (k x : ℕ) (v w : RecordView) (n : ℕ
       ∙ sym (ap (λ (xs : List (ℕ × RecordView)). b || list_any (is_entry_spent n s now) xs) (drop_set es k w))
       ∙ sym (ap (λ (j : ℕ). b || list_any (is_entry_spent n s now) (drop j (set_value_at es k w))) (next_is k))
 
-pub or_true : (b : Bool) → (b || true) ≡ true
-or_true true = refl
-or_true false = refl
-
 -- the first is spent
 pub first_spent : (es : List (ℕ × RecordView)) (k : ℕ) (e : ℕ × RecordView) (n : ℕ) (s : Screenshot) (now : ℕ) → slice_get es k ≡ Some e
     → is_entry_spent n s now e ≡ true → list_any (is_entry_spent n s now) (drop k es) ≡ true

@@ -7,7 +7,7 @@ ghost use Rattle.roam_wire.specs.Gatherers.{untaken};
 ghost use Rattle.roam_world.specs.Moments.{is_overdue, owed_from};
 ghost use Rattle.roam_world.specs.Servers.{no_record};
 ghost use Rattle.roam_hub.specs.Servers.{kept_of, address_of, parcels_of};
-ghost use Rattle.roam_hub.specs.Records.{Notes, NotNoted, letter, is_letter_spent, is_told, pieces_told, datagrams_for, letters_for, settled_with, HasNumbersFor, back_from, held, is_entry_spent};
+ghost use Rattle.roam_hub.specs.Records.{Notes, NotNoted, is_letter_spent, is_told, pieces_told, datagrams_for, letters_for, settled_with, HasNumbersFor, back_from, held, is_entry_spent};
 
 use crate::addresses::Addr;
 use crate::clients::{is_overdue, owed_after};

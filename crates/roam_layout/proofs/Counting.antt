@@ -107,10 +107,6 @@ below_in (suc k) n p t h below = by_case (has n t) refl below (below_in k (n + 1
 pub below_free : (p : ℕ) (t : Shape) → 1 ≤ p → p < free t → has p t ≡ true
 below_free p t h below = below_in 8 1 p t h below
 
-one_time : (k n : ℕ) (v : Bool) → (n == k) ≡ v → cond v 1 0 ≤ 1
-one_time k n true e = omega arith
-one_time k n false e = omega arith
-
 -- a pane that is split in itself and a free number: the panes stay distinct
 pub distinct_planted : (p n : ℕ) (u t : Shape) → ((k : ℕ) → times k u ≡ times k (One p) + times k (One n)) → has p t ≡ true
     → has n t ≡ false

@@ -1,7 +1,6 @@
 //! What an act changes of the panes.
 ghost use Rattle.std.specs.Prelude.{◌≡◌, ◌++◌, IfOk};
-ghost use Rattle.roam_layout.specs.Changes.{size_of, panes_closed, panes_made, panes_sized, first_of, size_unless_there, size_if_other};
-ghost use Rattle.roam_layout.specs.Rects.{rect_in};
+ghost use Rattle.roam_layout.specs.Changes.{size_of, panes_closed, panes_made, panes_sized, first_of, size_if_other};
 
 use crate::rects::{Rect, rect_of};
 use std::alloc::{AllocError, Global};

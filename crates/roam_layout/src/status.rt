@@ -1,5 +1,5 @@
 //! The status text.
-ghost use Rattle.std.specs.Prelude.{◌≡◌, ◌++◌, IfOk, take, replicate, map, decimal, length};
+ghost use Rattle.std.specs.Prelude.{◌≡◌, ◌++◌, IfOk, take, replicate, decimal};
 ghost use Rattle.std.specs.List.{flat_map};
 ghost use Rattle.roam_layout.specs.Status.{label, view_text};
 

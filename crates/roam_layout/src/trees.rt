@@ -1,6 +1,6 @@
 //! The tree of splits, whose leaves are panes.
-ghost use Rattle.std.specs.Prelude.{◌≡◌, ℕ, ◌+◌, ◌≤◌, ◌++◌, pos, negsuc, ◌≤ℤ◌, ◌+ℤ◌, IfOk, OnOk, Some, None, if◌then◌else◌};
-ghost use Rattle.roam_layout.specs.Rects.{first_length, first_part, second_part, border_part, length_along, most_first, pushed, middle, placed, borders, spot, is_roomy, grown, stretched, Fits, IsOnScreen};
+ghost use Rattle.std.specs.Prelude.{◌≡◌, ◌+◌, ◌≤◌, ◌++◌, pos, negsuc, ◌≤ℤ◌, ◌+ℤ◌, IfOk, OnOk, Some, None, if◌then◌else◌};
+ghost use Rattle.roam_layout.specs.Rects.{first_length, first_part, second_part, border_part, length_along, pushed, middle, placed, borders, spot, is_roomy, grown, stretched, Fits, IsOnScreen};
 ghost use Rattle.roam_layout.specs.Trees.{One, Two, shape_of, least, least_rows, least_cols, has, is_one, first_leaf, planted, closed, heir, free, free_among, IsModest, AreModest};
 
 use crate::rects::{Rect, Way};

@@ -1,6 +1,6 @@
 -- What a terminal's reader makes of the painter's sequences, character by character.
 use Rattle.std.proofs.Common.{◌≡◌, ◌≤◌, ◌<◌, ℕ, ◌+◌, ◌-◌, ◌*◌, ◌%◌, ◌^◌, min, true, false, ◌&&◌, cond, ltb, inl, inr, List, [], ◌∷◌, ◌++◌, map, length, take, take_all, Option, Some, None, refl, sym, ap, ◌∙◌, arith, append_assoc}
-use Rattle.std.specs.Prelude.{⊤, decimal, unwrap_or}
+use Rattle.std.specs.Prelude.{⊤, decimal}
 use Rattle.std.specs.List.{flat_map}
 use Rattle.std.specs.Char.{encode_utf8, IsScalar}
 use Rattle.std.specs.Str.{encode_utf8_all}
@@ -10,7 +10,6 @@ use Rattle.std.proofs.lemmas.Fmt.{decimal_by_steps}
 use Rattle.std.proofs.lemmas.Str.{encode_ascii}
 use Rattle.std.proofs.lemmas.Bool.{false≢true, lt-ltb, le-ltb, lt-leb, cases_lt}
 use Rattle.unicode_width.specs.Width.{char_width}
-use Rattle.roam_cells.specs.Width.{width_of}
 use Rattle.roam_text.specs.declared.kinds.Kind.{Kind}
 use Rattle.roam_text.specs.declared.kinds.Kind.TheVariants.{Digit, Separator, PrivateMarker, Graphic}
 use Rattle.roam_text.specs.declared.functions.Function.{Function}
@@ -63,9 +62,6 @@ digit_kind b low high =
     ∙ digit_ascii b low high
 
 -- ---- the body of a control sequence
-
-abbrev IsNumeric : ℕ → Type 0
-IsNumeric b = (is_numeric (kind_of b) ≡ true) × (b < 128)
 
 abbrev pub AreNumeric : List ℕ → Type 0
 AreNumeric [] = ⊤
@@ -292,9 +288,6 @@ low-none c h = rw (lt-ltb c 0x7F (omega (arith, h)), lt-leb 0x20 c h) refl
 middle-none : (c : ℕ) → 0x7F ≤ c → c < 0xA0 → char_width false c ≡ None
 unfolding char_width
 middle-none c h k = rw (le-ltb c 0x7F h, lt-leb 0xA0 c k) refl
-
-pub no-columns : (c : ℕ) → 1 ≤ width_of c → char_width false c ≡ None → ⊥
-no-columns c h e = let zero_wide : width_of c ≡ 0 = ap (λ w. min (unwrap_or w 0) 2) e in absurd (omega (arith, h, zero_wide))
 
 gives-character : (c : ℕ) (rest : List Sign) → (char_width false c ≡ None → ⊥) → functions (character c ∷ rest) ≡ Print c ∷ functions rest
 gives-character c rest h =

@@ -35,10 +35,6 @@ pub wide_text-some : (ps : List ℕ) → is_wide_text ps ≡ true → is_empty_t
 wide_text-some [] h = absurd (false≢true h)
 wide_text-some (c ∷ cs) h = refl
 
-half_text-narrow : (ps : List ℕ) → is_empty_text ps ≡ true → is_wide_text ps ≡ false
-half_text-narrow [] h = refl
-half_text-narrow (c ∷ cs) h = absurd (false≢true h)
-
 pub undrawn_first : (h a w b : Bool) → (not h && (a || (w && b))) ≡ false → h ≡ false → a ≡ false
 undrawn_first true a w b e k = absurd (false≢true (sym k))
 undrawn_first false true w b e k = absurd (false≢true (sym e))

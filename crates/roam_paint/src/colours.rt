@@ -1,5 +1,4 @@
 //! What is true of the colours of all cells.
-ghost use Rattle.std.specs.Prelude.{◌≡◌, ℕ};
 ghost use Rattle.roam_term.specs.ControlFunctions.{IsIndexed};
 ghost use Rattle.roam_paint.specs.Colours.{AreIndexed};
 

@@ -1,10 +1,7 @@
 //! Where two screens differ.
-ghost use Rattle.std.specs.Prelude.{◌≡◌, ℕ, ◌≤◌, ◌<◌, ◌+◌, ◌*◌, true, false, not, length};
-ghost use Rattle.roam_cells.specs.Glyph.{is_right_half, is_wide};
-ghost use Rattle.roam_cells.specs.Place.{cell_at};
+ghost use Rattle.std.specs.Prelude.{◌≡◌, ℕ, ◌<◌, ◌+◌, ◌*◌, true, false, not};
 ghost use Rattle.roam_paint.specs.Same.{same};
-ghost use Rattle.roam_term.specs.Ground.{shown_at};
-ghost use Rattle.roam_paint.specs.Painting.{same_size, differs, is_drawn, goes_on};
+ghost use Rattle.roam_paint.specs.Painting.{same_size, differs};
 
 use roam_cells::{Cell, Shot, are_same_cells};
 

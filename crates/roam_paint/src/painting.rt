@@ -1,5 +1,5 @@
 //! What leads a ground terminal from one screen to another.
-ghost use Rattle.std.specs.Prelude.{◌≡◌, ◌⊎◌, ℕ, ◌+◌, ◌<◌, ◌≤◌, ◌&&◌, ◌||◌, not, ◌++◌, List, OnOk, OnErr, IfOk, IsOkUnless, [], if◌then◌else◌};
+ghost use Rattle.std.specs.Prelude.{◌≡◌, ℕ, ◌+◌, ◌<◌, ◌≤◌, ◌&&◌, ◌||◌, not, ◌++◌, List, OnOk, OnErr, IfOk, IsOkUnless, [], if◌then◌else◌};
 ghost use Rattle.roam_cells.specs.Glyph.{is_right_half, is_wide};
 ghost use Rattle.roam_text.specs.Log.{Item};
 ghost use Rattle.roam_term.specs.Terminal.{term};
@@ -8,7 +8,7 @@ ghost use Rattle.roam_paint.specs.Same.{same_style};
 ghost use Rattle.roam_paint.specs.Sequences.{spelled};
 ghost use Rattle.roam_term.specs.ControlFunctions.{place_cursor, set_style};
 ghost use Rattle.roam_term.specs.Ground.{shown_at};
-ghost use Rattle.roam_paint.specs.Painting.{same_size, differs, is_drawn, goes_on, style_after, painted, opened};
+ghost use Rattle.roam_paint.specs.Painting.{differs, is_drawn, goes_on, style_after, painted, opened};
 ghost use Rattle.roam_paint.specs.Texts.{place_text, cell_text, row_text, row_style, rows_text, opening_text, closing_text};
 
 use crate::colours::colours_of;

@@ -2,7 +2,7 @@
 ghost use Rattle.std.specs.Prelude.{◌≡◌, ◌∷◌, [], ◌++◌, OnOk, decimal, if◌then◌else◌};
 ghost use Rattle.std.specs.List.{flat_map};
 ghost use Rattle.std.specs.Char.{encode_utf8};
-ghost use Rattle.roam_term.specs.ControlFunctions.{place_cursor, set_style, show_cursor, erase_all, hide_cursor};
+ghost use Rattle.roam_term.specs.ControlFunctions.{place_cursor, set_style};
 ghost use Rattle.roam_paint.specs.Sequences.{spelled};
 ghost use Rattle.roam_paint.specs.Texts.{code_text, colour_text};
 

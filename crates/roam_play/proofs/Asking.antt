@@ -3,8 +3,6 @@ use Rattle.std.proofs.Common.{◌≡◌, ℕ, List, length, codes, Option, Some,
 use Rattle.std.specs.Option.{option_map}
 use Rattle.std.specs.Prelude.{Ok, Err, OnOk, Result, unwrap_or}
 use Rattle.std.specs.Fmt.{decimal}
-use Rattle.roam_cells.specs.declared.faults.Fault.{Fault}
-use Rattle.roam_cells.specs.declared.faults.Fault.TheVariants.{NoPane}
 use Rattle.roam_cells.specs.Screenshot.{Screenshot}
 use Rattle.roam_session.specs.Refusals.{none_refused}
 use Rattle.roam_session.specs.Queues.{IsCopied}
@@ -12,7 +10,6 @@ use Rattle.roam_world.specs.Clients.{Client, shown_number, shown_screen}
 use Rattle.roam_hub.specs.Clients.{ClientView, Stands as ClientStands}
 use Rattle.roam_simulation.specs.Worlds.{Fills}
 use Rattle.roam_play.specs.Asked.{bytes_line, slot_text, waiting_text}
-use Rattle.roam_play.specs.Replies.{fault_line}
 use Rattle.roam_show.specs.ShowText.{screen_text}
 use Rattle.roam_show.proofs.Copies.{whole_copy}
 
@@ -33,11 +30,6 @@ filled session clients (Some u) None v e h = absurd h
 filled session clients (Some u) (Some id) v e h =
     let same : u ≡ v = cc in
     record { id = id; is = refl; stands = subst (λ (x : ClientView). ClientStands x session id (clients id)) same h }
-
--- no bytes were copied: there is no pane
-pub none_waits : (o : Option (List ℕ)) (fault : Fault) → Some fault ≡ none_refused o → waiting_text o ≡ fault_line fault
-none_waits None fault e = let same : fault ≡ NoPane = cc in ap fault_line (sym same)
-none_waits (Some waiting) fault e = absurd cc
 
 -- all bytes were copied
 pub all_wait : (o : Option (List ℕ)) (n len : ℕ) (old new : List ℕ) → len ≡ unwrap_or (option_map (λ (waiting : List ℕ). length waiting)

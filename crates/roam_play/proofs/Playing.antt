@@ -20,7 +20,7 @@ use Rattle.roam_faults.specs.declared.faults.RunFault.{RunFault}
 use Rattle.roam_faults.specs.declared.faults.RunFault.TheVariants as run
 use Rattle.roam_play.specs.Asked.{asked_in}
 use Rattle.roam_play.specs.Replies.{reply_line}
-use Rattle.roam_play.specs.Scripts.{Stage, Before, Within, Answers, AnswersLine, AreLines, BeginsWith, Ends, IsBadSession, IsEvent, IsOneLine, IsReason, Plays, Prints, Stopped, ended, event_in, is_in_place, size_of}
+use Rattle.roam_play.specs.Scripts.{Stage, Before, Within, AnswersLine, AreLines, BeginsWith, Ends, IsBadSession, IsEvent, IsOneLine, IsReason, Plays, Prints, Stopped, ended, event_in, is_in_place, size_of}
 use Rattle.roam_play.specs.Scripts as script
 use Rattle.roam_play.specs.Played.{Fails, Fed, HasAnswer, IsAt, Told}
 use Rattle.roam_play.specs.Played as played

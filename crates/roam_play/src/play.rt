@@ -1,6 +1,6 @@
 //! `roam world`: plays a script, line by line, and writes the answer to each.
-ghost use Rattle.std.specs.Prelude.{◌≡◌, ◌≢◌, [], ◌∷◌, ◌⊎◌, ◌+◌, ◌<◌, ◌≤◌, ◌^◌, ◌++◌, ℕ, List, length, Some, true, false, IfOk, IfErr, IfSome, IfNone, OnOk, IsErrOf, IsOkUnless, string_bytes};
-ghost use Rattle.std.specs.Io.KnownBytes.{Appends, Consumes, IsAtEnd, Keeps};
+ghost use Rattle.std.specs.Prelude.{◌≡◌, [], ◌∷◌, ◌⊎◌, ◌+◌, ◌<◌, ◌≤◌, ◌^◌, ◌++◌, ℕ, List, length, Some, false, IfOk, IfErr, IfSome, IfNone, OnOk, IsOkUnless, string_bytes};
+ghost use Rattle.std.specs.Io.KnownBytes.{Appends, Consumes, IsAtEnd};
 ghost use Rattle.std.specs.Option.{option_map};
 ghost use Rattle.roam_session.specs.Sessions.{SessionSize};
 ghost use Rattle.roam_world.specs.Worlds.{Event as EventOf, Reply as ReplyOf};

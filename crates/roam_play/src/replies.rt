@@ -1,5 +1,5 @@
 //! The replies of a world, as text.
-ghost use Rattle.std.specs.Prelude.{◌≡◌, ◌++◌, OnOk, IsOkUnless, string_bytes};
+ghost use Rattle.std.specs.Prelude.{◌≡◌, ◌++◌, OnOk, string_bytes};
 ghost use Rattle.roam_hub.specs.Clients.{hearing_in};
 ghost use Rattle.roam_simulation.specs.Events.{reply_of};
 ghost use Rattle.roam_play.specs.Replies.{heard_line, number_of, reply_line, sent_line, stop_line};

@@ -1,5 +1,5 @@
 //! The rows themselves: what they are made of, and what reads or changes one of them.
-ghost use Rattle.std.specs.Prelude.{◌≡◌, ℕ, ◌+◌, ◌-◌, ◌*◌, ◌<◌, ◌≤◌, ◌++◌, true, false, length, map, replicate, IfOk, slice_range};
+ghost use Rattle.std.specs.Prelude.{◌≡◌, ℕ, ◌+◌, ◌-◌, ◌*◌, ◌<◌, ◌≤◌, ◌++◌, true, false, length, map, replicate, IfOk};
 ghost use Rattle.roam_cells.specs.Glyph.{ascii_in, blank, is_wide, is_right_half};
 ghost use Rattle.roam_cells.specs.Limits.{IsSize};
 ghost use Rattle.roam_cells.specs.Place.{cell_at};

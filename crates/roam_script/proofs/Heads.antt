@@ -61,9 +61,6 @@ said line l s =
     let behind : drop (length head) line ≡ s.0 = ap (drop (length head)) s.1 ∙ drop-append_seam head s.0 in
     (ap (headed_in kinds) s.1 ∙ headed_again (kind_of l) s.0, subst (IsArgument l) (sym behind) s.2)
 
-pub unsaid : (line : List ℕ) (l : LineValue) → headed_in kinds line ≡ None → Says line l → ⊥
-unsaid line l none s = let is = (said line l s).0 in absurd cc
-
 -- a line of a kind that is read tells what stands behind its head
 tells : (line : List ℕ) (k : Kind) (l : LineValue) → headed_in kinds line ≡ Some k → IsLine l → Says line l
     → Tells k (drop (length (head_of k)) line) l

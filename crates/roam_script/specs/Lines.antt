@@ -1,5 +1,5 @@
 -- The lines of a script as text (this project's profile). Words stand one space apart; decimals have no plus and no leading zero.
-use Rattle.std.specs.Prelude.{◌≡◌, ℕ, ◌<◌, ◌≤◌, List, [], ◌∷◌, ◌++◌, length, decimal, Ok}
+use Rattle.std.specs.Prelude.{◌≡◌, ℕ, ◌<◌, List, [], ◌∷◌, ◌++◌, length, decimal, Ok}
 use Rattle.hex.specs.Hex.{decode_of}
 use Rattle.roam_acts.specs.Lines.{Spells as SpellsAct}
 use Rattle.roam_numbers.specs.Numbers.{IsId}

@@ -1,5 +1,5 @@
 //! Lines of a script, as values.
-ghost use Rattle.std.specs.Prelude.{◌≡◌, ◌⊎◌, None, Some, IfOk, IfErr, MatchOption, MatchResult};
+ghost use Rattle.std.specs.Prelude.{◌≡◌, ◌⊎◌, None, Some, IfOk, MatchResult};
 ghost use Rattle.std.specs.Option.{option_map};
 ghost use Rattle.roam_script.specs.Values.{LineValue, IsLine};
 ghost use Rattle.roam_script.specs.Lines.{Says, value_of};

@@ -6,13 +6,13 @@ use Rattle.roam_text.specs.Log.{Resized}
 use Rattle.roam_keys.specs.declared.keys.Key.{Key}
 use Rattle.roam_keys.specs.Sent.{sent}
 use Rattle.roam_term.specs.Keys.{key_modes}
-use Rattle.roam_term.specs.Terminal.{Live, reports}
+use Rattle.roam_term.specs.Terminal.{reports}
 use Rattle.roam_term.specs.Stands.{TermView, HasSize}
 use Rattle.roam_layout.specs.declared.rects.Rect.{Rect}
 use Rattle.roam_session.specs.Panes.{Pane, given, moved, is_same_size, fed, keyed, drained, answers}
 use Rattle.roam_session.specs.Stands.{IsOf, Agrees, IsPlaced}
 use Rattle.roam_session.specs.Steps.{IsGiven, IsMoved}
-use Rattle.roam_session.specs.Queues.{Keeps, IsFed, IsKeyed, IsDrained, Both}
+use Rattle.roam_session.specs.Queues.{IsFed, IsKeyed, IsDrained, Both}
 
 -- ---- rectangles
 
@@ -75,10 +75,6 @@ placed_given (Some from) (Some to) (Some old) (Some new) is size = placed_moved 
 abbrev pub Does' : (TermView → TermView → Type 0) → (Pane → Pane) → Type 0
 Does' rule change = (old new : TermView) (pane : Pane) → rule old new → IsOf old pane → IsOf new (change pane)
 
--- a rule leaves the size
-abbrev pub Leaves : (TermView → TermView → Type 0) → Type 0
-Leaves rule = (old new : TermView) → rule old new → HasSize new old.live.screen.rows old.live.screen.cols
-
 pub agrees_both : (rule : TermView → TermView → Type 0) (change : Pane → Pane) → Does' rule change
     → (old new : Option TermView) (pane : Option Pane)
     → Both rule old new → Agrees old pane → Agrees new (option_map change pane)
@@ -88,16 +84,6 @@ agrees_both rule change does None (Some new) pane both of = absurd both
 agrees_both rule change does (Some old) None pane both of = absurd both
 agrees_both rule change does (Some old) (Some new) None both of = absurd of
 agrees_both rule change does (Some old) (Some new) (Some pane) both of = does old new pane both of
-
-pub placed_both : (rule : TermView → TermView → Type 0) → Leaves rule → (r : Option Rect) (old new : Option TermView) → Both rule old new
-    → IsPlaced r old → IsPlaced r new
-placed_both rule leaves None None None both size = tt
-placed_both rule leaves None None (Some new) both size = absurd both
-placed_both rule leaves None (Some old) new both size = absurd size
-placed_both rule leaves (Some r) None new both size = absurd size
-placed_both rule leaves (Some r) (Some old) None both size = absurd both
-placed_both rule leaves (Some r) (Some old) (Some new) both size =
-    let same = leaves old new both in (same.0 ∙ size.0, same.1 ∙ size.1)
 
 drop-front : {A : Type 0} (xs ys : List A) → drop (length xs) (xs ++ ys) ≡ ys
 drop-front [] ys = refl
@@ -123,15 +109,3 @@ does_keyed key old new pane is of =
 pub does_drained : (n : ℕ) → Does' (IsDrained n) (drained n)
 does_drained n old new pane is of =
     record { shows = is.keeps.shows pane.rows pane.cols 500 pane.log of.shows; waiting = is.waiting ∙ ap (drop n) of.waiting }
-
-pub fed_leaves : (bytes : List ℕ) → Leaves (IsFed bytes)
-fed_leaves bytes old new is = is.size
-
-keeps_leaves : (old new : TermView) → Keeps old new → HasSize new old.live.screen.rows old.live.screen.cols
-keeps_leaves old new keeps = (ap (λ (l : Live). l.screen.rows) keeps.live, ap (λ (l : Live). l.screen.cols) keeps.live)
-
-pub keyed_leaves : (key : Key) → Leaves (IsKeyed key)
-keyed_leaves key old new is = keeps_leaves old new is.keeps
-
-pub drained_leaves : (n : ℕ) → Leaves (IsDrained n)
-drained_leaves n old new is = keeps_leaves old new is.keeps

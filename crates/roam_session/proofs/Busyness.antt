@@ -19,9 +19,6 @@ either : (v : Bool) (x y : Outcome) → IsFree x → IsFree y → IsFree (cond v
 either true x y one other = one
 either false x y one other = other
 
-laid_free : (s : Plan) → IsFree (Laid s)
-laid_free s e = cc
-
 split_free : (way : Way) (s : Plan) → IsFree (split way s)
 split_free way s =
     either (nat_le 9 (length (leaves s.tree))) _ _ (λ e. cc)

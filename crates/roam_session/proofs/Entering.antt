@@ -17,12 +17,12 @@ use Rattle.roam_layout.specs.declared.rects.Rect.{Rect}
 use Rattle.roam_session.specs.Panes.{Pane, given, fed, keyed, drained}
 use Rattle.roam_session.specs.Sessions.{Entry, Given, Did, Drained, SessionSize, SessionState, session, acted, laid_out, panes_given, at_pane, key_in}
 use Rattle.roam_session.specs.Refusals.{waiting_in, output_at, stops, is_full_for, is_stopped, fault_of}
-use Rattle.roam_session.specs.Stands.{SessionView, Stands, Agrees, IsPlaced, ArePlaced, term_at, waiting_at}
+use Rattle.roam_session.specs.Stands.{SessionView, Stands, Agrees, ArePlaced, term_at, waiting_at}
 use Rattle.roam_session.specs.Steps.{IsGiven, Prepares, Does, step_at}
 use Rattle.roam_session.specs.declared.steps.Step.{Step}
 use Rattle.roam_session.specs.Queues.{ChangesAt, Both, IsFed, IsKeyed, IsDrained, key_refused}
 use Rattle.roam_session.proofs.Logs.{session-append}
-use Rattle.roam_session.proofs.Agreeing.{agrees_given, placed_given, agrees_both, placed_both, Does', Leaves, does_fed, does_keyed, does_drained}
+use Rattle.roam_session.proofs.Agreeing.{agrees_given, placed_given, agrees_both, Does', does_fed, does_keyed, does_drained}
 use Rattle.roam_session.proofs.Rectangles.{none_above}
 use Rattle.roam_session.proofs.Busyness.{never_busy}
 
@@ -94,14 +94,6 @@ placed_all old new ts us placed are k =
 none_agrees : (o : Option TermView) → o ≡ None → Agrees o None
 none_agrees o e = subst (λ (t : Option TermView). Agrees t None) (sym e) tt
 
-none_placed : (o : Option TermView) → o ≡ None → IsPlaced None o
-none_placed o e = subst (λ (t : Option TermView). IsPlaced None t) (sym e) tt
-
-pub placed_first : (plan : Plan) (ts us : List (Option TermView)) → ((k : ℕ) → term_at ts k ≡ None)
-    → ((k : ℕ) → IsGiven None (rect_in k (panes plan)) (term_at ts k) (term_at us k)) → ArePlaced plan us
-placed_first plan ts us none are k =
-    placed_given None (rect_in k (panes plan)) (term_at ts k) (term_at us k) (are k) (none_placed (term_at ts k) (none k))
-
 pub stands_first : (s : SessionView) (size : SessionSize) (ts : List (Option TermView)) → s.plan ≡ start size.rows size.cols
     → ((k : ℕ) → term_at ts k ≡ None) → ((k : ℕ) → IsGiven None (rect_in k (panes s.plan)) (term_at ts k) (term_at s.terms k))
     → Stands s size []
@@ -129,19 +121,6 @@ agrees_at p rule change does ts us changes pane of k = by_number (eqb k p) refl
         agrees_both rule change does (term_at ts k) (term_at us k) (pane k) here (of k)
     by_number false e =
         subst (λ (t : Option TermView). Agrees t (pane k)) (sym (changes.others k (λ same. false≢true (sym e ∙ eq-eqb k p same)))) (of k)
-
-pub placed_at : (plan : Plan) (p : ℕ) (rule : TermView → TermView → Type 0) → Leaves rule → (ts us : List (Option TermView))
-    → ChangesAt p rule ts us
-    → ArePlaced plan ts → ArePlaced plan us
-placed_at plan p rule leaves ts us changes placed k = by_number (eqb k p) refl
-  where
-    by_number : (v : Bool) → eqb k p ≡ v → IsPlaced (rect_in k (panes plan)) (term_at us k)
-    by_number true e =
-        let here = subst (λ (j : ℕ). Both rule (term_at ts j) (term_at us j)) (sym (eqb-true k p e)) changes.here in
-        placed_both rule leaves (rect_in k (panes plan)) (term_at ts k) (term_at us k) here (placed k)
-    by_number false e =
-        subst (λ (t : Option TermView). IsPlaced (rect_in k (panes plan)) t)
-        (sym (changes.others k (λ same. false≢true (sym e ∙ eq-eqb k p same)))) (placed k)
 
 pub stands_fed : (s t : SessionView) (p : ℕ) (bytes : List ℕ) → t.plan ≡ s.plan → ChangesAt p (IsFed bytes) s.terms t.terms
     → (size : SessionSize) (log : List Entry) → Stands s size log → Stands t size (log ++ Given p bytes ∷ [])

@@ -1,5 +1,5 @@
 -- The face of every session is a screen: each pane of its layout has a terminal of its rectangle's size.
-use Rattle.std.proofs.Common.{◌≡◌, ℕ, zero, suc, ◌+◌, ◌<◌, Bool, true, false, ◌&&◌, cond, eqb, List, [], ◌∷◌, ◌++◌, map, length, get_or, Option, Some, None, refl, sym, ap, ◌∙◌, subst, arith}
+use Rattle.std.proofs.Common.{◌≡◌, ℕ, suc, ◌+◌, ◌<◌, ◌&&◌, eqb, List, [], ◌∷◌, ◌++◌, map, length, get_or, Option, Some, None, refl, ap, ◌∙◌, subst, arith}
 use Rattle.std.specs.Prelude.{slice_index}
 use Rattle.std.specs.List.{fold}
 use Rattle.std.specs.Option.{option_map}
@@ -10,17 +10,16 @@ use Rattle.roam_text.specs.Log.{Item, Byte, Resized}
 use Rattle.roam_acts.specs.declared.acts.Act.{Act}
 use Rattle.roam_keys.specs.declared.keys.Key.{Key}
 use Rattle.roam_term.specs.Picture.{picture}
-use Rattle.roam_term.specs.Screens.{AreSizes, size_after, IsScreenOf}
+use Rattle.roam_term.specs.Screens.{AreSizes, size_after}
 use Rattle.roam_term.proofs.Picturing.{picture_screen}
 use Rattle.roam_layout.specs.Rects.{rect_in}
-use Rattle.roam_layout.specs.Layouts.{Plan, Outcome, Laid, Refused, IsSessionSize, start, laid, panes, area}
-use Rattle.roam_layout.specs.Faces.{face as face_of}
+use Rattle.roam_layout.specs.Layouts.{Outcome, Laid, Refused, IsSessionSize, start, laid, panes}
 use Rattle.roam_layout.specs.declared.rects.Rect.{Rect}
 use Rattle.roam_layout.proofs.Laying.{IsLayout, laid_layout, start_layout, face_screen}
 use Rattle.roam_layout.proofs.Pieces.{ArePictured, IsPictured}
 use Rattle.roam_session.specs.Faces.{picture_at, pictures_of, face}
-use Rattle.roam_session.specs.Panes.{Pane, begun, is_same_size, moved, given, fed, keyed, drained}
-use Rattle.roam_session.specs.Sessions.{Entry, Given, Did, Drained, SessionSize, SessionState, at_pane, panes_given, laid_out, key_in, acted, after_entry, first_state, session}
+use Rattle.roam_session.specs.Panes.{Pane, is_same_size, moved, given, fed, keyed, drained}
+use Rattle.roam_session.specs.Sessions.{Entry, Given, Did, Drained, SessionSize, SessionState, at_pane, laid_out, key_in, acted, after_entry, first_state, session}
 use Rattle.roam_session.proofs.Rectangles.{sizes_in, found_by_number}
 
 -- ---- what panes are given

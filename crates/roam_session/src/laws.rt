@@ -1,5 +1,5 @@
 //! Laws of sessions.
-ghost use Rattle.std.specs.Prelude.{◌≡◌, ℕ, List, [], ◌∷◌, ◌++◌};
+ghost use Rattle.std.specs.Prelude.{◌≡◌, List, [], ◌∷◌, ◌++◌};
 ghost use Rattle.roam_cells.specs.Screenshot.{IsScreenshot};
 ghost use Rattle.roam_layout.specs.Layouts.{IsSessionSize};
 ghost use Rattle.roam_session.specs.Faces.{face};

@@ -1,5 +1,5 @@
 //! What the panes of a layout show.
-ghost use Rattle.std.specs.Prelude.{◌≡◌, ◌<◌, ℕ, true, Option, length, map, slice_index, slice_index_or, IfOk, IsOkUnless};
+ghost use Rattle.std.specs.Prelude.{◌≡◌, ◌<◌, ℕ, true, Option, length, slice_index, slice_index_or, IfOk, IsOkUnless};
 ghost use Rattle.roam_layout.specs.Trees.{has};
 ghost use Rattle.roam_layout.specs.Layouts.{panes};
 ghost use Rattle.roam_layout.specs.Faces.{ArePictures, Show};

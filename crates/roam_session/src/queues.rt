@@ -1,5 +1,5 @@
 //! The terminals of panes by their numbers: what their programs send, and the bytes that wait for them.
-ghost use Rattle.std.specs.Prelude.{◌≡◌, ◌+◌, ◌-◌, ◌≤◌, ◌++◌, ℕ, List, Option, Some, None, length, min, take, drop, IfOk, OnOk, OnErr};
+ghost use Rattle.std.specs.Prelude.{◌≡◌, ◌+◌, ◌-◌, ◌≤◌, ◌++◌, ℕ, List, Option, Some, None, length, IfOk, OnOk, OnErr};
 ghost use Rattle.std.specs.Option.{option_map};
 ghost use Rattle.roam_session.specs.Refusals.{bytes_refused, none_refused, fault_of};
 ghost use Rattle.roam_session.specs.Stands.{term_at, waiting_at};

@@ -11,18 +11,18 @@ use Rattle.roam_world.specs.Comings.{after_note, after_acts, new_acts, room_for}
 use Rattle.roam_world.specs.Clients.{Client, moment_of}
 use Rattle.roam_world.specs.Arrivals.{Hearing, after_piece, after_whole}
 use Rattle.roam_world.specs.Limits.{Limits}
-use Rattle.roam_world.specs.Worlds.{World, ToServer, ToClient, Reply, Taken, Heard, Refused, Failed, Stopped, datagram_at, with_server, with_client}
-use Rattle.roam_world.specs.Steps.{not_sent, refused, piece, unread, all_taken, no_room, no_memory_at_act, no_memory, empty_slot, bad_change, whole}
+use Rattle.roam_world.specs.Worlds.{World, ToServer, ToClient, Reply, Taken, Heard, Failed, Stopped, datagram_at, with_server, with_client}
+use Rattle.roam_world.specs.Steps.{refused, piece, unread, all_taken, no_room, no_memory_at_act, no_memory, bad_change, whole}
 use Rattle.roam_world.proofs.Runs.{was_sent}
 use Rattle.roam_hub.specs.declared.addresses.Stop.{Stop}
 use Rattle.roam_hub.specs.declared.clients.Heard.{Heard as HeardAs}
 use Rattle.roam_hub.specs.Clients.{ClientView, Stands as ClientStands, hearing_in, IsTextOf, IsNoDatagram, Hears}
 use Rattle.roam_hub.specs.Clients as client
-use Rattle.roam_hub.specs.Servers.{ServerView, Stands as ServerStands, Comes}
+use Rattle.roam_hub.specs.Servers.{ServerView, Comes}
 use Rattle.roam_hub.specs.Servers as server
 use Rattle.roam_simulation.specs.Networks.{text_at}
 use Rattle.roam_simulation.specs.Worlds.{WorldView, start_in, Stands, Steps}
-use Rattle.roam_simulation.proofs.Slots.{Sits, sits, vacant, stands_kept, stands_put, stands_served, stands_serving}
+use Rattle.roam_simulation.proofs.Slots.{Sits, sits, stands_kept, stands_put, stands_served, stands_serving}
 
 -- ---- what was sent under a number
 
@@ -52,14 +52,6 @@ is_sent v w n bytes st e = go (datagram_at w.sent n) refl (e ∙ ap (λ (xs : Li
           spelled = (let z : Some bytes ≡ Some (datagram_text d) = f ∙ ap (option_map datagram_text) at in cc);
         }
 
-pub none_sent : (v : WorldView) (w : World) (n : ℕ) → Stands v w → None ≡ text_at v.sent n → datagram_at w.sent n ≡ None
-none_sent v w n st e = go (datagram_at w.sent n) refl (e ∙ ap (λ (xs : List (List ℕ)). text_at xs n) st.sent ∙ text_of w.sent n)
-  where
-    go : (o : Option DatagramValue) → datagram_at w.sent n ≡ o → None ≡ option_map datagram_text (datagram_at w.sent n)
-        → datagram_at w.sent n ≡ None
-    go None at f = at
-    go (Some d) at f = absurd (let z : None ≡ Some (datagram_text d) = f ∙ ap (option_map datagram_text) at in cc)
-
 -- two datagrams with one text are equal
 abbrev pub OneText : Type 0
 OneText = (d e : DatagramValue) → IsDatagram d → IsDatagram e → datagram_text d ≡ datagram_text e → d ≡ e
@@ -80,10 +72,6 @@ readable w n bytes why l s none = none.none s.datagram (l.datagrams s.datagram (
 abbrev pub taken_by : Result ℕ Stop → Reply
 taken_by (Ok n) = Taken n
 taken_by (Err stop) = Stopped stop.fault stop.taken
-
-pub steps_not_come : (v : WorldView) (w : World) (n : ℕ) (from : Address) (now : ℕ) → Stands v w → None ≡ text_at v.sent n
-    → Steps w (ToServer n from now) Refused v
-steps_not_come v w n from now st e = record { left = w; step = not_sent (none_sent v w n st e) refl refl; stands = st }
 
 pub steps_come : (v : WorldView) (w : World) (n : ℕ) (from : Address) (now : ℕ) (bytes : List ℕ) (result : Result ℕ Stop)
     (view : ServerView) → Stands v w → Limits w → OneText → Some bytes ≡ text_at v.sent n → Comes w.server from bytes now result view
@@ -145,14 +133,6 @@ steps_come v w n from now bytes result view st l one known comes = go comes
 abbrev pub heard_by : Result HeardAs Fault → Reply
 heard_by (Ok h) = Heard (hearing_in h)
 heard_by (Err fault) = Failed fault
-
-pub steps_unheard : (v : WorldView) (w : World) (slot n now : ℕ) → Stands v w → start_in v.slots slot ≡ None
-    → Steps w (ToClient slot n now) Refused v
-steps_unheard v w slot n now st at = record { left = w; step = empty_slot (vacant v w slot st at) refl refl; stands = st }
-
-pub steps_not_arrived : (v : WorldView) (w : World) (slot n now : ℕ) → Stands v w → None ≡ text_at v.sent n
-    → Steps w (ToClient slot n now) Refused v
-steps_not_arrived v w slot n now st e = record { left = w; step = not_sent (none_sent v w n st e) refl refl; stands = st }
 
 pub steps_heard : (v : WorldView) (w : World) (slot n now : ℕ) (bytes : List ℕ) (result : Result HeardAs Fault) (c c' : ClientView)
     → Stands v w → Limits w → OneText → Some bytes ≡ text_at v.sent n → slot < length v.slots → start_in v.slots slot ≡ Some c

@@ -3,7 +3,6 @@ use Rattle.std.proofs.Common.{◌≡◌, ℕ, ◌<◌, List, length, Option, Som
 use Rattle.std.specs.Prelude.{Result, Ok, Err}
 use Rattle.std.specs.Option.{option_map}
 use Rattle.roam_cells.specs.declared.faults.Fault.{Fault}
-use Rattle.roam_cells.specs.declared.faults.Fault.TheVariants.{NoPane}
 use Rattle.roam_session.specs.Sessions.{Given, Drained}
 use Rattle.roam_session.specs.Refusals.{output_at}
 use Rattle.roam_world.specs.Servers.{after_input}
@@ -45,10 +44,6 @@ waiting : (o : Option (List ℕ)) (n : ℕ) → Some n ≡ option_map (λ (xs : 
 waiting None n e = absurd (cc)
 waiting (Some xs) n e = (xs, refl, let z : length xs ≡ n = cc in z)
 
-no_waiting : (o : Option (List ℕ)) → None ≡ option_map (λ (xs : List ℕ). length xs) o → o ≡ None
-no_waiting None e = refl
-no_waiting (Some xs) e = absurd (cc)
-
 pub steps_too_many : (v : WorldView) (w : World) (pane n len : ℕ) → Stands v w
     → Some len ≡ option_map (λ (xs : List ℕ). length xs) (output_at w.server.size w.server.log pane) → len < n
     → Steps w (Drain pane n) Refused v
@@ -59,9 +54,3 @@ steps_too_many v w pane n len st e lt =
       step = too_many o.0 o.1 (subst (λ (k : ℕ). k < n) (sym o.2) lt) refl refl;
       stands = st;
     }
-
-pub steps_no_pane : (v : WorldView) (w : World) (pane n : ℕ) → Stands v w
-    → None ≡ option_map (λ (xs : List ℕ). length xs) (output_at w.server.size w.server.log pane)
-    → Steps w (Drain pane n) (Failed NoPane) v
-steps_no_pane v w pane n st e =
-    record { left = w; step = no_pane (no_waiting (output_at w.server.size w.server.log pane) e) refl refl; stands = st }

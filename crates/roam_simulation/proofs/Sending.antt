@@ -7,7 +7,7 @@ use Rattle.std.proofs.lemmas.Grind.{flat_map-append}
 use Rattle.std.proofs.lemmas.List.{take_more}
 use Rattle.std.proofs.lemmas.List.Concat.{get_or-flat_map}
 use Rattle.std.proofs.lemmas.List.Folds.{length-flat_map-take}
-use Rattle.std.proofs.lemmas.Option.{slice_get-get_or, slice_get_past}
+use Rattle.std.proofs.lemmas.Option.{slice_get-get_or}
 use Rattle.roam_simulation.specs.declared.networks.Batch.{Batch}
 use Rattle.roam_simulation.specs.Networks.{texts_in, text_at}
 
@@ -30,12 +30,6 @@ text_placed texts n lt = go (nat_eq n 0) refl
     go : (b : Bool) → nat_eq n 0 ≡ b → cond b None (slice_get texts (n - 1)) ≡ slice_get texts (n - 1)
     go true e = absurd (let z : n ≡ 0 = grind (arith, nat_tests) in omega arith)
     go false e = refl
-
-pub text_none : (texts : List (List ℕ)) → text_at texts 0 ≡ None
-text_none texts = refl
-
-pub text_past : (texts : List (List ℕ)) (n : ℕ) → length texts < n → text_at texts n ≡ None
-text_past texts n lt = text_placed texts n (omega arith) ∙ slice_get_past texts (n - 1) (omega arith)
 
 -- a number past those before a batch, and not past those up to its end, is of that batch
 pub text_there : (xs : List Batch) (i n : ℕ) (b : Batch) → i < length xs → b ≡ get_or xs i b → front xs i < n

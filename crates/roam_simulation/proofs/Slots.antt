@@ -176,10 +176,6 @@ starts_new session slots used clients ids slot id v c st lt free made stands =
 
 -- ---- the world then
 
-pub with_starts : (v : WorldView) (w : World) (slots : List (Option ClientView)) → Stands v w
-    → StartsStand w.server.session slots v.used w.clients w.slots → Stands (record v { slots = slots }) w
-with_starts v w slots st starts = record { session = st.session; server = st.server; starts = starts; sent = st.sent }
-
 pub stands_kept : (v : WorldView) (w : World) (slot : ℕ) (c c' : ClientView) → Stands v w → slot < length v.slots → (s : Sits w slot c)
     → ClientStands c' w.server.session s.id (w.clients s.id) → Stands (record v { slots = set v.slots slot (Some c') }) w
 stands_kept v w slot c c' st lt s stands =

@@ -1,5 +1,5 @@
 -- What is known while the lines of a text are read.
-use Rattle.std.proofs.Common.{◌≡◌, ℕ, suc, ◌+◌, List, [], ◌∷◌, ◌++◌, length, refl, sym, ap, ◌∙◌, arith}
+use Rattle.std.proofs.Common.{◌≡◌, ℕ, suc, ◌+◌, List, [], ◌∷◌, ◌++◌, length, sym, ap, ◌∙◌, arith}
 use Rattle.std.proofs.lemmas.List.{append_assoc, append-nil, length-append}
 use Rattle.roam_acts.specs.declared.acts.Act.{Act}
 use Rattle.roam_sockets.specs.Keys.{IsLineOf, AreLinesOf, FailsAt}
@@ -9,14 +9,6 @@ pub record SoFar (lines : List (List ℕ)) (acts : List Act) (rest : List (List 
   pub found : (more : List Act) → AreLinesOf rest more → AreLinesOf lines (acts ++ more)
   pub only : (all : List Act) → AreLinesOf lines all → (more : List Act) × (all ≡ acts ++ more) × AreLinesOf rest more
   pub fails : (k : ℕ) → FailsAt k rest → FailsAt (length acts + k) lines
-
-pub begun : (lines : List (List ℕ)) → SoFar lines [] lines
-begun lines =
-    record {
-      found = λ more h. h;
-      only = λ all h. (all, refl, h);
-      fails = λ k h. let e : length {A = Act} [] + k ≡ k = omega arith in rw e h;
-    }
 
 pub one_more : (lines : List (List ℕ)) (acts : List Act) (line : List ℕ) (rest : List (List ℕ)) (act : Act) → SoFar lines acts (line ∷ rest)
     → IsLineOf line act → ((a : Act) → IsLineOf line a → act ≡ a) → SoFar lines (acts ++ act ∷ []) rest

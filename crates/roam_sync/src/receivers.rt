@@ -1,6 +1,6 @@
 //! The end that receives.
 
-ghost use Rattle.std.specs.Prelude.{◌≡◌, ◌≢◌, ◌≤◌, ◌<◌, ◌+◌, ◌⊎◌, ◌++◌, ◌∷◌, [], length, vec_len, vec_capacity, Some, None, Ok, IsTrue, IfOk, IfErr, OnOk, OnErr, IsErrOf, IsOkUnless};
+ghost use Rattle.std.specs.Prelude.{◌≡◌, ◌≢◌, ◌≤◌, ◌<◌, ◌+◌, ◌⊎◌, ◌++◌, ◌∷◌, [], length, vec_len, vec_capacity, Some, None, Ok, IfOk, IfErr, OnOk, OnErr, IsErrOf, IsOkUnless};
 ghost use Rattle.std.specs.Option.{option_copied};
 ghost use Rattle.roam_sync.specs.Receivers.{Receiving, pairs, state_at, from_floor, step_for, Takes, start};
 

@@ -74,10 +74,6 @@ rows_above cols r (row ∷ rows) cells each whole =
     subst (λ (l : List Glyph). AreWhole (length (row ∷ rows) + r) cols l) (sym (append_assoc row (flat rows) cells))
     (subst (λ (n : ℕ). AreWhole n cols (row ++ (flat rows ++ cells))) more (row_above cols (length rows + r) row (flat rows ++ cells) (each 0 row (omega arith)) (rows_above cols r rows cells (each_later cols row rows each) whole)))
 
-length-flat : (cols : ℕ) (rows : List (List Glyph)) → All (IsRow cols) rows → length (flat rows) ≡ length rows * cols
-length-flat cols [] each = omega arith
-length-flat cols (row ∷ rows) each = length-append row (flat rows) ∙ omega (arith, (each 0 row (omega arith)).count, length-flat cols rows (each_later cols row rows each))
-
 -- as many whole rows as fit
 module _ (cols r : ℕ) (rows : List (List Glyph)) (cells : List Glyph) (each : All (IsRow cols) rows) (size : length cells ≡ r * cols) where
   abbrev pub all : List Glyph

@@ -1,7 +1,7 @@
 //! The main and the alternate screen.
 ghost use Rattle.std.specs.Prelude.{◌≡◌};
 ghost use Rattle.roam_grid.specs.Screen.{IsSameSize};
-ghost use Rattle.roam_term.specs.Terminal.{is_alternate_mode, switched, blanked, alternate_shown, main_shown, screen_chosen};
+ghost use Rattle.roam_term.specs.Terminal.{is_alternate_mode, switched, alternate_shown, main_shown, screen_chosen};
 
 use crate::canvases::Canvas;
 use std::mem;

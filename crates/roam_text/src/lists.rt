@@ -1,5 +1,5 @@
 //! Short lists that lie in the value itself and are cleared by their count alone.
-ghost use Rattle.std.specs.Prelude.{◌≡◌, ◌==◌, ◌<◌, ◌≤◌, List, [], ◌∷◌, ◌++◌, ℕ, length, take};
+ghost use Rattle.std.specs.Prelude.{◌≡◌, ◌==◌, ◌<◌, ◌≤◌, List, [], ◌∷◌, ◌++◌, length, take};
 
 use crate::functions::{INTERMEDIATES, PARAMETERS};
 use std::marker::Model;

@@ -43,9 +43,6 @@ deliveries_are slot (k ∷ ks) = (tt, deliveries_are slot ks)
 
 -- ---- deliveries leave the server
 
-server_of : World → Server
-server_of w = w.server
-
 one_leaves : (w : World) (slot k now : ℕ) (reply : Reply) (w' : World) → ToClientStep w slot k now reply w' → w'.server ≡ w.server
 one_leaves w slot k now reply w' (empty_slot a b e) = ap (λ (x : World). x.server) e
 one_leaves w slot k now reply w' (not_sent a b e) = ap (λ (x : World). x.server) e

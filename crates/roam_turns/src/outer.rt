@@ -1,5 +1,5 @@
 //! What is known of the outer terminal.
-ghost use Rattle.std.specs.Prelude.{◌≡◌, ◌↔◌, None, Some, IsTrue, IfOk, IsOkUnless};
+ghost use Rattle.std.specs.Prelude.{◌≡◌, ◌↔◌, None, Some, IsTrue, IfOk};
 ghost use Rattle.roam_turns.specs.Painting.{IsNoted, text_for};
 
 use roam_cells::{Fault, Shot};

@@ -1,5 +1,5 @@
 //! What a turn reaches outside its core.
-ghost use Rattle.std.specs.Prelude.{◌≡◌, ◌≤◌, length, List, [], ◌∷◌, Option, None, IfSome};
+ghost use Rattle.std.specs.Prelude.{◌≤◌, length, List, [], ◌∷◌, Option, None, IfSome};
 ghost use Rattle.roam_turns.specs.Calls.{PortCall, Tells, received, pane_gave};
 ghost use Rattle.roam_turns.specs.Calls.PortCall.{Now, Sent, PaneTook, Showed};
 

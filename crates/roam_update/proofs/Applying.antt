@@ -1,5 +1,5 @@
 -- What a text makes of a base, by the answers of the tests.
-use Rattle.std.proofs.Common.{◌≡◌, ℕ, ◌*◌, ◌≤◌, Bool, true, false, cond, leb, List, length, drop, Option, Some, None, refl, sym, ap, subst, ◌∙◌}
+use Rattle.std.proofs.Common.{◌≡◌, ℕ, ◌*◌, ◌≤◌, Bool, true, cond, leb, List, length, drop, Option, Some, None, refl, sym, ap, subst, ◌∙◌}
 use Rattle.std.specs.Prelude.{All, option_and_then, slice_index}
 use Rattle.std.proofs.lemmas.Bool.{leb-true, and_parts}
 use Rattle.std.proofs.lemmas.Option.{cond_some}
@@ -44,15 +44,6 @@ applied_is base text e =
 
 abbrev pub head_of_text : List ℕ → Option Head
 head_of_text text = cond (has_head text) (Some (head_at text)) None
-
-not_some : (b : Bool) (h : Head) → cond b (Some h) None ≡ None → b ≡ false
-not_some true h e = absurd cc
-not_some false h e = refl
-
-pub no_head : (base : Screenshot) (text : List ℕ) → head_of_text text ≡ None → applied base text ≡ None
-no_head base text e =
-    let no : has_head text ≡ false = not_some (has_head text) (head_at text) e in
-    rw no refl
 
 module _ (base : Screenshot) (text : List ℕ) (h : Head) (read : head_of_text text ≡ Some h) where
   parts : (has_head text ≡ true) × (head_at text ≡ h)

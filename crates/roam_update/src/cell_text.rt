@@ -1,8 +1,8 @@
 //! The text of a cell, written and read.
 
-ghost use Rattle.std.specs.Prelude.{◌≡◌, ◌≤◌, ◌+◌, ◌*◌, ◌++◌, length, option_and_then, slice_index, IfSome, OnOk};
+ghost use Rattle.std.specs.Prelude.{◌≡◌, ◌≤◌, ◌+◌, ◌*◌, ◌++◌, length, option_and_then, IfSome, OnOk};
 ghost use Rattle.byteorder.specs.Endian.{big_bytes};
-ghost use Rattle.roam_update.specs.CellText.{bit, flags, colour_kind, colour_index, points_text, cell_head, cell_text, cells_text};
+ghost use Rattle.roam_update.specs.CellText.{bit, flags, colour_kind, colour_index, points_text, cell_text, cells_text};
 ghost use Rattle.roam_update.specs.CellText.{point_read, points_read, colour_read, style_read, glyph_of, glyph_read, cell_size};
 
 use byteorder::{BigEndian, ByteOrder};

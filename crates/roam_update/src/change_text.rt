@@ -3,7 +3,7 @@
 ghost use Rattle.std.specs.Prelude.{◌≡◌, ◌≤◌, ◌+◌, ◌*◌, ◌<◌, ◌^◌, List, ◌++◌, length, drop, IfOk, IfSome, OnOk, IsTrue, IsFalse, if◌then◌else◌};
 ghost use Rattle.roam_cells.specs.Glyph.{Glyph};
 ghost use Rattle.roam_cells.specs.Place.{AreWhole};
-ghost use Rattle.roam_update.specs.Runs.{Run, runs_between};
+ghost use Rattle.roam_update.specs.Runs.{runs_between};
 ghost use Rattle.roam_update.specs.ChangeText.{run_text, runs_text, head_text, may_begin, has_head, head_at};
 ghost use Rattle.roam_update.specs.Marks.{StaysUnmarked};
 ghost use Rattle.roam_update.specs.Put.{cells_put, runs_put};

@@ -1,11 +1,10 @@
 //! Laws of changes, over every base, screen and text. Each stands on a function with an empty body.
 
 ghost use Rattle.std.specs.Prelude.{All, ◌≡◌, ℕ, ◌≤◌, ◌<◌, ◌*◌, ◌↔◌, List, Some, length, IsTrue};
-ghost use Rattle.roam_cells.specs.Glyph.{Glyph};
 ghost use Rattle.roam_cells.specs.Place.{glyph_at};
 ghost use Rattle.roam_cells.specs.Screenshot.{Screenshot, IsScreenshot, row_of};
 ghost use Rattle.roam_update.specs.ChangeText.{Change, IsChange, Spells, change_text, change_read};
-ghost use Rattle.roam_update.specs.Runs.{AreApart, IsNamed, runs_between};
+ghost use Rattle.roam_update.specs.Runs.{AreApart, IsNamed};
 ghost use Rattle.roam_update.specs.Shots.{Makes, applied, change_to, difference};
 ghost use Rattle.roam_update.specs.Sizes.{sized};
 ghost use Rattle.roam_update.specs.Tested.{is_screenshot};

@@ -1,6 +1,6 @@
 //! Screens brought to another size.
 
-ghost use Rattle.std.specs.Prelude.{◌≡◌, ◌≤◌, ◌<◌, ◌++◌, ◌*◌, map, length, IfOk, OnOk};
+ghost use Rattle.std.specs.Prelude.{◌≡◌, ◌≤◌, ◌<◌, ◌++◌, ◌*◌, map, IfOk, OnOk};
 ghost use Rattle.std.specs.List.{range_with_len};
 ghost use Rattle.roam_cells.specs.Place.{cell_at};
 ghost use Rattle.roam_update.specs.Sizes.{sized, sized_at};

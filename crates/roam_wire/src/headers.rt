@@ -1,6 +1,6 @@
 //! The header of a datagram as plain numbers, and the tests on them in the order of their reasons.
 ghost use Rattle.std.specs.Prelude.{◌≡◌, ◌≤◌, length};
-ghost use Rattle.roam_wire.specs.Headers.{header_at, is_version, is_bad_length, is_bad_fragment, piece_fault, checked};
+ghost use Rattle.roam_wire.specs.Headers.{header_at, is_bad_length, is_bad_fragment, piece_fault, checked};
 
 use crate::cutting::{PIECE, PIECES};
 use crate::datagrams::{Kind, VERSION};

@@ -6,7 +6,6 @@ use Rattle.roam_cells.specs.declared.faults.Fault.TheVariants.{OutOfMemory, BadD
 use Rattle.roam_cells.specs.declared.faults.Reason.TheVariants as reason
 use Rattle.roam_update.specs.Shots.{applied}
 use Rattle.roam_sync.specs.Senders.{newest}
-use Rattle.roam_sync.specs.Receivers.{Receiving}
 use Rattle.roam_sync.specs.Lines.{Delivers}
 use Rattle.roam_sync.proofs.Rounds.{one_round}
 use Rattle.roam_wire.specs.declared.datagrams.Kind.TheVariants.{ToClient}

@@ -6,7 +6,7 @@
 //! once) have row, column, pen and text behind them; `join` row, column and code point; `erase`, `insert` and `delete` the row, and then
 //! from, to, or column, count; `blank` from, to; `up` and `down` how many rows; `region-up` and `region-down` top, bottom, count; `size`
 //! rows, columns, and how many rows have left at the top.
-ghost use Rattle.std.specs.Prelude.{◌≡◌, IsTrue};
+ghost use Rattle.std.specs.Prelude.{IsTrue};
 ghost use Rattle.roam_rows.specs.Writing.{ArePrintable};
 
 use roam_cells::limits::is_size;

@@ -1,5 +1,5 @@
 //! Steps are prepared, and then done.
-ghost use Rattle.std.specs.Prelude.{◌≡◌, ℕ, ◌<◌, ◌⊎◌, Option, Some, None, length, IfOk, IsOkUnless};
+ghost use Rattle.std.specs.Prelude.{◌≡◌, ℕ, ◌<◌, Option, Some, None, length, IfOk, IsOkUnless};
 ghost use Rattle.roam_cells.specs.Limits.{IsSize};
 ghost use Rattle.roam_layout.specs.Rects.{rect_in};
 ghost use Rattle.roam_layout.specs.declared.rects.Rect.{Rect as RectOfLayout};

@@ -4,7 +4,7 @@ use Rattle.std.proofs.lemmas.Result.{err_from_is_err_and}
 use Rattle.indexmap.specs.Layout.{length-set_value_at}
 use Rattle.roam_sync.specs.Senders.{newest, count}
 use Rattle.roam_hub.specs.Servers.{RecordView, parcels_of}
-use Rattle.roam_hub.specs.Records.{is_told, is_letter_spent, pieces_told, HasNumbersFor, back_from}
+use Rattle.roam_hub.specs.Records.{is_told, is_letter_spent, HasNumbersFor, back_from}
 use Rattle.roam_hub.proofs.Settling.{IsAt, here_still, all_settled, all_told, spent_is, first_spent, set_nothing, has_numbers, undone, still_there, is_within, value_is}
 use Rattle.roam_hub.proofs.telling.+tell_from.Goals as goal
 
