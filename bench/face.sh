@@ -10,7 +10,7 @@ folder=$(mktemp -d)
 trap 'rm -rf "$folder"' EXIT
 
 make -s -C "$here/.." crates/face_speed/out/built >"$folder/build" 2>&1 || { cat "$folder/build" >&2; exit 1; }
-for size in "24 80" "100 250"; do
+for size in "24 80" "100 250" "200 500"; do
   for _ in $(seq "$rounds"); do
     # shellcheck disable=SC2086
     "$here/../crates/face_speed/out/face_speed" $size "$times"

@@ -11,7 +11,7 @@ trap 'rm -rf "$folder"' EXIT
 
 make -s -C "$here/.." crates/session_speed/out/built >"$folder/build" 2>&1 || { cat "$folder/build" >&2; exit 1; }
 printf '%-12s %10s %10s %10s %10s %10s\n' microseconds copy byte 'one pane' 'nine panes' split
-for size in "24 80" "100 250"; do
+for size in "24 80" "100 250" "200 500"; do
   for _ in $(seq "$rounds"); do
     # shellcheck disable=SC2086
     "$here/../crates/session_speed/out/session_speed" $size "$times"

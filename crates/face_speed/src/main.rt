@@ -9,8 +9,9 @@ ghost use Rattle.roam_layout.specs.Faces.{ArePictures};
 
 use anyhow::{Context, bail};
 use roam_acts::read_act;
-use roam_cells::{Fault, Shot};
+use roam_cells::Fault;
 use roam_layout::{Layout, face};
+use roam_screens::Shot;
 use std::alloc::Global;
 use std::env;
 use std::time::Instant;

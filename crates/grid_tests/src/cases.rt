@@ -33,10 +33,15 @@ fn acts_before(start: &str) -> Option<&'static str> {
 
 /// Whether cells have these characters, and no others.
 pub fn reads(row: &[Cell], wanted: &str) -> bool {
-    row.iter()
-        .flat_map(|cell| cell.chars())
-        .copied()
-        .eq(wanted.chars())
+    let mut rest = wanted.chars();
+    for cell in row {
+        for c in cell.chars().as_slice() {
+            if rest.next() != Some(*c) {
+                return false;
+            }
+        }
+    }
+    rest.next().is_none()
 }
 
 fn sign_of(cell: &Cell) -> char {

@@ -241,15 +241,15 @@ fn is_made(alloc: Global, rows: usize, cols: usize) -> Result<bool, Fault> {
 fn sizes_in_the_limits_alone_are_made(rt: HostRuntime) -> Result<(), Fail> {
     for (rows, cols) in [
         (1, 8),
-        (101, 8),
+        (201, 8),
         (2, 3),
-        (2, 251),
+        (2, 501),
         (0, 0),
         (usize::MAX, usize::MAX),
     ] {
         assert!(rt; is_refused(rt.alloc(), rows, cols), "{rows}");
     }
-    for (rows, cols) in [(2, 4), (24, 80), (100, 250)] {
+    for (rows, cols) in [(2, 4), (24, 80), (200, 500)] {
         assert!(rt; is_made(rt.alloc(), rows, cols)?, "{rows}");
     }
     Ok(())

@@ -181,7 +181,7 @@ fn begins_marked(alloc: Global, rows: usize, cols: usize) -> Result<bool, Fault>
 
 #[test]
 fn all_marks_are_on_at_first(rt: HostRuntime) -> Result<(), Fail> {
-    for (rows, cols) in [(2, 4), (24, 80), (100, 250)] {
+    for (rows, cols) in [(2, 4), (24, 80), (200, 500)] {
         assert!(rt; begins_marked(rt.alloc(), rows, cols)?);
     }
     Ok(())

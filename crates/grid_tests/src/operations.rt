@@ -868,7 +868,7 @@ fn a_size_is_taken_or_refused(rt: HostRuntime) -> Result<(), Fail> {
     let alloc = rt.alloc();
     let mut grid = Grid::new(alloc, 4, 8)?;
     grid.move_to(3, 5);
-    assert!(rt; is_refused(alloc, &mut grid, 1, 8) && is_refused(alloc, &mut grid, 2, 251));
+    assert!(rt; is_refused(alloc, &mut grid, 1, 8) && is_refused(alloc, &mut grid, 2, 501));
     assert!(rt; is_at(&grid, (4, 8), (4, 6)));
     grid.resize(alloc, 2, 4)?;
     assert!(rt; is_at(&grid, (2, 4), (2, 4)));

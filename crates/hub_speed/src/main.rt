@@ -1,13 +1,15 @@
 //! Measures the two cores. `hub_speed ROWS COLS TIMES` ticks an idle server with one client start and with 64 so many times, gives it as
-//! often one changed row and then a tick, and takes as many rounds of a tick and its datagrams with a key's echo. It prints for each its
-//! name, TIMES, the nanoseconds that passed and a number that depends on the work: for `echo` the bytes of all datagrams.
-//! `hub_speed records N` makes a server that keeps eight screens for each of N client starts, and `hub_speed clients N` keeps these starts
-//! too, with eight screens each, so that a caller can see how much memory that takes. Without words it does each once, and prints nothing.
+//! often one changed row, a scroll or a redraw and then a tick, and takes as many rounds of a tick and its datagrams with a key's echo. It
+//! prints for each its name, TIMES, the nanoseconds that passed and a number that depends on the work: for `echo` the bytes of all
+//! datagrams. `hub_speed records N` makes a server that keeps eight screens for each of N client starts, and `hub_speed clients N` keeps
+//! these starts too, with eight screens each, so that a caller can see how much memory that takes. Without words it does each once, and
+//! prints nothing.
 #![tactic(auto)]
 
 use anyhow::{Context, bail};
-use roam_cells::{Fault, Shot};
+use roam_cells::Fault;
 use roam_hub::{Addr, Client, Server};
+use roam_screens::{RowShot, Seen};
 use std::alloc::Global;
 use std::env;
 use std::time::Instant;
@@ -33,6 +35,15 @@ static ROWS: [&[u8]; 2] = [
 
 /// What it writes for a key: the cursor home, and a character.
 static KEYS: [&[u8]; 2] = [b"\x1B[Ha", b"\x1B[Hb"];
+
+/// What it writes for a scroll: a line feed in the last row, and another line.
+static SCROLLS: [&[u8]; 2] = [
+    b"\x1B[999;1H\r\n$ cargo build",
+    b"\x1B[999;1H\r\n   Compiling roam",
+];
+
+/// What it writes for a redraw: all places at once (DECALN), and none.
+static REDRAWS: [&[u8]; 2] = [b"\x1B#8", b"\x1B[2J"];
 
 /// A server and one client start, at a moment.
 #[derive(Drop)]
@@ -85,10 +96,10 @@ fn idle_ticks(alloc: Global, server: &mut Server, times: u32) -> Result<u64, Fau
     Ok(sum)
 }
 
-fn copies(alloc: Global, shot: &Shot, times: u32) -> Result<u64, Fault> {
+fn copies(alloc: Global, shot: &RowShot, times: u32) -> Result<u64, Fault> {
     let mut sum: u64 = 0;
     for _ in 0..times {
-        sum = sum.wrapping_add(shot.copy(alloc)?.cells().len() as u64);
+        sum = sum.wrapping_add(u64::from(shot.copy(alloc)?.rows()));
     }
     Ok(sum)
 }
@@ -176,6 +187,8 @@ fn measure(rt: &HostRuntime, rows: u16, cols: u16, times: u32) -> anyhow::Result
     measure_idle(rt, "idle1", rows, cols, 1, times)?;
     measure_idle(rt, "idle64", rows, cols, 64, times)?;
     measure_rounds(rt, "row", rows, cols, &ROWS, times)?;
+    measure_rounds(rt, "scroll", rows, cols, &SCROLLS, times)?;
+    measure_rounds(rt, "redraw", rows, cols, &REDRAWS, times)?;
     measure_rounds(rt, "echo", rows, cols, &KEYS, times)
 }
 

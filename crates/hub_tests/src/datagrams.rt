@@ -2,7 +2,7 @@
 use roam_acts::Act;
 use roam_cells::{Fault, Reason};
 use roam_wire::{
-    Datagram, Down, Gathered, Gatherer, Kind, Up, cut, read_datagram, read_down, read_up,
+    Datagram, Down, Gathered, Gatherer, Kind, Up, Version, cut, read_datagram, read_down, read_up,
     write_datagram, write_down, write_up,
 };
 use std::alloc::Global;
@@ -15,7 +15,7 @@ static FIRST: [u8; 60] = [
 ];
 
 // One of these bytes is changed, or several from a place on; and how many of the bytes are read then.
-static CHANGED: [(usize, &[u8], usize, Option<Reason>); 38] = [
+static CHANGED: [(usize, &[u8], usize, Option<Reason>); 41] = [
     (0, &[], 60, None),
     (0, &[], 41, Some(Reason::Short)),
     (0, &[], 42, Some(Reason::Length)),
@@ -23,7 +23,10 @@ static CHANGED: [(usize, &[u8], usize, Option<Reason>); 38] = [
     (0, &[0x53], 60, Some(Reason::Magic)),
     (1, &[0x4c], 60, Some(Reason::Magic)),
     (2, &[0], 60, Some(Reason::Version)),
-    (2, &[2], 60, Some(Reason::Version)),
+    (2, &[2], 60, None),
+    (2, &[2, 3], 60, None),
+    (2, &[2, 4], 60, Some(Reason::Kind)),
+    (2, &[2, 0], 60, Some(Reason::Kind)),
     (2, &[3], 60, Some(Reason::Version)),
     (3, &[0], 60, Some(Reason::Kind)),
     (3, &[1], 60, None),
@@ -158,7 +161,16 @@ enum Step {
     Untake,
 }
 
-static SCRIPTS: [&[Step]; 12] = [
+static SCRIPTS: [&[Step]; 13] = [
+    // An old id or a whole instruction is told before a bad index.
+    &[
+        Step::Take(2, 0, 1, "x", Said::Whole("x")),
+        Step::Take(1, 3, 2, "x", Said::Old),
+        Step::Take(2, 3, 2, "x", Said::Old),
+        Step::Take(3, 3, 2, "x", Said::Bad),
+        Step::Take(3, 0, 2, "x", Said::Part),
+        Step::Take(3, 2, 2, "x", Said::Bad),
+    ],
     // In any order, and again.
     &[
         Step::Take(1, 1, 2, "d", Said::Part),
@@ -262,12 +274,12 @@ fn reads(alloc: Global, bytes: &[u8], refused: Option<Reason>) -> bool {
 #[test]
 fn the_first_datagram_of_a_client(rt: HostRuntime) -> Result<(), Fail> {
     let datagram = read_datagram(rt.alloc(), &FIRST)?;
-    assert!(rt; datagram.version == 1 && datagram.kind == Kind::ToServer);
+    assert!(rt; datagram.version == Version::One && datagram.kind == Kind::ToServer);
     assert!(rt; datagram.session == 1 && datagram.client == 0xa1);
     assert!(rt;
         datagram.number == 1 && datagram.id == 1 && datagram.index == 0 && datagram.count == 1
     );
-    let up = read_up(rt.alloc(), datagram.payload.as_slice())?;
+    let up = read_up(rt.alloc(), datagram.payload.as_slice(), false)?;
     assert!(rt; up.acked == 0 && up.first == 1 && up.acts.is_empty());
     let text = write_up(rt.alloc(), &up)?;
     assert!(rt; text.as_slice() == FIRST.split_at(42).1);
@@ -315,7 +327,7 @@ fn each_beginning_is_refused(rt: HostRuntime) -> Result<(), Fail> {
 fn fault_at(place: usize, value: u8) -> Option<Reason> {
     match place {
         0 | 1 => Some(Reason::Magic),
-        2 => Some(Reason::Version),
+        2 if value != 2 => Some(Reason::Version),
         3 if value != 1 => Some(Reason::Kind),
         20 | 28 if value >= 0x40 => Some(Reason::Fragment),
         27 | 35 if value == 0 => Some(Reason::Fragment),
@@ -463,7 +475,7 @@ fn up_by_hand(
 
 // Whether the bytes are an instruction to the server, with these numbers and so many acts.
 fn is_up(alloc: Global, bytes: &[u8], acked: u64, first: u64, count: u16) -> bool {
-    let Ok(up) = read_up(alloc, bytes) else {
+    let Ok(up) = read_up(alloc, bytes, false) else {
         return false;
     };
     let same = up.acked == acked && up.first == first && up.acts.as_slice().len() == count as usize;
@@ -474,7 +486,7 @@ fn is_up(alloc: Global, bytes: &[u8], acked: u64, first: u64, count: u16) -> boo
 }
 
 fn is_no_up(alloc: Global, bytes: &[u8], reason: Reason) -> bool {
-    match read_up(alloc, bytes) {
+    match read_up(alloc, bytes, false) {
         Err(fault) => fault == Fault::BadDatagram(reason),
         Ok(_) => false,
     }
@@ -506,7 +518,7 @@ fn at_most_64_acts(rt: HostRuntime) -> Result<(), Fail> {
     assert!(rt; is_up(rt.alloc(), full.as_slice(), 0, 1, 64));
     let more = up_by_hand(rt.alloc(), 0, 1, 65, &[0x14; 65])?;
     assert!(rt; is_no_up(rt.alloc(), more.as_slice(), Reason::Length));
-    let up = read_up(rt.alloc(), full.as_slice())?;
+    let up = read_up(rt.alloc(), full.as_slice(), false)?;
     assert!(rt; up.acts.as_slice() == [Act::Next; 64].as_slice());
     Ok(())
 }
@@ -558,7 +570,7 @@ fn text_of(alloc: Global, len: usize) -> Result<Vec<u8>, Fault> {
 
 // Whether a text has so many pieces, the last of this length and the others of 1,200 bytes.
 fn is_cut(alloc: Global, text: &[u8], count: usize, last: usize) -> bool {
-    let Ok(pieces) = cut(alloc, text) else {
+    let Ok(pieces) = cut(alloc, text, Version::One) else {
         return false;
     };
     for (index, piece) in pieces.as_slice().iter().enumerate() {
@@ -578,7 +590,7 @@ fn texts_are_cut(rt: HostRuntime) -> Result<(), Fail> {
     }
     assert!(rt; is_cut(rt.alloc(), &[], 0, 0));
     let long = text_of(rt.alloc(), 1_228_801)?;
-    match cut(rt.alloc(), long.as_slice()) {
+    match cut(rt.alloc(), long.as_slice(), Version::One) {
         Err(fault) => assert!(rt; fault == Fault::TooLong),
         Ok(_) => assert!(rt; false),
     }
@@ -593,7 +605,7 @@ fn piece(
     payload: &[u8],
 ) -> Result<Datagram, Fault> {
     Ok(Datagram {
-        version: 1,
+        version: Version::One,
         kind: Kind::ToClient,
         session: 1,
         client: 2,
@@ -644,7 +656,7 @@ fn pieces_are_gathered(rt: HostRuntime) -> Result<(), Fail> {
 
 // Whether a text is whole where its pieces come backwards, each twice.
 fn comes_backwards(alloc: Global, text: &[u8]) -> Result<bool, Fault> {
-    let pieces = cut(alloc, text)?;
+    let pieces = cut(alloc, text, Version::One)?;
     let count = pieces.as_slice().len();
     let mut gatherer = Gatherer::new(alloc);
     let mut whole = false;
@@ -675,6 +687,46 @@ fn long_texts_come_backwards(rt: HostRuntime) -> Result<(), Fail> {
     for len in [1, 1200, 1201, 250_053, 1_228_800] {
         let text = text_of(rt.alloc(), len)?;
         assert!(rt; comes_backwards(rt.alloc(), text.as_slice())?, "{len}");
+    }
+    Ok(())
+}
+
+// The instruction of the largest change, with a style a cell at 200 by 500, is cut into so many pieces.
+const LARGEST: (usize, usize) = (2_500_056, 2084);
+
+// Version 2 allows four times as many pieces, and a start that only watches.
+#[test]
+fn version_2(rt: HostRuntime) -> Result<(), Fail> {
+    let long = text_of(rt.alloc(), 4_915_201)?;
+    let (most, _) = long.as_slice().split_at(4_915_200);
+    assert!(rt; cut(rt.alloc(), most, Version::Two)?.len() == 4096);
+    let (largest, _) = most.split_at(LARGEST.0);
+    assert!(rt; cut(rt.alloc(), largest, Version::Two)?.len() == LARGEST.1);
+    match cut(rt.alloc(), long.as_slice(), Version::Two) {
+        Err(fault) => assert!(rt; fault == Fault::TooLong),
+        Ok(_) => assert!(rt; false),
+    }
+    let mut bytes = changed(36, &[0x0f, 0xff, 0x10, 0x00]);
+    assert!(rt; reads(rt.alloc(), &bytes, Some(Reason::Fragment)));
+    bytes[2] = 2;
+    assert!(rt; reads(rt.alloc(), &bytes, None));
+    bytes[3] = 3;
+    assert!(rt; reads(rt.alloc(), &bytes, None));
+    bytes[39] = 1;
+    assert!(rt; reads(rt.alloc(), &bytes, Some(Reason::Fragment)));
+    Ok(())
+}
+
+#[test]
+fn instructions_of_watchers(rt: HostRuntime) -> Result<(), Fail> {
+    for (acked, first, count, acts, is) in &UPS {
+        let text = up_by_hand(rt.alloc(), *acked, *first, *count, acts)?;
+        match read_up(rt.alloc(), text.as_slice(), true) {
+            Ok(up) => assert!(rt; *is && *count == 0 && up.acts.is_empty()),
+            Err(fault) => assert!(rt;
+                !(*is && *count == 0) && fault == Fault::BadDatagram(Reason::Length)
+            ),
+        }
     }
     Ok(())
 }

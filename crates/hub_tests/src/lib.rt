@@ -5,6 +5,8 @@
 #![tactic(auto)]
 
 #[cfg(test)]
+mod counted;
+#[cfg(test)]
 mod datagrams;
 #[cfg(test)]
 mod lying;
@@ -12,3 +14,7 @@ mod lying;
 mod refused;
 #[cfg(test)]
 mod roaming;
+#[cfg(test)]
+mod sweeps;
+#[cfg(test)]
+mod versions;

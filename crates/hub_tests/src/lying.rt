@@ -103,7 +103,7 @@ fn hears(
 #[test]
 fn a_client_start_refuses_half_a_character(rt: HostRuntime) -> Result<(), Fail> {
     let alloc = rt.alloc();
-    let mut client = Client::new(alloc, 1, 0xA1)?;
+    let mut client = Client::old(alloc, 1, 0xA1)?;
     for (rest, wanted, shown) in TO_CLIENT {
         let header =
             "524d 01 01 0000000000000001 00000000000000a1 0000000000000001 0000000000000001 0000 0001";

@@ -2,8 +2,10 @@
 //!
 //! With ample memory nothing is refused here. To be run with each of its allocations refused in turn, too.
 use crate::roaming::at;
-use roam_cells::{Fault, Shot};
+use roam_cells::{Fault, are_same_cells};
 use roam_hub::{Addr, Client, Heard, Server};
+use roam_screens::{RowShot, Seen};
+use roam_wire::{Datagram, Gathered, Gatherer, Kind, Version, cut};
 use std::alloc::Global;
 use std::test::*;
 
@@ -18,7 +20,7 @@ static THREE_ACTS: [u8; 71] = [
     1, 0, 0, 0, b'a', 1, 0, 0, 0, b'b', 0x10,
 ];
 
-/// A server and two client starts, of which the second typed nothing.
+/// A server and two client starts, the first of version 1; the second typed nothing.
 #[derive(Drop)]
 struct Stage {
     server: Server,
@@ -33,6 +35,13 @@ fn server_of(alloc: Global) -> Result<Server, Fault> {
     }
 }
 
+fn old_start(alloc: Global, id: u64) -> Result<Client, Fault> {
+    match Client::old(alloc, 1, id) {
+        Err(Fault::OutOfMemory) => Client::old(alloc, 1, id),
+        answer => answer,
+    }
+}
+
 fn start_of(alloc: Global, id: u64) -> Result<Client, Fault> {
     match Client::new(alloc, 1, id) {
         Err(Fault::OutOfMemory) => Client::new(alloc, 1, id),
@@ -40,14 +49,14 @@ fn start_of(alloc: Global, id: u64) -> Result<Client, Fault> {
     }
 }
 
-fn blank(alloc: Global) -> Result<Shot, Fault> {
-    match Shot::blank(alloc, 24, 80) {
-        Err(Fault::OutOfMemory) => Shot::blank(alloc, 24, 80),
+fn blank(alloc: Global) -> Result<RowShot, Fault> {
+    match RowShot::blank(alloc, 24, 80) {
+        Err(Fault::OutOfMemory) => RowShot::blank(alloc, 24, 80),
         answer => answer,
     }
 }
 
-fn face_of(alloc: Global, server: &Server) -> Result<Shot, Fault> {
+fn face_of(alloc: Global, server: &Server) -> Result<RowShot, Fault> {
     match server.face(alloc) {
         Err(Fault::OutOfMemory) => server.face(alloc),
         answer => answer,
@@ -95,13 +104,26 @@ fn waits(server: &Server) -> bool {
         && server.output_len(2) == Some(0)
 }
 
-fn shows(client: &Client, number: u64, screen: &Shot) -> bool {
+/// Two screens are one in size, cells, cursor and whether it is visible.
+pub fn is_same<A: Seen, B: Seen>(one: &A, other: &B) -> bool {
+    if one.rows() != other.rows() || one.cols() != other.cols() {
+        return false;
+    }
+    for row in 0..one.rows() {
+        if !are_same_cells(one.row(row), other.row(row)) {
+            return false;
+        }
+    }
+    one.cursor() == other.cursor() && one.visible() == other.visible()
+}
+
+fn shows(client: &Client, number: u64, screen: &RowShot) -> bool {
     let (shown, shot) = client.shown();
-    shown == number && shot.is_same(screen)
+    shown == number && is_same(&shot, screen)
 }
 
 /// A start shows a new screen from a datagram on, and after a refusal what it showed before.
-fn hears(alloc: Global, client: &mut Client, bytes: &[u8], before: &Shot) -> bool {
+fn hears(alloc: Global, client: &mut Client, bytes: &[u8], before: &RowShot) -> bool {
     match client.datagram(alloc, bytes, 0) {
         Err(Fault::OutOfMemory) => {
             shows(client, 0, before) && client.datagram(alloc, bytes, 0) == Ok(Heard::New)
@@ -114,7 +136,7 @@ impl Stage {
     fn new(alloc: Global) -> Result<Stage, Fault> {
         Ok(Stage {
             server: server_of(alloc)?,
-            first: start_of(alloc, 0xA1)?,
+            first: old_start(alloc, 0xA1)?,
             second: start_of(alloc, 0xB1)?,
         })
     }
@@ -163,5 +185,72 @@ fn comes_right(alloc: Global) -> Result<bool, Fault> {
 #[test]
 fn what_memory_refuses_comes_later(rt: HostRuntime) -> Result<(), Fail> {
     assert!(rt; comes_right(rt.alloc())?);
+    Ok(())
+}
+
+// The pieces of a text, cut once more where memory was refused.
+fn pieces_of(alloc: Global, text: &[u8]) -> Result<Vec<Vec<u8>>, Fault> {
+    match cut(alloc, text, Version::Two) {
+        Err(Fault::OutOfMemory) => cut(alloc, text, Version::Two),
+        answer => answer,
+    }
+}
+
+// What a gatherer makes of a piece, taken once more where memory was refused.
+fn gathered(
+    alloc: Global,
+    gatherer: &mut Gatherer,
+    datagram: &Datagram,
+) -> Result<Gathered, Fault> {
+    match gatherer.take(alloc, datagram) {
+        Err(Fault::OutOfMemory) => gatherer.take(alloc, datagram),
+        answer => answer,
+    }
+}
+
+// A piece of three as a datagram.
+fn piece_at(alloc: Global, index: u16, payload: &[u8]) -> Result<Datagram, Fault> {
+    Ok(Datagram {
+        version: Version::Two,
+        kind: Kind::ToClient,
+        session: 1,
+        client: 0xA1,
+        number: 1,
+        id: 1,
+        index,
+        count: 3,
+        payload: Vec::from_slice(alloc, payload)?,
+    })
+}
+
+// Whether the three pieces of a text come whole, the last first.
+fn come_whole(alloc: Global) -> Result<bool, Fault> {
+    let text = vec![in alloc; 7u8; 3000]?;
+    let pieces = pieces_of(alloc, &text)?;
+    let mut gatherer = Gatherer::new(alloc);
+    for index in 0..3u16 {
+        let place = 2 - index;
+        let Some(payload) = pieces.get(usize::from(place)) else {
+            return Ok(false);
+        };
+        let datagram = piece_at(alloc, place, payload)?;
+        match gathered(alloc, &mut gatherer, &datagram)? {
+            Gathered::Whole(joined) => return Ok(
+                place == 0 && joined.as_slice() == text.as_slice(),
+            ),
+            Gathered::Part => {}
+            Gathered::Old => return Ok(false),
+        }
+    }
+    Ok(false)
+}
+
+// To be run with each of its allocations refused in turn, too. What the values themselves have no memory for ends it.
+#[test]
+fn refused_memory_loses_no_piece(rt: HostRuntime) -> Result<(), Fail> {
+    match come_whole(rt.alloc()) {
+        Ok(are_whole) => assert!(rt; are_whole),
+        Err(fault) => assert!(rt; fault == Fault::OutOfMemory),
+    }
     Ok(())
 }

@@ -4,8 +4,9 @@ ghost use Rattle.roam_layout.specs.Layouts.{panes};
 ghost use Rattle.roam_layout.specs.Faces.{ArePictures};
 
 use roam_acts::read_act;
-use roam_cells::{Cell, Fault, Shot, Style, are_unguarded, is_well_formed};
-use roam_layout::{Layout, Rect, face, push_row};
+use roam_cells::{Cell, Fault, Style, are_same_cells, are_unguarded, is_well_formed};
+use roam_layout::{Layout, Rect, face, face_over, push_row};
+use roam_screens::{RowShot, Seen, Shot};
 use std::alloc::Global;
 use std::test::Fail;
 
@@ -367,5 +368,38 @@ fn rows_one_by_one_make_the_face(rt: HostRuntime) -> Result<(), Fail> {
     let layout = layout_after(rt.alloc(), (24, 80), &NINE)?;
     let shots = pictures(rt.alloc(), &layout, &DIGITS, true)?;
     assert!(rt; is_row_by_row(rt.alloc(), &layout, &shots)?);
+    Ok(())
+}
+
+// The face over a blank screen of which each row is marked.
+fn made_anew(alloc: Global, layout: &Layout, shots: &[(u8, Shot)]) -> Result<RowShot, Fault>
+    requires pictures { ArePictures (panes layout.now) shots.now }
+{
+    layout.facts();
+    let blank = RowShot::blank(alloc, layout.rows(), layout.cols())?;
+    let marks = [true; 200];
+    face_over(alloc, layout, shots, &blank, &marks)
+}
+
+fn is_face(shot: &RowShot, whole: &Shot) -> bool {
+    if shot.rows() != whole.rows() {
+        return false;
+    }
+    for i in 0..whole.rows() {
+        if !are_same_cells(shot.row(i), Seen::row(whole, i)) {
+            return false;
+        }
+    }
+    shot.cursor() == whole.cursor() && shot.visible() == whole.visible()
+}
+
+#[test]
+fn a_face_over_marked_rows(rt: HostRuntime) -> Result<(), Fail> {
+    let alloc = rt.alloc();
+    let layout = layout_after(alloc, (24, 80), &NINE)?;
+    let shots = pictures(alloc, &layout, &DIGITS, true)?;
+    let whole = face(alloc, &layout, &shots)?;
+    let made = made_anew(alloc, &layout, &shots)?;
+    assert!(rt; is_face(&made, &whole));
     Ok(())
 }

@@ -1,9 +1,10 @@
-//! Changes of screens, byte for byte.
+//! Changes of screens of version 1, byte for byte.
 
 ghost use Rattle.std.specs.Prelude.{◌<◌};
 
 use crate::counters::Counter;
-use roam_cells::{Cell, Fault, Shot, Style, width};
+use roam_cells::{Cell, Fault, Style, are_same_cells, width};
+use roam_screens::{RowShot, RowShot1, Seen};
 use roam_update::Synced;
 use std::alloc::Global;
 use std::test::Fail;
@@ -36,7 +37,7 @@ fn digit(c: u8) -> u8 {
 }
 
 // The bytes of hexadecimal digits; spaces are for the reader.
-fn bytes_of(alloc: Global, hex: &str) -> Result<Vec<u8>, Fault> {
+pub fn bytes_of(alloc: Global, hex: &str) -> Result<Vec<u8>, Fault> {
     let mut bytes = Vec::new(alloc);
     let mut high = None;
     for c in hex.as_bytes() {
@@ -54,22 +55,40 @@ fn bytes_of(alloc: Global, hex: &str) -> Result<Vec<u8>, Fault> {
     Ok(bytes)
 }
 
-fn text_between(alloc: Global, base: &Shot, shot: &Shot) -> Result<Vec<u8>, Fault> {
+// A blank screen.
+fn blank_of(alloc: Global, rows: u16, cols: u16) -> Result<RowShot1, Fault> {
+    RowShot1::of(alloc, &RowShot::blank(alloc, rows, cols)?)
+}
+
+// Whether two screens show the same.
+pub fn is_same<S: Seen>(one: &S, other: &S) -> bool {
+    if one.rows() != other.rows() || one.cols() != other.cols() {
+        return false;
+    }
+    for i in 0..one.rows() {
+        if !are_same_cells(one.row(i), other.row(i)) {
+            return false;
+        }
+    }
+    one.cursor() == other.cursor() && one.visible() == other.visible()
+}
+
+fn text_between(alloc: Global, base: &RowShot1, shot: &RowShot1) -> Result<Vec<u8>, Fault> {
     let mut text = Vec::new(alloc);
     shot.write_change(alloc, base, &mut text)?;
     Ok(text)
 }
 
 // What a text makes of a blank screen.
-fn made(alloc: Global, text: &[u8]) -> Result<Shot, Fault> {
-    let mut shot = Shot::blank(alloc, 2, 8)?;
+fn made(alloc: Global, text: &[u8]) -> Result<RowShot1, Fault> {
+    let mut shot = blank_of(alloc, 2, 8)?;
     shot.apply(alloc, text)?;
     Ok(shot)
 }
 
 // The text that leads from a blank screen to what a text makes of it.
 fn again(alloc: Global, text: &[u8]) -> Result<Vec<u8>, Fault> {
-    text_between(alloc, &Shot::blank(alloc, 2, 8)?, &made(alloc, text)?)
+    text_between(alloc, &blank_of(alloc, 2, 8)?, &made(alloc, text)?)
 }
 
 fn is_kept(alloc: Global, text: &[u8]) -> Result<bool, Fault> {
@@ -81,7 +100,7 @@ fn is_refused(alloc: Global, text: &[u8]) -> Result<bool, Fault> {
     let old = made(alloc, &TWO)?;
     let mut shot = Synced::copy(&old, alloc)?;
     let refused = shot.apply(alloc, text) == Err(Fault::BadChange);
-    Ok(refused && shot.is_same(&old))
+    Ok(refused && is_same(&shot, &old))
 }
 
 #[test]
@@ -96,7 +115,7 @@ fn texts_are_written_as_they_were_read(rt: HostRuntime) -> Result<(), Fail> {
 #[test]
 fn a_change_is_added_at_the_end(rt: HostRuntime) -> Result<(), Fail> {
     let alloc = rt.alloc();
-    let base = Shot::blank(alloc, 2, 8)?;
+    let base = blank_of(alloc, 2, 8)?;
     let mut out = Vec::from_slice(alloc, &ONE)?;
     base.write_change(alloc, &base, &mut out)?;
     let (front, change) = out.split_at(out.len().min(31));
@@ -226,7 +245,7 @@ fn each_changed_byte_is_refused_or_exact(rt: HostRuntime) -> Result<(), Fail> {
 }
 
 // A wide character in the first row of 2 by 8, with its left half in a column from 0 and one byte of flags.
-fn wide_at(alloc: Global, col: u8, flags: u8) -> Result<Shot, Fault> {
+fn wide_at(alloc: Global, col: u8, flags: u8) -> Result<RowShot1, Fault> {
     let mut text = [
         0, 2, 0, 8, 0, 1, 0, 1, 1, 0, 0, 0, 1, 0, 0, 0, 0, 0, 0, 0, 2, 1, 0, 0, 0, 0, 0, 0, 0,
         0x4E, 0x2D, 0, 0, 0, 0, 0, 0,
@@ -240,7 +259,7 @@ fn wide_at(alloc: Global, col: u8, flags: u8) -> Result<Shot, Fault> {
 // How long the change is from a wide character in 8 columns to a blank screen of fewer.
 fn cut_len(alloc: Global, cols: u16, col: u8, flags: u8) -> Result<usize, Fault> {
     let base = wide_at(alloc, col, flags)?;
-    Ok(text_between(alloc, &base, &Shot::blank(alloc, 2, cols)?)?.len())
+    Ok(text_between(alloc, &base, &blank_of(alloc, 2, cols)?)?.len())
 }
 
 // Both halves, below `cols`, differ from blanks; the left one alone, cut, where its style does; beyond the last column none is named.
@@ -279,7 +298,7 @@ const CORNERS: &str = "0003 0005 0003 0005 00 00000004 00000000 00000001 01 00 0
     00000004 00000001 01 00 0000 0000 00000078 0000000a 00000001 01 00 0000 0000 00000078 \
     0000000e 00000001 01 00 0000 0000 00000078";
 
-fn is_x(shot: &Shot, row: u16, col: u16) -> bool {
+fn is_x(shot: &RowShot1, row: u16, col: u16) -> bool {
     match shot.at(row, col) {
         Some(cell) => cell.is_same(&Cell::ascii(b'x', Style::default(), false)),
         None => false,
@@ -300,7 +319,7 @@ fn a_change_turns_each_corner(rt: HostRuntime) -> Result<(), Fail> {
 }
 
 // A screen full of one letter.
-fn full_of(alloc: Global, rows: u16, cols: u16, letter: u8) -> Result<Shot, Fault> {
+fn full_of(alloc: Global, rows: u16, cols: u16, letter: u8) -> Result<RowShot1, Fault> {
     let count = u32::from(rows).saturating_mul(u32::from(cols)).min(25_000);
     let mut text = Vec::from_slice(alloc, &rows.to_be_bytes())?;
     text.extend_from_slice(&cols.to_be_bytes())?;
@@ -316,7 +335,7 @@ fn full_of(alloc: Global, rows: u16, cols: u16, letter: u8) -> Result<Shot, Faul
 #[test]
 fn the_longest_change_of_one_letter_a_cell(rt: HostRuntime) -> Result<(), Fail> {
     let alloc = rt.alloc();
-    let blank = Shot::blank(alloc, 100, 250)?;
+    let blank = blank_of(alloc, 100, 250)?;
     let full = full_of(alloc, 100, 250, b'x')?;
     assert_eq!(rt; text_between(alloc, &blank, &full)?.len(), 250_021);
     assert_eq!(rt; text_between(alloc, &full, &full)?.len(), 13);
@@ -324,16 +343,16 @@ fn the_longest_change_of_one_letter_a_cell(rt: HostRuntime) -> Result<(), Fail> 
 }
 
 // Whether the change from one screen to another leads there.
-fn leads(alloc: Global, base: &Shot, shot: &Shot) -> Result<bool, Fault> {
+fn leads(alloc: Global, base: &RowShot1, shot: &RowShot1) -> Result<bool, Fault> {
     let text = text_between(alloc, base, shot)?;
     let mut copy = Synced::copy(base, alloc)?;
     copy.apply(alloc, &text)?;
-    Ok(copy.is_same(shot))
+    Ok(is_same(&copy, shot))
 }
 
-fn five_screens(alloc: Global) -> Result<[Shot; 5], Fault> {
+fn five_screens(alloc: Global) -> Result<[RowShot1; 5], Fault> {
     Ok([
-        Shot::blank(alloc, 2, 4)?,
+        blank_of(alloc, 2, 4)?,
         made(alloc, &bytes_of(alloc, CORNERS)?)?,
         wide_at(alloc, 3, 129)?,
         full_of(alloc, 24, 80, b'y')?,
@@ -491,7 +510,7 @@ fn is_hop(alloc: Global, hop: &Hop) -> Result<bool, Fault> {
     let change = bytes_of(alloc, hop.change)?;
     let is_written = text_between(alloc, &old, &new)?.as_slice() == change.as_slice();
     old.apply(alloc, &change)?;
-    Ok(is_written && old.is_same(&new))
+    Ok(is_written && is_same(&old, &new))
 }
 
 // Screens that an independent terminal made of random input, with the changes that an independent writer made of them.
@@ -515,9 +534,9 @@ fn followed<S: Synced>(alloc: Global, base: &S, state: &S) -> Result<S, Fault> {
 #[test]
 fn two_kinds_of_states_are_followed(rt: HostRuntime) -> Result<(), Fail> {
     let alloc = rt.alloc();
-    let blank = Shot::blank(alloc, 2, 8)?;
+    let blank = blank_of(alloc, 2, 8)?;
     let one = made(alloc, &ONE)?;
-    assert!(rt; followed(alloc, &blank, &one)?.is_same(&one));
+    assert!(rt; is_same(&followed(alloc, &blank, &one)?, &one));
     let low = Counter { value: 7 };
     let high = Counter {
         value: 0xFFFF_FFFF_0000_0001,
@@ -535,25 +554,25 @@ fn is_done_or_kept(answer: Result<(), Fault>, is_done: bool, is_kept: bool) -> b
 }
 
 // Whether the change from one screen to another is written and applied so.
-fn is_changed_or_kept(alloc: Global, mut old: Shot, new: &Shot) -> bool {
+fn is_changed_or_kept(alloc: Global, mut old: RowShot1, new: &RowShot1) -> bool {
     let mut out = Vec::new(alloc);
     let written = new.write_change(alloc, &old, &mut out);
     let applied = old.apply(alloc, &ONE);
     is_done_or_kept(written, out.as_slice() == ONE.as_slice(), out.is_empty())
-        && is_done_or_kept(applied, old.is_same(new), !old.is_same(new))
+        && is_done_or_kept(applied, is_same(&old, new), !is_same(&old, new))
 }
 
 #[test]
 fn refused_memory_changes_nothing(rt: HostRuntime) {
     let alloc = rt.alloc();
-    let Ok(old) = Shot::blank(alloc, 2, 8) else {
+    let Ok(old) = blank_of(alloc, 2, 8) else {
         return;
     };
     let Ok(new) = made(alloc, &ONE) else {
         return;
     };
     match Synced::copy(&new, alloc) {
-        Ok(copy) => assert!(rt; copy.is_same(&new)),
+        Ok(copy) => assert!(rt; is_same(&copy, &new)),
         Err(fault) => assert_eq!(rt; fault, Fault::OutOfMemory),
     }
     assert!(rt; is_changed_or_kept(alloc, old, &new));

@@ -1,6 +1,7 @@
 //! The two ends of a line of numbered states: what each call leaves, over numbers and over screens.
 use crate::counters::Counter;
-use roam_cells::{Fault, Shot};
+use roam_cells::Fault;
+use roam_screens::{RowShot, Seen};
 use roam_sync::{Receiver, Sender, Step};
 use roam_update::Synced;
 use std::alloc::Global;
@@ -23,9 +24,9 @@ impl Numbered for Counter {
     }
 }
 
-impl Numbered for Shot {
-    fn of(alloc: Global, number: u64) -> Result<Shot, Fault> {
-        Shot::blank(alloc, 2 + (number % 64) as u16, 8)
+impl Numbered for RowShot {
+    fn of(alloc: Global, number: u64) -> Result<RowShot, Fault> {
+        RowShot::blank(alloc, 2 + (number % 64) as u16, 8)
     }
 
     fn is(&self, number: u64) -> bool {
@@ -145,7 +146,7 @@ fn a_sender_of_numbers(rt: HostRuntime) -> Result<(), Fail> {
 
 #[test]
 fn a_sender_of_screens(rt: HostRuntime) -> Result<(), Fail> {
-    let mut sender = Sender::new(rt.alloc(), Shot::of(rt.alloc(), 0)?)?;
+    let mut sender = Sender::new(rt.alloc(), <RowShot as Numbered>::of(rt.alloc(), 0)?)?;
     for step in SENDING {
         assert!(rt; does(rt.alloc(), &mut sender, step)?, "{step:?}");
     }
@@ -213,8 +214,8 @@ fn a_receiver_of_numbers(rt: HostRuntime) -> Result<(), Fail> {
 
 #[test]
 fn a_receiver_of_screens(rt: HostRuntime) -> Result<(), Fail> {
-    assert!(rt; takes_all::<Shot>(rt.alloc(), &FEW)?);
-    assert!(rt; takes_all::<Shot>(rt.alloc(), &MANY)?);
+    assert!(rt; takes_all::<RowShot>(rt.alloc(), &FEW)?);
+    assert!(rt; takes_all::<RowShot>(rt.alloc(), &MANY)?);
     Ok(())
 }
 

@@ -11,3 +11,5 @@ mod counters;
 mod ends;
 #[cfg(test)]
 mod lines;
+#[cfg(test)]
+mod tables;

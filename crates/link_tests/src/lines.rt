@@ -5,7 +5,8 @@ ghost use Rattle.roam_sync.specs.Lines.{update_of, IsChange, Delivers};
 ghost use Rattle.roam_sync.specs.Laws.{EachPairIsTrue, OneRoundSuffices};
 
 use crate::counters::Counter;
-use roam_cells::{Fault, Shot};
+use roam_cells::Fault;
+use roam_screens::{RowShot, Seen};
 use roam_sync::{Instruction, Receiver, Sender, Step, laws};
 use roam_update::Synced;
 use std::alloc::Global;
@@ -28,9 +29,9 @@ impl Numbered for Counter {
     }
 }
 
-impl Numbered for Shot {
-    fn of(alloc: Global, number: u64) -> Result<Shot, Fault> {
-        Shot::blank(alloc, 2 + (number % 64) as u16, 8)
+impl Numbered for RowShot {
+    fn of(alloc: Global, number: u64) -> Result<RowShot, Fault> {
+        RowShot::blank(alloc, 2 + (number % 64) as u16, 8)
     }
 
     fn is(&self, number: u64) -> bool {
@@ -250,7 +251,7 @@ fn a_line_of_numbers(rt: HostRuntime) -> Result<(), Fail> {
 
 #[test]
 fn a_line_of_screens(rt: HostRuntime) -> Result<(), Fail> {
-    let wrong = wrong_in_all::<Shot>(rt.alloc())?;
+    let wrong = wrong_in_all::<RowShot>(rt.alloc())?;
     assert!(rt; wrong.is_none(), "{wrong:?}");
     Ok(())
 }
@@ -334,7 +335,7 @@ fn first_undue<S: Numbered>(alloc: Global) -> Result<Option<Moment>, Fault> {
 fn a_newest_state_is_due(rt: HostRuntime) -> Result<(), Fail> {
     let numbers = first_undue::<Counter>(rt.alloc())?;
     assert!(rt; numbers.is_none(), "{numbers:?}");
-    let screens = first_undue::<Shot>(rt.alloc())?;
+    let screens = first_undue::<RowShot>(rt.alloc())?;
     assert!(rt; screens.is_none(), "{screens:?}");
     Ok(())
 }
@@ -367,7 +368,7 @@ fn a_refused_line_of_numbers(rt: HostRuntime) {
 
 #[test]
 fn a_refused_line_of_screens(rt: HostRuntime) {
-    let kept = refused_leaves::<Shot>(rt.alloc());
+    let kept = refused_leaves::<RowShot>(rt.alloc());
     assert!(rt; kept == Ok(true) || kept == Err(Fault::OutOfMemory));
 }
 
@@ -378,9 +379,9 @@ fn the_laws_hold_of_screens(_rt: HostRuntime) {
 }
 
 fn laws_of_screens()
-    ensures pairs { EachPairIsTrue ⟦<Shot as Synced>⟧.applied }
-    ensures round { OneRoundSuffices ⟦<Shot as Synced>⟧.applied }
+    ensures pairs { EachPairIsTrue ⟦<RowShot as Synced>⟧.applied }
+    ensures round { OneRoundSuffices ⟦<RowShot as Synced>⟧.applied }
 {
-    laws::each_pair_is_true::<Shot>();
-    laws::one_round_suffices::<Shot>();
+    laws::each_pair_is_true::<RowShot>();
+    laws::one_round_suffices::<RowShot>();
 }

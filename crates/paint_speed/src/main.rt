@@ -4,8 +4,9 @@
 #![tactic(auto)]
 
 use anyhow::{Context, bail};
-use roam_cells::{Fault, Shot};
+use roam_cells::Fault;
 use roam_paint::paint;
+use roam_screens::Shot;
 use roam_term::Term;
 use std::alloc::Global;
 use std::env;

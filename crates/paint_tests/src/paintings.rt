@@ -1,6 +1,7 @@
 //! Paintings, each shown by a terminal that stood in the middle of a sequence before it was opened.
-use roam_cells::{Cell, Shot};
+use roam_cells::{Cell, Fault};
 use roam_paint::{open, paint};
+use roam_screens::Shot;
 use roam_term::Term;
 use std::alloc::Global;
 use std::test::*;
@@ -18,7 +19,7 @@ struct Pair {
     new: (u16, u16, &'static str),
 }
 
-static TEXTS: [Text; 13] = [
+static TEXTS: [Text; 14] = [
     Text {
         old: "",
         new: "",
@@ -69,6 +70,12 @@ static TEXTS: [Text; 13] = [
         old: "",
         new: "\x1B[1;7H中\r\ni",
         text: "\x1B[?25l\x1B[1;7H中\x1B[2;1Hi\x1B[0m\x1B[2;2H\x1B[?25h",
+    },
+    // Mixtures have sequences of their own behind the cell's SGR; an empty number is 0.
+    Text {
+        old: "",
+        new: "\x1B[1;38;2;10;20;30;48;2;;0;255ma",
+        text: "\x1B[?25l\x1B[1;1H\x1B[0;1m\x1B[38;2;10;20;30m\x1B[48;2;0;0;255ma\x1B[0m\x1B[1;2H\x1B[?25h",
     },
     // A style stays set over places that don't differ, and over rows.
     Text {
@@ -416,4 +423,37 @@ fn opens_text(rt: HostRuntime) -> Result<(), Fail> {
     open(&mut text)?;
     assert!(rt; text.as_slice() == b"a\x1Bc".as_slice());
     Ok(())
+}
+
+// Whether a text is painted behind what stands there; where memory is refused nothing is added, and the same call then adds it.
+fn is_painted_or_kept(old: &Shot, new: &Shot, out: &mut Vec<u8>, text: &str) -> bool {
+    let before = out.len();
+    if paint(old, new, out).is_err() && (out.len() != before || paint(old, new, out).is_err()) {
+        return false;
+    }
+    out.len() == before + text.len() && out.as_slice().ends_with(text.as_bytes())
+}
+
+// The screen of 2 by 8 that these bytes make.
+fn shown(alloc: Global, input: &[u8]) -> Result<Shot, Fault> {
+    let mut term = Term::new(alloc, 2, 8, 0)?;
+    term.feed(input)?;
+    term.shot(alloc, 0)
+}
+
+fn is_painted_or_nothing(alloc: Global) -> Result<bool, Fault> {
+    let old = shown(alloc, b"a")?;
+    let new = shown(alloc, b"\x1B[1mb\x1B[2;1H\x1B[38;5;9mc")?;
+    let mut out = Vec::from_slice(alloc, b"before")?;
+    let text = "\x1B[?25l\x1B[1;1H\x1B[0;1mb\x1B[2;1H\x1B[0;1;38;5;9mc\x1B[0m\x1B[2;2H\x1B[?25h";
+    Ok(is_painted_or_kept(&old, &new, &mut out, text))
+}
+
+// To be run with each of its allocations refused in turn, too. What the values themselves have no memory for ends it.
+#[test]
+fn refused_memory_paints_nothing(rt: HostRuntime) {
+    match is_painted_or_nothing(rt.alloc()) {
+        Ok(is_painted) => assert!(rt; is_painted),
+        Err(fault) => assert!(rt; fault == Fault::OutOfMemory),
+    }
 }

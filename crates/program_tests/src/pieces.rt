@@ -1,5 +1,6 @@
 //! The terminal of a pane, fed by pieces: sizes, the queue of answers, renditions. What text and moves make of a screen stands in `shows`.
-use roam_cells::{Colour, Fault, Shot, Style};
+use roam_cells::{Colour, Fault, Style};
+use roam_screens::Shot;
 use roam_term::{MOST_PIECE, Term};
 use std::alloc::Global;
 use std::test::*;
@@ -22,8 +23,8 @@ const RENDERED: &str = "\
 \x1B[38;5;255;48;5;0m|foreground=255 background=0
 \x1B[38;5;256;1m|bold
 \x1B[38;5;;1m|foreground=0 bold
-\x1B[38;2;1;4;7;1m|bold
-\x1B[48;2;1;4;7;3m|italic
+\x1B[38;2;1;4;7;1m|foreground=1,4,7 bold
+\x1B[48;2;1;4;7;3m|background=1,4,7 italic
 \x1B[1;38;3;4m|bold
 \x1B[1;38m|bold
 \x1B[1;48;5m|bold
@@ -31,16 +32,29 @@ const RENDERED: &str = "\
 \x1B[6;10;26;38;9;1m|plain
 \x1B[?1m\x1B[>4m\x1B[1 m|plain";
 
+fn part_of(text: &str) -> Option<u8> {
+    text.parse::<u8>().ok()
+}
+
+// A place in the table, or a mixture of three parts.
+fn colour_of(text: &str) -> Option<Colour> {
+    let Some((red, rest)) = text.split_once(',') else {
+        return Some(Colour::Index(part_of(text)?));
+    };
+    let (green, blue) = rest.split_once(',')?;
+    Some(Colour::Rgb(part_of(red)?, part_of(green)?, part_of(blue)?))
+}
+
 fn add_colour(style: &mut Style, word: &str) -> bool {
     let Some((name, index)) = word.split_once('=') else {
         return false;
     };
-    let Ok(index) = index.parse::<u8>() else {
+    let Some(colour) = colour_of(index) else {
         return false;
     };
     match name {
-        "foreground" => style.foreground = Colour::Index(index),
-        "background" => style.background = Colour::Index(index),
+        "foreground" => style.foreground = colour,
+        "background" => style.background = colour,
         _ => return false,
     }
     true
@@ -75,7 +89,9 @@ fn style_of(words: &str) -> Option<Style> {
 // A character in this style, unguarded.
 fn is_drawn(shot: &Shot, style: Style) -> bool {
     match shot.at(1, 1) {
-        Some(cell) => cell.chars() == ['a'].as_slice() && cell.style() == style && !cell.guard(),
+        Some(cell) => cell.chars().as_slice() == ['a'].as_slice()
+            && cell.style() == style
+            && !cell.guard(),
         None => false,
     }
 }
@@ -142,13 +158,13 @@ fn size_shown(alloc: Global, term: &Term) -> Result<(u16, u16), Fault> {
     Ok((shot.rows(), shot.cols()))
 }
 
-static MADE: [(u16, u16, u16); 3] = [(2, 4, 0), (100, 250, 500), (24, 80, 1)];
+static MADE: [(u16, u16, u16); 3] = [(2, 4, 0), (200, 500, 500), (24, 80, 1)];
 
 static REFUSED: [(u16, u16, u16); 6] = [
     (1, 8, 0),
-    (101, 8, 0),
+    (201, 8, 0),
     (2, 3, 0),
-    (2, 251, 0),
+    (2, 501, 0),
     (2, 8, 501),
     (0, 0, 65535),
 ];

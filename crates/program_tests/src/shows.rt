@@ -655,7 +655,7 @@ fn the_largest_screen_is_written_whole(rt: HostRuntime) -> Result<(), Fail> {
 #[test]
 fn sizes_outside_the_limits_are_refused(rt: HostRuntime) {
     let mut out = Vec::new(rt.alloc());
-    for (rows, cols) in [(1, 8), (0, 8), (101, 8), (2, 3), (2, 251), (65535, 65535)] {
+    for (rows, cols) in [(1, 8), (0, 8), (201, 8), (2, 3), (2, 501), (65535, 65535)] {
         let ran = run_show(rt.alloc(), rows, cols, &mut b"abc".as_slice(), &mut out);
         assert!(rt;
             ran == Err(RunFault::Core(Fault::BadSize)),

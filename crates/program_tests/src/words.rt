@@ -1,6 +1,7 @@
 //! What the words ask for, and the texts of `clap` that a user reads.
 use roam_command::{Refusal, Request, read_words};
-use std::alloc::Global;
+use roam_wire::Version;
+use std::alloc::{AllocError, Global};
 use std::test::*;
 
 /// Words that ask for a text or are refused, the exit status, and the text.
@@ -10,7 +11,7 @@ struct Told {
     text: &'static str,
 }
 
-static TOLD: [Told; 8] = [
+static TOLD: [Told; 10] = [
     Told {
         words: &["roam", "show", "--rows", "x"],
         status: 2,
@@ -31,7 +32,7 @@ static TOLD: [Told; 8] = [
         words: &["roam", "show", "--help"],
         status: 0,
         text: "Feeds standard input to a terminal and prints the screen that it makes\n\nUsage: roam show --rows <R> --cols <C>\n\n\
-             Options:\n      --rows <R>  Rows of the screen, 2 to 100\n      --cols <C>  Columns of the screen, 4 to 250\n  \
+             Options:\n      --rows <R>  Rows of the screen, 2 to 200\n      --cols <C>  Columns of the screen, 4 to 500\n  \
              -h, --help      Print help\n",
     },
     Told {
@@ -59,6 +60,28 @@ static TOLD: [Told; 8] = [
         words: &["roam", "serve", "--dir", "d", "--port", "65536"],
         status: 2,
         text: "error: invalid value '65536' for '--port <P>': 65536 is not in 0..=65535\n\nFor more information, try '--help'.\n",
+    },
+    Told {
+        words: &["roam", "attach", "--wire", "3"],
+        status: 2,
+        text: "error: invalid value '3' for '--wire <V>': 3 is not in 1..=2\n\nFor more information, try '--help'.\n",
+    },
+    Told {
+        words: &["elsewhere/program", "attach", "--help"],
+        status: 0,
+        text: "Follows a session and paints it on standard output\n\n\
+             Usage: roam attach [OPTIONS] --port <P> --session <H> --client <H>\n\nOptions:\n      \
+             --port <P>     The UDP port on 127.0.0.1 of the server, as 4000\n      \
+             --session <H>  The session's id, 1 to 16 hexadecimal digits; each run of serve needs one of its own, as 5e55\n      \
+             --client <H>   The id of this start of a client, 1 to 16 hexadecimal digits; each start needs one of its own, as c1\n      \
+             --keys <PATH>  A file with the acts to type, one a line, as `char 61`, `key return` or `split right`; \
+             without it none are typed\n      \
+             --wire <V>     The version of the protocol, 1 or 2; 2 where it isn't given\n      \
+             --watch        Only watches: no act is typed\n      \
+             --turns <N>    How many turns the run takes, 18446744073709551615 where it isn't given. \
+             One that brings nothing waits up to 10 milliseconds; a busy pane takes thousands a second\n  \
+             -h, --help         Print help\n\n\
+             Example: roam attach --port 4000 --session 5e55 --client c1 --keys keys\n",
     },
 ];
 
@@ -140,12 +163,72 @@ fn words_of_attach(rt: HostRuntime) {
                 session,
                 client,
                 keys,
+                version,
+                watches,
                 turns,
             },
-        ) => port == 1 && session == 0 && client == u64::MAX && keys == "k" && turns == u64::MAX,
+        ) => {
+            port == 1
+                && session == 0
+                && client == u64::MAX
+                && keys == Some("k")
+                && version == Version::Two
+                && !watches
+                && turns == u64::MAX
+        }
         _ => false,
     };
     assert!(rt; attached);
+}
+
+/// What `attach` asks for with these words beside those that it needs: the version, whether it watches, the turns, whether keys are named.
+fn attaches(
+    alloc: Global,
+    more: &[&'static str],
+) -> Result<Option<(Version, bool, u64, bool)>, AllocError> {
+    let mut words = Vec::from_slice(alloc, &ATTACH)?;
+    words.truncate(2);
+    words.extend_from_slice(&ATTACH[6..])?;
+    words.extend_from_slice(more)?;
+    Ok(match read_words(alloc, &words) {
+        Ok(
+            Request::Attach {
+                version,
+                watches,
+                turns,
+                keys,
+                ..
+            },
+        ) => Some((version, watches, turns, keys.is_some())),
+        _ => None,
+    })
+}
+
+#[test]
+fn words_that_may_be_left_out(rt: HostRuntime) -> Result<(), Fail> {
+    let most = u64::MAX;
+    assert!(rt; attaches(rt.alloc(), &[])? == Some((Version::Two, false, most, false)));
+    assert!(rt;
+        attaches(rt.alloc(), &["--wire", "1"])? == Some((Version::One, false, most, false))
+    );
+    assert!(rt; attaches(rt.alloc(), &["--watch"])? == Some((Version::Two, true, most, false)));
+    assert!(rt;
+        attaches(rt.alloc(), &["--watch", "--keys", "k", "--turns", "7"])?
+            == Some((Version::Two, true, 7, true))
+    );
+    assert!(rt; attaches(rt.alloc(), &["--watch", "--wire", "2"])? == None);
+    assert!(rt; attaches(rt.alloc(), &["--wire", "0"])? == None);
+    let served = read_words(rt.alloc(), &SERVE[..8]);
+    assert!(rt;
+        matches!(
+            served,
+            Ok(Request::Serve {
+                turns: u64::MAX,
+                ..
+            })
+        )
+    );
+    Ok(())
 }
 
 /// The words of `serve` with this id are refused for it.

@@ -12,7 +12,7 @@ struct Story {
     text: &'static str,
 }
 
-static STORIES: [Story; 7] = [
+static STORIES: [Story; 10] = [
     Story {
         name: "a screen comes newest first, and an older one is old",
         text: "\
@@ -247,6 +247,95 @@ ok\n\
 cursor 1 3 shown\n",
     },
     Story {
+        name: "a watcher is shown screens and types nothing",
+        text: "\
+> session 1 4 8\n\
+ok\n\
+> watch 0 a1\n\
+ok\n\
+> type 0 char 61\n\
+E17\n\
+> ctick 0 0\n\
+sent 1-1\n\
+> up 1 5001 0\n\
+ok 0\n\
+> stick 0\n\
+sent 2-2\n\
+> down 0 2 0\n\
+new\n\
+> show 0\n\
+state 1\n\
+|        |\n\
+|        |\n\
+|        |\n\
+|[1]     |\n\
+cursor 1 1 shown\n",
+    },
+    Story {
+        name: "clients of both versions show one screen",
+        text: "\
+> session 1 4 8\n\
+ok\n\
+> start 0 a1 1\n\
+ok\n\
+> start 1 b1 2\n\
+ok\n\
+> ctick 0 0\n\
+sent 1-1\n\
+> ctick 1 0\n\
+sent 2-2\n\
+> up 1 5001 0\n\
+ok 0\n\
+> up 2 5002 0\n\
+ok 0\n\
+> pane 1 61\n\
+ok\n\
+> stick 0\n\
+sent 3-4\n\
+> down 0 3 0\n\
+new\n\
+> down 1 4 0\n\
+new\n\
+> show 0\n\
+state 1\n\
+|a       |\n\
+|        |\n\
+|        |\n\
+|[1]     |\n\
+cursor 1 2 shown\n\
+> show 1\n\
+state 1\n\
+|a       |\n\
+|        |\n\
+|        |\n\
+|[1]     |\n\
+cursor 1 2 shown\n",
+    },
+    Story {
+        name: "sizes beyond the limits are taken and do nothing",
+        text: "\
+> session 1 4 8\n\
+ok\n\
+> start 0 a1\n\
+ok\n\
+> type 0 size 201 80\n\
+ok\n\
+> type 0 size 200 501\n\
+ok\n\
+> type 0 size 3 8\n\
+ok\n\
+> ctick 0 0\n\
+sent 1-1\n\
+> up 1 5001 0\n\
+ok 3\n\
+> face\n\
+|        |\n\
+|        |\n\
+|        |\n\
+|[1]     |\n\
+cursor 1 1 shown\n",
+    },
+    Story {
         name: "a script of no events prints nothing",
         text: "\
 > # nothing\n\
@@ -292,7 +381,7 @@ fn stories(rt: HostRuntime) -> Result<(), Fail> {
 }
 
 /// Lines after `session 1 4 8` that end a run, each by itself.
-static BAD: [&str; 40] = [
+static BAD: [&str; 47] = [
     "face ",
     " face",
     "Face",
@@ -309,6 +398,13 @@ static BAD: [&str; 40] = [
     "start 0 +1",
     "start 0 12345678901234567",
     "start  0 a1",
+    "start 0 a1 0",
+    "start 0 a1 3",
+    "start 0 a1 01",
+    "start 0 a1 1 ",
+    "watch 0",
+    "watch 8 a1",
+    "watch 0 a1 2",
     "pane 1",
     "pane 1 ",
     "pane 1 6",
@@ -364,7 +460,7 @@ fn a_session_comes_first(rt: HostRuntime) {
         ("session 1 4\n", RunFault::Event(1)),
         ("session 10000000000000000 4 8\n", RunFault::Event(1)),
         ("session 1 3 8\nface\n", RunFault::Core(Fault::BadSize)),
-        ("session 1 4 251", RunFault::Core(Fault::BadSize)),
+        ("session 1 4 501", RunFault::Core(Fault::BadSize)),
     ];
     for (script, wanted) in rows {
         let mut out = Vec::new(rt.alloc());

@@ -11,7 +11,11 @@ use roam_play::run_world;
 use roam_show::run_show;
 use roam_sockets::{Attach, Serve, run_attach, run_serve};
 use std::io;
+use std::os::fd::RawFd;
 use std::process::ExitCode;
+
+/// The descriptor of standard output.
+const STANDARD_OUTPUT: RawFd = 1;
 
 fn main(rt: HostRuntime) -> ExitCode {
     let words = match words_of(&rt) {
@@ -53,6 +57,8 @@ fn run(rt: &HostRuntime, request: Request<'_>) -> Result<(), RunFault> {
             session,
             client,
             keys,
+            version,
+            watches,
             turns,
         } => run_attach(
             rt,
@@ -61,7 +67,10 @@ fn run(rt: &HostRuntime, request: Request<'_>) -> Result<(), RunFault> {
                 session,
                 client,
                 keys,
+                version,
+                watches,
                 turns,
+                painted_to: Some(STANDARD_OUTPUT),
             },
             io::writer(rt),
         ),

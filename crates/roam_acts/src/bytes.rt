@@ -1,5 +1,5 @@
 //! Acts as bytes, in both directions.
-ghost use Rattle.std.specs.Prelude.{◌≡◌, ℕ, ◌+◌, ◌≤◌, ◌++◌, ◌⊎◌, List, length, take, Some, None, IfOk, OnOk, OnErr, IfErr, IsOkUnless, MatchOption, MatchResult};
+ghost use Rattle.std.specs.Prelude.{◌≡◌, ℕ, ◌+◌, ◌<◌, ◌≤◌, ◌++◌, ◌⊎◌, List, length, take, Some, None, IfOk, OnOk, OnErr, IfErr, IsErrOf, IsOkUnless, MatchOption, MatchResult};
 ghost use Rattle.std.specs.List.{All};
 ghost use Rattle.roam_acts.specs.Acts.{IsAct, IsInRange};
 ghost use Rattle.roam_acts.specs.Kinds.{kind_of, width_of};
@@ -107,6 +107,7 @@ fn first_act(bytes: &[u8]) -> Option<(Act, &[u8])>
 fn acts_in(alloc: Global, count: usize, bytes: &[u8]) -> Result<Vec<Act>, Fault>
     ensures acts { MatchResult result (λ v. acts_in count bytes.now ≡ Some v.items)
         (λ e. (e ≡ Fault.OutOfMemory) ⊎ ((e ≡ Fault.BadDatagram Reason.Length) × (acts_in count bytes.now ≡ None))) }
+    ensures memory { IsErrOf result Fault.OutOfMemory → 0 < count }
 {
     let mut acts = Vec::new(alloc);
     let mut rest = bytes;
@@ -124,7 +125,7 @@ fn acts_in(alloc: Global, count: usize, bytes: &[u8]) -> Result<Vec<Act>, Fault>
 }
 
 /// The acts of a text that has exactly `count` of them and nothing after. `BadDatagram(Length)` where the bytes are no
-/// such text, `OutOfMemory`.
+/// such text, `OutOfMemory`, which a count of 0 is never refused with.
 pub fn read_acts(alloc: Global, count: usize, bytes: &[u8]) -> Result<Vec<Act>, Fault>
     // What is read has this text.
     ensures found { IfOk result (λ v. (length v.items ≡ count) × All IsAct v.items × (bytes.now ≡ acts_text v.items)) }
@@ -133,6 +134,7 @@ pub fn read_acts(alloc: Global, count: usize, bytes: &[u8]) -> Result<Vec<Act>, 
     ensures only { (acts : List Act) → length acts ≡ count → All IsAct acts → bytes.now ≡ acts_text acts
         → MatchResult result (λ v. v.items ≡ acts) (λ e. e ≡ Fault.OutOfMemory) }
     ensures fault { IfErr result (λ e. (e ≡ Fault.OutOfMemory) ⊎ (e ≡ Fault.BadDatagram Reason.Length)) }
+    ensures memory { IsErrOf result Fault.OutOfMemory → 0 < count }
 {
     acts_in(alloc, count, bytes)
 }

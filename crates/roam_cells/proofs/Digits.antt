@@ -1,9 +1,9 @@
 -- Binary digits: a flag put in front is the last digit, and half of the number is what was there before.
-use Rattle.std.proofs.Common.{◌≡◌, ℕ, ◌+◌, ◌*◌, ◌/◌, ◌%◌, ◌<◌, ◌≤◌, Bool, true, false, ◌==◌, refl, ap, ◌∙◌, arith}
+use Rattle.std.proofs.Common.{◌≡◌, ℕ, ◌+◌, ◌-◌, ◌*◌, ◌/◌, ◌%◌, ◌<◌, ◌≤◌, Bool, true, false, ◌==◌, eqb, leb, cond, refl, ap, ◌∙◌, arith}
+use Rattle.std.proofs.lemmas.Bool.{ne_eqb, lt-leb}
 use Rattle.roam_cells.specs.declared.styles.Style.{Style}
-use Rattle.roam_cells.specs.declared.styles.Colour.{Colour}
-use Rattle.roam_cells.specs.declared.styles.Colour.TheVariants.{Default, Index}
-use Rattle.roam_cells.specs.Inks.{digit, is_odd, flags_of, number_of, colour_of, style_of, ink_numbered}
+use Rattle.roam_cells.specs.declared.styles.Colour.TheVariants.{Default, Index, Rgb}
+use Rattle.roam_cells.specs.Inks.{digit, is_odd, flags_of, colour_of, style_of, ink_numbered, style_numbered}
 
 pub odd_digit : (b : Bool) (m : ℕ) → is_odd (digit b + 2 * m) ≡ b
 unfolding is_odd digit
@@ -24,15 +24,24 @@ unfolding is_odd digit
 last_digit true = refl
 last_digit false = refl
 
-colour_back : (c : Colour) → colour_of (number_of c) ≡ c
-unfolding number_of colour_of
-colour_back Default = refl
-colour_back (Index n) = refl
+-- a mixture comes back from its number
+pub mixture_back : (r g b n : ℕ) → n ≡ 257 + 65536 * r + 256 * g + b → g < 256 → b < 256 → colour_of n ≡ Rgb r g b
+unfolding colour_of
+mixture_back r g b n is green blue i =
+    let some : eqb n 0 ≡ false = ne_eqb n 0 (λ none. omega (arith, none, is)) in
+    let many : leb n 256 ≡ false = lt-leb n 256 (omega (arith, is)) in
+    let red_is : (n - 257) / 65536 ≡ r = omega (arith, is) in
+    let green_is : (n - 257) / 256 % 256 ≡ g = omega (arith, is) in
+    let blue_is : (n - 257) % 256 ≡ b = omega (arith, is) in
+    (ap (λ t. cond t Default (cond (leb n 256) (Index (n - 1)) (Rgb ((n - 257) / 65536) ((n - 257) / 256 % 256) ((n - 257) % 256)))) some
+    ∙ ap (λ t. cond t (Index (n - 1)) (Rgb ((n - 257) / 65536) ((n - 257) / 256 % 256) ((n - 257) % 256))) many
+    ∙ (λ j. Rgb (red_is j) (green_is j) (blue_is j))) i
 
 -- a style comes back from its numbers
-pub style_back : (s : Style) → style_of (flags_of s) (number_of s.foreground) (number_of s.background) ≡ s
+pub style_back : (s : Style) (front back : ℕ) → colour_of front ≡ s.foreground → colour_of back ≡ s.background
+    → style_of (flags_of s) front back ≡ s
 unfolding flags_of style_of
-style_back s i =
+style_back s front back fore_is back_is i =
     let f7 = digit s.strike in
     let f6 = digit s.conceal + 2 * f7 in
     let f5 = digit s.reverse + 2 * f6 in
@@ -56,24 +65,24 @@ style_back s i =
       reverse = (ap is_odd h5 ∙ odd_digit s.reverse f6) i;
       conceal = (ap is_odd h6 ∙ odd_digit s.conceal f7) i;
       strike = (ap is_odd h7 ∙ last_digit s.strike) i;
-      foreground = colour_back s.foreground i;
-      background = colour_back s.background i;
+      foreground = fore_is i;
+      background = back_is i;
     }
 
 -- the number of nine digits, a foreground and a background says the style and the guard of which it has the numbers
-pub ink_back : (s : Style) (g : Bool) (d f b n : ℕ) → d ≡ digit g + 2 * flags_of s → f ≡ number_of s.foreground → b ≡ number_of s.background
-    → n ≡ d + 512 * (f + 512 * b) → d < 512 → f ≤ 256 → ink_numbered n ≡ record { style = s; guarded = g }
+pub ink_back : (s : Style) (g : Bool) (d f b n : ℕ) → d ≡ digit g + 2 * flags_of s → colour_of f ≡ s.foreground → colour_of b ≡ s.background
+    → n ≡ d + 512 * (f + 33554432 * b) → d < 512 → f ≤ 16777472 → ink_numbered n ≡ record { style = s; guarded = g }
 unfolding ink_numbered
 ink_back s g d f b n digits front back sum low few i =
     let flags_in : n % 512 / 2 ≡ d / 2 = omega (arith, sum, low, few) in
-    let front_in : n / 512 % 512 ≡ f = omega (arith, sum, low, few) in
-    let back_in : n / 512 / 512 ≡ b = omega (arith, sum, low, few) in
-    let last : n ≡ digit g + 2 * (flags_of s + 256 * (f + 512 * b)) = omega (arith, sum, digits) in
+    let front_in : n / 512 % 33554432 ≡ f = omega (arith, sum, low, few) in
+    let back_in : n / 512 / 33554432 ≡ b = omega (arith, sum, low, few) in
+    let last : n ≡ digit g + 2 * (flags_of s + 256 * (f + 33554432 * b)) = omega (arith, sum, digits) in
     record {
-      style = (ap (λ k. style_of k (n / 512 % 512) (n / 512 / 512)) (flags_in ∙ ap (λ k. k / 2) digits ∙ half_digit g (flags_of s))
-          ∙ ap (λ k. style_of (flags_of s) k (n / 512 / 512)) (front_in ∙ front)
-          ∙ ap (λ k. style_of (flags_of s) (number_of s.foreground) k) (back_in ∙ back) ∙ style_back s) i;
-      guarded = (ap is_odd last ∙ odd_digit g (flags_of s + 256 * (f + 512 * b))) i;
+      style = (ap (λ k. style_of k (n / 512 % 33554432) (n / 512 / 33554432)) (flags_in ∙ ap (λ k. k / 2) digits ∙ half_digit g (flags_of s))
+          ∙ ap (λ k. style_of (flags_of s) k (n / 512 / 33554432)) front_in
+          ∙ ap (λ k. style_of (flags_of s) f k) back_in ∙ style_back s f b front back) i;
+      guarded = (ap is_odd last ∙ odd_digit g (flags_of s + 256 * (f + 33554432 * b))) i;
     }
 
 -- the number without its last digit says the same style, unguarded
@@ -81,7 +90,16 @@ pub ink_unguarded : (n m : ℕ) → m ≡ n / 2 * 2 → ink_numbered m ≡ recor
 unfolding ink_numbered
 ink_unguarded n m e i =
     let flags_in : m % 512 / 2 ≡ n % 512 / 2 = omega (arith, e) in
-    let front_in : m / 512 % 512 ≡ n / 512 % 512 = omega (arith, e) in
-    let back_in : m / 512 / 512 ≡ n / 512 / 512 = omega (arith, e) in
+    let front_in : m / 512 % 33554432 ≡ n / 512 % 33554432 = omega (arith, e) in
+    let back_in : m / 512 / 33554432 ≡ n / 512 / 33554432 = omega (arith, e) in
     let even : m ≡ digit false + 2 * (n / 2) = even_digit (n / 2) m (omega (arith, e)) in
     record { style = style_of (flags_in i) (front_in i) (back_in i); guarded = (ap is_odd even ∙ odd_digit false (n / 2)) i }
+
+-- the style of an ink is what its number without the last digit says
+pub style_of_ink : (n : ℕ) → style_numbered (n / 2) ≡ (ink_numbered n).style
+unfolding ink_numbered style_numbered
+style_of_ink n i =
+    let flags_in : n / 2 % 256 ≡ n % 512 / 2 = omega arith in
+    let front_in : n / 2 / 256 % 33554432 ≡ n / 512 % 33554432 = omega arith in
+    let back_in : n / 2 / 256 / 33554432 ≡ n / 512 / 33554432 = omega arith in
+    style_of (flags_in i) (front_in i) (back_in i)

@@ -5,6 +5,6 @@ pub mod Joining
 pub mod Places
 pub mod Rows
 pub mod Scalars
-pub mod Screens
 pub mod Sameness
+pub mod CellLists
 pub mod Words

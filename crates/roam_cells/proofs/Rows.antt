@@ -2,7 +2,6 @@
 use Rattle.std.proofs.Common.{◌≡◌, ℕ, true, false, List, [], ◌∷◌, map, refl}
 use Rattle.unicode_width.proofs.Computing.{unicode_width}
 use Rattle.roam_cells.specs.Glyph.{Glyph, is_cell_text, is_wide, blank, right_of, default_style}
-use Rattle.roam_cells.specs.Screenshot.{row_text}
 use Rattle.roam_cells.specs.Width.{width_of, is_joiner}
 
 -- A, U+4E2D, U+0301, U+200B, U+0007, U+00AD, U+1F600, U+FE0F, U+17D8
@@ -41,7 +40,3 @@ wide = record { points = 0x4E2D ∷ []; style = default_style; guarded = false }
 wide_cells : map is_wide (wide ∷ right_of wide ∷ blank ∷ []) ≡ true ∷ false ∷ false ∷ []
 unfolding unicode_width
 wide_cells = refl
-
--- the second row of 2 by 3: a right half gives no code point
-second_row : row_text 3 (blank ∷ blank ∷ blank ∷ wide ∷ right_of wide ∷ blank ∷ []) 1 ≡ 0x4E2D ∷ 32 ∷ []
-second_row = refl

@@ -1,11 +1,12 @@
 -- Words of cells: what is put together is what is read.
-use Rattle.std.proofs.Common.{◌≡◌, ℕ, ◌+◌, ◌-◌, ◌*◌, ◌/◌, ◌%◌, ◌<◌, inl, inr, Bool, true, false, ◌==◌, nat_lt, List, [], ◌∷◌, length, take, drop, replicate, sym, ap, ◌∙◌, arith}
+use Rattle.std.proofs.Common.{◌≡◌, ℕ, ◌+◌, ◌-◌, ◌*◌, ◌/◌, ◌%◌, ◌<◌, inl, inr, Bool, true, false, ◌==◌, nat_lt, List, take, drop, replicate, sym, ap, ◌∙◌, arith}
 use Rattle.std.proofs.lemmas.Bool.{false≢true, cases_lt}
 use Rattle.std.proofs.lemmas.Bool.Decides.{nat_tests}
-use Rattle.std.specs.Prelude.{slice_index}
+use Rattle.std.specs.Prelude.{All}
+use Rattle.std.specs.Char.{IsScalar}
 use Rattle.roam_cells.specs.Glyph.{is_wide_text, is_text}
 use Rattle.roam_cells.specs.Inks.{InkValue, IsInkNumber, digit, is_odd, ink_numbered}
-use Rattle.roam_cells.specs.Kept.{glyph_of, IsKept, inside_of, inside_back, count_in, wide_in}
+use Rattle.roam_cells.specs.Kept.{places, glyph_of, IsKept, inside_of, inside_back, count_in, wide_in}
 use Rattle.roam_cells.specs.declared.cells.Cell.TheInside.{Inside}
 use Rattle.roam_cells.proofs.Digits.{odd_digit}
 
@@ -14,24 +15,24 @@ pub wide_says : (wide : Bool) (d n w : ℕ) → d ≡ digit wide → w / 4 ≡ d
 wide_says wide d n w e f = ap is_odd (f ∙ ap (λ k. k + 2 * n) e) ∙ odd_digit wide n
 
 -- what keeps so many code points, their width and an ink
-pub kept_as : (points : List ℕ) (count n w : ℕ) (wide : Bool) → length points ≡ 3 → drop count points ≡ replicate (3 - count) 0
-    → wide ≡ is_wide_text (take count points) → is_text (take count points) ≡ true → IsInkNumber n
-    → count_in w ≡ count → wide_in w ≡ wide → w / 8 ≡ n → IsKept (record { points = points; word = w })
-kept_as points count n w wide three rest width text ink said says shows =
+pub kept_as : (p : ℕ) (points : List ℕ) (count n w : ℕ) (wide : Bool) → places p ≡ points → All IsScalar (places p)
+    → drop count points ≡ replicate (3 - count) 0 → wide ≡ is_wide_text (take count points) → is_text (take count points) ≡ true → IsInkNumber n
+    → count_in w ≡ count → wide_in w ≡ wide → w / 8 ≡ n → IsKept (record { points = p; word = w })
+kept_as p points count n w wide are scalars rest width text ink said says shows =
     record {
-      three = three;
-      rest = rw said rest;
-      width = rw said (says ∙ width);
-      text = rw said text;
+      rest = rw (said, are) rest;
+      width = rw (said, are) (says ∙ width);
+      text = rw (said, are) text;
+      scalars = scalars;
       ink = rw shows ink;
     }
 
 -- what is shown by what keeps them
-pub shown_as : (points : List ℕ) (count n w : ℕ) (ink : InkValue) → count_in w ≡ count → w / 8 ≡ n → ink_numbered n ≡ ink
-    → glyph_of (record { points = points; word = w }) ≡ record { points = take count points; style = ink.style; guarded = ink.guarded }
-shown_as points count n w ink said shows is i =
+pub shown_as : (p : ℕ) (points : List ℕ) (count n w : ℕ) (ink : InkValue) → places p ≡ points → count_in w ≡ count → w / 8 ≡ n → ink_numbered n ≡ ink
+    → glyph_of (record { points = p; word = w }) ≡ record { points = take count points; style = ink.style; guarded = ink.guarded }
+shown_as p points count n w ink are said shows is i =
     let same : ink_numbered (w / 8) ≡ ink = ap ink_numbered shows ∙ is in
-    record { points = take (said i) points; style = (same i).style; guarded = (same i).guarded }
+    record { points = take (said i) (are i); style = (same i).style; guarded = (same i).guarded }
 
 -- words that end in the same three digits say the same count and width
 pub same_shape : (v w : ℕ) → v % 8 ≡ w % 8 → (count_in v ≡ count_in w) × (wide_in v ≡ wide_in w)
@@ -67,19 +68,6 @@ says_narrow w h =
 pub fields_same : (a b : Inside) → IsKept a → IsKept b → glyph_of a ≡ glyph_of b → a ≡ b
 fields_same a b h k e = sym (inside_back a h) ∙ ap inside_of e ∙ inside_back b k
 
--- three code points are three code points
-pub three_same : (xs ys : List ℕ) → length xs ≡ 3 → length ys ≡ 3 → slice_index xs 0 ≡ slice_index ys 0
-    → slice_index xs 1 ≡ slice_index ys 1 → slice_index xs 2 ≡ slice_index ys 2 → xs ≡ ys
-three_same [] ys h k p q r = absurd (omega (arith, h))
-three_same (x ∷ []) ys h k p q r = absurd (omega (arith, h))
-three_same (x ∷ (y ∷ [])) ys h k p q r = absurd (omega (arith, h))
-three_same (x ∷ (y ∷ (z ∷ (t ∷ ts)))) ys h k p q r = absurd (omega (arith, h))
-three_same (x ∷ (y ∷ (z ∷ []))) [] h k p q r = absurd (omega (arith, k))
-three_same (x ∷ (y ∷ (z ∷ []))) (u ∷ []) h k p q r = absurd (omega (arith, k))
-three_same (x ∷ (y ∷ (z ∷ []))) (u ∷ (v ∷ [])) h k p q r = absurd (omega (arith, k))
-three_same (x ∷ (y ∷ (z ∷ []))) (u ∷ (v ∷ (w ∷ (t ∷ ts)))) h k p q r = absurd (omega (arith, k))
-three_same (x ∷ (y ∷ (z ∷ []))) (u ∷ (v ∷ (w ∷ []))) h k p q r = λ i. p i ∷ (q i ∷ (r i ∷ []))
-
--- cells with the same code points and the same word are one
+-- cells with the same fields are one
 pub glyph_same : (a b : Inside) → a.points ≡ b.points → a.word ≡ b.word → glyph_of a ≡ glyph_of b
 glyph_same a b p e i = glyph_of (record { points = p i; word = e i })

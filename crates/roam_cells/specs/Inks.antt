@@ -1,10 +1,10 @@
--- How a cell keeps its style and its guard as one number: the last nine binary digits are the guard and the flags, and each colour is nine.
-use Rattle.std.specs.Prelude.{◌≡◌, ℕ, zero, suc, ◌+◌, ◌*◌, ◌/◌, ◌%◌, ◌<◌, ◌≤◌, Bool, true, false, ◌==◌}
+-- How a cell keeps its style and its guard as one number: the last nine binary digits are the guard and the flags, and each colour is 25.
+use Rattle.std.specs.Prelude.{◌≡◌, ℕ, suc, ◌+◌, ◌-◌, ◌*◌, ◌/◌, ◌%◌, ◌<◌, ◌≤◌, Bool, true, false, ◌==◌, nat_le, if◌then◌else◌}
 use Rattle.std.proofs.Common.{◌⊎◌, inl, inr, refl, ap, ◌∙◌, arith}
-use Rattle.std.proofs.lemmas.Bool.{cases_eq}
+use Rattle.std.proofs.lemmas.Bool.{cases_eq, cases_lt, ne_eqb, le-leb, lt-leb}
 use Rattle.roam_cells.specs.declared.styles.Style.{Style}
 use Rattle.roam_cells.specs.declared.styles.Colour.{Colour}
-use Rattle.roam_cells.specs.declared.styles.Colour.TheVariants.{Default, Index}
+use Rattle.roam_cells.specs.declared.styles.Colour.TheVariants.{Default, Index, Rgb}
 use Rattle.roam_cells.specs.declared.inks.Ink.TheInside.{Inside}
 
 -- what a character is written with: its style (SGR, ECMA-48 8.3.117), and whether it is guarded (DECSCA, VT220 Programmer Reference)
@@ -31,10 +31,14 @@ flags_of s =
 unfoldable pub number_of : Colour → ℕ
 number_of Default = 0
 number_of (Index n) = suc n
+number_of (Rgb r g b) = 257 + 65536 * r + 256 * g + b
 
+-- the colour of a number: the terminal's own, one of a table of 256, or a mixture
 unfoldable pub colour_of : ℕ → Colour
-colour_of zero = Default
-colour_of (suc n) = Index n
+colour_of n =
+    if n == 0 then Default
+    else if nat_le n 256 then Index (n - 1)
+    else Rgb ((n - 257) / 65536) ((n - 257) / 256 % 256) ((n - 257) % 256)
 
 -- the style that these numbers say
 unfoldable pub style_of : ℕ → ℕ → ℕ → Style
@@ -54,16 +58,23 @@ style_of flags foreground background =
 
 -- what a number says: the guard is the last digit, the flags stand before it, then the foreground, then the background
 unfoldable pub ink_numbered : ℕ → InkValue
-ink_numbered n = record { style = style_of (n % 512 / 2) (n / 512 % 512) (n / 512 / 512); guarded = is_odd n }
+ink_numbered n = record { style = style_of (n % 512 / 2) (n / 512 % 33554432) (n / 512 / 33554432); guarded = is_odd n }
 
 -- the number that says it
 unfoldable pub number_of_ink : InkValue → ℕ
-number_of_ink v = digit v.guarded + 2 * flags_of v.style + 512 * (number_of v.style.foreground + 512 * number_of v.style.background)
+number_of_ink v = digit v.guarded + 2 * flags_of v.style + 512 * (number_of v.style.foreground + 33554432 * number_of v.style.background)
 
--- each colour is the terminal's own or one of 256
+-- the style that a number without the guard says, and the number that says it
+unfoldable pub style_numbered : ℕ → Style
+style_numbered n = style_of (n % 256) (n / 256 % 33554432) (n / 256 / 33554432)
+
+unfoldable pub style_number : Style → ℕ
+style_number s = flags_of s + 256 * (number_of s.foreground + 33554432 * number_of s.background)
+
+-- each colour is the terminal's own, one of 256, or one of 256 ^ 3
 pub record IsInkNumber (n : ℕ) : Type 0 where
-  pub foreground : n / 512 % 512 ≤ 256
-  pub background : n / 512 / 512 ≤ 256
+  pub foreground : n / 512 % 33554432 ≤ 16777472
+  pub background : n / 512 / 33554432 ≤ 16777472
 
 -- what an ink shows is what its number says
 abbrev pub ink_of : Inside → InkValue
@@ -93,8 +104,15 @@ digit_back n =
 
 number_back : (n : ℕ) → number_of (colour_of n) ≡ n
 unfolding number_of colour_of
-number_back zero = refl
-number_back (suc n) = refl
+number_back n =
+    elim (cases_eq n 0) [
+      | inl none ↦ rw none refl
+      | inr some ↦
+          elim (cases_lt 256 n) [
+            | inl many ↦ rw (ne_eqb n 0 some, lt-leb n 256 many) (omega (arith, many))
+            | inr few ↦ rw (ne_eqb n 0 some, le-leb n 256 few) (omega (arith, few, some))
+          ]
+    ]
 
 flags_back : (n : ℕ) → n < 256 → flags_of (style_of n 0 0) ≡ n
 unfolding flags_of style_of
@@ -113,13 +131,22 @@ flags_back n h =
       digit_back n,
     )
 
-digits_back : (n : ℕ) → digit (is_odd n) + 2 * flags_of (style_of (n % 512 / 2) (n / 512 % 512) (n / 512 / 512)) ≡ n % 512
+pub digits_back : (n : ℕ) → digit (is_odd n) + 2 * flags_of (style_of (n % 512 / 2) (n / 512 % 33554432) (n / 512 / 33554432)) ≡ n % 512
 unfolding flags_of style_of
 digits_back n = ap (λ k. digit (is_odd n) + 2 * k) (flags_back (n % 512 / 2) (omega arith)) ∙ omega (arith, digit_back n)
 
+style_digits_back : (n : ℕ) → flags_of (style_of (n % 256) (n / 256 % 33554432) (n / 256 / 33554432)) ≡ n % 256
+unfolding flags_of style_of
+style_digits_back n = flags_back (n % 256) (omega arith)
+
+-- two numbers that say one style are one
+pub style_number_back : (n : ℕ) → style_number (style_numbered n) ≡ n
+unfolding style_number style_numbered style_of
+style_number_back n = omega (arith, style_digits_back n, number_back (n / 256 % 33554432), number_back (n / 256 / 33554432))
+
 pub numbered_back : (n : ℕ) → number_of_ink (ink_numbered n) ≡ n
 unfolding number_of_ink ink_numbered style_of
-numbered_back n = omega (arith, digits_back n, number_back (n / 512 % 512), number_back (n / 512 / 512))
+numbered_back n = omega (arith, digits_back n, number_back (n / 512 % 33554432), number_back (n / 512 / 33554432))
 
 pub inside_back : (a : Inside) → IsInk a → inside_of (ink_of a) ≡ a
 inside_back a h i = record { number = numbered_back a.number i }

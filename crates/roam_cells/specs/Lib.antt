@@ -5,4 +5,3 @@ pub mod Kept
 pub mod Limits
 pub mod Place
 pub mod WellFormed
-pub mod Screenshot

@@ -1,16 +1,16 @@
 //! A style and a guard as a cell keeps them.
 ghost use Rattle.std.specs.Prelude.{◌≡◌, ◌↔◌, ◌≤◌, ◌<◌, ◌+◌, ◌*◌, false, IsTrue};
-ghost use Rattle.roam_cells.specs.Inks.{digit, is_odd, number_of, colour_of, ink_numbered, IsInkNumber};
+ghost use Rattle.roam_cells.specs.Inks.{digit, is_odd, number_of, colour_of, ink_numbered, style_numbered, IsInkNumber};
 
 use crate::styles::{Colour, Style};
 use std::marker::Model;
 
-/// A style and a guard in four bytes, so that cells are small and two of them are compared in two tests.
+/// A style and a guard in one number, so that cells are small and two of them are compared in few tests.
 #[derive(Clone, Copy)]
 pub struct Ink {
-    // Its binary digits from the last: the guard, the eight flags from bold to strike, nine of the foreground and nine of the background. A
-    // colour is 0 for the terminal's own and n + 1 for the index n.
-    number: u32,
+    // Its binary digits from the last: the guard, the eight flags from bold to strike, 25 of the foreground and 25 of the background. A
+    // colour is 0 for the terminal's own, n + 1 for the index n, and from 257 on a mixture, blue in the last eight digits.
+    number: u64,
 }
 
 impl Model for Ink {
@@ -29,7 +29,7 @@ impl Model for Ink {
 
 #[tactic(auto, unfolding(crate::specs::Inks::digit))]
 #[inline]
-pub(crate) fn digit(flag: bool) -> u32
+pub(crate) fn digit(flag: bool) -> u64
     ensures digit { result ≡ digit flag }
     ensures one { result ≤ 1 }
 {
@@ -38,34 +38,43 @@ pub(crate) fn digit(flag: bool) -> u32
 
 #[tactic(auto, unfolding(crate::specs::Inks::is_odd))]
 #[inline]
-pub(crate) fn is_odd(n: u32) -> bool
+pub(crate) fn is_odd(n: u64) -> bool
     ensures odd { result ≡ is_odd n }
 {
     n % 2 == 1
 }
 
-#[tactic(auto, unfolding(crate::specs::Inks::number_of))]
+#[tactic(auto, unfolding(crate::specs::Inks::number_of, crate::specs::Inks::colour_of))]
 #[inline]
 fn number_of(of: Colour) -> u32
     ensures number { result ≡ number_of of }
-    ensures few { result ≤ 256 }
+    ensures back { colour_of result ≡ of }
+    ensures few { result ≤ 16777472 }
 {
     match of {
         Colour::Default => 0,
         Colour::Index(n) => u32::from(n) + 1,
+        Colour::Rgb(r, g, b) => 257 + 65536 * u32::from(r) + 256 * u32::from(g) + u32::from(b),
     }
 }
 
 #[tactic(auto, unfolding(crate::specs::Inks::colour_of))]
 #[inline]
 fn colour_of(number: u32) -> Colour
-    requires few { number ≤ 256 }
+    requires few { number ≤ 16777472 }
     ensures colour { result ≡ colour_of number }
 {
     if number == 0 {
         Colour::Default
-    } else {
+    } else if number <= 256 {
         Colour::Index((number - 1) as u8)
+    } else {
+        let mixed = number - 257;
+        Colour::Rgb(
+            (mixed / 65536) as u8,
+            (mixed / 256 % 256) as u8,
+            (mixed % 256) as u8,
+        )
     }
 }
 
@@ -79,15 +88,16 @@ impl Ink {
         let looks = digit(style.blink) + 2 * (digit(style.reverse) + 2 * marks);
         let lines = digit(style.italic) + 2 * (digit(style.underline) + 2 * looks);
         let digits = digit(guard) + 2 * (digit(style.bold) + 2 * (digit(style.faint) + 2 * lines));
+        let colours = number_of(style.foreground) as u64
+            + 0x200_0000 * number_of(style.background) as u64;
         Ink {
-            number: digits
-                + 512 * (number_of(style.foreground) + 512 * number_of(style.background)),
+            number: digits + 512 * colours,
         }
     }
 
     /// The ink of a number that an ink has.
     #[inline]
-    pub(crate) fn numbered(number: u32) -> Self
+    pub(crate) fn numbered(number: u64) -> Self
         requires ink { IsInkNumber number }
         ensures ink { result ≡ ink_numbered number }
     {
@@ -96,7 +106,7 @@ impl Ink {
 
     /// Its number.
     #[inline]
-    pub(crate) fn number(&self) -> u32
+    pub(crate) fn number(&self) -> u64
         ensures number { ink_numbered result ≡ self.now }
         ensures ink { IsInkNumber result }
     {
@@ -119,9 +129,17 @@ impl Ink {
             reverse: is_odd(flags / 2 / 2 / 2 / 2 / 2),
             conceal: is_odd(flags / 2 / 2 / 2 / 2 / 2 / 2),
             strike: is_odd(flags / 2 / 2 / 2 / 2 / 2 / 2 / 2),
-            foreground: colour_of(self.number / 512 % 512),
-            background: colour_of(self.number / 512 / 512),
+            foreground: colour_of((self.number / 512 % 0x200_0000) as u32),
+            background: colour_of((self.number / 512 / 0x200_0000) as u32),
         }
+    }
+
+    /// The number of its style, by which styles are compared and looked up.
+    #[inline]
+    pub fn style_number(&self) -> u64
+        ensures style { style_numbered result ≡ self.now.style }
+    {
+        self.number / 2
     }
 
     /// Whether it is guarded.
@@ -143,11 +161,43 @@ impl Ink {
         }
     }
 
+    /// The same ink in another colour.
+    #[inline]
+    pub fn with_foreground(self, colour: Colour) -> Self
+        ensures ink { result ≡ record self { style = record self.style { foreground = colour } } }
+    {
+        let was = self.number / 512 % 0x200_0000;
+        Ink {
+            number: self.number - 512 * was + 512 * number_of(colour) as u64,
+        }
+    }
+
+    /// The same ink on another colour.
+    #[inline]
+    pub fn with_background(self, colour: Colour) -> Self
+        ensures ink { result ≡ record self { style = record self.style { background = colour } } }
+    {
+        let was = self.number / 512 / 0x200_0000;
+        Ink {
+            number: self.number - 0x4_0000_0000 * was + 0x4_0000_0000 * number_of(colour) as u64,
+        }
+    }
+
     /// Whether two inks are one: in style and guard.
     #[inline]
     pub fn is_same(&self, other: &Self) -> bool
         ensures same { IsTrue result ↔ (self.now ≡ other.now) }
     {
         self.number == other.number
+    }
+}
+
+impl Style {
+    /// A number that says the style: two styles are one exactly where their numbers are.
+    #[inline]
+    pub fn number(self) -> u64
+        ensures style { style_numbered result ≡ self }
+    {
+        Ink::new(self, false).style_number()
     }
 }

@@ -5,11 +5,11 @@ ghost use Rattle.roam_cells.specs.Limits.{IsSize};
 /// The fewest rows of a screen.
 pub const LEAST_ROWS: u16 = 2;
 /// The most rows of a screen.
-pub const MOST_ROWS: u16 = 100;
+pub const MOST_ROWS: u16 = 200;
 /// The fewest columns of a screen.
 pub const LEAST_COLUMNS: u16 = 4;
 /// The most columns of a screen.
-pub const MOST_COLUMNS: u16 = 250;
+pub const MOST_COLUMNS: u16 = 500;
 
 /// Whether a screen may have this size, in rows and columns.
 pub fn is_size(rows: u16, cols: u16) -> bool

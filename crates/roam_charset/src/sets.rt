@@ -91,12 +91,16 @@ impl Sets {
 
     /// What a printed character shows, by the set of the single shift that waits, else by that of the locking shift.
     /// A single shift is spent, also by a character that no set touches.
+    #[inline]
     pub fn map(&mut self, c: char) -> char
         ensures mapped { result ≡ mapped_by (in_use self.old) c }
         ensures spent { self.new ≡ spent self.old }
     {
         let set = self.set_in(self.single.unwrap_or(self.locked));
         self.single = None;
+        if '\u{7E}' < c {
+            return c;
+        }
         set.map(c)
     }
 

@@ -1,5 +1,5 @@
 //! The subcommands, with their options and their helps.
-use crate::options::{Needed, Reads};
+use crate::options::{Choice, Reads};
 use clap::Command;
 use std::alloc::{AllocError, Global};
 
@@ -7,7 +7,9 @@ use std::alloc::{AllocError, Global};
 const LINES: &str = "\
 Lines, with one space between words:
   session ID R C      A session begins, of R rows and C columns; the first line
-  start SLOT ID       A client starts in a slot, 0 to 7
+  start SLOT ID V     A client of version V, 1 or 2, starts in a slot, 0 to 7;
+                      without V one of version 1
+  watch SLOT ID       A client that only watches starts, of version 2
   pane P HEX          Bytes come from the program of pane P
   type SLOT ACT       An act is typed: char 61, key up, split right, split down,
                       close, focus 2, next, grow 3, size 24 80, view -1
@@ -36,12 +38,12 @@ Example:
                       |[1]     |
                       cursor 1 3 shown";
 
-/// A subcommand: its name, what it does, what else its help says, and the options that have to be given.
+/// A subcommand: its name, what it does, what else its help says, and its options.
 struct Subcommand {
     name: &'static str,
     about: &'static str,
     more: Option<&'static str>,
-    options: &'static [Needed<'static>],
+    options: &'static [Choice<'static>],
 }
 
 const SHOW: Subcommand = Subcommand {
@@ -49,17 +51,21 @@ const SHOW: Subcommand = Subcommand {
     about: "Feeds standard input to a terminal and prints the screen that it makes",
     more: None,
     options: &[
-        Needed {
+        Choice {
             name: "rows",
             value: "R",
-            help: "Rows of the screen, 2 to 100",
+            help: "Rows of the screen, 2 to 200",
             reads: Reads::Small,
+            needed: true,
+            excludes: None,
         },
-        Needed {
+        Choice {
             name: "cols",
             value: "C",
-            help: "Columns of the screen, 4 to 250",
+            help: "Columns of the screen, 4 to 500",
             reads: Reads::Small,
+            needed: true,
+            excludes: None,
         },
     ],
 };
@@ -71,36 +77,45 @@ const WORLD: Subcommand = Subcommand {
     options: &[],
 };
 
-const SESSION: Needed<'static> = Needed {
+const SESSION: Choice<'static> = Choice {
     name: "session",
     value: "H",
     help: "The session's id, 1 to 16 hexadecimal digits; each run of serve needs one of its own, as 5e55",
     reads: Reads::Word,
+    needed: true,
+    excludes: None,
 };
 
-const TURNS: Needed<'static> = Needed {
+const TURNS: Choice<'static> = Choice {
     name: "turns",
     value: "N",
-    help: "How many turns the run takes; one that brings nothing waits up to 10 milliseconds, so 100000 idle ones are some 17 minutes",
+    help: "How many turns the run takes, 18446744073709551615 where it isn't given. One that brings nothing waits up to 10 milliseconds; \
+           a busy pane takes thousands a second",
     reads: Reads::Large,
+    needed: false,
+    excludes: None,
 };
 
 const SERVE: Subcommand = Subcommand {
     name: "serve",
     about: "Serves a session of 24 rows and 80 columns, whose panes are reached at sockets",
-    more: Some("Example: roam serve --dir /tmp/roam --port 4000 --session 5e55 --turns 1000000"),
+    more: Some("Example: roam serve --dir /tmp/roam --port 4000 --session 5e55"),
     options: &[
-        Needed {
+        Choice {
             name: "dir",
             value: "D",
-            help: "The folder in which the panes' sockets p1 to p9 are made, and removed at the end, as /tmp/roam",
+            help: "The folder of the panes' sockets p1 to p9, as /tmp/roam; what a killed server left there is made anew",
             reads: Reads::Word,
+            needed: true,
+            excludes: None,
         },
-        Needed {
+        Choice {
             name: "port",
             value: "P",
-            help: "The UDP port on 127.0.0.1 at which clients reach it, as 4000",
+            help: "The UDP port on 127.0.0.1 at which clients reach it, as 4000; with 0 any that is free, which is told on standard error",
             reads: Reads::Small,
+            needed: true,
+            excludes: None,
         },
         SESSION,
         TURNS,
@@ -110,28 +125,48 @@ const SERVE: Subcommand = Subcommand {
 const ATTACH: Subcommand = Subcommand {
     name: "attach",
     about: "Follows a session and paints it on standard output",
-    more: Some(
-        "Example: roam attach --port 4000 --session 5e55 --client c1 --keys keys --turns 1000",
-    ),
+    more: Some("Example: roam attach --port 4000 --session 5e55 --client c1 --keys keys"),
     options: &[
-        Needed {
+        Choice {
             name: "port",
             value: "P",
             help: "The UDP port on 127.0.0.1 of the server, as 4000",
             reads: Reads::Small,
+            needed: true,
+            excludes: None,
         },
         SESSION,
-        Needed {
+        Choice {
             name: "client",
             value: "H",
             help: "The id of this start of a client, 1 to 16 hexadecimal digits; each start needs one of its own, as c1",
             reads: Reads::Word,
+            needed: true,
+            excludes: None,
         },
-        Needed {
+        Choice {
             name: "keys",
             value: "PATH",
-            help: "A file with the acts to type, one a line, as `char 61`, `key return` or `split right`",
+            help: "A file with the acts to type, one a line, as `char 61`, `key return` or `split right`; without it none are typed",
             reads: Reads::Word,
+            needed: false,
+            excludes: None,
+        },
+        Choice {
+            name: "wire",
+            value: "V",
+            help: "The version of the protocol, 1 or 2; 2 where it isn't given",
+            reads: Reads::Version,
+            needed: false,
+            excludes: None,
+        },
+        Choice {
+            name: "watch",
+            value: "",
+            help: "Only watches: no act is typed",
+            reads: Reads::Nothing,
+            needed: false,
+            excludes: Some("wire"),
         },
         TURNS,
     ],
@@ -145,7 +180,7 @@ fn command_of<'a>(alloc: Global, subcommand: &Subcommand) -> Result<Command<'a>,
         command = command.after_help(text);
     }
     for option in subcommand.options {
-        command = command.arg(option.arg(alloc))?;
+        command = command.arg(option.arg(alloc)?)?;
     }
     Ok(command)
 }
@@ -161,7 +196,9 @@ fn with_subcommand<'a>(
 
 /// The program `roam` and its subcommands.
 pub fn program<'a>(alloc: Global) -> Result<Command<'a>, AllocError> {
+    // Its usage names `roam` under whatever name it was started.
     let mut program = Command::new(alloc, "roam")
+        .bin_name("roam")?
         .version("0.1.0")
         .about("A roaming terminal multiplexer")
         .subcommand_required(true);

@@ -1,35 +1,46 @@
 //! The options of a subcommand, as rows of tables.
-use clap::{Arg, value_parser};
-use std::alloc::Global;
+use clap::{Arg, ArgAction, value_parser};
+use std::alloc::{AllocError, Global};
 
-/// An option that has to be given: its long name, what its value is called, its help, and how the value is read.
-pub struct Needed<'a> {
+/// An option: its long name, what its value is called, its help, how the value is read, whether it has to be given, and which other one
+/// can't be given beside it.
+pub struct Choice<'a> {
     pub name: &'a str,
     pub value: &'a str,
     pub help: &'a str,
     pub reads: Reads,
+    pub needed: bool,
+    pub excludes: Option<&'a str>,
 }
 
-/// How the value of an option is read: as a word, or as a number up to 65,535 or to 2^64 - 1.
+/// How the value of an option is read: as a word, as a number up to 65,535 or to 2^64 - 1, as a version, 1 or 2; or it has none.
 #[derive(Clone, Copy)]
 pub enum Reads {
     Word,
     Small,
     Large,
+    Version,
+    Nothing,
 }
 
-impl<'a> Needed<'a> {
+impl<'a> Choice<'a> {
     /// The option as `clap` takes it.
-    pub fn arg(&self, alloc: Global) -> Arg<'a> {
-        let arg = Arg::new(alloc, self.name)
+    pub fn arg(&self, alloc: Global) -> Result<Arg<'a>, AllocError> {
+        let mut arg = Arg::new(alloc, self.name)
             .long(self.name)
-            .value_name(self.value)
             .help(self.help)
-            .required(true);
-        match self.reads {
-            Reads::Word => arg,
-            Reads::Small => arg.value_parser(value_parser!(u16)),
-            Reads::Large => arg.value_parser(value_parser!(u64)),
+            .required(self.needed);
+        if let Some(other) = self.excludes {
+            arg = arg.conflicts_with(other)?;
         }
+        Ok(match self.reads {
+            Reads::Word => arg.value_name(self.value),
+            Reads::Small => arg.value_name(self.value).value_parser(value_parser!(u16)),
+            Reads::Large => arg.value_name(self.value).value_parser(value_parser!(u64)),
+            Reads::Version => arg
+                .value_name(self.value)
+                .value_parser(value_parser!(u16).range(1..=2)),
+            Reads::Nothing => arg.action(ArgAction::SetTrue),
+        })
     }
 }

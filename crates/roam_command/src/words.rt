@@ -3,6 +3,7 @@ use crate::commands::program;
 use clap::error::ErrorKind;
 use clap::{ArgMatches, Error};
 use roam_numbers::id;
+use roam_wire::Version;
 use std::alloc::Global;
 use std::convert::AsStr;
 
@@ -19,7 +20,8 @@ pub enum Request<'a> {
     /// `roam world`: a script is played.
     World,
 
-    /// `roam serve`: a server of this session for so many turns, on this port of loopback, with its panes' sockets in this folder.
+    /// `roam serve`: a server of this session for so many turns (2^64 - 1 where the words name none), on this port of loopback, with its
+    /// panes' sockets in this folder.
     Serve {
         folder: &'a str,
         port: u16,
@@ -28,12 +30,14 @@ pub enum Request<'a> {
     },
 
     /// `roam attach`: a client start with this id for so many turns, of the session that is served on this port of loopback, with the
-    /// acts of the file `keys`.
+    /// acts of the file `keys` where there is one; it speaks this version, and may only watch.
     Attach {
         port: u16,
         session: u64,
         client: u64,
-        keys: &'a str,
+        keys: Option<&'a str>,
+        version: Version,
+        watches: bool,
         turns: u64,
     },
 }
@@ -56,38 +60,49 @@ fn id_in(matches: &ArgMatches<'_>, name: &str) -> Result<u64, Refusal> {
     }
 }
 
+// How many turns a run takes: as many as can be counted, where no number is given.
+fn turns_in(matches: &ArgMatches<'_>) -> u64 {
+    matches.get_one::<u64>("turns").unwrap_or(u64::MAX)
+}
+
 // What `roam serve` is asked for. `BadId` where an id is none.
 fn serve_of<'a>(matches: &ArgMatches<'a>) -> Result<Request<'a>, Refusal> {
     let session = id_in(matches, "session")?;
     if let Some(folder) = matches.get_str("dir")
         && let Some(port) = matches.get_one::<u16>("port")
-        && let Some(turns) = matches.get_one::<u64>("turns")
     {
         return Ok(Request::Serve {
             folder,
             port,
             session,
-            turns,
+            turns: turns_in(matches),
         });
     }
     // Not reached: clap takes no words without them.
     Err(Refusal::NoText)
 }
 
+// The version that a client start speaks: the second, where the first isn't asked for.
+fn version_in(matches: &ArgMatches<'_>) -> Version {
+    match matches.get_one::<u16>("wire") {
+        Some(1) => Version::One,
+        _ => Version::Two,
+    }
+}
+
 // What `roam attach` is asked for. `BadId` where an id is none.
 fn attach_of<'a>(matches: &ArgMatches<'a>) -> Result<Request<'a>, Refusal> {
     let session = id_in(matches, "session")?;
     let client = id_in(matches, "client")?;
-    if let Some(keys) = matches.get_str("keys")
-        && let Some(port) = matches.get_one::<u16>("port")
-        && let Some(turns) = matches.get_one::<u64>("turns")
-    {
+    if let Some(port) = matches.get_one::<u16>("port") {
         return Ok(Request::Attach {
             port,
             session,
             client,
-            keys,
-            turns,
+            keys: matches.get_str("keys"),
+            version: version_in(matches),
+            watches: matches.get_flag("watch"),
+            turns: turns_in(matches),
         });
     }
     // Not reached: clap takes no words without them.

@@ -3,12 +3,19 @@ use Rattle.std.specs.Prelude.{ℕ, ◌-◌, ◌==◌, ◌&&◌, nat_le, true, fa
 use Rattle.roam_cells.specs.Glyph.{default_style}
 use Rattle.roam_cells.specs.declared.styles.Style.{Style}
 use Rattle.roam_cells.specs.declared.styles.Colour.{Colour}
-use Rattle.roam_cells.specs.declared.styles.Colour.TheVariants.{Default, Index}
+use Rattle.roam_cells.specs.declared.styles.Colour.TheVariants.{Default, Index, Rgb}
 use Rattle.roam_controls.specs.declared.renditions.Layer.{Layer}
 use Rattle.roam_controls.specs.declared.renditions.Layer.TheVariants.{Foreground, Background}
 use Rattle.roam_controls.specs.declared.renditions.Awaited.{Awaited}
-use Rattle.roam_controls.specs.declared.renditions.Awaited.TheVariants.{Aspect, ColourSpace, ColourIndex, Components, Nothing}
-use Rattle.roam_controls.specs.declared.renditions.Rendition.{Rendition}
+use Rattle.roam_controls.specs.declared.renditions.Awaited.TheVariants.{Aspect, ColourSpace, ColourIndex, Red, Green, Blue, Nothing}
+
+-- a style while SGR's parameters are read, and what the next one is
+pub record Rendition : Type 0 where
+  pub style : Style
+  pub awaited : Awaited
+
+abbrev pub read_so_far : Style → Awaited → Rendition
+read_so_far style awaited = record { style = style; awaited = awaited }
 
 abbrev pub coloured : Layer → Colour → Style → Style
 coloured Foreground colour g = record g { foreground = colour }
@@ -52,7 +59,11 @@ with_aspect p g =
     else if p == 9 then record g { strike = true }
     else ended p g
 
--- one more parameter: an aspect, or a number that 38 or 48 awaits: 5 and an index up to 255, or 2 and three numbers that are passed over;
+-- a mixture of three numbers; where one is above 255 nothing changes (this project's profile)
+abbrev pub mixed : Layer → ℕ → ℕ → ℕ → Style → Style
+mixed layer red green blue g = if nat_le red 255 && (nat_le green 255 && nat_le blue 255) then coloured layer (Rgb red green blue) g else g
+
+-- one more parameter: an aspect, or a number that 38 or 48 awaits: 5 and an index up to 255, or 2 and the numbers of red, green and blue;
 -- otherwise the rest of the sequence says nothing (this project's profile)
 abbrev pub read_as : Awaited → Rendition → ℕ → Rendition
 read_as Aspect r p =
@@ -61,12 +72,14 @@ read_as Aspect r p =
     else record r { style = with_aspect p r.style }
 read_as (ColourSpace layer) r p =
     if p == 5 then record r { awaited = ColourIndex layer }
-    else if p == 2 then record r { awaited = Components 3 }
+    else if p == 2 then record r { awaited = Red layer }
     else record r { awaited = Nothing }
 read_as (ColourIndex layer) r p =
     if nat_le p 255 then record { style = coloured layer (Index p) r.style; awaited = Aspect }
     else record r { awaited = Aspect }
-read_as (Components n) r p = if nat_le n 1 then record r { awaited = Aspect } else record r { awaited = Components (n - 1) }
+read_as (Red layer) r p = record r { awaited = Green layer p }
+read_as (Green layer red) r p = record r { awaited = Blue layer red p }
+read_as (Blue layer red green) r p = record { style = mixed layer red green p r.style; awaited = Aspect }
 read_as Nothing r p = r
 
 abbrev pub with_parameter : Rendition → ℕ → Rendition

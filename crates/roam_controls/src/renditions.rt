@@ -1,8 +1,8 @@
 //! SGR: select graphic rendition.
-ghost use Rattle.std.specs.Prelude.{◌≡◌};
-ghost use Rattle.roam_controls.specs.Renditions.{coloured, with_colour, ended, with_aspect, with_parameter, styled};
+ghost use Rattle.std.specs.Prelude.{◌≡◌, ◌<◌};
+ghost use Rattle.roam_controls.specs.Renditions.{coloured, mixed, with_colour, ended, with_aspect, read_so_far, with_parameter, styled};
 
-use roam_cells::{Colour, Style};
+use roam_cells::{Colour, Ink, Style};
 
 /// What a colour is of.
 #[derive(Clone, Copy)]
@@ -17,43 +17,62 @@ pub enum Awaited {
     Aspect,
     ColourSpace(Layer),
     ColourIndex(Layer),
-    /// So many numbers of a colour that is passed over.
-    Components(u8),
+    /// How much red a mixture has.
+    Red(Layer),
+    /// How much green, after the red.
+    Green(Layer, u16),
+    /// How much blue, after the red and the green.
+    Blue(Layer, u16, u16),
     /// What follows says nothing.
     Nothing,
 }
 
-/// A style while SGR's parameters are read.
+/// An ink while SGR's parameters are read.
 #[derive(Clone, Copy)]
-pub struct Rendition {
-    pub style: Style,
+pub struct Restyling {
+    pub ink: Ink,
     pub awaited: Awaited,
 }
 
-fn colour(style: &mut Style, layer: Layer, colour: Colour)
-    ensures coloured { style.new ≡ coloured layer colour style.old }
+#[inline]
+fn colour(ink: Ink, layer: Layer, colour: Colour) -> Ink
+    ensures coloured { result ≡ record ink { style = coloured layer colour ink.style } }
 {
     match layer {
-        Layer::Foreground => style.foreground = colour,
-        Layer::Background => style.background = colour,
+        Layer::Foreground => ink.with_foreground(colour),
+        Layer::Background => ink.with_background(colour),
     }
 }
 
-fn set_colour(style: &mut Style, param: u16)
-    ensures coloured { style.new ≡ with_colour param style.old }
+#[inline]
+fn mix(ink: Ink, layer: Layer, red: u16, green: u16, blue: u16) -> Ink
+    ensures mixed { result ≡ record ink { style = mixed layer red green blue ink.style } }
+{
+    if red <= 255 && green <= 255 && blue <= 255 {
+        colour(ink, layer, Colour::Rgb(red as u8, green as u8, blue as u8))
+    } else {
+        ink
+    }
+}
+
+// 30 to 49 and 90 to 107, the colours by number: in an ink a colour is set without its flags being read.
+#[inline]
+fn with_colour(ink: Ink, param: u16) -> Ink
+    ensures coloured { result ≡ record ink { style = with_colour param ink.style } }
 {
     match param {
-        39 => style.foreground = Colour::Default,
-        49 => style.background = Colour::Default,
-        30..=37 => style.foreground = Colour::Index((param - 30) as u8),
-        40..=47 => style.background = Colour::Index((param - 40) as u8),
-        90..=97 => style.foreground = Colour::Index((param - 82) as u8),
-        100..=107 => style.background = Colour::Index((param - 92) as u8),
-        _ => {}
+        39 => ink.with_foreground(Colour::Default),
+        49 => ink.with_background(Colour::Default),
+        30..=37 => ink.with_foreground(Colour::Index((param - 30) as u8)),
+        40..=47 => ink.with_background(Colour::Index((param - 40) as u8)),
+        90..=97 => ink.with_foreground(Colour::Index((param - 82) as u8)),
+        100..=107 => ink.with_background(Colour::Index((param - 92) as u8)),
+        _ => ink,
     }
 }
 
 fn end_aspect(style: &mut Style, param: u16)
+    requires below { param < 30 }
     ensures ended { style.new ≡ ended param style.old }
 {
     match param {
@@ -68,11 +87,12 @@ fn end_aspect(style: &mut Style, param: u16)
         27 => style.reverse = false,
         28 => style.conceal = false,
         29 => style.strike = false,
-        _ => set_colour(style, param),
+        _ => {}
     }
 }
 
 fn set_aspect(style: &mut Style, param: u16)
+    requires below { param < 30 }
     ensures set { style.new ≡ with_aspect param style.old }
 {
     match param {
@@ -89,49 +109,75 @@ fn set_aspect(style: &mut Style, param: u16)
     }
 }
 
-impl Rendition {
+// 1 to 29, the flags.
+fn with_flag(ink: Ink, param: u16) -> Ink
+    requires below { param < 30 }
+    ensures set { result ≡ record ink { style = with_aspect param ink.style } }
+{
+    let mut style = ink.style();
+    set_aspect(&mut style, param);
+    Ink::new(style, ink.guard())
+}
+
+#[inline]
+fn with_aspect(ink: Ink, param: u16) -> Ink
+    ensures set { result ≡ record ink { style = with_aspect param ink.style } }
+{
+    if param == 0 {
+        Ink::new(Style::default(), ink.guard())
+    } else if param < 30 {
+        with_flag(ink, param)
+    } else {
+        with_colour(ink, param)
+    }
+}
+
+impl Restyling {
+    #[inline]
     fn read(&mut self, param: u16)
-        ensures read { self.new ≡ with_parameter self.old param }
+        ensures read { read_so_far self.new.ink.style self.new.awaited
+            ≡ with_parameter (read_so_far self.old.ink.style self.old.awaited) param }
+        ensures guard { self.new.ink.guarded ≡ self.old.ink.guarded }
     {
         match self.awaited {
             Awaited::Aspect => match param {
                 38 => self.awaited = Awaited::ColourSpace(Layer::Foreground),
                 48 => self.awaited = Awaited::ColourSpace(Layer::Background),
-                _ => set_aspect(&mut self.style, param),
+                _ => self.ink = with_aspect(self.ink, param),
             },
             Awaited::ColourSpace(layer) => match param {
                 5 => self.awaited = Awaited::ColourIndex(layer),
-                2 => self.awaited = Awaited::Components(3),
+                2 => self.awaited = Awaited::Red(layer),
                 _ => self.awaited = Awaited::Nothing,
             },
             Awaited::ColourIndex(layer) => {
                 if param <= 255 {
-                    colour(&mut self.style, layer, Colour::Index(param as u8));
+                    self.ink = colour(self.ink, layer, Colour::Index(param as u8));
                 }
                 self.awaited = Awaited::Aspect;
             }
-            Awaited::Components(left) => {
-                self.awaited = if left <= 1 {
-                    Awaited::Aspect
-                } else {
-                    Awaited::Components(left - 1)
-                };
+            Awaited::Red(layer) => self.awaited = Awaited::Green(layer, param),
+            Awaited::Green(layer, red) => self.awaited = Awaited::Blue(layer, red, param),
+            Awaited::Blue(layer, red, green) => {
+                self.ink = mix(self.ink, layer, red, green, param);
+                self.awaited = Awaited::Aspect;
             }
             Awaited::Nothing => {}
         }
     }
 }
 
-/// The style that SGR's parameters make of this one.
-pub fn restyled(style: Style, params: &[u16]) -> Style
-    ensures styled { result ≡ styled params.now style }
+/// The ink that SGR's parameters make of this one (ECMA-48 8.3.117): they are read from the first on, each after what those before it
+/// left to be read, and change the style; the guard stays.
+pub fn restyled(ink: Ink, params: &[u16]) -> Ink
+    ensures styled { result ≡ record ink { style = styled params.now ink.style } }
 {
-    let mut rendition = Rendition {
-        style,
+    let mut restyling = Restyling {
+        ink,
         awaited: Awaited::Aspect,
     };
     for param in params {
-        rendition.read(*param);
+        restyling.read(*param);
     }
-    rendition.style
+    restyling.ink
 }

@@ -4,8 +4,7 @@ use Rattle.std.proofs.lemmas.Bool.{cases_lt, cases_eq}
 use Rattle.std.proofs.lemmas.List.Edits.{get_or-between}
 use Rattle.std.proofs.lemmas.Grind.{common_steps}
 use Rattle.roam_cells.specs.Glyph.{Glyph, blank}
-use Rattle.roam_cells.specs.Place.{cell_at, AreWhole}
-use Rattle.roam_cells.specs.Screenshot.{row_of}
+use Rattle.roam_cells.specs.Place.{cell_at, AreWhole, row_of}
 use Rattle.roam_cells.proofs.Places.{table_is, get_or-table, length-table}
 use Rattle.roam_rows.specs.Row.{RowSource}
 use Rattle.roam_rows.specs.Places.{Source, From, Fresh, moved, moved_at, at_row, in_row}

@@ -5,8 +5,7 @@ use Rattle.std.proofs.lemmas.Bool.{false≢true, ltb-true, ltb-false, eqb-true, 
 use Rattle.std.proofs.lemmas.List.{length-replicate}
 use Rattle.roam_cells.specs.Glyph.{Glyph, IsShown, blank}
 use Rattle.roam_cells.specs.Limits.{IsSize}
-use Rattle.roam_cells.specs.Place.{cell_at, glyph_at}
-use Rattle.roam_cells.specs.Screenshot.{row_of}
+use Rattle.roam_cells.specs.Place.{cell_at, glyph_at, row_of}
 use Rattle.roam_cells.specs.Width.{width_of}
 use Rattle.roam_cells.proofs.Ascii.{ascii_width}
 use Rattle.roam_rows.specs.Row.{RowSource}
@@ -99,7 +98,7 @@ module _ (s : Screen) (is : IsSound s) where
     };
   }
 
-  with_stops : (stops : List Bool) → length stops ≡ 250 → Kept s (record s { stops = stops })
+  with_stops : (stops : List Bool) → length stops ≡ 500 → Kept s (record s { stops = stops })
   with_stops stops len = record {
     rows = refl;
     cols = refl;
@@ -240,7 +239,7 @@ module _ (s : Screen) (is : IsSound s) where
 
   pub stops_cleared_kept : Kept s (stops_cleared s)
   unfolding stops_cleared
-  stops_cleared_kept = with_stops (replicate 250 false) (length-replicate 250 false)
+  stops_cleared_kept = with_stops (replicate 500 false) (length-replicate 500 false)
 
   -- ---- edits and erasures
 

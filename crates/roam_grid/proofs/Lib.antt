@@ -1,3 +1,4 @@
+pub mod Buffers
 pub mod Guards
 pub mod Marked
 pub mod MarkedRuns

@@ -19,27 +19,27 @@ or_assoc : (a b c : Bool) → ((a || b) || c) ≡ (a || (b || c))
 or_assoc true b c = refl
 or_assoc false b c = refl
 
-pub length-also : (names : ℕ → Bool) (marks : List Bool) → length (also_marked names marks) ≡ 100
+pub length-also : (names : ℕ → Bool) (marks : List Bool) → length (also_marked names marks) ≡ 200
 unfolding also_marked
-length-also names marks = length-map-range_with_len (λ r. is_marked marks r || names r) 0 100
+length-also names marks = length-map-range_with_len (λ r. is_marked marks r || names r) 0 200
 
 -- a row's mark afterwards
-pub marked_at : (names : ℕ → Bool) (marks : List Bool) (r : ℕ) → r < 100 → is_marked (also_marked names marks) r ≡ (is_marked marks r || names r)
+pub marked_at : (names : ℕ → Bool) (marks : List Bool) (r : ℕ) → r < 200 → is_marked (also_marked names marks) r ≡ (is_marked marks r || names r)
 unfolding also_marked
-marked_at names marks r h = get_or-map-range_with_len (λ j. is_marked marks j || names j) 0 100 r r false h (omega arith)
+marked_at names marks r h = get_or-map-range_with_len (λ j. is_marked marks j || names j) 0 200 r r false h (omega arith)
 
-pub marks_are : (names : ℕ → Bool) (marks now : List Bool) → length now ≡ 100 → ((r : ℕ) → r < 100 → is_marked now r ≡ (is_marked marks r || names r)) → now ≡ also_marked names marks
+pub marks_are : (names : ℕ → Bool) (marks now : List Bool) → length now ≡ 200 → ((r : ℕ) → r < 200 → is_marked now r ≡ (is_marked marks r || names r)) → now ≡ also_marked names marks
 unfolding also_marked
-marks_are names marks now len each = fill_by_all (λ r. is_marked marks r || names r) now 100 false len each
+marks_are names marks now len each = fill_by_all (λ r. is_marked marks r || names r) now 200 false len each
 
 -- rows are marked, and then others
-pub marked_twice : (one two both : ℕ → Bool) (marks : List Bool) → ((r : ℕ) → r < 100 → (one r || two r) ≡ both r) → also_marked two (also_marked one marks) ≡ also_marked both marks
+pub marked_twice : (one two both : ℕ → Bool) (marks : List Bool) → ((r : ℕ) → r < 200 → (one r || two r) ≡ both r) → also_marked two (also_marked one marks) ≡ also_marked both marks
 marked_twice one two both marks e =
     marks_are both marks (also_marked two (also_marked one marks)) (length-also two (also_marked one marks)) (λ r h.
     marked_at two (also_marked one marks) r h ∙ ap (λ b. b || two r) (marked_at one marks r h) ∙ or_assoc (is_marked marks r) (one r) (two r) ∙ ap (λ b. is_marked marks r || b) (e r h))
 
 -- no row is marked
-pub marked_none : (names : ℕ → Bool) (marks : List Bool) → length marks ≡ 100 → ((r : ℕ) → names r ≡ false) → marks ≡ also_marked names marks
+pub marked_none : (names : ℕ → Bool) (marks : List Bool) → length marks ≡ 200 → ((r : ℕ) → names r ≡ false) → marks ≡ also_marked names marks
 marked_none names marks len none = marks_are names marks marks len (λ r h. sym (ap (λ b. is_marked marks r || b) (none r) ∙ or_false (is_marked marks r)))
 
 pub same_row : (r row : ℕ) → r ≡ row → eqb r row ≡ true
@@ -49,7 +49,7 @@ pub other_row : (r row : ℕ) → r ≢ row → eqb r row ≡ false
 other_row r row ne = grind (arith, common_steps)
 
 -- one mark is put on where a test says so
-pub one_marked : (marks : List Bool) (row : ℕ) (on now : Bool) → length marks ≡ 100 → row < 100 → now ≡ (is_marked marks row || on) → set marks row now ≡ also_marked (λ r. eqb r row && on) marks
+pub one_marked : (marks : List Bool) (row : ℕ) (on now : Bool) → length marks ≡ 200 → row < 200 → now ≡ (is_marked marks row || on) → set marks row now ≡ also_marked (λ r. eqb r row && on) marks
 one_marked marks row on now len row_in now_is =
     marks_are (λ r. eqb r row && on) marks (set marks row now) (length-set marks row now ∙ len) (λ r h.
     elim (cases_eq r row) [
@@ -69,11 +69,11 @@ and_false true = refl
 and_false false = refl
 
 -- tests that agree on the rows mark the same
-pub marked_same : (one two : ℕ → Bool) (marks : List Bool) → ((r : ℕ) → r < 100 → one r ≡ two r) → also_marked one marks ≡ also_marked two marks
+pub marked_same : (one two : ℕ → Bool) (marks : List Bool) → ((r : ℕ) → r < 200 → one r ≡ two r) → also_marked one marks ≡ also_marked two marks
 marked_same one two marks e =
     marks_are two marks (also_marked one marks) (length-also one marks) (λ r h. marked_at one marks r h ∙ ap (λ b. is_marked marks r || b) (e r h))
 
-pub row_is_marked : (marks : List Bool) (row : ℕ) → length marks ≡ 100 → row < 100 → set marks row true ≡ also_marked (λ r. eqb r row) marks
+pub row_is_marked : (marks : List Bool) (row : ℕ) → length marks ≡ 200 → row < 200 → set marks row true ≡ also_marked (λ r. eqb r row) marks
 row_is_marked marks row len row_in =
     one_marked marks row true true len row_in (sym (or_true (is_marked marks row)))
     ∙ marked_same (λ r. eqb r row && true) (λ r. eqb r row) marks (λ r h. and_true (eqb r row))
@@ -101,7 +101,7 @@ range_before from to r p = grind (arith, common_steps)
 range_after : (from to r : ℕ) → to ≤ r → (leb from r && ltb r to) ≡ false
 range_after from to r p = grind (arith, common_steps)
 
-pub rows_are_marked : (marks : List Bool) (from to : ℕ) → length marks ≡ 100 → from ≤ to → to ≤ 100
+pub rows_are_marked : (marks : List Bool) (from to : ℕ) → length marks ≡ 200 → from ≤ to → to ≤ 200
     → put_mid from (to - from) marks (replicate (to - from) true) ≡ also_marked (λ r. leb from r && ltb r to) marks
 rows_are_marked marks from to len low high =
     let m = to - from in
@@ -115,7 +115,7 @@ rows_are_marked marks from to len low high =
     ])
 
 -- of no rows none is marked
-pub no_rows : (marks : List Bool) (at : ℕ) (on : ℕ → Bool) → length marks ≡ 100 → marks ≡ also_marked (λ r. leb at r && ltb r at && on r) marks
+pub no_rows : (marks : List Bool) (at : ℕ) (on : ℕ → Bool) → length marks ≡ 200 → marks ≡ also_marked (λ r. leb at r && ltb r at && on r) marks
 no_rows marks at on len = marked_none (λ r. leb at r && ltb r at && on r) marks len (λ r. none_there at r (on r))
   where
     none_there : (at r : ℕ) (b : Bool) → (leb at r && ltb r at && b) ≡ false

@@ -1,5 +1,5 @@
 -- Marks of cells that are written, one or many.
-use Rattle.std.proofs.Common.{◌≡◌, ℕ, suc, ◌+◌, ◌<◌, ◌≤◌, Bool, true, false, ◌&&◌, cond, eqb, List, [], ◌∷◌, ◌++◌, length, refl, sym, ap, ◌∙◌, arith}
+use Rattle.std.proofs.Common.{◌≡◌, ℕ, suc, ◌+◌, ◌-◌, ◌<◌, ◌≤◌, Bool, true, false, ◌&&◌, cond, eqb, List, [], ◌∷◌, ◌++◌, length, refl, sym, ap, ◌∙◌, arith}
 use Rattle.std.proofs.Math.Bool.{or_self}
 use Rattle.roam_cells.specs.Glyph.{Glyph, is_wide}
 use Rattle.roam_rows.specs.Editing.{inserted}
@@ -10,7 +10,7 @@ use Rattle.roam_grid.specs.Writing.{columns, wrapped, settled, with_room, made_w
 use Rattle.roam_grid.specs.Marks.{row_marked, marks_scrolled, marks_indexed, marks_settled, marks_with_room, marks_put, marks_put_all}
 use Rattle.roam_grid.specs.declared.writing.Writing.{Writing}
 use Rattle.roam_grid.proofs.Marked.{marked_twice}
-use Rattle.roam_grid.proofs.Puts.{and_false, and_true, cond_and, not_last, settled_same, settled_none, put_settled, wrapped_place}
+use Rattle.roam_grid.proofs.Puts.{and_false, and_true, cond_and, not_last, settled_same, settled_none, put_settled, wrapped_place, not_edge, leaves_inside}
 use Rattle.roam_grid.proofs.Runs.{AreNarrow, put_one, goes_on}
 
 -- a row that is marked twice is marked
@@ -98,3 +98,13 @@ module _ (n : ℕ) (w : Writing) (s : Screen) (marks : List Bool) (wide : 4 ≤ 
   -- rows go up where one leaves
   pub marks_steps : marks_with_room n w (settled s) (marks_settled s marks) ≡ cond (leaves_row n w s) (marks_scrolled 1 s marks) marks
   marks_steps = by_pending s.pending refl
+
+-- a cell that has room after it, with no wrap pending, marks the cursor's row
+pub marks_inside : (x : Glyph) (w : Writing) (s : Screen) (marks : List Bool) → s.pending ≡ false → s.col + columns x < s.cols → 4 ≤ s.cols
+    → marks_put x w s marks ≡ row_marked s.row marks
+unfolding marks_put with_room
+marks_inside x w s marks none room wide =
+    let n = columns x in
+    ap (row_marked (with_room n w (settled s)).row) (marks_steps n w s marks wide ∙ ap (λ b. cond b (marks_scrolled 1 s marks) marks) (leaves_inside n w s none room))
+    ∙ ap (λ t. row_marked (with_room n w t).row marks) (settled_same s none)
+    ∙ ap (λ b. row_marked (cond b (cond w.wraps (wrapped s) (record s { col = s.cols - 2 })) s).row marks) (not_edge n s.col s.cols room)

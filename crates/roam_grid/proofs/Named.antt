@@ -44,7 +44,7 @@ or_none true b e = absurd (false≢true (sym e))
 or_none false b e = e
 
 -- where a test names the rows
-pub named_by : (s : Screen) (source : ℕ → ℕ → Source) (names : ℕ → Bool) (marks : List Bool) → s.rows ≤ 100
+pub named_by : (s : Screen) (source : ℕ → ℕ → Source) (names : ℕ → Bool) (marks : List Bool) → s.rows ≤ 200
     → ((r : ℕ) → r < s.rows → names r ≡ true → IsNamed s.cols source r)
     → ((r c : ℕ) → r < s.rows → c < s.cols → names r ≡ false → source r c ≡ From r c)
     → AreNamedMarked s source marks (also_marked names marks)
@@ -75,7 +75,7 @@ is_some : (n : ℕ) → eqb n 0 ≡ false → 0 < n
 is_some n h = grind (arith, common_steps)
 
 -- where rows move by n
-moved_by : (s : Screen) (source : ℕ → ℕ → Source) (n from to : ℕ) (marks : List Bool) → s.rows ≤ 100
+moved_by : (s : Screen) (source : ℕ → ℕ → Source) (n from to : ℕ) (marks : List Bool) → s.rows ≤ 200
     → (n ≡ 0 → (r c : ℕ) → r < s.rows → c < s.cols → source r c ≡ From r c)
     → (0 < n → (r : ℕ) → r < s.rows → from ≤ r → r < to → IsNamed s.cols source r)
     → ((r c : ℕ) → r < s.rows → c < s.cols → (r < from) ⊎ (to ≤ r) → source r c ≡ From r c)
@@ -154,13 +154,13 @@ is_row r R h = grind (arith, common_steps)
 is_other : (r R : ℕ) → eqb r R ≡ false → r ≢ R
 is_other r R h e = false≢true (sym h ∙ (grind (arith, common_steps)))
 
-row_named : (s : Screen) (R c : ℕ) (one : ℕ → RowSource) (marks : List Bool) → s.rows ≤ 100 → c < s.cols → (at_row R (one c) ≢ From R c)
+row_named : (s : Screen) (R c : ℕ) (one : ℕ → RowSource) (marks : List Bool) → s.rows ≤ 200 → c < s.cols → (at_row R (one c) ≢ From R c)
     → AreNamedMarked s (in_row R one) marks (row_marked R marks)
 row_named s R c one marks few c_in ne =
     named_by s (in_row R one) (λ r. eqb r R) marks few (λ r p h. in_row_named s.cols R r c one (is_row r R h) c_in ne) (λ r d p q h. in_other R r d one (is_other r R h))
 
 module _ (s : Screen) (marks : List Bool) (is : IsScreen s) where
-  pub few : s.rows ≤ 100
+  pub few : s.rows ≤ 200
   few = is.frame.size.most_rows
 
   pub some : 0 < s.cols
@@ -294,7 +294,7 @@ module _ (s : Screen) (marks : List Bool) (is : IsScreen s) where
             (outside e s.rows s.row s.col r c p k (out_range from to r (sym (ap (λ b. b || (leb from r && ltb r to)) (other_row r s.row k)) ∙ h)))
       ]))
 
--- every row of 100 is marked
-pub all_marked : (r : ℕ) → r < 100 → is_marked all_on r ≡ true
+-- every row of 200 is marked
+pub all_marked : (r : ℕ) → r < 200 → is_marked all_on r ≡ true
 unfolding all_on
-all_marked r h = get_or-replicate 100 r true false h
+all_marked r h = get_or-replicate 200 r true false h

@@ -8,8 +8,7 @@ use Rattle.std.proofs.lemmas.List.Folds.{Any-from_list_any, list_any_at}
 use Rattle.std.proofs.lemmas.Grind.{common_steps}
 use Rattle.std.proofs.Math.Nat.{mul-le-mul_right}
 use Rattle.roam_cells.specs.Glyph.{Glyph, blank}
-use Rattle.roam_cells.specs.Place.{cell_at}
-use Rattle.roam_cells.specs.Screenshot.{row_of}
+use Rattle.roam_cells.specs.Place.{cell_at, row_of}
 use Rattle.roam_rows.specs.Places.{Source, From, Fresh, in_row}
 use Rattle.roam_rows.specs.Erasing.{unguarded_blanked}
 use Rattle.roam_rows.proofs.Lifting.{in_other}

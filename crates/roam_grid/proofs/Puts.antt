@@ -1,8 +1,10 @@
 -- The steps of writing a cell.
-use Rattle.std.proofs.Common.{◌≡◌, ℕ, ◌+◌, ◌≤◌, Bool, true, false, ◌&&◌, cond, eqb, refl, sym, ap, ◌∙◌, arith}
+use Rattle.std.proofs.Common.{◌≡◌, ℕ, ◌+◌, ◌-◌, ◌<◌, ◌≤◌, Bool, true, false, ◌&&◌, cond, eqb, refl, sym, ap, ◌∙◌, arith}
 use Rattle.std.proofs.lemmas.Grind.{common_steps}
 use Rattle.roam_cells.specs.Glyph.{Glyph}
-use Rattle.roam_grid.specs.Screen.{Screen}
+use Rattle.roam_rows.specs.Editing.{inserted}
+use Rattle.roam_rows.specs.Places.{in_row}
+use Rattle.roam_grid.specs.Screen.{Screen, mapped}
 use Rattle.roam_grid.specs.Scrolling.{scrolled_up, first_scrolled_up}
 use Rattle.roam_grid.specs.Cursor.{carried, indexed, first_indexed}
 use Rattle.roam_grid.specs.Writing.{columns, wrapped, settled, first_settled, with_room, first_with_room, made_way, inked, advanced, leaves_row, put_on, first_put}
@@ -100,3 +102,32 @@ first_put_settled x w s first wide =
 
 pub settled_cols : (s : Screen) → (settled s).cols ≡ s.cols
 settled_cols s = settled_cols_by s s.pending refl
+
+pub not_edge : (n col cols : ℕ) → col + n < cols → (eqb n 2 && eqb (col + 1) cols) ≡ false
+not_edge n col cols room = grind (arith, common_steps)
+
+-- a cell that has room after it, with no wrap pending, is written where the cursor is
+pub put_inside : (x : Glyph) (w : Writing) (s : Screen) → w.inserts ≡ false → s.pending ≡ false → s.col + columns x < s.cols
+    → put_on x w s ≡ advanced (columns x) w (inked x s)
+unfolding put_on with_room made_way
+put_inside x w s over none room =
+    let n = columns x in
+    ap (λ t. advanced n w (inked x (made_way n w (with_room n w t)))) (settled_same s none)
+    ∙ ap (λ b. advanced n w (inked x (made_way n w (cond b (cond w.wraps (wrapped s) (record s { col = s.cols - 2 })) s)))) (not_edge n s.col s.cols room)
+    ∙ ap (λ b. advanced n w (inked x (cond b (mapped (in_row s.row (inserted s.col n)) s) s))) over
+
+and_nothing : (a b : Bool) → b ≡ false → (a && b) ≡ false
+and_nothing true b e = e
+and_nothing false b e = refl
+
+-- and no row leaves
+pub leaves_inside : (n : ℕ) (w : Writing) (s : Screen) → s.pending ≡ false → s.col + n < s.cols → leaves_row n w s ≡ false
+unfolding leaves_row
+leaves_inside n w s none room =
+    ap (λ b. eqb s.row s.bottom && cond b true (eqb n 2 && eqb (s.col + 1) s.cols && w.wraps)) none
+    ∙ ap (λ b. eqb s.row s.bottom && (b && w.wraps)) (not_edge n s.col s.cols room)
+    ∙ and_nothing (eqb s.row s.bottom) false refl
+
+pub first_inside : (x : Glyph) (w : Writing) (s : Screen) (first : ℕ) → s.pending ≡ false → s.col + columns x < s.cols → first_put x w s first ≡ first
+unfolding first_put
+first_inside x w s first none room = ap (λ b. cond b (first_scrolled_up 1 s first) first) (leaves_inside (columns x) w s none room)

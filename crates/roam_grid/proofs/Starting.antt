@@ -5,12 +5,12 @@ use Rattle.std.proofs.lemmas.List.{same_lists, get_or_default}
 use Rattle.std.proofs.lemmas.List.FromFn.{length-map-range_with_len, get_or-map-range_with_len}
 use Rattle.roam_grid.specs.Tabs.{start_stops, is_start_stop}
 
-pub length-start_stops : length start_stops ≡ 250
+pub length-start_stops : length start_stops ≡ 500
 unfolding start_stops
-length-start_stops = length-map-range_with_len is_start_stop 0 250
+length-start_stops = length-map-range_with_len is_start_stop 0 500
 
-pub stops_are : (stops : List Bool) → length stops ≡ 250 → ((k : ℕ) → k < 250 → get_or stops k false ≡ is_start_stop k) → stops ≡ start_stops
+pub stops_are : (stops : List Bool) → length stops ≡ 500 → ((k : ℕ) → k < 500 → get_or stops k false ≡ is_start_stop k) → stops ≡ start_stops
 unfolding start_stops
 stops_are stops len each =
-    same_lists stops (map is_start_stop (range_with_len 0 250)) (len ∙ sym (length-map-range_with_len is_start_stop 0 250)) (λ k d h.
-    get_or_default stops k d false h ∙ each k (omega (arith, len)) ∙ sym (get_or-map-range_with_len is_start_stop 0 250 k k d (omega (arith, len)) (omega arith)))
+    same_lists stops (map is_start_stop (range_with_len 0 500)) (len ∙ sym (length-map-range_with_len is_start_stop 0 500)) (λ k d h.
+    get_or_default stops k d false h ∙ each k (omega (arith, len)) ∙ sym (get_or-map-range_with_len is_start_stop 0 500 k k d (omega (arith, len)) (omega arith)))

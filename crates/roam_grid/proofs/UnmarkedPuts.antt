@@ -31,7 +31,7 @@ use Rattle.roam_grid.proofs.Unmarked.{row_same, unchanged}
 
 -- what the steps of writing need of a screen
 record IsSound (s : Screen) : Type 0 where
-  few : s.rows ≤ 100
+  few : s.rows ≤ 200
   row_in : s.row < s.rows
   bottom_in : s.bottom < s.rows
   whole : AreWhole s.rows s.cols s.cells

@@ -1,8 +1,7 @@
 -- What erasures blank: from the cursor to the end, from the start to the cursor, or all, of the screen or of the cursor's row.
 use Rattle.std.specs.Prelude.{ℕ, ◌+◌, Bool, true, false, not, ◌&&◌, ◌||◌, ◌==◌, nat_lt, nat_le, List, if◌then◌else◌}
 use Rattle.roam_cells.specs.Glyph.{Glyph, blank}
-use Rattle.roam_cells.specs.Screenshot.{row_of}
-use Rattle.roam_cells.specs.Place.{cell_at}
+use Rattle.roam_cells.specs.Place.{row_of, cell_at}
 use Rattle.roam_rows.specs.Erasing.{blanked, unguarded_blanked}
 use Rattle.roam_rows.specs.Places.{Source, From, Fresh, in_row}
 use Rattle.roam_grid.specs.Screen.{Screen, mapped}

@@ -1,10 +1,9 @@
--- Marks: which rows of the screen may show something else than when the marks were last cleared. A flag for each of 100 rows from 0,
+-- Marks: which rows of the screen may show something else than when the marks were last cleared. A flag for each of 200 rows from 0,
 -- whatever the number of rows; a call marks the rows that have a place which doesn't take itself (this project's profile).
 use Rattle.std.specs.Prelude.{ℕ, ◌+◌, ◌-◌, Bool, true, false, not, ◌&&◌, ◌||◌, ◌==◌, nat_lt, nat_le, List, [], ◌∷◌, ◌++◌, map, replicate, slice_index_or, slice_range, if◌then◌else◌}
 use Rattle.std.specs.List.{range_with_len, list_any}
 use Rattle.roam_cells.specs.Glyph.{Glyph, is_cell_text}
-use Rattle.roam_cells.specs.Place.{cell_at}
-use Rattle.roam_cells.specs.Screenshot.{row_of}
+use Rattle.roam_cells.specs.Place.{cell_at, row_of}
 use Rattle.roam_rows.specs.Writing.{base_column}
 use Rattle.roam_grid.specs.Screen.{Screen}
 use Rattle.roam_grid.specs.Editing.{is_between_margins}
@@ -19,15 +18,15 @@ is_marked marks r = slice_index_or marks r false
 
 -- every mark is on
 unfoldable pub all_on : List Bool
-all_on = replicate 100 true
+all_on = replicate 200 true
 
 -- every mark is off
 unfoldable pub all_off : List Bool
-all_off = replicate 100 false
+all_off = replicate 200 false
 
 -- the rows that a test names are marked too
 unfoldable pub also_marked : (ℕ → Bool) → List Bool → List Bool
-also_marked names marks = map (λ r. is_marked marks r || names r) (range_with_len 0 100)
+also_marked names marks = map (λ r. is_marked marks r || names r) (range_with_len 0 200)
 
 -- one row is marked too
 abbrev pub row_marked : ℕ → List Bool → List Bool

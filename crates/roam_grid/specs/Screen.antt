@@ -20,7 +20,7 @@ pub record Screen : Type 0 where
   pub bottom : ℕ
   pub stops : List Bool
 
--- what contracts see of a grid: the screen, the row of its buffer that the screen begins with, and the marks of 100 rows
+-- what contracts see of a grid: the screen, the row of its buffer that the screen begins with, and the marks of 200 rows
 pub record GridView : Type 0 where
   pub screen : Screen
   pub first : ℕ
@@ -38,7 +38,7 @@ pub record IsFrame (s : Screen) : Type 0 where
   pub col_in : s.col < s.cols
   pub pends : s.pending ≡ true → s.col + 1 ≡ s.cols
   pub margins : (s.top < s.bottom) × (s.bottom < s.rows)
-  pub stops : length s.stops ≡ 250
+  pub stops : length s.stops ≡ 500
 
 -- a frame round whole characters
 pub record IsScreen (s : Screen) : Type 0 where

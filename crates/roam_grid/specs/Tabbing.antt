@@ -21,4 +21,4 @@ stop_cleared s = record s { stops = slice_set s.stops s.col false }
 
 -- none at all (TBC)
 unfoldable pub stops_cleared : Screen → Screen
-stops_cleared s = record s { stops = replicate 250 false }
+stops_cleared s = record s { stops = replicate 500 false }

@@ -29,7 +29,7 @@ impl Grid {
         self.pending = false;
         self.top = 0;
         self.bottom = self.ring.rows() - 1;
-        self.marks = [true; 100];
+        self.marks = [true; 200];
     }
 
     /// Blanks every cell; all else stays.
@@ -42,7 +42,7 @@ impl Grid {
     {
         let rows = self.ring.rows();
         self.ring.blank_rows(0, rows);
-        self.marks = [true; 100];
+        self.marks = [true; 200];
     }
 
     /// Blanks every cell, and puts the cursor, the margins and the tab stops where they are at the start (RIS, ECMA-48 8.3.105).
@@ -79,7 +79,7 @@ impl Grid {
         self.top = other.top;
         self.bottom = other.bottom;
         self.stops = other.stops;
-        self.marks = [true; 100];
+        self.marks = [true; 200];
     }
 
     /// How many rows leave at the top where the screen gets this number of rows, so that the cursor's row stays.
@@ -92,7 +92,7 @@ impl Grid {
         (self.row + 1).saturating_sub(rows)
     }
 
-    /// All the memory that a grid of this size takes. Refuses a size outside 2 to 100 rows and 4 to 250 columns, and want of memory.
+    /// All the memory that a grid of this size takes. Refuses a size outside 2 to 200 rows and 4 to 500 columns, and want of memory.
     pub fn fit(alloc: Global, rows: usize, cols: usize) -> Result<Fitted, Fault>
         ensures size { IfOk result (λ f. f ≡ record { rows = rows; cols = cols }) }
         ensures bad_size { IsErrOf result Fault.BadSize ↔ (¬ IsSize rows cols) }
@@ -121,11 +121,11 @@ impl Grid {
         self.pending = false;
         self.top = 0;
         self.bottom = rows - 1;
-        self.marks = [true; 100];
+        self.marks = [true; 200];
     }
 
     /// Brings the screen to another size, as `fit` and `adopt` do, after as many rows have left at the top that the cursor's stays. Refuses
-    /// a size outside 2 to 100 rows and 4 to 250 columns, and want of memory, and changes nothing then.
+    /// a size outside 2 to 200 rows and 4 to 500 columns, and want of memory, and changes nothing then.
     pub fn resize(&mut self, alloc: Global, rows: usize, cols: usize) -> Result<(), Fault>
         ensures screen { OnOk result (self.new.screen ≡ resized rows cols (leaving rows self.old.screen) self.old.screen) }
         ensures first { OnOk result (self.new.first ≡ 0) }

@@ -2,7 +2,7 @@
 ghost use Rattle.std.specs.Prelude.{◌≡◌, ◌↔◌, ◌+◌, ◌-◌, ◌*◌, ◌<◌, ◌≤◌, ◌⊎◌, ◌++◌, true, false, length, replicate, IsTrue, IfOk, IfErr, IsErrOf};
 ghost use Rattle.roam_cells.specs.Glyph.{blank};
 ghost use Rattle.roam_cells.specs.Limits.{IsSize};
-ghost use Rattle.roam_cells.specs.Screenshot.{row_of};
+ghost use Rattle.roam_cells.specs.Place.{row_of};
 ghost use Rattle.roam_rows.specs.Rows.{AreRows, buffer_of};
 ghost use Rattle.roam_grid.specs.Marks.{all_on};
 ghost use Rattle.roam_grid.specs.Screen.{IsScreen, rows_of, start};
@@ -23,9 +23,9 @@ pub struct Grid {
     pub(crate) pending: bool,
     pub(crate) top: usize,
     pub(crate) bottom: usize,
-    pub(crate) stops: [bool; 250],
+    pub(crate) stops: [bool; 500],
     // of rows of the screen, not of the buffer
-    pub(crate) marks: [bool; 100],
+    pub(crate) marks: [bool; 200],
 }
 
 impl Model for Grid {
@@ -41,7 +41,7 @@ impl Model for Grid {
 }
 
 impl Grid {
-    /// A blank screen of 2 to 100 rows and 4 to 250 columns, the cursor at its start, with full margins, the tab stops of the start and
+    /// A blank screen of 2 to 200 rows and 4 to 500 columns, the cursor at its start, with full margins, the tab stops of the start and
     /// all marks on; refuses other sizes, and want of memory.
     #[tactic(auto, unfolding(crate::specs::Marks::all_on))]
     pub fn new(alloc: Global, rows: usize, cols: usize) -> Result<Self, Fault>
@@ -62,7 +62,7 @@ impl Grid {
             top: 0,
             bottom: rows - 1,
             stops: stops_at_start(),
-            marks: [true; 100],
+            marks: [true; 200],
         })
     }
 

@@ -1,20 +1,20 @@
-//! What marks say of a screen, whatever calls were made.
-ghost use Rattle.std.specs.Prelude.{◌≡◌, ℕ, ◌+◌, ◌<◌, Bool, true, false, List, length, min, if◌then◌else◌};
+//! What marks say of a screen, whatever calls were made, and what a scroll leaves in the buffer.
+ghost use Rattle.std.specs.Prelude.{◌≡◌, ℕ, ◌+◌, ◌-◌, ◌<◌, Bool, true, false, List, length, min, if◌then◌else◌};
 ghost use Rattle.roam_cells.specs.Glyph.{Glyph, is_right_half};
 ghost use Rattle.roam_rows.specs.Editing.{inserted, deleted};
 ghost use Rattle.roam_rows.specs.Erasing.{blanked, unguarded_blanked};
 ghost use Rattle.roam_rows.specs.Places.{in_row};
+ghost use Rattle.roam_rows.specs.Rows.{AreRows, KeepPlaces};
 ghost use Rattle.roam_rows.specs.Scrolling.{up, down};
 ghost use Rattle.roam_rows.specs.Writing.{written};
-ghost use Rattle.roam_cells.specs.Place.{glyph_at};
-ghost use Rattle.roam_cells.specs.Screenshot.{row_of};
+ghost use Rattle.roam_cells.specs.Place.{glyph_at, row_of};
 ghost use Rattle.roam_grid.specs.Cursor.{indexed, reverse_indexed};
 ghost use Rattle.roam_grid.specs.Editing.{cells_inserted, cells_deleted, cells_erased, is_between_margins, lines_inserted, lines_deleted};
 ghost use Rattle.roam_grid.specs.Erasing.{line_from, line_to, page_blanked, page_unguarded_blanked, erased_in_page, erased_in_line, erased_selectively_in_page, erased_selectively_in_line};
-ghost use Rattle.roam_grid.specs.Laws.{AreNamedMarked, IsChanged, ShowsUnmarked};
+ghost use Rattle.roam_grid.specs.Laws.{AreNamedMarked, IsChanged, ShowsUnmarked, grid_up, grid_down};
 ghost use Rattle.roam_grid.specs.Marks.{all_on, is_marked, row_marked, marks_scrolled, marks_indexed, marks_reverse_indexed, marks_cells_moved, marks_lines_moved, marks_in_line, marks_erased_in_page, marks_erased_selectively_in_line, marks_erased_selectively_in_page, marks_put, marks_put_all, marks_joined};
-ghost use Rattle.roam_grid.specs.Screen.{Screen, IsScreen};
-ghost use Rattle.roam_grid.specs.Scrolling.{scrolled_up, scrolled_down};
+ghost use Rattle.roam_grid.specs.Screen.{Screen, GridView, IsScreen, rows_of, has_full_margins};
+ghost use Rattle.roam_grid.specs.Scrolling.{scrolled_up, scrolled_down, first_scrolled_up, first_scrolled_down};
 ghost use Rattle.roam_grid.specs.Writing.{columns, leaves_row, put_on, put_all, joined_on};
 ghost use Rattle.roam_grid.specs.declared.erasing.Extent.{Extent};
 ghost use Rattle.roam_grid.specs.declared.writing.Writing.{Writing};
@@ -54,7 +54,7 @@ pub fn marks_go_on_in_named_rows()
         ≡ row_marked (put_on x w s).row (if leaves_row (columns x) w s then marks_scrolled 1 s m else m) }
     ensures joined { (c : ℕ) (s : Screen) (m : List Bool) (r : ℕ) → IsScreen s → r < s.rows → is_marked m r ≡ false
         → is_marked (marks_joined c s m) r ≡ true → IsChanged s (joined_on c s) r }
-    ensures all { (r : ℕ) → r < 100 → is_marked all_on r ≡ true }
+    ensures all { (r : ℕ) → r < 200 → is_marked all_on r ≡ true }
 {}
 
 /// A row without a mark shows what it showed, and no mark goes off: whatever was marked before, by each call that changes cells. The calls
@@ -93,4 +93,15 @@ pub fn unmarked_rows_show_what_they_showed()
         → ShowsUnmarked s (erased_selectively_in_page e s) m (marks_erased_selectively_in_page e s m) }
     ensures erased_selectively_in_line { (e : Extent) (s : Screen) (m : List Bool) → IsScreen s
         → ShowsUnmarked s (erased_selectively_in_line e s) m (marks_erased_selectively_in_line e s m) }
+{}
+
+/// With full margins a scroll moves the place of the first row: rows that stay keep their places in the buffer, and nothing of it changes
+/// but the rows that come in. With other margins the first row stays where it is.
+pub fn scrolls_leave_the_buffer()
+    ensures up { (n : ℕ) (v : GridView) → AreRows (rows_of v) → has_full_margins v.screen ≡ true
+        → KeepPlaces n v.screen.rows (rows_of v) (rows_of (grid_up n v)) }
+    ensures down { (n : ℕ) (v : GridView) → AreRows (rows_of v) → has_full_margins v.screen ≡ true
+        → KeepPlaces 0 (v.screen.rows - n) (rows_of v) (rows_of (grid_down n v)) }
+    ensures first_up { (n : ℕ) (s : Screen) (first : ℕ) → has_full_margins s ≡ false → first_scrolled_up n s first ≡ first }
+    ensures first_down { (n : ℕ) (s : Screen) (first : ℕ) → has_full_margins s ≡ false → first_scrolled_down n s first ≡ first }
 {}

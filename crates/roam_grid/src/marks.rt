@@ -25,7 +25,7 @@ impl Grid {
         ensures marks { self.new.marks ≡ all_off }
         ensures size { IsSameSize self.old.screen self.new.screen }
     {
-        self.marks = [false; 100];
+        self.marks = [false; 200];
     }
 
     /// Puts all marks on: for a change of how every row is shown.
@@ -36,14 +36,14 @@ impl Grid {
         ensures marks { self.new.marks ≡ all_on }
         ensures size { IsSameSize self.old.screen self.new.screen }
     {
-        self.marks = [true; 100];
+        self.marks = [true; 200];
     }
 }
 
 /// Marks a row.
 #[inline]
-pub fn mark_row(marks: &mut [bool; 100], row: usize)
-    requires row_in { row < 100 }
+pub fn mark_row(marks: &mut [bool; 200], row: usize)
+    requires row_in { row < 200 }
     ensures marks { marks.new ≡ row_marked row marks.old }
 {
     marks[row] = true;
@@ -51,8 +51,8 @@ pub fn mark_row(marks: &mut [bool; 100], row: usize)
 
 /// Marks the rows from one on and before another.
 #[inline]
-pub fn mark_rows(marks: &mut [bool; 100], from: usize, to: usize)
-    requires range { (from ≤ to) × (to ≤ 100) }
+pub fn mark_rows(marks: &mut [bool; 200], from: usize, to: usize)
+    requires range { (from ≤ to) × (to ≤ 200) }
     ensures marks { marks.new ≡ rows_marked from to marks.old }
 {
     marks[from..to].fill(true);
@@ -60,8 +60,8 @@ pub fn mark_rows(marks: &mut [bool; 100], from: usize, to: usize)
 
 /// Marks them where they move by n: not at all where n is 0.
 #[inline]
-pub fn mark_moved(marks: &mut [bool; 100], n: usize, from: usize, to: usize)
-    requires range { (from ≤ to) × (to ≤ 100) }
+pub fn mark_moved(marks: &mut [bool; 200], n: usize, from: usize, to: usize)
+    requires range { (from ≤ to) × (to ≤ 200) }
     ensures marks { marks.new ≡ moved_marked n from to marks.old }
 {
     if n != 0 {
@@ -71,8 +71,8 @@ pub fn mark_moved(marks: &mut [bool; 100], n: usize, from: usize, to: usize)
 
 /// Marks a row under a condition.
 #[inline]
-pub fn mark_where(marks: &mut [bool; 100], row: usize, on: bool)
-    requires row_in { row < 100 }
+pub fn mark_where(marks: &mut [bool; 200], row: usize, on: bool)
+    requires row_in { row < 200 }
     ensures marks { marks.new ≡ also_marked (λ r. (r == row) && on) marks.old }
 {
     if on {
@@ -82,7 +82,7 @@ pub fn mark_where(marks: &mut [bool; 100], row: usize, on: bool)
 
 /// Marks those of the rows from one on and before another that have an unguarded cell in the columns from one on and before another.
 pub fn mark_unguarded(
-    marks: &mut [bool; 100],
+    marks: &mut [bool; 200],
     ring: &Ring,
     rows: (usize, usize),
     columns: (usize, usize),

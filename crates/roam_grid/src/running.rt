@@ -12,7 +12,7 @@ use roam_cells::Cell;
 impl Grid {
     ghost use Rattle.roam_grid.specs.Marks.{marks_put_all, row_marked};
     ghost use Rattle.roam_grid.specs.Screen.{IsSameSize, mapped};
-    ghost use Rattle.roam_grid.specs.Writing.{put_all, first_put_all};
+    ghost use Rattle.roam_grid.specs.Writing.{settled, put_all, first_put_all};
 
     /// Writes printable ASCII bytes, 20 to 7E, at the cursor in the style and guard of a pen: what `put` does with the cell of each in
     /// turn.
@@ -28,6 +28,40 @@ impl Grid {
         } else {
             self.put_segments(pen, bytes, writing);
         }
+    }
+
+    /// The same of bytes that fit into one row after a pending wrap.
+    #[inline]
+    pub fn put_row_run(&mut self, pen: Cell, bytes: &[u8], writing: Writing)
+        requires printable { ArePrintable bytes.now }
+        requires some { 0 < length bytes.now }
+        requires fits { (settled self.old.screen).col + length bytes.now ≤ (settled self.old.screen).cols }
+        ensures screen { self.new.screen ≡ put_all (map (λ byte. ascii_in byte pen) bytes.now) writing self.old.screen }
+        ensures first { self.new.first ≡ first_put_all (map (λ byte. ascii_in byte pen) bytes.now) writing self.old.screen self.old.first }
+        ensures marks { self.new.marks ≡ marks_put_all (map (λ byte. ascii_in byte pen) bytes.now) writing self.old.screen self.old.marks }
+        ensures size { IsSameSize self.old.screen self.new.screen }
+    {
+        if writing.inserts {
+            self.put_each(pen, bytes, writing);
+        } else {
+            self.put_settled(pen, bytes, writing);
+        }
+    }
+
+    #[inline]
+    fn put_settled(&mut self, pen: Cell, bytes: &[u8], writing: Writing)
+        requires printable { ArePrintable bytes.now }
+        requires some { 0 < length bytes.now }
+        requires fits { (settled self.old.screen).col + length bytes.now ≤ (settled self.old.screen).cols }
+        requires over { writing.inserts ≡ false }
+        ensures screen { self.new.screen ≡ put_all (map (λ byte. ascii_in byte pen) bytes.now) writing self.old.screen }
+        ensures first { self.new.first ≡ first_put_all (map (λ byte. ascii_in byte pen) bytes.now) writing self.old.screen self.old.first }
+        ensures marks { self.new.marks ≡ marks_put_all (map (λ byte. ascii_in byte pen) bytes.now) writing self.old.screen self.old.marks }
+        ensures size { IsSameSize self.old.screen self.new.screen }
+    {
+        self.facts();
+        self.settle();
+        self.put_segment(pen, bytes, writing);
     }
 
     // Under IRM each character makes its own way.

@@ -66,6 +66,6 @@ impl Grid {
         ensures marks { self.new.marks ≡ self.old.marks }
         ensures size { IsSameSize self.old.screen self.new.screen }
     {
-        self.stops = [false; 250];
+        self.stops = [false; 500];
     }
 }

@@ -1,6 +1,7 @@
 //! Writing characters at the cursor.
-ghost use Rattle.std.specs.Prelude.{◌≡◌, ◌+◌, ◌<◌, ◌≤◌, false};
+ghost use Rattle.std.specs.Prelude.{◌≡◌, ◌+◌, ◌<◌, ◌≤◌, false, IsTrue};
 ghost use Rattle.roam_cells.specs.Glyph.{is_right_half};
+ghost use Rattle.roam_grid.specs.Writing.{columns};
 
 use crate::grids::Grid;
 use crate::marks::{mark_row, mark_where};
@@ -16,10 +17,19 @@ pub struct Writing {
     pub inserts: bool,
 }
 
+// The columns that a cell takes.
+#[inline]
+fn columns_of(cell: Cell) -> usize
+    ensures columns { result ≡ columns cell }
+    ensures few { result ≤ 2 }
+{
+    if cell.is_wide() { 2 } else { 1 }
+}
+
 impl Grid {
     ghost use Rattle.roam_grid.specs.Marks.{joins, marks_indexed, marks_joined, marks_joined_in, marks_put, marks_settled, marks_with_room, row_marked};
     ghost use Rattle.roam_grid.specs.Screen.{IsSameSize};
-    ghost use Rattle.roam_grid.specs.Writing.{columns, wrapped, settled, first_settled, with_room, first_with_room, made_way, inked, advanced, put_on, leaves_row, first_put, joined_in, joined_on};
+    ghost use Rattle.roam_grid.specs.Writing.{wrapped, settled, first_settled, with_room, first_with_room, made_way, inked, advanced, put_on, leaves_row, first_put, joined_in, joined_on};
     ghost use Rattle.roam_grid.specs.Cursor.{first_indexed};
 
     /// Whether a `put` of a cell of so many columns first scrolls a row out at the top margin.
@@ -49,6 +59,34 @@ impl Grid {
         self.make_way(columns, writing);
         self.ink(cell);
         self.advance(columns, writing);
+    }
+
+    /// Whether a cell fits where the cursor is with a column left after it: then writing it neither wraps nor scrolls.
+    #[inline]
+    pub fn fits_inside(&self, cell: Cell) -> bool
+        ensures settled { IsTrue result → self.now.screen.pending ≡ false }
+        ensures room { IsTrue result → self.now.screen.col + columns cell < self.now.screen.cols }
+        ensures only { self.now.screen.pending ≡ false → self.now.screen.col + columns cell < self.now.screen.cols → IsTrue result }
+    {
+        self.ring.facts();
+        !self.pending && self.col + columns_of(cell) < self.ring.cols()
+    }
+
+    /// Writes a cell that fits where the cursor is with a column left after it, as `put` does.
+    #[inline]
+    pub fn put_inside(&mut self, cell: Cell, writing: Writing)
+        requires no_half { is_right_half cell ≡ false }
+        requires settled { self.old.screen.pending ≡ false }
+        requires room { self.old.screen.col + columns cell < self.old.screen.cols }
+        requires over { writing.inserts ≡ false }
+        ensures screen { self.new.screen ≡ put_on cell writing self.old.screen }
+        ensures first { self.new.first ≡ first_put cell writing self.old.screen self.old.first }
+        ensures marks { self.new.marks ≡ marks_put cell writing self.old.screen self.old.marks }
+        ensures size { IsSameSize self.old.screen self.new.screen }
+    {
+        self.facts();
+        self.ink(cell);
+        self.advance(columns_of(cell), writing);
     }
 
     /// Joins a character of width 0 to the cell before the cursor, or with a wrap pending to the cursor's; a fourth code point, and one
@@ -91,8 +129,7 @@ impl Grid {
         } else {
             col
         };
-        let cell = row[base];
-        cell.with_point(c).chars().len() != cell.chars().len()
+        row[base].takes(c)
     }
 
     #[inline]
@@ -157,7 +194,7 @@ impl Grid {
         }
     }
 
-    #[inline]
+    #[inline(always)]
     #[tactic(auto, unfolding(crate::specs::Writing::inked))]
     fn ink(&mut self, cell: Cell)
         requires no_half { is_right_half cell ≡ false }
@@ -174,7 +211,7 @@ impl Grid {
     #[inline]
     #[tactic(auto, unfolding(crate::specs::Writing::advanced))]
     pub(crate) fn advance(&mut self, columns: usize, writing: Writing)
-        requires few { columns ≤ 250 }
+        requires few { columns ≤ 500 }
         ensures screen { self.new.screen ≡ advanced columns writing self.old.screen }
         ensures first { self.new.first ≡ self.old.first }
         ensures marks { self.new.marks ≡ self.old.marks }

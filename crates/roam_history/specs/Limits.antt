@@ -5,4 +5,4 @@ use Rattle.std.specs.Prelude.{ℕ, ◌≤◌}
 pub record IsHistorySize (lines cols : ℕ) : Type 0 where
   pub most_lines : lines ≤ 500
   pub least_columns : 4 ≤ cols
-  pub most_columns : cols ≤ 250
+  pub most_columns : cols ≤ 500

@@ -43,7 +43,7 @@ impl Fitted {
 }
 
 impl History {
-    /// Memory for this history at other columns, with nothing of it in there yet; `BadSize` outside 4 to 250 columns.
+    /// Memory for this history at other columns, with nothing of it in there yet; `BadSize` outside 4 to 500 columns.
     pub fn fit(&self, alloc: Global, cols: usize) -> Result<Fitted, Fault>
         ensures fitted { IfOk result (λ fitted. fitted ≡ record { lines = self.now.lines; cols = cols }) }
         ensures size { IfOk result (λ _. IsHistorySize self.now.lines cols) }
@@ -70,7 +70,7 @@ impl History {
         *self = history;
     }
 
-    /// Brings the history to other columns, as `fit` and `adopt` do; `BadSize` outside 4 to 250 columns. A refusal leaves it as it was.
+    /// Brings the history to other columns, as `fit` and `adopt` do; `BadSize` outside 4 to 500 columns. A refusal leaves it as it was.
     pub fn refit(&mut self, alloc: Global, cols: usize) -> Result<(), Fault>
         ensures history { OnOk result (self.new ≡ refitted cols self.old) }
         ensures refused { OnErr result (self.new ≡ self.old) }

@@ -14,7 +14,7 @@ use roam_cells::{Cell, Fault};
 use std::alloc::{AllocError, Global};
 use std::marker::Model;
 
-/// The last rows that were pushed, at most 500 of 4 to 250 columns each. Only `new`, `fit` and `refit` take memory.
+/// The last rows that were pushed, at most 500 of 4 to 500 columns each. Only `new`, `fit` and `refit` take memory.
 #[derive(Drop)]
 pub struct History {
     // As many lines as may be kept, from the first day on: the last `len` are the rows, oldest first, and those before them wait
@@ -51,7 +51,7 @@ fn blank_lines(
 }
 
 impl History {
-    /// A history of no row yet, for so many lines (0 keeps nothing) of so many columns; `BadSize` above 500 lines or outside 4 to 250
+    /// A history of no row yet, for so many lines (0 keeps nothing) of so many columns; `BadSize` above 500 lines or outside 4 to 500
     /// columns.
     pub fn new(alloc: Global, lines: usize, cols: usize) -> Result<History, Fault>
         ensures history { IfOk result (λ history. history ≡ empty lines cols) }
@@ -80,7 +80,7 @@ impl History {
         self.ring.len()
     }
 
-    /// The columns of each row, 4 to 250.
+    /// The columns of each row, 4 to 500.
     pub fn cols(&self) -> usize
         ensures cols { result ≡ self.now.cols }
     {

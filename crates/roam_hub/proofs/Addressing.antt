@@ -8,14 +8,20 @@ use Rattle.roam_sync.specs.declared.senders.Instruction.{Instruction}
 use Rattle.roam_wire.specs.declared.datagrams.Kind.TheVariants.{ToClient}
 use Rattle.roam_wire.specs.Datagrams.{DatagramValue, datagram_text}
 use Rattle.std.proofs.lemmas.List.{append_assoc, append-nil, map-append, length-map}
-use Rattle.roam_cells.specs.Screenshot.{Screenshot, IsScreenshot}
+use Rattle.roam_screens.specs.Screenshot.{Screenshot, IsScreenshot}
 use Rattle.roam_sync.specs.Senders.{Sending, newest, count, offered, sent_at}
 use Rattle.roam_sync.proofs.Ends.{marked_newest}
 use Rattle.roam_update.specs.ChangeText.{Change, change_read}
-use Rattle.roam_update.specs.Shots.{applied, difference, if_screenshot, screen_by}
-use Rattle.roam_update.specs.Tested.{is_screenshot}
-use Rattle.roam_update.proofs.Bounds.{most}
-use Rattle.roam_update.proofs.Testing.{screenshot_is}
+use Rattle.roam_screens.specs.Narrow.{IsOldScreenshot}
+use Rattle.roam_update.specs.Shots.{applied_one, applied_two, if_screenshot, if_old_screenshot, screen_by}
+use Rattle.roam_update.specs.Tested.{is_screenshot, is_old_screenshot}
+use Rattle.roam_update.specs.TableText.{tabled_read}
+use Rattle.roam_update.proofs.Testing.{screenshot_is, old_screenshot_is}
+use Rattle.roam_wire.specs.declared.versions.Version.{Version}
+use Rattle.roam_wire.specs.declared.versions.Version.TheVariants.{One, Two}
+use Rattle.roam_wire.specs.Versions.{most_bytes}
+use Rattle.roam_world.specs.Versions.{seen_by, IsSeenBy, difference_by, applied_by}
+use Rattle.roam_world.proofs.Versions.{change_short}
 use Rattle.roam_wire.specs.Cutting.{texts_of}
 use Rattle.roam_wire.specs.Instructions.{DownValue, down_text}
 use Rattle.roam_world.specs.Texts.{Address, datagram_with}
@@ -48,8 +54,8 @@ all_parcels ps to rest all e h =
 
 -- ---- an instruction
 
-applied_screen : (base s : Screenshot) (text : List ℕ) → applied base text ≡ Some s → IsScreenshot s
-applied_screen base s text e = go (change_read text) e
+applied_two_is : (base s : Screenshot) (text : List ℕ) → applied_two base text ≡ Some s → IsScreenshot s
+applied_two_is base s text e = go (tabled_read text) e
   where
     shown : (t : Screenshot) (b : Bool) → is_screenshot t ≡ b → cond b (Some t) None ≡ Some s → IsScreenshot s
     shown t true f g = let z : t ≡ s = cc in subst IsScreenshot z (screenshot_is t f)
@@ -59,6 +65,22 @@ applied_screen base s text e = go (change_read text) e
     go None f = absurd (cc)
     go (Some x) f = shown (screen_by base x) (is_screenshot (screen_by base x)) refl f
 
+applied_one_is : (base s : Screenshot) (text : List ℕ) → applied_one base text ≡ Some s → IsOldScreenshot s
+applied_one_is base s text e = go (change_read text) e
+  where
+    shown : (t : Screenshot) (b : Bool) → is_old_screenshot t ≡ b → cond b (Some t) None ≡ Some s → IsOldScreenshot s
+    shown t true f g = let z : t ≡ s = cc in subst IsOldScreenshot z (old_screenshot_is t f)
+    shown t false f g = absurd (cc)
+
+    go : (o : Option Change) → option_and_then (λ x. if_old_screenshot (screen_by base x)) o ≡ Some s → IsOldScreenshot s
+    go None f = absurd (cc)
+    go (Some x) f = shown (screen_by base x) (is_old_screenshot (screen_by base x)) refl f
+
+-- what a change leads to is a screen of its version
+applied_screen : (v : Version) (base s : Screenshot) (text : List ℕ) → applied_by v base text ≡ Some s → IsSeenBy v s
+applied_screen One base s text e = applied_one_is base s text e
+applied_screen Two base s text e = applied_two_is base s text e
+
 -- what is told, with how many acts were taken
 abbrev pub the_down : Instruction → ℕ → DownValue
 the_down told acked = record { old = told.old; new = told.new; floor = told.floor; acked = acked; change = told.change.items }
@@ -67,18 +89,19 @@ down_length : (d : DownValue) → length (down_text d) ≡ 32 + length d.change
 down_length d = omega arith
 
 -- an instruction that leads to a screen is short enough to be cut
-pub down_short : (d : DownValue) (base s : Screenshot) → d.change ≡ difference base s → applied base d.change ≡ Some s
-    → length (down_text d) ≤ 1228800
-down_short d base s e leads =
+pub down_short : (v : Version) (d : DownValue) (base s : Screenshot) → d.change ≡ difference_by v base s
+    → applied_by v base d.change ≡ Some s → length (down_text d) ≤ most_bytes v
+down_short v d base s e leads =
     let long = down_length d in
-    let few = most base s (applied_screen base s d.change leads) in
+    let few = change_short v base s (applied_screen v base s d.change leads) in
     let same = ap (λ (xs : List ℕ). length xs) e in
     omega (arith, long, few, same)
 
-pub letter_is : (s : Sending Screenshot) (taken : ℕ) (d : DownValue) (text : List ℕ) → d.old ≡ s.base.number → d.new ≡ (newest s).number
-    → d.floor ≡ s.base.number → d.acked ≡ taken → d.change ≡ difference s.base.state (newest s).state → text ≡ down_text d
-    → text ≡ down_text (down_from s taken)
-letter_is s taken d text o n f a c e =
+pub letter_is : (v : Version) (s : Sending Screenshot) (taken : ℕ) (d : DownValue) (text : List ℕ) → d.old ≡ s.base.number
+    → d.new ≡ (newest s).number
+    → d.floor ≡ s.base.number → d.acked ≡ taken → d.change ≡ difference_by v s.base.state (newest s).state → text ≡ down_text d
+    → text ≡ down_text (down_from v s taken)
+letter_is v s taken d text o n f a c e =
     e ∙ (λ i. down_text (record { old = o i; new = n i; floor = f i; acked = a i; change = c i }))
 
 pub last_fits : (a b : Bool) → b ≡ false → (a || b) ≡ a
@@ -94,14 +117,16 @@ pub not_held : (v : RecordView) (n : ℕ) (s : Screenshot) (now : ℕ) (b : Bool
     → b ≡ (nat_lt now (v.heard_at + 60000) && nat_lt (newest v.sender).number n && nat_lt (count v.sender) 8) → b ≡ false
     → v ≡ held v n s now
 unfolding holds_after
-not_held v n s now b e f = sym (λ i. record v { sender = cond ((sym e ∙ f) i) (offered v.sender n s) v.sender })
+not_held v n s now b e f = sym (λ i. record v { sender = cond ((sym e ∙ f) i) (offered v.sender n (seen_by v.version s)) v.sender })
 
-pub held_now : (v : RecordView) (n : ℕ) (s : Screenshot) (now : ℕ) (b : Bool) (sender : Sending Screenshot)
+pub held_now : (v : RecordView) (n : ℕ) (s : Screenshot) (now : ℕ) (b : Bool) (version : Version) (sender : Sending Screenshot)
+    → version ≡ v.version
     → b ≡ (nat_lt now (v.heard_at + 60000) && nat_lt (newest v.sender).number n && nat_lt (count v.sender) 8) → b ≡ true
-    → sender ≡ offered v.sender n s → record v { sender = sender } ≡ held v n s now
+    → sender ≡ offered v.sender n (seen_by v.version s) → record v { version = version; sender = sender } ≡ held v n s now
 unfolding holds_after
-held_now v n s now b sender e f g =
-    (λ i. record v { sender = g i }) ∙ sym (λ i. record v { sender = cond ((sym e ∙ f) i) (offered v.sender n s) v.sender })
+held_now v n s now b version sender same e f g =
+    (λ i. record v { version = same i; sender = g i })
+    ∙ sym (λ i. record v { sender = cond ((sym e ∙ f) i) (offered v.sender n (seen_by v.version s)) v.sender })
 
 -- ---- what goes to a start
 
@@ -111,7 +136,7 @@ as_many session client v texts e =
     sym (length-map texts (λ (x : Vec ℕ Global). x.items)) ∙ ap (λ (xs : List (List ℕ)). length xs) e
     ∙ length-map (datagrams_for session (client, v)) datagram_text
     ∙ length-map (enumerate_from 0 (letter v))
-    (datagram_with ToClient session client v.datagrams (v.instructions + 1) (length (letter v)))
+    (datagram_with v.version ToClient session client v.datagrams (v.instructions + 1) (length (letter v)))
     ∙ length-enumerate_from 0 (letter v)
 
 pub told_pieces : (session client : ℕ) (v : RecordView) (now k : ℕ) (texts : List (Vec ℕ Global))

@@ -73,14 +73,19 @@ pub done_stopped : (size : SessionSize) (log : List Entry) (id : ℕ) (acts : Li
     (r : Option Fault)
     → k < length acts → n ≡ k → AreDone size log id acts k old → is_some r ≡ true
     → ((l : List Entry) → Stands old size l
-    → IfSome r (λ fault. (fault ≡ OutOfMemory) ⊎ ((fault ≡ Busy) × (stops size l (get_or acts k d) ≡ true))))
+    → IfSome r (λ fault. ((fault ≡ OutOfMemory) × (stops size l (get_or acts k d) ≡ false))
+    ⊎ ((fault ≡ Busy) × (stops size l (get_or acts k d) ≡ true))))
     → IfSome r (λ _. new ≡ old) → TakesActs size log id acts (taking n r) new
 done_stopped size log id acts k n d old new None low at done some why same = absurd (cc)
 done_stopped size log id acts k n d old new (Some fault) low at done some why same =
     elim (why _ done.stands) [
       | inl memory ↦
-          no_memory k
-          (let r = done.reach in omega (arith, r)) low (λ i. taking (at i) (Some (memory i)))
+          let free : reach size log id acts
+          ≡ k + suc (reach size ((log ++ map (Did id) (take k acts)) ++ Did id (get_or acts k d) ∷ []) id (drop (suc k) acts)) =
+          done.reach ∙ ap (λ (xs : List Act). k + reach size (log ++ map (Did id) (take k acts)) id xs) (drop_next acts k d low)
+          ∙ ap (λ b. k + cond b 0 (suc (reach size ((log ++ map (Did id) (take k acts)) ++ Did id (get_or acts k d) ∷ []) id
+          (drop (suc k) acts)))) memory.1 in
+          no_memory k (omega (arith, free)) (λ i. taking (at i) (Some (memory.0 i)))
           (subst (λ (x : SessionView). Stands x size (log ++ map (Did id) (take k acts))) (sym same) done.stands)
       | inr busy ↦
           let here : reach size log id acts ≡ k =

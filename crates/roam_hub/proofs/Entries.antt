@@ -4,12 +4,14 @@ use Rattle.std.specs.Prelude.{nat_eq, nat_le, not, ◌&&◌}
 use Rattle.std.specs.List.{IsDistinct, AllByRecursion}
 use Rattle.std.specs.Map.{keys_of, lookup, set_value}
 use Rattle.std.proofs.lemmas.Bool.Decides.{nat_tests}
-use Rattle.std.proofs.lemmas.List.{length-map}
 use Rattle.roam_world.specs.Lists.{put}
 use Rattle.roam_world.specs.Servers.{Record, no_record, Server}
-use Rattle.roam_world.specs.Comings.{arrival_with}
+use Rattle.roam_wire.specs.Datagrams.{DatagramValue}
+use Rattle.roam_world.specs.Texts.{is_watching}
+use Rattle.roam_world.specs.Versions.{is_same_version}
+use Rattle.roam_world.specs.Comings.{arrival_with, is_same, most_of, alike_in, alike, is_full_for, is_of_other, is_else}
 use Rattle.roam_hub.specs.Servers.{RecordView, ServerView, kept_of, IsKept, AreKept, Stands}
-use Rattle.roam_hub.specs.Records.{Puts, known, added, entry_of}
+use Rattle.roam_hub.specs.Records.{Puts, known, added, entry_of, alike_entries, Fits, IsOther, another_version, another_kind}
 
 other_way : (i j : ℕ) (b : Bool) → nat_eq i j ≡ b → nat_eq j i ≡ b
 other_way i j true e = grind (arith, nat_tests)
@@ -143,62 +145,150 @@ pub record PutsWell (v : ServerView) (s : Server) (id : ℕ) (new : List (ℕ ×
   pub records : AreKept new (put s.records id r)
   pub others : (j : ℕ) → lookup (nat_eq j) new ≡ None → put s.records id r j ≡ no_record
 
-pub puts_well : (v : ServerView) (s : Server) (id : ℕ) (new : List (ℕ × RecordView)) (was is : RecordView) (r : Record) → Stands v s
-    → IsDistinct nat_eq (keys_of v.records) → Puts id v.records new was is → IsKept is r → PutsWell v s id new r
-puts_well v s id new was is r st d (known at same) k =
-    subst (λ (es : List (ℕ × RecordView)). PutsWell v s id es r) (sym same) (record {
+pub puts_well : (v : ServerView) (s : Server) (d : DatagramValue) (new : List (ℕ × RecordView)) (was is : RecordView) (r : Record)
+    → Stands v s
+    → IsDistinct nat_eq (keys_of v.records) → Puts d v.records new was is → IsKept is r → PutsWell v s d.client new r
+puts_well v s d new was is r st apart (known at fits same) k =
+    subst (λ (es : List (ℕ × RecordView)). PutsWell v s d.client es r) (sym same) (record {
       arrival =
-          keys_set id is v.records ∙ st.arrival
-          ∙ sym (ap (λ b. cond b s.arrival (s.arrival ++ id ∷ [])) (found id was v.records s.records at st.records).known);
-      records = kept_set id is r v.records s.records d k st.records;
-      others = (λ j none. go j (none_set id j is v.records none) (nat_eq id j) refl);
+          keys_set d.client is v.records ∙ st.arrival
+          ∙ sym (ap (λ b. cond b s.arrival (s.arrival ++ d.client ∷ [])) (found d.client was v.records s.records at st.records).known);
+      records = kept_set d.client is r v.records s.records apart k st.records;
+      others = (λ j none. go j (none_set d.client j is v.records none) (nat_eq d.client j) refl);
     })
   where
-    go : (j : ℕ) → lookup (nat_eq j) v.records ≡ None → (b : Bool) → nat_eq id j ≡ b → put s.records id r j ≡ no_record
+    go : (j : ℕ) → lookup (nat_eq j) v.records ≡ None → (b : Bool) → nat_eq d.client j ≡ b → put s.records d.client r j ≡ no_record
     go j none true e =
-        let z : Some was ≡ None = sym at ∙ ap (λ (i : ℕ). lookup (nat_eq i) v.records) (same_id id j e) ∙ none in absurd (cc)
-    go j none false e = put_other s.records id r j e ∙ st.others j none
-puts_well v s id new was is r st d (added at few first same) k =
-    subst (λ (es : List (ℕ × RecordView)). PutsWell v s id es r) (sym same) (record {
+        let z : Some was ≡ None = sym at ∙ ap (λ (i : ℕ). lookup (nat_eq i) v.records) (same_id d.client j e) ∙ none in absurd (cc)
+    go j none false e = put_other s.records d.client r j e ∙ st.others j none
+puts_well v s d new was is r st apart (added at few first same) k =
+    subst (λ (es : List (ℕ × RecordView)). PutsWell v s d.client es r) (sym same) (record {
       arrival =
-          keys_push id is v.records ∙ ap (λ (ks : List ℕ). ks ++ id ∷ []) st.arrival
-          ∙ sym (ap (λ b. cond b s.arrival (s.arrival ++ id ∷ [])) (unknown (s.records id) (st.others id at)));
-      records = kept_push id is r v.records s.records (apart_from id v.records at) k st.records;
+          keys_push d.client is v.records ∙ ap (λ (ks : List ℕ). ks ++ d.client ∷ []) st.arrival
+          ∙ sym (ap (λ b. cond b s.arrival (s.arrival ++ d.client ∷ [])) (unknown (s.records d.client) (st.others d.client at)));
+      records = kept_push d.client is r v.records s.records (apart_from d.client v.records at) k st.records;
       others =
           (λ j none.
-          let n = none_push id j is v.records none in
-          put_other s.records id r j (other_way j id false n.1) ∙ st.others j n.0);
+          let n = none_push d.client j is v.records none in
+          put_other s.records d.client r j (other_way j d.client false n.1) ∙ st.others j n.0);
     })
 
 -- what was kept of it
-pub was_kept : (v : ServerView) (s : Server) (id : ℕ) (new : List (ℕ × RecordView)) (was is : RecordView) → Stands v s
-    → Puts id v.records new was is → was ≡ kept_of (s.records id)
-was_kept v s id new was is st (known at same) = (found id was v.records s.records at st.records).kept
-was_kept v s id new was is st (added at few first same) = first ∙ sym (ap kept_of (st.others id at))
+pub was_kept : (v : ServerView) (s : Server) (d : DatagramValue) (new : List (ℕ × RecordView)) (was is : RecordView) → Stands v s
+    → Puts d v.records new was is → was ≡ kept_of (s.records d.client)
+was_kept v s d new was is st (known at fits same) = (found d.client was v.records s.records at st.records).kept
+was_kept v s d new was is st (added at few first same) = first ∙ sym (ap kept_of (st.others d.client at))
 
--- as many are known as there are records
-many : (v : ServerView) (s : Server) → Stands v s → length s.arrival ≡ length v.records
-many v s st = ap (λ (ks : List ℕ). length ks) (sym st.arrival) ∙ length-map v.records (λ (e : ℕ × RecordView). e.0)
+-- ---- how many are known
+
+-- as many records are of starts that only watch, or of others, as starts are
+alike_is : (w : Bool) (es : List (ℕ × RecordView)) (records : ℕ → Record) → AreKept es records
+    → length (alike_entries w es) ≡ length (alike_in records w (keys_of es))
+alike_is w [] records k = refl
+alike_is w (e ∷ es) records k =
+    go (is_same e.1.watches w) (is_same (records e.0).watches w) (ap (λ (v : RecordView). is_same v.watches w) k.0.kept)
+    (alike_is w es records k.1)
+  where
+    go : (a b : Bool) → a ≡ b → length (alike_entries w es) ≡ length (alike_in records w (keys_of es))
+        → length (cond {A = List (ℕ × RecordView)} a (e ∷ alike_entries w es) (alike_entries w es))
+        ≡ length (cond {A = List ℕ} b (e.0 ∷ alike_in records w (keys_of es)) (alike_in records w (keys_of es)))
+    go true true f more = omega (arith, more)
+    go false false f more = more
+    go true false f more = absurd (cc)
+    go false true f more = absurd (cc)
+
+many : (v : ServerView) (s : Server) (w : Bool) → Stands v s → length (alike s w) ≡ length (alike_entries w v.records)
+many v s w st =
+    sym (alike_is w v.records s.records st.records ∙ ap (λ (ks : List ℕ). length (alike_in s.records w ks)) st.arrival)
 
 -- there is room for one more record, or it is there
-pub room_is : (v : ServerView) (s : Server) (id : ℕ) → Stands v s → (lookup (nat_eq id) v.records ≡ None → length v.records < 64)
-    → (not (s.records id).known && nat_le 64 (length s.arrival)) ≡ false
-room_is v s id st free = go (lookup (nat_eq id) v.records) refl
+pub room_is : (v : ServerView) (s : Server) (d : DatagramValue) → Stands v s
+    → (lookup (nat_eq d.client) v.records ≡ None → length (alike_entries (is_watching d.kind) v.records) < most_of (is_watching d.kind))
+    → is_full_for s d ≡ false
+room_is v s d st free = go (lookup (nat_eq d.client) v.records) refl
   where
-    few : (a b : Bool) → nat_le 64 (length s.arrival) ≡ b → length v.records < 64 → (a && b) ≡ false
+    few : (a b : Bool) → nat_le (most_of (is_watching d.kind)) (length (alike s (is_watching d.kind))) ≡ b
+        → length (alike_entries (is_watching d.kind) v.records) < most_of (is_watching d.kind) → (a && b) ≡ false
     few false b e low = refl
     few true false e low = refl
-    few true true e low = let m = many v s st in grind (arith, nat_tests, m, low)
+    few true true e low = let m = many v s (is_watching d.kind) st in grind (arith, nat_tests, m, low)
 
-    go : (o : Option RecordView) → lookup (nat_eq id) v.records ≡ o → (not (s.records id).known && nat_le 64 (length s.arrival)) ≡ false
-    go None e = few (not (s.records id).known) (nat_le 64 (length s.arrival)) refl (free e)
-    go (Some x) e = ap (λ b. not b && nat_le 64 (length s.arrival)) (found id x v.records s.records e st.records).known
+    go : (o : Option RecordView) → lookup (nat_eq d.client) v.records ≡ o → is_full_for s d ≡ false
+    go None e =
+        few (not (s.records d.client).known) (nat_le (most_of (is_watching d.kind)) (length (alike s (is_watching d.kind)))) refl (free e)
+    go (Some x) e =
+        ap (λ b. not b && nat_le (most_of (is_watching d.kind)) (length (alike s (is_watching d.kind))))
+        (found d.client x v.records s.records e st.records).known
 
-pub is_full : (v : ServerView) (s : Server) (id : ℕ) → Stands v s → lookup (nat_eq id) v.records ≡ None → 64 ≤ length v.records
-    → (not (s.records id).known && nat_le 64 (length s.arrival)) ≡ true
-is_full v s id st none full =
-    ap (λ b. not b && nat_le 64 (length s.arrival)) (unknown (s.records id) (st.others id none))
-    ∙ (let m = many v s st in grind (arith, nat_tests, m, full))
+pub is_full : (v : ServerView) (s : Server) (d : DatagramValue) → Stands v s → lookup (nat_eq d.client) v.records ≡ None
+    → most_of (is_watching d.kind) ≤ length (alike_entries (is_watching d.kind) v.records) → is_full_for s d ≡ true
+is_full v s d st none full =
+    ap (λ b. not b && nat_le (most_of (is_watching d.kind)) (length (alike s (is_watching d.kind))))
+    (unknown (s.records d.client) (st.others d.client none))
+    ∙ (let m = many v s (is_watching d.kind) st in grind (arith, nat_tests, m, full))
+
+-- ---- the version and the kind
+
+and_no : (a b : Bool) → b ≡ true → (a && not b) ≡ false
+and_no true true e = refl
+and_no false true e = refl
+and_no true false e = absurd (cc)
+and_no false false e = refl
+
+-- a record is of a datagram's version and kind, or there is none
+pub record Suits (s : Server) (d : DatagramValue) : Type 0 where
+  pub version : is_of_other s d ≡ false
+  pub kind : is_else s d ≡ false
+
+kept_suits : (v : RecordView) (s : Server) (d : DatagramValue) → IsKept v (s.records d.client) → Fits v.version v.watches d → Suits s d
+kept_suits v s d k f =
+    record {
+      version =
+          and_no (s.records d.client).known (is_same_version (s.records d.client).version d.version)
+          (sym (ap (λ (x : RecordView). is_same_version x.version d.version) k.kept) ∙ f.version_is);
+      kind =
+          and_no (s.records d.client).known (is_same (s.records d.client).watches (is_watching d.kind))
+          (sym (ap (λ (x : RecordView). is_same x.watches (is_watching d.kind)) k.kept) ∙ f.watches_is);
+    }
+
+none_suits : (s : Server) (d : DatagramValue) → s.records d.client ≡ no_record → Suits s d
+none_suits s d none =
+    record {
+      version = ap (λ b. b && not (is_same_version (s.records d.client).version d.version)) (unknown (s.records d.client) none);
+      kind = ap (λ b. b && not (is_same (s.records d.client).watches (is_watching d.kind))) (unknown (s.records d.client) none);
+    }
+
+pub suits : (v : ServerView) (s : Server) (d : DatagramValue) → Stands v s
+    → ((x : RecordView) → lookup (nat_eq d.client) v.records ≡ Some x → Fits x.version x.watches d) → Suits s d
+suits v s d st fits = go (lookup (nat_eq d.client) v.records) refl
+  where
+    go : (o : Option RecordView) → lookup (nat_eq d.client) v.records ≡ o → Suits s d
+    go None e = none_suits s d (st.others d.client e)
+    go (Some x) e = kept_suits x s d (found d.client x v.records s.records e st.records) (fits x e)
+
+pub suits_put : (v : ServerView) (s : Server) (d : DatagramValue) (new : List (ℕ × RecordView)) (was is : RecordView) → Stands v s
+    → Puts d v.records new was is → Suits s d
+suits_put v s d new was is st (known at fits same) = kept_suits was s d (found d.client was v.records s.records at st.records) fits
+suits_put v s d new was is st (added at few first same) = none_suits s d (st.others d.client at)
+
+-- a record that is there is of another version, or of that version and another kind
+pub record Differs (s : Server) (d : DatagramValue) : Type 0 where
+  pub there : is_full_for s d ≡ false
+  pub version : is_of_other s d ≡ not (is_same_version (s.records d.client).version d.version)
+  pub kind : is_else s d ≡ not (is_same (s.records d.client).watches (is_watching d.kind))
+
+pub there_is : (v : ServerView) (s : Server) (d : DatagramValue) (x : RecordView) → Stands v s
+    → lookup (nat_eq d.client) v.records ≡ Some x → Differs s d
+there_is v s d x st at =
+    record {
+      there =
+          ap (λ b. not b && nat_le (most_of (is_watching d.kind)) (length (alike s (is_watching d.kind))))
+          (found d.client x v.records s.records at st.records).known;
+      version = ap (λ b. b && not (is_same_version (s.records d.client).version d.version))
+          (found d.client x v.records s.records at st.records).known;
+      kind = ap (λ b. b && not (is_same (s.records d.client).watches (is_watching d.kind)))
+          (found d.client x v.records s.records at st.records).known;
+    }
 
 -- what is kept of the record of an id
 pub entry_is : (v : ServerView) (s : Server) (id : ℕ) → Stands v s → entry_of (lookup (nat_eq id) v.records) ≡ kept_of (s.records id)
@@ -208,9 +298,12 @@ entry_is v s id st = go (lookup (nat_eq id) v.records) refl
     go None e = sym (ap kept_of (st.others id e))
     go (Some x) e = (found id x v.records s.records e st.records).kept
 
+pub found_at : (v : ServerView) (s : Server) (id : ℕ) (x : RecordView) → Stands v s → lookup (nat_eq id) v.records ≡ Some x
+    → x ≡ kept_of (s.records id)
+found_at v s id x st at = (found id x v.records s.records at st.records).kept
+
 -- and there is room for it
-pub has_room : (v : ServerView) (s : Server) (id : ℕ) (new : List (ℕ × RecordView)) (was is : RecordView) → Stands v s
-    → Puts id v.records new was is → (not (s.records id).known && nat_le 64 (length s.arrival)) ≡ false
-has_room v s id new was is st (known at same) =
-    ap (λ b. not b && nat_le 64 (length s.arrival)) (found id was v.records s.records at st.records).known
-has_room v s id new was is st (added at few first same) = room_is v s id st (λ none. few)
+pub has_room : (v : ServerView) (s : Server) (d : DatagramValue) (new : List (ℕ × RecordView)) (was is : RecordView) → Stands v s
+    → Puts d v.records new was is → is_full_for s d ≡ false
+has_room v s d new was is st (known at fits same) = (there_is v s d was st at).there
+has_room v s d new was is st (added at few first same) = room_is v s d st (λ none. few)

@@ -4,21 +4,22 @@ use Rattle.std.specs.Prelude.{Ok, Err, nat_le, nat_lt, is_none, length, drop}
 use Rattle.std.specs.List.{All}
 use Rattle.std.proofs.lemmas.List.Elements.{All-drop}
 use Rattle.roam_cells.specs.declared.faults.Fault.{Fault}
-use Rattle.roam_cells.specs.declared.faults.Fault.TheVariants.{OutOfMemory, BadSize, TooSmall, NoPane, PanesFull, LastPane, Busy, TooLong, BadDatagram, OtherSession, OtherClient, ClientsFull, BadChange, SendFull, Spent, BadAct}
+use Rattle.roam_cells.specs.declared.faults.Fault.TheVariants.{OutOfMemory, BadSize, TooSmall, NoPane, PanesFull, LastPane, Busy, TooLong, BadDatagram, OtherSession, OtherClient, ClientsFull, BadChange, SendFull, Spent, BadAct, Watching}
 use Rattle.roam_cells.specs.declared.faults.Reason.TheVariants.{Fragment}
-use Rattle.roam_cells.specs.Screenshot.{Screenshot}
+use Rattle.roam_screens.specs.Screenshot.{Screenshot}
 use Rattle.roam_acts.specs.Acts.{IsAct}
 use Rattle.roam_acts.specs.Senders.{Typing, acked_to, last_number}
-use Rattle.roam_update.specs.Shots.{applied}
 use Rattle.roam_sync.specs.declared.receivers.Step.{Step}
 use Rattle.roam_sync.specs.declared.receivers.Step.TheVariants as step
 use Rattle.roam_sync.specs.Receivers.{Receiving, pairs, state_at, from_floor, step_for}
 use Rattle.roam_sync.specs.Lines.{Delivers}
+use Rattle.roam_wire.specs.declared.versions.Version.{Version}
 use Rattle.roam_wire.specs.Datagrams.{DatagramValue, IsDatagram, datagram_text}
 use Rattle.roam_wire.specs.Gatherers.{Gathering, Answer, Whole, gather, piece_of}
 use Rattle.roam_wire.specs.Headers.{datagram_at, Refuses}
 use Rattle.roam_wire.specs.Instructions.{DownValue, IsDown, down_text, reason_for}
 use Rattle.roam_world.specs.Moments.{owed_from}
+use Rattle.roam_world.specs.Versions.{applied_by}
 use Rattle.roam_world.specs.Texts.{SaysDown, update_in}
 use Rattle.roam_world.specs.Clients.{Client as ClientOf, moment_of}
 use Rattle.roam_world.specs.Arrivals.{sent_back, kept, arriving, arriving_gathered, hearing_of}
@@ -27,11 +28,11 @@ use Rattle.roam_hub.specs.Clients.{ClientView, Stands, hearing_in, Told, NotTold
 
 -- ---- an instruction's text
 
-pub text_unread : (text : List ℕ) (r : Receiving Screenshot) (fault : Fault)
+pub text_unread : (version : Version) (text : List ℕ) (r : Receiving Screenshot) (fault : Fault)
     → (fault ≡ OutOfMemory) ⊎ (fault ≡ BadDatagram (reason_for 32 text))
-    → ((v : DownValue) → IsDown v → text ≡ down_text v → fault ≡ OutOfMemory) → NotTold text r fault
-text_unread text r fault (inl e) only = wants_memory e
-text_unread text r fault (inr e) only =
+    → ((v : DownValue) → IsDown v → text ≡ down_text v → fault ≡ OutOfMemory) → NotTold version text r fault
+text_unread version text r fault (inl e) only = wants_memory e
+text_unread version text r fault (inr e) only =
     not_read (reason_for 32 text)
     (record {
       none = (λ v is t. let z : BadDatagram (reason_for 32 text) ≡ OutOfMemory = sym e ∙ only v is t in absurd (cc));
@@ -51,11 +52,12 @@ base_held r old new floor =
     go true None e b f = absurd (cc)
     go false None e b f = absurd (cc)
 
-pub text_refused : (text : List ℕ) (r : Receiving Screenshot) (v : DownValue) (fault : Fault) → SaysDown text v
+pub text_refused : (version : Version) (text : List ℕ) (r : Receiving Screenshot) (v : DownValue) (fault : Fault) → SaysDown text v
     → step_for r v.old v.new v.floor ≡ step.New → (fault ≡ OutOfMemory) ⊎ (fault ≡ BadChange)
-    → (fault ≡ BadChange → (base : Screenshot) → state_at v.old (pairs r) ≡ Some base → applied base v.change ≡ None) → NotTold text r fault
-text_refused text r v fault says new (inl e) bad = wants_memory e
-text_refused text r v fault says new (inr e) bad =
+    → (fault ≡ BadChange → (base : Screenshot) → state_at v.old (pairs r) ≡ Some base → applied_by version base v.change ≡ None)
+    → NotTold version text r fault
+text_refused version text r v fault says new (inl e) bad = wants_memory e
+text_refused version text r v fault says new (inr e) bad =
     let b = base_held r v.old v.new v.floor new in
     bad_change_of v b.0 says new b.1 (bad e b.0 b.1) e
 
@@ -71,9 +73,9 @@ acts_acked old new n e all =
     go false false = All-drop IsAct (n - old.acked) old.acts all
 
 -- the newest number stays below 2^62
-pub told_number : (text : List ℕ) (old : Typing) (r : Receiving Screenshot) (answer : Step) (owes : Bool) (new : Typing)
-    (r' : Receiving Screenshot) → Told text old r answer owes new r' → r.newest.number < 2 ^ 62 → r'.newest.number < 2 ^ 62
-told_number text old r answer owes new r' t low = go (step_for r t.value.old t.value.new t.value.floor) refl
+pub told_number : (version : Version) (text : List ℕ) (old : Typing) (r : Receiving Screenshot) (answer : Step) (owes : Bool)
+    (new : Typing) (r' : Receiving Screenshot) → Told version text old r answer owes new r' → r.newest.number < 2 ^ 62 → r'.newest.number < 2 ^ 62
+told_number version text old r answer owes new r' t low = go (step_for r t.value.old t.value.new t.value.floor) refl
   where
     other : (s : Step) → step_for r t.value.old t.value.new t.value.floor ≡ s → (s ≡ step.New → ⊥) → r'.newest.number < 2 ^ 62
     other s e not =
@@ -108,24 +110,30 @@ not_datagram session id c bytes now BadChange new st why only = absurd why
 not_datagram session id c bytes now SendFull new st why only = absurd why
 not_datagram session id c bytes now Spent new st why only = absurd why
 not_datagram session id c bytes now BadAct new st why only = absurd why
+not_datagram session id c bytes now Watching new st why only = absurd why
 
 -- ---- a datagram
 
 -- a datagram of this start: what it is there is decided by what was gathered
 abbrev pub Admits : ClientView → DatagramValue → Type 0
-Admits v d = (c : ClientOf) → arriving v.session v.id c d ≡ arriving_gathered (gather c.gathering (piece_of d))
+Admits v d = (c : ClientOf) → c.version ≡ v.version
+    → arriving v.session v.id c d ≡ arriving_gathered (gather c.gathering (piece_of d))
 
 pub not_admitted : (session id : ℕ) (c : ClientOf) (bytes : List ℕ) (now : ℕ) (before : ClientView) (d : DatagramValue) (fault : Fault)
-    → Stands before session id c → IsTextOf bytes d → ((k : ClientOf) → arriving before.session before.id k d ≡ sent_back fault)
+    → Stands before session id c → IsTextOf bytes d
+    → ((k : ClientOf) → k.version ≡ before.version → arriving before.session before.id k d ≡ sent_back fault)
     → Hears session id c bytes now (Err fault) before
 not_admitted session id c bytes now before d fault st is back =
-    refused d fault is (subst (λ (v : ClientView). arriving v.session v.id c d ≡ sent_back fault) st (back c)) refl st
+    refused d fault is
+    (subst (λ (v : ClientView). arriving v.session v.id c d ≡ sent_back fault) st (back c (sym (ap (λ (v : ClientView). v.version) st))))
+    refl st
 
 arrives : (session id : ℕ) (c : ClientOf) (before : ClientView) (d : DatagramValue) (x : Option (Answer × Gathering))
     → Stands before session id c → Admits before d → gather before.gathering (piece_of d) ≡ x
     → arriving session id c d ≡ arriving_gathered x
 arrives session id c before d x st ok e =
-    subst (λ (v : ClientView). arriving v.session v.id c d ≡ arriving_gathered (gather c.gathering (piece_of d))) st (ok c)
+    subst (λ (v : ClientView). arriving v.session v.id c d ≡ arriving_gathered (gather c.gathering (piece_of d))) st
+    (ok c (sym (ap (λ (v : ClientView). v.version) st)))
     ∙ ap arriving_gathered (sym (ap (λ (v : ClientView). gather v.gathering (piece_of d)) st) ∙ e)
 
 gathers_as : (session id : ℕ) (c : ClientOf) (before : ClientView) (g : Gathering) → Stands before session id c → g ≡ before.gathering
@@ -153,37 +161,42 @@ piece_heard session id c bytes now before d h a g moment st is ok e k m =
     (λ i. record (st i) { gathering = g; clock = (m ∙ ap (λ (v : ClientView). max now v.clock) st) i })
 
 pub not_told : (session id : ℕ) (c : ClientOf) (bytes : List ℕ) (now : ℕ) (before : ClientView) (d : DatagramValue) (fault : Fault)
-    (text : List ℕ) (g g' : Gathering) (acts : Typing) (r : Receiving Screenshot)
+    (text : List ℕ) (g g' : Gathering) (version : Version) (acts : Typing) (r : Receiving Screenshot)
     → Stands before session id c → IsTextOf bytes d → Admits before d → gather before.gathering (piece_of d) ≡ Some (Whole text, g)
-    → NotTold text before.receiver fault → g' ≡ before.gathering → acts ≡ before.acts → r ≡ before.receiver
-    → Hears session id c bytes now (Err fault) (record before { acts = acts; gathering = g'; receiver = r })
-not_told session id c bytes now before d fault text g g' acts r st is ok e why same_g same_a same_r = go why
+    → NotTold before.version text before.receiver fault → g' ≡ before.gathering → version ≡ before.version → acts ≡ before.acts
+    → r ≡ before.receiver
+    → Hears session id c bytes now (Err fault) (record before { version = version; acts = acts; gathering = g'; receiver = r })
+not_told session id c bytes now before d fault text g g' version acts r st is ok e why same_g same_v same_a same_r = go why
   where
-    stays : Stands (record before { acts = acts; gathering = g'; receiver = r }) session id c
-    stays = (λ i. record before { acts = same_a i; gathering = same_g i; receiver = same_r i }) ∙ st
+    stays : Stands (record before { version = version; acts = acts; gathering = g'; receiver = r }) session id c
+    stays = (λ i. record before { version = same_v i; acts = same_a i; gathering = same_g i; receiver = same_r i }) ∙ st
 
-    go : NotTold text before.receiver fault
-        → Hears session id c bytes now (Err fault) (record before { acts = acts; gathering = g'; receiver = r })
+    go : NotTold before.version text before.receiver fault
+        → Hears session id c bytes now (Err fault) (record before { version = version; acts = acts; gathering = g'; receiver = r })
     go (not_read w says f) =
         unread d g text w is (arrives session id c before d (Some (Whole text, g)) st ok e) says (ap (λ x. Err x) f) stays
     go (bad_change_of v base says new held none f) =
         bad_change d g text v base is (arrives session id c before d (Some (Whole text, g)) st ok e) says
         (sym (ap (λ (x : ClientView). step_for x.receiver v.old v.new v.floor) st) ∙ new)
-        (sym (ap (λ (x : ClientView). state_at v.old (pairs x.receiver)) st) ∙ held) none (ap (λ x. Err x) f) stays
+        (sym (ap (λ (x : ClientView). state_at v.old (pairs x.receiver)) st) ∙ held)
+        (subst (λ (x : ClientView). applied_by x.version base v.change ≡ None) st none) (ap (λ x. Err x) f) stays
     go (wants_memory f) = no_memory (ap (λ x. Err x) f) stays
 
 pub is_told : (session id : ℕ) (c : ClientOf) (bytes : List ℕ) (now : ℕ) (before : ClientView) (d : DatagramValue) (h : Heard)
-    (text : List ℕ) (g : Gathering) (answer : Step) (newer : Bool) (acts : Typing) (r : Receiving Screenshot) (owed : Option ℕ)
-    (moment : ℕ)
+    (text : List ℕ) (g : Gathering) (answer : Step) (newer : Bool) (version : Version) (acts : Typing) (r : Receiving Screenshot)
+    (owed : Option ℕ) (moment : ℕ)
     → Stands before session id c → IsTextOf bytes d → Admits before d → gather before.gathering (piece_of d) ≡ Some (Whole text, g)
-    → Told text before.acts before.receiver answer newer acts r → hearing_in h ≡ hearing_of answer
+    → Told before.version text before.acts before.receiver answer newer acts r → hearing_in h ≡ hearing_of answer
+    → version ≡ before.version
     → owed ≡ cond newer (owed_from before.owed moment) before.owed → moment ≡ max now before.clock
-    → Hears session id c bytes now (Ok h) (record before { acts = acts; gathering = g; receiver = r; owed = owed; clock = moment })
-is_told session id c bytes now before d h text g answer newer acts r owed moment st is ok e t how owes m =
+    → Hears session id c bytes now (Ok h)
+    (record before { version = version; acts = acts; gathering = g; receiver = r; owed = owed; clock = moment })
+is_told session id c bytes now before d h text g answer newer version acts r owed moment st is ok e t how same_v owes m =
     whole d h g text t.value r is (arrives session id c before d (Some (Whole text, g)) st ok e) t.says
-    (subst (λ (v : ClientView). Delivers applied v.receiver (update_in t.value) r) st t.delivers) refl
+    (subst (λ (v : ClientView). Delivers (applied_by v.version) v.receiver (update_in t.value) r) st t.delivers) refl
     (how ∙ ap hearing_of (t.step ∙ ap (λ (v : ClientView). step_for v.receiver t.value.old t.value.new t.value.floor) st))
     (λ i. record (st i) {
+      version = (same_v ∙ ap (λ (v : ClientView). v.version) st) i;
       acts = (t.acts ∙ ap (λ (v : ClientView). acked_to v.acts t.value.acked) st) i;
       gathering = g;
       receiver = r;

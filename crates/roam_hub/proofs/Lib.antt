@@ -5,6 +5,7 @@ pub mod Sending
 pub mod Entries
 pub mod Doing
 pub mod Serving
+pub mod Watchers
 pub mod Recording
 pub mod Addressing
 pub mod Settling

@@ -3,6 +3,10 @@ use Rattle.std.proofs.Common.{◌≡◌, ℕ, zero, suc, ◌+◌, ◌<◌, ◌�
 use Rattle.std.specs.List.{enumerate_from}
 use Rattle.std.proofs.lemmas.List.{append_assoc}
 use Rattle.roam_wire.specs.declared.datagrams.Kind.{Kind}
+use Rattle.roam_wire.specs.declared.datagrams.Kind.TheVariants.{FromWatcher}
+use Rattle.roam_wire.specs.declared.versions.Version.{Version}
+use Rattle.roam_wire.specs.declared.versions.Version.TheVariants.{One, Two}
+use Rattle.roam_wire.specs.Versions.{most_pieces}
 use Rattle.roam_wire.specs.Cutting.{AreSendable}
 use Rattle.roam_wire.specs.Datagrams.{DatagramValue, IsDatagram, datagram_text}
 use Rattle.roam_world.specs.Texts.{datagram_with}
@@ -75,15 +79,16 @@ pack_more g ps done rest x y more p e is =
     n = pack_next g ps done rest x more p e
 
 -- a datagram with one of the pieces of a text has a text
-pub piece_sendable : (kind : Kind) (session client before id count index : ℕ) (ps : List (List ℕ)) (payload : List ℕ) → session < 2 ^ 64
-    → client < 2 ^ 64 → 1 ≤ id → id < 2 ^ 62 → before + length ps < 2 ^ 62 → AreSendable ps → count ≡ length ps → IsNext ps index payload
-    → IsDatagram (datagram_with kind session client before id count (index, payload))
-piece_sendable kind session client before id count index ps payload s c low high numbers can all n =
+pub piece_sendable : (v : Version) (kind : Kind) (session client before id count index : ℕ) (ps : List (List ℕ)) (payload : List ℕ)
+    → (kind ≡ FromWatcher → v ≡ Two) → session < 2 ^ 64
+    → client < 2 ^ 64 → 1 ≤ id → id < 2 ^ 62 → before + length ps < 2 ^ 62 → AreSendable v ps → count ≡ length ps → IsNext ps index payload
+    → IsDatagram (datagram_with v kind session client before id count (index, payload))
+piece_sendable v kind session client before id count index ps payload fit s c low high numbers can all n =
     let w = n.within in
     let len = can.lengths index n.within in
     let few = can.few in
     record {
-      version = refl;
+      kind = fit;
       session = s;
       client = c;
       number = (omega (arith), omega (arith, w, numbers));
@@ -93,6 +98,11 @@ piece_sendable kind session client before id count index ps payload s c low high
       len = (subst (λ (xs : List ℕ). 1 ≤ length xs) n.here len.low, subst (λ (xs : List ℕ). length xs ≤ 1200) n.here len.high);
       whole = (λ more. subst (λ (xs : List ℕ). length xs ≡ 1200) n.here (len.whole (omega (arith, all, more))));
     }
+
+-- no version allows more pieces than two bytes can tell
+pub at_most : (v : Version) → most_pieces v ≤ 4096
+at_most One = omega arith
+at_most Two = omega arith
 
 pub nothing_left : {X : Type 0} → (xs : List X) → length xs ≡ 0 → xs ≡ []
 nothing_left [] e = refl

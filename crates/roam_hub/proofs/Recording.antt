@@ -1,6 +1,6 @@
 -- What a record becomes.
-use Rattle.std.proofs.Common.{◌≡◌, ◌⊎◌, ℕ, ◌+◌, ◌-◌, ◌<◌, ◌≤◌, ◌^◌, List, [], ◌∷◌, ◌++◌, length, drop, Option, Some, None, Bool, true, false, inl, inr, refl, sym, ap, ◌∙◌, subst, cond, arith, Vec, length-drop}
-use Rattle.std.specs.Prelude.{nat_lt, nat_eq, is_some, unwrap_or, if◌then◌else◌}
+use Rattle.std.proofs.Common.{◌≡◌, ◌⊎◌, ℕ, zero, suc, take, ◌+◌, ◌-◌, ◌<◌, ◌≤◌, ◌^◌, List, [], ◌∷◌, ◌++◌, length, drop, Option, Some, None, Bool, true, false, inl, inr, refl, sym, ap, ◌∙◌, subst, cond, arith, Vec, length-drop}
+use Rattle.std.specs.Prelude.{Result, Ok, Err, IfOk, OnOk, slice_get, nat_lt, nat_eq, is_some, unwrap_or, if◌then◌else◌}
 use Rattle.std.specs.List.{All}
 use Rattle.std.specs.Map.{lookup, set_value}
 use Rattle.std.specs.declared.alloc.Global.{Global}
@@ -10,7 +10,7 @@ use Rattle.std.proofs.lemmas.List.Elements.{All-drop, All-nil}
 use Rattle.roam_cells.specs.declared.faults.Fault.{Fault}
 use Rattle.roam_cells.specs.declared.faults.Fault.TheVariants.{OutOfMemory, BadDatagram}
 use Rattle.roam_cells.specs.declared.faults.Reason.TheVariants.{Fragment}
-use Rattle.roam_cells.specs.Screenshot.{Screenshot}
+use Rattle.roam_screens.specs.Screenshot.{Screenshot}
 use Rattle.roam_acts.specs.declared.acts.Act.{Act}
 use Rattle.roam_acts.specs.Acts.{IsInRange}
 use Rattle.roam_acts.specs.Takers.{fresh_of}
@@ -20,20 +20,26 @@ use Rattle.roam_wire.specs.declared.gatherers.Gathered.{Gathered}
 use Rattle.roam_wire.specs.declared.gatherers.Gathered.TheVariants as gathered
 use Rattle.roam_wire.specs.Datagrams.{DatagramValue}
 use Rattle.roam_wire.specs.Gatherers.{Gathering, GathererValue, untaken, Whole, nothing, answer_of, gather, piece_of}
-use Rattle.roam_wire.specs.Instructions.{UpValue, IsUp, up_text, reason_for}
+use Rattle.roam_wire.specs.declared.versions.Version.{Version}
+use Rattle.roam_wire.specs.Instructions.{UpValue, IsUp, IsUpOf, up_text, reason_for}
 use Rattle.roam_session.specs.Sessions.{SessionSize, Entry}
 use Rattle.roam_session.specs.Stands.{SessionView, Stands as SessionStands}
 use Rattle.roam_world.specs.Moments.{owed_from}
 use Rattle.roam_world.specs.Numbers.{first_screen}
-use Rattle.roam_world.specs.Texts.{Address, SaysUp}
+use Rattle.roam_world.specs.Texts.{Address, is_watching, SaysUp}
+use Rattle.roam_world.specs.Versions.{is_same_version}
 use Rattle.roam_world.specs.Servers.{no_record}
-use Rattle.roam_world.specs.Comings.{coming_gathered}
+use Rattle.roam_world.specs.Comings.{coming_gathered, is_same, most_of}
+use Rattle.roam_world.proofs.Versions as versions
 use Rattle.roam_hub.specs.declared.taking.Taking.{Taking}
 use Rattle.roam_hub.specs.Servers.{RecordView, kept_of}
-use Rattle.roam_hub.specs.Records.{taking, TakesActs, heard_by, informed_by, Notes, piece, told, NotNoted, no_piece, unread, no_memory, known, added, NotesIn, NotNotedIn, room, entry_of}
+use Rattle.roam_hub.specs.Records.{taking, TakesActs, heard_by, informed_by, Notes, piece, told, NotNoted, no_piece, unread, no_memory, known, added, NotesIn, NotNotedIn, room, differs, entry_of, first_record, Fits, IsOther, another_version, another_kind, NotHeard, other, fitting, fitted, alike_entries}
 
-pub new_record : (g : Gathering) (taken : ℕ) (sender : Sending Screenshot) → g ≡ nothing → taken ≡ 0 → sender ≡ start first_screen
+pub new_record : (version v : Version) (watches : Bool) (g : Gathering) (taken : ℕ) (sender : Sending Screenshot) → v ≡ version
+    → g ≡ nothing → taken ≡ 0 → sender ≡ start first_screen
     → record {
+      version = v;
+      watches = watches;
       gathering = g;
       taken = taken;
       sender = sender;
@@ -43,10 +49,12 @@ pub new_record : (g : Gathering) (taken : ℕ) (sender : Sending Screenshot) →
       owed = None;
       datagrams = 0;
       instructions = 0;
-    } ≡ kept_of no_record
+    } ≡ first_record version watches
 unfolding no_record
-new_record g taken sender e f h =
+new_record version v watches g taken sender same e f h =
     λ i. record {
+      version = same i;
+      watches = watches;
       gathering = e i;
       taken = f i;
       sender = h i;
@@ -71,7 +79,7 @@ piece_noted old state d from now (gathered.Whole text) g new e not is = absurd (
 pub up_unread : (old : RecordView) (d : DatagramValue) (text : List ℕ) (g : Gathering) (fault : Fault)
     → gather old.gathering (piece_of d) ≡ Some (Whole text, g)
     → (fault ≡ OutOfMemory) ⊎ (fault ≡ BadDatagram (reason_for 18 text))
-    → ((u : UpValue) → IsUp u → text ≡ up_text u → fault ≡ OutOfMemory) → NotNoted old d fault
+    → ((u : UpValue) → IsUpOf (is_watching d.kind) u → text ≡ up_text u → fault ≡ OutOfMemory) → NotNoted old d fault
 up_unread old d text g fault at (inl e) only = no_memory e
 up_unread old d text g fault at (inr e) only =
     unread g text (reason_for 18 text) (ap coming_gathered at)
@@ -129,7 +137,8 @@ newest_acked s k = acked_last (s.base, s.later) s.base s.later k refl
 
 pub acts_noted : (old : RecordView) (before after : SessionView) (d : DatagramValue) (from : Address) (now : ℕ) (text : List ℕ)
     (u : UpValue)
-    (g kept : Gathering) (t : Taking) (new : RecordView) → gather old.gathering (piece_of d) ≡ Some (Whole text, g) → SaysUp text u
+    (g kept : Gathering) (t : Taking) (new : RecordView) → gather old.gathering (piece_of d) ≡ Some (Whole text, g)
+    → SaysUp (is_watching d.kind) text u
     → kept ≡ (if is_some t.stopped then old.gathering else g)
     → new ≡ informed_by old d from now kept u t.taken
     → ((size : SessionSize) (log : List Entry) → SessionStands before size log
@@ -144,41 +153,145 @@ pub kept_as : (old : Gathering) (g : GathererValue) (kept : Gathering) (stopped 
 kept_as old g kept stopped stop e is before =
     e ∙ (λ i. cond (is i) (unwrap_or (before i) g.current) g.current)
 
-pub informed_as : (old : RecordView) (d : DatagramValue) (from : Address) (now : ℕ) (g : Gathering) (u : UpValue) (n taken : ℕ)
-    (sender : Sending Screenshot) (owed : Option ℕ) → taken ≡ old.taken + n → sender ≡ acked old.sender u.acked
+pub informed_as : (old : RecordView) (d : DatagramValue) (from : Address) (now : ℕ) (g : Gathering) (u : UpValue) (n : ℕ)
+    (version : Version) (taken : ℕ) (sender : Sending Screenshot) (owed : Option ℕ) → version ≡ old.version → taken ≡ old.taken + n → sender ≡ acked old.sender u.acked
     → owed ≡ (if nat_eq (length u.acts) 0 then old.owed else owed_from old.owed now)
-    → record (heard_by old d from now g) { taken = taken; sender = sender; owed = owed } ≡ informed_by old d from now g u n
-informed_as old d from now g u n taken sender owed e f h =
-    λ i. record (heard_by old d from now g) { taken = e i; sender = f i; owed = h i }
+    → record (heard_by old d from now g) { version = version; taken = taken; sender = sender; owed = owed }
+    ≡ informed_by old d from now g u n
+informed_as old d from now g u n version taken sender owed v e f h =
+    λ i. record (heard_by old d from now g) { version = v i; taken = e i; sender = f i; owed = h i }
 
 -- ---- the record of a start
 
+pub with_both : (r : Result Taking Fault) (P : Taking → Type 0) (Q : Type 0) → IfOk r P → OnOk r Q → IfOk r (λ t. Q × P t)
+with_both (Ok t) P Q p q = (q, p)
+with_both (Err e) P Q p q = tt
+
+-- one more record is counted, or not
+alike_more : (w : Bool) (es : List (ℕ × RecordView)) (k : ℕ) (e : ℕ × RecordView) → slice_get es k ≡ Some e
+    → length (alike_entries w (take (suc k) es)) ≡ cond (is_same e.1.watches w) (length (alike_entries w (take k es)) + 1)
+    (length (alike_entries w (take k es)))
+alike_more w [] k e h = absurd (cc)
+alike_more w (x ∷ es) zero e h =
+    let z : x ≡ e = cc in
+    go (is_same x.1.watches w) ∙ ap (λ (y : ℕ × RecordView). cond (is_same y.1.watches w) 1 0) z
+  where
+    go : (b : Bool) → length (cond {A = List (ℕ × RecordView)} b (x ∷ []) []) ≡ cond b 1 0
+    go true = refl
+    go false = refl
+alike_more w (x ∷ es) (suc k) e h =
+    go (is_same x.1.watches w) (is_same e.1.watches w) (alike_more w es k e h)
+  where
+    go : (a b : Bool) → length (alike_entries w (take (suc k) es)) ≡ cond b (length (alike_entries w (take k es)) + 1)
+        (length (alike_entries w (take k es)))
+        → length (cond {A = List (ℕ × RecordView)} a (x ∷ alike_entries w (take (suc k) es)) (alike_entries w (take (suc k) es)))
+        ≡ cond b (length (cond {A = List (ℕ × RecordView)} a (x ∷ alike_entries w (take k es)) (alike_entries w (take k es))) + 1)
+        (length (cond {A = List (ℕ × RecordView)} a (x ∷ alike_entries w (take k es)) (alike_entries w (take k es))))
+    go false b f = f
+    go true true f = omega (arith, f)
+    go true false f = omega (arith, f)
+
+pub counted_more : (w : Bool) (es : List (ℕ × RecordView)) (k n m : ℕ) (e : ℕ × RecordView) (b : Bool) → slice_get es k ≡ Some e
+    → n ≡ length (alike_entries w (take k es)) → b ≡ is_same e.1.watches w → m ≡ (if b then n + 1 else n)
+    → m ≡ length (alike_entries w (take (k + 1) es))
+counted_more w es k n m e b at count is more =
+    more ∙ (λ i. cond (is i) (count i + 1) (count i)) ∙ sym (alike_more w es k e at)
+    ∙ ap (λ (j : ℕ). length (alike_entries w (take j es))) (let z : suc k ≡ k + 1 = omega arith in z)
+
+pub few_more : (k n m : ℕ) (b : Bool) → n ≤ k → m ≡ (if b then n + 1 else n) → m ≤ k + 1
+few_more k n m true low e = omega (arith, low, e)
+few_more k n m false low e = omega (arith, low, e)
+
+take_all : {X : Type 0} (xs : List X) (k : ℕ) → length xs ≤ k → take k xs ≡ xs
+take_all [] zero le = refl
+take_all [] (suc k) le = refl
+take_all (x ∷ xs) zero le = absurd (omega arith)
+take_all (x ∷ xs) (suc k) le = ap (λ ys. x ∷ ys) (take_all xs k (omega arith))
+
+pub take_whole_alike : (w : Bool) (es : List (ℕ × RecordView)) (k n : ℕ) → length es ≤ k
+    → n ≡ length (alike_entries w (take k es)) → n ≡ length (alike_entries w es)
+take_whole_alike w es k n le e = e ∙ ap (λ (xs : List (ℕ × RecordView)). length (alike_entries w xs)) (take_all es k le)
+
+-- as many as are counted
+pub few_alike : (count most : ℕ) (watches w : Bool) (now old : List (ℕ × RecordView)) → count ≡ length (alike_entries watches now)
+    → most ≡ most_of watches → now ≡ old → watches ≡ w → count < most → length (alike_entries w old) < most_of w
+few_alike count most watches w now old c m same e low =
+    subst (λ (k : ℕ). k < most_of w) (c ∙ (λ i. length (alike_entries (e i) (same i))))
+    (subst (λ (k : ℕ). count < k) (m ∙ ap most_of e) low)
+
+pub many_alike : (count most : ℕ) (watches w : Bool) (now old : List (ℕ × RecordView)) → count ≡ length (alike_entries watches now)
+    → most ≡ most_of watches → now ≡ old → watches ≡ w → most ≤ count → most_of w ≤ length (alike_entries w old)
+many_alike count most watches w now old c m same e low =
+    subst (λ (k : ℕ). most_of w ≤ k) (c ∙ (λ i. length (alike_entries (e i) (same i))))
+    (subst (λ (k : ℕ). k ≤ count) (m ∙ ap most_of e) low)
+
+-- a datagram of a record's version and kind
+pub same_kind : (a b : Bool) → is_same a b ≡ true → a ≡ b
+same_kind true true e = refl
+same_kind false false e = refl
+same_kind true false e = absurd (cc)
+same_kind false true e = absurd (cc)
+
+pub is_fitted : (v : RecordView) (d : DatagramValue) → Fits v.version v.watches d → v ≡ fitted v d
+is_fitted v d f =
+    λ i. record v {
+      version = versions.is_same-same v.version d.version f.version_is i;
+      watches = same_kind v.watches (is_watching d.kind) f.watches_is i;
+    }
+
+-- a record of a new start is of its first datagram's version and kind
+pub first_fits : (d : DatagramValue) → Fits d.version (is_watching d.kind) d
+first_fits d = record { version_is = versions.is_same-refl d.version; watches_is = go (is_watching d.kind) }
+  where
+    go : (b : Bool) → is_same b b ≡ true
+    go true = refl
+    go false = refl
+
 pub noted_known : (id : ℕ) (old new : List (ℕ × RecordView)) (was is : RecordView) (before after : SessionView) (d : DatagramValue)
     (from : Address) (now : ℕ) (t : Taking) → id ≡ d.client → lookup (nat_eq id) old ≡ Some was → new ≡ set_value (nat_eq id) old is
-    → Notes was before d from now t is after → NotesIn old before d from now t new after
-noted_known id old new was is before after d from now t same at set notes =
+    → Fits was.version was.watches d → Notes was before d from now t is after → NotesIn old before d from now t new after
+noted_known id old new was is before after d from now t same at set fits notes =
     record {
       was = was;
       is = is;
-      puts = known (ap (λ (i : ℕ). lookup (nat_eq i) old) (sym same) ∙ at) (set ∙ ap (λ (i : ℕ). set_value (nat_eq i) old is) same);
-      notes = notes;
+      puts = known (ap (λ (i : ℕ). lookup (nat_eq i) old) (sym same) ∙ at) fits (set ∙ ap (λ (i : ℕ). set_value (nat_eq i) old is) same);
+      notes = subst (λ (v : RecordView). Notes v before d from now t is after) (is_fitted was d fits) notes;
     }
 
 pub known_not_noted : (id : ℕ) (old : List (ℕ × RecordView)) (was : RecordView) (d : DatagramValue) (fault : Fault) → id ≡ d.client
-    → lookup (nat_eq id) old ≡ Some was → NotNoted was d fault → NotNotedIn old d fault
-known_not_noted id old was d fault same at none =
-    room (λ absent. let z : Some was ≡ None = sym here ∙ absent in absurd (cc))
-    (subst (λ (o : Option RecordView). NotNoted (entry_of o) d fault) (sym here) none)
+    → lookup (nat_eq id) old ≡ Some was → NotHeard was d fault → NotNotedIn old d fault
+known_not_noted id old was d fault same at none = go none
   where
     here : lookup (nat_eq d.client) old ≡ Some was
     here = ap (λ (i : ℕ). lookup (nat_eq i) old) (sym same) ∙ at
 
+    go : NotHeard was d fault → NotNotedIn old d fault
+    go (other o) = differs was here o
+    go (fitting f n) =
+        room (λ absent. let z : Some was ≡ None = sym here ∙ absent in absurd (cc))
+        (λ v e. let z : Some was ≡ Some v = sym here ∙ e in let same_v : was ≡ v = cc in
+        subst (λ (x : RecordView). Fits x.version x.watches d) same_v f)
+        (subst (λ (o : Option RecordView). NotNoted (entry_of o) d fault) (sym here) n)
+
+-- what isn't noted in a record of a new start isn't in none
+unfitted : (d : DatagramValue) (fault : Fault) → NotNoted (first_record d.version (is_watching d.kind)) d fault
+    → NotNoted (kept_of no_record) d fault
+unfitted d fault (no_piece e f) = no_piece e f
+unfitted d fault (unread g text why e says f) = unread g text why e says f
+unfitted d fault (no_memory f) = no_memory f
+
 pub new_not_noted : (old : List (ℕ × RecordView)) (was : RecordView) (d : DatagramValue) (fault : Fault)
-    → lookup (nat_eq d.client) old ≡ None → length old < 64 → was ≡ kept_of no_record → NotNoted was d fault → NotNotedIn old d fault
+    → lookup (nat_eq d.client) old ≡ None → length (alike_entries (is_watching d.kind) old) < most_of (is_watching d.kind)
+    → was ≡ first_record d.version (is_watching d.kind) → NotHeard was d fault → NotNotedIn old d fault
 new_not_noted old was d fault absent few first none =
-    room (λ x. few)
-    (subst (λ (o : Option RecordView). NotNoted (entry_of o) d fault) (sym absent)
-    (subst (λ (v : RecordView). NotNoted v d fault) first none))
+    go (subst (λ (v : RecordView). NotHeard v d fault) first none)
+  where
+    go : NotHeard (first_record d.version (is_watching d.kind)) d fault → NotNotedIn old d fault
+    go (other (another_version e f)) = let z = (first_fits d).version_is in absurd (cc)
+    go (other (another_kind v e f)) = let z = (first_fits d).watches_is in absurd (cc)
+    go (fitting f n) =
+        room (λ x. few) (λ v e. let z : Some v ≡ None = sym e ∙ absent in absurd (cc))
+        (subst (λ (o : Option RecordView). NotNoted (entry_of o) d fault) (sym absent) (unfitted d fault n))
 
 inserted_last : (id : ℕ) (w : RecordView) (es : List (ℕ × RecordView)) → lookup (nat_eq id) es ≡ None
     → insert_entry nat_eq es id w ≡ es ++ (id, w) ∷ []
@@ -192,17 +305,19 @@ inserted_last id w (e ∷ es) none = go (nat_eq id e.0) none (inserted_last id w
     go false n next = ap (λ (xs : List (ℕ × RecordView)). e ∷ xs) (next n)
 
 pub noted_added : (old between new : List (ℕ × RecordView)) (was is : RecordView) (before after : SessionView) (d : DatagramValue)
-    (from : Address) (now : ℕ) (t : Taking) → lookup (nat_eq d.client) old ≡ None → length old < 64 → was ≡ kept_of no_record
+    (from : Address) (now : ℕ) (t : Taking) → lookup (nat_eq d.client) old ≡ None
+    → length (alike_entries (is_watching d.kind) old) < most_of (is_watching d.kind)
+    → was ≡ first_record d.version (is_watching d.kind)
     → between ≡ old → new ≡ insert_entry nat_eq between d.client is → Notes was before d from now t is after
     → NotesIn old before d from now t new after
 noted_added old between new was is before after d from now t absent few first same put notes =
     record {
-      was = was;
+      was = kept_of no_record;
       is = is;
       puts =
-          added absent few first
+          added absent few refl
           (put ∙ ap (λ (es : List (ℕ × RecordView)). insert_entry nat_eq es d.client is) same ∙ inserted_last d.client is old absent);
-      notes = notes;
+      notes = subst (λ (v : RecordView). Notes v before d from now t is after) first notes;
     }
 
 pub set_same : (id : ℕ) (es : List (ℕ × RecordView)) (v w : RecordView) → lookup (nat_eq id) es ≡ Some v → w ≡ v

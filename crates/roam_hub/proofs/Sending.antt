@@ -1,5 +1,5 @@
 -- What a client start sends.
-use Rattle.std.proofs.Common.{◌≡◌, ◌⊎◌, ℕ, ◌+◌, ◌<◌, ◌^◌, max, List, [], ◌∷◌, length, take, map, Option, Some, None, Bool, true, false, inl, inr, refl, sym, ap, ◌∙◌, Vec, length-append}
+use Rattle.std.proofs.Common.{◌≡◌, ◌⊎◌, ℕ, ◌+◌, ◌<◌, ◌≤◌, ◌^◌, arith, max, List, [], ◌∷◌, length, take, map, Option, Some, None, Bool, true, false, inl, inr, refl, sym, ap, ◌∙◌, Vec, length-append}
 use Rattle.std.specs.Prelude.{Ok, Err, ◌||◌}
 use Rattle.std.specs.List.{enumerate_from}
 use Rattle.std.specs.declared.alloc.Global.{Global}
@@ -10,11 +10,14 @@ use Rattle.roam_cells.specs.declared.faults.Fault.TheVariants.{OutOfMemory, Spen
 use Rattle.roam_acts.specs.Senders.{Typing}
 use Rattle.roam_world.specs.Moments.{is_spent}
 use Rattle.roam_world.proofs.Keeps.{not_past, or_left, or_right}
-use Rattle.roam_wire.specs.declared.datagrams.Kind.TheVariants.{ToServer}
+use Rattle.roam_wire.specs.declared.datagrams.Kind.TheVariants.{FromWatcher}
+use Rattle.roam_wire.specs.declared.versions.Version.{Version}
+use Rattle.roam_wire.specs.declared.versions.Version.TheVariants.{One, Two}
+use Rattle.roam_wire.specs.Versions.{most_bytes}
 use Rattle.roam_wire.specs.Cutting.{texts_of}
 use Rattle.roam_wire.specs.Datagrams.{datagram_text}
 use Rattle.roam_wire.specs.Instructions.{UpValue, up_text}
-use Rattle.roam_world.specs.Texts.{datagram_with}
+use Rattle.roam_world.specs.Texts.{kind_from, datagram_with}
 use Rattle.roam_world.specs.Clients.{Client as ClientOf, moment_of}
 use Rattle.roam_world.specs.Sendings.{is_due_since, is_client_due, last_waiting, up_from, pieces_from}
 use Rattle.roam_hub.specs.Clients.{ClientView, view_of, Stands, bare, datagrams_by, is_view_spent, Sends, quiet, spent, sent, no_memory}
@@ -23,6 +26,16 @@ pub text_sent : (number : ℕ) (t : Typing) (u : UpValue) (text : List ℕ) → 
     → u.acts ≡ take 64 t.acts → text ≡ up_text u
     → text ≡ up_text (record { acked = number; first = t.acked + 1; acts = take 64 t.acts })
 text_sent number t u text a f s e = e ∙ (λ i. up_text (record { acked = a i; first = f i; acts = s i }))
+
+-- a text that is short enough for version 1 is for each
+pub short_in : (v : Version) (n : ℕ) → n ≤ 1228800 → n ≤ most_bytes v
+short_in One n few = few
+short_in Two n few = omega (arith, few)
+
+-- what a watcher sends tells it
+pub from_watcher : (watches : Bool) → kind_from watches ≡ FromWatcher → watches ≡ true
+from_watcher true e = refl
+from_watcher false e = absurd (cc)
 
 pub first_fits : (a b c : Bool) → a ≡ false → ((a || b) || c) ≡ (b || c)
 first_fits false b c e = refl
@@ -64,7 +77,7 @@ as_many v all e =
     sym (length-map all.items (λ (x : Vec ℕ Global). x.items)) ∙ ap (λ (xs : List (List ℕ)). length xs) e
     ∙ length-map (datagrams_by v) datagram_text
     ∙ length-map (enumerate_from 0 (pieces_from (bare v)))
-    (datagram_with ToServer v.session v.id v.datagrams (v.instructions + 1) (length (pieces_from (bare v))))
+    (datagram_with v.version (kind_from v.watches) v.session v.id v.datagrams (v.instructions + 1) (length (pieces_from (bare v))))
     ∙ length-enumerate_from 0 (pieces_from (bare v))
 
 pub all_sent : (session id : ℕ) (c : ClientOf) (now : ℕ) (before : ClientView) (moment : ℕ) (due : Bool)

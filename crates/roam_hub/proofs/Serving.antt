@@ -5,9 +5,9 @@ use Rattle.std.specs.List.{IsDistinct}
 use Rattle.std.specs.Map.{keys_of, lookup}
 use Rattle.std.proofs.lemmas.List.{take-append-le}
 use Rattle.roam_cells.specs.declared.faults.Fault.{Fault}
-use Rattle.roam_cells.specs.declared.faults.Fault.TheVariants.{OutOfMemory, BadSize, TooSmall, NoPane, PanesFull, LastPane, Busy, TooLong, BadDatagram, OtherSession, OtherClient, ClientsFull, BadChange, SendFull, Spent, BadAct}
+use Rattle.roam_cells.specs.declared.faults.Fault.TheVariants.{OutOfMemory, BadSize, TooSmall, NoPane, PanesFull, LastPane, Busy, TooLong, BadDatagram, OtherSession, OtherClient, ClientsFull, BadChange, SendFull, Spent, BadAct, Watching}
 use Rattle.roam_cells.specs.declared.faults.Reason.TheVariants as reason
-use Rattle.roam_cells.specs.Screenshot.{Screenshot}
+use Rattle.roam_screens.specs.Screenshot.{Screenshot}
 use Rattle.roam_acts.specs.declared.acts.Act.{Act}
 use Rattle.roam_wire.specs.Datagrams.{DatagramValue, IsDatagram, datagram_text}
 use Rattle.roam_wire.specs.Headers.{datagram_at, Refuses}
@@ -21,15 +21,17 @@ use Rattle.roam_session.specs.Queues.{IsWithin}
 use Rattle.roam_session.proofs.Entering.{waiting_is}
 use Rattle.roam_acts.specs.Takers.{fresh_of}
 use Rattle.roam_world.specs.Numbers.{cut, screen, first_screen}
-use Rattle.roam_world.specs.Texts.{Address}
+use Rattle.roam_wire.specs.declared.versions.Version.TheVariants.{Two}
+use Rattle.roam_world.specs.Texts.{Address, is_to_server, is_watching}
+use Rattle.roam_world.specs.Versions.{is_same_version}
 use Rattle.roam_world.specs.Lists.{put}
 use Rattle.roam_world.specs.Servers.{Record, Server, new_server, moment, after_input}
-use Rattle.roam_world.specs.Comings.{is_to_server, turned_away, coming, coming_gathered, arrival_with, heard_from, told_by, new_acts, after_acts, room_for}
+use Rattle.roam_world.specs.Comings.{turned_away, coming, coming_gathered, is_same, is_full_for, is_of_other, is_else, most_of, arrival_with, heard_from, told_by, new_acts, after_acts, room_for}
 use Rattle.roam_hub.specs.Clients.{IsTextOf}
 use Rattle.roam_hub.specs.declared.taking.Taking.{Taking}
 use Rattle.roam_hub.specs.Servers.{RecordView, ServerView, kept_of, IsKept, Stands, Feeds, refused, taken, Drains, no_pane, gone, stopped, Comes, no_datagram, piece, unread, all_taken, no_room, no_memory_at_act, no_memory}
-use Rattle.roam_hub.specs.Records.{answered, taking, TakesActs, all, full, no_memory as wants_memory, heard_by, informed_by, Notes, piece as noted_piece, told, NotNoted, no_piece, unread as not_read, NotesIn, NotNotedIn, room, entry_of}
-use Rattle.roam_hub.proofs.Entries.{PutsWell, puts_well, was_kept, has_room, entry_is, room_is, is_full}
+use Rattle.roam_hub.specs.Records.{answered, taking, TakesActs, all, full, no_memory as wants_memory, heard_by, informed_by, Notes, piece as noted_piece, told, NotNoted, no_piece, unread as not_read, NotesIn, NotNotedIn, room, differs, IsOther, another_version, another_kind, alike_entries, fitted, entry_of}
+use Rattle.roam_hub.proofs.Entries.{PutsWell, puts_well, was_kept, has_room, entry_is, found_at, room_is, is_full, Suits, suits, suits_put, Differs, there_is}
 
 -- ---- a new server
 
@@ -80,7 +82,7 @@ cut_same : (c : ℕ) (log more : List Entry) → c ≤ length log → take c (lo
 cut_same c log more low = rw take-append-le
 
 screen_stays : (size : SessionSize) (log more : List Entry) (cuts : List ℕ) (n : ℕ) → cut cuts n ≤ length log
-    → screen size (log ++ more) cuts n ≡ screen size log cuts n
+    → screen Two size (log ++ more) cuts n ≡ screen Two size log cuts n
 screen_stays size log more cuts n low = ap (λ (l : List Entry). cond (nat_eq n 0) first_screen (face size l)) (cut_same
     (cut cuts n) log more low)
 
@@ -144,34 +146,48 @@ drains_gone v s pane n state st why within more =
 
 -- ---- a datagram
 
--- of the right direction and session: what it is is decided by the records
-coming_is : (s : Server) (d : DatagramValue) → is_to_server d.kind ≡ true → nat_eq d.session s.session ≡ true
-    → (not (s.records d.client).known && nat_le 64 (length s.arrival)) ≡ false
-    → coming s d ≡ coming_gathered (gather (s.records d.client).gathering (piece_of d))
-coming_is s d k e r =
-    λ i. cond (not (k i)) (turned_away (BadDatagram reason.Kind)) (cond (not (e i)) (turned_away OtherSession)
-    (cond (r i) (turned_away ClientsFull) (coming_gathered (gather (s.records d.client).gathering (piece_of d)))))
-
 -- the direction and the session of a datagram are the server's
 pub record Admits (v : ServerView) (d : DatagramValue) : Type 0 where
   pub kind : is_to_server d.kind ≡ true
   pub session : nat_eq d.session v.session ≡ true
 
-coming_at : (v : ServerView) (s : Server) (d : DatagramValue) → Stands v s → Admits v d
-    → (not (s.records d.client).known && nat_le 64 (length s.arrival)) ≡ false
+here_is : (v : ServerView) (s : Server) (d : DatagramValue) → Stands v s → Admits v d → nat_eq d.session s.session ≡ true
+here_is v s d st a = subst (λ (n : ℕ). nat_eq d.session n ≡ true) st.session a.session
+
+-- what it is is decided by the records, by whether there is room, and by the version and the kind of the one that is there
+coming_by : (s : Server) (d : DatagramValue) (a b c : Bool) → is_to_server d.kind ≡ true → nat_eq d.session s.session ≡ true
+    → is_full_for s d ≡ a → is_of_other s d ≡ b → is_else s d ≡ c
+    → coming s d ≡ cond a (turned_away ClientsFull) (cond b (turned_away (BadDatagram reason.Version))
+    (cond c (turned_away (BadDatagram reason.Kind)) (coming_gathered (gather (s.records d.client).gathering (piece_of d)))))
+coming_by s d a b c k e f o x =
+    λ i. cond (not (k i)) (turned_away (BadDatagram reason.Kind)) (cond (not (e i)) (turned_away OtherSession)
+    (cond (f i) (turned_away ClientsFull) (cond (o i) (turned_away (BadDatagram reason.Version))
+    (cond (x i) (turned_away (BadDatagram reason.Kind)) (coming_gathered (gather (s.records d.client).gathering (piece_of d)))))))
+
+coming_at : (v : ServerView) (s : Server) (d : DatagramValue) → Stands v s → Admits v d → is_full_for s d ≡ false → Suits s d
     → coming s d ≡ coming_gathered (gather (s.records d.client).gathering (piece_of d))
-coming_at v s d st a r =
-    coming_is s d a.kind (subst (λ (n : ℕ). nat_eq d.session n ≡ true) st.session a.session) r
+coming_at v s d st a r f = coming_by s d false false false a.kind (here_is v s d st a) r f.version f.kind
 
 turned_full : (v : ServerView) (s : Server) (d : DatagramValue) → Stands v s → Admits v d → lookup (nat_eq d.client) v.records ≡ None
-    → 64 ≤ length v.records → coming s d ≡ turned_away ClientsFull
+    → most_of (is_watching d.kind) ≤ length (alike_entries (is_watching d.kind) v.records) → coming s d ≡ turned_away ClientsFull
 turned_full v s d st a absent many =
-    λ i. cond (not (a.kind i)) (turned_away (BadDatagram reason.Kind)) (cond (not (session i)) (turned_away OtherSession)
-    (cond (is_full v s d.client st absent many i) (turned_away ClientsFull)
-    (coming_gathered (gather (s.records d.client).gathering (piece_of d)))))
-  where
-    session : nat_eq d.session s.session ≡ true
-    session = subst (λ (n : ℕ). nat_eq d.session n ≡ true) st.session a.session
+    coming_by s d true (is_of_other s d) (is_else s d) a.kind (here_is v s d st a) (is_full v s d st absent many) refl refl
+
+-- the record that is there is of another version or kind
+turned_other : (v : ServerView) (s : Server) (d : DatagramValue) (x : RecordView) (fault : Fault) → Stands v s → Admits v d
+    → lookup (nat_eq d.client) v.records ≡ Some x → IsOther x.version x.watches d fault → coming s d ≡ turned_away fault
+turned_other v s d x fault st a at (another_version e why) =
+    coming_by s d false true (is_else s d) a.kind (here_is v s d st a) (there_is v s d x st at).there
+    ((there_is v s d x st at).version
+    ∙ ap (λ (r : RecordView). not (is_same_version r.version d.version)) (sym (found_at v s d.client x st at)) ∙ ap not e) refl
+    ∙ ap turned_away (sym why)
+turned_other v s d x fault st a at (another_kind same e why) =
+    coming_by s d false false true a.kind (here_is v s d st a) (there_is v s d x st at).there
+    ((there_is v s d x st at).version
+    ∙ ap (λ (r : RecordView). not (is_same_version r.version d.version)) (sym (found_at v s d.client x st at)) ∙ ap not same)
+    ((there_is v s d x st at).kind
+    ∙ ap (λ (r : RecordView). not (is_same r.watches (is_watching d.kind))) (sym (found_at v s d.client x st at)) ∙ ap not e)
+    ∙ ap turned_away (sym why)
 
 -- a server after a datagram was noted, with what was put into the session
 stands_noted : (v : ServerView) (s : Server) (id moment n : ℕ) (log : List Entry) (new : List (ℕ × RecordView)) (r : Record)
@@ -216,25 +232,25 @@ pub after_noted : (v : ServerView) (s : Server) (from : Address) (bytes : List �
 after_noted v s from bytes d now moment t new state st text admits m unique n = go n.notes
   where
     was : n.was ≡ kept_of (s.records d.client)
-    was = was_kept v s d.client new n.was n.is st n.puts
+    was = was_kept v s d new n.was n.is st n.puts
 
     comes : coming s d ≡ coming_gathered (gather n.was.gathering (piece_of d))
     comes =
-        coming_at v s d st admits (has_room v s d.client new n.was n.is st n.puts)
+        coming_at v s d st admits (has_room v s d new n.was n.is st n.puts) (suits_put v s d new n.was n.is st n.puts)
         ∙ sym (ap (λ (x : RecordView). coming_gathered (gather x.gathering (piece_of d))) was)
 
     at : moment ≡ max now s.clock
     at = m ∙ ap (λ (c : ℕ). max now c) st.clock
 
-    heard : (g : Gathering) → IsKept (heard_by n.was d from moment g) (heard_from (s.records d.client) d from (max now s.clock) g)
-    heard g = record { known = refl; kept = λ i. heard_by (was i) d from (at i) g }
+    heard : (g : Gathering) → IsKept (heard_by (fitted n.was d) d from moment g) (heard_from (s.records d.client) d from (max now s.clock) g)
+    heard g = record { known = refl; kept = λ i. heard_by (fitted (was i) d) d from (at i) g }
 
     informed : (g g' : Gathering) (u : UpValue) (k : ℕ) → g ≡ g'
-        → IsKept (informed_by n.was d from moment g u k) (told_by (s.records d.client) d from (max now s.clock) g' u k)
-    informed g g' u k e = record { known = refl; kept = λ i. informed_by (was i) d from (at i) (e i) u k }
+        → IsKept (informed_by (fitted n.was d) d from moment g u k) (told_by (s.records d.client) d from (max now s.clock) g' u k)
+    informed g g' u k e = record { known = refl; kept = λ i. informed_by (fitted (was i) d) d from (at i) (e i) u k }
 
     -- where acts are done
-    acts : (g g' : Gathering) (u : UpValue) (k : ℕ) (log : List Entry) → g ≡ g' → n.is ≡ informed_by n.was d from moment g u k
+    acts : (g g' : Gathering) (u : UpValue) (k : ℕ) (log : List Entry) → g ≡ g' → n.is ≡ informed_by (fitted n.was d) d from moment g u k
         → SessionStands state s.size (s.log ++ log)
         → Stands (record v { state = state; input = v.input || nat_lt 0 k; clock = moment; records = new }) (record s {
           log = s.log ++ log;
@@ -245,12 +261,12 @@ after_noted v s from bytes d now moment t new state st text admits m unique n = 
         })
     acts g g' u k log e is stands =
         stands_noted v s d.client moment k log new (told_by (s.records d.client) d from (max now s.clock) g' u k) state now st
-        (puts_well v s d.client new n.was n.is _ st unique n.puts
+        (puts_well v s d new n.was n.is _ st unique n.puts
         (subst (λ (x : RecordView). IsKept x (told_by (s.records d.client) d from (max now s.clock) g' u k)) (sym is)
         (informed g g' u k e)))
         stands m
 
-    go : Notes n.was v.state d from moment t n.is state
+    go : Notes (fitted n.was d) v.state d from moment t n.is state
         → Comes s from bytes now (answered (Ok t))
         (record v { state = state; input = v.input || nat_lt 0 t.taken; clock = moment; records = new })
     go (noted_piece g e none is same) =
@@ -272,20 +288,20 @@ after_noted v s from bytes d now moment t new state st text admits m unique n = 
       where
         put_well : PutsWell v s d.client new (heard_from (s.records d.client) d from (max now s.clock) g)
         put_well =
-            puts_well v s d.client new n.was n.is _ st unique n.puts
+            puts_well v s d new n.was n.is _ st unique n.puts
             (subst (λ (x : RecordView). IsKept x (heard_from (s.records d.client) d from (max now s.clock) g)) (sym is) (heard g))
     go (told g whole u e says is done) =
         acts_told (subst (λ (x : RecordView). TakesActs s.size s.log d.client (fresh_of x.taken u.first u.acts) t state) was
         (done s.size s.log st.log))
       where
-        same_now : t.stopped ≡ None → n.is ≡ informed_by n.was d from moment g u t.taken
-        same_now none = is ∙ ap (λ (o : Option Fault). informed_by n.was d from moment
+        same_now : t.stopped ≡ None → n.is ≡ informed_by (fitted n.was d) d from moment g u t.taken
+        same_now none = is ∙ ap (λ (o : Option Fault). informed_by (fitted n.was d) d from moment
             (if is_some o then n.was.gathering else g) u t.taken) none
 
         back_now : (fault : Fault) → t.stopped ≡ Some fault
-            → n.is ≡ informed_by n.was d from moment n.was.gathering u t.taken
+            → n.is ≡ informed_by (fitted n.was d) d from moment n.was.gathering u t.taken
         back_now fault stop =
-            is ∙ ap (λ (o : Option Fault). informed_by n.was d from moment (if is_some o then n.was.gathering else g) u t.taken) stop
+            is ∙ ap (λ (o : Option Fault). informed_by (fitted n.was d) d from moment (if is_some o then n.was.gathering else g) u t.taken) stop
 
         before : n.was.gathering ≡ (s.records d.client).gathering
         before = ap (λ (x : RecordView). x.gathering) was
@@ -297,7 +313,7 @@ after_noted v s from bytes d now moment t new state st text admits m unique n = 
         back fault k e stands =
             acts n.was.gathering (s.records d.client).gathering u k (map (Did d.client) (take k (new_acts s d u))) before
             (back_now fault (ap (λ (x : Taking). x.stopped) e)
-            ∙ ap (λ (m : ℕ). informed_by n.was d from moment n.was.gathering u m) (ap (λ (x : Taking). x.taken) e)) stands
+            ∙ ap (λ (m : ℕ). informed_by (fitted n.was d) d from moment n.was.gathering u m) (ap (λ (x : Taking). x.taken) e)) stands
 
         told_as : (x : Taking) → t ≡ x
             → Comes s from bytes now (answered (Ok x))
@@ -315,15 +331,15 @@ after_noted v s from bytes d now moment t new state st text admits m unique n = 
             (all_taken d g whole u text (comes ∙ e) says r refl
             (acts g g u (length (new_acts s d u)) (map (Did d.client) (take (length (new_acts s d u)) (new_acts s d u))) refl
             (same_now (ap (λ (y : Taking). y.stopped) x)
-            ∙ ap (λ (m : ℕ). informed_by n.was d from moment g u m) (ap (λ (y : Taking). y.taken) x))
+            ∙ ap (λ (m : ℕ). informed_by (fitted n.was d) d from moment g u m) (ap (λ (y : Taking). y.taken) x))
             (subst (λ (xs : List Act). SessionStands state s.size (s.log ++ map (Did d.client) xs)) (sym (take_all
             (new_acts s d u))) stands)))
         acts_told (full r x stands) =
             told_as (taking (room_for s d u) (Some Busy)) x
             (no_room d g whole u text (comes ∙ e) says r refl (back Busy (room_for s d u) x stands))
-        acts_told (wants_memory k low few x stands) =
+        acts_told (wants_memory k low x stands) =
             told_as (taking k (Some OutOfMemory)) x
-            (no_memory_at_act d g whole u k text (comes ∙ e) says low few refl (back OutOfMemory k x stands))
+            (no_memory_at_act d g whole u k text (comes ∙ e) says low refl (back OutOfMemory k x stands))
 
 -- ---- a datagram that isn't noted
 
@@ -334,14 +350,16 @@ none_noted v s from bytes d now fault st text admits (full absent many why) =
   where
     turned : coming s d ≡ turned_away ClientsFull
     turned = turned_full v s d st admits absent many
-none_noted v s from bytes d now fault st text admits (room free none) = go none
+none_noted v s from bytes d now fault st text admits (differs x at o) =
+    refused d fault text (turned_other v s d x fault st admits at o) refl st
+none_noted v s from bytes d now fault st text admits (room free fits none) = go none
   where
     was : entry_of (lookup (nat_eq d.client) v.records) ≡ kept_of (s.records d.client)
     was = entry_is v s d.client st
 
     comes : coming s d ≡ coming_gathered (gather (entry_of (lookup (nat_eq d.client) v.records)).gathering (piece_of d))
     comes =
-        coming_at v s d st admits (room_is v s d.client st free)
+        coming_at v s d st admits (room_is v s d st free) (suits v s d st fits)
         ∙ sym (ap (λ (x : RecordView). coming_gathered (gather x.gathering (piece_of d))) was)
 
     go : NotNoted (entry_of (lookup (nat_eq d.client) v.records)) d fault → Comes s from bytes now (answered (Err fault)) v
@@ -392,3 +410,4 @@ not_read_datagram s from bytes now BadChange v st why only = absurd why
 not_read_datagram s from bytes now SendFull v st why only = absurd why
 not_read_datagram s from bytes now Spent v st why only = absurd why
 not_read_datagram s from bytes now BadAct v st why only = absurd why
+not_read_datagram s from bytes now Watching v st why only = absurd why

@@ -8,18 +8,23 @@ use Rattle.std.proofs.lemmas.Bool.Decides.{nat_tests}
 use Rattle.std.proofs.lemmas.List.{map-append}
 use Rattle.roam_cells.specs.declared.faults.Fault.{Fault}
 use Rattle.roam_cells.specs.declared.faults.Fault.TheVariants.{OutOfMemory, Spent}
-use Rattle.roam_cells.specs.Screenshot.{Screenshot, IsScreenshot}
+use Rattle.roam_screens.specs.Screenshot.{Screenshot, IsScreenshot}
 use Rattle.roam_sync.specs.Senders.{Sending, sent_at}
 use Rattle.roam_wire.specs.declared.datagrams.Kind.TheVariants.{ToClient}
 use Rattle.roam_wire.specs.Cutting.{pieces_of}
 use Rattle.roam_wire.specs.Datagrams.{DatagramValue, datagram_text}
 use Rattle.roam_wire.specs.Instructions.{down_text}
 use Rattle.roam_session.specs.Faces.{face}
+use Rattle.roam_session.specs.Stands.{keeping}
 use Rattle.roam_world.specs.Moments.{has_passed, is_spent}
+use Rattle.roam_wire.specs.declared.versions.Version.{Version}
+use Rattle.roam_wire.specs.declared.versions.Version.TheVariants.{Two}
+use Rattle.roam_world.specs.Versions.{seen_by}
+use Rattle.roam_world.proofs.Keeps.{or_left}
 use Rattle.roam_world.specs.Numbers.{cut, screen, first_screen}
 use Rattle.roam_world.specs.Texts.{Address, datagrams_of}
 use Rattle.roam_world.specs.Servers.{Record, no_record, Server, moment}
-use Rattle.roam_world.specs.Ticks.{makes, cuts_after, number_after, screen_after, holds_after, sends, down_from, down_to, pieces_to, after_sent, ticked, datagrams_to, is_record_spent, parcel, parcels_to, sent_by, after_tick}
+use Rattle.roam_world.specs.Ticks.{makes, cuts_after, number_after, screen_after, screen_to, holds_after, sends, down_from, down_to, pieces_to, after_sent, ticked, datagrams_to, is_record_spent, Parcel, parcel, parcels_to, sent_by, after_tick}
 use Rattle.roam_hub.specs.declared.addresses.Addr.{Addr}
 use Rattle.roam_hub.specs.Servers.{RecordView, ServerView, kept_of, IsKept, AreKept, Stands, parcels_of, parcel_text, is_ack_spent, is_number_spent, Ticks, spent, ticked as did_tick, no_memory}
 use Rattle.roam_hub.specs.Records.{bare, is_told, pieces_told, settled_with, held, texts_for, is_entry_spent, settled_entry, makes_at, told_by, ticked_by, is_any_spent}
@@ -30,11 +35,12 @@ holds_is : (r : Record) (n : ℕ) (s : Screenshot) (now : ℕ) → r.known ≡ t
 unfolding holds_after
 holds_is r n s now known = ap (λ b. holds_after (record (bare (kept_of r)) { known = b }) n s now) (sym known)
 
-sends_is : (r : Record) (n : ℕ) (s : Screenshot) (now : ℕ) → r.known ≡ true → is_told (held (kept_of r) n s now) now ≡ sends r n s now
+sends_is : (r : Record) (n : ℕ) (s : Screenshot) (now : ℕ) → r.known ≡ true
+    → is_told (held (kept_of r) n s now) now ≡ sends r n (seen_by r.version s) now
 unfolding sends
 sends_is r n s now known =
     (λ i. (sym known i && nat_lt now (r.heard_at + 60000))
-    && (Rattle.roam_sync.specs.Senders.is_due (holds_is r n s now known i) now || Rattle.roam_world.specs.Moments.is_overdue r.owed now))
+    && (Rattle.roam_sync.specs.Senders.is_due (holds_is r n (seen_by r.version s) now known i) now || Rattle.roam_world.specs.Moments.is_overdue r.owed now))
 
 -- what goes to it
 map_parcel : (to : Address) (ds : List DatagramValue) → map (λ d. (to, datagram_text d)) ds ≡ map parcel_text (map (parcel to) ds)
@@ -42,29 +48,31 @@ map_parcel to [] = refl
 map_parcel to (d ∷ ds) = ap (λ (xs : List (Address × List ℕ)). (to, datagram_text d) ∷ xs) (map_parcel to ds)
 
 texts_are : (session id : ℕ) (r : Record) (n : ℕ) (s : Screenshot) (now : ℕ) → r.known ≡ true
-    → texts_for session n s now (id, kept_of r) ≡ map parcel_text (map (parcel r.address) (datagrams_to session id r n s now))
+    → texts_for session n s now (id, kept_of r)
+    ≡ map parcel_text (map (parcel r.address) (datagrams_to session id r n (seen_by r.version s) now))
 texts_are session id r n s now known =
-    (λ i. cond (sends_is r n s now known i) (map (λ d. (r.address, datagram_text d)) (datagrams_of ToClient session id r.datagrams
-    (length r.instructions + 1) (pieces_of (down_text (down_from (holds_is r n s now known i) r.taken))))) [])
-    ∙ go (sends r n s now)
+    (λ i. cond (sends_is r n s now known i) (map (λ d. (r.address, datagram_text d)) (datagrams_of r.version ToClient session id r.datagrams
+    (length r.instructions + 1) (pieces_of (down_text (down_from r.version (holds_is r n (seen_by r.version s) now known i) r.taken))))) [])
+    ∙ go (sends r n (seen_by r.version s) now)
   where
     ds : List DatagramValue
-    ds = datagrams_of ToClient session id r.datagrams (length r.instructions + 1) (pieces_to r n s now)
+    ds =
+        datagrams_of r.version ToClient session id r.datagrams (length r.instructions + 1) (pieces_to r n (seen_by r.version s) now)
 
-    go : (b : Bool) → cond b (map (λ d. (r.address, datagram_text d)) (datagrams_of ToClient session id r.datagrams
-        (length r.instructions + 1) (pieces_to r n s now))) []
-        ≡ map parcel_text (map (parcel r.address) (cond b (datagrams_of ToClient session id r.datagrams (length r.instructions + 1)
-        (pieces_to r n s now)) []))
+    go : (b : Bool) → cond b (map (λ d. (r.address, datagram_text d)) ds) [] ≡ map parcel_text (map (parcel r.address) (cond b ds []))
     go true = map_parcel r.address ds
     go false = refl
 
 -- whether its numbers are spent
 spent_is : (id : ℕ) (r : Record) (n : ℕ) (s : Screenshot) (now : ℕ) → r.known ≡ true
-    → is_entry_spent n s now (id, kept_of r) ≡ (is_record_spent r n s now || (sends r n s now && is_spent r.taken))
+    → is_entry_spent n s now (id, kept_of r)
+    ≡ (is_record_spent r n (seen_by r.version s) now || (sends r n (seen_by r.version s) now && is_spent r.taken))
 spent_is id r n s now known =
     (λ i. sends_is r n s now known i && (is_spent (length r.instructions + 1)
-    || is_spent (r.datagrams + length (pieces_of (down_text (down_from (holds_is r n s now known i) r.taken)))) || is_spent r.taken))
-    ∙ split (sends r n s now) (is_spent (length r.instructions + 1) || is_spent (r.datagrams + length (pieces_to r n s now)))
+    || is_spent (r.datagrams + length (pieces_of (down_text (down_from r.version (holds_is r n (seen_by r.version s) now known i) r.taken))))
+    || is_spent r.taken))
+    ∙ split (sends r n (seen_by r.version s) now)
+    (is_spent (length r.instructions + 1) || is_spent (r.datagrams + length (pieces_to r n (seen_by r.version s) now)))
     (is_spent r.taken)
   where
     split : (a b c : Bool) → (a && (b || c)) ≡ ((a && b) || (a && c))
@@ -73,34 +81,34 @@ spent_is id r n s now known =
 
 -- what is kept of it
 kept_ticked : (r : Record) (n : ℕ) (s : Screenshot) (now : ℕ) → r.known ≡ true
-    → IsKept (settled_with (held (kept_of r) n s now) (pieces_told (held (kept_of r) n s now) now) now) (ticked r n s now)
+    → IsKept (settled_with (held (kept_of r) n s now) (pieces_told (held (kept_of r) n s now) now) now)
+    (ticked r n (seen_by r.version s) now)
 kept_ticked r n s now known =
-    subst (λ (v : RecordView). IsKept v (ticked r n s now)) (sym same) (go (sends r n s now))
+    subst (λ (v : RecordView). IsKept v (ticked r n seen now)) (sym same) (go (sends r n seen now))
   where
-    told : Sending Screenshot → Bool → RecordView
-    told h b =
-        settled_with (record (kept_of r) { sender = h }) (cond b (Some (length (pieces_of (down_text (down_from h r.taken))))) None) now
+    seen : Screenshot
+    seen = seen_by r.version s
 
     same : settled_with (held (kept_of r) n s now) (pieces_told (held (kept_of r) n s now) now) now
-        ≡ settled_with (record (kept_of r) { sender = holds_after r n s now })
-        (cond (sends r n s now) (Some (length (pieces_to r n s now))) None) now
+        ≡ settled_with (record (kept_of r) { sender = holds_after r n seen now })
+        (cond (sends r n seen now) (Some (length (pieces_to r n seen now))) None) now
     same =
-        λ i. settled_with (record (kept_of r) { sender = holds_is r n s now known i })
-        (cond (sends_is r n s now known i) (Some (length (pieces_of (down_text (down_from
-        (holds_is r n s now known i) r.taken))))) None) now
+        λ i. settled_with (record (kept_of r) { sender = holds_is r n seen now known i })
+        (cond (sends_is r n s now known i) (Some (length (pieces_of (down_text (down_from r.version
+        (holds_is r n seen now known i) r.taken))))) None) now
 
-    go : (b : Bool) → IsKept (settled_with (record (kept_of r) { sender = holds_after r n s now })
-        (cond b (Some (length (pieces_to r n s now))) None) now)
-        (cond b (after_sent r n s now) (record r { sender = holds_after r n s now }))
+    go : (b : Bool) → IsKept (settled_with (record (kept_of r) { sender = holds_after r n seen now })
+        (cond b (Some (length (pieces_to r n seen now))) None) now)
+        (cond b (after_sent r n seen now) (record r { sender = holds_after r n seen now }))
     go true =
         record {
           known = known;
           kept =
               (λ i. record (kept_of r) {
-                sender = sent_at (holds_after r n s now) now;
+                sender = sent_at (holds_after r n seen now) now;
                 owed = None;
-                datagrams = r.datagrams + length (pieces_to r n s now);
-                instructions = sym (length-append r.instructions (down_to r n s now ∷ [])) i;
+                datagrams = r.datagrams + length (pieces_to r n seen now);
+                instructions = sym (length-append r.instructions (down_to r n seen now ∷ [])) i;
               });
         }
     go false = record { known = known; kept = refl }
@@ -128,25 +136,29 @@ none_settled n s now j (e ∷ es) none = go (nat_eq j e.0) none (none_settled n 
     go false m next = next m
 
 kept_settled : (n : ℕ) (s : Screenshot) (now : ℕ) (es : List (ℕ × RecordView)) (records : ℕ → Record) → AreKept es records
-    → AreKept (map (settled_entry n s now) es) (λ id. ticked (records id) n s now)
+    → AreKept (map (settled_entry n s now) es) (λ id. ticked (records id) n (seen_by (records id).version s) now)
 kept_settled n s now [] records k = tt
 kept_settled n s now (e ∷ es) records k = (
-  subst (λ (v : RecordView). IsKept (settled_with (held v n s now) (pieces_told (held v n s now) now) now) (ticked (records e.0) n s now))
+  subst (λ (v : RecordView). IsKept (settled_with (held v n s now) (pieces_told (held v n s now) now) now)
+      (ticked (records e.0) n (seen_by (records e.0).version s) now))
       (sym k.0.kept) (kept_ticked (records e.0) n s now k.0.known),
   kept_settled n s now es records k.1,
 )
 
+-- the parcels to a client start
+abbrev parcels_for : ℕ → ℕ → Screenshot → ℕ → (ℕ → Record) → ℕ → List Parcel
+parcels_for session n s now records id =
+    map (parcel (records id).address) (datagrams_to session id (records id) n (seen_by (records id).version s) now)
+
 all_texts : (session n : ℕ) (s : Screenshot) (now : ℕ) (es : List (ℕ × RecordView)) (records : ℕ → Record) → AreKept es records
-    → flat_map (texts_for session n s now) es
-    ≡ map parcel_text (flat_map (λ id. map (parcel (records id).address) (datagrams_to session id (records id) n s now)) (keys_of es))
+    → flat_map (texts_for session n s now) es ≡ map parcel_text (flat_map (parcels_for session n s now records) (keys_of es))
 all_texts session n s now [] records k = refl
 all_texts session n s now (e ∷ es) records k =
     (λ i. first i ++ all_texts session n s now es records k.1 i)
-    ∙ sym (map-append parcel_text (map (parcel (records e.0).address) (datagrams_to session e.0 (records e.0) n s now))
-    (flat_map (λ id. map (parcel (records id).address) (datagrams_to session id (records id) n s now)) (keys_of es)))
+    ∙ sym (map-append parcel_text (parcels_for session n s now records e.0)
+    (flat_map (parcels_for session n s now records) (keys_of es)))
   where
-    first : texts_for session n s now e
-        ≡ map parcel_text (map (parcel (records e.0).address) (datagrams_to session e.0 (records e.0) n s now))
+    first : texts_for session n s now e ≡ map parcel_text (parcels_for session n s now records e.0)
     first =
         ap (λ (v : RecordView). texts_for session n s now (e.0, v)) k.0.kept ∙ texts_are session e.0 (records e.0) n s now k.0.known
 
@@ -157,17 +169,19 @@ four false true false d = refl
 four false false c d = refl
 
 all_spent : (n : ℕ) (s : Screenshot) (now : ℕ) (es : List (ℕ × RecordView)) (records : ℕ → Record) → AreKept es records
-    → list_any (is_entry_spent n s now) es ≡ (list_any (λ id. is_record_spent (records id) n s now) (keys_of es)
-    || list_any (λ id. sends (records id) n s now && is_spent (records id).taken) (keys_of es))
+    → list_any (is_entry_spent n s now) es
+    ≡ (list_any (λ id. is_record_spent (records id) n (seen_by (records id).version s) now) (keys_of es)
+    || list_any (λ id. sends (records id) n (seen_by (records id).version s) now && is_spent (records id).taken) (keys_of es))
 all_spent n s now [] records k = refl
 all_spent n s now (e ∷ es) records k =
     (λ i. first i || all_spent n s now es records k.1 i)
-    ∙ four (is_record_spent (records e.0) n s now) (sends (records e.0) n s now && is_spent (records e.0).taken)
-    (list_any (λ id. is_record_spent (records id) n s now) (keys_of es))
-    (list_any (λ id. sends (records id) n s now && is_spent (records id).taken) (keys_of es))
+    ∙ four (is_record_spent (records e.0) n (seen_by (records e.0).version s) now)
+    (sends (records e.0) n (seen_by (records e.0).version s) now && is_spent (records e.0).taken)
+    (list_any (λ id. is_record_spent (records id) n (seen_by (records id).version s) now) (keys_of es))
+    (list_any (λ id. sends (records id) n (seen_by (records id).version s) now && is_spent (records id).taken) (keys_of es))
   where
-    first : is_entry_spent n s now e
-        ≡ (is_record_spent (records e.0) n s now || (sends (records e.0) n s now && is_spent (records e.0).taken))
+    first : is_entry_spent n s now e ≡ (is_record_spent (records e.0) n (seen_by (records e.0).version s) now
+        || (sends (records e.0) n (seen_by (records e.0).version s) now && is_spent (records e.0).taken))
     first = ap (λ (v : RecordView). is_entry_spent n s now (e.0, v)) k.0.kept ∙ spent_is e.0 (records e.0) n s now k.0.known
 
 -- ---- the newest number and its screen
@@ -187,7 +201,7 @@ cut_made s =
     ap (λ (n : ℕ). slice_index (s.cuts ++ length s.log ∷ []) n) z)
     ∙ cut_last s.cuts (length s.log)
 
-screen_made : (s : Server) → screen s.size s.log (s.cuts ++ length s.log ∷ []) (length (s.cuts ++ length s.log ∷ []))
+screen_made : (s : Server) → screen Two s.size s.log (s.cuts ++ length s.log ∷ []) (length (s.cuts ++ length s.log ∷ []))
     ≡ face s.size s.log
 screen_made s =
     ap (λ (n : ℕ). cond (nat_eq n 0) first_screen (face s.size (take (cut (s.cuts ++ length s.log ∷ [])
@@ -203,32 +217,45 @@ makes_is v s now st = λ i. nat_eq (st.made i) 0 || (st.input i && has_passed 20
 -- ---- the whole
 
 module _ (v : ServerView) (s : Server) (n : ℕ) (sc : Screenshot) (m : ℕ) (st : Stands v s) (e : n ≡ number_after s m)
-    (f : sc ≡ screen_after s m) where
+    (f : sc ≡ screen_after s Two m) (some : nat_eq (number_after s m) 0 ≡ false) where
+  -- the screen as a version is shown it
+  seen_at : (w : Version) → seen_by w sc ≡ screen_after s w m
+  seen_at w =
+      ap (seen_by w) f
+      ∙ ap (λ b. seen_by w (cond b first_screen (face s.size (take (cut (cuts_after s m) (number_after s m)) s.log)))) some
+      ∙ sym (ap (λ b. cond b first_screen (seen_by w (face s.size (take (cut (cuts_after s m) (number_after s m)) s.log)))) some)
+
   parcels_are : told_by v n sc m ≡ map parcel_text (sent_by s m)
   parcels_are =
-      (λ i. flat_map (texts_for (st.session i) (e i) (f i) m) v.records)
-      ∙ all_texts s.session (number_after s m) (screen_after s m) m v.records s.records st.records
+      (λ i. flat_map (texts_for (st.session i) (e i) sc m) v.records)
+      ∙ all_texts s.session (number_after s m) sc m v.records s.records st.records
+      ∙ (λ i. map parcel_text (flat_map (λ id. map (parcel (s.records id).address) (datagrams_to s.session id (s.records id)
+      (number_after s m) (seen_at (s.records id).version i) m)) (keys_of v.records)))
       ∙ ap (λ (ks : List ℕ). map parcel_text (flat_map (parcels_to s m) ks)) st.arrival
 
   spent_are : is_any_spent v n sc m
-      ≡ (list_any (λ id. is_record_spent (s.records id) (number_after s m) (screen_after s m) m) s.arrival
+      ≡ (list_any (λ id. is_record_spent (s.records id) (number_after s m) (screen_to s m id) m) s.arrival
       || list_any (is_ack_spent s m) s.arrival)
   spent_are =
-      (λ i. list_any (is_entry_spent (e i) (f i) m) v.records)
-      ∙ all_spent (number_after s m) (screen_after s m) m v.records s.records st.records
-      ∙ ap (λ (ks : List ℕ). list_any (λ id. is_record_spent (s.records id) (number_after s m) (screen_after s m) m) ks
+      (λ i. list_any (is_entry_spent (e i) sc m) v.records)
+      ∙ all_spent (number_after s m) sc m v.records s.records st.records
+      ∙ (λ i. list_any (λ id. is_record_spent (s.records id) (number_after s m) (seen_at (s.records id).version i) m) (keys_of v.records)
+      || list_any (λ id. sends (s.records id) (number_after s m) (seen_at (s.records id).version i) m && is_spent (s.records id).taken)
+      (keys_of v.records))
+      ∙ ap (λ (ks : List ℕ). list_any (λ id. is_record_spent (s.records id) (number_after s m) (screen_to s m id) m) ks
       || list_any (is_ack_spent s m) ks) st.arrival
 
   kept_are : AreKept (map (settled_entry n sc m) v.records) (after_tick s m).records
   kept_are =
       subst (λ (k : ℕ). AreKept (map (settled_entry k sc m) v.records) (after_tick s m).records) (sym e)
-      (subst (λ (x : Screenshot). AreKept (map (settled_entry (number_after s m) x m) v.records) (after_tick s m).records) (sym f)
-      (kept_settled (number_after s m) (screen_after s m) m v.records s.records st.records))
+      (subst (λ (g : ℕ → Record). AreKept (map (settled_entry (number_after s m) sc m) v.records) g)
+      (λ i id. ticked (s.records id) (number_after s m) (seen_at (s.records id).version i) m)
+      (kept_settled (number_after s m) sc m v.records s.records st.records))
 
   none_are : (j : ℕ) → lookup (nat_eq j) (map (settled_entry n sc m) v.records) ≡ None → (after_tick s m).records j ≡ no_record
   none_are j none =
-      ap (λ (r : Record). ticked r (number_after s m) (screen_after s m) m) (st.others j (none_settled n sc m j v.records none))
-      ∙ none_ticked (number_after s m) (screen_after s m) m
+      ap (λ (r : Record). ticked r (number_after s m) (screen_to s m j) m) (st.others j (none_settled n sc m j v.records none))
+      ∙ none_ticked (number_after s m) (screen_to s m j) m
 
   -- no number was made
   stands_told : makes s m ≡ false → n ≡ v.made → sc ≡ v.screen → Stands (record (ticked_by v n sc m) { clock = m }) (after_tick s m)
@@ -238,7 +265,7 @@ module _ (v : ServerView) (s : Server) (n : ℕ) (sc : Screenshot) (m : ℕ) (st
         log = st.log;
         made = st.made ∙ sym (ap (λ (cs : List ℕ). length cs) cuts);
         cut = subst (λ (cs : List ℕ). cut cs (length cs) ≤ length s.log) (sym cuts) st.cut;
-        screen = st.screen ∙ sym (ap (λ (cs : List ℕ). screen s.size s.log cs (length cs)) cuts);
+        screen = st.screen ∙ sym (ap (λ (cs : List ℕ). screen Two s.size s.log cs (length cs)) cuts);
         made_at = st.made_at ∙ sym (ap (λ b. cond b m s.made_at) unmade);
         input = st.input ∙ sym (ap (λ b. cond b false s.input) unmade);
         clock = refl;
@@ -252,11 +279,12 @@ module _ (v : ServerView) (s : Server) (n : ℕ) (sc : Screenshot) (m : ℕ) (st
 
   -- the number was made
   stands_made : makes s m ≡ true
-      → Stands (record (ticked_by v n sc m) { made = n; screen = sc; made_at = m; input = false; clock = m }) (after_tick s m)
+      → Stands (record (ticked_by v n sc m) { state = keeping sc v.state; made = n; screen = sc; made_at = m; input = false; clock = m })
+      (after_tick s m)
   stands_made made_now =
       record {
         session = st.session;
-        log = st.log;
+        log = record { plan = st.log.plan; panes = st.log.panes; lives = st.log.lives };
         made = e;
         cut =
             subst (λ (cs : List ℕ). cut cs (length cs) ≤ length s.log) (sym cuts)
@@ -303,18 +331,23 @@ module _ (v : ServerView) (s : Server) (now m : ℕ) (st : Stands v s) (at : m �
     number_told : v.made ≡ number_after s m
     number_told = st.made ∙ sym (ap (λ b. length (cond b (s.cuts ++ length s.log ∷ []) s.cuts)) none_made)
 
-    screen_told : v.screen ≡ screen_after s m
+    some_told : nat_eq (number_after s m) 0 ≡ false
+    some_told =
+        ap (λ b. nat_eq (length (cond b (s.cuts ++ length s.log ∷ []) s.cuts)) 0) none_made
+        ∙ or_left (nat_eq (length s.cuts) 0) (s.input && has_passed 20 s.made_at m) none_made
+
+    screen_told : v.screen ≡ screen_after s Two m
     screen_told =
         st.screen
-        ∙ sym (ap (λ b. screen s.size s.log (cond b (s.cuts ++ length s.log ∷ []) s.cuts)
+        ∙ sym (ap (λ b. screen Two s.size s.log (cond b (s.cuts ++ length s.log ∷ []) s.cuts)
         (length (cond b (s.cuts ++ length s.log ∷ []) s.cuts))) none_made)
 
     spent_told : is_number_spent s m ≡ is_any_spent v v.made v.screen m
     spent_told =
         ap (λ b. (b && is_spent (number_after s m)
-        || list_any (λ id. is_record_spent (s.records id) (number_after s m) (screen_after s m) m) s.arrival)
+        || list_any (λ id. is_record_spent (s.records id) (number_after s m) (screen_to s m id) m) s.arrival)
         || list_any (is_ack_spent s m) s.arrival) none_made
-        ∙ sym (spent_are v s v.made v.screen m st number_told screen_told)
+        ∙ sym (spent_are v s v.made v.screen m st number_told screen_told some_told)
 
     pub ticks_told : (r : Result (Vec (Addr × Vec ℕ Global) Global) Fault) (new : ServerView)
         → IfOk r (λ all. parcels_of all.items ≡ told_by v v.made v.screen m)
@@ -324,9 +357,9 @@ module _ (v : ServerView) (s : Server) (now m : ℕ) (st : Stands v s) (at : m �
         → OnErr r (new ≡ v) → Ticks s now r new
     ticks_told (Ok all) new texts is free fault err =
         ticks_at s now m all new at_moment (spent_told ∙ free)
-        (texts ∙ parcels_are v s v.made v.screen m st number_told screen_told)
+        (texts ∙ parcels_are v s v.made v.screen m st number_told screen_told some_told)
         (subst (λ (x : ServerView). Stands x (after_tick s m)) (sym is)
-        (stands_told v s v.made v.screen m st number_told screen_told none_made refl refl))
+        (stands_told v s v.made v.screen m st number_told screen_told some_told none_made refl refl))
     ticks_told (Err why) new texts is free fault err =
         elim fault [
           | inl memory ↦ no_memory (ap (λ x. Err x) memory) (subst (λ (x : ServerView). Stands x s) (sym err) st)
@@ -344,26 +377,33 @@ module _ (v : ServerView) (s : Server) (now m : ℕ) (st : Stands v s) (at : m �
         ap (λ (k : ℕ). k + 1) st.made ∙ sym (length-append s.cuts (length s.log ∷ []))
         ∙ sym (ap (λ b. length (cond b (s.cuts ++ length s.log ∷ []) s.cuts)) is_made)
 
-    face_made : face s.size s.log ≡ screen_after s m
+    some_made : nat_eq (number_after s m) 0 ≡ false
+    some_made =
+        ap (λ b. nat_eq (length (cond b (s.cuts ++ length s.log ∷ []) s.cuts)) 0) is_made
+        ∙ ap (λ k. nat_eq k 0) (length-append s.cuts (length s.log ∷ []))
+        ∙ (let z : nat_eq (length s.cuts + 1) 0 ≡ false = grind (arith, nat_tests) in z)
+
+    face_made : face s.size s.log ≡ screen_after s Two m
     face_made =
         sym (screen_made s)
-        ∙ sym (ap (λ b. screen s.size s.log (cond b (s.cuts ++ length s.log ∷ []) s.cuts)
+        ∙ sym (ap (λ b. screen Two s.size s.log (cond b (s.cuts ++ length s.log ∷ []) s.cuts)
         (length (cond b (s.cuts ++ length s.log ∷ []) s.cuts))) is_made)
 
     spent_made : is_number_spent s m ≡ (is_spent (v.made + 1) || is_any_spent v (v.made + 1) (face s.size s.log) m)
     spent_made =
         ap (λ b. (b && is_spent (number_after s m)
-        || list_any (λ id. is_record_spent (s.records id) (number_after s m) (screen_after s m) m) s.arrival)
+        || list_any (λ id. is_record_spent (s.records id) (number_after s m) (screen_to s m id) m) s.arrival)
         || list_any (is_ack_spent s m) s.arrival) is_made
         ∙ or_move (is_spent (number_after s m))
-        (list_any (λ id. is_record_spent (s.records id) (number_after s m) (screen_after s m) m) s.arrival)
+        (list_any (λ id. is_record_spent (s.records id) (number_after s m) (screen_to s m id) m) s.arrival)
         (list_any (is_ack_spent s m) s.arrival)
         ∙ sym (λ i. is_spent (number_made i)
-        || spent_are v s (v.made + 1) (face s.size s.log) m st number_made face_made i)
+        || spent_are v s (v.made + 1) (face s.size s.log) m st number_made face_made some_made i)
 
     pub ticks_made : (r : Result (Vec (Addr × Vec ℕ Global) Global) Fault) (new : ServerView)
         → IfOk r (λ all. (parcels_of all.items ≡ told_by v (v.made + 1) (face s.size s.log) m)
         × (new ≡ record (ticked_by v (v.made + 1) (face s.size s.log) m) {
+          state = keeping (face s.size s.log) v.state;
           made = v.made + 1;
           screen = face s.size s.log;
           made_at = m;
@@ -377,9 +417,9 @@ module _ (v : ServerView) (s : Server) (now m : ℕ) (st : Stands v s) (at : m �
     ticks_made (Ok all) new ok fault err =
         ticks_at s now m all new at_moment
         (spent_made ∙ (λ i. ok.4 i || ok.3 i))
-        (ok.0 ∙ parcels_are v s (v.made + 1) (face s.size s.log) m st number_made face_made)
+        (ok.0 ∙ parcels_are v s (v.made + 1) (face s.size s.log) m st number_made face_made some_made)
         (subst (λ (x : ServerView). Stands x (after_tick s m)) (sym ok.1)
-        (stands_made v s (v.made + 1) (face s.size s.log) m st number_made face_made is_made))
+        (stands_made v s (v.made + 1) (face s.size s.log) m st number_made face_made some_made is_made))
     ticks_made (Err why) new ok fault err =
         elim fault [
           | inl memory ↦ no_memory (ap (λ x. Err x) memory) (subst (λ (x : ServerView). Stands x s) (sym err) st)

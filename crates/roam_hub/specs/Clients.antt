@@ -2,12 +2,11 @@
 use Rattle.std.specs.Prelude.{◌≡◌, ℕ, ◌+◌, ◌||◌, List, [], map, length, Option, Some, None, Result, Ok, Err, Bool, true, false, nat_lt, Vec}
 use Rattle.std.specs.declared.alloc.Global.{Global}
 use Rattle.roam_cells.specs.declared.faults.Fault.{Fault}
-use Rattle.roam_cells.specs.declared.faults.Fault.TheVariants.{OutOfMemory, Busy, BadDatagram, BadChange, Spent}
+use Rattle.roam_cells.specs.declared.faults.Fault.TheVariants.{OutOfMemory, Busy, BadDatagram, BadChange, Spent, Watching}
 use Rattle.roam_cells.specs.declared.faults.Reason.{Reason}
-use Rattle.roam_cells.specs.Screenshot.{Screenshot}
+use Rattle.roam_screens.specs.Screenshot.{Screenshot}
 use Rattle.roam_acts.specs.declared.acts.Act.{Act}
 use Rattle.roam_acts.specs.Senders.{Typing, IsFull, IsSpent, acked_to}
-use Rattle.roam_update.specs.Shots.{applied}
 use Rattle.roam_sync.specs.declared.receivers.Step.{Step}
 use Rattle.roam_sync.specs.declared.receivers.Step.TheVariants as step
 use Rattle.roam_sync.specs.Receivers.{Receiving, pairs, state_at, step_for}
@@ -17,9 +16,10 @@ use Rattle.roam_wire.specs.Datagrams.{DatagramValue, IsDatagram, datagram_text}
 use Rattle.roam_wire.specs.Gatherers.{Gathering}
 use Rattle.roam_wire.specs.Headers.{datagram_at}
 use Rattle.roam_wire.specs.Instructions.{DownValue}
-use Rattle.roam_world.specs.Texts.{SaysDown, SaysNoDown, update_in, datagrams_of}
+use Rattle.roam_world.specs.Texts.{SaysDown, SaysNoDown, update_in, kind_from, datagrams_of}
 use Rattle.roam_world.specs.Moments.{is_spent}
-use Rattle.roam_wire.specs.declared.datagrams.Kind.TheVariants.{ToServer}
+use Rattle.roam_wire.specs.declared.versions.Version.{Version}
+use Rattle.roam_world.specs.Versions.{applied_by}
 use Rattle.roam_world.specs.Clients.{Client as ClientOf, moment_of, after_typed}
 use Rattle.roam_world.specs.Arrivals.{Hearing, IsPart, IsOld, IsGap, IsNew, sent_back, kept, fulfilled, arriving, after_piece, step_of, hearing_of, after_whole}
 use Rattle.roam_world.specs.Sendings.{is_client_due, is_client_spent, pieces_from, datagrams_from, after_sending, after_quiet}
@@ -30,6 +30,8 @@ use Rattle.roam_hub.specs.declared.clients.Heard.TheVariants as heard
 pub record ClientView : Type 0 where
   pub session : ℕ
   pub id : ℕ
+  pub version : Version
+  pub watches : Bool
   pub acts : Typing
   pub gathering : Gathering
   pub receiver : Receiving Screenshot
@@ -46,6 +48,8 @@ view_of session id c =
     record {
       session = session;
       id = id;
+      version = c.version;
+      watches = c.watches;
       acts = c.acts;
       gathering = c.gathering;
       receiver = c.receiver;
@@ -66,6 +70,8 @@ abbrev pub bare : ClientView → ClientOf
 bare v =
     record {
       made = true;
+      version = v.version;
+      watches = v.watches;
       typed = [];
       acts = v.acts;
       gathering = v.gathering;
@@ -80,7 +86,8 @@ bare v =
 
 -- the datagrams of the instruction that it would send
 abbrev pub datagrams_by : ClientView → List DatagramValue
-datagrams_by v = datagrams_of ToServer v.session v.id v.datagrams (v.instructions + 1) (pieces_from (bare v))
+datagrams_by v =
+    datagrams_of v.version (kind_from v.watches) v.session v.id v.datagrams (v.instructions + 1) (pieces_from (bare v))
 
 -- a number that sending needs would be past the last
 abbrev pub is_view_spent : ClientView → Bool
@@ -94,30 +101,32 @@ hearing_in heard.Old = IsOld
 hearing_in heard.Gap = IsGap
 hearing_in heard.New = IsNew
 
--- an act is typed: 1,024 are unacknowledged; numbers are spent; it is taken; or memory is wanting
+-- an act is typed: the start only watches; 1,024 are unacknowledged; numbers are spent; it is taken; or memory is wanting
 pub data Types (session id : ℕ) (c : ClientOf) (act : Act) (result : Result (Unit {0}) Fault) (new : ClientView) : Type 0 where
-  full : IsFull c.acts → result ≡ Err Busy → Stands new session id c → Types session id c act result new
-  spent : IsSpent c.acts → result ≡ Err Spent → Stands new session id c → Types session id c act result new
-  typed : (IsFull c.acts → ⊥) → (IsSpent c.acts → ⊥) → result ≡ Ok tt → Stands new session id (after_typed c act)
+  watching : c.watches ≡ true → result ≡ Err Watching → Stands new session id c → Types session id c act result new
+  full : c.watches ≡ false → IsFull c.acts → result ≡ Err Busy → Stands new session id c → Types session id c act result new
+  spent : c.watches ≡ false → IsSpent c.acts → result ≡ Err Spent → Stands new session id c → Types session id c act result new
+  typed : c.watches ≡ false → (IsFull c.acts → ⊥) → (IsSpent c.acts → ⊥) → result ≡ Ok tt → Stands new session id (after_typed c act)
       → Types session id c act result new
   no_memory : result ≡ Err OutOfMemory → Stands new session id c → Types session id c act result new
 
--- an instruction's text was read and told: what the receiver made of it, whether its new number is above its old one, and the acts then
-pub record Told (text : List ℕ) (old : Typing) (r : Receiving Screenshot) (answer : Step) (owes : Bool) (new : Typing)
+-- an instruction's text was read and told to a receiver of a version: what it made of it, whether its new number is above its old one, and
+-- the acts then
+pub record Told (version : Version) (text : List ℕ) (old : Typing) (r : Receiving Screenshot) (answer : Step) (owes : Bool) (new : Typing)
     (r' : Receiving Screenshot) : Type 0 where
   pub value : DownValue
   pub says : SaysDown text value
-  pub delivers : Delivers applied r (update_in value) r'
+  pub delivers : Delivers (applied_by version) r (update_in value) r'
   pub step : answer ≡ step_for r value.old value.new value.floor
   pub newer : owes ≡ nat_lt value.old value.new
   pub acts : new ≡ acked_to old value.acked
 
 -- why a text can't be told: it is none; its change is bad; or memory is wanting
-pub data NotTold (text : List ℕ) (r : Receiving Screenshot) (fault : Fault) : Type 0 where
-  unread : (why : Reason) → SaysNoDown text why → fault ≡ BadDatagram why → NotTold text r fault
+pub data NotTold (version : Version) (text : List ℕ) (r : Receiving Screenshot) (fault : Fault) : Type 0 where
+  unread : (why : Reason) → SaysNoDown text why → fault ≡ BadDatagram why → NotTold version text r fault
   bad_change : (v : DownValue) (base : Screenshot) → SaysDown text v → step_for r v.old v.new v.floor ≡ step.New
-      → state_at v.old (pairs r) ≡ Some base → applied base v.change ≡ None → fault ≡ BadChange → NotTold text r fault
-  no_memory : fault ≡ OutOfMemory → NotTold text r fault
+      → state_at v.old (pairs r) ≡ Some base → applied_by version base v.change ≡ None → fault ≡ BadChange → NotTold version text r fault
+  no_memory : fault ≡ OutOfMemory → NotTold version text r fault
 
 -- bytes are no datagram, and why
 pub record IsNoDatagram (bytes : List ℕ) (why : Reason) : Type 0 where
@@ -143,10 +152,12 @@ pub data Hears (session id : ℕ) (c : ClientOf) (bytes : List ℕ) (now : ℕ) 
       → result ≡ Err (BadDatagram why) → Stands new session id c → Hears session id c bytes now result new
   bad_change : (d : DatagramValue) (g : Gathering) (text : List ℕ) (v : DownValue) (base : Screenshot) → IsTextOf bytes d
       → arriving session id c d ≡ fulfilled g text → SaysDown text v
-      → step_of c v ≡ step.New → state_at v.old (pairs c.receiver) ≡ Some base → applied base v.change ≡ None
+      → step_of c v ≡ step.New → state_at v.old (pairs c.receiver) ≡ Some base
+      → applied_by c.version base v.change ≡ None
       → result ≡ Err BadChange → Stands new session id c → Hears session id c bytes now result new
   whole : (d : DatagramValue) (h : Heard) (g : Gathering) (text : List ℕ) (v : DownValue) (r : Receiving Screenshot) → IsTextOf bytes d
-      → arriving session id c d ≡ fulfilled g text → SaysDown text v → Delivers applied c.receiver (update_in v) r
+      → arriving session id c d ≡ fulfilled g text → SaysDown text v
+      → Delivers (applied_by c.version) c.receiver (update_in v) r
       → result ≡ Ok h → hearing_in h ≡ hearing_of (step_of c v)
       → Stands new session id (after_whole c (moment_of c now) g r v) → Hears session id c bytes now result new
   no_memory : result ≡ Err OutOfMemory → Stands new session id c → Hears session id c bytes now result new

@@ -1,3 +1,4 @@
+pub mod Ends
 pub mod Clients
 pub mod Servers
 pub mod Records

@@ -1,16 +1,18 @@
 -- What a server keeps of a client start, and what its calls make of it.
-use Rattle.std.specs.Prelude.{◌≡◌, ℕ, Result, Ok, Err, ◌+◌, ◌<◌, ◌≤◌, max, nat_lt, nat_eq, ◌==◌, ◌&&◌, ◌||◌, List, [], ◌∷◌, ◌++◌, length, take, map, is_some, Option, Some, None, Bool, true, if◌then◌else◌, ◌^◌}
+use Rattle.std.specs.Prelude.{◌≡◌, ℕ, Result, Ok, Err, ◌+◌, ◌<◌, ◌≤◌, max, nat_lt, nat_eq, ◌==◌, ◌&&◌, ◌||◌, List, [], ◌∷◌, ◌++◌, length, take, map, is_some, Option, Some, None, Bool, true, if◌then◌else◌, ◌^◌, filter, false}
 use Rattle.std.specs.List.{flat_map, list_any}
 use Rattle.std.specs.Map.{lookup, set_value}
 use Rattle.roam_cells.specs.declared.faults.Fault.{Fault}
 use Rattle.roam_cells.specs.declared.faults.Fault.TheVariants.{OutOfMemory, Busy, BadDatagram, ClientsFull}
 use Rattle.roam_cells.specs.declared.faults.Reason.{Reason}
 use Rattle.roam_cells.specs.declared.faults.Reason.TheVariants.{Fragment}
-use Rattle.roam_cells.specs.Screenshot.{Screenshot}
+use Rattle.roam_cells.specs.declared.faults.Reason.TheVariants as reason
+use Rattle.roam_screens.specs.Screenshot.{Screenshot}
 use Rattle.roam_acts.specs.declared.acts.Act.{Act}
 use Rattle.roam_acts.specs.Takers.{fresh_of}
 use Rattle.roam_sync.specs.Senders.{acked, sent_at, is_due, withdrawn}
 use Rattle.roam_wire.specs.declared.datagrams.Kind.TheVariants.{ToClient}
+use Rattle.roam_wire.specs.declared.versions.Version.{Version}
 use Rattle.roam_wire.specs.Datagrams.{DatagramValue, datagram_text}
 use Rattle.roam_wire.specs.Gatherers.{Gathering, gather, piece_of}
 use Rattle.roam_wire.specs.Instructions.{UpValue, down_text}
@@ -18,9 +20,10 @@ use Rattle.roam_wire.specs.Cutting.{pieces_of}
 use Rattle.roam_session.specs.Sessions.{SessionSize, Entry, Did}
 use Rattle.roam_session.specs.Stands.{SessionView, Stands as SessionStands}
 use Rattle.roam_world.specs.Moments.{has_passed, is_overdue, owed_from, is_spent}
-use Rattle.roam_world.specs.Texts.{Address, SaysUp, SaysNoUp, datagrams_of}
+use Rattle.roam_world.specs.Texts.{Address, is_watching, SaysUp, SaysNoUp, datagrams_of}
+use Rattle.roam_world.specs.Versions.{is_same_version, seen_by}
 use Rattle.roam_world.specs.Servers.{Record, no_record}
-use Rattle.roam_world.specs.Comings.{noted, completed, coming_gathered, reach}
+use Rattle.roam_world.specs.Comings.{noted, completed, coming_gathered, reach, is_same, most_of}
 use Rattle.roam_world.specs.Ticks.{is_live, holds_after, down_from}
 use Rattle.roam_hub.specs.Servers.{RecordView, ServerView, kept_of, stopped}
 use Rattle.roam_hub.specs.declared.addresses.Stop.{Stop}
@@ -31,6 +34,8 @@ abbrev pub bare : RecordView → Record
 bare v =
     record {
       known = true;
+      version = v.version;
+      watches = v.watches;
       gathering = v.gathering;
       taken = v.taken;
       sender = v.sender;
@@ -44,6 +49,21 @@ bare v =
     }
 
 -- ---- a datagram
+
+-- the record of a start of a version, which may only watch, from which nothing came
+abbrev pub first_record : Version → Bool → RecordView
+first_record version watches = record (kept_of no_record) { version = version; watches = watches }
+
+-- a datagram is of the version and the kind of its start's first one
+pub record Fits (version : Version) (watches : Bool) (d : DatagramValue) : Type 0 where
+  pub version_is : is_same_version version d.version ≡ true
+  pub watches_is : is_same watches (is_watching d.kind) ≡ true
+
+-- it is of another version, or of that version and another kind
+pub data IsOther (version : Version) (watches : Bool) (d : DatagramValue) (fault : Fault) : Type 0 where
+  another_version : is_same_version version d.version ≡ false → fault ≡ BadDatagram reason.Version → IsOther version watches d fault
+  another_kind : is_same_version version d.version ≡ true → is_same watches (is_watching d.kind) ≡ false
+      → fault ≡ BadDatagram reason.Kind → IsOther version watches d fault
 
 -- so many acts were taken, and why no more were
 abbrev pub taking : ℕ → Option Fault → Taking
@@ -66,7 +86,7 @@ pub data TakesActs (size : SessionSize) (log : List Entry) (id : ℕ) (acts : Li
       → SessionStands new size (log ++ map (Did id) acts) → TakesActs size log id acts t new
   full : reach size log id acts < length acts → t ≡ taking (reach size log id acts) (Some Busy)
       → SessionStands new size (log ++ map (Did id) (take (reach size log id acts) acts)) → TakesActs size log id acts t new
-  no_memory : (n : ℕ) → n ≤ reach size log id acts → n < length acts → t ≡ taking n (Some OutOfMemory)
+  no_memory : (n : ℕ) → n < reach size log id acts → t ≡ taking n (Some OutOfMemory)
       → SessionStands new size (log ++ map (Did id) (take n acts)) → TakesActs size log id acts t new
 
 -- a datagram was heard now from there, and this is gathered then
@@ -95,7 +115,7 @@ pub data Notes (old : RecordView) (before : SessionView) (d : DatagramValue) (fr
   piece : (g : Gathering) → coming_gathered (gather old.gathering (piece_of d)) ≡ noted g → t ≡ taking 0 None
       → new ≡ heard_by old d from now g → after ≡ before → Notes old before d from now t new after
   told : (g : Gathering) (text : List ℕ) (u : UpValue) → coming_gathered (gather old.gathering (piece_of d)) ≡ completed g text
-      → SaysUp text u → new ≡ informed_by old d from now (if is_some t.stopped then old.gathering else g) u t.taken
+      → SaysUp (is_watching d.kind) text u → new ≡ informed_by old d from now (if is_some t.stopped then old.gathering else g) u t.taken
       → ((size : SessionSize) (log : List Entry) → SessionStands before size log
       → TakesActs size log d.client (fresh_of old.taken u.first u.acts) t after) → Notes old before d from now t new after
 
@@ -103,39 +123,58 @@ pub data Notes (old : RecordView) (before : SessionView) (d : DatagramValue) (fr
 pub data NotNoted (old : RecordView) (d : DatagramValue) (fault : Fault) : Type 0 where
   no_piece : gather old.gathering (piece_of d) ≡ None → fault ≡ BadDatagram Fragment → NotNoted old d fault
   unread : (g : Gathering) (text : List ℕ) (why : Reason) → coming_gathered (gather old.gathering (piece_of d)) ≡ completed g text
-      → SaysNoUp text why → fault ≡ BadDatagram why → NotNoted old d fault
+      → SaysNoUp (is_watching d.kind) text why → fault ≡ BadDatagram why → NotNoted old d fault
   no_memory : fault ≡ OutOfMemory → NotNoted old d fault
 
--- the record of an id was one and is another: it was there, or it is new and the last of at most 64
-pub data Puts (id : ℕ) (old new : List (ℕ × RecordView)) (v w : RecordView) : Type 0 where
-  known : lookup (nat_eq id) old ≡ Some v → new ≡ set_value (nat_eq id) old w → Puts id old new v w
-  added : lookup (nat_eq id) old ≡ None → length old < 64 → v ≡ kept_of no_record → new ≡ old ++ (id, w) ∷ [] → Puts id old new v w
+-- why a record doesn't hear it: it isn't of its version and kind; or nothing is noted
+pub data NotHeard (old : RecordView) (d : DatagramValue) (fault : Fault) : Type 0 where
+  other : IsOther old.version old.watches d fault → NotHeard old d fault
+  fitting : Fits old.version old.watches d → NotNoted old d fault → NotHeard old d fault
+
+-- the records of starts that only watch, or the others
+abbrev pub alike_entries : Bool → List (ℕ × RecordView) → List (ℕ × RecordView)
+alike_entries watches es = filter (λ e. is_same e.1.watches watches) es
+
+-- the record of a datagram's start was one and is another: it was there, of the datagram's version and kind; or it is new, and as many as
+-- may be aren't known yet
+pub data Puts (d : DatagramValue) (old new : List (ℕ × RecordView)) (v w : RecordView) : Type 0 where
+  known : lookup (nat_eq d.client) old ≡ Some v → Fits v.version v.watches d → new ≡ set_value (nat_eq d.client) old w → Puts d old new v w
+  added : lookup (nat_eq d.client) old ≡ None → length (alike_entries (is_watching d.kind) old) < most_of (is_watching d.kind)
+      → v ≡ kept_of no_record → new ≡ old ++ (d.client, w) ∷ [] → Puts d old new v w
+
+-- a record with the version and the kind of a datagram
+abbrev pub fitted : RecordView → DatagramValue → RecordView
+fitted v d = record v { version = d.version; watches = is_watching d.kind }
 
 -- a datagram is noted in the record of its client start
 pub record NotesIn (old : List (ℕ × RecordView)) (before : SessionView) (d : DatagramValue) (from : Address) (now : ℕ) (t : Taking)
     (new : List (ℕ × RecordView)) (after : SessionView) : Type 0 where
   pub was : RecordView
   pub is : RecordView
-  pub puts : Puts d.client old new was is
-  pub notes : Notes was before d from now t is after
+  pub puts : Puts d old new was is
+  pub notes : Notes (fitted was d) before d from now t is after
 
 -- what is kept of the record of an id, if only that nothing came
 abbrev pub entry_of : Option RecordView → RecordView
 entry_of None = kept_of no_record
 entry_of (Some v) = v
 
--- why nothing is noted in any record: there is no room for one more, or nothing is noted in that of the client start
+-- why nothing is noted in any record: there is no room for one more; the one that is there is of another version or kind; or nothing is
+-- noted in that of the client start
 pub data NotNotedIn (old : List (ℕ × RecordView)) (d : DatagramValue) (fault : Fault) : Type 0 where
-  full : lookup (nat_eq d.client) old ≡ None → 64 ≤ length old → fault ≡ ClientsFull → NotNotedIn old d fault
-  room : (lookup (nat_eq d.client) old ≡ None → length old < 64) → NotNoted (entry_of (lookup (nat_eq d.client) old)) d fault
-      → NotNotedIn old d fault
+  full : lookup (nat_eq d.client) old ≡ None → most_of (is_watching d.kind) ≤ length (alike_entries (is_watching d.kind) old)
+      → fault ≡ ClientsFull → NotNotedIn old d fault
+  differs : (v : RecordView) → lookup (nat_eq d.client) old ≡ Some v → IsOther v.version v.watches d fault → NotNotedIn old d fault
+  room : (lookup (nat_eq d.client) old ≡ None → length (alike_entries (is_watching d.kind) old) < most_of (is_watching d.kind))
+      → ((v : RecordView) → lookup (nat_eq d.client) old ≡ Some v → Fits v.version v.watches d)
+      → NotNoted (entry_of (lookup (nat_eq d.client) old)) d fault → NotNotedIn old d fault
   no_memory : fault ≡ OutOfMemory → NotNotedIn old d fault
 
 -- ---- a tick
 
 -- the pieces of the instruction that its sender would tell
 abbrev pub letter : RecordView → List (List ℕ)
-letter v = pieces_of (down_text (down_from v.sender v.taken))
+letter v = pieces_of (down_text (down_from v.version v.sender v.taken))
 
 -- a number that sending it needs would be past the last
 abbrev pub is_letter_spent : RecordView → Bool
@@ -151,7 +190,7 @@ pieces_told v now = if is_told v now then Some (length (letter v)) else None
 
 -- the datagrams of that instruction, for the start of an id
 abbrev pub datagrams_for : ℕ → ℕ × RecordView → List DatagramValue
-datagrams_for session e = datagrams_of ToClient session e.0 e.1.datagrams (e.1.instructions + 1) (letter e.1)
+datagrams_for session e = datagrams_of e.1.version ToClient session e.0 e.1.datagrams (e.1.instructions + 1) (letter e.1)
 
 -- their texts, each with where it goes
 abbrev pub letters_for : ℕ → ℕ → ℕ × RecordView → List (Address × List ℕ)
@@ -174,9 +213,9 @@ back_from v offered = if offered then record v { sender = withdrawn v.sender } e
 
 -- ---- a whole tick, where s is the screen of the newest number n
 
--- what a record holds then
+-- what a record holds then: the screen as its version is shown it
 abbrev pub held : RecordView → ℕ → Screenshot → ℕ → RecordView
-held v n s now = record v { sender = holds_after (bare v) n s now }
+held v n s now = record v { sender = holds_after (bare v) n (seen_by v.version s) now }
 
 abbrev pub held_entry : ℕ → Screenshot → ℕ → ℕ × RecordView → ℕ × RecordView
 held_entry n s now e = (e.0, held e.1 n s now)

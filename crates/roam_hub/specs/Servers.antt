@@ -1,5 +1,5 @@
 -- What a server of the code stands for, and what its calls answer and leave.
-use Rattle.std.specs.Prelude.{◌≡◌, ℕ, ◌<◌, ◌≤◌, nat_eq, ◌&&◌, ◌||◌, List, [], ◌∷◌, length, map, Option, Some, None, Result, Ok, Err, Bool, true, false, Vec}
+use Rattle.std.specs.Prelude.{◌≡◌, ◌⊎◌, ℕ, ◌<◌, ◌≤◌, nat_eq, ◌&&◌, ◌||◌, List, [], ◌∷◌, length, map, slice_index, Option, Some, None, Result, Ok, Err, Bool, true, false, Vec}
 use Rattle.std.specs.List.{list_any}
 use Rattle.std.specs.Map.{keys_of, lookup}
 use Rattle.std.specs.declared.alloc.Global.{Global}
@@ -7,9 +7,12 @@ use Rattle.byteorder.specs.Endian.{big_number}
 use Rattle.roam_cells.specs.declared.faults.Fault.{Fault}
 use Rattle.roam_cells.specs.declared.faults.Fault.TheVariants.{OutOfMemory, NoPane, Busy, BadDatagram, Spent}
 use Rattle.roam_cells.specs.declared.faults.Reason.{Reason}
-use Rattle.roam_cells.specs.Screenshot.{Screenshot}
+use Rattle.roam_screens.specs.Screenshot.{Screenshot}
 use Rattle.roam_sync.specs.Senders.{Sending}
+use Rattle.roam_wire.specs.declared.versions.Version.{Version}
+use Rattle.roam_wire.specs.declared.versions.Version.TheVariants.{Two}
 use Rattle.roam_wire.specs.Datagrams.{DatagramValue, datagram_text}
+use Rattle.roam_wire.specs.Headers.{header_at}
 use Rattle.roam_wire.specs.Gatherers.{Gathering}
 use Rattle.roam_wire.specs.Instructions.{UpValue}
 use Rattle.roam_session.specs.Sessions.{Given, Drained}
@@ -17,10 +20,11 @@ use Rattle.roam_session.specs.Refusals.{refuses_bytes, output_at}
 use Rattle.roam_session.specs.Stands.{SessionView, Stands as SessionStands}
 use Rattle.roam_world.specs.Moments.{is_spent}
 use Rattle.roam_world.specs.Numbers.{cut, screen}
-use Rattle.roam_world.specs.Texts.{Address, SaysUp, SaysNoUp}
+use Rattle.roam_world.specs.Texts.{Address, is_watching, SaysUp, SaysNoUp}
 use Rattle.roam_world.specs.Servers.{Record, no_record, Server, moment, after_input}
 use Rattle.roam_world.specs.Comings.{turned_away, noted, completed, coming, after_note, new_acts, after_acts, room_for}
-use Rattle.roam_world.specs.Ticks.{number_after, screen_after, sends, Parcel, sent_by, is_tick_spent, after_tick}
+use Rattle.roam_world.specs.Ticks.{number_after, screen_to, sends, Parcel, sent_by, is_tick_spent, after_tick}
+use Rattle.roam_world.specs.Laws.{IsSameBut}
 use Rattle.roam_hub.specs.Clients.{IsTextOf, IsNoDatagram}
 use Rattle.roam_hub.specs.declared.addresses.Addr.{Addr}
 use Rattle.roam_hub.specs.declared.addresses.Stop.{Stop}
@@ -29,6 +33,8 @@ use Rattle.roam_hub.specs.declared.addresses.Stop.{Stop}
 
 -- what contracts see of a record: what the definitions have of it, but for its history, and how many instructions were sent to it
 pub record RecordView : Type 0 where
+  pub version : Version
+  pub watches : Bool
   pub gathering : Gathering
   pub taken : ℕ
   pub sender : Sending Screenshot
@@ -43,6 +49,8 @@ pub record RecordView : Type 0 where
 abbrev pub kept_of : Record → RecordView
 kept_of r =
     record {
+      version = r.version;
+      watches = r.watches;
       gathering = r.gathering;
       taken = r.taken;
       sender = r.sender;
@@ -86,7 +94,7 @@ pub record Stands (v : ServerView) (s : Server) : Type 0 where
   pub log : SessionStands v.state s.size s.log
   pub made : v.made ≡ length s.cuts
   pub cut : IsCut s
-  pub screen : v.screen ≡ screen s.size s.log s.cuts (length s.cuts)
+  pub screen : v.screen ≡ screen Two s.size s.log s.cuts (length s.cuts)
   pub made_at : v.made_at ≡ s.made_at
   pub input : v.input ≡ s.input
   pub clock : v.clock ≡ s.clock
@@ -127,22 +135,42 @@ pub data Comes (s : Server) (from : Address) (bytes : List ℕ) (now : ℕ) (res
   piece : (d : DatagramValue) (g : Gathering) → IsTextOf bytes d → coming s d ≡ noted g
       → result ≡ Ok 0 → Stands new (after_note s d from (moment s now) g) → Comes s from bytes now result new
   unread : (d : DatagramValue) (g : Gathering) (text : List ℕ) (why : Reason) → IsTextOf bytes d
-      → coming s d ≡ completed g text → SaysNoUp text why
+      → coming s d ≡ completed g text → SaysNoUp (is_watching d.kind) text why
       → result ≡ stopped (BadDatagram why) 0 → Stands new s → Comes s from bytes now result new
   all_taken : (d : DatagramValue) (g : Gathering) (text : List ℕ) (u : UpValue) → IsTextOf bytes d
-      → coming s d ≡ completed g text → SaysUp text u → room_for s d u ≡ length (new_acts s d u)
+      → coming s d ≡ completed g text → SaysUp (is_watching d.kind) text u → room_for s d u ≡ length (new_acts s d u)
       → result ≡ Ok (length (new_acts s d u))
       → Stands new (after_acts s d from (moment s now) g u (length (new_acts s d u))) → Comes s from bytes now result new
   no_room : (d : DatagramValue) (g : Gathering) (text : List ℕ) (u : UpValue) → IsTextOf bytes d
-      → coming s d ≡ completed g text → SaysUp text u → room_for s d u < length (new_acts s d u)
+      → coming s d ≡ completed g text → SaysUp (is_watching d.kind) text u → room_for s d u < length (new_acts s d u)
       → result ≡ stopped Busy (room_for s d u)
       → Stands new (after_acts s d from (moment s now) (s.records d.client).gathering u (room_for s d u))
       → Comes s from bytes now result new
   no_memory_at_act : (d : DatagramValue) (g : Gathering) (text : List ℕ) (u : UpValue) (n : ℕ) → IsTextOf bytes d
-      → coming s d ≡ completed g text → SaysUp text u → n ≤ room_for s d u → n < length (new_acts s d u)
+      → coming s d ≡ completed g text → SaysUp (is_watching d.kind) text u → n < room_for s d u
       → result ≡ stopped OutOfMemory n
       → Stands new (after_acts s d from (moment s now) (s.records d.client).gathering u n) → Comes s from bytes now result new
   no_memory : result ≡ stopped OutOfMemory 0 → Stands new s → Comes s from bytes now result new
+
+-- the bytes tell the kind of a datagram from a start that only watches, whatever else they are
+abbrev pub ComesFromWatcher : List ℕ → Type 0
+ComesFromWatcher bytes = (header_at bytes).kind ≡ 3
+
+-- how many acts were taken
+abbrev pub taken_in : Result ℕ Stop → ℕ
+taken_in (Ok n) = n
+taken_in (Err stop) = stop.taken
+
+-- no act is taken, and the server is as it was but for its moments and the record of the start whose id the bytes tell
+pub record TakesNothing (s : Server) (bytes : List ℕ) (result : Result ℕ Stop) (new : ServerView) : Type 0 where
+  pub none : taken_in result ≡ 0
+  pub left : Server
+  pub stands : Stands new left
+  pub same : IsSameBut (header_at bytes).client s left
+
+-- a refusal that may have come at an act
+abbrev pub IsStopAtAct : Stop → Type 0
+IsStopAtAct stop = (stop.fault ≡ OutOfMemory) ⊎ (stop.fault ≡ Busy)
 
 -- ---- a tick
 
@@ -155,7 +183,7 @@ parcel_text p = (p.to, datagram_text p.datagram)
 
 -- a record is sent to, and as many of its acts were taken as no number can say
 abbrev pub is_ack_spent : Server → ℕ → ℕ → Bool
-is_ack_spent s now id = sends (s.records id) (number_after s now) (screen_after s now) now && is_spent (s.records id).taken
+is_ack_spent s now id = sends (s.records id) (number_after s now) (screen_to s now id) now && is_spent (s.records id).taken
 
 -- a number that a tick needs would be past the last
 abbrev pub is_number_spent : Server → ℕ → Bool

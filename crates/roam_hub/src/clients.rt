@@ -1,20 +1,29 @@
 //! A client start: what is typed there, what it hears, what it sends.
-ghost use Rattle.std.specs.Prelude.{◌≡◌, ◌⊎◌, true, false, map, ℕ, IfOk, IfErr, OnOk, OnErr, IsOkUnless, if◌then◌else◌};
+ghost use Rattle.std.specs.Prelude.{◌≡◌, ◌⊎◌, true, false, not, map, ℕ, IfOk, IfErr, OnOk, OnErr, IsOkUnless, if◌then◌else◌};
 ghost use Rattle.roam_acts.specs.Acts.{HasKey, IsInRange};
 ghost use Rattle.roam_wire.specs.Datagrams.{datagram_text, datagram_value};
 ghost use Rattle.roam_wire.specs.Cutting.{texts_of};
+ghost use Rattle.roam_screens.specs.Shown.{shown_by};
 ghost use Rattle.roam_wire.specs.Gatherers.{gather, piece_of};
+ghost use Rattle.roam_wire.specs.declared.versions.Version.TheVariants.{One, Two};
 ghost use Rattle.roam_world.specs.Moments.{has_passed, is_overdue, owed_from};
 ghost use Rattle.roam_world.specs.Sendings.{is_client_due, last_waiting};
 ghost use Rattle.roam_world.specs.Clients.{Client as ClientOf, new_client, shown_number, shown_screen};
+ghost use Rattle.roam_world.specs.Texts.{kind_from, is_to_server};
 ghost use Rattle.roam_world.specs.Arrivals.{sent_back, arriving, arriving_gathered, hearing_of};
+ghost use Rattle.roam_hub.specs.Ends.{version_in, receiving_in};
 ghost use Rattle.roam_hub.specs.Clients.{Stands, Types, Told, NotTold, Hears, Sends, bare, datagrams_by, hearing_in, is_view_spent};
 
+use crate::ends::AnyReceiver;
 use crate::packing::{Heading, NUMBERS, packed};
+use crate::records::is_same_version;
 use roam_acts::{Act, ActSender, Key};
-use roam_cells::{Fault, Reason, Shot};
-use roam_sync::{Receiver, Step};
-use roam_wire::{Datagram, Gathered, Gatherer, Kind, Up, read_datagram, read_down, write_up};
+use roam_cells::{Fault, Reason};
+use roam_screens::Shown;
+use roam_sync::Step;
+use roam_wire::{
+    Datagram, Gathered, Gatherer, Kind, Up, Version, read_datagram, read_down, write_up,
+};
 use std::alloc::Global;
 use std::marker::Model;
 
@@ -39,9 +48,10 @@ pub enum Heard {
 pub struct Client {
     session: u64,
     id: u64,
+    watches: bool,
     acts: ActSender,
     gatherer: Gatherer,
-    receiver: Receiver<Shot>,
+    receiver: AnyReceiver,
     sent_at: Option<u64>,
     sent_act: u64,
     owed: Option<u64>,
@@ -51,9 +61,11 @@ pub struct Client {
 }
 
 impl Model for Client {
-    ghost use Rattle.std.specs.Prelude.{◌<◌, ◌^◌};
+    ghost use Rattle.std.specs.Prelude.{◌≡◌, ◌<◌, ◌^◌, true};
     ghost use Rattle.std.specs.List.{All};
     ghost use Rattle.roam_acts.specs.Acts.{IsAct};
+    ghost use Rattle.roam_wire.specs.declared.versions.Version.TheVariants.{Two};
+    ghost use Rattle.roam_hub.specs.Ends.{version_in, receiving_in};
     ghost use Rattle.roam_hub.specs.Clients.{ClientView};
 
     ghost Value = { ClientView };
@@ -61,9 +73,11 @@ impl Model for Client {
     ghost view = { λ c. record {
       session = c.session;
       id = c.id;
+      version = version_in c.receiver;
+      watches = c.watches;
       acts = c.acts;
       gathering = c.gatherer.current;
-      receiver = c.receiver;
+      receiver = receiving_in c.receiver;
       sent_at = c.sent_at;
       sent_act = c.sent_act;
       owed = c.owed;
@@ -73,7 +87,8 @@ impl Model for Client {
     } };
 
     ghost invariant = { λ c. All IsAct c.acts.acts × (c.datagrams < 2 ^ 62) × (c.instructions < 2 ^ 62)
-        × (c.receiver.newest.number < 2 ^ 62) × (c.session < 2 ^ 64) × (c.id < 2 ^ 64) };
+        × ((receiving_in c.receiver).newest.number < 2 ^ 62) × (c.session < 2 ^ 64) × (c.id < 2 ^ 64)
+        × (c.watches ≡ true → version_in c.receiver ≡ Two) };
 }
 
 // What the type of an act tells: its character is a Unicode scalar value.
@@ -109,13 +124,24 @@ pub(crate) fn owed_after(owed: Option<u64>, owes: bool, now: u64) -> Option<u64>
     }
 }
 
-// Whether a datagram is for a start of this id in this session.
-fn admit(session: u64, id: u64, datagram: &Datagram) -> Result<(), Fault>
-    ensures ok { OnOk result ((c : ClientOf) → arriving session id c (datagram_value datagram.now)
-        ≡ arriving_gathered (gather c.gathering (piece_of (datagram_value datagram.now)))) }
-    ensures err { IfErr result (λ fault. (c : ClientOf) → arriving session id c (datagram_value datagram.now) ≡ sent_back fault) }
+// Whether a datagram goes to a client.
+fn is_to_client(kind: Kind) -> bool
+    ensures kind { result ≡ not (is_to_server kind) }
 {
-    if datagram.kind == Kind::ToServer {
+    match kind {
+        Kind::ToClient => true,
+        Kind::ToServer | Kind::FromWatcher => false,
+    }
+}
+
+// Whether a datagram is for a start of this id in this session, and of its version.
+fn admit(session: u64, id: u64, version: Version, datagram: &Datagram) -> Result<(), Fault>
+    ensures ok { OnOk result ((c : ClientOf) → c.version ≡ version → arriving session id c (datagram_value datagram.now)
+        ≡ arriving_gathered (gather c.gathering (piece_of (datagram_value datagram.now)))) }
+    ensures err { IfErr result (λ fault. (c : ClientOf) → c.version ≡ version
+        → arriving session id c (datagram_value datagram.now) ≡ sent_back fault) }
+{
+    if !is_to_client(datagram.kind) {
         return Err(Fault::BadDatagram(Reason::Kind));
     }
     if datagram.session != session {
@@ -124,6 +150,9 @@ fn admit(session: u64, id: u64, datagram: &Datagram) -> Result<(), Fault>
     if datagram.client != id {
         return Err(Fault::OtherClient);
     }
+    if !is_same_version(version, datagram.version) {
+        return Err(Fault::BadDatagram(Reason::Version));
+    }
     Ok(())
 }
 
@@ -131,11 +160,13 @@ fn admit(session: u64, id: u64, datagram: &Datagram) -> Result<(), Fault>
 fn tell(
     alloc: Global,
     acts: &mut ActSender,
-    receiver: &mut Receiver<Shot>,
+    receiver: &mut AnyReceiver,
     text: &[u8],
 ) -> Result<(Step, bool), Fault>
-    ensures told { IfOk result (λ t. Told text.now acts.old receiver.old t.0 t.1 acts.new receiver.new) }
-    ensures fault { IfErr result (λ fault. NotTold text.now receiver.old fault) }
+    ensures told { IfOk result (λ t. Told (version_in receiver.old) text.now acts.old (receiving_in receiver.old) t.0 t.1 acts.new
+        (receiving_in receiver.new)) }
+    ensures version { version_in receiver.new ≡ version_in receiver.old }
+    ensures fault { IfErr result (λ fault. NotTold (version_in receiver.old) text.now (receiving_in receiver.old) fault) }
     ensures acts { OnErr result (acts.new ≡ acts.old) }
     ensures receiver { OnErr result (receiver.new ≡ receiver.old) }
 {
@@ -168,17 +199,35 @@ pub(crate) fn is_overdue(owed: Option<u64>, now: u64) -> bool
     }
 }
 
+// The kind of the datagrams that a start sends.
+fn kind_of(watches: bool) -> Kind
+    ensures kind { result ≡ kind_from watches }
+{
+    if watches {
+        Kind::FromWatcher
+    } else {
+        Kind::ToServer
+    }
+}
+
 impl Client {
-    /// A start of this id in this session: nothing was typed, and it shows the blank screen of 24 by 80 under the number 0. Refuses want of
-    /// memory.
-    pub fn new(alloc: Global, session: u64, id: u64) -> Result<Client, Fault>
-        ensures stands { IfOk result (λ client. Stands client session id new_client) }
+    // A start of this id in this session, of a version, which may only watch in version 2.
+    fn begun(
+        alloc: Global,
+        session: u64,
+        id: u64,
+        version: Version,
+        watches: bool,
+    ) -> Result<Client, Fault>
+        requires fit { watches ≡ true → version ≡ Two }
+        ensures stands { IfOk result (λ client. Stands client session id (new_client version watches)) }
         ensures fault { IsOkUnless result Fault.OutOfMemory }
     {
-        let receiver = Receiver::new(alloc, Shot::blank(alloc, 24, 80)?)?;
+        let receiver = AnyReceiver::new(alloc, version)?;
         Ok(Client {
             session,
             id,
+            watches,
             acts: ActSender::new(alloc),
             gatherer: Gatherer::new(alloc),
             receiver,
@@ -191,27 +240,55 @@ impl Client {
         })
     }
 
-    /// Takes an act that was typed here. `Busy` where 1,024 acts are unacknowledged, `Spent` where its number would be 2^62, `OutOfMemory`;
-    /// a refusal leaves the start as it was.
+    /// A start of this id in this session, of version 2: nothing was typed, and it shows the blank screen of 24 by 80 under the number 0.
+    /// Refuses want of memory.
+    pub fn new(alloc: Global, session: u64, id: u64) -> Result<Client, Fault>
+        ensures stands { IfOk result (λ client. Stands client session id (new_client Two false)) }
+        ensures fault { IsOkUnless result Fault.OutOfMemory }
+    {
+        Client::begun(alloc, session, id, Version::Two, false)
+    }
+
+    /// The same of version 1.
+    pub fn old(alloc: Global, session: u64, id: u64) -> Result<Client, Fault>
+        ensures stands { IfOk result (λ client. Stands client session id (new_client One false)) }
+        ensures fault { IsOkUnless result Fault.OutOfMemory }
+    {
+        Client::begun(alloc, session, id, Version::One, false)
+    }
+
+    /// The same of version 2, which only watches: it is shown screens, and no act is typed at it.
+    pub fn watching(alloc: Global, session: u64, id: u64) -> Result<Client, Fault>
+        ensures stands { IfOk result (λ client. Stands client session id (new_client Two true)) }
+        ensures fault { IsOkUnless result Fault.OutOfMemory }
+    {
+        Client::begun(alloc, session, id, Version::Two, true)
+    }
+
+    /// Takes an act that was typed here. `Watching` where the start only watches, `Busy` where 1,024 acts are unacknowledged, `Spent` where
+    /// its number would be 2^62, `OutOfMemory`; a refusal leaves the start as it was.
     pub fn typed(&mut self, act: Act) -> Result<(), Fault>
         requires in_range { IsInRange act }
         ensures typed { (session id : ℕ) (c : ClientOf) → Stands self.old session id c → Types session id c act result self.new }
         ensures err { OnErr result (self.new ≡ self.old) }
     {
+        if self.watches {
+            return Err(Fault::Watching);
+        }
         facts(act);
         self.acts.typed(act)
     }
 
-    /// Takes the bytes of a datagram that came at a moment. Refuses `BadDatagram` for bytes that are no datagram to a client, and for a
-    /// piece or an instruction that is none; `OtherSession`; `OtherClient`; `BadChange`; `OutOfMemory`. A refusal leaves the start as it
-    /// was.
+    /// Takes the bytes of a datagram that came at a moment. Refuses `BadDatagram` for bytes that are no datagram to a client; then
+    /// `OtherSession`; `OtherClient`; `BadDatagram` for one of the other version, and for a piece or an instruction that is none;
+    /// `BadChange`; `OutOfMemory`. A refusal leaves the start as it was.
     pub fn datagram(&mut self, alloc: Global, bytes: &[u8], now: u64) -> Result<Heard, Fault>
         ensures heard { (session id : ℕ) (c : ClientOf) → Stands self.old session id c
             → Hears session id c bytes.now now result self.new }
         ensures err { OnErr result (self.new ≡ self.old) }
     {
         let datagram = read_datagram(alloc, bytes)?;
-        admit(self.session, self.id, &datagram)?;
+        admit(self.session, self.id, self.receiver.version(), &datagram)?;
         let moment = now.max(self.clock);
         match self.gatherer.take(alloc, &datagram)? {
             Gathered::Part => {
@@ -254,7 +331,7 @@ impl Client {
             return true;
         };
         let unacknowledged = !self.acts.waiting().1.is_empty();
-        self.sent_act < self.last_waiting()
+        (unacknowledged && self.sent_act < self.last_waiting())
             || (unacknowledged && has_passed(250, since, now))
             || is_overdue(self.owed, now)
             || has_passed(3000, since, now)
@@ -272,13 +349,14 @@ impl Client {
             return Err(Fault::Spent);
         }
         let up = Up {
-            acked: self.receiver.newest().0,
+            acked: self.receiver.newest_number(),
             first,
             acts: Vec::from_slice(alloc, acts)?,
         };
         let text = write_up(alloc, &up)?;
         let heading = Heading {
-            kind: Kind::ToServer,
+            version: self.receiver.version(),
+            kind: kind_of(self.watches),
             session: self.session,
             client: self.id,
             before: self.datagrams,
@@ -309,9 +387,9 @@ impl Client {
     }
 
     /// The number and the screen that the start shows. It takes no memory.
-    pub fn shown(&self) -> (u64, &Shot)
+    pub fn shown(&self) -> (u64, Shown<'_>)
         ensures shown { (session id : ℕ) (c : ClientOf) → Stands self.now session id c
-            → (result.0 ≡ shown_number c) × (result.1.now ≡ shown_screen c) }
+            → (result.0 ≡ shown_number c) × (shown_by result.1 ≡ shown_screen c) }
     {
         self.receiver.newest()
     }

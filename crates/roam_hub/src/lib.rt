@@ -4,6 +4,7 @@
 pub mod addresses;
 mod arrivals;
 pub mod clients;
+mod ends;
 mod packing;
 mod records;
 pub mod servers;

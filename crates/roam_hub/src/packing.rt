@@ -2,11 +2,14 @@
 ghost use Rattle.std.specs.Prelude.{◌≡◌, ◌+◌, ◌≤◌, ◌<◌, ◌^◌, ◌⊎◌, length, map, true, false, ◌||◌, IfOk, IfErr, IsOkUnless};
 ghost use Rattle.roam_wire.specs.Cutting.{AreSendable, pieces_of, texts_of};
 ghost use Rattle.roam_wire.specs.Datagrams.{IsDatagram, datagram_text};
+ghost use Rattle.roam_wire.specs.Versions.{most_bytes};
+ghost use Rattle.roam_wire.specs.declared.datagrams.Kind.TheVariants.{FromWatcher};
+ghost use Rattle.roam_wire.specs.declared.versions.Version.TheVariants.{Two};
 ghost use Rattle.roam_world.specs.Moments.{is_spent};
 ghost use Rattle.roam_world.specs.Texts.{datagram_with, datagrams_of};
 
 use roam_cells::Fault;
-use roam_wire::{Datagram, Kind, VERSION, cut, write_datagram};
+use roam_wire::{Datagram, Kind, Version, cut, write_datagram};
 use std::alloc::Global;
 
 /// Every number is below this one.
@@ -15,6 +18,7 @@ pub(crate) const NUMBERS: u64 = 1 << 62;
 /// Where the datagrams of an instruction go, and what they count from.
 #[derive(Clone, Copy)]
 pub(crate) struct Heading {
+    pub version: Version,
     pub kind: Kind,
     pub session: u64,
     pub client: u64,
@@ -32,14 +36,14 @@ fn datagram(
     count: u16,
     payload: Vec<u8>,
 ) -> Result<Vec<u8>, Fault>
-    requires limits { IsDatagram (datagram_with heading.kind heading.session heading.client heading.before heading.id count
-        (index, payload.items)) }
-    ensures written { IfOk result (λ text. text.items ≡ datagram_text (datagram_with heading.kind heading.session heading.client
-        heading.before heading.id count (index, payload.items))) }
+    requires limits { IsDatagram (datagram_with heading.version heading.kind heading.session heading.client heading.before heading.id
+        count (index, payload.items)) }
+    ensures written { IfOk result (λ text. text.items ≡ datagram_text (datagram_with heading.version heading.kind heading.session
+        heading.client heading.before heading.id count (index, payload.items))) }
     ensures fault { IsOkUnless result Fault.OutOfMemory }
 {
     let datagram = Datagram {
-        version: VERSION,
+        version: heading.version,
         kind: heading.kind,
         session: heading.session,
         client: heading.client,
@@ -54,14 +58,15 @@ fn datagram(
 
 // The texts of the datagrams with these pieces, in their order.
 fn datagrams(alloc: Global, heading: Heading, pieces: Vec<Vec<u8>>) -> Result<Vec<Vec<u8>>, Fault>
-    requires sendable { AreSendable (texts_of pieces.items) }
+    requires sendable { AreSendable heading.version (texts_of pieces.items) }
+    requires kind { heading.kind ≡ FromWatcher → heading.version ≡ Two }
     requires session { heading.session < 2 ^ 64 }
     requires client { heading.client < 2 ^ 64 }
     requires low { 1 ≤ heading.id }
     requires high { heading.id < 2 ^ 62 }
     requires numbers { heading.before + length pieces.items < 2 ^ 62 }
-    ensures written { IfOk result (λ all. texts_of all.items ≡ map datagram_text (datagrams_of heading.kind heading.session
-        heading.client heading.before heading.id (texts_of pieces.items))) }
+    ensures written { IfOk result (λ all. texts_of all.items ≡ map datagram_text (datagrams_of heading.version heading.kind
+        heading.session heading.client heading.before heading.id (texts_of pieces.items))) }
     ensures fault { IsOkUnless result Fault.OutOfMemory }
 {
     let count = pieces.len() as u16;
@@ -76,18 +81,19 @@ fn datagrams(alloc: Global, heading: Heading, pieces: Vec<Vec<u8>>) -> Result<Ve
 /// The texts of the datagrams that carry an instruction's text, in their order. `Spent` exactly where the instruction's id or the number
 /// of the last of them would be 2^62; `OutOfMemory`.
 pub(crate) fn packed(alloc: Global, heading: Heading, text: &[u8]) -> Result<Vec<Vec<u8>>, Fault>
-    requires short { length text.now ≤ 1228800 }
+    requires short { length text.now ≤ most_bytes heading.version }
+    requires kind { heading.kind ≡ FromWatcher → heading.version ≡ Two }
     requires session { heading.session < 2 ^ 64 }
     requires client { heading.client < 2 ^ 64 }
     requires low { 1 ≤ heading.id }
     requires before { heading.before < 2 ^ 62 }
-    ensures written { IfOk result (λ all. texts_of all.items ≡ map datagram_text (datagrams_of heading.kind heading.session
-        heading.client heading.before heading.id (pieces_of text.now))) }
+    ensures written { IfOk result (λ all. texts_of all.items ≡ map datagram_text (datagrams_of heading.version heading.kind
+        heading.session heading.client heading.before heading.id (pieces_of text.now))) }
     ensures fit { IfOk result (λ _. (is_spent heading.id || is_spent (heading.before + length (pieces_of text.now))) ≡ false) }
     ensures fault { IfErr result (λ fault. (fault ≡ Fault.OutOfMemory) ⊎ ((fault ≡ Fault.Spent)
         × ((is_spent heading.id || is_spent (heading.before + length (pieces_of text.now))) ≡ true))) }
 {
-    let pieces = cut(alloc, text)?;
+    let pieces = cut(alloc, text, heading.version)?;
     if heading.id >= NUMBERS || heading.before + pieces.len() as u64 >= NUMBERS {
         return Err(Fault::Spent);
     }

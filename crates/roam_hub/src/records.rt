@@ -1,23 +1,28 @@
 //! What a server keeps of a client start.
-ghost use Rattle.std.specs.Prelude.{◌≡◌, ◌==◌, ◌⊎◌, ◌+◌, ◌++◌, ◌<◌, ◌≤◌, ◌^◌, ◌&&◌, ◌||◌, ℕ, List, length, map, max, nat_lt, true, false, is_some, if◌then◌else◌, IfOk, IfErr, OnOk, OnErr, IsTrue, IsOkUnless};
-ghost use Rattle.roam_sync.specs.Senders.{newest, count, offered, withdrawn, is_due};
+ghost use Rattle.std.specs.Prelude.{◌≡◌, ◌==◌, ◌⊎◌, ◌+◌, ◌++◌, ◌<◌, ◌≤◌, ◌^◌, ◌&&◌, ◌||◌, ℕ, List, length, map, max, nat_lt, true, false, is_some, if◌then◌else◌, IfOk, IfErr, IfSome, OnOk, OnErr, IsTrue, IsOkUnless};
+ghost use Rattle.roam_screens.specs.Narrow.{narrow};
+ghost use Rattle.roam_sync.specs.Senders.{newest, count, is_due};
 ghost use Rattle.roam_wire.specs.Cutting.{texts_of};
 ghost use Rattle.roam_wire.specs.Datagrams.{datagram_text, datagram_value};
 ghost use Rattle.roam_wire.specs.Gatherers.{untaken};
 ghost use Rattle.roam_world.specs.Moments.{is_overdue, owed_from};
-ghost use Rattle.roam_world.specs.Servers.{no_record};
-ghost use Rattle.roam_hub.specs.Servers.{kept_of, address_of, parcels_of};
-ghost use Rattle.roam_hub.specs.Records.{Notes, NotNoted, is_letter_spent, is_told, pieces_told, datagrams_for, letters_for, settled_with, HasNumbersFor, back_from, held, is_entry_spent};
+ghost use Rattle.roam_world.specs.Texts.{is_watching as is_watching_kind};
+ghost use Rattle.roam_world.specs.Comings.{is_same as are_same};
+ghost use Rattle.roam_world.specs.Versions.{is_same_version as are_same_version};
+ghost use Rattle.roam_hub.specs.Ends.{version_of, sending_of};
+ghost use Rattle.roam_hub.specs.Servers.{address_of, parcels_of};
+ghost use Rattle.roam_hub.specs.Records.{first_record, Fits, IsOther, Notes, NotHeard, is_letter_spent, is_told, pieces_told, datagrams_for, letters_for, settled_with, HasNumbersFor, back_from, held, is_entry_spent};
 
 use crate::addresses::Addr;
 use crate::clients::{is_overdue, owed_after};
+use crate::ends::AnySender;
 use crate::packing::{Heading, NUMBERS, packed};
 use crate::taking::{Taking, take_acts};
 use roam_acts::{Act, ActTaker};
-use roam_cells::{Fault, Shot};
+use roam_cells::{Fault, Reason};
+use roam_screens::{RowShot, RowShot1};
 use roam_session::Session;
-use roam_sync::Sender;
-use roam_wire::{Datagram, Down, Gathered, Gatherer, Kind, read_up, write_down};
+use roam_wire::{Datagram, Down, Gathered, Gatherer, Kind, Version, read_up, write_down};
 use std::alloc::Global;
 use std::marker::Model;
 
@@ -30,9 +35,10 @@ const SILENCE: u64 = 60_000;
 /// What a server keeps of a client start.
 #[derive(Drop)]
 pub struct Record {
+    watches: bool,
     gatherer: Gatherer,
     taker: ActTaker,
-    sender: Sender<Shot>,
+    sender: AnySender,
     heard_at: u64,
     latest: u64,
     address: Addr,
@@ -59,14 +65,17 @@ pub struct Prepared {
 impl Model for Record {
     ghost use Rattle.std.specs.Prelude.{◌+◌, ◌<◌, ◌^◌};
     ghost use Rattle.roam_sync.specs.Senders.{newest};
+    ghost use Rattle.roam_hub.specs.Ends.{version_of, sending_of};
     ghost use Rattle.roam_hub.specs.Servers.{RecordView, address_of};
 
     ghost Value = { RecordView };
 
     ghost view = { λ r. record {
+      version = version_of r.sender;
+      watches = r.watches;
       gathering = r.gatherer.current;
       taken = r.taker;
-      sender = r.sender;
+      sender = sending_of r.sender;
       heard_at = r.heard_at;
       latest = r.latest;
       address = address_of r.address;
@@ -75,7 +84,7 @@ impl Model for Record {
       instructions = r.instructions;
     } };
 
-    ghost invariant = { λ r. (r.taker < 2 ^ 62 + 64) × ((newest r.sender).number < 2 ^ 62) × (r.datagrams < 2 ^ 62)
+    ghost invariant = { λ r. (r.taker < 2 ^ 62 + 64) × ((newest (sending_of r.sender)).number < 2 ^ 62) × (r.datagrams < 2 ^ 62)
         × (r.instructions < 2 ^ 62) };
 }
 
@@ -103,30 +112,16 @@ fn is_heard(heard_at: u64, now: u64) -> bool
 }
 
 // Whether a number is offered to a start: it was heard of late, the number is new to its sender, and fewer than eight are held.
-fn may_be_offered(sender: &Sender<Shot>, heard_at: u64, number: u64, now: u64) -> bool
-    ensures offered { result ≡ (nat_lt now (heard_at + 60000) && nat_lt (newest sender.now).number number
-        && nat_lt (count sender.now) 8) }
+fn may_be_offered(sender: &AnySender, heard_at: u64, number: u64, now: u64) -> bool
+    ensures offered { result ≡ (nat_lt now (heard_at + 60000) && nat_lt (newest (sending_of sender.now)).number number
+        && nat_lt (count (sending_of sender.now)) 8) }
 {
     is_heard(heard_at, now) && sender.newest_number() < number && sender.len() < MOST_HELD
 }
 
-// Holds one more state, where fewer than eight are held. Refuses want of memory.
-fn offered(sender: &mut Sender<Shot>, number: u64, screen: Shot) -> Result<(), Fault>
-    requires newer { (newest sender.old).number < number }
-    requires room { count sender.old < 8 }
-    ensures ok { OnOk result (sender.new ≡ offered sender.old number screen) }
-    ensures top { OnOk result ((newest sender.new).number ≡ number) }
-    ensures several { OnOk result (2 ≤ count sender.new) }
-    ensures back { OnOk result (withdrawn sender.new ≡ sender.old) }
-    ensures err { OnErr result (sender.new ≡ sender.old) }
-    ensures fault { IsOkUnless result Fault.OutOfMemory }
-{
-    sender.offer(number, screen)
-}
-
 // Whether a start is sent to: it was heard of late, and its sender is due or an answer is overdue.
-fn is_told(sender: &Sender<Shot>, heard_at: u64, owed: Option<u64>, now: u64) -> bool
-    ensures told { result ≡ (nat_lt now (heard_at + 60000) && (is_due sender.now now || is_overdue owed now)) }
+fn is_told(sender: &AnySender, heard_at: u64, owed: Option<u64>, now: u64) -> bool
+    ensures told { result ≡ (nat_lt now (heard_at + 60000) && (is_due (sending_of sender.now) now || is_overdue owed now)) }
 {
     is_heard(heard_at, now) && (sender.due(now) || is_overdue(owed, now))
 }
@@ -153,14 +148,56 @@ fn owed_for(owed: Option<u64>, acts: &[Act], now: u64) -> Option<u64>
     owed_after(owed, true, now)
 }
 
+/// Whether a datagram of this kind comes from a start that only watches.
+pub fn is_watching(kind: Kind) -> bool
+    ensures watching { result ≡ is_watching_kind kind }
+{
+    match kind {
+        Kind::ToClient | Kind::ToServer => false,
+        Kind::FromWatcher => true,
+    }
+}
+
+/// Whether two starts both watch, or neither does.
+pub fn is_same(one: bool, other: bool) -> bool
+    ensures same { result ≡ are_same one other }
+{
+    if one { other } else { !other }
+}
+
+/// Whether two versions are one.
+pub fn is_same_version(one: Version, other: Version) -> bool
+    ensures same { result ≡ are_same_version one other }
+{
+    match (one, other) {
+        (Version::One, Version::One) | (Version::Two, Version::Two) => true,
+        (Version::One, Version::Two) | (Version::Two, Version::One) => false,
+    }
+}
+
+// Whether a datagram is of the version and the kind of its start's first one.
+fn admit(version: Version, watches: bool, datagram: &Datagram) -> Result<(), Fault>
+    ensures fits { OnOk result (Fits version watches (datagram_value datagram.now)) }
+    ensures fault { IfErr result (λ fault. IsOther version watches (datagram_value datagram.now) fault) }
+{
+    if !is_same_version(version, datagram.version) {
+        return Err(Fault::BadDatagram(Reason::Version));
+    }
+    if !is_same(watches, is_watching(datagram.kind)) {
+        return Err(Fault::BadDatagram(Reason::Kind));
+    }
+    Ok(())
+}
+
 impl Record {
-    /// The record of a client start from which nothing has come. Refuses want of memory.
-    pub fn new(alloc: Global) -> Result<Record, Fault>
-        ensures new { IfOk result (λ r. r ≡ kept_of no_record) }
+    /// The record of a client start of a version, which may only watch, and from which nothing has come. Refuses want of memory.
+    pub fn new(alloc: Global, version: Version, watches: bool) -> Result<Record, Fault>
+        ensures new { IfOk result (λ r. r ≡ first_record version watches) }
         ensures fault { IsOkUnless result Fault.OutOfMemory }
     {
-        let sender = Sender::new(alloc, Shot::blank(alloc, 24, 80)?)?;
+        let sender = AnySender::new(alloc, version)?;
         Ok(Record {
+            watches,
             gatherer: Gatherer::new(alloc),
             taker: ActTaker::new(),
             sender,
@@ -176,6 +213,13 @@ impl Record {
         })
     }
 
+    /// Whether the start only watches.
+    pub fn watches(&self) -> bool
+        ensures watches { result ≡ self.now.watches }
+    {
+        self.watches
+    }
+
     // Notes that a datagram of this number came from there.
     fn note(&mut self, number: u64, from: Addr, now: u64)
         ensures noted { self.new ≡ record self.old {
@@ -189,8 +233,9 @@ impl Record {
         self.heard_at = now;
     }
 
-    /// Takes a datagram that came from an address at a moment, and does the new acts of an instruction that it makes whole. Refuses a
-    /// piece or an instruction that is none, and want of memory before an act; then the record and the session are as before.
+    /// Takes a datagram that came from an address at a moment, and does the new acts of an instruction that it makes whole. Refuses one of
+    /// another version, then one of another kind, then a piece or an instruction that is none, and want of memory before an act; then the
+    /// record and the session are as before.
     pub fn hear(
         &mut self,
         alloc: Global,
@@ -201,10 +246,13 @@ impl Record {
     ) -> Result<Taking, Fault>
         ensures noted { IfOk result (λ t. Notes self.old session.old (datagram_value datagram.now) (address_of from) now t self.new
             session.new) }
-        ensures fault { IfErr result (λ fault. NotNoted self.old (datagram_value datagram.now) fault) }
+        ensures fits { OnOk result (Fits self.old.version self.old.watches (datagram_value datagram.now)) }
+        ensures stops { IfOk result (λ t. IfSome t.stopped (λ fault. (fault ≡ Fault.OutOfMemory) ⊎ (fault ≡ Fault.Busy))) }
+        ensures fault { IfErr result (λ fault. NotHeard self.old (datagram_value datagram.now) fault) }
         ensures err { OnErr result (self.new ≡ self.old) }
         ensures session { OnErr result (session.new ≡ session.old) }
     {
+        admit(self.sender.version(), self.watches, datagram)?;
         let Gathered::Whole(text) = self.gatherer.take(alloc, datagram)? else {
             self.note(datagram.number, from, now);
             return Ok(Taking {
@@ -212,7 +260,7 @@ impl Record {
                 stopped: None,
             });
         };
-        let up = match read_up(alloc, text.as_slice()) {
+        let up = match read_up(alloc, text.as_slice(), self.watches) {
             Ok(up) => up,
             Err(fault) => {
                 self.gatherer.untake();
@@ -229,19 +277,27 @@ impl Record {
     }
 
     // Offers the newest number with its screen where it may be needed, and tells whether it did. Refuses want of memory.
-    fn offer(&mut self, alloc: Global, number: u64, screen: &Shot, now: u64) -> Result<bool, Fault>
+    fn offer(
+        &mut self,
+        alloc: Global,
+        number: u64,
+        screen: &RowShot,
+        kept: &mut Option<RowShot1>,
+        now: u64,
+    ) -> Result<bool, Fault>
         requires number { number < 2 ^ 62 }
+        requires kept { IfSome kept.old (λ old. old ≡ narrow screen.now) }
         ensures held { OnOk result (self.new ≡ held self.old number screen.now now) }
         ensures several { IfOk result (λ offered. IsTrue offered → 2 ≤ count self.new.sender) }
         ensures back { IfOk result (λ offered. back_from self.new offered ≡ self.old) }
+        ensures kept { IfSome kept.new (λ old. old ≡ narrow screen.now) }
         ensures fault { IsOkUnless result Fault.OutOfMemory }
         ensures err { OnErr result (self.new ≡ self.old) }
     {
         if !may_be_offered(&self.sender, self.heard_at, number, now) {
             return Ok(false);
         }
-        let copy = screen.copy(alloc)?;
-        offered(&mut self.sender, number, copy)?;
+        self.sender.offer(alloc, number, screen, kept)?;
         Ok(true)
     }
 
@@ -279,6 +335,7 @@ impl Record {
         };
         let text = write_down(alloc, &down)?;
         let heading = Heading {
+            version: self.sender.version(),
             kind: Kind::ToClient,
             session,
             client,
@@ -322,12 +379,14 @@ impl Record {
         alloc: Global,
         news: News,
         client: u64,
-        screen: &Shot,
+        screen: &RowShot,
+        kept: &mut Option<RowShot1>,
         parcels: &mut Vec<(Addr, Vec<u8>)>,
     ) -> Result<Prepared, Fault>
         requires number { news.number < 2 ^ 62 }
         requires session { news.session < 2 ^ 64 }
         requires client { client < 2 ^ 64 }
+        requires kept { IfSome kept.old (λ old. old ≡ narrow screen.now) }
         ensures held { OnOk result (self.new ≡ held self.old news.number screen.now news.now) }
         ensures pieces { IfOk result (λ p. p.pieces ≡ pieces_told self.new news.now) }
         ensures parcels { OnOk result (parcels_of parcels.new.items ≡ parcels_of parcels.old.items
@@ -338,10 +397,11 @@ impl Record {
         ensures fit { OnOk result (is_entry_spent news.number screen.now news.now (client, self.old) ≡ false) }
         ensures fault { IfErr result (λ fault. (fault ≡ Fault.OutOfMemory)
             ⊎ ((fault ≡ Fault.Spent) × (is_entry_spent news.number screen.now news.now (client, self.old) ≡ true))) }
+        ensures kept { IfSome kept.new (λ old. old ≡ narrow screen.now) }
         ensures err { OnErr result (self.new ≡ self.old) }
     {
         let _invariant = &self.heard_at;
-        let offered = self.offer(alloc, news.number, screen, news.now)?;
+        let offered = self.offer(alloc, news.number, screen, kept, news.now)?;
         match self.tell(alloc, news, client, parcels) {
             Ok(pieces) => Ok(Prepared { offered, pieces }),
             Err(fault) => {

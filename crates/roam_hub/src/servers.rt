@@ -1,17 +1,19 @@
 //! The server: the session, its numbered screens, and what is kept of each client start.
-ghost use Rattle.std.specs.Prelude.{◌≡◌, ◌↔◌, ◌⊎◌, ◌≤◌, ◌-◌, ◌+◌, ◌||◌, ℕ, List, length, nat_eq, true, false, IfOk, IfErr, OnOk, OnErr, IsErrOf, IsOkUnless};
+ghost use Rattle.std.specs.Prelude.{◌≡◌, ◌↔◌, ◌⊎◌, ◌≤◌, ◌-◌, ◌+◌, ◌||◌, ℕ, List, length, nat_eq, true, false, IfOk, IfErr, IfSome, OnOk, OnErr, IsErrOf, IsOkUnless};
 ghost use Rattle.std.specs.Option.{option_map};
 ghost use Rattle.roam_layout.specs.Layouts.{IsSessionSize};
 ghost use Rattle.roam_session.specs.Faces.{face};
-ghost use Rattle.roam_session.specs.Stands.{waiting_at};
+ghost use Rattle.roam_session.specs.Lives.{life_of};
+ghost use Rattle.roam_session.specs.Stands.{keeping, waiting_at};
 ghost use Rattle.roam_session.specs.Queues.{IsWithin, IsCopied};
 ghost use Rattle.roam_session.specs.Refusals.{fault_of, none_refused, output_at};
-ghost use Rattle.roam_cells.specs.Screenshot.{IsScreenshot};
+ghost use Rattle.roam_screens.specs.Screenshot.{IsScreenshot};
 ghost use Rattle.roam_world.specs.Moments.{is_spent};
 ghost use Rattle.roam_world.specs.Servers.{Server as ServerOf, new_server};
 ghost use Rattle.roam_wire.specs.Datagrams.{datagram_value};
-ghost use Rattle.roam_world.specs.Comings.{is_to_server, coming, turned_away};
-ghost use Rattle.roam_hub.specs.Servers.{Stands, Feeds, Drains, Comes, Ticks, address_of, parcels_of};
+ghost use Rattle.roam_world.specs.Texts.{is_to_server as is_to_server_kind};
+ghost use Rattle.roam_world.specs.Comings.{coming, turned_away};
+ghost use Rattle.roam_hub.specs.Servers.{Stands, Feeds, Drains, Comes, Ticks, ComesFromWatcher, TakesNothing, IsStopAtAct, address_of, parcels_of};
 ghost use Rattle.roam_hub.specs.Records.{answered, makes_at, told_by, ticked_by, is_any_spent};
 
 use crate::addresses::{Addr, Stop};
@@ -22,7 +24,8 @@ use crate::records::{News, Record};
 use crate::taking::Taking;
 use crate::telling::tell_from;
 use indexmap::IndexMap;
-use roam_cells::{Fault, Reason, Shot};
+use roam_cells::{Fault, Reason};
+use roam_screens::{RowShot, Seen};
 use roam_session::Session;
 use roam_wire::{Datagram, Kind, read_datagram};
 use std::alloc::Global;
@@ -34,7 +37,7 @@ pub struct Server {
     id: u64,
     session: Session,
     made: u64,
-    screen: Shot,
+    screen: RowShot,
     made_at: u64,
     input: bool,
     clock: u64,
@@ -65,14 +68,24 @@ impl Model for Server {
     ghost invariant = { λ s. (s.made < 2 ^ 62) × (s.id < 2 ^ 64) };
 }
 
+// Whether a datagram goes to a server.
+fn is_to_server(kind: Kind) -> bool
+    ensures kind { result ≡ is_to_server_kind kind }
+{
+    match kind {
+        Kind::ToClient => false,
+        Kind::ToServer | Kind::FromWatcher => true,
+    }
+}
+
 // Whether a datagram is for the server of this session.
 fn admit(session: u64, datagram: &Datagram) -> Result<(), Fault>
-    ensures kind { OnOk result (is_to_server datagram.now.kind ≡ true) }
+    ensures kind { OnOk result (is_to_server_kind datagram.now.kind ≡ true) }
     ensures session { OnOk result (nat_eq datagram.now.session session ≡ true) }
     ensures err { IfErr result (λ fault. (s : ServerOf) → s.session ≡ session
         → coming s (datagram_value datagram.now) ≡ turned_away fault) }
 {
-    if datagram.kind == Kind::ToClient {
+    if !is_to_server(datagram.kind) {
         return Err(Fault::BadDatagram(Reason::Kind));
     }
     if datagram.session != session {
@@ -99,7 +112,7 @@ fn answer(taking: Result<Taking, Fault>) -> Result<usize, Stop>
 
 impl Server {
     /// The server of a new session of this id, of one pane that fills all rows but the last. No number was made and nothing has come.
-    /// `BadSize` outside 4 to 100 rows or 8 to 250 columns, `OutOfMemory`.
+    /// `BadSize` outside 4 to 200 rows or 8 to 500 columns, `OutOfMemory`.
     pub fn new(alloc: Global, session: u64, rows: u16, cols: u16) -> Result<Server, Fault>
         ensures stands { IfOk result (λ server. Stands server (new_server session (record { rows = rows; cols = cols }))) }
         ensures size { OnOk result (IsSessionSize rows cols) }
@@ -107,7 +120,7 @@ impl Server {
         ensures faults { IfErr result (λ fault. (fault ≡ Fault.BadSize) ⊎ (fault ≡ Fault.OutOfMemory)) }
     {
         let panes = Session::new(alloc, rows, cols)?;
-        let screen = Shot::blank(alloc, 24, 80)?;
+        let screen = RowShot::blank(alloc, 24, 80)?;
         Ok(Server {
             id: session,
             session: panes,
@@ -134,6 +147,7 @@ impl Server {
     // Takes the bytes of a datagram, as `datagram` does.
     fn hear(&mut self, alloc: Global, from: Addr, bytes: &[u8], now: u64) -> Result<Taking, Fault>
         ensures heard { (s : ServerOf) → Stands self.old s → Comes s (address_of from) bytes.now now (answered result) self.new }
+        ensures stops { IfOk result (λ t. IfSome t.stopped (λ fault. (fault ≡ Fault.OutOfMemory) ⊎ (fault ≡ Fault.Busy))) }
         ensures err { OnErr result (self.new ≡ self.old) }
     {
         let datagram = read_datagram(alloc, bytes)?;
@@ -153,10 +167,12 @@ impl Server {
     }
 
     /// Takes the bytes of a datagram that came from an address at a moment, does the new acts of an instruction that it makes whole, in
-    /// their order, and answers how many. Refuses `BadDatagram` for bytes that are no datagram to a server, and for a piece or an
-    /// instruction that is none; `OtherSession`; `ClientsFull` for a 65th client start; `OutOfMemory`; then nothing is changed. An act
-    /// that finds its queue full (`Busy`) or no memory (`OutOfMemory`) stops there: this act and later ones aren't taken, all before
-    /// stands, and the same datagram can bring the rest.
+    /// their order, and answers how many. Refuses `BadDatagram` for bytes that are no datagram to a server; `OtherSession`; of a client
+    /// start that isn't known `ClientsFull` where 64 are known, or 16 where it only watches; of one that is known `BadDatagram` for
+    /// another version or another kind than its first datagram had; then `BadDatagram` for a piece or an instruction that is none;
+    /// `OutOfMemory`; then nothing is changed. An act that finds its queue full (`Busy`) or no memory (`OutOfMemory`) stops there: this
+    /// act and later ones aren't taken, all before stands, and the same datagram can bring the rest. Whatever its bytes, a datagram of a
+    /// start that only watches takes no act, and leaves the session and what is kept of every other start as they were.
     pub fn datagram(
         &mut self,
         alloc: Global,
@@ -165,6 +181,8 @@ impl Server {
         now: u64,
     ) -> Result<usize, Stop>
         ensures comes { (s : ServerOf) → Stands self.old s → Comes s (address_of from) bytes.now now result self.new }
+        ensures watched { ComesFromWatcher bytes.now → (s : ServerOf) → Stands self.old s → TakesNothing s bytes.now result self.new }
+        ensures err { IfErr result (λ stop. IsStopAtAct stop ⊎ (self.new ≡ self.old)) }
     {
         answer(self.hear(alloc, from, bytes, now))
     }
@@ -209,8 +227,15 @@ impl Server {
         self.session.room(pane)
     }
 
+    /// Which making of a pane of this number is there, counted from 1 modulo 2^64; `None` where no such pane is there. It takes no memory.
+    pub fn life(&self, pane: u8) -> Option<u64>
+        ensures life { (s : ServerOf) → Stands self.now s → result ≡ life_of s.size s.log pane }
+    {
+        self.session.life(pane)
+    }
+
     /// The screen that the session shows now. Refuses want of memory.
-    pub fn face(&self, alloc: Global) -> Result<Shot, Fault>
+    pub fn face(&self, alloc: Global) -> Result<RowShot, Fault>
         ensures face { IfOk result (λ shot. (s : ServerOf) → Stands self.now s → shot ≡ face s.size s.log) }
         ensures fault { IsOkUnless result Fault.OutOfMemory }
     {
@@ -239,10 +264,12 @@ impl Server {
             now,
         };
         let mut parcels = Vec::new(alloc);
+        let mut kept = None;
         tell_from(
             alloc,
             news,
             &self.screen,
+            &mut kept,
             &mut self.records,
             0,
             &mut parcels,
@@ -256,6 +283,7 @@ impl Server {
         ensures made { IfOk result (λ all. (s : ServerOf) → Stands self.old s
             → (parcels_of all.items ≡ told_by self.old (self.old.made + 1) (face s.size s.log) now)
             × (self.new ≡ record (ticked_by self.old (self.old.made + 1) (face s.size s.log) now) {
+              state = keeping (face s.size s.log) self.old.state;
               made = self.old.made + 1;
               screen = face s.size s.log;
               made_at = now;
@@ -274,13 +302,24 @@ impl Server {
         }
         let screen = self.session.face(alloc)?;
         screen.facts();
+        let shown = screen.copy(alloc)?;
         let news = News {
             session: self.id,
             number,
             now,
         };
         let mut parcels = Vec::new(alloc);
-        tell_from(alloc, news, &screen, &mut self.records, 0, &mut parcels)?;
+        let mut kept = None;
+        tell_from(
+            alloc,
+            news,
+            &screen,
+            &mut kept,
+            &mut self.records,
+            0,
+            &mut parcels,
+        )?;
+        self.session.keep(shown);
         self.made = number;
         self.screen = screen;
         self.made_at = now;
@@ -290,9 +329,9 @@ impl Server {
     }
 
     /// Makes a number of the session's face where none was made yet, or where an input came since the last was made and 20 ms passed;
-    /// offers the newest number to each client start that was heard less than 60,000 ms ago and has room for it; and answers the
-    /// datagrams to those that are due one, in the order of arrival, each with the address that it goes to. `Spent` exactly where a
-    /// number that it needs would be 2^62; `OutOfMemory`. A refusal changes nothing.
+    /// offers the newest number, as its version is shown it, to each client start that was heard less than 60,000 ms ago and has room for
+    /// it; and answers the datagrams to those that are due one, in the order of arrival, each with the address that it goes to. `Spent`
+    /// exactly where a number that it needs would be 2^62; `OutOfMemory`. A refusal changes nothing.
     pub fn tick(&mut self, alloc: Global, now: u64) -> Result<Vec<(Addr, Vec<u8>)>, Fault>
         ensures ticked { (s : ServerOf) → Stands self.old s → Ticks s now result self.new }
         ensures err { OnErr result (self.new ≡ self.old) }

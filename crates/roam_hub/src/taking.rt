@@ -26,13 +26,15 @@ fn perform(alloc: Global, session: &mut Session, client: u64, act: &Act) -> Opti
     ensures free { IfNone result ((size : SessionSize) (log : List Entry) → Stands session.old size log
         → stops size log act.now ≡ false) }
     ensures full { (size : SessionSize) (log : List Entry) → Stands session.old size log → IfSome result (λ fault.
-        (fault ≡ Fault.OutOfMemory) ⊎ ((fault ≡ Fault.Busy) × (stops size log act.now ≡ true))) }
+        ((fault ≡ Fault.OutOfMemory) × (stops size log act.now ≡ false)) ⊎ ((fault ≡ Fault.Busy) × (stops size log act.now ≡ true))) }
+    ensures fault { IfSome result (λ fault. (fault ≡ Fault.OutOfMemory) ⊎ (fault ≡ Fault.Busy)) }
     ensures same { IfSome result (λ _. session.new ≡ session.old) }
 {
     match session.act(alloc, client, act) {
-        Err(Fault::OutOfMemory) => Some(Fault::OutOfMemory),
-        Err(Fault::Busy) => Some(Fault::Busy),
-        _ => None,
+        Ok(()) => None,
+        Err(fault) if fault == Fault::OutOfMemory => Some(fault),
+        Err(fault) if fault == Fault::Busy => Some(fault),
+        Err(_) => None,
     }
 }
 
@@ -50,6 +52,7 @@ pub fn take_acts(
         → TakesActs size log client acts.now result session.new }
     ensures count { taker.new ≡ taker.old + result.taken }
     ensures within { result.taken ≤ length acts.now }
+    ensures stops { IfSome result.stopped (λ fault. (fault ≡ Fault.OutOfMemory) ⊎ (fault ≡ Fault.Busy)) }
 {
     let mut taken = 0;
     for act in acts {

@@ -7,8 +7,8 @@ use Rattle.std.proofs.lemmas.List.Elements.{All-nil, All-append, All-replicate, 
 use Rattle.std.proofs.lemmas.List.Edits.{get_or-between, length-between}
 use Rattle.unicode_width.proofs.Computing.{unicode_width}
 use Rattle.roam_cells.specs.Glyph.{Glyph, blank, is_wide, is_right_half, right_of, is_cell_text}
-use Rattle.roam_cells.specs.Place.{glyph_at, cell_at, IsWholeAt, IsWholeRow}
-use Rattle.roam_cells.specs.Screenshot.{Screenshot, IsScreenshot, row_of}
+use Rattle.roam_cells.specs.Place.{glyph_at, cell_at, IsWholeAt, IsWholeRow, row_of}
+use Rattle.roam_screens.specs.Screenshot.{Screenshot, IsScreenshot}
 use Rattle.roam_cells.proofs.Ascii.{ascii_width}
 use Rattle.roam_cells.proofs.Places.{row_from, place_below}
 use Rattle.roam_layout.specs.Status.{IsPrintable}

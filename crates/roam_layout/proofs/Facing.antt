@@ -6,8 +6,8 @@ use Rattle.std.proofs.lemmas.Bool.{eq-eqb, ne_eqb, cond_both}
 use Rattle.std.proofs.lemmas.List.{get_or-map, length-map, length-take-le, length-replicate}
 use Rattle.std.proofs.lemmas.List.FromFn.{length-map-range_with_len, get_or-map-range_with_len}
 use Rattle.roam_cells.specs.Glyph.{Glyph, blank, is_wide, is_right_half, right_of}
-use Rattle.roam_cells.specs.Place.{cell_at, glyph_at, table, IsWholeLine, IsWholeRow, AreWhole}
-use Rattle.roam_cells.specs.Screenshot.{Screenshot, IsScreenshot, AreUnguarded, row_of}
+use Rattle.roam_cells.specs.Place.{cell_at, glyph_at, table, IsWholeLine, IsWholeRow, AreWhole, AreUnguarded, row_of}
+use Rattle.roam_screens.specs.Screenshot.{Screenshot, IsScreenshot}
 use Rattle.roam_cells.proofs.Places.{get_or-table, length-table, place_of}
 use Rattle.roam_layout.specs.Trees.{Shape, One, Two}
 use Rattle.roam_layout.specs.Rects.{placed, borders, within, first_part, border_part, second_part}

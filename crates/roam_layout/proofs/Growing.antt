@@ -23,8 +23,8 @@ abbrev pub IfGrown : Shape → Option Shape → Type 0
 IfGrown t None = Unit {0}
 IfGrown t (Some u) = HasGrown t u
 
-wanted_modest : (wanted : ℤ) (low high half : ℕ) → (int_le (pos low) wanted && int_le wanted (pos high)) ≡ true → high ≤ 250 → half ≤ 250
-    → (negsuc 299 ≤ℤ (wanted -ℤ pos half)) × ((wanted -ℤ pos half) ≤ℤ pos 300)
+wanted_modest : (wanted : ℤ) (low high half : ℕ) → (int_le (pos low) wanted && int_le wanted (pos high)) ≡ true → high ≤ 500 → half ≤ 500
+    → (negsuc 599 ≤ℤ (wanted -ℤ pos half)) × ((wanted -ℤ pos half) ≤ℤ pos 600)
 wanted_modest wanted low high half e h k = (grind (arith, ints, nat_tests), grind (arith, ints, nat_tests))
 
 same_rows : (w : Way) (g k : ℤ) (a b : Shape) → least_rows (Two w k a b) ≡ least_rows (Two w g a b)
@@ -35,11 +35,11 @@ same_cols : (w : Way) (g k : ℤ) (a b : Shape) → least_cols (Two w k a b) ≡
 same_cols Right g k a b = refl
 same_cols Down g k a b = refl
 
-along_limit : (w : Way) (r : Rect) → r.rows ≤ 250 → r.cols ≤ 250 → length_along w r ≤ 250
+along_limit : (w : Way) (r : Rect) → r.rows ≤ 500 → r.cols ≤ 500 → length_along w r ≤ 500
 along_limit Right r h k = k
 along_limit Down r h k = h
 
-stretched_keeps : (w : Way) (g wanted : ℤ) (a b : Shape) (r : Rect) → r.rows ≤ 250 → r.cols ≤ 250 → AreModest (Two w g a b)
+stretched_keeps : (w : Way) (g wanted : ℤ) (a b : Shape) (r : Rect) → r.rows ≤ 500 → r.cols ≤ 500 → AreModest (Two w g a b)
     → IfGrown (Two w g a b) (stretched w wanted a b r)
 stretched_keeps w g wanted a b r h k modest = by_case (int_le (pos (least w a)) wanted && int_le wanted (pos (most_first w b r))) refl
   where
@@ -112,7 +112,7 @@ second_limits : (w : Way) (g : ℤ) (a b : Shape) (r : Rect) → Fits (Two w g a
 second_limits Right g a b r fits = let e = across_in g a b r fits in ((omega (arith, fits.0), omega (arith, e.1)), omega arith, omega arith)
 second_limits Down g a b r fits = let e = down_in g a b r fits in ((omega (arith, e.1), omega (arith, fits.1)), omega arith, omega arith)
 
-pub grown_keeps : (p : ℕ) (d : ℤ) (t : Shape) (r : Rect) → Fits t r → r.rows ≤ 250 → r.cols ≤ 250 → AreModest t → IfGrown t (grown p d t r)
+pub grown_keeps : (p : ℕ) (d : ℤ) (t : Shape) (r : Rect) → Fits t r → r.rows ≤ 500 → r.cols ≤ 500 → AreModest t → IfGrown t (grown p d t r)
 grown_keeps p d (One q) r fits h k m = tt
 grown_keeps p d (Two w g a b) r fits h k m =
     let x = first_limits w g a b r fits in

@@ -1,14 +1,14 @@
 -- What each act keeps: the tree fits, its panes are distinct and numbered 1 to 9, its shifts are modest, the focus is a pane.
-use Rattle.std.proofs.Common.{◌≡◌, ℕ, ℤ, pos, ◌+◌, ◌-◌, ◌≤◌, ◌<◌, ◌+ℤ◌, max, nat_le, Bool, true, false, ◌||◌, ◌==◌, cond, refl, ap, sym, subst, ◌∙◌, inl, inr, List, [], ◌∷◌, ◌++◌, length, map, arith, ◌⊎◌, Some}
-use Rattle.std.proofs.lemmas.Bool.{eq-eqb, or_left, or_right, leb-true, eqb-true, le-leb}
+use Rattle.std.proofs.Common.{◌≡◌, ℕ, ℤ, pos, ◌+◌, ◌-◌, ◌≤◌, ◌<◌, ◌+ℤ◌, max, nat_le, Bool, true, false, ◌||◌, ◌==◌, cond, refl, ap, sym, subst, ◌∙◌, inl, inr, List, [], ◌∷◌, ◌++◌, length, map, arith, ◌⊎◌, Option, Some, None, is_some}
+use Rattle.std.proofs.lemmas.Bool.{false≢true, eq-eqb, or_left, or_right, leb-true, eqb-true, le-leb}
 use Rattle.std.proofs.lemmas.Bool.Decides.{leb_tells}
-use Rattle.std.specs.Prelude.{slice_set, slice_index}
+use Rattle.std.specs.Prelude.{slice_set, slice_index, if◌then◌else◌}
 use Rattle.roam_cells.specs.declared.faults.Fault.TheVariants.{PanesFull, TooSmall}
 use Rattle.std.proofs.Math.Bool.{or-false, or_assoc}
 use Rattle.std.proofs.lemmas.List.{map-append, length-map}
 use Rattle.roam_layout.specs.Trees.{Shape, One, Two, leaves, has, is_one, first_leaf, planted, closed, heir, least_rows, least_cols, free, AreNumbers, AreModest}
 use Rattle.roam_layout.specs.Rects.{placed, first_length, front, part, spot, Fits, is_roomy, grown}
-use Rattle.roam_layout.specs.Layouts.{Plan, IsPlan, scroll, viewed, Laid, Refused, split, area, after}
+use Rattle.roam_layout.specs.Layouts.{Plan, IsPlan, IsLaid, scroll, viewed, Laid, Refused, split, area, after}
 use Rattle.roam_layout.proofs.Covering.{across_in, down_in}
 use Rattle.roam_layout.proofs.Counting.{times_closed, distinct_planted, free_is_free}
 use Rattle.roam_layout.proofs.Growing.{IfGrown, HasGrown, grown_keeps}
@@ -293,6 +293,16 @@ split_done w s f u t n vs h roomy ef eu et en ev =
 pub counted : (t : Shape) (r : Rect) (xs : List (ℕ × Rect)) (n : ℕ) → n ≡ length xs → xs ≡ placed t r → n ≡ length (leaves t)
 counted t r xs n en ex = en ∙ ap length ex ∙ length_placed t r
 
+-- a pane that has room is split, where there are fewer than nine
+pub split_laid : (w : Way) (a s : Plan) (xs : List (ℕ × Rect)) (r : Rect) (has : Bool) → a ≡ s → xs ≡ placed s.tree (area s.rows s.cols) → length xs < 9
+    → r ≡ area a.rows a.cols → has ≡ is_roomy w (spot a.focus a.tree r) → has ≡ true → IsLaid (split w s)
+split_laid w a s xs r has same is few er room there =
+    let e = counted s.tree (area s.rows s.cols) xs (length xs) refl is in
+    let count = ap (λ (p : Plan). length (leaves p.tree)) same in
+    let roomy : is_roomy w (spot a.focus a.tree (area a.rows a.cols)) ≡ true =
+    ap (λ k. is_roomy w (spot a.focus a.tree k)) (sym er) ∙ sym room ∙ there in
+    subst (λ (p : Plan). IsLaid (split w p)) same (rw (nat_le_no 9 (length (leaves a.tree)) (omega (arith, e, count, few)), roomy) tt)
+
 pub after_short : (first p : ℕ) (xs : List (ℕ × Rect)) → length xs < 2 → first ≡ after first p (map (λ x. x.0) xs)
 after_short first p [] h = refl
 after_short first p (x ∷ []) h = refl
@@ -302,6 +312,15 @@ pub scroll_done : (d : ℤ) (s : Plan) (t : Shape) (i v : ℕ) (vs : List ℕ) �
     → v ≡ viewed (pos (slice_index s.views i) +ℤ d) → vs ≡ slice_set s.views i v
     → scroll d s ≡ Laid (record { rows = s.rows; cols = s.cols; tree = t; focus = s.focus; views = vs })
 scroll_done d s t i v vs et ei ev es = rw (et, es, ev, ei) refl
+
+is_there : (o : Option Shape) (b : Bool) (v : Shape) → is_some o ≡ true → o ≡ (if b then Some v else None) → o ≡ Some v
+is_there o true v h e = e
+is_there o false v h e = absurd (false≢true (ap is_some (sym e) ∙ h))
+
+-- where a pane may grow it does, in a copy of the tree too
+pub does_grow : (s : Plan) (d : ℤ) (u v : Shape) (r : Rect) (may does : Bool) → u ≡ s.tree → is_some (grown s.focus d s.tree r) ≡ may → may ≡ true
+    → grown s.focus d u r ≡ (if does then Some v else None) → grown s.focus d u r ≡ Some v
+does_grow s d u v r may does eu is can e = is_there (grown s.focus d u r) does v (ap (λ t. is_some (grown s.focus d t r)) eu ∙ is ∙ can) e
 
 pub plan_grow : (s : Plan) (d : ℤ) (u v : Shape) (r : Rect) → u ≡ s.tree → r ≡ area s.rows s.cols → grown s.focus d u r ≡ Some v → IsPlan s
     → IsPlan (record { rows = s.rows; cols = s.cols; tree = v; focus = s.focus; views = s.views })

@@ -8,8 +8,8 @@ use Rattle.std.proofs.lemmas.Bool.Decides.{nat_tests}
 use Rattle.std.proofs.lemmas.List.{get_or_past, get_or-replicate}
 use Rattle.std.proofs.lemmas.List.Elements.{All-nil, All-cons}
 use Rattle.roam_cells.specs.Glyph.{Glyph, IsShown, is_cell_text, blank}
-use Rattle.roam_cells.specs.Place.{IsWholeRow}
-use Rattle.roam_cells.specs.Screenshot.{Screenshot, IsScreenshot, AreUnguarded}
+use Rattle.roam_cells.specs.Place.{IsWholeRow, AreUnguarded}
+use Rattle.roam_screens.specs.Screenshot.{Screenshot, IsScreenshot}
 use Rattle.roam_cells.specs.Width.{width-space}
 use Rattle.roam_cells.proofs.Ascii.{ascii_width}
 use Rattle.roam_cells.proofs.Places.{get_or-table, place_of}

@@ -14,3 +14,4 @@ pub mod Pointing
 pub mod Changing
 pub mod FaceRows
 pub mod Laying
+pub mod FaceOver

@@ -4,7 +4,7 @@ use Rattle.std.specs.List.{All}
 use Rattle.std.proofs.lemmas.Bool.{eqb-true, eq-eqb, ne_eqb}
 use Rattle.std.proofs.lemmas.List.{get_or-map, length-map}
 use Rattle.std.proofs.lemmas.List.Elements.{All-head, All-tail}
-use Rattle.roam_cells.specs.Screenshot.{Screenshot, IsScreenshot}
+use Rattle.roam_screens.specs.Screenshot.{Screenshot, IsScreenshot}
 use Rattle.roam_layout.specs.Trees.{Shape, One, Two, has, times}
 use Rattle.roam_layout.specs.Rects.{placed, first_part, second_part}
 use Rattle.roam_layout.specs.Layouts.{Plan, IsPlan, area, panes}
@@ -151,9 +151,14 @@ pub shows_by_number : (s : Plan) (ss : List (ℕ × Screenshot)) → IsPlan s �
 shows_by_number s ss plan e =
     shows_itself ss (λ p. omega (arith, counts_same p (panes s) ss e, counts_placed p s.tree (area s.rows s.cols), plan.distinct p))
 
--- the picture of the pane in focus
+-- the picture of a pane of a layout
+pub pane_listed : (s : Plan) (picture : ℕ → Screenshot) (p : ℕ) (ss : List (ℕ × Screenshot)) → ArePictures (panes s) ss → Show picture ss
+    → has p s.tree ≡ true → picture_in ss p ≡ picture p
+pane_listed s picture p ss e show there =
+    listed picture p ss show (lists_same p (panes s) ss e ∙ lists_placed p s.tree (area s.rows s.cols) ∙ there)
+
+-- that of the pane in focus
 pub focus_listed : (s : Plan) (picture : ℕ → Screenshot) (ss : List (ℕ × Screenshot)) → IsPlan s → ArePictures (panes s) ss
     → Show picture ss
     → picture_in ss s.focus ≡ picture s.focus
-focus_listed s picture ss plan e show =
-    listed picture s.focus ss show (lists_same s.focus (panes s) ss e ∙ lists_placed s.focus s.tree (area s.rows s.cols) ∙ plan.focus)
+focus_listed s picture ss plan e show = pane_listed s picture s.focus ss e show plan.focus

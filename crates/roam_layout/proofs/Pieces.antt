@@ -4,7 +4,8 @@ use Rattle.std.proofs.lemmas.Bool.{cases_lt}
 use Rattle.std.proofs.lemmas.List.{append-nil}
 use Rattle.std.proofs.lemmas.List.Edits.{get_or-between, length-between}
 use Rattle.roam_cells.specs.Glyph.{Glyph, blank}
-use Rattle.roam_cells.specs.Screenshot.{Screenshot, IsScreenshot, row_of}
+use Rattle.roam_cells.specs.Place.{row_of}
+use Rattle.roam_screens.specs.Screenshot.{Screenshot, IsScreenshot}
 use Rattle.roam_cells.proofs.Places.{row_from}
 use Rattle.roam_layout.specs.Trees.{Shape, One, Two}
 use Rattle.roam_layout.specs.Rects.{placed, borders, within, first_length, first_part, border_part, second_part, front, part, Fits}

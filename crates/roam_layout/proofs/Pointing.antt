@@ -2,7 +2,7 @@
 use Rattle.std.proofs.Common.{◌≡◌, ℕ, ◌+◌, ◌-◌, ◌≤◌, Bool, true, List, refl, subst, ap, ◌∙◌, arith}
 use Rattle.std.specs.List.{All}
 use Rattle.std.proofs.lemmas.Bool.{eqb-true, cond_both}
-use Rattle.roam_cells.specs.Screenshot.{Screenshot, IsScreenshot, IsPlace}
+use Rattle.roam_screens.specs.Screenshot.{Screenshot, IsScreenshot, IsPlace}
 use Rattle.roam_layout.specs.Trees.{Shape, One, Two, has}
 use Rattle.roam_layout.specs.Rects.{placed, spot, first_length, first_part, second_part, front, part, Fits}
 use Rattle.roam_layout.specs.Layouts.{Plan, IsPlan, area, panes}

@@ -3,7 +3,7 @@ use Rattle.std.proofs.Common.{◌≡◌, ℕ, ◌+◌, ◌<◌, ◌≤◌, List,
 use Rattle.std.proofs.lemmas.List.{drop_more, drop_all, drop-drop, append-nil}
 use Rattle.std.proofs.lemmas.List.Elements.{All-head, All-tail}
 use Rattle.roam_cells.specs.Glyph.{Glyph}
-use Rattle.roam_cells.specs.Screenshot.{Screenshot}
+use Rattle.roam_screens.specs.Screenshot.{Screenshot}
 use Rattle.roam_layout.specs.Changes.{size_of}
 use Rattle.roam_layout.specs.Faces.{pane_piece, border_piece, first_piece, pieces, picture_size, ArePictures, Show}
 use Rattle.roam_layout.proofs.Pieces.{pieces_by}

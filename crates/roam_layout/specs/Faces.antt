@@ -1,9 +1,9 @@
 -- The face of a session: what its panes show, the borders between them, and the status text (this project's profile).
-use Rattle.std.specs.Prelude.{◌≡◌, ℕ, ◌+◌, ◌-◌, true, false, ◌==◌, List, [], ◌∷◌, ◌++◌, map, drop, replicate, slice_index, Option, Some, None, if◌then◌else◌}
+use Rattle.std.specs.Prelude.{◌≡◌, ℕ, ◌+◌, ◌-◌, ◌<◌, Bool, true, false, ◌==◌, slice_index_or, List, [], ◌∷◌, ◌++◌, map, drop, replicate, slice_index, Option, Some, None, if◌then◌else◌}
 use Rattle.std.specs.List.{range_with_len, All}
 use Rattle.roam_cells.specs.Glyph.{Glyph, blank, default_style}
-use Rattle.roam_cells.specs.Place.{cell_at, table}
-use Rattle.roam_cells.specs.Screenshot.{Screenshot, blank_screenshot, row_of}
+use Rattle.roam_cells.specs.Place.{cell_at, table, row_of}
+use Rattle.roam_screens.specs.Screenshot.{Screenshot, blank_screenshot}
 use Rattle.roam_cells.specs.declared.styles.Style.{Style}
 use Rattle.roam_layout.specs.Rects.{spot, within, inside}
 use Rattle.roam_layout.specs.Layouts.{Plan, area, panes, edges}
@@ -116,3 +116,10 @@ pieces r [] borders shots = []
 pieces r (x ∷ panes) borders [] = []
 pieces r (x ∷ panes) borders (y ∷ shots) =
     pane_piece r x.1 y.1 ++ (first_piece r borders ++ pieces r panes (drop 1 borders) shots)
+
+-- ---- a face that was kept
+
+-- each row of the kept screen whose mark is off is a row of the face
+abbrev pub KeepsRows : List Bool → Screenshot → Plan → (ℕ → Screenshot) → Type 0
+KeepsRows marks kept s picture =
+    (r : ℕ) → r < s.rows → slice_index_or marks r false ≡ false → row_of s.cols kept.cells r ≡ face_row s picture (r + 1)

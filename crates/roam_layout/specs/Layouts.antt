@@ -25,10 +25,10 @@ pub data Outcome : Type 0 where
 
 -- a session's size
 abbrev pub IsSessionSize : ℕ → ℕ → Type 0
-IsSessionSize rows cols = (4 ≤ rows) × (rows ≤ 100) × (8 ≤ cols) × (cols ≤ 250)
+IsSessionSize rows cols = (4 ≤ rows) × (rows ≤ 200) × (8 ≤ cols) × (cols ≤ 500)
 
 abbrev pub is_session_size : ℕ → ℕ → Bool
-is_session_size rows cols = nat_le 4 rows && nat_le rows 100 && nat_le 8 cols && nat_le cols 250
+is_session_size rows cols = nat_le 4 rows && nat_le rows 200 && nat_le 8 cols && nat_le cols 500
 
 -- all rows but the last, which has the status text
 abbrev pub area : ℕ → ℕ → Rect
@@ -135,7 +135,12 @@ laid s (Grow d) = grow d s
 laid s (Size r c) = resize r c s
 laid s (View d) = scroll d s
 
--- an answer is what an act comes to, want of memory aside
+-- an act that is laid
+abbrev pub IsLaid : Outcome → Type 0
+IsLaid (Laid s) = Unit {0}
+IsLaid (Refused fault) = ⊥
+
+-- an answer is what an act comes to, but for want of memory where it is laid: what is refused needs none
 abbrev pub Answers : Outcome → Result Plan Fault → Type 0
 Answers o (Ok s) = o ≡ Laid s
-Answers o (Err e) = (e ≡ OutOfMemory) ⊎ (o ≡ Refused e)
+Answers o (Err e) = ((e ≡ OutOfMemory) × IsLaid o) ⊎ (o ≡ Refused e)

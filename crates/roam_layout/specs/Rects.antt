@@ -80,9 +80,9 @@ Fits t r = (least_rows t ≤ r.rows) × (least_cols t ≤ r.cols)
 abbrev pub fits_in : Shape → Rect → Bool
 fits_in t r = nat_le (least_rows t) r.rows && nat_le (least_cols t) r.cols
 
--- a rectangle on a screen of at most 100 rows and 250 columns
+-- a rectangle on a screen of at most 200 rows and 500 columns
 abbrev pub IsOnScreen : Rect → Type 0
-IsOnScreen r = (r.rows ≤ 100) × (r.cols ≤ 250) × (r.row + r.rows ≤ 101) × (r.col + r.cols ≤ 251)
+IsOnScreen r = (r.rows ≤ 200) × (r.cols ≤ 500) × (r.row + r.rows ≤ 201) × (r.col + r.cols ≤ 501)
 
 -- whether a pane's rectangle can be split: two panes of least size and the border
 abbrev pub is_roomy : Way → Rect → Bool

@@ -80,7 +80,7 @@ free t = free_among 8 1 t
 
 -- a shift that is no larger than any session asks for
 abbrev pub IsModest : ℤ → Type 0
-IsModest g = (negsuc 299 ≤ℤ g) × (g ≤ℤ pos 300)
+IsModest g = (negsuc 599 ≤ℤ g) × (g ≤ℤ pos 600)
 
 abbrev pub AreModest : Shape → Type 0
 AreModest (One p) = Unit {0}

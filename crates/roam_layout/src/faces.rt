@@ -1,8 +1,8 @@
 //! The face of a session: its panes' pictures in their rectangles, the borders between them, and the status text.
 ghost use Rattle.std.specs.Prelude.{◌≡◌, ℕ, true, [], ◌∷◌, ◌++◌, ◌*◌, ◌≤◌, length, map, IfOk, OnOk, IsOkUnless};
 ghost use Rattle.std.specs.List.{All};
-ghost use Rattle.roam_cells.specs.Screenshot.{Screenshot, IsScreenshot, IsPlace, AreUnguarded};
-ghost use Rattle.roam_cells.specs.Place.{IsWholeRow, AreWhole};
+ghost use Rattle.roam_cells.specs.Place.{AreUnguarded, IsWholeRow, AreWhole};
+ghost use Rattle.roam_screens.specs.Screenshot.{Screenshot, IsScreenshot, IsPlace};
 ghost use Rattle.roam_cells.specs.Glyph.{default_style, is_cell_text};
 ghost use Rattle.roam_layout.specs.Layouts.{panes};
 ghost use Rattle.roam_layout.specs.Status.{IsPrintable};
@@ -10,7 +10,8 @@ ghost use Rattle.roam_layout.specs.Faces.{character, sign, reverse_style, face, 
 
 use crate::layouts::Layout;
 use crate::rects::{Rect, Way};
-use roam_cells::{Cell, Fault, Shot, Style};
+use roam_cells::{Cell, Fault, Style};
+use roam_screens::Shot;
 use std::alloc::{AllocError, Global};
 
 /// The face of a layout whose panes show these pictures; refuses want of memory.
@@ -47,7 +48,8 @@ fn cells_of(alloc: Global, layout: &Layout, shots: &[(u8, Shot)]) -> Result<Vec<
 }
 
 // The cursor of the pane in focus where this pane stands, and whether it is visible.
-fn cursor(layout: &Layout, shots: &[(u8, Shot)]) -> ((u16, u16), bool)
+/// The cursor of the face, and whether it is visible.
+pub(crate) fn cursor(layout: &Layout, shots: &[(u8, Shot)]) -> ((u16, u16), bool)
     requires pictures { ArePictures (panes layout.now) shots.now }
     ensures place { IsPlace layout.now.rows layout.now.cols result.0.0 result.0.1 }
     ensures row { (picture : ℕ → Screenshot) → Show picture shots.now → result.0.0 ≡ (face layout.now picture).cursor_row }

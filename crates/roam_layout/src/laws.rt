@@ -1,7 +1,7 @@
 //! Laws of layouts.
 ghost use Rattle.std.specs.Prelude.{◌≡◌, ◌≤◌, ◌<◌, ℕ, List, true, false, length};
 ghost use Rattle.roam_acts.specs.declared.acts.Act.{Act};
-ghost use Rattle.roam_cells.specs.Screenshot.{Screenshot};
+ghost use Rattle.roam_screens.specs.Screenshot.{Screenshot};
 ghost use Rattle.roam_layout.specs.Trees.{Shape, has, leaves, free};
 ghost use Rattle.roam_layout.specs.Layouts.{Plan, IsPlan, Laid, laid, panes};
 ghost use Rattle.roam_layout.specs.Changes.{panes_closed, panes_made};

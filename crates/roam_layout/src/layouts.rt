@@ -7,7 +7,7 @@ ghost use Rattle.roam_layout.specs.Rects.{Covers};
 ghost use Rattle.roam_layout.specs.Changes.{first_of, panes_closed, panes_made, panes_sized};
 ghost use Rattle.roam_layout.specs.Status.{status_row, IsPrintable};
 ghost use Rattle.roam_layout.specs.Faces.{focus_rect};
-ghost use Rattle.roam_layout.specs.Layouts.{Plan, IsPlan, IsSessionSize, Answers, area, panes, edges, start, split, close, focus_on, next, grow, laid, after, resize, scroll, viewed, Laid, Refused};
+ghost use Rattle.roam_layout.specs.Layouts.{Plan, IsPlan, IsSessionSize, Answers, area, panes, edges, start, split, close, focus_on, next, grow, laid, after, resize, scroll, viewed, IsLaid, Laid, Refused};
 
 use crate::changes::Changes;
 use crate::rects::{Rect, Way};
@@ -113,14 +113,14 @@ impl Layout {
         })
     }
 
-    /// One pane that fills all rows but the last; `BadSize` outside 4 to 100 rows or 8 to 250 columns.
+    /// One pane that fills all rows but the last; `BadSize` outside 4 to 200 rows or 8 to 500 columns.
     pub fn new(alloc: Global, rows: u16, cols: u16) -> Result<Layout, Fault>
         ensures start { IfOk result (λ s. s ≡ start rows cols) }
         ensures size { OnOk result (IsSessionSize rows cols) }
         ensures bad_size { IsErrOf result Fault.BadSize ↔ (¬ IsSessionSize rows cols) }
         ensures faults { IfErr result (λ fault. (fault ≡ Fault.BadSize) ⊎ (fault ≡ Fault.OutOfMemory)) }
     {
-        if rows < 4 || rows > 100 || cols < 8 || cols > 250 {
+        if rows < 4 || rows > 200 || cols < 8 || cols > 500 {
             return Err(Fault::BadSize);
         }
         Ok(Layout::of(alloc, rows, cols, Tree::Leaf(1), 1, [0; 10])?)
@@ -149,14 +149,14 @@ impl Layout {
         &self.borders
     }
 
-    /// The session's rows, 4 to 100.
+    /// The session's rows, 4 to 200.
     pub fn rows(&self) -> u16
         ensures rows { result ≡ self.now.rows }
     {
         self.rows
     }
 
-    /// The session's columns, 8 to 250.
+    /// The session's columns, 8 to 500.
     pub fn cols(&self) -> u16
         ensures cols { result ≡ self.now.cols }
     {
@@ -244,7 +244,7 @@ impl Layout {
     fn resize(&self, alloc: Global, rows: u16, cols: u16) -> Result<Layout, Fault>
         ensures answer { Answers (resize rows cols self.now) result }
     {
-        if rows < 4 || rows > 100 || cols < 8 || cols > 250 {
+        if rows < 4 || rows > 200 || cols < 8 || cols > 500 {
             return Err(Fault::BadSize);
         }
         if self.tree.least_rows() > rows - 1 || self.tree.least_cols() > cols {
@@ -272,10 +272,12 @@ impl Layout {
         if self.tree.is_one(self.focus) {
             return Err(Fault::LastPane);
         }
-        let mut tree = self.tree.copy(alloc)?;
-        if !tree.grow(self.focus, by, area_of(self.rows, self.cols)) {
+        let area = area_of(self.rows, self.cols);
+        if !self.tree.can_grow(self.focus, by, area) {
             return Err(Fault::TooSmall);
         }
+        let mut tree = self.tree.copy(alloc)?;
+        let _grown = tree.grow(self.focus, by, area);
         Ok(Layout::of(alloc, self.rows, self.cols, tree, self.focus, self.views)?)
     }
 
@@ -305,6 +307,7 @@ impl Layout {
         ensures made { IfOk result (λ changes. changes.made ≡ first_of (panes_made (panes self.old) (panes self.new))) }
         ensures sized { IfOk result (λ changes. changes.sized.items ≡ panes_sized (panes self.old) (panes self.new)) }
         ensures refused { IfErr result (λ fault. (fault ≡ Fault.OutOfMemory) ⊎ (laid self.old act.now ≡ Refused fault)) }
+        ensures memory { IsErrOf result Fault.OutOfMemory → IsLaid (laid self.old act.now) }
         ensures err { OnErr result (self.new ≡ self.old) }
     {
         let next = self.after(alloc, act)?;

@@ -3,11 +3,13 @@
 
 pub use changes::{Changes, PaneSize};
 pub use faces::{face, push_row};
+pub use kept::face_over;
 pub use layouts::Layout;
 pub use rects::{Rect, Way};
 
 pub mod changes;
 pub mod faces;
+mod kept;
 pub mod laws;
 pub mod layouts;
 pub mod rects;

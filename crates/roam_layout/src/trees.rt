@@ -1,5 +1,5 @@
 //! The tree of splits, whose leaves are panes.
-ghost use Rattle.std.specs.Prelude.{◌≡◌, ◌+◌, ◌≤◌, ◌++◌, pos, negsuc, ◌≤ℤ◌, ◌+ℤ◌, IfOk, OnOk, Some, None, if◌then◌else◌};
+ghost use Rattle.std.specs.Prelude.{◌≡◌, ◌+◌, ◌≤◌, ◌++◌, pos, negsuc, ◌≤ℤ◌, ◌+ℤ◌, IfOk, OnOk, Some, None, is_some, if◌then◌else◌};
 ghost use Rattle.roam_layout.specs.Rects.{first_length, first_part, second_part, border_part, length_along, pushed, middle, placed, borders, spot, is_roomy, grown, stretched, Fits, IsOnScreen};
 ghost use Rattle.roam_layout.specs.Trees.{One, Two, shape_of, least, least_rows, least_cols, has, is_one, first_leaf, planted, closed, heir, free, free_among, IsModest, AreModest};
 
@@ -35,8 +35,8 @@ pub struct Parts {
 
 /// The first child's length in a split of this length: the middle and the shift, pushed into low to high.
 fn first_of(whole: u16, shift: i16, low: u16, high: u16) -> u16
-    requires whole { (1 ≤ whole) × (whole ≤ 250) }
-    requires range { (low ≤ high) × (high ≤ 250) }
+    requires whole { (1 ≤ whole) × (whole ≤ 500) }
+    requires range { (low ≤ high) × (high ≤ 500) }
     requires modest { IsModest shift }
     ensures length { result ≡ pushed (pos (middle whole) +ℤ shift) low high }
 {
@@ -80,6 +80,17 @@ impl Split {
         }
         self.shift = wanted - ((whole - 1) / 2) as i16;
         true
+    }
+
+    /// Whether the children's least lengths allow the first child this length.
+    fn can_stretch(&self, wanted: i16, rect: Rect) -> bool
+        requires fits { Fits (Two self.now.way self.now.shift (shape_of self.now.first) (shape_of self.now.second)) rect }
+        requires limits { IsOnScreen rect }
+        ensures stretched { is_some (stretched self.now.way wanted (shape_of self.now.first) (shape_of self.now.second) rect) ≡ result }
+    {
+        let low = self.first.least(self.way);
+        let high = rect.length_along(self.way) - 1 - self.second.least(self.way);
+        low as i16 <= wanted && wanted <= high as i16
     }
 
     /// The rectangles of its children and its border.
@@ -149,7 +160,7 @@ impl Tree {
 
     /// The fewest rows that it can have.
     pub fn least_rows(&self) -> u16
-        requires limit { least_rows (shape_of self.now) ≤ 250 }
+        requires limit { least_rows (shape_of self.now) ≤ 500 }
         ensures rows { result ≡ least_rows (shape_of self.now) }
     {
         match self {
@@ -163,7 +174,7 @@ impl Tree {
 
     /// The fewest columns that it can have.
     pub fn least_cols(&self) -> u16
-        requires limit { least_cols (shape_of self.now) ≤ 250 }
+        requires limit { least_cols (shape_of self.now) ≤ 500 }
         ensures cols { result ≡ least_cols (shape_of self.now) }
     {
         match self {
@@ -177,7 +188,7 @@ impl Tree {
 
     /// The least length along a way.
     pub fn least(&self, way: Way) -> u16
-        requires limit { least way (shape_of self.now) ≤ 250 }
+        requires limit { least way (shape_of self.now) ≤ 500 }
         ensures length { result ≡ least way (shape_of self.now) }
     {
         match way {
@@ -374,6 +385,32 @@ impl Tree {
         match way {
             Way::Right => spot.cols >= 9,
             Way::Down => spot.rows >= 5,
+        }
+    }
+
+    /// Whether the lengths allow that a pane grows along its own split.
+    pub fn can_grow(&self, pane: u8, by: i16, rect: Rect) -> bool
+        requires fits { Fits (shape_of self.now) rect }
+        requires limits { IsOnScreen rect }
+        requires modest { AreModest (shape_of self.now) }
+        requires by { (negsuc 98 ≤ℤ by) × (by ≤ℤ pos 99) }
+        ensures grown { is_some (grown pane by (shape_of self.now) rect) ≡ result }
+    {
+        match self {
+            Tree::Leaf(_) => false,
+            Tree::Fork(split) => {
+                let parts = split.parts(rect);
+                let length = split.first_length(rect) as i16;
+                if split.first.is_one(pane) {
+                    split.can_stretch(length + by, rect)
+                } else if split.second.is_one(pane) {
+                    split.can_stretch(length - by, rect)
+                } else if split.first.has(pane) {
+                    split.first.can_grow(pane, by, parts.first)
+                } else {
+                    split.second.can_grow(pane, by, parts.second)
+                }
+            }
         }
     }
 

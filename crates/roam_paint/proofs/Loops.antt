@@ -12,9 +12,9 @@ use Rattle.roam_cells.specs.Glyph.{default_style, is_wide, is_right_half}
 use Rattle.roam_cells.specs.declared.styles.Style.{Style}
 use Rattle.roam_text.specs.declared.functions.Function.{Function}
 use Rattle.roam_text.specs.declared.functions.Function.TheVariants.{Print}
-use Rattle.roam_cells.specs.Screenshot.{Screenshot}
+use Rattle.roam_screens.specs.Screenshot.{Screenshot}
 use Rattle.roam_paint.specs.Same.{same_style}
-use Rattle.roam_term.specs.ControlFunctions.{place_cursor, set_style}
+use Rattle.roam_term.specs.ControlFunctions.{place_cursor, set_style, restyle}
 use Rattle.roam_paint.specs.Sequences.{spelled}
 use Rattle.roam_term.specs.Ground.{shown_at}
 use Rattle.roam_paint.specs.Painting.{same_size, differs, is_drawn, goes_on, placing, styling, drawn_cell, style_after, style_in, style_at, drawn_row, drawn_rows, opening, closing, drawn, painted}
@@ -74,6 +74,10 @@ one_text : (f : Function) (b : Bool) → flat_map spelled (if b then [] else f �
 one_text f true = refl
 one_text f false = append-nil (spelled f)
 
+text_unless : (fs : List Function) (b : Bool) → flat_map spelled (if b then [] else fs) ≡ (if b then [] else flat_map spelled fs)
+text_unless fs true = refl
+text_unless fs false = refl
+
 text_if : (fs : List Function) (b : Bool) → flat_map spelled (if b then fs else []) ≡ (if b then flat_map spelled fs else [])
 text_if fs true = refl
 text_if fs false = refl
@@ -90,8 +94,8 @@ place_is old new r c g =
     ∙ ap (λ l. if is_drawn d (shown_at new) r c then l else [])
     (flat_map-append spelled a (b ++ p) ∙ ap (λ l. flat_map spelled a ++ l) (flat_map-append spelled b p)
     ∙ ap (λ l. l ++ (flat_map spelled b ++ flat_map spelled p)) (one_text (place_cursor (r + 1) (c + 1)) (goes_on d r c))
-    ∙ ap (λ l. (if goes_on d r c then [] else spelled (place_cursor (r + 1) (c + 1))) ++ (l ++ flat_map spelled p)) (one_text (set_style x.style) (same_style x.style g))
-    ∙ ap (λ l. (if goes_on d r c then [] else spelled (place_cursor (r + 1) (c + 1))) ++ ((if same_style x.style g then [] else spelled (set_style x.style)) ++ l)) (points_text x.points))
+    ∙ ap (λ l. (if goes_on d r c then [] else spelled (place_cursor (r + 1) (c + 1))) ++ (l ++ flat_map spelled p)) (text_unless (restyle x.style) (same_style x.style g))
+    ∙ ap (λ l. (if goes_on d r c then [] else spelled (place_cursor (r + 1) (c + 1))) ++ ((if same_style x.style g then [] else flat_map spelled (restyle x.style)) ++ l)) (points_text x.points))
 
 row_is : (old new : Screenshot) (r : ℕ) (g : Style) (c : ℕ) → flat_map spelled (drawn_row (differs old new) (shown_at new) r g c) ≡ row_text old new r g c
 unfolding row_text

@@ -1,6 +1,6 @@
 -- ESC c, read in any state, makes a ground terminal with a blank screen.
 use Rattle.std.proofs.Common.{◌≡◌, ◌≤◌, ℕ, Bool, true, false, List, [], ◌∷◌, ◌++◌, map, refl, sym, ap, ◌∙◌, subst, arith}
-use Rattle.roam_cells.specs.Screenshot.{blank_screenshot}
+use Rattle.roam_screens.specs.Screenshot.{blank_screenshot}
 use Rattle.roam_text.specs.Functions.{functions_of}
 use Rattle.roam_text.specs.Log.{Item, Byte}
 use Rattle.roam_text.proofs.Cuts.{rests-later, functions-reset}

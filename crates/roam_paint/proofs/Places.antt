@@ -4,8 +4,8 @@ use Rattle.std.specs.Prelude.{if◌then◌else◌}
 use Rattle.std.proofs.lemmas.Bool.{cases_lt, and_parts, and_right, lt-ltb, le-ltb, eqb-true, not-false}
 use Rattle.std.proofs.lemmas.List.{ext_get_or}
 use Rattle.roam_cells.specs.Glyph.{Glyph, blank}
-use Rattle.roam_cells.specs.Place.{cell_at}
-use Rattle.roam_cells.specs.Screenshot.{Screenshot}
+use Rattle.roam_cells.specs.Place.{cell_at, row_of}
+use Rattle.roam_screens.specs.Screenshot.{Screenshot}
 use Rattle.roam_cells.proofs.Places.{row_from}
 use Rattle.roam_rows.proofs.Lifting.{part_at}
 use Rattle.roam_paint.specs.Same.{same}
@@ -33,10 +33,10 @@ length-part a n xs h = simp (length-take, length-drop) (omega (arith, h))
 -- ---- what differs
 
 module _ (old new : Screenshot) where
-  same_rows : same_size old new ≡ true → old.rows ≡ new.rows
+  pub same_rows : same_size old new ≡ true → old.rows ≡ new.rows
   same_rows e = eqb-true old.rows new.rows (and_parts (eqb old.rows new.rows) (eqb old.cols new.cols) e).0
 
-  same_cols : same_size old new ≡ true → old.cols ≡ new.cols
+  pub same_cols : same_size old new ≡ true → old.cols ≡ new.cols
   same_cols e = eqb-true old.cols new.cols (and_parts (eqb old.rows new.rows) (eqb old.cols new.cols) e).1
 
   over_below : (r c : ℕ) → new.rows ≤ r → (b : Bool) → same_size old new ≡ b → (if b then shown_at old r c else blank) ≡ blank
@@ -110,3 +110,19 @@ module _ (old new : Screenshot) where
       ∙ sym (ap (λ b. if b then shown_at old r c else blank) e) ∙ same_cell r c (none c)
       ∙ shown_inside new r c r_in (omega (arith, low, n_is)) ∙ ap (λ k. get_or new.cells (r * k + c) blank) (sym n_is)
       ∙ sym (part_at (r * n) n c new.cells low)) ∙ sym (ap (λ k. take k (drop (r * n) new.cells)) count)
+
+  -- the same of whole rows
+  as_part : (r n : ℕ) (l : List Glyph) → row_of n l r ≡ take (r * n + n - r * n) (drop (r * n) l)
+  as_part r n l = let e : (r + 1) * n ≡ r * n + n = omega arith in ap (λ k. take (k - r * n) (drop (r * n) l)) e
+
+  pub rows_quiet : same_size old new ≡ true → (r : ℕ) → r < new.rows → row_of old.cols old.cells r ≡ row_of new.cols new.cells r
+      → (c : ℕ) → differs old new r c ≡ false
+  rows_quiet e r p h =
+      same_slice e r new.cols p refl
+      (sym (as_part r new.cols old.cells) ∙ ap (λ k. row_of k old.cells r) (sym (same_cols e)) ∙ h ∙ as_part r new.cols new.cells)
+
+  pub quiet_rows : same_size old new ≡ true → (r : ℕ) → r < new.rows → length old.cells ≡ old.rows * old.cols → length new.cells ≡ new.rows * new.cols
+      → ((c : ℕ) → differs old new r c ≡ false) → row_of old.cols old.cells r ≡ row_of new.cols new.cells r
+  quiet_rows e r p m n none =
+      ap (λ k. row_of k old.cells r) (same_cols e) ∙ as_part r new.cols old.cells ∙ slice_same e r new.cols p refl m n none
+      ∙ sym (as_part r new.cols new.cells)

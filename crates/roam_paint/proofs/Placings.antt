@@ -3,12 +3,14 @@ use Rattle.std.proofs.Common.{◌≡◌, ◌≤◌, ◌<◌, ℕ, zero, suc, ◌
 use Rattle.std.specs.Prelude.{◌⊎◌, if◌then◌else◌, nat_lt}
 use Rattle.std.proofs.lemmas.Bool.{false≢true, cases_Bool, cases_lt, lt-ltb}
 use Rattle.roam_cells.specs.Glyph.{is_wide, is_right_half}
-use Rattle.roam_cells.specs.Screenshot.{Screenshot, IsScreenshot}
+use Rattle.roam_screens.specs.Screenshot.{Screenshot, IsScreenshot}
 use Rattle.roam_cells.specs.declared.styles.Style.{Style}
+use Rattle.roam_cells.specs.declared.styles.Colour.{Colour}
+use Rattle.roam_cells.specs.declared.styles.Colour.TheVariants.{Default, Index, Rgb}
 use Rattle.roam_text.specs.declared.functions.Function.{Function}
 use Rattle.roam_text.specs.declared.functions.Function.TheVariants.{Print, Csi}
 use Rattle.roam_paint.specs.Same.{same_style}
-use Rattle.roam_term.specs.ControlFunctions.{place_cursor, set_style}
+use Rattle.roam_term.specs.ControlFunctions.{place_cursor, set_mixture, restyle}
 use Rattle.roam_paint.specs.Painting.{Places, differs, is_drawn, goes_on, placing, styling, drawn_cell, style_in, drawn_row, style_at, drawn_rows}
 use Rattle.roam_term.specs.Ground.{shown_at}
 use Rattle.roam_paint.specs.Runs.{BeginsRun, IsAmong, CursorIsPlacedByRuns}
@@ -54,11 +56,22 @@ place-same r c i j e =
     let col : c + 1 ≡ j + 1 = ap (λ f. next_of (params_of f)) e in
     (omega (arith, row), omega (arith, col))
 
-no-style : (r c : ℕ) (s : Style) (b : Bool) → IsAmong (place_cursor r c) (if b then [] else set_style s ∷ []) → ⊥
+no-mixture : (r c n : ℕ) (x : Colour) → IsAmong (place_cursor r c) (set_mixture n x) → ⊥
+no-mixture r c n Default h = h
+no-mixture r c n (Index k) h = h
+no-mixture r c n (Rgb x y z) h = elim h [
+  | inl e ↦ let last : 0x48 ≡ 0x6D = ap last_of e in omega (arith, last)
+  | inr x ↦ x
+]
+
+no-style : (r c : ℕ) (s : Style) (b : Bool) → IsAmong (place_cursor r c) (if b then [] else restyle s) → ⊥
 no-style r c s true h = h
 no-style r c s false h = elim h [
   | inl e ↦ let last : 0x48 ≡ 0x6D = ap last_of e in omega (arith, last)
-  | inr x ↦ x
+  | inr x ↦ elim (among-either (place_cursor r c) (set_mixture 38 s.foreground) (set_mixture 48 s.background) x) [
+    | inl a ↦ no-mixture r c 38 s.foreground a
+    | inr b ↦ no-mixture r c 48 s.background b
+  ]
 ]
 
 no-print : (r c : ℕ) (ps : List ℕ) → IsAmong (place_cursor r c) (map Print ps) → ⊥

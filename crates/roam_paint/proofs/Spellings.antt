@@ -1,12 +1,14 @@
 -- Texts put together.
 use Rattle.std.proofs.Common.{◌≡◌, ℕ, Bool, true, false, List, [], ◌∷◌, ◌++◌, drop, refl, sym, ap, ◌∙◌, append_assoc}
 use Rattle.std.proofs.lemmas.List.{append-nil}
+use Rattle.std.proofs.lemmas.Grind.{flat_map-append}
 use Rattle.std.specs.Prelude.{decimal}
+use Rattle.std.specs.List.{flat_map}
 use Rattle.roam_cells.specs.declared.styles.Style.{Style}
 use Rattle.roam_cells.specs.declared.styles.Colour.{Colour}
-use Rattle.roam_cells.specs.declared.styles.Colour.TheVariants.{Default, Index}
+use Rattle.roam_cells.specs.declared.styles.Colour.TheVariants.{Default, Index, Rgb}
 use Rattle.roam_paint.specs.Sequences.{parameter_text, spelled}
-use Rattle.roam_term.specs.ControlFunctions.{flag_code, colour_codes, style_codes, place_cursor, set_style}
+use Rattle.roam_term.specs.ControlFunctions.{flag_code, colour_codes, style_codes, place_cursor, set_style, mixture, set_mixture, restyle}
 use Rattle.roam_paint.specs.Texts.{code_text, colour_text}
 
 pub place_cursor_text : (b : List ℕ) (row col : ℕ) → ((((b ++ 0x1B ∷ 0x5B ∷ []) ++ decimal row) ++ 0x3B ∷ []) ++ decimal col) ++ 0x48 ∷ [] ≡ b ++ spelled (place_cursor row col)
@@ -34,6 +36,7 @@ tail-colour n Default rest = refl
 tail-colour n (Index c) rest =
     sym (append_assoc (code_text true n) (code_text true 5 ++ code_text true c) (tail rest)
     ∙ ap (λ l. code_text true n ++ l) (append_assoc (code_text true 5) (code_text true c) (tail rest)))
+tail-colour n (Rgb r g b) rest = refl
 
 -- one part after another, to the left and to the right
 abbrev lefts : List ℕ → List (List ℕ) → List ℕ
@@ -81,3 +84,33 @@ codes_are s =
 
 pub set_style_text : (b : List ℕ) (s : Style) → lefts b (parts s) ≡ b ++ spelled (set_style s)
 set_style_text b s = lefts-rights b (parts s) ∙ ap (λ l. b ++ (0x1B ∷ 0x5B ∷ l)) (sym (codes_are s))
+
+mixture_are : (n r g b : ℕ) → parameter_text (n ∷ 2 ∷ r ∷ g ∷ b ∷ []) ++ 0x6D ∷ []
+    ≡ rights (decimal n ∷ code_text true 2 ∷ code_text true r ∷ code_text true g ∷ code_text true b ∷ (0x6D ∷ []) ∷ [])
+mixture_are n r g b =
+    let last = 0x6D ∷ [] in
+    let two : (x t u : List ℕ) (v : List ℕ) → t ≡ x ++ u → u ++ last ≡ v → t ++ last ≡ x ++ v = λ x t u v p q. ap (λ l. l ++ last) p ∙ append_assoc x u last ∙ ap (λ l. x ++ l) q in
+    two (decimal n) (parameter_text (n ∷ 2 ∷ r ∷ g ∷ b ∷ [])) (tail (2 ∷ r ∷ g ∷ b ∷ [])) _ (joined-tail n (2 ∷ r ∷ g ∷ b ∷ []))
+    (two (code_text true 2) (tail (2 ∷ r ∷ g ∷ b ∷ [])) (tail (r ∷ g ∷ b ∷ [])) _ refl
+    (two (code_text true r) (tail (r ∷ g ∷ b ∷ [])) (tail (g ∷ b ∷ [])) _ refl
+    (two (code_text true g) (tail (g ∷ b ∷ [])) (tail (b ∷ [])) _ refl
+    (two (code_text true b) (tail (b ∷ [])) [] _ refl refl))))
+
+-- the text of a mixture, as it is put together
+pub mixture_text : (t : List ℕ) (n r g b : ℕ)
+    → ((((((t ++ 0x1B ∷ 0x5B ∷ []) ++ decimal n) ++ code_text true 2) ++ code_text true r) ++ code_text true g) ++ code_text true b) ++ 0x6D ∷ []
+    ≡ t ++ flat_map spelled (set_mixture n (Rgb r g b))
+mixture_text t n r g b =
+    lefts-rights t ((0x1B ∷ 0x5B ∷ []) ∷ decimal n ∷ code_text true 2 ∷ code_text true r ∷ code_text true g ∷ code_text true b ∷ (0x6D ∷ []) ∷ [])
+    ∙ ap (λ l. t ++ (0x1B ∷ 0x5B ∷ l)) (sym (mixture_are n r g b))
+    ∙ ap (λ l. t ++ l) (sym (append-nil (spelled (mixture n r g b))))
+
+pub restyle_text : (t : List ℕ) (s : Style)
+    → ((t ++ spelled (set_style s)) ++ flat_map spelled (set_mixture 38 s.foreground)) ++ flat_map spelled (set_mixture 48 s.background)
+    ≡ t ++ flat_map spelled (restyle s)
+restyle_text t s =
+    let a = spelled (set_style s) in
+    let b = flat_map spelled (set_mixture 38 s.foreground) in
+    let c = flat_map spelled (set_mixture 48 s.background) in
+    append_assoc (t ++ a) b c ∙ append_assoc t a (b ++ c)
+    ∙ ap (λ l. t ++ (a ++ l)) (sym (flat_map-append spelled (set_mixture 38 s.foreground) (set_mixture 48 s.background)))

@@ -10,10 +10,10 @@ use Rattle.std.proofs.lemmas.Bool.{and_parts, and_from, false≢true, eq-eqb}
 use Rattle.unicode_width.specs.Width.{char_width}
 use Rattle.roam_cells.specs.Width.{width_of, is_joiner, is_answer_zero}
 use Rattle.roam_cells.specs.Glyph.{default_style, is_text, are_joiners}
-use Rattle.roam_cells.specs.Screenshot.{Screenshot, IsScreenshot}
+use Rattle.roam_screens.specs.Screenshot.{Screenshot, IsScreenshot}
 use Rattle.roam_cells.specs.declared.styles.Style.{Style}
 use Rattle.roam_cells.specs.declared.styles.Colour.{Colour}
-use Rattle.roam_cells.specs.declared.styles.Colour.TheVariants.{Default, Index}
+use Rattle.roam_cells.specs.declared.styles.Colour.TheVariants.{Default, Index, Rgb}
 use Rattle.roam_text.specs.declared.functions.Function.{Function}
 use Rattle.roam_text.specs.declared.functions.Function.TheVariants.{Print}
 use Rattle.roam_text.specs.Log.{Item, Byte, Sign, character, bytes_of, signs, unfinished}
@@ -21,7 +21,7 @@ use Rattle.roam_text.specs.Functions.{functions, functions_of}
 use Rattle.roam_text.proofs.Fronts.{functions-nil}
 use Rattle.roam_term.specs.Terminal.{Live, Terminal, run, started, term}
 use Rattle.roam_term.proofs.Runs.{run-append, run-live}
-use Rattle.roam_term.specs.ControlFunctions.{IsColour, flag_code, colour_codes, set_style, place_cursor, hide_cursor, show_cursor, erase_all}
+use Rattle.roam_term.specs.ControlFunctions.{IsColour, flag_code, colour_codes, set_style, set_mixture, restyle, place_cursor, hide_cursor, show_cursor, erase_all}
 use Rattle.roam_paint.specs.Colours.{AreIndexed}
 use Rattle.roam_term.specs.Ground.{IsGround, ShowsScreen, shown_at}
 use Rattle.roam_text.specs.Resting.{AtRest}
@@ -74,10 +74,18 @@ few-when false n rest = omega arith
 small-colour : (n : ℕ) (x : Colour) (rest : List ℕ) → n ≤ 9999 → IsColour x → AreSmall rest → AreSmall (colour_codes n x rest)
 small-colour n Default rest h k l = l
 small-colour n (Index c) rest h k l = (h, (omega arith, (omega (arith, k), l)))
+small-colour n (Rgb r g b) rest h k l = l
 
 few-colour : (n : ℕ) (x : Colour) (rest : List ℕ) → length (colour_codes n x rest) ≤ length rest + 3
 few-colour n Default rest = omega arith
 few-colour n (Index c) rest = omega arith
+few-colour n (Rgb r g b) rest = omega arith
+
+legible-mixture : (n : ℕ) (x : Colour) → n ≤ 9999 → IsColour x → AllLegible (set_mixture n x)
+legible-mixture n Default h k = tt
+legible-mixture n (Index c) h k = tt
+legible-mixture n (Rgb r g b) h k =
+    (legible-plain n (2 ∷ r ∷ g ∷ b ∷ []) 0x6D (h, (omega arith, (omega (arith, k.0), (omega (arith, k.1), (omega (arith, k.2), tt))))) (omega arith) final-m, tt)
 
 legible-restyle : (s : Style) → IsColour s.foreground → IsColour s.background → Legible (set_style s)
 legible-restyle s fore back =
@@ -125,9 +133,12 @@ module _ (prows pcols : ℕ) (d : ℕ → ℕ → Bool) (new : Places) (tall : p
   legible-placing r c p q true = tt
   legible-placing r c p q false = (legible-go_to (r + 1) (c + 1) (omega (arith, p, tall)) (omega (arith, q, broad)), tt)
 
-  legible-styling : (s : Style) → IsColour s.foreground → IsColour s.background → (b : Bool) → AllLegible (if b then [] else set_style s ∷ [])
+  legible-styling : (s : Style) → IsColour s.foreground → IsColour s.background → (b : Bool) → AllLegible (if b then [] else restyle s)
   legible-styling s h k true = tt
-  legible-styling s h k false = (legible-restyle s h k, tt)
+  legible-styling s h k false = (
+    legible-restyle s h k,
+    legible-append (set_mixture 38 s.foreground) (set_mixture 48 s.background) (legible-mixture 38 s.foreground (omega arith) h) (legible-mixture 48 s.background (omega arith) k),
+  )
 
   legible-if : (fs : List Function) (b : Bool) → AllLegible fs → AllLegible (if b then fs else [])
   legible-if fs true h = h

@@ -1,7 +1,7 @@
 -- Worked texts, computed.
 use Rattle.std.specs.Prelude.{◌≡◌, ℕ, true, false, List, [], ◌∷◌, refl, replicate}
 use Rattle.roam_cells.specs.Glyph.{Glyph, blank, default_style}
-use Rattle.roam_cells.specs.Screenshot.{Screenshot, blank_screenshot}
+use Rattle.roam_screens.specs.Screenshot.{Screenshot, blank_screenshot}
 use Rattle.roam_cells.specs.declared.styles.Style.{Style}
 use Rattle.roam_paint.specs.Painting.{drawn, drawn_cell, style_after, painted, opened}
 use Rattle.unicode_width.specs.Width.{char_width}

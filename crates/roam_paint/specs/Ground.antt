@@ -1,6 +1,6 @@
 -- A ground terminal that shows a screen, and what leads it from one screen to another.
 use Rattle.std.specs.Prelude.{ℕ, ◌≤◌, List, ◌++◌, map}
-use Rattle.roam_cells.specs.Screenshot.{Screenshot, IsScreenshot, blank_screenshot}
+use Rattle.roam_screens.specs.Screenshot.{Screenshot, IsScreenshot, blank_screenshot}
 use Rattle.roam_text.specs.Log.{Item, Byte}
 use Rattle.roam_text.specs.Resting.{AtRest}
 use Rattle.roam_text.specs.Stands.{View, Stands, IsAtRest}

@@ -3,13 +3,13 @@
 use Rattle.std.specs.Prelude.{ℕ, zero, suc, ◌+◌, ◌-◌, ◌==◌, ◌&&◌, ◌||◌, not, nat_lt, Bool, if◌then◌else◌, List, [], ◌∷◌, ◌++◌, map}
 use Rattle.std.specs.List.{flat_map}
 use Rattle.roam_cells.specs.Glyph.{Glyph, is_wide, is_right_half, blank, default_style}
-use Rattle.roam_cells.specs.Screenshot.{Screenshot}
+use Rattle.roam_screens.specs.Screenshot.{Screenshot}
 use Rattle.roam_cells.specs.declared.styles.Style.{Style}
 use Rattle.roam_text.specs.declared.functions.Function.{Function}
 use Rattle.roam_text.specs.declared.functions.Function.TheVariants.{Print}
 use Rattle.roam_paint.specs.Same.{same, same_style}
 use Rattle.roam_term.specs.Ground.{shown_at}
-use Rattle.roam_term.specs.ControlFunctions.{hide_cursor, show_cursor, erase_all, place_cursor, reset_all, set_style}
+use Rattle.roam_term.specs.ControlFunctions.{hide_cursor, show_cursor, erase_all, place_cursor, reset_all, set_style, restyle}
 use Rattle.roam_paint.specs.Sequences.{spelled}
 
 -- ---- the places
@@ -48,7 +48,7 @@ placing d r c = if goes_on d r c then [] else place_cursor (r + 1) (c + 1) ∷ [
 
 -- a style is set where it isn't the one that is set
 abbrev pub styling : Style → Style → List Function
-styling s g = if same_style s g then [] else set_style s ∷ []
+styling s g = if same_style s g then [] else restyle s
 
 -- one place, with the style that is set before it; a right half prints nothing of its own
 unfoldable pub drawn_cell : (ℕ → ℕ → Bool) → Places → ℕ → ℕ → Style → List Function

@@ -1,7 +1,7 @@
 -- Where the cursor is placed, in intervals: the maximal runs of differing places, widened to whole wide cells.
 use Rattle.std.specs.Prelude.{◌≡◌, ◌⊎◌, ℕ, ◌+◌, ◌-◌, ◌<◌, ◌≤◌, Bool, true, false, if◌then◌else◌, List, [], ◌∷◌}
 use Rattle.roam_cells.specs.Glyph.{is_right_half}
-use Rattle.roam_cells.specs.Screenshot.{Screenshot, IsScreenshot}
+use Rattle.roam_screens.specs.Screenshot.{Screenshot, IsScreenshot}
 use Rattle.roam_text.specs.declared.functions.Function.{Function}
 use Rattle.roam_term.specs.ControlFunctions.{place_cursor}
 use Rattle.roam_paint.specs.Painting.{Places, differs, drawn_rows}

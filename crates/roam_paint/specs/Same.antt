@@ -4,7 +4,7 @@ use mathlib.Core.Bool.{beq}
 use Rattle.roam_cells.specs.Glyph.{Glyph}
 use Rattle.roam_cells.specs.declared.styles.Style.{Style}
 use Rattle.roam_cells.specs.declared.styles.Colour.{Colour}
-use Rattle.roam_cells.specs.declared.styles.Colour.TheVariants.{Default, Index}
+use Rattle.roam_cells.specs.declared.styles.Colour.TheVariants.{Default, Index, Rgb}
 
 -- the same code points in the same order
 abbrev pub same_points : List ℕ → List ℕ → Bool
@@ -17,8 +17,13 @@ same_points (x ∷ xs) [] = false
 abbrev pub same_colour : Colour → Colour → Bool
 same_colour Default Default = true
 same_colour (Index a) (Index b) = a == b
+same_colour (Rgb r g b) (Rgb x y z) = (r == x) && ((g == y) && (b == z))
 same_colour Default (Index b) = false
+same_colour Default (Rgb x y z) = false
 same_colour (Index a) Default = false
+same_colour (Index a) (Rgb x y z) = false
+same_colour (Rgb r g b) Default = false
+same_colour (Rgb r g b) (Index c) = false
 
 -- the same flags and colours
 abbrev pub same_style : Style → Style → Bool

@@ -3,12 +3,12 @@ use Rattle.std.specs.Prelude.{ℕ, zero, suc, ◌+◌, Bool, true, List, [], ◌
 use Rattle.std.specs.List.{flat_map}
 use Rattle.std.specs.Char.{encode_utf8}
 use Rattle.roam_cells.specs.Glyph.{Glyph, default_style}
-use Rattle.roam_cells.specs.Screenshot.{Screenshot}
+use Rattle.roam_screens.specs.Screenshot.{Screenshot}
 use Rattle.roam_cells.specs.declared.styles.Style.{Style}
 use Rattle.roam_cells.specs.declared.styles.Colour.{Colour}
-use Rattle.roam_cells.specs.declared.styles.Colour.TheVariants.{Default, Index}
+use Rattle.roam_cells.specs.declared.styles.Colour.TheVariants.{Default, Index, Rgb}
 use Rattle.roam_paint.specs.Same.{same_style}
-use Rattle.roam_term.specs.ControlFunctions.{place_cursor, set_style, hide_cursor, show_cursor, erase_all}
+use Rattle.roam_term.specs.ControlFunctions.{place_cursor, set_style, restyle, hide_cursor, show_cursor, erase_all}
 use Rattle.roam_paint.specs.Sequences.{spelled}
 use Rattle.roam_term.specs.Ground.{shown_at}
 use Rattle.roam_paint.specs.Painting.{differs, is_drawn, goes_on, style_in, style_at}
@@ -17,16 +17,17 @@ use Rattle.roam_paint.specs.Painting.{differs, is_drawn, goes_on, style_in, styl
 abbrev pub code_text : Bool → ℕ → List ℕ
 code_text on code = if on then 0x3B ∷ decimal code else []
 
--- a colour's parameters, where it isn't the default
+-- a colour's parameters, where it is one of a table
 abbrev pub colour_text : ℕ → Colour → List ℕ
 colour_text code Default = []
 colour_text code (Index n) = code_text true code ++ (code_text true 5 ++ code_text true n)
+colour_text code (Rgb r g b) = []
 
 -- a cell at a row and a column, in the run of the place before it or not, in the style that is set or not
 abbrev pub cell_text : Bool → Bool → ℕ → ℕ → Glyph → List ℕ
 cell_text stays same r c x =
     (if stays then [] else spelled (place_cursor (r + 1) (c + 1)))
-    ++ ((if same then [] else spelled (set_style x.style)) ++ flat_map encode_utf8 x.points)
+    ++ ((if same then [] else flat_map spelled (restyle x.style)) ++ flat_map encode_utf8 x.points)
 
 -- what is written for a place, with the style that is set before it
 unfoldable pub place_text : Screenshot → Screenshot → ℕ → ℕ → Style → List ℕ

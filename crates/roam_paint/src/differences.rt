@@ -1,12 +1,14 @@
 //! Where two screens differ.
 ghost use Rattle.std.specs.Prelude.{◌≡◌, ℕ, ◌<◌, ◌+◌, ◌*◌, true, false, not};
+ghost use Rattle.roam_term.specs.Ground.{shown_at};
 ghost use Rattle.roam_paint.specs.Same.{same};
 ghost use Rattle.roam_paint.specs.Painting.{same_size, differs};
 
-use roam_cells::{Cell, Shot, are_same_cells};
+use roam_cells::{Cell, are_same_cells};
+use roam_screens::Seen;
 
-pub fn is_same_size(old: &Shot, new: &Shot) -> bool
-    ensures same { result ≡ same_size old.now new.now }
+pub fn is_same_size<O: Seen, N: Seen>(old: &O, new: &N) -> bool
+    ensures same { result ≡ same_size (O.screen old.now) (N.screen new.now) }
 {
     old.rows() == new.rows() && old.cols() == new.cols()
 }
@@ -18,42 +20,44 @@ fn is_other(one: &Cell, other: &Cell) -> bool
     !one.is_same(other)
 }
 
+/// The cell at a row and a column, from 0.
+pub fn cell_of<S: Seen>(screen: &S, row: usize, col: usize) -> &Cell
+    requires inside { (row < (S.screen screen.now).rows) × (col < (S.screen screen.now).cols) }
+    ensures cell { result.now ≡ shown_at (S.screen screen.now) row col }
+{
+    screen.facts();
+    &screen.row(row as u16)[col]
+}
+
 /// Whether a place of the new screen, from 0, or the one behind its last column is to show something else: old counts as blank where sizes
 /// differ.
-pub fn differs(old: &Shot, new: &Shot, row: usize, col: usize) -> bool
-    requires row { row < new.now.rows }
-    ensures differs { result ≡ differs old.now new.now row col }
+pub fn differs<O: Seen, N: Seen>(old: &O, new: &N, row: usize, col: usize) -> bool
+    requires row { row < (N.screen new.now).rows }
+    ensures differs { result ≡ differs (O.screen old.now) (N.screen new.now) row col }
 {
-    old.facts();
-    new.facts();
-    let cols = usize::from(new.cols());
-    if cols <= col {
+    if usize::from(new.cols()) <= col {
         return false;
     }
-    let place = row * cols + col;
+    let cell = cell_of(new, row, col);
     if is_same_size(old, new) {
-        is_other(&old.cells()[place], &new.cells()[place])
+        is_other(cell_of(old, row, col), cell)
     } else {
-        is_other(&Cell::blank(), &new.cells()[place])
+        is_other(&Cell::blank(), cell)
     }
 }
 
 /// Whether both screens have one size and no place of a row differs.
-pub fn is_same_row(old: &Shot, new: &Shot, row: usize) -> bool
-    requires row { row < new.now.rows }
-    ensures size { result ≡ true → same_size old.now new.now ≡ true }
-    ensures same { result ≡ true → (col : ℕ) → differs old.now new.now row col ≡ false }
-    ensures other { same_size old.now new.now ≡ true → ((col : ℕ) → differs old.now new.now row col ≡ false) → result ≡ true }
+pub fn is_same_row<O: Seen, N: Seen>(old: &O, new: &N, row: usize) -> bool
+    requires row { row < (N.screen new.now).rows }
+    ensures size { result ≡ true → same_size (O.screen old.now) (N.screen new.now) ≡ true }
+    ensures same { result ≡ true → (col : ℕ) → differs (O.screen old.now) (N.screen new.now) row col ≡ false }
+    ensures other { same_size (O.screen old.now) (N.screen new.now) ≡ true
+        → ((col : ℕ) → differs (O.screen old.now) (N.screen new.now) row col ≡ false) → result ≡ true }
 {
     if !is_same_size(old, new) {
         return false;
     }
     old.facts();
     new.facts();
-    let cols = usize::from(new.cols());
-    let place = row * cols;
-    are_same_cells(
-        &old.cells()[place..place + cols],
-        &new.cells()[place..place + cols],
-    )
+    are_same_cells(old.row(row as u16), new.row(row as u16))
 }

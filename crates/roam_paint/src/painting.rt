@@ -1,24 +1,26 @@
 //! What leads a ground terminal from one screen to another.
 ghost use Rattle.std.specs.Prelude.{◌≡◌, ℕ, ◌+◌, ◌<◌, ◌≤◌, ◌&&◌, ◌||◌, not, ◌++◌, List, OnOk, OnErr, IfOk, IsOkUnless, [], if◌then◌else◌};
+ghost use Rattle.std.specs.List.{flat_map};
 ghost use Rattle.roam_cells.specs.Glyph.{is_right_half, is_wide};
 ghost use Rattle.roam_text.specs.Log.{Item};
 ghost use Rattle.roam_term.specs.Terminal.{term};
 ghost use Rattle.roam_paint.specs.Ground.{Displays, LeadsOver, IsOpened};
 ghost use Rattle.roam_paint.specs.Same.{same_style};
 ghost use Rattle.roam_paint.specs.Sequences.{spelled};
-ghost use Rattle.roam_term.specs.ControlFunctions.{place_cursor, set_style};
+ghost use Rattle.roam_term.specs.ControlFunctions.{place_cursor, restyle};
 ghost use Rattle.roam_term.specs.Ground.{shown_at};
 ghost use Rattle.roam_paint.specs.Painting.{differs, is_drawn, goes_on, style_after, painted, opened};
 ghost use Rattle.roam_paint.specs.Texts.{place_text, cell_text, row_text, row_style, rows_text, opening_text, closing_text};
 
 use crate::colours::colours_of;
-use crate::differences::{differs, is_same_row, is_same_size};
+use crate::differences::{cell_of, differs, is_same_row, is_same_size};
 use crate::laws::{opened_begins_blank, painted_leads_over};
 use crate::sequences::{
-    push_erase_all, push_hide_cursor, push_place_cursor, push_points, push_set_style,
+    push_erase_all, push_hide_cursor, push_place_cursor, push_points, push_restyle, push_set_style,
     push_show_cursor,
 };
-use roam_cells::{Cell, Fault, Shot, Style};
+use roam_cells::{Cell, Fault, Style};
+use roam_screens::Seen;
 use std::alloc::{AllocError, Global};
 
 // Whether a place of a row and those beside it are to show something else.
@@ -27,14 +29,6 @@ struct Differences {
     before: bool,
     here: bool,
     after: bool,
-}
-
-fn cell_of(screen: &Shot, row: usize, col: usize) -> &Cell
-    requires inside { (row < screen.now.rows) × (col < screen.now.cols) }
-    ensures cell { result.now ≡ shown_at screen.now row col }
-{
-    screen.facts();
-    &screen.cells()[row * usize::from(screen.cols()) + col]
 }
 
 // A cell begins at a place, and it or its right half differs.
@@ -55,10 +49,10 @@ fn place(text: &mut Vec<u8>, stays: bool, row: usize, col: usize) -> Result<(), 
 }
 
 fn restyle(text: &mut Vec<u8>, same: bool, style: Style) -> Result<(), AllocError>
-    ensures text { OnOk result (text.new.items ≡ text.old.items ++ (if same then [] else spelled (set_style style))) }
+    ensures text { OnOk result (text.new.items ≡ text.old.items ++ (if same then [] else flat_map spelled (restyle style))) }
 {
     if !same {
-        push_set_style(text, style)?;
+        push_restyle(text, style)?;
     }
     Ok(())
 }
@@ -88,21 +82,22 @@ fn paint_cell(
 
 // One place, with the style that is set before it; answers the style that is set after it.
 #[tactic(auto, unfolding(crate::specs::Texts::place_text, crate::specs::Painting::style_after))]
-fn paint_place(
+fn paint_place<O: Seen, N: Seen>(
     text: &mut Vec<u8>,
-    old: &Shot,
-    new: &Shot,
+    old: &O,
+    new: &N,
     row: usize,
     col: usize,
     at: Differences,
     style: Style,
 ) -> Result<Style, AllocError>
-    requires inside { (row < new.now.rows) × (col < new.now.cols) }
-    requires here { at.here ≡ differs old.now new.now row col }
-    requires after { at.after ≡ differs old.now new.now row (col + 1) }
-    requires stays { (at.before && at.here) ≡ goes_on (differs old.now new.now) row col }
-    ensures text { OnOk result (text.new.items ≡ text.old.items ++ place_text old.now new.now row col style) }
-    ensures style { IfOk result (λ s. s ≡ style_after (differs old.now new.now) (shown_at new.now) row col style) }
+    requires inside { (row < (N.screen new.now).rows) × (col < (N.screen new.now).cols) }
+    requires here { at.here ≡ differs (O.screen old.now) (N.screen new.now) row col }
+    requires after { at.after ≡ differs (O.screen old.now) (N.screen new.now) row (col + 1) }
+    requires stays { (at.before && at.here) ≡ goes_on (differs (O.screen old.now) (N.screen new.now)) row col }
+    ensures text { OnOk result (text.new.items ≡ text.old.items ++ place_text (O.screen old.now) (N.screen new.now) row col style) }
+    ensures style { IfOk result (λ s. s ≡ style_after (differs (O.screen old.now) (N.screen new.now)) (shown_at (N.screen new.now))
+        row col style) }
 {
     new.facts();
     let cell = cell_of(new, row, col);
@@ -115,16 +110,17 @@ fn paint_place(
 
 // One row, with the style that is set before it; answers the style that is set after it. Each place is compared once, or, where the row
 // begins with places that don't differ, twice.
-fn paint_row(
+fn paint_row<O: Seen, N: Seen>(
     text: &mut Vec<u8>,
-    old: &Shot,
-    new: &Shot,
+    old: &O,
+    new: &N,
     row: usize,
     style: Style,
 ) -> Result<Style, AllocError>
-    requires row { row < new.now.rows }
-    ensures text { OnOk result (text.new.items ≡ text.old.items ++ row_text old.now new.now row style new.now.cols) }
-    ensures style { IfOk result (λ s. s ≡ row_style old.now new.now row style new.now.cols) }
+    requires row { row < (N.screen new.now).rows }
+    ensures text { OnOk result (text.new.items ≡ text.old.items ++ row_text (O.screen old.now) (N.screen new.now)
+        row style (N.screen new.now).cols) }
+    ensures style { IfOk result (λ s. s ≡ row_style (O.screen old.now) (N.screen new.now) row style (N.screen new.now).cols) }
 {
     let mut set = style;
     let mut at = Differences {
@@ -141,16 +137,17 @@ fn paint_row(
     Ok(set)
 }
 
-fn paint_changed_row(
+fn paint_changed_row<O: Seen, N: Seen>(
     text: &mut Vec<u8>,
-    old: &Shot,
-    new: &Shot,
+    old: &O,
+    new: &N,
     row: usize,
     style: Style,
 ) -> Result<Style, AllocError>
-    requires row { row < new.now.rows }
-    ensures text { OnOk result (text.new.items ≡ text.old.items ++ row_text old.now new.now row style new.now.cols) }
-    ensures style { IfOk result (λ s. s ≡ row_style old.now new.now row style new.now.cols) }
+    requires row { row < (N.screen new.now).rows }
+    ensures text { OnOk result (text.new.items ≡ text.old.items ++ row_text (O.screen old.now) (N.screen new.now)
+        row style (N.screen new.now).cols) }
+    ensures style { IfOk result (λ s. s ≡ row_style (O.screen old.now) (N.screen new.now) row style (N.screen new.now).cols) }
 {
     if is_same_row(old, new, row) {
         return Ok(style);
@@ -158,8 +155,9 @@ fn paint_changed_row(
     paint_row(text, old, new, row, style)
 }
 
-fn paint_rows(text: &mut Vec<u8>, old: &Shot, new: &Shot) -> Result<(), AllocError>
-    ensures text { OnOk result (text.new.items ≡ text.old.items ++ rows_text old.now new.now new.now.rows) }
+fn paint_rows<O: Seen, N: Seen>(text: &mut Vec<u8>, old: &O, new: &N) -> Result<(), AllocError>
+    ensures text { OnOk result (text.new.items ≡ text.old.items ++ rows_text (O.screen old.now) (N.screen new.now)
+        (N.screen new.now).rows) }
 {
     let mut style = Style::default();
     for row in 0..usize::from(new.rows()) {
@@ -186,8 +184,8 @@ fn close_painting(text: &mut Vec<u8>, cursor: (u16, u16), visible: bool) -> Resu
 }
 
 // The text is put together apart, so that want of memory leaves what was there as it was.
-fn painting(alloc: Global, old: &Shot, new: &Shot) -> Result<Vec<u8>, AllocError>
-    ensures text { IfOk result (λ text. text.items ≡ painted old.now new.now) }
+fn painting<O: Seen, N: Seen>(alloc: Global, old: &O, new: &N) -> Result<Vec<u8>, AllocError>
+    ensures text { IfOk result (λ text. text.items ≡ painted (O.screen old.now) (N.screen new.now)) }
 {
     let mut text = Vec::new(alloc);
     open_painting(&mut text, is_same_size(old, new))?;
@@ -202,16 +200,17 @@ fn painting(alloc: Global, old: &Shot, new: &Shot) -> Result<Vec<u8>, AllocError
 /// places that differ, widened to whole wide cells of the new screen, is written from where it begins (CUP, 8.3.21), with SGR (8.3.117)
 /// before each cell whose style isn't the one that is set. Then come the default style, the cursor's place, and the cursor where it is
 /// visible.
-pub fn paint(old: &Shot, new: &Shot, out: &mut Vec<u8>) -> Result<(), Fault>
-    ensures leads { OnOk result ((rows cols lines : ℕ) (log : List Item) → Displays rows cols lines log old.now
-        → new.now.rows ≤ (term rows cols lines log).live.screen.rows → new.now.cols ≤ (term rows cols lines log).live.screen.cols
-        → LeadsOver rows cols lines log old.now new.now) }
-    ensures text { OnOk result (out.new.items ≡ out.old.items ++ painted old.now new.now) }
+pub fn paint<O: Seen, N: Seen>(old: &O, new: &N, out: &mut Vec<u8>) -> Result<(), Fault>
+    ensures leads { OnOk result ((rows cols lines : ℕ) (log : List Item) → Displays rows cols lines log (O.screen old.now)
+        → (N.screen new.now).rows ≤ (term rows cols lines log).live.screen.rows
+        → (N.screen new.now).cols ≤ (term rows cols lines log).live.screen.cols
+        → LeadsOver rows cols lines log (O.screen old.now) (N.screen new.now)) }
+    ensures text { OnOk result (out.new.items ≡ out.old.items ++ painted (O.screen old.now) (N.screen new.now)) }
     ensures err { OnErr result (out.new.items ≡ out.old.items) }
     ensures fault { IsOkUnless result Fault.OutOfMemory }
 {
     new.facts();
-    colours_of(new.cells());
+    colours_of(new);
     painted_leads_over();
     let text = painting(*out.allocator(), old, new)?;
     out.extend_from_slice(&text)?;

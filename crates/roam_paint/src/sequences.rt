@@ -2,7 +2,7 @@
 ghost use Rattle.std.specs.Prelude.{◌≡◌, ◌∷◌, [], ◌++◌, OnOk, decimal, if◌then◌else◌};
 ghost use Rattle.std.specs.List.{flat_map};
 ghost use Rattle.std.specs.Char.{encode_utf8};
-ghost use Rattle.roam_term.specs.ControlFunctions.{place_cursor, set_style};
+ghost use Rattle.roam_term.specs.ControlFunctions.{place_cursor, set_style, set_mixture, restyle};
 ghost use Rattle.roam_paint.specs.Sequences.{spelled};
 ghost use Rattle.roam_paint.specs.Texts.{code_text, colour_text};
 
@@ -50,7 +50,7 @@ fn push_colour(text: &mut Vec<u8>, code: u16, colour: Colour) -> Result<(), Allo
     Ok(())
 }
 
-/// SGR (ECMA-48 8.3.117) that sets a style, whatever style is set.
+/// SGR (ECMA-48 8.3.117) that sets a style but for its mixtures, whatever style is set.
 pub fn push_set_style(text: &mut Vec<u8>, style: Style) -> Result<(), AllocError>
     ensures text { OnOk result (text.new.items ≡ text.old.items ++ spelled (set_style style)) }
 {
@@ -70,6 +70,34 @@ pub fn push_set_style(text: &mut Vec<u8>, style: Style) -> Result<(), AllocError
     Ok(())
 }
 
+// SGR that sets a colour, after 38 or 48, where it is a mixture.
+#[tactic(auto, using(crate::proofs::Spellings::mixture_text))]
+fn push_mixture(text: &mut Vec<u8>, code: u16, colour: Colour) -> Result<(), AllocError>
+    ensures text { OnOk result (text.new.items ≡ text.old.items ++ flat_map spelled (set_mixture code colour)) }
+{
+    if let Colour::Rgb(red, green, blue) = colour {
+        text.extend_from_slice(b"\x1B[")?;
+        push_number(text, code)?;
+        push_code(text, true, 2)?;
+        push_code(text, true, u16::from(red))?;
+        push_code(text, true, u16::from(green))?;
+        push_code(text, true, u16::from(blue))?;
+        text.extend_from_slice(b"m")?;
+    }
+    Ok(())
+}
+
+/// SGR (ECMA-48 8.3.117) that sets a style, whatever style is set: its mixtures by sequences of their own.
+#[tactic(auto, using(crate::proofs::Spellings::restyle_text))]
+pub fn push_restyle(text: &mut Vec<u8>, style: Style) -> Result<(), AllocError>
+    ensures text { OnOk result (text.new.items ≡ text.old.items ++ flat_map spelled (restyle style)) }
+{
+    push_set_style(text, style)?;
+    push_mixture(text, 38, style.foreground)?;
+    push_mixture(text, 48, style.background)?;
+    Ok(())
+}
+
 fn push_point(text: &mut Vec<u8>, point: char) -> Result<(), AllocError>
     ensures text { OnOk result (text.new.items ≡ text.old.items ++ encode_utf8 point) }
 {
@@ -81,7 +109,8 @@ fn push_point(text: &mut Vec<u8>, point: char) -> Result<(), AllocError>
 pub fn push_points(text: &mut Vec<u8>, cell: &Cell) -> Result<(), AllocError>
     ensures text { OnOk result (text.new.items ≡ text.old.items ++ flat_map encode_utf8 cell.now.points) }
 {
-    for point in cell.chars() {
+    let points = cell.chars();
+    for point in points.as_slice() {
         push_point(text, *point)?;
     }
     Ok(())

@@ -3,7 +3,7 @@ use Rattle.std.proofs.Common.{◌≡◌, ℕ, List, length, codes, Option, Some,
 use Rattle.std.specs.Option.{option_map}
 use Rattle.std.specs.Prelude.{Ok, Err, OnOk, Result, unwrap_or}
 use Rattle.std.specs.Fmt.{decimal}
-use Rattle.roam_cells.specs.Screenshot.{Screenshot}
+use Rattle.roam_screens.specs.Screenshot.{Screenshot}
 use Rattle.roam_session.specs.Refusals.{none_refused}
 use Rattle.roam_session.specs.Queues.{IsCopied}
 use Rattle.roam_world.specs.Clients.{Client, shown_number, shown_screen}

@@ -6,7 +6,7 @@ use Rattle.roam_session.specs.Faces.{face}
 use Rattle.roam_session.specs.Refusals.{output_at}
 use Rattle.roam_world.specs.Clients.{Client, shown_number, shown_screen}
 use Rattle.roam_world.specs.Worlds.{World}
-use Rattle.roam_script.specs.Values.{LineValue, Session, Start, PaneBytes, Typed, ServerTick, ClientTick, ToServer, ToClient, Drained, Show, Face, Output}
+use Rattle.roam_script.specs.Values.{LineValue, Session, Start, Watch, PaneBytes, Typed, ServerTick, ClientTick, ToServer, ToClient, Drained, Show, Face, Output}
 use Rattle.roam_play.specs.Replies.{fault_line}
 use Rattle.roam_show.specs.ShowText.{screen_text}
 
@@ -39,7 +39,8 @@ asked_in w (Show slot) = Some (slot_text w.clients (w.slots slot))
 asked_in w Face = Some (face_text w)
 asked_in w (Output pane) = Some (waiting_text (output_at w.server.size w.server.log pane))
 asked_in w (Session id rows cols) = None
-asked_in w (Start slot id) = None
+asked_in w (Start slot id version) = None
+asked_in w (Watch slot id) = None
 asked_in w (PaneBytes pane bytes) = None
 asked_in w (Typed slot act) = None
 asked_in w (ServerTick now) = None

@@ -1,7 +1,7 @@
 -- The replies of a world, as lines of text (this project's profile).
 use Rattle.std.specs.Prelude.{ℕ, zero, suc, ◌+◌, List, ◌++◌, codes, decimal}
 use Rattle.roam_cells.specs.declared.faults.Fault.{Fault}
-use Rattle.roam_cells.specs.declared.faults.Fault.TheVariants.{OutOfMemory, BadSize, TooSmall, NoPane, PanesFull, LastPane, Busy, TooLong, BadDatagram, OtherSession, OtherClient, ClientsFull, BadChange, SendFull, Spent, BadAct}
+use Rattle.roam_cells.specs.declared.faults.Fault.TheVariants.{OutOfMemory, BadSize, TooSmall, NoPane, PanesFull, LastPane, Busy, TooLong, BadDatagram, OtherSession, OtherClient, ClientsFull, BadChange, SendFull, Spent, BadAct, Watching}
 use Rattle.roam_world.specs.Arrivals.{Hearing, IsPart, IsOld, IsGap, IsNew}
 use Rattle.roam_world.specs.Worlds.{Reply, Done, Sent, Taken, Heard, Refused, Failed, Stopped}
 
@@ -23,6 +23,7 @@ number_of BadChange = 13
 number_of SendFull = 14
 number_of Spent = 15
 number_of BadAct = 16
+number_of Watching = 17
 
 -- what a datagram was to a client start
 abbrev pub heard_line : Hearing → List ℕ

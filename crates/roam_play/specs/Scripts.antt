@@ -5,11 +5,12 @@ use Rattle.std.specs.Io.KnownBytes.{Appends}
 use Rattle.roam_cells.specs.declared.faults.Fault.TheVariants.{BadSize, OutOfMemory}
 use Rattle.roam_layout.specs.Layouts.{IsSessionSize}
 use Rattle.roam_session.specs.Sessions.{SessionSize}
+use Rattle.roam_wire.specs.declared.versions.Version.TheVariants.{Two}
 use Rattle.roam_world.specs.Texts.{Address}
 use Rattle.roam_world.specs.Worlds.{World, Event, Reply}
 use Rattle.roam_world.specs.Worlds as event
 use Rattle.roam_world.specs.Laws.{Reaches}
-use Rattle.roam_script.specs.Values.{LineValue, IsLine, Session, Start, PaneBytes, Typed, ServerTick, ClientTick, ToServer, ToClient, Drained, Show, Face, Output}
+use Rattle.roam_script.specs.Values.{LineValue, IsLine, Session, Start, Watch, PaneBytes, Typed, ServerTick, ClientTick, ToServer, ToClient, Drained, Show, Face, Output}
 use Rattle.roam_script.specs.Lines.{Says}
 use Rattle.roam_script.specs.Skipped.{is_skipped}
 use Rattle.roam_faults.specs.declared.faults.RunFault.{RunFault}
@@ -48,7 +49,8 @@ at_home port = record { host = 0x7F000001; port = port }
 -- what a line lets happen; nothing where it begins a session or asks for something
 abbrev pub event_in : LineValue → Option Event
 event_in (Session id rows cols) = None
-event_in (Start slot id) = Some (event.Start slot id)
+event_in (Start slot id version) = Some (event.Start slot id version false)
+event_in (Watch slot id) = Some (event.Start slot id Two true)
 event_in (PaneBytes pane bytes) = Some (event.PaneBytes pane bytes)
 event_in (Typed slot act) = Some (event.Typed slot act)
 event_in (ServerTick now) = Some (event.ServerTick now)

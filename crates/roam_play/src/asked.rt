@@ -26,7 +26,7 @@ fn push_shown(alloc: Global, text: &mut String, world: &World, slot: u8) -> Resu
     };
     let (number, shot) = client.shown();
     write!(text, "state {number}\n")?;
-    push_screen(alloc, text, shot)
+    push_screen(alloc, text, &shot)
 }
 
 // Adds the session's face.

@@ -20,6 +20,7 @@ use roam_hub::Addr;
 use roam_script::{Line, LineFault, is_skipped, read_line};
 use roam_show::MOST_READS;
 use roam_simulation::{Event, World};
+use roam_wire::Version;
 use std::alloc::Global;
 use std::io::{Read, Write};
 
@@ -36,7 +37,8 @@ fn event_of(line: Line) -> Option<Event>
     ensures handed_in { IfSome result IsHandedIn }
 {
     match line {
-        Line::Start(slot, id) => Some(Event::Start(slot, id)),
+        Line::Start(slot, id, version) => Some(Event::Start(slot, id, version, false)),
+        Line::Watch(slot, id) => Some(Event::Start(slot, id, Version::Two, true)),
         Line::PaneBytes(pane, bytes) => Some(Event::PaneBytes(pane, bytes)),
         Line::Typed(slot, act) => Some(Event::Typed(slot, act)),
         Line::ServerTick(now) => Some(Event::ServerTick(now)),

@@ -30,6 +30,7 @@ pub(crate) fn number_of(fault: Fault) -> u8
         Fault::SendFull => 14,
         Fault::Spent => 15,
         Fault::BadAct => 16,
+        Fault::Watching => 17,
     }
 }
 

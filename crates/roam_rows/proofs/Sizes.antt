@@ -5,8 +5,7 @@ use Rattle.std.proofs.lemmas.List.{get_or_append_left, get_or-append_right, get_
 use Rattle.std.proofs.lemmas.List.Edits.{get_or-between}
 use Rattle.std.proofs.lemmas.Grind.{common_steps}
 use Rattle.roam_cells.specs.Glyph.{Glyph, is_wide, is_right_half, right_of, space_in, blank}
-use Rattle.roam_cells.specs.Place.{cell_at, glyph_at, table, AreWhole, IsWholeRow}
-use Rattle.roam_cells.specs.Screenshot.{row_of}
+use Rattle.roam_cells.specs.Place.{cell_at, glyph_at, table, AreWhole, IsWholeRow, row_of}
 use Rattle.roam_cells.proofs.Places.{table_is}
 use Rattle.roam_rows.specs.Row.{mended}
 use Rattle.roam_rows.specs.Places.{Source, From, Fresh, taken, are_joined, recast_at}

@@ -7,7 +7,7 @@ use roam_cells::Cell;
 /// A row's length after its columns from one on and before another became blank.
 #[inline]
 pub fn length_after(len: u16, from: usize, to: usize) -> u16
-    requires few { from ≤ 250 }
+    requires few { from ≤ 500 }
     ensures low { result ≤ len }
     ensures rest { (c : ℕ) → result ≤ c → (len ≤ c) ⊎ ((from ≤ c) × (c < to)) }
     ensures short { len ≤ to → result ≤ from }
@@ -22,7 +22,7 @@ pub fn length_after(len: u16, from: usize, to: usize) -> u16
 /// A row's length after n blanks came in at a column.
 #[inline]
 pub fn length_inserted(len: u16, col: usize, n: usize, cols: usize) -> u16
-    requires few { (cols ≤ 250) × (len ≤ cols) }
+    requires few { (cols ≤ 500) × (len ≤ cols) }
     ensures low { result ≤ cols }
     ensures left { (c : ℕ) → result ≤ c → c < col → len ≤ c }
     ensures right { (c : ℕ) → result ≤ c → c < cols → col + n ≤ c → len ≤ c - n }
@@ -52,7 +52,7 @@ pub fn length_deleted(len: u16, col: usize, n: usize) -> u16
 /// The column after a cell that is written in one.
 #[inline]
 pub fn end_of(cell: &Cell, col: usize, cols: usize) -> u16
-    requires room { (cols ≤ 250) × (col < cols) }
+    requires room { (cols ≤ 500) × (col < cols) }
     ensures narrow { is_wide cell.now ≡ false → result ≡ col + 1 }
     ensures wide { is_wide cell.now ≡ true → result ≡ col + 2 }
 {

@@ -13,7 +13,7 @@ pub fn bring_back(rows: usize, at: usize) -> usize
 /// The row of the buffer, from 0, where row `row`, from 0, stands.
 #[inline]
 pub fn place(rows: usize, first: usize, row: usize) -> usize
-    requires rows { (rows ≤ 100) × (first < rows) × (row < rows) }
+    requires rows { (rows ≤ 200) × (first < rows) × (row < rows) }
     ensures place { result ≡ brought_back rows (first + row) }
     ensures low { result < rows }
 {
@@ -24,7 +24,7 @@ pub fn place(rows: usize, first: usize, row: usize) -> usize
 #[inline]
 #[tactic(auto, using(roam_cells::proofs::Places::row_from))]
 pub fn start_of(rows: usize, cols: usize, at: usize) -> usize
-    requires size { (rows ≤ 100) × (cols ≤ 250) }
+    requires size { (rows ≤ 200) × (cols ≤ 500) }
     requires row { at < rows }
     ensures start { result ≡ at * cols }
     ensures room { result + cols ≤ rows * cols }

@@ -2,8 +2,7 @@
 ghost use Rattle.std.specs.Prelude.{◌≡◌, ℕ, ◌+◌, ◌-◌, ◌*◌, ◌<◌, ◌≤◌, ◌++◌, true, false, length, map, replicate, IfOk};
 ghost use Rattle.roam_cells.specs.Glyph.{ascii_in, blank, is_wide, is_right_half};
 ghost use Rattle.roam_cells.specs.Limits.{IsSize};
-ghost use Rattle.roam_cells.specs.Place.{cell_at};
-ghost use Rattle.roam_cells.specs.Screenshot.{row_of};
+ghost use Rattle.roam_cells.specs.Place.{cell_at, row_of};
 ghost use Rattle.roam_rows.specs.Writing.{ArePrintable, joined, written, written_run};
 ghost use Rattle.roam_rows.specs.Erasing.{blanked, unguarded_blanked};
 ghost use Rattle.roam_rows.specs.Editing.{inserted, deleted};

@@ -34,6 +34,7 @@ found p (y ∷ ys) x e = elim (chosen (p y) y x (find p ys) e) [
 headed_again : (k : Kind) (text : List ℕ) → headed_in kinds (head_of k ++ text) ≡ Some k
 headed_again kind.Session text = refl
 headed_again kind.Start text = refl
+headed_again kind.Watch text = refl
 headed_again kind.PaneBytes text = refl
 headed_again kind.Typed text = refl
 headed_again kind.ServerTick text = refl

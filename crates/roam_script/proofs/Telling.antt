@@ -1,8 +1,9 @@
 -- What follows a line's head is read as the line that it says, and as no other.
-use Rattle.std.proofs.Common.{◌≡◌, ℕ, ◌<◌, ◌≤◌, ◌^◌, List, [], ◌∷◌, ◌++◌, Option, Some, None, refl, sym, ap, subst, ◌∙◌, arith, lit≤}
+use Rattle.std.proofs.Common.{◌≡◌, ℕ, Bool, true, false, cond, eqb, inl, inr, ◌⊎◌, ◌<◌, ◌≤◌, ◌^◌, List, [], ◌∷◌, ◌++◌, Option, Some, None, refl, sym, ap, subst, ◌∙◌, arith, lit≤}
 use Rattle.std.specs.Fmt.{decimal}
 use Rattle.std.specs.Option.{option_map}
-use Rattle.std.specs.Prelude.{Ok, Err, Result}
+use Rattle.std.specs.Prelude.{Ok, Err, Result, option_and_then}
+use Rattle.std.proofs.lemmas.Bool.{eqb-true}
 use Rattle.std.specs.Result.{result_ok}
 use Rattle.std.proofs.lemmas.Fmt.{decimal_is_IsNumeral}
 use Rattle.hex.specs.Hex.{decode_of}
@@ -12,14 +13,17 @@ use Rattle.roam_acts.specs.Acts.{IsAct}
 use Rattle.roam_acts.specs.Lines.{Spells as SpellsAct}
 use Rattle.roam_script.specs.declared.kinds.Kind.{Kind}
 use Rattle.roam_script.specs.declared.kinds.Kind.TheVariants as kind
-use Rattle.roam_script.specs.Values.{LineValue, IsLine, Session, Start, PaneBytes, Typed, ServerTick, ClientTick, ToServer, ToClient, Drained, Show, Face, Output}
+use Rattle.roam_wire.specs.declared.versions.Version.{Version}
+use Rattle.roam_wire.specs.declared.versions.Version.TheVariants.{One, Two}
+use Rattle.roam_wire.specs.Versions.{number_of_version, version_numbered}
+use Rattle.roam_script.specs.Values.{LineValue, IsLine, Session, Start, Watch, PaneBytes, Typed, ServerTick, ClientTick, ToServer, ToClient, Drained, Show, Face, Output}
 use Rattle.roam_script.specs.Kinds.{kind_of}
 use Rattle.roam_numbers.specs.Numbers.{IsId, id_in, number_in}
-use Rattle.roam_script.specs.Lines.{AreBytes, IsArgument}
-use Rattle.roam_script.specs.Reading.{byte_in, bytes_in, face_in, first_word, long_in, plain_in, short_in, slot_in, two_in}
+use Rattle.roam_script.specs.Lines.{AreBytes, IsArgument, IsStart}
+use Rattle.roam_script.specs.Reading.{byte_in, bytes_in, face_in, first_word, long_in, pair_of, plain_in, short_in, slot_in, start_at, start_in, two_in, version_in}
 use Rattle.roam_script.specs.Told.{Tells, TellsNothing}
 use Rattle.roam_numbers.proofs.Spelled.{id_again, id_found, number_again, number_found}
-use Rattle.roam_script.proofs.Wording.{digits_are_word, two_again, two_found, word_again, word_found, IsWord}
+use Rattle.roam_script.proofs.Wording.{digits_are_word, pair_found, two_again, two_found, word_again, word_alone, word_found, IsWord}
 
 -- ---- words
 
@@ -54,6 +58,21 @@ two_more first middle last small medium f g h p q r =
     let rest = two_again g h (decimal middle) (decimal last) middle last (decimal_word middle medium) q r in
     two_again f (two_in g h) (decimal first) (decimal middle ++ 0x20 ∷ decimal last) first (middle, last) (decimal_word first small) p rest
 
+version_again : (version : Version) → version_in (decimal (number_of_version version)) ≡ Some version
+version_again One = ap (λ (o : Option ℕ). option_and_then version_numbered o) (byte_again 1 (omega arith))
+version_again Two = ap (λ (o : Option ℕ). option_and_then version_numbered o) (byte_again 2 (omega arith))
+
+start_again : (id : ℕ) (version : Version) (text : List ℕ) → IsStart id version text → start_in text ≡ Some (id, version)
+start_again id version text h = elim h.2 [
+  | inl none ↦
+      ap (start_at text) (ap first_word none.1 ∙ word_alone h.0 (id_word h.0 id h.1))
+      ∙ ap (option_map (λ (n : ℕ). (n, One))) (ap id_in none.1 ∙ id_again h.0 id h.1)
+      ∙ ap (λ (v : Version). Some (id, v)) (sym none.0)
+  | inr told ↦
+      ap (start_at text) (ap first_word told ∙ word_again h.0 (decimal (number_of_version version)) (id_word h.0 id h.1))
+      ∙ (λ i. pair_of (id_again h.0 id h.1 i) (version_again version i))
+]
+
 pub plain_again : (l : LineValue) (text : List ℕ) → IsPlain (kind_of l) → IsLine l → IsArgument l text → plain_in (kind_of l) text ≡ Some l
 plain_again (Session id rows cols) text plain is h =
     let rest = two_again short_in short_in (decimal rows) (decimal cols) rows cols (decimal_word rows (omega (arith, is.1))) (short_again
@@ -61,10 +80,14 @@ plain_again (Session id rows cols) text plain is h =
     let all = two_again id_in (two_in short_in short_in) h.0 (decimal rows ++ 0x20 ∷ decimal cols) id (rows, cols) (id_word h.0 id h.1)
     (id_again h.0 id h.1) rest in
     ap (plain_in kind.Session) h.2 ∙ ap (option_map (λ (p : ℕ × (ℕ × ℕ)). Session p.0 p.1.0 p.1.1)) all
-plain_again (Start slot id) text plain is h =
+plain_again (Start slot id version) text plain is h =
+    let all = two_again slot_in start_in (decimal slot) h.0 slot (id, version) (decimal_word slot (omega (arith, is.0))) (slot_again slot
+    is.0) (start_again id version h.0 h.1) in
+    ap (plain_in kind.Start) h.2 ∙ ap (option_map (λ (p : ℕ × (ℕ × Version)). Start p.0 p.1.0 p.1.1)) all
+plain_again (Watch slot id) text plain is h =
     let all = two_again slot_in id_in (decimal slot) h.0 slot id (decimal_word slot (omega (arith, is.0))) (slot_again slot is.0)
     (id_again h.0 id h.1) in
-    ap (plain_in kind.Start) h.2 ∙ ap (option_map (λ (p : ℕ × ℕ). Start p.0 p.1)) all
+    ap (plain_in kind.Watch) h.2 ∙ ap (option_map (λ (p : ℕ × ℕ). Watch p.0 p.1)) all
 plain_again (PaneBytes pane bytes) text plain is h = absurd (plain.0 refl)
 plain_again (Typed slot act) text plain is h = absurd (plain.1 refl)
 plain_again (ServerTick now) text plain is h = ap (plain_in kind.ServerTick) h ∙ ap (option_map ServerTick) (long_again now is)
@@ -119,8 +142,60 @@ session_found text p e =
       argument = (t.word, id.1, t.is ∙ ap (λ (r : List ℕ). t.word ++ 0x20 ∷ r) (u.is ∙ (λ i. rows.text_is i ++ 0x20 ∷ cols.text_is i)));
     }
 
-start_found : (text : List ℕ) (p : ℕ × ℕ) → two_in slot_in id_in text ≡ Some p → Tells kind.Start text (Start p.0 p.1)
+version_found : (n : ℕ) (version : Version) → version_numbered n ≡ Some version → n ≡ number_of_version version
+version_found n version e = go (eqb n 1) refl (eqb n 2) refl e
+  where
+    go : (a : Bool) → eqb n 1 ≡ a → (b : Bool) → eqb n 2 ≡ b → cond a (Some One) (cond b (Some Two) None) ≡ Some version
+        → n ≡ number_of_version version
+    go true f b g h = let same : One ≡ version = cc in eqb-true n 1 f ∙ ap number_of_version same
+    go false f true g h = let same : Two ≡ version = cc in eqb-true n 2 g ∙ ap number_of_version same
+    go false f false g h = absurd cc
+
+started_found : (text : List ℕ) (p : ℕ × Version) → start_in text ≡ Some p → (p.0 < 2 ^ 64) × IsStart p.0 p.1 text
+started_found text p e = by (first_word text) refl e
+  where
+    alone : (o : Option ℕ) → id_in text ≡ o → option_map (λ (n : ℕ). (n, One)) o ≡ Some p → (p.0 < 2 ^ 64) × IsStart p.0 p.1 text
+    alone None f g = absurd cc
+    alone (Some n) f g =
+        let same : (n, One) ≡ p = cc in
+        let id = id_found text p.0 (f ∙ ap (λ (q : ℕ × Version). Some q.0) same) in
+        (id.0, (text, id.1, inl (sym (ap (λ (q : ℕ × Version). q.1) same), refl)))
+
+    told : (words : List ℕ × List ℕ) (o : Option ℕ) → byte_in words.1 ≡ o → first_word text ≡ Some words → id_in words.0 ≡ Some p.0
+        → option_and_then version_numbered o ≡ Some p.1 → (p.0 < 2 ^ 64) × IsStart p.0 p.1 text
+    told words None f is first second = absurd cc
+    told words (Some n) f is first second =
+        let id = id_found words.0 p.0 first in
+        let number = number_is 255 words.1 n f in (
+          id.0,
+          (
+            words.0,
+            id.1,
+            inr (word_found text words is
+                ∙ ap (λ (w : List ℕ). words.0 ++ 0x20 ∷ w) (number.text_is ∙ ap decimal (version_found n p.1 second))),
+          ),
+        )
+
+    by : (r : Option (List ℕ × List ℕ)) → first_word text ≡ r → start_at text r ≡ Some p → (p.0 < 2 ^ 64) × IsStart p.0 p.1 text
+    by None is f = alone (id_in text) refl f
+    by (Some words) is f =
+        let both = pair_found id_in version_in (id_in words.0) (version_in words.1) p f in
+        told words (byte_in words.1) refl is both.0 both.1
+
+start_found : (text : List ℕ) (p : ℕ × (ℕ × Version)) → two_in slot_in start_in text ≡ Some p
+    → Tells kind.Start text (Start p.0 p.1.0 p.1.1)
 start_found text p e =
+    let t = two_found slot_in start_in text p e in
+    let slot = number_is 7 t.word p.0 t.first in
+    let start = started_found t.rest p.1 t.second in
+    record {
+      same_kind = refl;
+      in_range = (omega (arith, slot.most_of), start.0);
+      argument = (t.rest, start.1, t.is ∙ ap (λ (w : List ℕ). w ++ 0x20 ∷ t.rest) slot.text_is);
+    }
+
+watch_found : (text : List ℕ) (p : ℕ × ℕ) → two_in slot_in id_in text ≡ Some p → Tells kind.Watch text (Watch p.0 p.1)
+watch_found text p e =
     let t = two_found slot_in id_in text p e in
     let slot = number_is 7 t.word p.0 t.first in
     let id = id_found t.rest p.1 t.second in
@@ -171,8 +246,11 @@ plain_found kind.Session text l e =
     let m = mapped (λ (p : ℕ × (ℕ × ℕ)). Session p.0 p.1.0 p.1.1) (two_in id_in (two_in short_in short_in) text) l e in
     moved kind.Session text (Session m.0.0 m.0.1.0 m.0.1.1) l m.2 (session_found text m.0 m.1)
 plain_found kind.Start text l e =
-    let m = mapped (λ (p : ℕ × ℕ). Start p.0 p.1) (two_in slot_in id_in text) l e in
-    moved kind.Start text (Start m.0.0 m.0.1) l m.2 (start_found text m.0 m.1)
+    let m = mapped (λ (p : ℕ × (ℕ × Version)). Start p.0 p.1.0 p.1.1) (two_in slot_in start_in text) l e in
+    moved kind.Start text (Start m.0.0 m.0.1.0 m.0.1.1) l m.2 (start_found text m.0 m.1)
+plain_found kind.Watch text l e =
+    let m = mapped (λ (p : ℕ × ℕ). Watch p.0 p.1) (two_in slot_in id_in text) l e in
+    moved kind.Watch text (Watch m.0.0 m.0.1) l m.2 (watch_found text m.0 m.1)
 plain_found kind.PaneBytes text l e = absurd cc
 plain_found kind.Typed text l e = absurd cc
 plain_found kind.ServerTick text l e =
@@ -287,7 +365,8 @@ typed_is text (Typed slot act) k is h = (
   refl,
 )
 typed_is text (Session id rows cols) k is h = absurd cc
-typed_is text (Start slot id) k is h = absurd cc
+typed_is text (Start slot id version) k is h = absurd cc
+typed_is text (Watch slot id) k is h = absurd cc
 typed_is text (PaneBytes pane bytes) k is h = absurd cc
 typed_is text (ServerTick now) k is h = absurd cc
 typed_is text (ClientTick slot now) k is h = absurd cc
@@ -364,7 +443,8 @@ are_given text (PaneBytes pane bytes) k is h = record {
   ))) (byte_again pane is) (bytes_again h.0 bytes h.1);
 }
 are_given text (Session id rows cols) k is h = absurd cc
-are_given text (Start slot id) k is h = absurd cc
+are_given text (Start slot id version) k is h = absurd cc
+are_given text (Watch slot id) k is h = absurd cc
 are_given text (Typed slot act) k is h = absurd cc
 are_given text (ServerTick now) k is h = absurd cc
 are_given text (ClientTick slot now) k is h = absurd cc
@@ -404,6 +484,7 @@ one_line one kind.Typed text a b s t =
     p.3 ∙ both_typed one text p.0 p.1 q.0 q.1 p.2 q.2 ∙ sym q.3
 one_line one kind.Session text a b s t = both_plain kind.Session text a b (λ e. absurd cc, λ e. absurd cc) s t
 one_line one kind.Start text a b s t = both_plain kind.Start text a b (λ e. absurd cc, λ e. absurd cc) s t
+one_line one kind.Watch text a b s t = both_plain kind.Watch text a b (λ e. absurd cc, λ e. absurd cc) s t
 one_line one kind.ServerTick text a b s t = both_plain kind.ServerTick text a b (λ e. absurd cc, λ e. absurd cc) s t
 one_line one kind.ClientTick text a b s t = both_plain kind.ClientTick text a b (λ e. absurd cc, λ e. absurd cc) s t
 one_line one kind.ToServer text a b s t = both_plain kind.ToServer text a b (λ e. absurd cc, λ e. absurd cc) s t

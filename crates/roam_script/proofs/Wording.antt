@@ -57,6 +57,20 @@ word_again w rest h =
     let back : drop (length w + 1) text ≡ rest = drop-append-add w (32 ∷ rest) 1 in
     ap (word_at text) (space_at w rest h) ∙ (λ i. Some (front i, back i))
 
+-- a word alone has no space
+no_space : (w : List ℕ) → IsWord w → prefix_len is_other w ≡ length w
+no_space [] h = refl
+no_space (d ∷ w) h =
+    let both = and_parts (is_other d) (list_all is_other w) h in
+    let more = no_space w both.1 in
+    rw (both.0, more) (omega arith)
+
+pub word_alone : (w : List ℕ) → IsWord w → first_word w ≡ None
+word_alone w h =
+    let place = no_space w h in
+    let past : ltb (length w) (length w) ≡ false = grind (arith, nat_tests) in
+    rw (place, past) refl
+
 split_at : (text : List ℕ) (p : ℕ) → position (λ (b : ℕ). eqb b 32) text ≡ Some p → text ≡ take p text ++ 32 ∷ drop (p + 1) text
 split_at text p e =
     let place = prefix_len is_other text in
@@ -92,7 +106,7 @@ module _ {A B : Type 0} (f : List ℕ → Option A) (g : List ℕ → Option B) 
   pub two_again : (w rest : List ℕ) (a : A) (b : B) → IsWord w → f w ≡ Some a → g rest ≡ Some b → two_in f g (w ++ 32 ∷ rest) ≡ Some (a, b)
   two_again w rest a b h first second = ap (each_of f g) (word_again w rest h) ∙ (λ i. pair_of (first i) (second i))
 
-  pair_found : (x : Option A) (y : Option B) (p : A × B) → pair_of x y ≡ Some p → (x ≡ Some p.0) × (y ≡ Some p.1)
+  pub pair_found : (x : Option A) (y : Option B) (p : A × B) → pair_of x y ≡ Some p → (x ≡ Some p.0) × (y ≡ Some p.1)
   pair_found None y p e = absurd cc
   pair_found (Some a) None p e = absurd cc
   pair_found (Some a) (Some b) p e =

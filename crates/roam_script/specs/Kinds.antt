@@ -4,12 +4,13 @@ use Rattle.std.specs.List.{find, starts_with}
 use Rattle.roam_script.specs.Values.{LineValue}
 use Rattle.roam_script.specs.Values as value
 use Rattle.roam_script.specs.declared.kinds.Kind.{Kind}
-use Rattle.roam_script.specs.declared.kinds.Kind.TheVariants.{Session, Start, PaneBytes, Typed, ServerTick, ClientTick, ToServer, ToClient, Drained, Show, Face, Output}
+use Rattle.roam_script.specs.declared.kinds.Kind.TheVariants.{Session, Start, Watch, PaneBytes, Typed, ServerTick, ClientTick, ToServer, ToClient, Drained, Show, Face, Output}
 
 -- the kind of a line
 abbrev pub kind_of : LineValue → Kind
 kind_of (value.Session _ _ _) = Session
-kind_of (value.Start _ _) = Start
+kind_of (value.Start _ _ _) = Start
+kind_of (value.Watch _ _) = Watch
 kind_of (value.PaneBytes _ _) = PaneBytes
 kind_of (value.Typed _ _) = Typed
 kind_of (value.ServerTick _) = ServerTick
@@ -25,6 +26,7 @@ kind_of (value.Output _) = Output
 abbrev pub head_of : Kind → List ℕ
 head_of Session = codes "session "
 head_of Start = codes "start "
+head_of Watch = codes "watch "
 head_of PaneBytes = codes "pane "
 head_of Typed = codes "type "
 head_of ServerTick = codes "stick "
@@ -38,7 +40,8 @@ head_of Output = codes "out "
 
 -- every kind
 abbrev pub kinds : List Kind
-kinds = Session ∷ Start ∷ PaneBytes ∷ Typed ∷ ServerTick ∷ ClientTick ∷ ToServer ∷ ToClient ∷ Drained ∷ Show ∷ Face ∷ Output ∷ []
+kinds =
+    Session ∷ Start ∷ Watch ∷ PaneBytes ∷ Typed ∷ ServerTick ∷ ClientTick ∷ ToServer ∷ ToClient ∷ Drained ∷ Show ∷ Face ∷ Output ∷ []
 
 -- the kind of a list with whose head a line begins
 abbrev pub headed_in : List Kind → List ℕ → Option Kind

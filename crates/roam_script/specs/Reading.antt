@@ -1,5 +1,5 @@
 -- How the code reads lines, step by step. No public clause speaks of it: what reading means is said by the grammar of Lines.
-use Rattle.std.specs.Prelude.{ℕ, ◌+◌, ◌==◌, List, [], ◌∷◌, take, drop, Option, Some, None}
+use Rattle.std.specs.Prelude.{ℕ, ◌+◌, ◌==◌, List, [], ◌∷◌, take, drop, Option, Some, None, option_and_then}
 use Rattle.std.specs.List.{position}
 use Rattle.std.specs.Option.{option_map}
 use Rattle.std.specs.Result.{result_ok}
@@ -7,7 +7,10 @@ use Rattle.hex.specs.Hex.{decode_of}
 use Rattle.roam_numbers.specs.Numbers.{id_in, number_in}
 use Rattle.roam_script.specs.declared.kinds.Kind.{Kind}
 use Rattle.roam_script.specs.declared.kinds.Kind.TheVariants as kind
-use Rattle.roam_script.specs.Values.{LineValue, Session, Start, ServerTick, ClientTick, ToServer, ToClient, Drained, Show, Face, Output}
+use Rattle.roam_wire.specs.declared.versions.Version.{Version}
+use Rattle.roam_wire.specs.declared.versions.Version.TheVariants.{One}
+use Rattle.roam_wire.specs.Versions.{version_numbered}
+use Rattle.roam_script.specs.Values.{LineValue, Session, Start, Watch, ServerTick, ClientTick, ToServer, ToClient, Drained, Show, Face, Output}
 
 -- the bytes that hexadecimal digits write
 abbrev pub bytes_in : List ℕ → Option (List ℕ)
@@ -50,6 +53,17 @@ short_in text = number_in 65535 text
 abbrev pub long_in : List ℕ → Option ℕ
 long_in text = number_in 18446744073709551615 text
 
+abbrev pub version_in : List ℕ → Option Version
+version_in text = option_and_then version_numbered (byte_in text)
+
+-- an id, and a version behind the first space; the first version where there is none
+abbrev pub start_at : List ℕ → Option (List ℕ × List ℕ) → Option (ℕ × Version)
+start_at text None = option_map (λ id. (id, One)) (id_in text)
+start_at text (Some words) = pair_of (id_in words.0) (version_in words.1)
+
+abbrev pub start_in : List ℕ → Option (ℕ × Version)
+start_in text = start_at text (first_word text)
+
 -- nothing more is to be told
 abbrev pub face_in : List ℕ → Option LineValue
 face_in [] = Some Face
@@ -58,7 +72,8 @@ face_in (_ ∷ _) = None
 -- the line of a kind that takes neither bytes nor an act, by what follows its head
 abbrev pub plain_in : Kind → List ℕ → Option LineValue
 plain_in kind.Session text = option_map (λ p. Session p.0 p.1.0 p.1.1) (two_in id_in (two_in short_in short_in) text)
-plain_in kind.Start text = option_map (λ p. Start p.0 p.1) (two_in slot_in id_in text)
+plain_in kind.Start text = option_map (λ p. Start p.0 p.1.0 p.1.1) (two_in slot_in start_in text)
+plain_in kind.Watch text = option_map (λ p. Watch p.0 p.1) (two_in slot_in id_in text)
 plain_in kind.PaneBytes text = None
 plain_in kind.Typed text = None
 plain_in kind.ServerTick text = option_map ServerTick (long_in text)

@@ -2,12 +2,15 @@
 use Rattle.std.specs.Prelude.{ℕ, ◌<◌, ◌^◌, List}
 use Rattle.roam_acts.specs.declared.acts.Act.{Act}
 use Rattle.roam_acts.specs.Acts.{IsAct}
+use Rattle.roam_wire.specs.declared.versions.Version.{Version}
 
 pub data LineValue : Type 0 where
   -- a session begins, of this id and size
   Session : (id : ℕ) → (rows : ℕ) → (cols : ℕ) → LineValue
-  -- a client starts in a slot, under an id
-  Start : (slot : ℕ) → (id : ℕ) → LineValue
+  -- a client of a version starts in a slot, under an id
+  Start : (slot : ℕ) → (id : ℕ) → (version : Version) → LineValue
+  -- a client that only watches starts in a slot, under an id
+  Watch : (slot : ℕ) → (id : ℕ) → LineValue
   -- bytes come from a pane's program
   PaneBytes : (pane : ℕ) → (bytes : List ℕ) → LineValue
   -- an act is typed at the start in a slot
@@ -30,7 +33,8 @@ pub data LineValue : Type 0 where
 -- a line's numbers are in their ranges: slots 0 to 7, panes of 8 bits, sizes and ports of 16, ids, numbers and moments of 64
 abbrev pub IsLine : LineValue → Type 0
 IsLine (Session id rows cols) = (id < 2 ^ 64) × (rows < 2 ^ 16) × (cols < 2 ^ 16)
-IsLine (Start slot id) = (slot < 8) × (id < 2 ^ 64)
+IsLine (Start slot id version) = (slot < 8) × (id < 2 ^ 64)
+IsLine (Watch slot id) = (slot < 8) × (id < 2 ^ 64)
 IsLine (PaneBytes pane bytes) = pane < 2 ^ 8
 IsLine (Typed slot act) = (slot < 8) × IsAct act
 IsLine (ServerTick now) = now < 2 ^ 64

@@ -7,6 +7,7 @@ ghost use Rattle.roam_script.specs.Kinds.{head_of, headed_in, kinds};
 pub(crate) enum Kind {
     Session,
     Start,
+    Watch,
     PaneBytes,
     Typed,
     ServerTick,
@@ -20,9 +21,10 @@ pub(crate) enum Kind {
 }
 
 // Every kind.
-static KINDS: [Kind; 12] = [
+static KINDS: [Kind; 13] = [
     Kind::Session,
     Kind::Start,
+    Kind::Watch,
     Kind::PaneBytes,
     Kind::Typed,
     Kind::ServerTick,
@@ -43,6 +45,7 @@ impl Kind {
         match self {
             Kind::Session => "session ",
             Kind::Start => "start ",
+            Kind::Watch => "watch ",
             Kind::PaneBytes => "pane ",
             Kind::Typed => "type ",
             Kind::ServerTick => "stick ",

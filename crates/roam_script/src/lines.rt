@@ -4,7 +4,7 @@ ghost use Rattle.std.specs.Option.{option_map};
 ghost use Rattle.roam_script.specs.Values.{LineValue, IsLine};
 ghost use Rattle.roam_script.specs.Lines.{Says, value_of};
 ghost use Rattle.roam_script.specs.Skipped.{is_skipped};
-ghost use Rattle.roam_script.specs.Reading.{bytes_in, plain_in};
+ghost use Rattle.roam_script.specs.Reading.{bytes_in, plain_in, start_in, version_in};
 ghost use Rattle.roam_script.specs.Told.{IsRead};
 
 use crate::kinds::Kind;
@@ -14,6 +14,7 @@ use hex::FromHexError;
 use roam_acts::laws::one_act_a_line;
 use roam_acts::{Act, read_act};
 use roam_numbers::id;
+use roam_wire::Version;
 use std::alloc::Global;
 use thiserror::Error;
 
@@ -23,8 +24,11 @@ pub enum Line {
     /// A session begins: its id, rows and columns.
     Session(u64, u16, u16),
 
-    /// A client starts in a slot, under an id.
-    Start(u8, u64),
+    /// A client of a version starts in a slot, under an id.
+    Start(u8, u64, Version),
+
+    /// A client that only watches starts in a slot, under an id.
+    Watch(u8, u64),
 
     /// Bytes come from the program of a pane.
     PaneBytes(u8, Vec<u8>),
@@ -89,12 +93,43 @@ fn session(text: &[u8]) -> Option<Line>
     Some(Line::Session(id, short(rows)?, short(cols)?))
 }
 
+// The version that a text tells.
+fn version(text: &[u8]) -> Option<Version>
+    ensures version { result ≡ version_in text.now }
+{
+    match byte(text)? {
+        1 => Some(Version::One),
+        2 => Some(Version::Two),
+        _ => None,
+    }
+}
+
+// The id and the version of a client's start, the first where none is told.
+fn started(text: &[u8]) -> Option<(u64, Version)>
+    ensures started { result ≡ start_in text.now }
+{
+    match word(text) {
+        None => Some((id(text)?, Version::One)),
+        Some((first, rest)) => Some((id(first)?, version(rest)?)),
+    }
+}
+
 // The line of a client's start.
 fn start(text: &[u8]) -> Option<Line>
     ensures line { option_map value_of result ≡ plain_in Kind.Start text.now }
 {
     let (first, rest) = word(text)?;
-    Some(Line::Start(slot(first)?, id(rest)?))
+    let slot = slot(first)?;
+    let (id, version) = started(rest)?;
+    Some(Line::Start(slot, id, version))
+}
+
+// The line of the start of a client that only watches.
+fn watch(text: &[u8]) -> Option<Line>
+    ensures line { option_map value_of result ≡ plain_in Kind.Watch text.now }
+{
+    let (first, rest) = word(text)?;
+    Some(Line::Watch(slot(first)?, id(rest)?))
 }
 
 // The line of a client's tick.
@@ -151,6 +186,7 @@ fn plain(kind: Kind, text: &[u8]) -> Option<Line>
     match kind {
         Kind::Session => session(text),
         Kind::Start => start(text),
+        Kind::Watch => watch(text),
         Kind::ServerTick => Some(Line::ServerTick(long(text)?)),
         Kind::ClientTick => client_tick(text),
         Kind::ToServer => to_server(text),

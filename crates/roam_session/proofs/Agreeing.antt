@@ -12,6 +12,7 @@ use Rattle.roam_layout.specs.declared.rects.Rect.{Rect}
 use Rattle.roam_session.specs.Panes.{Pane, given, moved, is_same_size, fed, keyed, drained, answers}
 use Rattle.roam_session.specs.Stands.{IsOf, Agrees, IsPlaced}
 use Rattle.roam_session.specs.Steps.{IsGiven, IsMoved}
+use Rattle.roam_layout.specs.Layouts.{Plan}
 use Rattle.roam_session.specs.Queues.{IsFed, IsKeyed, IsDrained, Both}
 
 -- ---- rectangles
@@ -26,7 +27,7 @@ moved_of from to old new pane is of = by_size (is_same_size from to) refl
     by_size true e = subst (λ (t : TermView). IsOf t pane) (sym (is.stays e)) of
     by_size false e =
         let fit = is.fitted e in
-        record { shows = fit.sized.stands pane.rows pane.cols 500 pane.log of.shows; waiting = fit.waiting ∙ of.waiting }
+        record { shows = fit.stands pane.rows pane.cols 500 pane.log of.shows; waiting = fit.waiting ∙ of.waiting }
 
 pub agrees_given : (from to : Option Rect) (old new : Option TermView) (pane : Option Pane) → IsGiven from to old new → Agrees old pane
     → Agrees new (given from to pane)
@@ -85,19 +86,20 @@ agrees_both rule change does (Some old) None pane both of = absurd both
 agrees_both rule change does (Some old) (Some new) None both of = absurd of
 agrees_both rule change does (Some old) (Some new) (Some pane) both of = does old new pane both of
 
-drop-front : {A : Type 0} (xs ys : List A) → drop (length xs) (xs ++ ys) ≡ ys
+pub drop-front : {A : Type 0} (xs ys : List A) → drop (length xs) (xs ++ ys) ≡ ys
 drop-front [] ys = refl
 drop-front (x ∷ xs) ys = drop-front xs ys
 
-pub does_fed : (bytes : List ℕ) → Does' (IsFed bytes) (fed bytes)
-does_fed bytes old new pane is of =
+pub does_fed : (bytes : List ℕ) (plan : Plan) (p : ℕ) (before after : List Bool) → Does' (IsFed bytes plan p before after) (fed bytes)
+does_fed bytes plan p before after old new pane is of =
     let gains = is.fed.gains pane.rows pane.cols 500 pane.log of.shows in
-    let before = reports pane.rows pane.cols 500 pane.log in
-    let more : answers pane bytes ≡ gains.more = ap (drop (length before)) gains.answers ∙ drop-front before gains.more in
-    record {
-      shows = is.fed.stands pane.rows pane.cols 500 pane.log of.shows;
+    let mid = is.fed.stands pane.rows pane.cols 500 pane.log of.shows in
+    let told = reports pane.rows pane.cols 500 pane.log in
+    let more : answers pane bytes ≡ gains.more = ap (drop (length told)) gains.answers ∙ drop-front told gains.more in
+    subst (λ (t : TermView). IsOf t (fed bytes pane)) (sym is.quiet) (record {
+      shows = record { reads = mid.reads; live = mid.live; history = mid.history };
       waiting = gains.queue ∙ (λ i. of.waiting i ++ sym more i);
-    }
+    })
 
 pub does_keyed : (key : Key) → Does' (IsKeyed key) (keyed key)
 does_keyed key old new pane is of =

@@ -23,43 +23,49 @@ use Rattle.roam_session.specs.declared.steps.Step.{Step}
 use Rattle.roam_session.specs.Queues.{ChangesAt, Both, IsFed, IsKeyed, IsDrained, key_refused}
 use Rattle.roam_session.proofs.Logs.{session-append}
 use Rattle.roam_session.proofs.Agreeing.{agrees_given, placed_given, agrees_both, Does', does_fed, does_keyed, does_drained}
+use Rattle.roam_session.specs.Lives.{CountsLives}
+use Rattle.roam_session.proofs.Living.{counted_more, counts_kept, first_lives, counted_first}
 use Rattle.roam_session.proofs.Rectangles.{none_above}
 use Rattle.roam_session.proofs.Busyness.{never_busy}
 
 -- a session stands for a log with one entry more where it agrees with what the entry makes
-stands_after : (s : SessionView) (size : SessionSize) (log : List Entry) (entry : Entry) (now : SessionState)
-    → session size (log ++ entry ∷ []) ≡ now → s.plan ≡ now.plan → ((k : ℕ) → Agrees (term_at s.terms k) (now.pane k))
-    → Stands s size (log ++ entry ∷ [])
-stands_after s size log entry now e plan panes =
+stands_after : (s t : SessionView) (size : SessionSize) (log : List Entry) (entry : Entry) (now : SessionState) → Stands s size log
+    → session size (log ++ entry ∷ []) ≡ now → t.plan ≡ now.plan → ((k : ℕ) → Agrees (term_at t.terms k) (now.pane k))
+    → CountsLives s.plan t.plan s.lives t.lives → Stands t size (log ++ entry ∷ [])
+stands_after s t size log entry now h e plan panes lives =
+    let after = plan ∙ ap (λ (x : SessionState). x.plan) (sym e) in
     record {
-      plan = plan ∙ ap (λ (x : SessionState). x.plan) (sym e);
-      panes = λ k. subst (λ (x : SessionState). Agrees (term_at s.terms k) (x.pane k)) (sym e) (panes k);
+      plan = after;
+      panes = λ k. subst (λ (x : SessionState). Agrees (term_at t.terms k) (x.pane k)) (sym e) (panes k);
+      lives = counted_more s t size log entry h after lives;
     }
 
 -- ---- layout commands
 
 pub stands_laid : (s t : SessionView) (client : ℕ) (act : Act) → key_in act ≡ None → laid s.plan act ≡ Laid t.plan
     → ((k : ℕ) → IsGiven (rect_in k (panes s.plan)) (rect_in k (panes t.plan)) (term_at s.terms k) (term_at t.terms k))
+    → CountsLives s.plan t.plan s.lives t.lives
     → (size : SessionSize) (log : List Entry) → Stands s size log → Stands t size (log ++ Did client act ∷ [])
-stands_laid s t client act no_key e are size log h =
+stands_laid s t client act no_key e are lives size log h =
     let d = session size log in
     let now : SessionState = record { plan = t.plan; pane = panes_given s.plan t.plan d.pane } in
-    stands_after t size log (Did client act) now
+    stands_after s t size log (Did client act) now h
     (session-append size log (Did client act) ∙ ap (λ o. acted o act d) no_key ∙ ap (λ p. laid_out (laid p act) d) (sym h.plan)
     ∙ ap (λ o. laid_out o d) e
     ∙ (λ i. record { plan = t.plan; pane = panes_given (sym h.plan i) t.plan d.pane }))
     refl
     (λ k. agrees_given (rect_in k (panes s.plan)) (rect_in k (panes t.plan)) (term_at s.terms k) (term_at t.terms k) (d.pane k) (are k)
     (h.panes k))
+    lives
 
 pub stands_refused : (s : SessionView) (client : ℕ) (act : Act) (fault : Fault) → key_in act ≡ None → laid s.plan act ≡ Refused fault
     → (size : SessionSize) (log : List Entry) → Stands s size log → Stands s size (log ++ Did client act ∷ [])
 stands_refused s client act fault no_key e size log h =
     let d = session size log in
-    stands_after s size log (Did client act) d
+    stands_after s s size log (Did client act) d h
     (session-append size log (Did client act) ∙ ap (λ o. acted o act d) no_key ∙ ap (λ p. laid_out (laid p act) d) (sym h.plan)
     ∙ ap (λ o. laid_out o d) e)
-    h.plan h.panes
+    h.plan h.panes (counts_kept s s size log h refl refl)
 
 -- what was prepared and then done gives each number what its rectangles ask
 pub brought : (before : List (ℕ × Rect)) (new : Plan) (xs ys : List (ℕ × Rect)) (ts zs us : List (Option TermView)) (steps : List Step)
@@ -95,16 +101,18 @@ none_agrees : (o : Option TermView) → o ≡ None → Agrees o None
 none_agrees o e = subst (λ (t : Option TermView). Agrees t None) (sym e) tt
 
 pub stands_first : (s : SessionView) (size : SessionSize) (ts : List (Option TermView)) → s.plan ≡ start size.rows size.cols
-    → ((k : ℕ) → term_at ts k ≡ None) → ((k : ℕ) → IsGiven None (rect_in k (panes s.plan)) (term_at ts k) (term_at s.terms k))
+    → s.lives ≡ first_lives → ((k : ℕ) → term_at ts k ≡ None)
+    → ((k : ℕ) → IsGiven None (rect_in k (panes s.plan)) (term_at ts k) (term_at s.terms k))
     → Stands s size []
 unfolding session
-stands_first s size ts plan none are =
+stands_first s size ts plan lives none are =
     record {
       plan = plan;
       panes = λ k.
           subst (λ (x : Plan). Agrees (term_at s.terms k) (given None (rect_in k (panes x)) None)) plan
           (agrees_given None (rect_in k (panes s.plan)) (term_at ts k) (term_at s.terms k) None (are k)
           (none_agrees (term_at ts k) (none k)));
+      lives = counted_first s size lives;
     }
 
 -- ---- calls on one pane
@@ -122,30 +130,32 @@ agrees_at p rule change does ts us changes pane of k = by_number (eqb k p) refl
     by_number false e =
         subst (λ (t : Option TermView). Agrees t (pane k)) (sym (changes.others k (λ same. false≢true (sym e ∙ eq-eqb k p same)))) (of k)
 
-pub stands_fed : (s t : SessionView) (p : ℕ) (bytes : List ℕ) → t.plan ≡ s.plan → ChangesAt p (IsFed bytes) s.terms t.terms
+pub stands_fed : (s t : SessionView) (p : ℕ) (bytes : List ℕ) (plan : Plan) (before after : List Bool) → t.plan ≡ s.plan
+    → t.lives ≡ s.lives → ChangesAt p (IsFed bytes plan p before after) s.terms t.terms
     → (size : SessionSize) (log : List Entry) → Stands s size log → Stands t size (log ++ Given p bytes ∷ [])
-stands_fed s t p bytes plan changes size log h =
+stands_fed s t p bytes layout before after plan lives changes size log h =
     let d = session size log in
-    stands_after t size log (Given p bytes) (at_pane p (fed bytes) d) (session-append size log (Given p bytes)) (plan ∙ h.plan)
-    (agrees_at p (IsFed bytes) (fed bytes) (does_fed bytes) s.terms t.terms changes d.pane h.panes)
+    stands_after s t size log (Given p bytes) (at_pane p (fed bytes) d) h (session-append size log (Given p bytes)) (plan ∙ h.plan)
+    (agrees_at p (IsFed bytes layout p before after) (fed bytes) (does_fed bytes layout p before after) s.terms t.terms changes d.pane h.panes)
+    (counts_kept s t size log h plan lives)
 
-pub stands_drained : (s t : SessionView) (p n : ℕ) → t.plan ≡ s.plan → ChangesAt p (IsDrained n) s.terms t.terms
+pub stands_drained : (s t : SessionView) (p n : ℕ) → t.plan ≡ s.plan → t.lives ≡ s.lives → ChangesAt p (IsDrained n) s.terms t.terms
     → (size : SessionSize) (log : List Entry) → Stands s size log → Stands t size (log ++ Drained p n ∷ [])
-stands_drained s t p n plan changes size log h =
+stands_drained s t p n plan lives changes size log h =
     let d = session size log in
-    stands_after t size log (Drained p n) (at_pane p (drained n) d) (session-append size log (Drained p n)) (plan ∙ h.plan)
-    (agrees_at p (IsDrained n) (drained n) (does_drained n) s.terms t.terms changes d.pane h.panes)
+    stands_after s t size log (Drained p n) (at_pane p (drained n) d) h (session-append size log (Drained p n)) (plan ∙ h.plan)
+    (agrees_at p (IsDrained n) (drained n) (does_drained n) s.terms t.terms changes d.pane h.panes) (counts_kept s t size log h plan lives)
 
 pub stands_keyed : (s t : SessionView) (client : ℕ) (act : Act) (key : Key) → key_in act ≡ Some key → t.plan ≡ s.plan
-    → ChangesAt s.plan.focus (IsKeyed key) s.terms t.terms
+    → t.lives ≡ s.lives → ChangesAt s.plan.focus (IsKeyed key) s.terms t.terms
     → (size : SessionSize) (log : List Entry) → Stands s size log → Stands t size (log ++ Did client act ∷ [])
-stands_keyed s t client act key is plan changes size log h =
+stands_keyed s t client act key is plan lives changes size log h =
     let d = session size log in
     let f = s.plan.focus in
-    stands_after t size log (Did client act) (at_pane f (keyed key) d)
+    stands_after s t size log (Did client act) (at_pane f (keyed key) d) h
     (session-append size log (Did client act) ∙ ap (λ o. acted o act d) is ∙ ap (λ (x : Plan). at_pane x.focus (keyed key) d) (sym h.plan))
     (plan ∙ h.plan)
-    (agrees_at f (IsKeyed key) (keyed key) (does_keyed key) s.terms t.terms changes d.pane h.panes)
+    (agrees_at f (IsKeyed key) (keyed key) (does_keyed key) s.terms t.terms changes d.pane h.panes) (counts_kept s t size log h plan lives)
 
 -- ---- what waits
 
@@ -195,6 +205,10 @@ pub on_errors : {A E : Type 0} (r : Result A E) (P Q : E → Type 0) (R : Type 0
 on_errors (Ok x) P Q R f p q = tt
 on_errors (Err e) P Q R f p q = f e p q
 
+pub on_three : {A E : Type 0} (r : Result A E) (P Q S R : Type 0) → (P → Q → S → R) → OnOk r P → OnOk r Q → OnOk r S → OnOk r R
+on_three (Ok x) P Q S R f p q s = f p q s
+on_three (Err e) P Q S R f p q s = tt
+
 -- what holds anyway holds of each answer
 pub on_any : {A E : Type 0} (r : Result A E) (P : Type 0) → P → OnOk r P
 on_any (Ok x) P p = p
@@ -215,3 +229,14 @@ not_busy (Err f) plan act why e =
       | inl memory ↦ let no : Busy ≡ OutOfMemory = sym busy ∙ memory in cc
       | inr refused ↦ never_busy plan act (refused ∙ ap Refused busy)
     ]
+
+-- and no key finds no memory
+pub never_wants : {A : Type 0} (r : Result A Fault) (key : Key) (t : Option TermView) → fault_of r ≡ key_refused key t
+    → r ≡ Err OutOfMemory → ⊥
+never_wants r key None is e = let no : None ≡ Some OutOfMemory = sym is ∙ ap fault_of e in cc
+never_wants r key (Some t) is e =
+    not_wanted (ltb 65536 (length t.waiting + length (sent (key_modes t.live.modes) key))) (sym is ∙ ap fault_of e)
+  where
+    not_wanted : (v : Bool) → fault_if v ≡ Some OutOfMemory → ⊥
+    not_wanted true h = let no : Busy ≡ OutOfMemory = cc in cc
+    not_wanted false h = cc

@@ -4,7 +4,7 @@ use Rattle.std.specs.Prelude.{slice_index}
 use Rattle.std.proofs.lemmas.Bool.{cases_lt}
 use Rattle.std.proofs.lemmas.List.{get_or_append_left}
 use Rattle.std.proofs.Math.Seq.{get_or-append_seam}
-use Rattle.roam_cells.specs.Screenshot.{Screenshot}
+use Rattle.roam_screens.specs.Screenshot.{Screenshot}
 use Rattle.roam_term.specs.Stands.{TermView}
 use Rattle.roam_layout.specs.Trees.{has}
 use Rattle.roam_layout.specs.Rects.{rect_in}
@@ -15,7 +15,7 @@ use Rattle.roam_layout.specs.declared.rects.Rect.{Rect}
 use Rattle.roam_layout.proofs.Listed.{lists, lists_placed}
 use Rattle.roam_session.specs.Panes.{Pane}
 use Rattle.roam_session.specs.Faces.{picture_at}
-use Rattle.roam_session.specs.Stands.{Agrees, IsPlaced, ArePlaced, term_at}
+use Rattle.roam_session.specs.Stands.{Agrees, IsPlaced, ArePlaced, shown_at, shown_by, term_at}
 use Rattle.roam_session.specs.Pictures.{IsPictureAt, IsPictured}
 use Rattle.roam_session.proofs.Rectangles.{found_by_number, none_above}
 
@@ -56,6 +56,11 @@ shown_of : (o : Option TermView) (r : Rect) (view : ℕ) (shot : Screenshot) (p 
 shown_of None r view shot p placed of is = absurd placed
 shown_of (Some t) r view shot None placed of is = absurd of
 shown_of (Some t) r view shot (Some p) placed of is = is.picture p.rows p.cols 500 p.log of.shows
+
+now_of : (o : Option TermView) (r : Rect) (view : ℕ) (shot : Screenshot) → IsPlaced (Some r) o → IsPictureAt o view shot
+    → shot ≡ shown_at view o
+now_of None r view shot placed is = absurd placed
+now_of (Some t) r view shot placed is = is.now
 
 -- ---- all panes
 
@@ -103,6 +108,19 @@ module _ (s : Plan) (terms : List (Option TermView)) (plan : IsPlan s) (placed :
       let is = each k d e low in
       shown_of (term_at terms x.0) x.1 (slice_index s.views x.0) y.1 (pane x.0) (placed_here k d low) (of x.0) is.picture
       ∙ ap (λ n. picture_at (slice_index s.views n) (pane n)) (sym is.number)
+
+  pub are_shown_now : (ss : List (ℕ × Screenshot)) → length ss ≡ length (panes s)
+      → ((k : ℕ) (d : ℕ × Rect) (e : ℕ × Screenshot) → k < length (panes s) → IsPictured terms s.views (get_or (panes s) k d)
+      (get_or ss k e))
+      → Show (shown_by s terms) ss
+  are_shown_now ss count each k e h =
+      let low : k < length (panes s) = omega (arith, count, h) in
+      let d : ℕ × Rect = (0, area 0 0) in
+      let x = get_or (panes s) k d in
+      let y = get_or ss k e in
+      let is = each k d e low in
+      now_of (term_at terms x.0) x.1 (slice_index s.views x.0) y.1 (placed_here k d low) is.picture
+      ∙ ap (shown_by s terms) (sym is.number)
 
 -- one more picture
 pub pictured_more : (terms : List (Option TermView)) (views : List ℕ) (ps : List (ℕ × Rect)) (ss : List (ℕ × Screenshot))

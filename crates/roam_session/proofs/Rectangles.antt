@@ -37,7 +37,7 @@ none_in p (x ∷ xs) h = ap (λ v. cond v (Some x.1) (rect_in p xs)) h.0 ∙ non
 abbrev HasScreenSize : ℕ × Rect → Type 0
 HasScreenSize x = IsSize x.1.rows x.1.cols
 
-sizes_placed : (t : Shape) (r : Rect) → Fits t r → r.rows ≤ 100 → r.cols ≤ 250 → Each HasScreenSize (placed t r)
+sizes_placed : (t : Shape) (r : Rect) → Fits t r → r.rows ≤ 200 → r.cols ≤ 500 → Each HasScreenSize (placed t r)
 sizes_placed (One p) r fits rows cols = (record { least_rows = fits.0; most_rows = rows; least_columns = fits.1; most_columns = cols }, tt)
 sizes_placed (Two Right g a b) r fits rows cols =
     let n = first_length Right g a b r in

@@ -1,11 +1,11 @@
 -- The face of every session is a screen: each pane of its layout has a terminal of its rectangle's size.
-use Rattle.std.proofs.Common.{◌≡◌, ℕ, suc, ◌+◌, ◌<◌, ◌&&◌, eqb, List, [], ◌∷◌, ◌++◌, map, length, get_or, Option, Some, None, refl, ap, ◌∙◌, subst, arith}
+use Rattle.std.proofs.Common.{◌≡◌, ℕ, suc, ◌<◌, eqb, List, [], ◌∷◌, ◌++◌, map, length, get_or, Option, Some, None, refl, ap, ◌∙◌, subst, arith}
 use Rattle.std.specs.Prelude.{slice_index}
 use Rattle.std.specs.List.{fold}
 use Rattle.std.specs.Option.{option_map}
 use Rattle.std.proofs.lemmas.Bool.{cond_both, and_parts, eqb-true}
 use Rattle.roam_cells.specs.Limits.{IsSize}
-use Rattle.roam_cells.specs.Screenshot.{Screenshot, IsScreenshot}
+use Rattle.roam_screens.specs.Screenshot.{Screenshot, IsScreenshot}
 use Rattle.roam_text.specs.Log.{Item, Byte, Resized}
 use Rattle.roam_acts.specs.declared.acts.Act.{Act}
 use Rattle.roam_keys.specs.declared.keys.Key.{Key}
@@ -24,7 +24,7 @@ use Rattle.roam_session.proofs.Rectangles.{sizes_in, found_by_number}
 
 -- ---- what panes are given
 
-sizes-append : (log more : List Item) → AreSizes log → AreSizes more → AreSizes (log ++ more)
+pub sizes-append : (log more : List Item) → AreSizes log → AreSizes more → AreSizes (log ++ more)
 sizes-append [] more h k = k
 sizes-append (Byte b ∷ log) more h k = sizes-append log more h k
 sizes-append (Resized r c ∷ log) more h k = (h.0, sizes-append log more h.1 k)
@@ -34,7 +34,7 @@ after-append p [] more = refl
 after-append p (Byte b ∷ log) more = after-append p log more
 after-append p (Resized r c ∷ log) more = after-append (r, c) log more
 
-bytes_sizes : (bytes : List ℕ) → AreSizes (map Byte bytes)
+pub bytes_sizes : (bytes : List ℕ) → AreSizes (map Byte bytes)
 bytes_sizes [] = tt
 bytes_sizes (b ∷ bytes) = bytes_sizes bytes
 

@@ -1,6 +1,6 @@
 -- The screen that a session shows: the face of its layout and of the pictures of its panes (this project's profile).
 use Rattle.std.specs.Prelude.{ℕ, List, slice_index, Option, Some, None}
-use Rattle.roam_cells.specs.Screenshot.{Screenshot, blank_screenshot}
+use Rattle.roam_screens.specs.Screenshot.{Screenshot, blank_screenshot}
 use Rattle.roam_term.specs.Picture.{picture}
 use Rattle.roam_layout.specs.Faces.{face as face_of}
 use Rattle.roam_session.specs.Panes.{Pane}

@@ -1,5 +1,7 @@
 pub mod Panes
 pub mod Sessions
+pub mod Marks
+pub mod Lives
 pub mod Refusals
 pub mod Faces
 pub mod Stands

@@ -1,5 +1,5 @@
 -- What calls make of the terminal of one pane, and of the bytes that wait in it.
-use Rattle.std.specs.Prelude.{◌≡◌, ℕ, ◌+◌, ◌≤◌, ◌++◌, nat_lt, min, List, take, drop, length, Option, Some, None, if◌then◌else◌}
+use Rattle.std.specs.Prelude.{◌≡◌, ℕ, ◌+◌, ◌≤◌, ◌++◌, nat_lt, min, Bool, List, take, drop, length, Option, Some, None, if◌then◌else◌}
 use Rattle.roam_cells.specs.declared.faults.Fault.{Fault}
 use Rattle.roam_cells.specs.declared.faults.Fault.TheVariants.{Busy}
 use Rattle.roam_text.specs.Log.{Item}
@@ -7,17 +7,26 @@ use Rattle.roam_keys.specs.declared.keys.Key.{Key}
 use Rattle.roam_keys.specs.Sent.{sent}
 use Rattle.roam_term.specs.Keys.{key_modes}
 use Rattle.roam_term.specs.Stands.{TermView, Shows, Fed, HasSize}
+use Rattle.roam_grid.specs.Marks.{all_off}
+use Rattle.roam_layout.specs.Rects.{rect_in}
+use Rattle.roam_layout.specs.Layouts.{Plan, panes}
+use Rattle.roam_session.specs.Marks.{touched, view_in}
 use Rattle.roam_session.specs.Stands.{term_at}
 
--- a terminal stands for what it stood for, and what lives is the same
+-- a terminal stands for what it stood for, and what lives, the history and the marks are the same
 pub record Keeps (old new : TermView) : Type 0 where
   pub shows : (rows cols lines : ℕ) (log : List Item) → Shows old rows cols lines log → Shows new rows cols lines log
   pub live : new.live ≡ old.live
+  pub history : new.history ≡ old.history
+  pub marks : new.marks ≡ old.marks
 
--- bytes were given to a terminal
-pub record IsFed (bytes : List ℕ) (old new : TermView) : Type 0 where
-  pub fed : Fed old new bytes
-  pub size : HasSize new old.live.screen.rows old.live.screen.cols
+-- bytes were given to the terminal of a pane; the rows that it marked were marked in the session, and its own marks were put off
+pub record IsFed (bytes : List ℕ) (plan : Plan) (p : ℕ) (before after : List Bool) (old new : TermView) : Type 0 where
+  pub read : TermView
+  pub fed : Fed old read bytes
+  pub size : HasSize read old.live.screen.rows old.live.screen.cols
+  pub marks : after ≡ touched (rect_in p (panes plan)) (view_in plan p) plan.rows read.marks before
+  pub quiet : new ≡ record read { marks = all_off }
 
 -- a key's bytes were put behind what waits
 pub record IsKeyed (key : Key) (old new : TermView) : Type 0 where

@@ -1,8 +1,10 @@
 //! Laws of sessions.
 ghost use Rattle.std.specs.Prelude.{◌≡◌, List, [], ◌∷◌, ◌++◌};
-ghost use Rattle.roam_cells.specs.Screenshot.{IsScreenshot};
+ghost use Rattle.roam_screens.specs.Screenshot.{IsScreenshot};
 ghost use Rattle.roam_layout.specs.Layouts.{IsSessionSize};
 ghost use Rattle.roam_session.specs.Faces.{face};
+ghost use Rattle.roam_session.specs.Lives.{LivesAreCounted, LivesLast};
+ghost use Rattle.roam_session.specs.Marks.{MarksAreAdded};
 ghost use Rattle.roam_session.specs.Sessions.{SessionSize, Entry, session, after_entry};
 
 /// A log makes of a session what its entries make one after another.
@@ -14,4 +16,15 @@ pub fn entries_come_one_after_another()
 /// The face of a session is a screen, whatever size of a session it begins with and whatever entries come.
 pub fn faces_are_screens()
     ensures screen { (size : SessionSize) (log : List Entry) → IsSessionSize size.rows size.cols → IsScreenshot (face size log) }
+{}
+
+/// Marks are put on in the same rows whatever was marked before, so that none goes off.
+pub fn marks_are_added()
+    ensures added { MarksAreAdded }
+{}
+
+/// A pane keeps its life while it is there, and each pane that begins adds one to the count of its number.
+pub fn lives_tell_panes_apart()
+    ensures counted { LivesAreCounted }
+    ensures last { LivesLast }
 {}

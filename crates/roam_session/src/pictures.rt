@@ -6,11 +6,12 @@ ghost use Rattle.roam_layout.specs.Faces.{ArePictures, Show};
 ghost use Rattle.roam_layout.specs.declared.rects.Rect.{Rect as RectOfLayout};
 ghost use Rattle.roam_session.specs.Panes.{Pane};
 ghost use Rattle.roam_session.specs.Faces.{picture_at};
-ghost use Rattle.roam_session.specs.Stands.{Agrees, ArePlaced, term_at};
+ghost use Rattle.roam_session.specs.Stands.{Agrees, ArePlaced, shown_by, term_at};
 ghost use Rattle.roam_session.specs.Pictures.{IsPictureAt, IsPictured};
 
-use roam_cells::{Fault, Shot};
+use roam_cells::Fault;
 use roam_layout::Layout;
+use roam_screens::Shot;
 use roam_term::Term;
 use std::alloc::Global;
 
@@ -67,6 +68,7 @@ pub fn pictures(
     ensures sizes { IfOk result (λ shots. ArePictures (panes layout.now) shots.items) }
     ensures show { IfOk result (λ shots. (pane : ℕ → Option Pane) → ((k : ℕ) → Agrees (term_at terms.now k) (pane k))
         → Show (λ k. picture_at (slice_index layout.now.views k) (pane k)) shots.items) }
+    ensures now { IfOk result (λ shots. Show (shown_by layout.now terms.now) shots.items) }
     ensures fault { IsOkUnless result Fault.OutOfMemory }
 {
     layout.facts();

@@ -1,30 +1,69 @@
 //! The terminals of panes by their numbers: what their programs send, and the bytes that wait for them.
-ghost use Rattle.std.specs.Prelude.{◌≡◌, ◌+◌, ◌-◌, ◌≤◌, ◌++◌, ℕ, List, Option, Some, None, length, IfOk, OnOk, OnErr};
+ghost use Rattle.std.specs.Prelude.{◌≡◌, ◌⊎◌, ◌↔◌, ◌+◌, ◌-◌, ◌<◌, ◌≤◌, ◌++◌, ℕ, List, Option, Some, None, length, IfOk, IfErr, IsOk, IsErrOf, OnOk, OnErr};
 ghost use Rattle.std.specs.Option.{option_map};
 ghost use Rattle.roam_session.specs.Refusals.{bytes_refused, none_refused, fault_of};
-ghost use Rattle.roam_session.specs.Stands.{term_at, waiting_at};
+ghost use Rattle.roam_session.specs.Stands.{ArePlaced, IsPlaced, term_at, waiting_at};
+ghost use Rattle.roam_layout.specs.Rects.{rect_in};
+ghost use Rattle.roam_layout.specs.Layouts.{panes};
+ghost use Rattle.roam_term.specs.Stands.{IsAccepted};
 ghost use Rattle.roam_session.specs.Queues.{ChangesAt, IsFed, IsKeyed, IsDrained, IsWithin, IsCopied, key_refused};
 
+use crate::marks::touch_pane;
 use roam_acts::Key;
 use roam_cells::Fault;
+use roam_layout::Layout;
 use roam_term::Term;
 
 /// The most bytes that wait in a pane.
 const MOST_OUTPUT: usize = 65536;
 
-/// Gives a pane bytes of its program. Refuses `NoPane`, `TooLong` and `Busy`, in this order, and takes no memory.
-pub fn feed(terms: &mut Vec<Option<Term>>, pane: u8, piece: &[u8]) -> Result<(), Fault>
-    ensures fault { fault_of result ≡ bytes_refused piece.now (waiting_at terms.old.items pane) }
-    ensures fed { OnOk result (ChangesAt pane (IsFed piece.now) terms.old.items terms.new.items) }
-    ensures err { OnErr result (terms.new.items ≡ terms.old.items) }
+// Gives bytes to the terminal of a pane, and marks the rows that it changes.
+fn read(
+    term: &mut Term,
+    pane: u8,
+    piece: &[u8],
+    layout: &Layout,
+    marks: &mut [bool; 200],
+) -> Result<(), Fault>
+    requires placed { IsPlaced (rect_in pane (panes layout.now)) (Some term.old) }
+    ensures ok { IsOk result ↔ IsAccepted term.old.waiting piece.now }
+    ensures fed { OnOk result (IsFed piece.now layout.now pane marks.old marks.new term.old term.new) }
+    ensures err { OnErr result (term.new ≡ term.old) }
+    ensures same { OnErr result (marks.new ≡ marks.old) }
+    ensures too_long { IsErrOf result Fault.TooLong ↔ (1024 < length piece.now) }
+    ensures faults { IfErr result (λ e. (e ≡ Fault.TooLong) ⊎ (e ≡ Fault.Busy)) }
 {
-    let pane = usize::from(pane);
-    if terms.len() <= pane {
+    match term.feed(piece) {
+        Ok(()) => {
+            touch_pane(marks, layout, pane, term);
+            term.clear_marks();
+            Ok(())
+        }
+        Err(fault) => Err(fault),
+    }
+}
+
+/// Gives a pane bytes of its program. Refuses `NoPane`, `TooLong` and `Busy`, in this order, and takes no memory.
+pub fn feed(
+    terms: &mut Vec<Option<Term>>,
+    pane: u8,
+    piece: &[u8],
+    layout: &Layout,
+    marks: &mut [bool; 200],
+) -> Result<(), Fault>
+    requires placed { ArePlaced layout.now terms.old.items }
+    ensures fault { fault_of result ≡ bytes_refused piece.now (waiting_at terms.old.items pane) }
+    ensures fed { OnOk result (ChangesAt pane (IsFed piece.now layout.now pane marks.old marks.new) terms.old.items terms.new.items) }
+    ensures err { OnErr result (terms.new.items ≡ terms.old.items) }
+    ensures same { OnErr result (marks.new ≡ marks.old) }
+{
+    let number = usize::from(pane);
+    if terms.len() <= number {
         return Err(Fault::NoPane);
     }
-    match &mut terms[pane] {
+    match &mut terms[number] {
         None => Err(Fault::NoPane),
-        Some(term) => term.feed(piece),
+        Some(term) => read(term, pane, piece, layout, marks),
     }
 }
 

@@ -1,5 +1,5 @@
 //! A session.
-ghost use Rattle.std.specs.Prelude.{◌≡◌, ◌≢◌, ◌≤◌, ◌-◌, ◌⊎◌, ◌↔◌, ℕ, List, [], Option, Some, None, true, length, IfOk, IfErr, OnOk, OnErr, IsErrOf, IsOkUnless};
+ghost use Rattle.std.specs.Prelude.{◌≡◌, ◌≢◌, ◌≤◌, ◌-◌, ◌⊎◌, ◌↔◌, ℕ, List, [], Option, Some, None, true, length, take, IfOk, IfErr, OnOk, OnErr, IsErrOf, IsOkUnless};
 ghost use Rattle.std.specs.Option.{option_map};
 ghost use Rattle.roam_acts.specs.Acts.{IsInRange};
 ghost use Rattle.roam_layout.specs.Rects.{rect_in};
@@ -7,16 +7,23 @@ ghost use Rattle.roam_layout.specs.Layouts.{IsSessionSize, Laid, Refused, laid, 
 ghost use Rattle.roam_session.specs.Sessions.{SessionSize, Entry, Given, Did, Drained, key_in};
 ghost use Rattle.roam_session.specs.Refusals.{refuses_bytes, output_at, stops, none_refused, fault_of};
 ghost use Rattle.roam_session.specs.Faces.{face};
-ghost use Rattle.roam_session.specs.Stands.{Stands, Appends, term_at, waiting_at};
+ghost use Rattle.roam_session.specs.Stands.{Stands, Appends, KeptIn, MarksRows, face_now, keeping, life_at, term_at, waiting_at};
+ghost use Rattle.roam_session.specs.Lives.{CountsLives, life_of};
+ghost use Rattle.roam_session.specs.Marks.{is_concerned};
+ghost use Rattle.roam_grid.specs.Marks.{all_on, also_marked};
 ghost use Rattle.roam_session.specs.Steps.{IsGiven};
 ghost use Rattle.roam_session.specs.Queues.{ChangesAt, IsKeyed, IsWithin, IsCopied, key_refused};
 
+use crate::faces::{blank_of, face_of};
+use crate::lives::count_lives;
+use crate::marks::mark_laid;
 use crate::pictures::pictures;
-use crate::queues;
 use crate::steps::{perform, prepare};
+use crate::{lives, queues};
 use roam_acts::{Act, Key};
-use roam_cells::{Fault, Shot};
-use roam_layout::{Layout, face};
+use roam_cells::Fault;
+use roam_layout::Layout;
+use roam_screens::RowShot;
 use roam_term::Term;
 use std::alloc::Global;
 use std::marker::Model;
@@ -26,6 +33,9 @@ use std::marker::Model;
 pub struct Session {
     layout: Layout,
     terms: Vec<Option<Term>>,
+    marks: [bool; 200],
+    kept: RowShot,
+    lives: [u64; 10],
 }
 
 impl Model for Session {
@@ -37,9 +47,10 @@ impl Model for Session {
 
     ghost coded = { Prim.hlevel (codes, plan_code) };
 
-    ghost view = { λ s. record { plan = s.layout; terms = s.terms.items } };
+    ghost view = { λ s. record { plan = s.layout; terms = s.terms.items; marks = s.marks; kept = s.kept; lives = s.lives } };
 
-    ghost invariant = { λ s. IsSession (record { plan = s.layout; terms = s.terms.items }) };
+    ghost invariant = { λ s.
+        IsSession (record { plan = s.layout; terms = s.terms.items; marks = s.marks; kept = s.kept; lives = s.lives }) };
 }
 
 // The key of an act by a key.
@@ -66,10 +77,11 @@ fn no_terms(alloc: Global) -> Result<Vec<Option<Term>>, Fault>
 }
 
 impl Session {
-    /// A session of one pane that fills all rows but the last, where nothing has happened; `BadSize` outside 4 to 100 rows or 8 to 250
+    /// A session of one pane that fills all rows but the last, where nothing has happened; `BadSize` outside 4 to 200 rows or 8 to 500
     /// columns.
     pub fn new(alloc: Global, rows: u16, cols: u16) -> Result<Session, Fault>
         ensures stands { IfOk result (λ session. Stands session (record { rows = rows; cols = cols }) []) }
+        ensures marks { IfOk result (λ session. session.marks ≡ all_on) }
         ensures size { OnOk result (IsSessionSize rows cols) }
         ensures bad_size { IsErrOf result Fault.BadSize ↔ (¬ IsSessionSize rows cols) }
         ensures faults { IfErr result (λ fault. (fault ≡ Fault.BadSize) ⊎ (fault ≡ Fault.OutOfMemory)) }
@@ -79,13 +91,23 @@ impl Session {
         let mut terms = no_terms(alloc)?;
         let mut steps = prepare(alloc, &terms, &[], layout.rects())?;
         perform(&mut terms, &mut steps);
-        Ok(Session { layout, terms })
+        let kept = blank_of(alloc, &layout)?;
+        Ok(Session {
+            layout,
+            terms,
+            marks: [true; 200],
+            kept,
+            lives: [0, 1, 0, 0, 0, 0, 0, 0, 0, 0],
+        })
     }
 
     // A key for the pane in focus.
     fn type_key(&mut self, key: &Key) -> Result<(), Fault>
         ensures fault { fault_of result ≡ key_refused key.now (term_at self.old.terms self.old.plan.focus) }
         ensures plan { self.new.plan ≡ self.old.plan }
+        ensures marks { self.new.marks ≡ self.old.marks }
+        ensures kept { self.new.kept ≡ self.old.kept }
+        ensures lives { self.new.lives ≡ self.old.lives }
         ensures keyed { OnOk result (ChangesAt self.old.plan.focus (IsKeyed key.now) self.old.terms self.new.terms) }
         ensures err { OnErr result (self.new ≡ self.old) }
     {
@@ -99,7 +121,11 @@ impl Session {
         ensures given { OnOk result ((k : ℕ)
             → IsGiven (rect_in k (panes self.old.plan)) (rect_in k (panes self.new.plan))
             (term_at self.old.terms k) (term_at self.new.terms k)) }
+        ensures marks { OnOk result (self.new.marks ≡ also_marked (is_concerned act.now self.old.plan self.new.plan) self.old.marks) }
+        ensures kept { self.new.kept ≡ self.old.kept }
+        ensures lives { OnOk result (CountsLives self.old.plan self.new.plan self.old.lives self.new.lives) }
         ensures refused { IfErr result (λ fault. (fault ≡ Fault.OutOfMemory) ⊎ (laid self.old.plan act.now ≡ Refused fault)) }
+        ensures exact { (fault : Fault) → laid self.old.plan act.now ≡ Refused fault → IsErrOf result fault }
         ensures err { OnErr result (self.new ≡ self.old) }
     {
         let next = self.layout.after(alloc, act)?;
@@ -107,6 +133,8 @@ impl Session {
         next.facts();
         let mut steps = prepare(alloc, &self.terms, self.layout.rects(), next.rects())?;
         perform(&mut self.terms, &mut steps);
+        mark_laid(&mut self.marks, act, &self.layout, &next);
+        count_lives(&mut self.lives, &self.layout, &next);
         self.layout = next;
         Ok(())
     }
@@ -115,19 +143,23 @@ impl Session {
     /// 1,024 bytes, and `Busy` where the pane's queue hasn't 12 free bytes for each; a refusal changes nothing. It takes no memory.
     pub fn pane_bytes(&mut self, pane: u8, piece: &[u8]) -> Result<(), Fault>
         ensures given { OnOk result (Appends self.old self.new (Given pane piece.now)) }
+        ensures marks { OnOk result (MarksRows self.old self.new (Given pane piece.now)) }
         ensures fault { (size : SessionSize) (log : List Entry)
             → Stands self.old size log → fault_of result ≡ refuses_bytes size log pane piece.now }
         ensures err { OnErr result (self.new ≡ self.old) }
     {
-        queues::feed(&mut self.terms, pane, piece)
+        self.layout.facts();
+        queues::feed(&mut self.terms, pane, piece, &self.layout, &mut self.marks)
     }
 
     /// An act of a client. A key's bytes wait for the pane in focus, or are refused as `Busy` where they don't fit. A layout command
     /// brings each terminal to its new size; refused as `BadSize`, `TooSmall`, `NoPane`, `PanesFull` or `LastPane` it is done with no
-    /// effect. `Busy` and `OutOfMemory` change nothing.
+    /// effect. `Busy` and `OutOfMemory` change nothing; a key takes no memory, and no act that the
+    /// layout refuses wants any.
     pub fn act(&mut self, alloc: Global, client: u64, act: &Act) -> Result<(), Fault>
         requires in_range { IsInRange act.now }
         ensures done { OnOk result (Appends self.old self.new (Did client act.now)) }
+        ensures marks { OnOk result (MarksRows self.old self.new (Did client act.now)) }
         ensures laid { OnOk result (laid self.old.plan act.now ≡ Laid self.new.plan) }
         ensures refused { IfErr result (λ fault. fault ≢ Fault.OutOfMemory → fault ≢ Fault.Busy
             → Appends self.old self.new (Did client act.now)) }
@@ -135,6 +167,8 @@ impl Session {
             → Stands self.old size log → (fault_of result ≡ Some Fault.Busy) ↔ (stops size log act.now ≡ true) }
         ensures faults { IfErr result (λ fault. (fault ≡ Fault.OutOfMemory) ⊎ (fault ≡ Fault.Busy)
             ⊎ (laid self.old.plan act.now ≡ Refused fault)) }
+        ensures exact { (fault : Fault) → laid self.old.plan act.now ≡ Refused fault → IsErrOf result fault }
+        ensures keys { IsErrOf result Fault.OutOfMemory → key_in act.now ≡ None }
         ensures err { OnErr result (self.new ≡ self.old) }
     {
         match key_in(act) {
@@ -143,14 +177,47 @@ impl Session {
         }
     }
 
-    /// The screen that the session shows: its panes at their views, the borders between them, and the status text. Refuses want of memory.
-    pub fn face(&self, alloc: Global) -> Result<Shot, Fault>
+    /// The screen that the session shows: its panes at their views, the borders between them, and the status text. Its marked rows are
+    /// built, the others are those of the face that was kept. Refuses want of memory.
+    pub fn face(&self, alloc: Global) -> Result<RowShot, Fault>
         ensures face { IfOk result (λ shot. (size : SessionSize) (log : List Entry)
             → Stands self.now size log → shot ≡ face size log) }
+        ensures now { IfOk result (λ shot. shot ≡ face_now self.now) }
         ensures fault { IsOkUnless result Fault.OutOfMemory }
     {
+        self.layout.facts();
         let shots = pictures(alloc, &self.layout, &self.terms)?;
-        face(alloc, &self.layout, &shots)
+        face_of(alloc, &self.layout, &shots, &self.kept, &self.marks)
+    }
+
+    /// For each row of the session, from 0, whether it may show something else than in the face that was kept; all at first. It takes no
+    /// memory.
+    pub fn marks(&self) -> &[bool]
+        ensures marks { result.now ≡ take self.now.plan.rows self.now.marks }
+        ensures len { length result.now ≡ self.now.plan.rows }
+        ensures kept { (size : SessionSize) (log : List Entry) → Stands self.now size log
+            → KeptIn self.now.kept (face size log) self.now.plan.rows result.now }
+    {
+        self.layout.facts();
+        &self.marks[..usize::from(self.layout.rows())]
+    }
+
+    /// Keeps the face as it is now, and puts all marks off. It takes no memory.
+    pub fn keep(&mut self, shot: RowShot)
+        requires face { shot ≡ face_now self.old }
+        ensures kept { self.new ≡ keeping shot self.old }
+    {
+        self.marks = [false; 200];
+        self.kept = shot;
+    }
+
+    /// Which making of a pane of this number is there, counted from 1 modulo 2^64; `None` where no such pane is there. It takes no memory.
+    pub fn life(&self, pane: u8) -> Option<u64>
+        ensures life { result ≡ life_at self.now pane }
+        ensures stands { (size : SessionSize) (log : List Entry)
+            → Stands self.now size log → life_at self.now pane ≡ life_of size log pane }
+    {
+        lives::life(&self.terms, &self.lives, pane)
     }
 
     /// How many bytes wait in a pane that is there.
@@ -188,6 +255,7 @@ impl Session {
     pub fn drain(&mut self, pane: u8, n: usize) -> Result<(), Fault>
         requires within { IsWithin n (waiting_at self.old.terms pane) }
         ensures drained { OnOk result (Appends self.old self.new (Drained pane n)) }
+        ensures marks { OnOk result (MarksRows self.old self.new (Drained pane n)) }
         ensures fault { (size : SessionSize) (log : List Entry)
             → Stands self.old size log → fault_of result ≡ none_refused (output_at size log pane) }
         ensures err { OnErr result (self.new ≡ self.old) }

@@ -3,7 +3,7 @@ use Rattle.std.proofs.Common.{◌≡◌, ℕ, suc, ◌+◌, ◌<◌, List, [], �
 use Rattle.std.proofs.lemmas.List.{take_more}
 use Rattle.std.proofs.lemmas.Str.{encodes-append}
 use Rattle.roam_cells.specs.Glyph.{Glyph}
-use Rattle.roam_cells.specs.Screenshot.{row_text}
+use Rattle.roam_screens.specs.Screenshot.{row_text}
 use Rattle.roam_text.specs.Log.{Byte}
 use Rattle.roam_show.specs.ShowText.{first_rows, row_line}
 

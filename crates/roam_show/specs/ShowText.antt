@@ -2,7 +2,7 @@
 use Rattle.std.specs.Prelude.{ℕ, zero, suc, List, [], ◌∷◌, ◌++◌, map, codes, decimal, encode_utf8_all, if◌then◌else◌}
 use Rattle.hex.specs.Hex.{encode_lower}
 use Rattle.roam_cells.specs.Glyph.{Glyph}
-use Rattle.roam_cells.specs.Screenshot.{Screenshot, row_text}
+use Rattle.roam_screens.specs.Screenshot.{Screenshot, row_text}
 use Rattle.roam_text.specs.Log.{Byte}
 use Rattle.roam_term.specs.Terminal.{reports}
 use Rattle.roam_term.specs.Picture.{picture}

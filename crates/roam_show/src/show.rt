@@ -6,8 +6,9 @@ ghost use Rattle.roam_term.specs.Terminal.{reports};
 ghost use Rattle.roam_term.specs.Stands.{Shows, IsTermSize};
 ghost use Rattle.roam_show.specs.ShowText.{row_line, screen_text, output_line, show_text};
 
-use roam_cells::{Fault, Shot};
+use roam_cells::Fault;
 use roam_faults::RunFault;
+use roam_screens::{Seen, row_text};
 use roam_term::laws::nothing_read_answers_nothing;
 use roam_term::{MOST_LINES, MOST_PIECE, Term};
 use std::alloc::{AllocError, Global};
@@ -71,12 +72,12 @@ fn push_row(text: &mut String, row: &[char]) -> Result<(), AllocError>
 }
 
 /// Adds the text of a screen: each row between bars, then the cursor's line, from row and column 1. `OutOfMemory`.
-pub fn push_screen(alloc: Global, text: &mut String, shot: &Shot) -> Result<(), Fault>
-    ensures text { OnOk result (string_bytes text.new ≡ string_bytes text.old ++ screen_text shot.now) }
+pub fn push_screen<S: Seen>(alloc: Global, text: &mut String, shot: &S) -> Result<(), Fault>
+    ensures text { OnOk result (string_bytes text.new ≡ string_bytes text.old ++ screen_text (S.screen shot.now)) }
     ensures fault { IsOkUnless result Fault.OutOfMemory }
 {
     for row in 0..shot.rows() {
-        let chars = shot.row_text(alloc, row)?;
+        let chars = row_text(alloc, shot, row)?;
         push_row(text, &chars)?;
     }
     let (row, col) = shot.cursor();

@@ -58,8 +58,8 @@ shows_session v w st screens acts =
         subst (λ (x : ClientView). x.receiver.newest.number ≤ length w.server.cuts) (sym f) (screens.made id)
 
     same : (c : ClientView) (o : Option ℕ) → Fills w.server.session w.clients (Some c) o
-        → c.receiver.newest.state ≡ screen w.server.size w.server.log w.server.cuts c.receiver.newest.number
+        → c.receiver.newest.state ≡ screen c.version w.server.size w.server.log w.server.cuts c.receiver.newest.number
     same c None f = absurd f
     same c (Some id) f =
         subst (λ (x : ClientView). x.receiver.newest.state
-        ≡ screen w.server.size w.server.log w.server.cuts x.receiver.newest.number) (sym f) (screens.same id)
+        ≡ screen x.version w.server.size w.server.log w.server.cuts x.receiver.newest.number) (sym f) (screens.same id)

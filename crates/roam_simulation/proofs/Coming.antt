@@ -116,10 +116,10 @@ steps_come v w n from now bytes result view st l one known comes = go comes
               stands_served v w view (after_acts w.server d from (moment w.server now) (w.server.records d.client).gathering u
               (room_for w.server d u)) st refl stands;
         }
-    go (server.no_memory_at_act d g said u k text c says room low e stands) =
+    go (server.no_memory_at_act d g said u k text c says low e stands) =
         record {
           left = with_server w (after_acts w.server d from (moment w.server now) (w.server.records d.client).gathering u k);
-          step = no_memory_at_act d g said u k (read d text) c says room low (ap taken_by e) refl;
+          step = no_memory_at_act d g said u k (read d text) c says low (ap taken_by e) refl;
           stands =
               stands_served v w view (after_acts w.server d from (moment w.server now) (w.server.records d.client).gathering u k) st refl
               stands;

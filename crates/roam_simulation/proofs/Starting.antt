@@ -4,9 +4,10 @@ use Rattle.std.specs.Prelude.{nat_eq, ◌||◌}
 use Rattle.std.specs.List.{list_any}
 use Rattle.std.proofs.lemmas.Bool.Decides.{nat_tests}
 use Rattle.roam_world.specs.Lists.{IsIn, put}
+use Rattle.roam_wire.specs.declared.versions.Version.{Version}
 use Rattle.roam_world.specs.Clients.{new_client}
 use Rattle.roam_world.specs.Worlds.{World, Start, Done, Refused, after_start}
-use Rattle.roam_world.specs.Steps.{used, started}
+use Rattle.roam_world.specs.Steps.{used, started, unfit, is_unfit}
 use Rattle.roam_hub.specs.Clients.{ClientView, Stands as ClientStands}
 use Rattle.roam_simulation.specs.Worlds.{WorldView, StartsStand, Stands, Steps}
 use Rattle.roam_simulation.proofs.Slots.{starts_new}
@@ -31,26 +32,32 @@ not_in id (x ∷ ids) e i =
     let p = none_parts (nat_eq x id) (list_any (λ (y : ℕ). nat_eq y id) ids) e in
     elim i [ inl h ↦ (let f = p.0 in let z : ⊥ = grind (arith, nat_tests) in z) | inr h ↦ not_in id ids p.1 h ]
 
-pub steps_used : (v : WorldView) (w : World) (slot id : ℕ) → Stands v w → list_any (λ (x : ℕ). nat_eq x id) v.used ≡ true
-    → Steps w (Start slot id) Refused v
-steps_used v w slot id st e = record { left = w; step = used (st.starts.just id (is_in id v.used e)) refl refl; stands = st }
+pub steps_unfit : (v : WorldView) (w : World) (slot id : ℕ) (version : Version) (watches : Bool) → Stands v w
+    → is_unfit version watches ≡ true → Steps w (Start slot id version watches) Refused v
+steps_unfit v w slot id version watches st e = record { left = w; step = unfit e refl refl; stands = st }
 
-pub steps_started : (v : WorldView) (w : World) (slot id : ℕ) (client : ClientView) (ids : List ℕ) → Stands v w → slot < length v.slots
-    → list_any (λ (x : ℕ). nat_eq x id) v.used ≡ false → ClientStands client v.session id new_client → ids ≡ v.used ++ id ∷ []
-    → Steps w (Start slot id) Done (record v { slots = set v.slots slot (Some client); used = ids })
-steps_started v w slot id client ids st lt e stands more =
+pub steps_used : (v : WorldView) (w : World) (slot id : ℕ) (version : Version) (watches : Bool) → Stands v w
+    → list_any (λ (x : ℕ). nat_eq x id) v.used ≡ true → Steps w (Start slot id version watches) Refused v
+steps_used v w slot id version watches st e = record { left = w; step = used (st.starts.just id (is_in id v.used e)) refl refl; stands = st }
+
+pub steps_started : (v : WorldView) (w : World) (slot id : ℕ) (version : Version) (watches : Bool) (client : ClientView) (ids : List ℕ)
+    → Stands v w → slot < length v.slots
+    → list_any (λ (x : ℕ). nat_eq x id) v.used ≡ false → is_unfit version watches ≡ false
+    → ClientStands client v.session id (new_client version watches) → ids ≡ v.used ++ id ∷ []
+    → Steps w (Start slot id version watches) Done (record v { slots = set v.slots slot (Some client); used = ids })
+steps_started v w slot id version watches client ids st lt e fit stands more =
     record {
-      left = after_start w slot id;
-      step = started free refl refl;
+      left = after_start w slot id version watches;
+      step = started free fit refl refl;
       stands =
           record {
             session = st.session;
             server = st.server;
             starts =
-                subst (λ (xs : List ℕ). StartsStand w.server.session (set v.slots slot (Some client)) xs (put w.clients id new_client)
+                subst (λ (xs : List ℕ). StartsStand w.server.session (set v.slots slot (Some client)) xs (put w.clients id (new_client version watches))
                 (put w.slots slot (Some id))) (sym more)
-                (starts_new w.server.session v.slots v.used w.clients w.slots slot id client new_client st.starts lt free refl
-                (subst (λ (n : ℕ). ClientStands client n id new_client) st.session stands));
+                (starts_new w.server.session v.slots v.used w.clients w.slots slot id client (new_client version watches) st.starts lt free refl
+                (subst (λ (n : ℕ). ClientStands client n id (new_client version watches)) st.session stands));
             sent = st.sent;
           };
     }

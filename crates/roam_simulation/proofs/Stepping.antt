@@ -67,5 +67,5 @@ no_gap w (ServerTick now) r v law s = tt
 no_gap w (ClientTick slot now) r v law s = tt
 no_gap w (ToServer k from now) r v law s = tt
 no_gap w (ToClient slot k now) r v law s = law slot k now r s.left s.step
-no_gap w (Start slot id) r v law s = tt
+no_gap w (Start slot id version watches) r v law s = tt
 no_gap w (Drain pane n) r v law s = tt

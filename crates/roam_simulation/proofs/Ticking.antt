@@ -14,7 +14,7 @@ use Rattle.roam_world.specs.Moments.{is_spent}
 use Rattle.roam_world.specs.Numbers.{acts_of}
 use Rattle.roam_world.specs.Texts.{Address}
 use Rattle.roam_world.specs.Servers.{moment}
-use Rattle.roam_world.specs.Ticks.{Parcel, sent_by, sends, number_after, screen_after, is_tick_spent}
+use Rattle.roam_world.specs.Ticks.{Parcel, sent_by, sends, number_after, screen_to, is_tick_spent}
 use Rattle.roam_world.specs.Clients.{Client, moment_of}
 use Rattle.roam_world.specs.Sendings.{datagrams_from, after_sending, after_quiet}
 use Rattle.roam_world.specs.Worlds.{World, ServerTick, ClientTick, Sent, Refused, Failed, with_client, after_server_tick, after_client_sent}
@@ -48,9 +48,9 @@ no_ack_spent : (w : World) (now : ℕ) (ids : List ℕ) → TakesActsInOrder w �
 no_ack_spent w now [] t l = refl
 no_ack_spent w now (id ∷ ids) t l =
     rw (
-      ap (λ (b : Bool). sends (w.server.records id) (number_after w.server now) (screen_after w.server now) now && b)
+      ap (λ (b : Bool). sends (w.server.records id) (number_after w.server now) (screen_to w.server now id) now && b)
           (not_past (w.server.records id).taken (taken_low w id t l)),
-      and_false (sends (w.server.records id) (number_after w.server now) (screen_after w.server now) now),
+      and_false (sends (w.server.records id) (number_after w.server now) (screen_to w.server now id) now),
     ) (no_ack_spent w now ids t l)
 
 or_false : (a b : Bool) → b ≡ false → (a || b) ≡ a

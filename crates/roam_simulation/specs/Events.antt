@@ -18,7 +18,7 @@ event_of (event.ServerTick now) = ServerTick now
 event_of (event.ClientTick slot now) = ClientTick slot now
 event_of (event.ToServer k from now) = ToServer k (address_of from) now
 event_of (event.ToClient slot k now) = ToClient slot k now
-event_of (event.Start slot id) = Start slot id
+event_of (event.Start slot id version watches) = Start slot id version watches
 event_of (event.Drained pane n) = Drain pane n
 
 -- how it is answered, as the definitions name it
@@ -39,5 +39,5 @@ reply_in (Err fault) = Failed fault
 -- what is a caller's condition: acts with numbers in their ranges, and one of the eight slots for a start
 abbrev pub IsHandedIn : Event → Type 0
 IsHandedIn (event.Typed slot act) = IsInRange act
-IsHandedIn (event.Start slot id) = slot < 8
+IsHandedIn (event.Start slot id version watches) = slot < 8
 IsHandedIn _ = Unit {0}

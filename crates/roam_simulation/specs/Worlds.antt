@@ -74,7 +74,7 @@ pub record Steps (w : World) (e : Event) (r : Reply) (new : WorldView) : Type 0 
 pub record ShowsSession (v : WorldView) (w : World) : Type 0 where
   pub made : (slot : ℕ) (c : ClientView) → start_in v.slots slot ≡ Some c → c.receiver.newest.number ≤ length w.server.cuts
   pub same : (slot : ℕ) (c : ClientView) → start_in v.slots slot ≡ Some c
-      → c.receiver.newest.state ≡ screen w.server.size w.server.log w.server.cuts c.receiver.newest.number
+      → c.receiver.newest.state ≡ screen c.version w.server.size w.server.log w.server.cuts c.receiver.newest.number
   pub acts : TakesActsInOrder w
 
 -- a datagram to a client start isn't answered by a gap or a bad change

@@ -5,6 +5,7 @@ ghost use Rattle.roam_simulation.specs.Events.{IsHandedIn, event_of};
 use roam_acts::{Act, Key};
 use roam_cells::Fault;
 use roam_hub::{Addr, Heard, Stop};
+use roam_wire::Version;
 
 /// One thing that happens: one whole call of the server or of a client start. Slots are 0 to 7, moments are milliseconds.
 #[derive(Debug, Drop)]
@@ -27,8 +28,8 @@ pub enum Event {
     /// The datagram of a number comes to the start in a slot at a moment.
     ToClient(u8, u64, u64),
 
-    /// A client starts in a slot, under an id.
-    Start(u8, u64),
+    /// A client of a version starts in a slot, under an id, and only watches or not.
+    Start(u8, u64, Version, bool),
 
     /// So many bytes go to the program of a pane.
     Drained(u8, u64),
@@ -44,7 +45,7 @@ impl Event {
             Event::Typed(_, Act::Key(Key::Char(c))) => {
                 let _scalar = *c as u32;
             }
-            Event::Start(_, id) => {
+            Event::Start(_, id, _, _) => {
                 let _id = *id;
             }
             _ => {}
@@ -66,7 +67,7 @@ pub enum Reply {
     /// What a datagram was to a client start.
     Heard(Heard),
 
-    /// There is no such start, datagram or output, or the id was used: nothing is done.
+    /// There is no such start, datagram or output, the id was used, or a start would watch in version 1: nothing is done.
     Refused,
 
     /// The call was refused.

@@ -1,5 +1,5 @@
 //! The world: one server and its client starts, over a network that keeps every datagram.
-ghost use Rattle.std.specs.Prelude.{◌≡◌, ◌⊎◌, ◌↔◌, ◌++◌, ◌<◌, [], ◌∷◌, ℕ, List, length, map, slice_index_or, None, IsOkUnless, IfOk, IfErr, OnOk, IsErrOf};
+ghost use Rattle.std.specs.Prelude.{◌≡◌, ◌⊎◌, ◌↔◌, ◌++◌, ◌<◌, [], ◌∷◌, ℕ, List, length, map, slice_index_or, None, false, IsOkUnless, IfOk, IfErr, OnOk, IsErrOf};
 ghost use Rattle.std.specs.List.{All};
 ghost use Rattle.std.specs.Option.{option_copied};
 ghost use Rattle.roam_acts.specs.Acts.{IsInRange};
@@ -7,6 +7,9 @@ ghost use Rattle.roam_layout.specs.Layouts.{IsSessionSize};
 ghost use Rattle.roam_session.specs.Sessions.{SessionSize};
 ghost use Rattle.roam_world.specs.Laws.{HoldAtMostEight, OffersNewest, OneRoundSuffices, RepliesToLatest};
 ghost use Rattle.roam_world.specs.Worlds.{World as WorldOf, Event as EventOf, PaneBytes, Typed, ServerTick, ClientTick, ToServer, ToClient, Start, Drain, Reply as ReplyOf};
+ghost use Rattle.roam_world.specs.Clients.{new_client};
+ghost use Rattle.roam_world.specs.Steps.{is_unfit as is_unfit_for};
+ghost use Rattle.roam_hub.specs.Clients.{Stands as ClientStands};
 ghost use Rattle.roam_hub.specs.Servers.{address_of};
 ghost use Rattle.roam_simulation.specs.Events.{IsHandedIn, event_of, reply_of, reply_in};
 ghost use Rattle.roam_simulation.specs.Worlds.{start_in, IsNoGap, IsReached, IsRefusal, ShowsSession, Stands, StandsFor, Steps};
@@ -16,7 +19,7 @@ use crate::networks::{Batch, Network};
 use roam_acts::Act;
 use roam_cells::Fault;
 use roam_hub::{Addr, Client, Server};
-use roam_wire::laws as texts;
+use roam_wire::{Version, laws as texts};
 use roam_world::laws;
 use std::alloc::Global;
 use std::marker::Model;
@@ -68,8 +71,37 @@ fn no_clients(alloc: Global) -> Result<Vec<Option<Client>>, Fault>
     Ok(slots)
 }
 
+// Whether a start would only watch in version 1, which none can.
+fn is_unfit(version: Version, watches: bool) -> bool
+    ensures unfit { result ≡ is_unfit_for version watches }
+{
+    match version {
+        Version::One => watches,
+        Version::Two => false,
+    }
+}
+
+// A client start of a version, which only watches or not.
+fn begun(
+    alloc: Global,
+    session: u64,
+    id: u64,
+    version: Version,
+    watches: bool,
+) -> Result<Client, Fault>
+    requires fit { is_unfit_for version watches ≡ false }
+    ensures stands { IfOk result (λ client. ClientStands client session id (new_client version watches)) }
+    ensures fault { IsOkUnless result Fault.OutOfMemory }
+{
+    match version {
+        Version::One => Client::old(alloc, session, id),
+        Version::Two if watches => Client::watching(alloc, session, id),
+        Version::Two => Client::new(alloc, session, id),
+    }
+}
+
 impl World {
-    /// The world of a new server, with no client start and no datagram. `BadSize` outside 4 to 100 rows or 8 to 250 columns,
+    /// The world of a new server, with no client start and no datagram. `BadSize` outside 4 to 200 rows or 8 to 500 columns,
     /// `OutOfMemory`.
     pub fn new(alloc: Global, session: u64, rows: u16, cols: u16) -> Result<World, Fault>
         ensures stands { IfOk result (λ world. StandsFor world session (record { rows = rows; cols = cols }) [] []) }
@@ -210,15 +242,25 @@ impl World {
         Ok(Reply::Heard(heard))
     }
 
-    // A client starts in a slot.
-    fn start(&mut self, alloc: Global, slot: u8, id: u64) -> Result<Reply, Fault>
+    // A client of a version starts in a slot, and only watches or not.
+    fn start(
+        &mut self,
+        alloc: Global,
+        slot: u8,
+        id: u64,
+        version: Version,
+        watches: bool,
+    ) -> Result<Reply, Fault>
         requires slot { slot < 8 }
-        ensures steps { (w : WorldOf) → Stands self.old w → Steps w (Start slot id) (reply_in result) self.new }
+        ensures steps { (w : WorldOf) → Stands self.old w → Steps w (Start slot id version watches) (reply_in result) self.new }
     {
+        if is_unfit(version, watches) {
+            return Ok(Reply::Refused);
+        }
         if self.used.as_slice().contains(&id) {
             return Ok(Reply::Refused);
         }
-        let client = Client::new(alloc, self.session, id)?;
+        let client = begun(alloc, self.session, id, version, watches)?;
         self.used.push(id)?;
         self.slots[slot as usize] = Some(client);
         Ok(Reply::Done)
@@ -237,19 +279,24 @@ impl World {
             Event::ClientTick(slot, now) => self.client_tick(alloc, *slot, *now),
             Event::ToServer(number, from, now) => Ok(self.to_server(alloc, *number, *from, *now)),
             Event::ToClient(slot, number, now) => self.to_client(alloc, *slot, *number, *now),
-            Event::Start(slot, id) => self.start(alloc, *slot, *id),
+            Event::Start(slot, id, version, watches) => {
+                self.start(alloc, *slot, *id, *version, *watches)
+            }
             Event::Drained(pane, count) => self.drained(*pane, *count),
         }
     }
 
     /// Lets one event happen, and answers how. The caller's condition: the numbers of an act are in their ranges, and a client starts in a
     /// slot of 0 to 7. `Refused` and `Fault` leave all as it was; `Stopped` at a full queue or at want of memory keeps the acts that were
-    /// taken before, and that the start was heard. No datagram that comes to a start leaves a gap or has a bad change.
+    /// taken before, and that the start was heard. From each world that it stood for, the event with its reply leads to one that it stands
+    /// for after. No datagram that comes to a start leaves a gap or has a bad change.
     pub fn step(&mut self, alloc: Global, event: &Event) -> Reply
         requires handed_in { IsHandedIn event.now }
         ensures stands { (session : ℕ) (size : SessionSize) (es : List EventOf) (rs : List ReplyOf)
             → StandsFor self.old session size es rs
             → StandsFor self.new session size (es ++ event_of event.now ∷ []) (rs ++ reply_of result ∷ []) }
+        ensures steps { (w : WorldOf) → IsReached w → Stands self.old w
+            → Steps w (event_of event.now) (reply_of result) self.new }
         ensures refused { (session : ℕ) (size : SessionSize) (es : List EventOf) (rs : List ReplyOf)
             → StandsFor self.old session size es rs → IsRefusal (reply_of result) → StandsFor self.new session size es rs }
         ensures no_gap { (session : ℕ) (size : SessionSize) (es : List EventOf) (rs : List ReplyOf)
@@ -263,7 +310,7 @@ impl World {
         }
     }
 
-    /// The world of a new server, after these events. `BadSize` outside 4 to 100 rows or 8 to 250 columns, and `OutOfMemory` where there
+    /// The world of a new server, after these events. `BadSize` outside 4 to 200 rows or 8 to 500 columns, and `OutOfMemory` where there
     /// is none for the world before the first event; want of memory at an event is how that one is answered.
     pub fn run(
         alloc: Global,

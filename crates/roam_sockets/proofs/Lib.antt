@@ -1,2 +1,3 @@
+mod Bound
 mod Cutting
 mod Reading

@@ -1,2 +1,5 @@
 pub mod Keys
+pub mod Notices
 pub mod Panes
+pub mod Peers
+pub mod Waits

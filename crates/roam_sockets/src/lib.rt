@@ -2,16 +2,20 @@
 #![tactic(auto)]
 
 mod attaching;
+mod files;
 mod keys;
 mod links;
 mod moments;
 mod panes;
+mod peers;
 mod ports;
 mod serving;
+mod silence;
 
-pub use attaching::{Attach, run_attach};
+pub use attaching::{Attach, follow_session, run_attach};
 pub use keys::acts_of;
 pub use links::loopback;
 pub use moments::Moments;
 pub use ports::{ClientPorts, ServerPorts};
 pub use serving::{Serve, run_serve};
+pub use silence::End;

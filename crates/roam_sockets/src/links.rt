@@ -1,14 +1,18 @@
 //! The network and the clock, which both programs have.
-ghost use Rattle.std.specs.Prelude.{◌≡◌, ◌⊎◌, ◌≤◌, ℕ, true, false, [], ◌∷◌, length, None, IfOk, IfSome, IfErr};
+ghost use Rattle.std.specs.Prelude.{◌≡◌, ◌⊎◌, ◌≤◌, ℕ, ◌&&◌, ◌||◌, true, false, [], ◌∷◌, length, None, IfOk, IfSome, IfErr};
+ghost use Rattle.mio.specs.Events.{items};
+ghost use Rattle.roam_sockets.specs.Waits.{tell_of_no_reader};
 
 use crate::moments::Moments;
 use mio::net::UdpSocket;
+use mio::unix::SourceFd;
 use mio::{Events, Interest, Poll, Registry, Token};
 use roam_cells::Fault;
 use roam_faults::RunFault;
 use roam_hub::Addr;
 use std::alloc::Global;
 use std::net::{IpAddr, Ipv4Addr, Net, SocketAddr};
+use std::os::fd::RawFd;
 use std::time::{Clock, Duration};
 
 /// How many milliseconds a program waits at most where a turn brought nothing.
@@ -16,6 +20,9 @@ const LONGEST_WAIT: u64 = 10;
 
 /// How many sources a wait reports at most; more are reported by the next.
 const MOST_EVENTS: usize = 32;
+
+/// What a descriptor that is watched is reported under; all else is under another.
+const WATCHED: Token = Token(1);
 
 /// A UDP socket on loopback, moments, and the wait for what comes.
 #[derive(Drop)]
@@ -26,6 +33,7 @@ pub(crate) struct Link<R> {
     poll: Poll,
     events: Events<Global>,
     quiet: bool,
+    unread: bool,
 }
 
 /// A port of this machine.
@@ -43,6 +51,13 @@ fn socket_addr(addr: Addr) -> SocketAddr {
     SocketAddr::new(IpAddr::V4(Ipv4Addr::new(a, b, c, d)), addr.port)
 }
 
+// Whether a wait reported that nobody reads the descriptor any more that is watched.
+fn tell_of_no_reader(events: &Events<Global>) -> bool
+    ensures told { result ≡ tell_of_no_reader (items events.now) }
+{
+    events.iter().any(|event| event.token() == WATCHED && event.is_write_closed())
+}
+
 impl<R: Clock + Drop> Link<R> {
     /// Binds a port of this machine, any that is free where it is 0. `Bind` where it can't be bound, `OutOfMemory`.
     pub(crate) fn bind<N: Net>(
@@ -54,6 +69,7 @@ impl<R: Clock + Drop> Link<R> {
         ensures moments { IfOk result (λ link. link.moments ≡ moments) }
         ensures port { IfOk result (λ link. (port ≡ 0) ⊎ (link.port ≡ port)) }
         ensures quiet { IfOk result (λ link. link.quiet ≡ true) }
+        ensures unread { IfOk result (λ link. link.unread ≡ false) }
         ensures faults { IfErr result (λ fault. (fault ≡ RunFault.Bind) ⊎ (fault ≡ RunFault.Core Fault.OutOfMemory)) }
     {
         let Ok(events) = Events::with_capacity(alloc, MOST_EVENTS) else {
@@ -80,6 +96,7 @@ impl<R: Clock + Drop> Link<R> {
             poll,
             events,
             quiet: true,
+            unread: false,
         })
     }
 
@@ -93,6 +110,24 @@ impl<R: Clock + Drop> Link<R> {
     /// What reports to the wait.
     pub(crate) fn registry(&self) -> &Registry {
         self.poll.registry()
+    }
+
+    /// Watches a descriptor that is written to: a wait ends where nobody reads it any more.
+    pub(crate) fn watch(&mut self, descriptor: RawFd)
+        ensures same { self.new ≡ self.old }
+    {
+        // What can't be watched, as a file, is never without a reader.
+        let _ = self
+            .poll
+            .registry()
+            .register(&mut SourceFd(&descriptor), WATCHED, Interest::PRIORITY);
+    }
+
+    /// Whether nobody reads the descriptor any more that is watched.
+    pub(crate) fn is_unread(&self) -> bool
+        ensures unread { result ≡ self.now.unread }
+    {
+        self.unread
     }
 
     /// Sets the moment, in milliseconds.
@@ -147,10 +182,18 @@ impl<R: Clock + Drop> Link<R> {
     /// Waits until something comes, ten milliseconds at most, where nothing came since the last call.
     pub(crate) fn rest(&mut self)
         ensures quiet { self.new.quiet ≡ true }
+        ensures others { self.old ≡ record self.new {
+          poll = self.old.poll;
+          events = self.old.events;
+          quiet = self.old.quiet;
+          unread = self.old.unread;
+        } }
+        ensures unread { self.new.unread ≡ (self.old.unread || (self.old.quiet && tell_of_no_reader (items self.new.events))) }
     {
         if self.quiet {
             // A wait that fails is over at once.
             let _ = self.poll.poll(&mut self.events, Some(Duration::from_millis(LONGEST_WAIT)));
+            self.unread = self.unread || tell_of_no_reader(&self.events);
         }
         self.quiet = true;
     }

@@ -1,29 +1,32 @@
 //! The sockets of the panes, where their programs are reached.
-ghost use Rattle.std.specs.Prelude.{◌≡◌, ◌⊎◌, ◌-◌, ◌++◌, ◌≤◌, ◌<◌, [], ◌∷◌, length, map, slice_get, string_bytes, None, IfOk, OnOk, IfSome, IfErr, IsOkUnless};
+ghost use Rattle.std.specs.Prelude.{◌≡◌, ◌≢◌, ◌⊎◌, ◌++◌, ◌≤◌, ◌<◌, [], ◌∷◌, length, map, string_bytes, is_some, nat_lt, None, IfOk, OnOk, IfSome, IfErr, IsOkUnless};
+ghost use Rattle.std.specs.List.{All};
 ghost use Rattle.roam_sockets.specs.Panes.{path_of, paths_of};
+ghost use Rattle.roam_sockets.specs.Peers.{Changes, Lives, Asks};
 
-use mio::net::{UnixListener, UnixStream};
+use crate::files::listen;
+use crate::peers::{Making, live, read, write};
+use mio::net::UnixListener;
 use mio::{Interest, Registry, Token};
 use roam_cells::Fault;
 use roam_faults::RunFault;
 use std::alloc::Global;
 use std::fs::{Files, remove_file};
-use std::io::{ErrorKind, Read, Write};
 use std::net::Net;
 
 /// How many panes there may be.
 const PANES: usize = 9;
 
-/// The socket of a pane, which takes one peer at a time.
+/// The socket of a pane, and which making of the pane is there with its peer.
 #[derive(Drop)]
-struct Pane {
+pub(crate) struct Pane {
     path: String,
     listener: UnixListener,
-    peer: Option<UnixStream>,
+    making: Option<Making>,
 }
 
 impl Pane {
-    // The socket of a pane in a folder. It is reported where the program waits.
+    // The socket of a pane in a folder; the pane isn't there yet. It is reported where the program waits.
     fn bind<R: Files + Net>(
         rt: &R,
         alloc: Global,
@@ -32,12 +35,13 @@ impl Pane {
         number: u8,
     ) -> Result<Pane, RunFault>
         ensures path { IfOk result (λ pane. string_bytes pane.path ≡ path_of folder.now number) }
+        ensures none { IfOk result (λ pane. pane.making ≡ None) }
         ensures faults { IfErr result (λ fault. (fault ≡ RunFault.Bind) ⊎ (fault ≡ RunFault.Core Fault.OutOfMemory)) }
     {
         let Ok(path) = format!(in alloc; "{folder}/p{number}") else {
             return Err(RunFault::Core(Fault::OutOfMemory));
         };
-        let Ok(mut listener) = UnixListener::bind(rt, path.as_str()) else {
+        let Some(mut listener) = listen(rt, path.as_str()) else {
             return Err(RunFault::Bind);
         };
         // Where it isn't reported, a wait ends by its time alone.
@@ -45,59 +49,32 @@ impl Pane {
         Ok(Pane {
             path,
             listener,
-            peer: None,
+            making: None,
         })
     }
 
-    // Takes a peer where there is none.
-    fn accept(&mut self, registry: &Registry) {
-        if self.peer.is_none()
-            && let Ok((mut stream, _)) = self.listener.accept()
-        {
-            let _ = registry.register(
-                &mut stream,
-                Token(0),
-                Interest::READABLE | Interest::WRITABLE,
-            );
-            self.peer = Some(stream);
-        }
+    // From now on this making of the pane is there, or none is.
+    fn live(&mut self, life: Option<u64>)
+        ensures lives { Lives life self.old self.new }
+    {
+        live(&mut self.making, life);
     }
 
-    // What the peer wrote, or nothing. A peer that is gone is let go.
-    fn read(&mut self, buf: &mut [u8]) -> Option<usize>
+    // What the program wrote: how many bytes of `buf` it fills from the front.
+    fn read(&mut self, registry: &Registry, buf: &mut [u8]) -> Option<usize>
         ensures some { IfSome result (λ n. 0 < n) }
         ensures within { IfSome result (λ n. n ≤ length buf.new) }
+        ensures asks { Asks (is_some result) self.old self.new }
     {
-        let read = self.peer.as_mut()?.read(buf);
-        match read {
-            Ok(0) => {
-                self.peer = None;
-                None
-            }
-            Ok(count) => Some(count),
-            Err(error) if error.kind() == ErrorKind::WouldBlock => None,
-            Err(_) => {
-                self.peer = None;
-                None
-            }
-        }
+        read(&mut self.making, &self.listener, registry, buf)
     }
 
-    // How many of the bytes the peer took.
-    fn write(&mut self, bytes: &[u8]) -> usize
+    // How many of the bytes the program took.
+    fn write(&mut self, registry: &Registry, bytes: &[u8]) -> usize
         ensures within { result ≤ length bytes.now }
+        ensures asks { Asks (nat_lt 0 result) self.old self.new }
     {
-        let Some(peer) = self.peer.as_mut() else {
-            return 0;
-        };
-        match peer.write(bytes) {
-            Ok(count) => count,
-            Err(error) if error.kind() == ErrorKind::WouldBlock => 0,
-            Err(_) => {
-                self.peer = None;
-                0
-            }
-        }
+        write(&mut self.making, &self.listener, registry, bytes)
     }
 }
 
@@ -108,8 +85,9 @@ pub(crate) struct Panes {
 }
 
 impl Panes {
-    /// Binds the sockets of a folder. `Bind` where one can't be bound, as where its file is there, `OutOfMemory`; those that were bound
-    /// before are removed then.
+    /// Binds the sockets of a folder; no pane is there yet. A socket's file to which nobody listens is removed first. `Bind` where one
+    /// can't be bound, as where its file is there, or where the folder has no name; `OutOfMemory`; those that were bound before are removed
+    /// then.
     pub(crate) fn bind<R: Files + Net>(
         rt: &R,
         alloc: Global,
@@ -118,8 +96,13 @@ impl Panes {
     ) -> Result<Panes, RunFault>
         ensures nine { IfOk result (λ panes. length panes.all.items ≡ 9) }
         ensures paths { IfOk result (λ panes. map (λ pane. string_bytes pane.path) panes.all.items ≡ paths_of folder.now 9) }
+        ensures none { IfOk result (λ panes. All (λ pane. pane.making ≡ None) panes.all.items) }
+        ensures named { IfOk result (λ _. folder.now ≢ []) }
         ensures faults { IfErr result (λ fault. (fault ≡ RunFault.Bind) ⊎ (fault ≡ RunFault.Core Fault.OutOfMemory)) }
     {
+        if folder.is_empty() {
+            return Err(RunFault::Bind);
+        }
         let Ok(all) = Vec::with_capacity(alloc, PANES) else {
             return Err(RunFault::Core(Fault::OutOfMemory));
         };
@@ -143,6 +126,7 @@ impl Panes {
         requires empty { length self.old.all.items ≡ 0 }
         ensures nine { OnOk result (length self.new.all.items ≡ 9) }
         ensures paths { OnOk result (map (λ pane. string_bytes pane.path) self.new.all.items ≡ paths_of folder.now 9) }
+        ensures none { OnOk result (All (λ pane. pane.making ≡ None) self.new.all.items) }
         ensures faults { IfErr result (λ fault. (fault ≡ RunFault.Bind) ⊎ (fault ≡ RunFault.Core Fault.OutOfMemory)) }
     {
         for number in 1..10u8 {
@@ -160,42 +144,40 @@ impl Panes {
         Ok(())
     }
 
-    // The socket of a pane, 1 to 9.
-    fn get_mut(&mut self, pane: u8) -> Option<&mut Pane> {
-        self.all.get_mut(usize::from(pane).checked_sub(1)?)
+    /// From now on this making of a pane, 1 to 9, is there, or none is: a peer that came to another is let go.
+    pub(crate) fn live(&mut self, pane: u8, life: Option<u64>)
+        ensures lives { Changes (Lives life) pane self.old.all.items self.new.all.items }
+    {
+        let at = usize::from(pane);
+        if 0 < at && at <= self.all.len() {
+            self.all[at - 1].live(life);
+        }
     }
 
     /// What the program of a pane wrote: how many bytes of `buf` it fills from the front. A peer is taken where there is none, and let go
-    /// where it is gone.
+    /// where it is gone; one that comes to a pane that isn't there waits.
     pub(crate) fn read(&mut self, registry: &Registry, pane: u8, buf: &mut [u8]) -> Option<usize>
         ensures some { IfSome result (λ n. 0 < n) }
         ensures within { IfSome result (λ n. n ≤ length buf.new) }
+        ensures asks { Changes (Asks (is_some result)) pane self.old.all.items self.new.all.items }
     {
-        let pane = self.get_mut(pane)?;
-        pane.accept(registry);
-        pane.read(buf)
+        let at = usize::from(pane);
+        if at < 1 || self.all.len() < at {
+            return None;
+        }
+        self.all[at - 1].read(registry, buf)
     }
 
     /// How many of the bytes the program of a pane took, 0 where none is there.
     pub(crate) fn write(&mut self, registry: &Registry, pane: u8, bytes: &[u8]) -> usize
         ensures within { result ≤ length bytes.now }
+        ensures asks { Changes (Asks (nat_lt 0 result)) pane self.old.all.items self.new.all.items }
     {
-        let Some(pane) = self.get_mut(pane) else {
+        let at = usize::from(pane);
+        if at < 1 || self.all.len() < at {
             return 0;
-        };
-        pane.accept(registry);
-        pane.write(bytes)
-    }
-
-    /// Lets the peer of a pane go.
-    pub(crate) fn let_go(&mut self, pane: u8)
-        ensures gone { 1 ≤ pane → IfSome (slice_get self.new.all.items (pane - 1)) (λ p. p.peer ≡ None) }
-        ensures count { length self.new.all.items ≡ length self.old.all.items }
-    {
-        let pane = usize::from(pane);
-        if 0 < pane && pane <= self.all.len() {
-            self.all[pane - 1].peer = None;
         }
+        self.all[at - 1].write(registry, bytes)
     }
 
     /// Removes the files of the sockets.

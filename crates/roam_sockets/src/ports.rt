@@ -1,10 +1,15 @@
 //! The ports of a server and of a client start over sockets. What they carried isn't told.
-ghost use Rattle.std.specs.Prelude.{◌≡◌, ◌⊎◌, ◌-◌, ◌<◌, ◌≤◌, ℕ, true, false, not, length, map, slice_get, string_bytes, None, IfOk, IfSome, IfErr};
+ghost use Rattle.std.specs.Prelude.{◌≡◌, ◌≢◌, ◌⊎◌, ◌-◌, ◌<◌, ◌≤◌, [], ℕ, true, false, not, length, map, string_bytes, is_some, nat_lt, None, Some, IfOk, IfSome, IfErr};
+ghost use Rattle.std.specs.List.{All};
+ghost use Rattle.std.specs.Io.KnownBytes.{Appends};
+ghost use Rattle.roam_sockets.specs.Notices.{due_of, is_over, end_of, failing_after, has_given_up, notice_of};
 ghost use Rattle.roam_sockets.specs.Panes.{paths_of};
+ghost use Rattle.roam_sockets.specs.Peers.{Changes, Lives, Asks};
 
 use crate::links::Link;
 use crate::moments::Moments;
 use crate::panes::Panes;
+use crate::silence::{End, Silence, notice};
 use roam_cells::Fault;
 use roam_faults::RunFault;
 use roam_hub::Addr;
@@ -13,7 +18,11 @@ use std::alloc::Global;
 use std::fs::Files;
 use std::io::Write;
 use std::net::Net;
+use std::os::fd::RawFd;
 use std::time::Clock;
+
+/// How many milliseconds of failing are enough.
+const HALF_SECOND: u64 = 500;
 
 /// The ports of a server: UDP on loopback, the sockets of its panes, a clock.
 #[derive(Drop)]
@@ -23,8 +32,8 @@ pub struct ServerPorts<R> {
 }
 
 impl<R: Clock + Drop> ServerPorts<R> {
-    /// Binds a port of this machine, any that is free where it is 0, and the sockets `p1` to `p9` in a folder. `Bind` where one can't be
-    /// bound, `OutOfMemory`; then nothing stays.
+    /// Binds a port of this machine, any that is free where it is 0, and the sockets `p1` to `p9` in a folder, of panes that aren't there
+    /// yet. `Bind` where one can't be bound, or the folder has no name; `OutOfMemory`; then nothing stays.
     pub fn bind<N: Files + Net>(
         rt: &N,
         alloc: Global,
@@ -35,6 +44,8 @@ impl<R: Clock + Drop> ServerPorts<R> {
         ensures moments { IfOk result (λ ports. ports.link.moments ≡ moments) }
         ensures port { IfOk result (λ ports. (port ≡ 0) ⊎ (ports.link.port ≡ port)) }
         ensures nine { IfOk result (λ ports. length ports.panes.all.items ≡ 9) }
+        ensures none { IfOk result (λ ports. All (λ pane. pane.making ≡ None) ports.panes.all.items) }
+        ensures named { IfOk result (λ _. folder.now ≢ []) }
         ensures paths { IfOk result (λ ports. map (λ pane. string_bytes pane.path) ports.panes.all.items ≡ paths_of folder.now 9) }
         ensures faults { IfErr result (λ fault. (fault ≡ RunFault.Bind) ⊎ (fault ≡ RunFault.Core Fault.OutOfMemory)) }
     {
@@ -55,13 +66,6 @@ impl<R: Clock + Drop> ServerPorts<R> {
         ensures moment { self.new ≡ record self.old { link = record self.old.link { moments = Moments.Set moment } } }
     {
         self.link.set_moment(moment);
-    }
-
-    /// Lets the peer of a pane go, as where the pane isn't there any more.
-    pub fn let_go(&mut self, pane: u8)
-        ensures gone { 1 ≤ pane → IfSome (slice_get self.new.panes.all.items (pane - 1)) (λ p. p.peer ≡ None) }
-    {
-        self.panes.let_go(pane);
     }
 
     /// Waits until something comes, ten milliseconds at most, where nothing came since the last call.
@@ -85,7 +89,11 @@ impl<R: Clock + Drop> Ports for ServerPorts<R> {
         self.link.now()
     }
 
-    fn receive(&mut self, buf: &mut [u8]) -> Option<(Addr, usize)> {
+    fn receive(&mut self, buf: &mut [u8]) -> Option<(Addr, usize)>
+        ensures within { IfSome result (λ r. r.1 ≤ length buf.new) }
+        ensures stirs { IfSome result (λ _. self.new.link.quiet ≡ false) }
+        ensures panes { self.new.panes ≡ self.old.panes }
+    {
         self.link.receive(buf)
     }
 
@@ -93,16 +101,29 @@ impl<R: Clock + Drop> Ports for ServerPorts<R> {
         self.link.send(to, bytes)
     }
 
+    fn pane_lives(&mut self, pane: u8, life: Option<u64>)
+        ensures lives { Changes (Lives life) pane self.old.panes.all.items self.new.panes.all.items }
+        ensures link { self.new.link ≡ self.old.link }
+    {
+        self.panes.live(pane, life);
+    }
+
     fn pane_in(&mut self, pane: u8, buf: &mut [u8]) -> Option<usize>
         ensures some { IfSome result (λ n. 0 < n) }
         ensures within { IfSome result (λ n. n ≤ length buf.new) }
+        ensures asks { Changes (Asks (is_some result)) pane self.old.panes.all.items self.new.panes.all.items }
+        ensures stirs { IfSome result (λ _. self.new.link.quiet ≡ false) }
     {
         let count = self.panes.read(self.link.registry(), pane, buf)?;
         self.link.stir();
         Some(count)
     }
 
-    fn pane_out(&mut self, pane: u8, bytes: &[u8]) -> usize {
+    fn pane_out(&mut self, pane: u8, bytes: &[u8]) -> usize
+        ensures within { result ≤ length bytes.now }
+        ensures asks { Changes (Asks (nat_lt 0 result)) pane self.old.panes.all.items self.new.panes.all.items }
+        ensures stirs { 0 < result → self.new.link.quiet ≡ false }
+    {
         let count = self.panes.write(self.link.registry(), pane, bytes);
         if count > 0 {
             self.link.stir();
@@ -117,12 +138,14 @@ impl<R: Clock + Drop> Ports for ServerPorts<R> {
     }
 }
 
-/// The ports of a client start: UDP on loopback, a clock, and where the outer terminal's bytes go.
+/// The ports of a client start: UDP on loopback, a clock, and where the outer terminal's bytes go. They know when something was heard last,
+/// and since when showing fails.
 #[derive(Drop)]
 pub struct ClientPorts<R, W> {
     link: Link<R>,
     outer: W,
-    failed: bool,
+    silence: Silence,
+    failing: Option<u64>,
 }
 
 impl<R: Clock + Drop, W: Write + Drop> ClientPorts<R, W> {
@@ -135,13 +158,15 @@ impl<R: Clock + Drop, W: Write + Drop> ClientPorts<R, W> {
     ) -> Result<ClientPorts<R, W>, RunFault>
         ensures moments { IfOk result (λ ports. ports.link.moments ≡ moments) }
         ensures outer { IfOk result (λ ports. ports.outer ≡ outer) }
-        ensures well { IfOk result (λ ports. ports.failed ≡ false) }
+        ensures silence { IfOk result (λ ports. ports.silence ≡ record { moment = 0; heard = None; told = None }) }
+        ensures well { IfOk result (λ ports. ports.failing ≡ None) }
         ensures faults { IfErr result (λ fault. (fault ≡ RunFault.Bind) ⊎ (fault ≡ RunFault.Core Fault.OutOfMemory)) }
     {
         Ok(ClientPorts {
             link: Link::bind(net, alloc, 0, moments)?,
             outer,
-            failed: false,
+            silence: Silence::new(),
+            failing: None,
         })
     }
 
@@ -154,35 +179,127 @@ impl<R: Clock + Drop, W: Write + Drop> ClientPorts<R, W> {
 
     /// Whether the outer terminal took not all of what was last shown.
     pub fn has_failed(&self) -> bool
-        ensures failed { result ≡ self.now.failed }
+        ensures failed { result ≡ is_some self.now.failing }
     {
-        self.failed
+        self.failing.is_some()
+    }
+
+    /// Whether it took not all of anything that was shown in the last half second.
+    pub fn has_given_up(&self) -> bool
+        ensures given_up { result ≡ has_given_up self.now.silence self.now.failing }
+    {
+        match self.failing {
+            None => false,
+            Some(since) => self.silence.has_passed(since, HALF_SECOND),
+        }
+    }
+
+    /// What was heard, where this is the end.
+    pub fn end(&self) -> End
+        ensures end { result ≡ end_of self.now.silence }
+    {
+        self.silence.end()
+    }
+
+    /// Watches the descriptor to which the outer terminal's bytes go: `is_unread` tells where nobody reads there any more.
+    pub fn watch(&mut self, descriptor: RawFd)
+        ensures same { self.new ≡ self.old }
+    {
+        self.link.watch(descriptor);
+    }
+
+    /// Whether nobody reads the descriptor any more that is watched.
+    pub fn is_unread(&self) -> bool
+        ensures unread { result ≡ self.now.link.unread }
+    {
+        self.link.is_unread()
     }
 
     /// Waits until something comes, ten milliseconds at most, where nothing came since the last call.
     pub fn rest(&mut self)
         ensures quiet { self.new.link.quiet ≡ true }
-        ensures failed { self.new.failed ≡ self.old.failed }
-        ensures outer { self.new.outer ≡ self.old.outer }
+        ensures others { self.new ≡ record self.old { link = self.new.link } }
     {
         self.link.rest();
+    }
+
+    /// Tells of a silence of ten seconds and more over the last row of the outer terminal, once a second. Answers whether what that
+    /// terminal shows isn't known any more: something was heard again, or not all of this was taken.
+    pub fn tell_silence(&mut self, alloc: Global) -> bool
+        ensures over { is_over self.old.silence ≡ true → result ≡ true }
+        ensures quiet { is_over self.old.silence ≡ false → due_of self.old.silence ≡ None → (result ≡ false) × (self.new ≡ self.old) }
+        ensures unknown { result ≡ true → self.new.silence.told ≡ None }
+        ensures told { IfSome self.new.silence.told (λ seconds. (self.old.silence.told ≡ Some seconds)
+            ⊎ ((due_of self.old.silence ≡ Some seconds)
+            × Appends (W.contents self.old.outer) (W.contents self.new.outer) (notice_of seconds))) }
+        ensures heard { self.new.silence ≡ record self.old.silence { told = self.new.silence.told } }
+    {
+        if self.silence.is_over() {
+            self.silence.tell(None);
+            return true;
+        }
+        match self.silence.due() {
+            None => false,
+            Some(seconds) => self.tell(alloc, seconds),
+        }
+    }
+
+    // Tells of so many seconds, where there is memory. Whether not all of it was taken.
+    fn tell(&mut self, alloc: Global, seconds: u64) -> bool
+        ensures unknown { result ≡ true → self.new.silence.told ≡ None }
+        ensures told { IfSome self.new.silence.told (λ told. (self.old.silence.told ≡ Some told)
+            ⊎ ((told ≡ seconds) × Appends (W.contents self.old.outer) (W.contents self.new.outer) (notice_of seconds))) }
+        ensures heard { self.new.silence ≡ record self.old.silence { told = self.new.silence.told } }
+    {
+        let Ok(text) = notice(alloc, seconds) else {
+            return false;
+        };
+        let written = self.put(&text);
+        self.silence
+            .tell(if written { Some(seconds) } else { None });
+        !written
+    }
+
+    // Writes to the outer terminal, notes since when that fails, and answers whether all was taken.
+    fn put(&mut self, bytes: &[u8]) -> bool
+        ensures written { result ≡ true → Appends (W.contents self.old.outer) (W.contents self.new.outer) bytes.now }
+        ensures failing { self.new.failing ≡ failing_after self.old.failing result self.old.silence.moment }
+        ensures others { self.new ≡ record self.old { outer = self.new.outer; failing = self.new.failing } }
+    {
+        let written = self.outer.write_all(bytes).is_ok() && self.outer.flush().is_ok();
+        self.failing = failing_after(self.failing, written, self.silence.moment());
+        written
     }
 }
 
 impl<R: Clock + Drop, W: Write + Drop> Ports for ClientPorts<R, W> {
     fn now(&mut self) -> u64
         ensures set { (moment : ℕ) → self.old.link.moments ≡ Moments.Set moment → result ≡ moment }
+        ensures moment { self.new.silence ≡ record self.old.silence { moment = result } }
     {
-        self.link.now()
+        let moment = self.link.now();
+        self.silence.at(moment);
+        moment
     }
 
-    fn receive(&mut self, buf: &mut [u8]) -> Option<(Addr, usize)> {
-        self.link.receive(buf)
+    fn receive(&mut self, buf: &mut [u8]) -> Option<(Addr, usize)>
+        ensures within { IfSome result (λ r. r.1 ≤ length buf.new) }
+        ensures heard { IfSome result (λ _. self.new.silence ≡ record self.old.silence { heard = Some self.old.silence.moment }) }
+        ensures unheard { result ≡ None → self.new.silence ≡ self.old.silence }
+        ensures stirs { IfSome result (λ _. self.new.link.quiet ≡ false) }
+    {
+        let came = self.link.receive(buf)?;
+        self.silence.hear();
+        Some(came)
     }
 
     fn send(&mut self, to: Addr, bytes: &[u8]) -> bool {
         self.link.send(to, bytes)
     }
+
+    fn pane_lives(&mut self, _pane: u8, _life: Option<u64>)
+        ensures same { self.new ≡ self.old }
+    {}
 
     fn pane_in(&mut self, _pane: u8, _buf: &mut [u8]) -> Option<usize>
         ensures none { result ≡ None }
@@ -196,11 +313,20 @@ impl<R: Clock + Drop, W: Write + Drop> Ports for ClientPorts<R, W> {
         0
     }
 
+    // Where the terminal tells of a silence, it doesn't show what is noted of it: nothing is written then, and it is painted anew.
     fn show(&mut self, bytes: &[u8]) -> bool
-        ensures failed { self.new.failed ≡ not result }
+        ensures covered { is_some self.old.silence.told ≡ true → (result ≡ false) × (self.new ≡ self.old) }
+        ensures failing { self.old.silence.told ≡ None
+            → self.new.failing ≡ failing_after self.old.failing result self.old.silence.moment }
+        ensures written { result ≡ true → Appends (W.contents self.old.outer) (W.contents self.new.outer) bytes.now }
     {
-        let shown = self.outer.write_all(bytes).is_ok() && self.outer.flush().is_ok();
-        self.failed = !shown;
-        shown
+        !self.silence.is_told() && self.put(bytes)
     }
+}
+
+// Since when writing fails, where it does.
+fn failing_after(failing: Option<u64>, written: bool, now: u64) -> Option<u64>
+    ensures since { result ≡ failing_after failing written now }
+{
+    if written { None } else { failing.or(Some(now)) }
 }

@@ -15,23 +15,14 @@ use std::time::Clock;
 /// What `roam serve` is asked for.
 #[derive(Clone, Copy, Debug, PartialEq, Eq)]
 pub struct Serve<'a> {
-    /// The folder of the panes' sockets.
+    /// The folder of the panes' sockets; one without a name is none.
     pub folder: &'a str,
-    /// The port on loopback.
+    /// The port on loopback, any that is free where it is 0.
     pub port: u16,
     /// The session's id.
     pub session: u64,
     /// How many turns the run takes.
     pub turns: u64,
-}
-
-// Lets the peers of panes that aren't there go.
-fn let_go<C: Clock + Drop>(server: &Server, ports: &mut ServerPorts<C>) {
-    for pane in 1..10u8 {
-        if server.room(pane).is_none() {
-            ports.let_go(pane);
-        }
-    }
 }
 
 // Takes the turns of a server, and waits where one brought nothing.
@@ -43,13 +34,20 @@ fn serve_turns<C: Clock + Drop>(
 ) {
     for _ in 0..turns {
         serve_turn(alloc, server, ports);
-        let_go(server, ports);
         ports.rest();
     }
 }
 
+// Tells on standard error which port was taken, where any that was free was asked for.
+fn tell_port(rt: &impl Eprint, asked: u16, port: u16) {
+    if asked == 0 {
+        // There is nowhere else to say it.
+        let _ = eprintln!(rt; "roam: port {port}");
+    }
+}
+
 // Serves a session that is there: binds its names, takes the turns, and removes the sockets' files.
-fn serve_bound<R: Files + Net + Clock + AllocGlobal>(
+fn serve_bound<R: Files + Net + Clock + Eprint + AllocGlobal>(
     rt: &R,
     serve: &Serve<'_>,
     server: &mut Server,
@@ -58,14 +56,16 @@ fn serve_bound<R: Files + Net + Clock + AllocGlobal>(
 {
     let alloc = rt.alloc();
     let mut ports = ServerPorts::bind(rt, alloc, serve.folder, serve.port, Moments::real(rt))?;
+    tell_port(rt, serve.port, ports.port());
     serve_turns(alloc, serve.turns, server, &mut ports);
     ports.remove(rt);
     Ok(())
 }
 
 /// Serves a session of 24 rows and 80 columns: binds the port and the sockets `p1` to `p9` of the folder, takes the turns, waiting where
-/// one brought nothing, and removes the sockets' files. `Bind` where a name can't be bound, and nothing stays then; `OutOfMemory`.
-pub fn run_serve<R: Files + Net + Clock + AllocGlobal>(
+/// one brought nothing, and removes the sockets' files. A socket's file to which nobody listens is removed before; the port is told on
+/// standard error where any that is free was asked for. `Bind` where a name can't be bound, and nothing stays then; `OutOfMemory`.
+pub fn run_serve<R: Files + Net + Clock + Eprint + AllocGlobal>(
     rt: &R,
     serve: &Serve<'_>,
 ) -> Result<(), RunFault>

@@ -3,7 +3,7 @@ use Rattle.std.proofs.Common.{◌≡◌, ◌≤◌, ◌<◌, ℕ, zero, suc, ◌
 use Rattle.std.specs.Prelude.{if◌then◌else◌}
 use Rattle.roam_cells.specs.Glyph.{Glyph, blank, default_style}
 use Rattle.roam_cells.specs.Place.{cell_at}
-use Rattle.roam_cells.specs.Screenshot.{blank_screenshot}
+use Rattle.roam_screens.specs.Screenshot.{blank_screenshot}
 use Rattle.roam_cells.specs.declared.styles.Style.{Style}
 use Rattle.roam_cells.proofs.Places.{get_or-table, length-table}
 use Rattle.roam_grid.specs.Erasing.{page_blanked}
@@ -15,12 +15,14 @@ use Rattle.roam_rows.specs.Writing.{written}
 use Rattle.roam_rows.proofs.Mending.{mended-blank}
 use Rattle.roam_rows.proofs.Vertical.{shown_by}
 use Rattle.roam_text.specs.declared.functions.Function.TheVariants.{Print}
-use Rattle.roam_term.specs.ControlFunctions.{hide_cursor, show_cursor, erase_all, place_cursor, reset_all, set_style}
+use Rattle.roam_cells.specs.declared.styles.Colour.TheVariants.{Rgb}
+use Rattle.roam_controls.specs.Renditions.{coloured}
+use Rattle.roam_term.specs.ControlFunctions.{hide_cursor, show_cursor, erase_all, place_cursor, reset_all, set_style, plain_style, mixture, layer_code}
 use Rattle.roam_term.specs.Ground.{IsGround, ShowsScreen, IsSized, in_style}
-use Rattle.roam_term.specs.GroundFunctions.{CursorIsPlaced, StyleIsSet, CursorIsHidden, CursorIsShown, AllIsErased, CharacterIsPrinted, CharacterIsJoined, AllIsReset, character_in, with_cell}
+use Rattle.roam_term.specs.GroundFunctions.{CursorIsPlaced, StyleIsSet, MixtureIsSet, CursorIsHidden, CursorIsShown, AllIsErased, CharacterIsPrinted, CharacterIsJoined, AllIsReset, character_in, with_cell}
 use Rattle.roam_term.specs.Terminal.{Live, changed, reset}
 use Rattle.roam_term.proofs.Cells.{by, written_half}
-use Rattle.roam_term.proofs.Steps.{Constants, at_work, goes, restyles, hides, reveals, erases, joins, print_is, advances, pends, inked_hit}
+use Rattle.roam_term.proofs.Steps.{Constants, at_work, goes, restyles, mixes, hides, reveals, erases, joins, print_is, advances, pends, inked_hit}
 
 -- what stays as it is
 abbrev pub constants_of : Live → Constants
@@ -108,7 +110,13 @@ pub style_is_set : StyleIsSet
 style_is_set t g s h indexed =
     ap (changed (set_style s)) (in_a_style t h g)
     ∙ restyles (constants_of t) t.screen.cells t.screen.row t.screen.col t.screen.pending g t.modes.cursor_visible t.printed s indexed.foreground indexed.background
-    ∙ sym (standing t h t.screen.cells t.screen.row t.screen.col t.screen.pending s t.modes.cursor_visible None)
+    ∙ sym (standing t h t.screen.cells t.screen.row t.screen.col t.screen.pending (plain_style s) t.modes.cursor_visible None)
+
+pub mixture_is_set : MixtureIsSet
+mixture_is_set t s layer r g b h is =
+    ap (changed (mixture (layer_code layer) r g b)) (in_a_style t h s)
+    ∙ mixes (constants_of t) t.screen.cells t.screen.row t.screen.col t.screen.pending s t.modes.cursor_visible t.printed layer r g b is
+    ∙ sym (standing t h t.screen.cells t.screen.row t.screen.col t.screen.pending (coloured layer (Rgb r g b) s) t.modes.cursor_visible None)
 
 pub cursor_is_hidden : CursorIsHidden
 cursor_is_hidden t g h =

@@ -367,7 +367,7 @@ modes_live on (p ∷ params) l is =
     let first = stays l m is refl refl refl in
     lives_then l m (fold (mode_set on) m params) first (modes_live on params m first.live)
 
-private_lives : (on : Bool) (p : ℕ) (l : Live) → IsLive l → Lives l (private_mode_set on l p)
+pub private_lives : (on : Bool) (p : ℕ) (l : Live) → IsLive l → Lives l (private_mode_set on l p)
 private_lives on p l is =
     let m : Live = record l { modes = with_private_mode on p l.modes; screen = after_private_mode on p l.screen } in
     either (Lives l) (is_alternate_mode p) (screen_chosen on p l) m (λ e. chosen_lives on p l is)

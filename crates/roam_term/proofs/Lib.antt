@@ -2,6 +2,10 @@ pub mod Lists
 pub mod Runs
 pub mod Scrollback
 pub mod Prints
+pub mod Marking
+pub mod Adding
+pub mod Staying
+pub mod UnmarkedRows
 pub mod Dispatches
 pub mod Resizes
 pub mod Views

@@ -4,8 +4,7 @@ use Rattle.std.proofs.lemmas.Bool.{cases_lt}
 use Rattle.std.proofs.lemmas.List.{get_or_past}
 use Rattle.std.proofs.lemmas.List.Edits.{get_or-between, length-between}
 use Rattle.roam_cells.specs.Glyph.{Glyph, IsShown, is_wide, space_in, blank}
-use Rattle.roam_cells.specs.Place.{cell_at, glyph_at, IsWholeLine}
-use Rattle.roam_cells.specs.Screenshot.{row_of}
+use Rattle.roam_cells.specs.Place.{cell_at, glyph_at, IsWholeLine, row_of}
 use Rattle.roam_cells.specs.Width.{width_of}
 use Rattle.roam_cells.proofs.Places.{row_from}
 use Rattle.roam_charset.specs.Charsets.{mapped_by}

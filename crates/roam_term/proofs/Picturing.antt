@@ -7,7 +7,7 @@ use Rattle.std.proofs.lemmas.List.Elements.{All-nil, All-cons}
 use Rattle.roam_cells.specs.Glyph.{Glyph, IsShown, blank}
 use Rattle.roam_cells.specs.Limits.{IsSize}
 use Rattle.roam_cells.specs.Place.{cell_at, AreWhole, IsWholeLine}
-use Rattle.roam_cells.specs.Screenshot.{IsScreenshot}
+use Rattle.roam_screens.specs.Screenshot.{IsScreenshot}
 use Rattle.roam_cells.proofs.Places.{place_below}
 use Rattle.roam_rows.proofs.Keeping.{line_same}
 use Rattle.roam_history.specs.Histories.{Scrollback, IsRow}

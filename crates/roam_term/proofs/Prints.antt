@@ -10,6 +10,7 @@ use Rattle.roam_text.specs.declared.functions.Function.{Function}
 use Rattle.roam_text.specs.declared.functions.Function.TheVariants.{Print}
 use Rattle.roam_text.specs.Functions.{ArePlain}
 use Rattle.roam_grid.specs.declared.writing.Writing.{Writing}
+use Rattle.roam_grid.specs.Marks.{marks_put, marks_put_all}
 use Rattle.roam_grid.specs.Screen.{Screen}
 use Rattle.roam_cells.specs.Glyph.{Glyph, is_cell_text}
 use Rattle.roam_cells.specs.Inks.{InkValue}
@@ -55,7 +56,7 @@ either_way : (b : Bool) (c : ℕ) → (if b then c else c) ≡ c
 either_way true c = refl
 either_way false c = refl
 
-mapped-ascii : (sets : Sets) (b : ℕ) → set_in sets.locked sets ≡ Ascii → sets.single ≡ None → mapped_by (in_use sets) b ≡ b
+pub mapped-ascii : (sets : Sets) (b : ℕ) → set_in sets.locked sets ≡ Ascii → sets.single ≡ None → mapped_by (in_use sets) b ≡ b
 unfolding mapped_by
 mapped-ascii sets b locked single =
     let set : in_use sets ≡ Ascii = ap (λ o. set_in (unwrap_or o sets.locked) sets) single ∙ locked in
@@ -65,7 +66,7 @@ spent-none : (sets : Sets) → sets.single ≡ None → spent sets ≡ sets
 spent-none sets single i = record { g0 = sets.g0; g1 = sets.g1; g2 = sets.g2; g3 = sets.g3; locked = sets.locked; single = sym single i }
 
 -- printable ASCII is written as it is
-printed-plain : (b : ℕ) (s : Live) → 0x20 ≤ b → b < 0x7F → set_in s.sets.locked s.sets ≡ Ascii → s.sets.single ≡ None
+pub printed-plain : (b : ℕ) (s : Live) → 0x20 ≤ b → b < 0x7F → set_in s.sets.locked s.sets ≡ Ascii → s.sets.single ≡ None
     → printed_on b s ≡ record s { screen = put_on (glyph_in b s.pen) (writing_under s.modes) s.screen; printed = Some b }
 unfolding printed_on
 printed-plain b s low high locked single =
@@ -132,6 +133,15 @@ put_step g w s n m e = ap (λ k. put_all (replicate k g) w s) e
 pub put_none : (g : Glyph) (w : Writing) (s : Screen) (n : ℕ) → n ≡ 0 → put_all (replicate n g) w s ≡ s
 unfolding put_all
 put_none g w s n e = ap (λ k. put_all (replicate k g) w s) e
+
+pub marks_step : (g : Glyph) (w : Writing) (s : Screen) (marks : List Bool) (n m : ℕ) → n ≡ suc m
+    → marks_put_all (replicate n g) w s marks ≡ marks_put_all (replicate m g) w (put_on g w s) (marks_put g w s marks)
+unfolding marks_put_all
+marks_step g w s marks n m e = ap (λ k. marks_put_all (replicate k g) w s marks) e
+
+pub marks_none : (g : Glyph) (w : Writing) (s : Screen) (marks : List Bool) (n : ℕ) → n ≡ 0 → marks_put_all (replicate n g) w s marks ≡ marks
+unfolding marks_put_all
+marks_none g w s marks n e = ap (λ k. marks_put_all (replicate k g) w s marks) e
 
 inked_by : (b : Bool) (x cell : Glyph) → (if (not b && true) && true then Some x else None) ≡ Some cell → (b ≡ false) × (cell ≡ x)
 inked_by true x cell e = absurd cc

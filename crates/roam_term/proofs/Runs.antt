@@ -5,8 +5,10 @@ use Rattle.roam_text.specs.Log.{Item, Byte}
 use Rattle.roam_text.specs.Functions.{functions_of}
 use Rattle.roam_text.specs.Stands.{Stands}
 use Rattle.roam_term.specs.Terminal.{Terminal, changed, answer, after, run, lived, kept_by, answered, started, term, reports}
+use Rattle.roam_term.specs.Marks.{marked_through}
 use Rattle.roam_term.specs.Stands.{TermView, Shows, Follows, Fed}
 use Rattle.roam_term.proofs.Lists.{append-nil, map-append}
+use Rattle.roam_term.proofs.Marking.{marked-append}
 
 pub run-append : (t : Terminal) (fs gs : List Function) → run t (fs ++ gs) ≡ run (run t fs) gs
 run-append t [] gs = refl
@@ -33,7 +35,8 @@ module _ (old new : TermView) (items : List Item) (out : List Function)
     (gained : (log : List Item) → Stands old.reader log → functions_of (log ++ items) ≡ functions_of log ++ out)
     (live : new.live ≡ lived old.live out)
     (history : new.history ≡ kept_by old.live out old.history)
-    (waiting : new.waiting ≡ old.waiting ++ answered old.live out) where
+    (waiting : new.waiting ≡ old.waiting ++ answered old.live out)
+    (marks : new.marks ≡ marked_through old.live out old.marks) where
   later : (rows cols lines : ℕ) (log : List Item) → Stands old.reader log → term rows cols lines (log ++ items) ≡ run (term rows cols lines log) out
   unfolding term
   later rows cols lines log stands = ap (run (started rows cols lines)) (gained log stands) ∙ run-append (started rows cols lines) (functions_of log) out
@@ -59,6 +62,7 @@ module _ (old new : TermView) (items : List Item) (out : List Function)
           ∙ sym (ap (λ l. (term rows cols lines log).answers ++ answered l out) shows.live);
       queue = waiting;
     };
+    marks = λ rows cols lines log shows. record { more = out; functions = gained log shows.reads; marks = marks };
   }
 
 pub fed-none : (t : TermView) → Fed t t []
@@ -69,10 +73,24 @@ fed-none t = record {
     answers = ap (reports rows cols lines) (append-nil log) ∙ sym (append-nil (reports rows cols lines log));
     queue = sym (append-nil t.waiting);
   };
+  marks = λ rows cols lines log shows. record {
+    more = [];
+    functions = ap functions_of (append-nil log) ∙ sym (append-nil (functions_of log));
+    marks = refl;
+  };
 }
 
 together : (log : List Item) (xs ys : List ℕ) → (log ++ map Byte xs) ++ map Byte ys ≡ log ++ map Byte (xs ++ ys)
 together log xs ys = append_assoc log (map Byte xs) (map Byte ys) ∙ sym (ap (λ l. log ++ l) (map-append Byte xs ys))
+
+-- what lives in two terminals that stand for one log and a later one
+live-after : (a b : TermView) (rows cols lines : ℕ) (log later : List Item) (fs : List Function) → Shows a rows cols lines log
+    → Shows b rows cols lines later → functions_of later ≡ functions_of log ++ fs → b.live ≡ lived a.live fs
+unfolding term
+live-after a b rows cols lines log later fs before after gained =
+    after.live ∙ ap (λ gs. (run (started rows cols lines) gs).live) gained
+    ∙ ap (λ (t : Terminal). t.live) (run-append (started rows cols lines) (functions_of log) fs)
+    ∙ run-live (run (started rows cols lines) (functions_of log)) fs ∙ sym (ap (λ l. lived l fs) before.live)
 
 -- one piece after another
 pub fed-then : (a b c : TermView) (xs ys : List ℕ) → Fed a b xs → Fed b c ys → Fed a c (xs ++ ys)
@@ -88,5 +106,20 @@ fed-then a b c xs ys p q = record {
             sym (ap (reports rows cols lines) (together log xs ys)) ∙ second.answers ∙ ap (λ l. l ++ second.more) first.answers
             ∙ append_assoc (reports rows cols lines log) first.more second.more;
         queue = second.queue ∙ ap (λ l. l ++ second.more) first.queue ∙ append_assoc a.waiting first.more second.more;
+      };
+  marks = λ rows cols lines log shows.
+      let mid = p.stands rows cols lines log shows in
+      let first = p.marks rows cols lines log shows in
+      let second = q.marks rows cols lines (log ++ map Byte xs) mid in
+      record {
+        more = first.more ++ second.more;
+        functions =
+            sym (ap functions_of (together log xs ys)) ∙ second.functions ∙ ap (λ fs. fs ++ second.more) first.functions
+            ∙ append_assoc (functions_of log) first.more second.more;
+        marks =
+            second.marks
+            ∙ ap (λ l. marked_through l second.more b.marks) (live-after a b rows cols lines log (log ++ map Byte xs) first.more shows mid first.functions)
+            ∙ ap (marked_through (lived a.live first.more) second.more) first.marks
+            ∙ sym (marked-append a.live first.more second.more a.marks);
       };
 }

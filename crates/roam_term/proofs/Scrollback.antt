@@ -145,7 +145,7 @@ none_by_put g w s narrow none =
     ∙ ap (λ v. cond v (top_rows 1 s) []) (and_none (eqb s.top 0))
 
 -- up to the end of the row nothing leaves
-none_by_puts : (gs : List Glyph) (w : Writing) (s : Screen) → AreNarrow gs → s.pending ≡ false → s.col + length gs ≤ s.cols → left_by_puts gs w s ≡ []
+pub none_by_puts : (gs : List Glyph) (w : Writing) (s : Screen) → AreNarrow gs → s.pending ≡ false → s.col + length gs ≤ s.cols → left_by_puts gs w s ≡ []
 none_by_puts [] w s narrow none room = refl
 none_by_puts (g ∷ []) w s narrow none room = ap (λ l. l ++ []) (none_by_put g w s (narrow 0).0 none)
 none_by_puts (g ∷ h ∷ gs) w s narrow none room =

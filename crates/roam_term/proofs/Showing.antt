@@ -6,8 +6,7 @@ use Rattle.std.proofs.lemmas.List.Elements.{All-drop}
 use Rattle.std.proofs.Math.Seq.{take-add}
 use Rattle.roam_text.specs.Log.{Item}
 use Rattle.roam_cells.specs.Glyph.{Glyph, blank, is_wide, is_right_half, right_of}
-use Rattle.roam_cells.specs.Place.{cell_at, AreWhole}
-use Rattle.roam_cells.specs.Screenshot.{AreUnguarded}
+use Rattle.roam_cells.specs.Place.{cell_at, AreWhole, AreUnguarded}
 use Rattle.roam_cells.proofs.Places.{place_below}
 use Rattle.roam_history.specs.Histories.{Scrollback, IsRow}
 use Rattle.roam_term.specs.Terminal.{Live, term}

@@ -8,6 +8,11 @@ use Rattle.roam_cells.specs.Width.{width_of, is_answer_zero, is_joiner}
 use Rattle.roam_cells.specs.Glyph.{Glyph, is_wide, is_wide_text, is_right_half, is_empty_text, is_text, is_cell_text, are_joiners, right_of, with_point, blank}
 use Rattle.roam_cells.specs.Place.{cell_at}
 use Rattle.roam_cells.specs.declared.styles.Style.{Style}
+use Rattle.roam_cells.specs.declared.styles.Colour.{Colour}
+use Rattle.roam_cells.specs.declared.styles.Colour.TheVariants.{Default, Index, Rgb}
+use Rattle.roam_controls.specs.Renditions.{coloured}
+use Rattle.roam_controls.specs.declared.renditions.Layer.{Layer}
+use Rattle.roam_controls.specs.declared.renditions.Layer.TheVariants.{Foreground, Background}
 use Rattle.roam_cells.proofs.Places.{get_or-table, length-table, place_below}
 use Rattle.roam_charset.specs.Charsets.{mapped_by}
 use Rattle.roam_charset.specs.declared.charsets.Charset.TheVariants.{Ascii}
@@ -26,9 +31,9 @@ use Rattle.roam_text.specs.declared.functions.Function.{Function}
 use Rattle.roam_text.specs.declared.functions.Function.TheVariants.{Print}
 use Rattle.roam_term.specs.declared.pens.Saved.{Saved}
 use Rattle.roam_term.specs.Terminal.{Live, changed, lived, printed_on, written as written_on}
-use Rattle.roam_term.specs.ControlFunctions.{IsColour, hide_cursor, show_cursor, erase_all, place_cursor, set_style}
+use Rattle.roam_term.specs.ControlFunctions.{IsColour, layer_code, plain_colour, plain_style, mixture, set_mixture, restyle, hide_cursor, show_cursor, erase_all, place_cursor, set_style}
 use Rattle.roam_term.proofs.Cells.{first_of, by, written_hit, written_half}
-use Rattle.roam_term.proofs.Styles.{styled-codes}
+use Rattle.roam_term.proofs.Styles.{styled-codes, mixed-codes}
 
 -- functions one after another
 abbrev pub acted : List Function → Live → Live
@@ -82,9 +87,15 @@ module _ (k : Constants) where
 
     -- SGR
     pub restyles : (s : Style) → IsColour s.foreground → IsColour s.background
-        → changed (set_style s) (at_work cells row col pending g visible printed) ≡ at_work cells row col pending s visible None
+        → changed (set_style s) (at_work cells row col pending g visible printed) ≡ at_work cells row col pending (plain_style s) visible None
     unfolding changed
     restyles s a b = ap (λ x. at_work cells row col pending x visible None) (styled-codes s g a b)
+
+    pub mixes : (layer : Layer) (r h b : ℕ) → IsColour (Rgb r h b)
+        → changed (mixture (layer_code layer) r h b) (at_work cells row col pending g visible printed)
+        ≡ at_work cells row col pending (coloured layer (Rgb r h b) g) visible None
+    unfolding changed
+    mixes layer r h b is = ap (λ x. at_work cells row col pending x visible None) (mixed-codes layer g r h b is)
 
     -- DECTCEM
     pub hides : changed hide_cursor (at_work cells row col pending g visible printed) ≡ at_work cells row col pending g false None
@@ -100,6 +111,27 @@ module _ (k : Constants) where
         ≡ at_work (moved k.rows k.cols cells (page_blanked All row col)) row col false g visible None
     unfolding changed erased_in_page
     erases = refl
+
+  -- ---- a style is set whole
+
+  module _ (cells : List Glyph) (row col : ℕ) (pending : Bool) (visible : Bool) where
+    abbrev styled_so : Style → Live
+    styled_so s = at_work cells row col pending s visible None
+
+    mixed_in : (layer : Layer) (x : Colour) (s : Style) → IsColour x
+        → acted (set_mixture (layer_code layer) x) (styled_so (coloured layer (plain_colour x) s)) ≡ styled_so (coloured layer x s)
+    mixed_in layer Default s h = refl
+    mixed_in layer (Index n) s h = refl
+    mixed_in Foreground (Rgb r g b) s h = mixes cells row col pending (coloured Foreground Default s) visible None Foreground r g b h
+    mixed_in Background (Rgb r g b) s h = mixes cells row col pending (coloured Background Default s) visible None Background r g b h
+
+    pub restyled : (g s : Style) (printed : Option ℕ) → IsColour s.foreground → IsColour s.background
+        → acted (restyle s) (at_work cells row col pending g visible printed) ≡ styled_so s
+    restyled g s printed a b =
+        ap (acted (set_mixture 38 s.foreground ++ set_mixture 48 s.background)) (restyles cells row col pending g visible printed s a b)
+        ∙ acted-append (set_mixture 38 s.foreground) (set_mixture 48 s.background) (styled_so (plain_style s))
+        ∙ ap (acted (set_mixture 48 s.background)) (mixed_in Foreground s.foreground (coloured Background (plain_colour s.background) s) a)
+        ∙ mixed_in Background s.background s b
 
   -- ---- a cell is put
 

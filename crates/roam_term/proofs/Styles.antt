@@ -1,16 +1,15 @@
 -- SGR with all of a style's codes sets that style.
-use Rattle.std.proofs.Common.{◌≡◌, ℕ, Bool, true, false, List, [], refl, sym, ap, ◌∙◌}
+use Rattle.std.proofs.Common.{◌≡◌, ℕ, Bool, true, false, List, [], ◌∷◌, refl, sym, ap, ◌∙◌}
 use Rattle.std.specs.Prelude.{fold, if◌then◌else◌}
 use Rattle.std.proofs.lemmas.Bool.{le-leb}
 use Rattle.roam_cells.specs.declared.styles.Style.{Style}
 use Rattle.roam_cells.specs.declared.styles.Colour.{Colour}
-use Rattle.roam_cells.specs.declared.styles.Colour.TheVariants.{Default, Index}
+use Rattle.roam_cells.specs.declared.styles.Colour.TheVariants.{Default, Index, Rgb}
 use Rattle.roam_controls.specs.declared.renditions.Awaited.TheVariants.{Aspect}
 use Rattle.roam_controls.specs.declared.renditions.Layer.{Layer}
 use Rattle.roam_controls.specs.declared.renditions.Layer.TheVariants.{Foreground, Background}
-use Rattle.roam_controls.specs.declared.renditions.Rendition.{Rendition}
-use Rattle.roam_controls.specs.Renditions.{coloured, with_parameter, styled}
-use Rattle.roam_term.specs.ControlFunctions.{flag_code, colour_codes, style_codes, IsColour}
+use Rattle.roam_controls.specs.Renditions.{Rendition, coloured, with_parameter, styled}
+use Rattle.roam_term.specs.ControlFunctions.{flag_code, colour_codes, style_codes, layer_code, plain_colour, plain_style, IsColour}
 
 abbrev folded : Style → List ℕ → Rendition
 folded g params = fold with_parameter (record { style = g; awaited = Aspect }) params
@@ -44,13 +43,8 @@ module _ (b f i u k r c s : Bool) (x y : Colour) (more : List ℕ) where
   strike : folded (style b f i u k r c false x y) (flag_code s 9 more) ≡ folded (style b f i u k r c s x y) more
   strike = elim s as (λ s. folded (style b f i u k r c false x y) (flag_code s 9 more) ≡ folded (style b f i u k r c s x y) more) [ true ↦ refl | false ↦ refl ]
 
--- a colour after 38 or 48
-abbrev code_of : Layer → ℕ
-code_of Foreground = 38
-code_of Background = 48
-
 coloured-is : (layer : Layer) (g : Style) (x : Colour) (more : List ℕ) → IsColour x → coloured layer Default g ≡ g
-    → folded g (colour_codes (code_of layer) x more) ≡ folded (coloured layer x g) more
+    → folded g (colour_codes (layer_code layer) x more) ≡ folded (coloured layer (plain_colour x) g) more
 coloured-is Foreground g Default more h e = ap (λ s. folded s more) (sym e)
 coloured-is Background g Default more h e = ap (λ s. folded s more) (sym e)
 coloured-is Foreground g (Index n) more h e =
@@ -59,8 +53,16 @@ coloured-is Foreground g (Index n) more h e =
 coloured-is Background g (Index n) more h e =
     ap (λ b. fold with_parameter (if b then record { style = coloured Background (Index n) g; awaited = Aspect } else record { style = g; awaited = Aspect }) more)
     (le-leb n 255 h)
+coloured-is Foreground g (Rgb x y z) more h e = ap (λ s. folded s more) (sym e)
+coloured-is Background g (Rgb x y z) more h e = ap (λ s. folded s more) (sym e)
 
-pub styled-codes : (s g : Style) → IsColour s.foreground → IsColour s.background → styled (style_codes s) g ≡ s
+-- a mixture after 38 or 48 and 2
+pub mixed-codes : (layer : Layer) (s : Style) (r g b : ℕ) → IsColour (Rgb r g b)
+    → styled (layer_code layer ∷ 2 ∷ r ∷ g ∷ b ∷ []) s ≡ coloured layer (Rgb r g b) s
+mixed-codes Foreground s r g b h = rw (le-leb r 255 h.0, le-leb g 255 h.1, le-leb b 255 h.2) refl
+mixed-codes Background s r g b h = rw (le-leb r 255 h.0, le-leb g 255 h.1, le-leb b 255 h.2) refl
+
+pub styled-codes : (s g : Style) → IsColour s.foreground → IsColour s.background → styled (style_codes s) g ≡ plain_style s
 styled-codes s g fore back =
     let last = colour_codes 48 s.background [] in
     let colours = colour_codes 38 s.foreground last in
@@ -81,4 +83,4 @@ styled-codes s g fore back =
     ∙ conceal s.bold s.faint s.italic s.underline s.blink s.reverse s.conceal false Default Default a
     ∙ strike s.bold s.faint s.italic s.underline s.blink s.reverse s.conceal s.strike Default Default colours
     ∙ coloured-is Foreground (style s.bold s.faint s.italic s.underline s.blink s.reverse s.conceal s.strike Default Default) s.foreground last fore refl
-    ∙ coloured-is Background (style s.bold s.faint s.italic s.underline s.blink s.reverse s.conceal s.strike s.foreground Default) s.background [] back refl)
+    ∙ coloured-is Background (style s.bold s.faint s.italic s.underline s.blink s.reverse s.conceal s.strike (plain_colour s.foreground) Default) s.background [] back refl)

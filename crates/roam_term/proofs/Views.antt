@@ -6,8 +6,7 @@ use Rattle.std.proofs.lemmas.List.{get_or_append_left, get_or-append_right, get_
 use Rattle.std.proofs.lemmas.List.Edits.{get_or-between}
 use Rattle.std.proofs.Math.Seq.{take-append-add}
 use Rattle.roam_cells.specs.Glyph.{Glyph, blank, is_wide, is_right_half, right_of}
-use Rattle.roam_cells.specs.Place.{cell_at, glyph_at, IsWholeLine, IsWholeRow, AreWhole}
-use Rattle.roam_cells.specs.Screenshot.{row_of}
+use Rattle.roam_cells.specs.Place.{cell_at, glyph_at, IsWholeLine, IsWholeRow, AreWhole, row_of}
 use Rattle.roam_cells.proofs.Places.{place_below}
 use Rattle.roam_history.specs.Histories.{IsRow}
 use Rattle.roam_history.specs.Lines.{with_blanks}

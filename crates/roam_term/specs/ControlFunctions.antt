@@ -1,8 +1,10 @@
 -- Control functions by name, in the form in which every VT220 has them.
-use Rattle.std.specs.Prelude.{ℕ, ◌≤◌, ⊤, Bool, true, false, List, [], ◌∷◌, Option, Some, None}
+use Rattle.std.specs.Prelude.{ℕ, ◌≤◌, ⊤, Bool, true, false, List, [], ◌∷◌, ◌++◌, Option, Some, None}
 use Rattle.roam_cells.specs.declared.styles.Style.{Style}
 use Rattle.roam_cells.specs.declared.styles.Colour.{Colour}
-use Rattle.roam_cells.specs.declared.styles.Colour.TheVariants.{Default, Index}
+use Rattle.roam_cells.specs.declared.styles.Colour.TheVariants.{Default, Index, Rgb}
+use Rattle.roam_controls.specs.declared.renditions.Layer.{Layer}
+use Rattle.roam_controls.specs.declared.renditions.Layer.TheVariants.{Foreground, Background}
 use Rattle.roam_text.specs.declared.functions.Function.{Function}
 use Rattle.roam_text.specs.declared.functions.Function.TheVariants.{Esc, Csi}
 
@@ -34,10 +36,11 @@ abbrev pub flag_code : Bool → ℕ → List ℕ → List ℕ
 flag_code true code rest = code ∷ rest
 flag_code false code rest = rest
 
--- the parameters of a colour after 38 or 48, before others (the indexed colours of ISO 8613-6)
+-- the parameters of a colour after 38 or 48, before others (the indexed colours of ISO 8613-6); a mixture has a function of its own
 abbrev pub colour_codes : ℕ → Colour → List ℕ → List ℕ
 colour_codes code Default rest = rest
 colour_codes code (Index n) rest = code ∷ 5 ∷ n ∷ rest
+colour_codes code (Rgb r g b) rest = rest
 
 -- the parameters that set a style, whatever style it was: 0, each flag in the order of its number, and the colours that aren't the default
 abbrev pub style_codes : Style → List ℕ
@@ -54,16 +57,46 @@ style_codes s =
     (colour_codes 38 s.foreground
     (colour_codes 48 s.background [])))))))))
 
--- a style is set (SGR, ECMA-48 8.3.117)
+-- a style is set but for its mixtures (SGR, ECMA-48 8.3.117)
 abbrev pub set_style : Style → Function
 set_style s = csi None (style_codes s) 0x6D
 
+-- a mixture of red, green and blue is set, after 38 or 48 (the direct colours of ISO 8613-6)
+abbrev pub mixture : ℕ → ℕ → ℕ → ℕ → Function
+mixture code r g b = csi None (code ∷ 2 ∷ r ∷ g ∷ b ∷ []) 0x6D
+
+-- the parameter that says what a colour is of
+abbrev pub layer_code : Layer → ℕ
+layer_code Foreground = 38
+layer_code Background = 48
+
+-- what sets a colour that is a mixture
+abbrev pub set_mixture : ℕ → Colour → List Function
+set_mixture code Default = []
+set_mixture code (Index n) = []
+set_mixture code (Rgb r g b) = mixture code r g b ∷ []
+
+-- a style is set whole, whatever style it was: its mixtures by functions of their own, so that none has more than sixteen parameters
+abbrev pub restyle : Style → List Function
+restyle s = set_style s ∷ (set_mixture 38 s.foreground ++ set_mixture 48 s.background)
+
+-- a colour where it is no mixture, else the default
+abbrev pub plain_colour : Colour → Colour
+plain_colour Default = Default
+plain_colour (Index n) = Index n
+plain_colour (Rgb r g b) = Default
+
+-- a style without its mixtures
+abbrev pub plain_style : Style → Style
+plain_style s = record s { foreground = plain_colour s.foreground; background = plain_colour s.background }
+
 -- ---- the styles that SGR sets
 
--- the default colour, or one of a table of 256
+-- the default colour, one of a table of 256, or a mixture of bytes
 abbrev pub IsColour : Colour → Type 0
 IsColour Default = ⊤
 IsColour (Index n) = n ≤ 255
+IsColour (Rgb r g b) = (r ≤ 255) × (g ≤ 255) × (b ≤ 255)
 
 -- both colours of a style
 pub record IsIndexed (s : Style) : Type 0 where

@@ -2,15 +2,18 @@
 use Rattle.std.specs.Prelude.{◌≡◌, ℕ, ◌+◌, ◌-◌, ◌*◌, ◌<◌, ◌≤◌, true, false, List, [], ◌∷◌, length, None, Some}
 use Rattle.roam_cells.specs.Glyph.{Glyph, is_wide, right_of, blank}
 use Rattle.roam_cells.specs.Place.{cell_at}
-use Rattle.roam_cells.specs.Screenshot.{blank_screenshot}
+use Rattle.roam_screens.specs.Screenshot.{blank_screenshot}
 use Rattle.roam_cells.specs.Width.{width_of, is_joiner}
 use Rattle.roam_cells.specs.declared.styles.Style.{Style}
+use Rattle.roam_cells.specs.declared.styles.Colour.TheVariants.{Rgb}
+use Rattle.roam_controls.specs.Renditions.{coloured}
+use Rattle.roam_controls.specs.declared.renditions.Layer.{Layer}
 use Rattle.roam_grid.specs.Screen.{Screen}
 use Rattle.roam_grid.specs.Writing.{columns, joined_on}
 use Rattle.roam_rows.specs.Places.{in_row, moved}
 use Rattle.roam_rows.specs.Writing.{written}
 use Rattle.roam_text.specs.declared.functions.Function.TheVariants.{Print}
-use Rattle.roam_term.specs.ControlFunctions.{IsIndexed, hide_cursor, show_cursor, erase_all, place_cursor, reset_all, set_style}
+use Rattle.roam_term.specs.ControlFunctions.{IsColour, IsIndexed, layer_code, plain_style, mixture, hide_cursor, show_cursor, erase_all, place_cursor, reset_all, set_style}
 use Rattle.roam_term.specs.Ground.{IsGround, ShowsScreen, IsSized, in_style}
 use Rattle.roam_term.specs.Terminal.{Live, changed}
 
@@ -21,10 +24,15 @@ CursorIsPlaced =
     → changed (place_cursor row col) (in_style g t)
     ≡ in_style g (record t { screen = record t.screen { row = row - 1; col = col - 1; pending = false }; printed = None })
 
--- SGR sets a style whole, whatever style was set
+-- SGR sets a style without its mixtures, whatever style was set
 abbrev pub StyleIsSet : Type 0
 StyleIsSet = (t : Live) (g s : Style) → IsGround t → IsIndexed s
-    → changed (set_style s) (in_style g t) ≡ in_style s (record t { printed = None })
+    → changed (set_style s) (in_style g t) ≡ in_style (plain_style s) (record t { printed = None })
+
+-- SGR with 38 or 48 and 2 sets a mixture of three bytes, and nothing else of a style
+abbrev pub MixtureIsSet : Type 0
+MixtureIsSet = (t : Live) (s : Style) (layer : Layer) (r g b : ℕ) → IsGround t → IsColour (Rgb r g b)
+    → changed (mixture (layer_code layer) r g b) (in_style s t) ≡ in_style (coloured layer (Rgb r g b) s) (record t { printed = None })
 
 -- DECTCEM hides the cursor, and shows it
 abbrev pub CursorIsHidden : Type 0

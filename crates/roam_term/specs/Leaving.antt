@@ -2,7 +2,7 @@
 -- top margin is the first row (this project's profile).
 use Rattle.std.specs.Prelude.{ℕ, zero, suc, ◌+◌, ◌==◌, ◌&&◌, min, if◌then◌else◌, List, [], ◌∷◌, ◌++◌}
 use Rattle.roam_cells.specs.Glyph.{Glyph}
-use Rattle.roam_cells.specs.Screenshot.{row_of}
+use Rattle.roam_cells.specs.Place.{row_of}
 use Rattle.roam_controls.specs.declared.edits.Edit.{Edit}
 use Rattle.roam_controls.specs.declared.edits.Edit.TheVariants.{InsertCells, DeleteCells, InsertLines, DeleteLines, ScrollUp, ScrollDown, Align}
 use Rattle.roam_controls.specs.declared.motions.Motion.{Motion}

@@ -7,11 +7,13 @@ pub mod Settings
 pub mod Reports
 pub mod Leaving
 pub mod Terminal
+pub mod Marks
 pub mod Picture
 pub mod Stands
 pub mod Keys
 pub mod Sizes
 pub mod Screens
+pub mod Unmarked
 pub mod ControlFunctions
 pub mod Ground
 pub mod GroundFunctions

@@ -2,7 +2,7 @@
 use Rattle.std.specs.Prelude.{ℕ, ◌+◌, ◌-◌, ◌*◌, Bool, false, not, ◌&&◌, nat_le, min, if◌then◌else◌, List, ◌++◌, length, map, take, drop}
 use Rattle.std.specs.List.{flat_map}
 use Rattle.roam_cells.specs.Glyph.{Glyph}
-use Rattle.roam_cells.specs.Screenshot.{Screenshot}
+use Rattle.roam_screens.specs.Screenshot.{Screenshot}
 use Rattle.roam_cells.specs.declared.styles.Style.{Style}
 use Rattle.roam_text.specs.Log.{Item}
 use Rattle.roam_history.specs.Histories.{Scrollback}

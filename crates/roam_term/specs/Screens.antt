@@ -1,7 +1,7 @@
 -- Logs whose sizes are those of screens, and what they show.
 use Rattle.std.specs.Prelude.{◌≡◌, ℕ, List, [], ◌∷◌}
 use Rattle.roam_cells.specs.Limits.{IsSize}
-use Rattle.roam_cells.specs.Screenshot.{Screenshot, IsScreenshot}
+use Rattle.roam_screens.specs.Screenshot.{Screenshot, IsScreenshot}
 use Rattle.roam_text.specs.Log.{Item, Byte, Resized}
 
 -- each size in a log is one that a screen may have

@@ -1,15 +1,20 @@
 -- What a terminal stands for.
-use Rattle.std.specs.Prelude.{◌≡◌, ℕ, ◌+◌, ◌*◌, ◌≤◌, List, [], ◌∷◌, ◌++◌, map, length}
+use Rattle.std.specs.Prelude.{◌≡◌, ℕ, ◌+◌, ◌*◌, ◌≤◌, Bool, List, [], ◌∷◌, ◌++◌, map, length}
 use Rattle.roam_cells.specs.Limits.{IsSize}
 use Rattle.roam_history.specs.Histories.{Scrollback}
+use Rattle.roam_text.specs.Functions.{functions_of}
 use Rattle.roam_text.specs.Log.{Item, Byte, Resized}
 use Rattle.roam_text.specs.Stands.{Stands, View}
+use Rattle.roam_text.specs.declared.functions.Function.{Function}
+use Rattle.roam_term.specs.Marks.{marked_through}
 use Rattle.roam_term.specs.Terminal.{Live, term, reports}
 
--- what contracts see of a terminal: its reader, what lives, the history, and the answered bytes that wait
+-- what contracts see of a terminal: its reader, what lives, the marks of the screen that is shown, the history, and the answered bytes
+-- that wait
 pub record TermView : Type 0 where
   pub reader : View
   pub live : Live
+  pub marks : List Bool
   pub history : Scrollback
   pub waiting : List ℕ
 
@@ -39,11 +44,18 @@ pub record Gains (old new : List ℕ) (rows cols lines : ℕ) (log later : List 
   pub answers : reports rows cols lines later ≡ reports rows cols lines log ++ more
   pub queue : new ≡ old ++ more
 
+-- the marks became what the functions make of them that came between one log and a later one
+pub record GainsMarks (old new : TermView) (log later : List Item) : Type 0 where
+  pub more : List Function
+  pub functions : functions_of later ≡ functions_of log ++ more
+  pub marks : new.marks ≡ marked_through old.live more old.marks
+
 -- items make one terminal of another: for every log that the old one stood for, the new one stands for it followed by the items
 pub record Follows (old new : TermView) (items : List Item) : Type 0 where
   pub stands : (rows cols lines : ℕ) (log : List Item) → Shows old rows cols lines log → Shows new rows cols lines (log ++ items)
   pub gains : (rows cols lines : ℕ) (log : List Item) → Shows old rows cols lines log
       → Gains old.waiting new.waiting rows cols lines log (log ++ items)
+  pub marks : (rows cols lines : ℕ) (log : List Item) → Shows old rows cols lines log → GainsMarks old new log (log ++ items)
 
 -- a piece makes one terminal of another
 abbrev pub Fed : TermView → TermView → List ℕ → Type 0

@@ -2,6 +2,8 @@
 ghost use Rattle.std.specs.Prelude.{◌≡◌};
 ghost use Rattle.roam_grid.specs.Screen.{IsSameSize};
 ghost use Rattle.roam_term.specs.Terminal.{is_alternate_mode, switched, alternate_shown, main_shown, screen_chosen};
+ghost use Rattle.roam_grid.specs.Marks.{all_on};
+ghost use Rattle.roam_term.specs.Marks.{marks_chosen};
 
 use crate::canvases::Canvas;
 use std::mem;
@@ -16,8 +18,9 @@ pub fn is_alternate_mode(number: u16) -> bool
 impl Canvas {
     // Shows the screen that wasn't shown; cursor, margins and tab stops stay, and no wrap pends.
     fn switch(&mut self)
-        ensures switched { self.new ≡ switched self.old }
-        ensures size { IsSameSize self.old.screen self.new.screen }
+        ensures switched { self.new.live ≡ switched self.old.live }
+        ensures marks { self.new.marks ≡ all_on }
+        ensures size { IsSameSize self.old.live.screen self.new.live.screen }
     {
         mem::swap(&mut self.grid, &mut self.other);
         self.grid.take_frame(&self.other);
@@ -25,8 +28,9 @@ impl Canvas {
     }
 
     fn show_alternate(&mut self, number: u16)
-        ensures shown { self.new ≡ alternate_shown number self.old }
-        ensures size { IsSameSize self.old.screen self.new.screen }
+        ensures shown { self.new.live ≡ alternate_shown number self.old.live }
+        ensures marks { self.new.marks ≡ all_on }
+        ensures size { IsSameSize self.old.live.screen self.new.live.screen }
     {
         if number == 1049 {
             self.save();
@@ -38,8 +42,9 @@ impl Canvas {
     }
 
     fn show_main(&mut self, number: u16)
-        ensures shown { self.new ≡ main_shown number self.old }
-        ensures size { IsSameSize self.old.screen self.new.screen }
+        ensures shown { self.new.live ≡ main_shown number self.old.live }
+        ensures marks { self.new.marks ≡ all_on }
+        ensures size { IsSameSize self.old.live.screen self.new.live.screen }
     {
         match number {
             1047 => {
@@ -56,8 +61,9 @@ impl Canvas {
 
     /// Shows the alternate or the main screen, by a mode that chooses it; where that one is shown already, nothing happens.
     pub fn choose_screen(&mut self, alternate: bool, number: u16)
-        ensures chosen { self.new ≡ screen_chosen alternate number self.old }
-        ensures size { IsSameSize self.old.screen self.new.screen }
+        ensures chosen { self.new.live ≡ screen_chosen alternate number self.old.live }
+        ensures marks { self.new.marks ≡ marks_chosen alternate self.old.live self.old.marks }
+        ensures size { IsSameSize self.old.live.screen self.new.live.screen }
     {
         if alternate && !self.alternate {
             self.show_alternate(number);

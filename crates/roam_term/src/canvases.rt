@@ -1,18 +1,20 @@
 //! What lives of a terminal: its screens, its pen, its modes, its sets.
-ghost use Rattle.std.specs.Prelude.{◌≡◌, ◌≤◌, ◌<◌, ◌+◌, ◌++◌, ◌↔◌, IfOk, IfErr, None, Some, IsTrue, length, fold, map};
+ghost use Rattle.std.specs.Prelude.{◌≡◌, ◌≤◌, ◌<◌, ◌+◌, ◌++◌, ◌↔◌, IfOk, IfErr, None, Some, IsTrue, length, fold, map, take};
 ghost use Rattle.roam_cells.specs.Limits.{IsSize};
 ghost use Rattle.roam_charset.specs.Charsets.{mapped_by};
 ghost use Rattle.roam_charset.specs.Sets.{set_in, in_use};
+ghost use Rattle.roam_grid.specs.Marks.{all_off, all_on};
 ghost use Rattle.roam_grid.specs.Screen.{IsSameSize, IsScreen};
 ghost use Rattle.roam_text.specs.Functions.{ArePlain};
 ghost use Rattle.roam_text.specs.declared.functions.Function.{Function};
 ghost use Rattle.roam_term.specs.Terminal.{printed_on, printed_all, mode_set, private_mode_set, kept_of, saved_on, restored_to, soft_reset, reset, repeated, set_by, performed, commanded, answered_by, started_live, writing_under, on_main, with_rows, left_by, left_by_character, left_by_repeat, kept_by};
+ghost use Rattle.roam_term.specs.Marks.{marked_through, marks_printed, marks_private_mode, marks_private_modes, marks_repeated, marks_set_by, marks_performed};
 
 use crate::alternates::is_alternate_mode;
 use crate::edits::edit_by;
 use crate::erasures::erase_by;
 use crate::leaving::{
-    leave_by_edit, leave_by_motion, leave_by_put, put_run, put_times, stays, take_top_rows,
+    leave_by_edit, leave_by_motion, put, put_run, put_times, stays, take_top_rows,
 };
 use crate::motions::move_by;
 use crate::outputs::Output;
@@ -43,20 +45,23 @@ pub struct Canvas {
 }
 
 impl Model for Canvas {
-    ghost use Rattle.roam_term.specs.Terminal.{Live};
+    ghost use Rattle.roam_term.specs.Marks.{CanvasView};
 
-    ghost Value = { Live };
+    ghost Value = { CanvasView };
 
     ghost view = { λ c. record {
-      screen = c.grid.screen;
-      other = c.other.screen.cells;
-      alternate = c.alternate;
-      pen = c.pen;
-      modes = c.modes;
-      sets = c.sets;
-      saved = c.saved;
-      saved_alternate = c.saved_alternate;
-      printed = c.printed;
+      live = record {
+        screen = c.grid.screen;
+        other = c.other.screen.cells;
+        alternate = c.alternate;
+        pen = c.pen;
+        modes = c.modes;
+        sets = c.sets;
+        saved = c.saved;
+        saved_alternate = c.saved_alternate;
+        printed = c.printed;
+      };
+      marks = c.grid.marks;
     } };
 
     ghost use Rattle.roam_grid.specs.Screen.{IsSameSize};
@@ -79,7 +84,8 @@ impl Canvas {
     /// Two blank screens, as a terminal starts; refuses want of memory.
     pub fn new(alloc: Global, rows: u16, cols: u16) -> Result<Self, Fault>
         requires size { IsSize rows cols }
-        ensures started { IfOk result (λ c. c ≡ started_live rows cols) }
+        ensures started { IfOk result (λ c. c.live ≡ started_live rows cols) }
+        ensures marks { IfOk result (λ c. c.marks ≡ all_on) }
         ensures err { IfErr result (λ e. e ≡ Fault.OutOfMemory) }
     {
         let grid = Grid::new(alloc, usize::from(rows), usize::from(cols))?;
@@ -99,28 +105,43 @@ impl Canvas {
 
     /// What is true of every screen.
     pub fn facts(&self)
-        ensures screen { IsScreen self.now.screen }
+        ensures screen { IsScreen self.now.live.screen }
     {
         self.grid.facts();
     }
 
     /// The screen that is shown.
     pub fn grid(&self) -> &Grid
-        ensures screen { result.now.screen ≡ self.now.screen }
+        ensures screen { result.now.screen ≡ self.now.live.screen }
     {
         &self.grid
     }
 
+    /// The marks of the screen that is shown.
+    pub fn marks(&self) -> &[bool]
+        ensures marks { result.now ≡ take self.now.live.screen.rows self.now.marks }
+        ensures len { length result.now ≡ self.now.live.screen.rows }
+    {
+        self.grid.marks()
+    }
+
+    /// Puts all marks off.
+    pub fn clear_marks(&mut self)
+        ensures cleared { self.new ≡ record self.old { marks = all_off } }
+    {
+        self.grid.clear_marks();
+    }
+
     /// Whether the alternate screen is shown.
     pub fn is_alternate(&self) -> bool
-        ensures alternate { result ≡ self.now.alternate }
+        ensures alternate { result ≡ self.now.live.alternate }
     {
         self.alternate
     }
 
     /// The modes.
     pub fn modes(&self) -> Modes
-        ensures modes { result ≡ self.now.modes }
+        ensures modes { result ≡ self.now.live.modes }
     {
         self.modes
     }
@@ -128,27 +149,28 @@ impl Canvas {
     /// Whether printable ASCII prints itself.
     #[inline]
     pub fn prints_ascii(&self) -> bool
-        ensures ascii { IsTrue result ↔ ((set_in self.now.sets.locked self.now.sets ≡ Charset.Ascii) × (self.now.sets.single ≡ None)) }
+        ensures ascii { IsTrue result ↔ ((set_in self.now.live.sets.locked self.now.live.sets ≡ Charset.Ascii)
+            × (self.now.live.sets.single ≡ None)) }
     {
         self.sets.is_ascii()
     }
 
     /// Prints a character: one of width 0 joins the cell before it. The row that leaves comes into the history.
-    #[inline]
+    #[inline(always)]
     #[tactic(auto, unfolding(crate::specs::Terminal::printed_on))]
     pub fn print(&mut self, c: char, history: &mut History)
-        requires cols { history.old.cols ≡ self.old.screen.cols }
-        ensures printed { self.new ≡ printed_on c self.old }
-        ensures history { history.new ≡ with_rows (on_main self.old.alternate
-            (left_by_character (mapped_by (in_use self.old.sets) c) self.old)) history.old }
-        ensures size { IsSameSize self.old.screen self.new.screen }
+        requires cols { history.old.cols ≡ self.old.live.screen.cols }
+        ensures printed { self.new.live ≡ printed_on c self.old.live }
+        ensures marks { self.new.marks ≡ marks_printed c self.old.live self.old.marks }
+        ensures history { history.new ≡ with_rows (on_main self.old.live.alternate
+            (left_by_character (mapped_by (in_use self.old.live.sets) c) self.old.live)) history.old }
+        ensures size { IsSameSize self.old.live.screen self.new.live.screen }
     {
         let c = self.sets.map(c);
-        match Cell::of_ink(&[c], self.pen) {
+        match Cell::of_char(c, self.pen) {
             Some(cell) => {
                 let writing = writing_under(self.modes);
-                leave_by_put(&self.grid, cell, writing, self.alternate, history);
-                self.grid.put(cell, writing);
+                put(&mut self.grid, cell, writing, self.alternate, history);
                 self.printed = Some(c);
             }
             None => {
@@ -163,13 +185,14 @@ impl Canvas {
     pub fn print_run(&mut self, bytes: &[u8], history: &mut History)
         requires some { 0 < length bytes.now }
         requires plain { ArePlain bytes.now }
-        requires set { set_in self.old.sets.locked self.old.sets ≡ Charset.Ascii }
-        requires single { self.old.sets.single ≡ None }
-        requires cols { history.old.cols ≡ self.old.screen.cols }
-        ensures printed { self.new ≡ printed_all self.old bytes.now }
-        ensures history { history.new ≡ kept_by self.old (map Function.Print bytes.now) history.old }
+        requires set { set_in self.old.live.sets.locked self.old.live.sets ≡ Charset.Ascii }
+        requires single { self.old.live.sets.single ≡ None }
+        requires cols { history.old.cols ≡ self.old.live.screen.cols }
+        ensures printed { self.new.live ≡ printed_all self.old.live bytes.now }
+        ensures marks { self.new.marks ≡ marked_through self.old.live (map Function.Print bytes.now) self.old.marks }
+        ensures history { history.new ≡ kept_by self.old.live (map Function.Print bytes.now) history.old }
         ensures cols { history.new.cols ≡ history.old.cols }
-        ensures size { IsSameSize self.old.screen self.new.screen }
+        ensures size { IsSameSize self.old.live.screen self.new.live.screen }
     {
         history.facts();
         let pen = Cell::space(self.pen);
@@ -184,16 +207,29 @@ impl Canvas {
         self.printed = Some(bytes[bytes.len() - 1] as char);
     }
 
+    /// Does what SGR with these parameters asks for, as `perform` does.
+    #[inline]
+    pub fn restyle(&mut self, params: &[u16])
+        ensures performed { self.new.live ≡ commanded (Command.Sets Setting.Rendition) params.now self.old.live }
+        ensures marks { self.new.marks ≡ marks_performed (Command.Sets Setting.Rendition) params.now self.old.live self.old.marks }
+        ensures size { IsSameSize self.old.live.screen self.new.live.screen }
+    {
+        self.pen = restyled(self.pen, params);
+        self.printed = None;
+    }
+
     fn set_mode(&mut self, on: bool, number: u16)
-        ensures set { self.new ≡ mode_set on self.old number }
-        ensures size { IsSameSize self.old.screen self.new.screen }
+        ensures set { self.new.live ≡ mode_set on self.old.live number }
+        ensures marks { self.new.marks ≡ self.old.marks }
+        ensures size { IsSameSize self.old.live.screen self.new.live.screen }
     {
         self.modes.set(on, number);
     }
 
     fn set_modes(&mut self, on: bool, numbers: &[u16])
-        ensures set { self.new ≡ fold (mode_set on) self.old numbers.now }
-        ensures size { IsSameSize self.old.screen self.new.screen }
+        ensures set { self.new.live ≡ fold (mode_set on) self.old.live numbers.now }
+        ensures marks { self.new.marks ≡ self.old.marks }
+        ensures size { IsSameSize self.old.live.screen self.new.live.screen }
     {
         for number in numbers {
             self.set_mode(on, *number);
@@ -201,8 +237,9 @@ impl Canvas {
     }
 
     fn set_private_mode(&mut self, on: bool, number: u16)
-        ensures set { self.new ≡ private_mode_set on self.old number }
-        ensures size { IsSameSize self.old.screen self.new.screen }
+        ensures set { self.new.live ≡ private_mode_set on self.old.live number }
+        ensures marks { self.new.marks ≡ marks_private_mode on self.old.live number self.old.marks }
+        ensures size { IsSameSize self.old.live.screen self.new.live.screen }
     {
         if is_alternate_mode(number) {
             self.choose_screen(on, number);
@@ -213,8 +250,9 @@ impl Canvas {
     }
 
     fn set_private_modes(&mut self, on: bool, numbers: &[u16])
-        ensures set { self.new ≡ fold (private_mode_set on) self.old numbers.now }
-        ensures size { IsSameSize self.old.screen self.new.screen }
+        ensures set { self.new.live ≡ fold (private_mode_set on) self.old.live numbers.now }
+        ensures marks { self.new.marks ≡ marks_private_modes on self.old.live numbers.now self.old.marks }
+        ensures size { IsSameSize self.old.live.screen self.new.live.screen }
     {
         for number in numbers {
             self.set_private_mode(on, *number);
@@ -223,7 +261,7 @@ impl Canvas {
 
     // What DECRC restores on the screen that is shown.
     fn kept(&self) -> Saved
-        ensures kept { result ≡ kept_of self.now }
+        ensures kept { result ≡ kept_of self.now.live }
     {
         let slot = if self.alternate {
             self.saved_alternate
@@ -238,8 +276,9 @@ impl Canvas {
 
     // DECSC
     pub(crate) fn save(&mut self)
-        ensures saved { self.new ≡ saved_on self.old }
-        ensures size { IsSameSize self.old.screen self.new.screen }
+        ensures saved { self.new.live ≡ saved_on self.old.live }
+        ensures marks { self.new.marks ≡ self.old.marks }
+        ensures size { IsSameSize self.old.live.screen self.new.live.screen }
     {
         let (row, col) = self.grid.cursor();
         let kept = Saved {
@@ -259,8 +298,9 @@ impl Canvas {
 
     // DECRC
     pub(crate) fn restore(&mut self)
-        ensures restored { self.new ≡ restored_to (kept_of self.old) self.old }
-        ensures size { IsSameSize self.old.screen self.new.screen }
+        ensures restored { self.new.live ≡ restored_to (kept_of self.old.live) self.old.live }
+        ensures marks { self.new.marks ≡ self.old.marks }
+        ensures size { IsSameSize self.old.live.screen self.new.live.screen }
     {
         let kept = self.kept();
         self.grid
@@ -272,8 +312,9 @@ impl Canvas {
 
     // DECSTR
     fn soft_reset(&mut self)
-        ensures reset { self.new ≡ soft_reset self.old }
-        ensures size { IsSameSize self.old.screen self.new.screen }
+        ensures reset { self.new.live ≡ soft_reset self.old.live }
+        ensures marks { self.new.marks ≡ self.old.marks }
+        ensures size { IsSameSize self.old.live.screen self.new.live.screen }
     {
         self.grid.facts();
         let bottom = self.grid.rows() - 1;
@@ -287,8 +328,9 @@ impl Canvas {
 
     // RIS
     fn reset(&mut self)
-        ensures reset { self.new ≡ reset self.old }
-        ensures size { IsSameSize self.old.screen self.new.screen }
+        ensures reset { self.new.live ≡ reset self.old.live }
+        ensures marks { self.new.marks ≡ all_on }
+        ensures size { IsSameSize self.old.live.screen self.new.live.screen }
     {
         self.grid.restart();
         self.other.facts();
@@ -304,10 +346,12 @@ impl Canvas {
 
     // REP
     fn repeat(&mut self, n: u16, history: &mut History)
-        requires cols { history.old.cols ≡ self.old.screen.cols }
-        ensures repeated { self.new ≡ repeated n self.old.printed self.old }
-        ensures history { history.new ≡ with_rows (on_main self.old.alternate (left_by_repeat n self.old.printed self.old)) history.old }
-        ensures size { IsSameSize self.old.screen self.new.screen }
+        requires cols { history.old.cols ≡ self.old.live.screen.cols }
+        ensures repeated { self.new.live ≡ repeated n self.old.live.printed self.old.live }
+        ensures marks { self.new.marks ≡ marks_repeated n self.old.live.printed self.old.live self.old.marks }
+        ensures history { history.new ≡ with_rows (on_main self.old.live.alternate (left_by_repeat n self.old.live.printed self.old.live))
+            history.old }
+        ensures size { IsSameSize self.old.live.screen self.new.live.screen }
     {
         stays(history);
         if let Some(c) = self.printed {
@@ -319,14 +363,15 @@ impl Canvas {
     }
 
     fn set(&mut self, setting: Setting, params: &[u16])
-        ensures set { self.new ≡ set_by setting params.now self.old }
-        ensures size { IsSameSize self.old.screen self.new.screen }
+        ensures set { self.new.live ≡ set_by setting params.now self.old.live }
+        ensures marks { self.new.marks ≡ marks_set_by setting params.now self.old.live self.old.marks }
+        ensures size { IsSameSize self.old.live.screen self.new.live.screen }
     {
         match setting {
             Setting::Mode(on) => self.set_modes(on, params),
             Setting::PrivateMode(on) => self.set_private_modes(on, params),
             Setting::Rendition => {
-                self.pen = Ink::new(restyled(self.pen.style(), params), self.pen.guard());
+                self.pen = restyled(self.pen, params);
             }
             Setting::Margins(top, bottom) => {
                 set_margins(&mut self.grid, top, bottom, self.modes.origin)
@@ -345,10 +390,11 @@ impl Canvas {
 
     // Does what a command asks for, but for what REP remembers.
     fn act(&mut self, command: Command, params: &[u16], history: &mut History)
-        requires cols { history.old.cols ≡ self.old.screen.cols }
-        ensures performed { self.new ≡ performed command params.now self.old }
-        ensures history { history.new ≡ with_rows (on_main self.old.alternate (left_by command self.old)) history.old }
-        ensures size { IsSameSize self.old.screen self.new.screen }
+        requires cols { history.old.cols ≡ self.old.live.screen.cols }
+        ensures performed { self.new.live ≡ performed command params.now self.old.live }
+        ensures marks { self.new.marks ≡ marks_performed command params.now self.old.live self.old.marks }
+        ensures history { history.new ≡ with_rows (on_main self.old.live.alternate (left_by command self.old.live)) history.old }
+        ensures size { IsSameSize self.old.live.screen self.new.live.screen }
     {
         stays(history);
         match command {
@@ -372,10 +418,11 @@ impl Canvas {
 
     /// Does what a command asks for, whose parameters are lent; the rows that leave come into the history. It takes no memory.
     pub fn perform(&mut self, command: Command, params: &[u16], history: &mut History)
-        requires cols { history.old.cols ≡ self.old.screen.cols }
-        ensures performed { self.new ≡ commanded command params.now self.old }
-        ensures history { history.new ≡ with_rows (on_main self.old.alternate (left_by command self.old)) history.old }
-        ensures size { IsSameSize self.old.screen self.new.screen }
+        requires cols { history.old.cols ≡ self.old.live.screen.cols }
+        ensures performed { self.new.live ≡ commanded command params.now self.old.live }
+        ensures marks { self.new.marks ≡ marks_performed command params.now self.old.live self.old.marks }
+        ensures history { history.new ≡ with_rows (on_main self.old.live.alternate (left_by command self.old.live)) history.old }
+        ensures size { IsSameSize self.old.live.screen self.new.live.screen }
     {
         self.act(command, params, history);
         if command.forgets() {
@@ -386,7 +433,7 @@ impl Canvas {
     /// Answers what a command asks for, on the state before it.
     pub fn answer(&self, command: Command, output: &mut Output)
         requires room { length output.old + 12 ≤ 65536 }
-        ensures answered { output.new ≡ output.old ++ answered_by command self.now }
+        ensures answered { output.new ≡ output.old ++ answered_by command self.now.live }
         ensures short { length output.new ≤ length output.old + 12 }
     {
         if let Command::Reports(report) = command {

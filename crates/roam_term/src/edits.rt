@@ -2,6 +2,7 @@
 ghost use Rattle.std.specs.Prelude.{◌≡◌};
 ghost use Rattle.roam_grid.specs.Screen.{IsSameSize};
 ghost use Rattle.roam_term.specs.Edits.{edited_by};
+ghost use Rattle.roam_term.specs.Marks.{marks_edited_by};
 
 use roam_controls::Edit;
 use roam_grid::Grid;
@@ -9,6 +10,7 @@ use roam_grid::Grid;
 /// Edits a screen.
 pub fn edit_by(grid: &mut Grid, edit: Edit)
     ensures edited { grid.new.screen ≡ edited_by edit grid.old.screen }
+    ensures marks { grid.new.marks ≡ marks_edited_by edit grid.old.screen grid.old.marks }
     ensures size { IsSameSize grid.old.screen grid.new.screen }
 {
     match edit {

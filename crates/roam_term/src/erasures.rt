@@ -2,6 +2,7 @@
 ghost use Rattle.std.specs.Prelude.{◌≡◌};
 ghost use Rattle.roam_grid.specs.Screen.{IsSameSize};
 ghost use Rattle.roam_term.specs.Erasures.{erased_by};
+ghost use Rattle.roam_term.specs.Marks.{marks_erased_by};
 
 use roam_controls::Erasure;
 use roam_grid::Grid;
@@ -9,6 +10,7 @@ use roam_grid::Grid;
 /// Erases cells.
 pub fn erase_by(grid: &mut Grid, erasure: Erasure)
     ensures erased { grid.new.screen ≡ erased_by erasure grid.old.screen }
+    ensures marks { grid.new.marks ≡ marks_erased_by erasure grid.old.screen grid.old.marks }
     ensures size { IsSameSize grid.old.screen grid.new.screen }
 {
     match erasure {

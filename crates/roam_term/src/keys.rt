@@ -30,6 +30,8 @@ impl Term {
         ensures stands { OnOk result ((rows cols lines : ℕ) (log : List Item) → Shows self.old rows cols lines log
             → Shows self.new rows cols lines log) }
         ensures live { self.new.live ≡ self.old.live }
+        ensures marks { self.new.marks ≡ self.old.marks }
+        ensures history { self.new.history ≡ self.old.history }
         ensures err { OnErr result (self.new ≡ self.old) }
         ensures fault { IsOkUnless result Fault.Busy }
     {

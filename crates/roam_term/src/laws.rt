@@ -2,10 +2,11 @@
 ghost use Rattle.std.specs.Prelude.{◌≡◌, ℕ, List, []};
 ghost use Rattle.roam_cells.specs.Limits.{IsSize};
 ghost use Rattle.roam_text.specs.Log.{Item};
-ghost use Rattle.roam_term.specs.GroundFunctions.{CursorIsPlaced, StyleIsSet, AllIsErased, CharacterIsPrinted, CharacterIsJoined, CursorIsHidden, CursorIsShown, AllIsReset};
+ghost use Rattle.roam_term.specs.GroundFunctions.{CursorIsPlaced, StyleIsSet, MixtureIsSet, AllIsErased, CharacterIsPrinted, CharacterIsJoined, CursorIsHidden, CursorIsShown, AllIsReset};
 ghost use Rattle.roam_term.specs.Picture.{picture};
 ghost use Rattle.roam_term.specs.Screens.{AreSizes, IsScreenOf};
 ghost use Rattle.roam_term.specs.Terminal.{reports};
+ghost use Rattle.roam_term.specs.Unmarked.{MarksAreAdded, UnmarkedRowsStay};
 
 /// A terminal that has read nothing has answered nothing.
 pub fn nothing_read_answers_nothing()
@@ -21,10 +22,18 @@ pub fn what_a_terminal_shows()
         → IsScreenOf (rows, cols) log (picture rows cols lines log view) }
     ensures placed { CursorIsPlaced }
     ensures styled { StyleIsSet }
+    ensures mixed { MixtureIsSet }
     ensures erased { AllIsErased }
     ensures printed { CharacterIsPrinted }
     ensures joined { CharacterIsJoined }
     ensures hidden_cursor { CursorIsHidden }
     ensures shown_cursor { CursorIsShown }
     ensures reset { AllIsReset }
+{}
+
+/// Marks are put on in the same rows whatever was marked before, so that none goes off; and a row without a mark shows, at view 0, what it
+/// showed.
+pub fn what_marks_say()
+    ensures added { MarksAreAdded }
+    ensures stay { UnmarkedRowsStay }
 {}

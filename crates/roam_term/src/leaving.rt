@@ -1,9 +1,10 @@
 //! The rows that leave the screen at its top, which the history takes before they are gone.
-ghost use Rattle.std.specs.Prelude.{◌≡◌, ◌+◌, ◌≤◌, ◌<◌, [], replicate, false, length, map, take, if◌then◌else◌};
+ghost use Rattle.std.specs.Prelude.{◌≡◌, ◌+◌, ◌≤◌, ◌<◌, [], IsTrue, replicate, false, length, map, take, if◌then◌else◌};
 ghost use Rattle.roam_cells.specs.Glyph.{is_right_half, ascii_in};
 ghost use Rattle.roam_grid.specs.Frames.{leaving};
+ghost use Rattle.roam_grid.specs.Marks.{marks_put, marks_put_all};
 ghost use Rattle.roam_grid.specs.Screen.{IsSameSize};
-ghost use Rattle.roam_grid.specs.Writing.{settled, put_all};
+ghost use Rattle.roam_grid.specs.Writing.{settled, put_on, put_all};
 ghost use Rattle.roam_rows.specs.Writing.{ArePrintable};
 ghost use Rattle.roam_term.specs.Leaving.{top_rows, left_by_put, left_by_puts, left_by_motion, left_by_edit};
 ghost use Rattle.roam_term.specs.Terminal.{on_main, with_rows};
@@ -61,6 +62,44 @@ pub fn leave_by_put(
     let columns = if cell.is_wide() { 2 } else { 1 };
     let leaves = !alternate && top == 0 && grid.leaves(columns, writing);
     take_first_row(grid, leaves, history);
+}
+
+// Writes a cell anywhere; what it makes leave comes in. It is no part of the loop over characters, which would be slower with it.
+#[inline(never)]
+fn put_at_edge(
+    grid: &mut Grid,
+    cell: Cell,
+    writing: Writing,
+    alternate: bool,
+    history: &mut History,
+)
+    requires no_half { is_right_half cell ≡ false }
+    requires cols { history.old.cols ≡ grid.old.screen.cols }
+    ensures screen { grid.new.screen ≡ put_on cell writing grid.old.screen }
+    ensures marks { grid.new.marks ≡ marks_put cell writing grid.old.screen grid.old.marks }
+    ensures history { history.new ≡ with_rows (on_main alternate (left_by_put cell writing grid.old.screen)) history.old }
+    ensures size { IsSameSize grid.old.screen grid.new.screen }
+{
+    leave_by_put(grid, cell, writing, alternate, history);
+    grid.put(cell, writing);
+}
+
+/// Writes a cell; what it makes leave comes in.
+#[inline]
+pub fn put(grid: &mut Grid, cell: Cell, writing: Writing, alternate: bool, history: &mut History)
+    requires no_half { is_right_half cell ≡ false }
+    requires cols { history.old.cols ≡ grid.old.screen.cols }
+    ensures screen { grid.new.screen ≡ put_on cell writing grid.old.screen }
+    ensures marks { grid.new.marks ≡ marks_put cell writing grid.old.screen grid.old.marks }
+    ensures history { history.new ≡ with_rows (on_main alternate (left_by_put cell writing grid.old.screen)) history.old }
+    ensures size { IsSameSize grid.old.screen grid.new.screen }
+{
+    stays(history);
+    if !writing.inserts && grid.fits_inside(cell) {
+        grid.put_inside(cell, writing);
+    } else {
+        put_at_edge(grid, cell, writing, alternate, history);
+    }
 }
 
 /// What a move makes leave that will be done.
@@ -121,6 +160,7 @@ pub fn put_times(
     requires no_half { is_right_half cell ≡ false }
     requires cols { history.old.cols ≡ grid.old.screen.cols }
     ensures screen { grid.new.screen ≡ put_all (replicate n cell) writing grid.old.screen }
+    ensures marks { grid.new.marks ≡ marks_put_all (replicate n cell) writing grid.old.screen grid.old.marks }
     ensures history { history.new ≡ with_rows (on_main alternate (left_by_puts (replicate n cell) writing grid.old.screen)) history.old }
     ensures size { IsSameSize grid.old.screen grid.new.screen }
 {
@@ -160,6 +200,8 @@ fn put_front(
     ensures some { 0 < result }
     ensures within { result ≤ length bytes.now }
     ensures screen { grid.new.screen ≡ put_all (map (λ byte. ascii_in byte pen) (take result bytes.now)) writing grid.old.screen }
+    ensures marks { grid.new.marks
+        ≡ marks_put_all (map (λ byte. ascii_in byte pen) (take result bytes.now)) writing grid.old.screen grid.old.marks }
     ensures history { history.new ≡ with_rows (on_main alternate
         (left_by_puts (map (λ byte. ascii_in byte pen) (take result bytes.now)) writing grid.old.screen)) history.old }
     ensures size { IsSameSize grid.old.screen grid.new.screen }
@@ -168,12 +210,12 @@ fn put_front(
     cell.set_ascii(bytes[0]);
     leave_by_put(grid, cell, writing, alternate, history);
     let count = bytes.len().min(columns_left(grid));
-    grid.put_run(pen, &bytes[..count], writing);
+    grid.put_row_run(pen, &bytes[..count], writing);
     count
 }
 
-/// Writes printable ASCII bytes in the style and guard of a pen, as many at once as fit a row; what they make leave comes in.
-pub fn put_run(
+// Writes printable ASCII bytes in the style and guard of a pen, as many at once as fit a row; what they make leave comes in.
+fn put_rows(
     grid: &mut Grid,
     pen: Cell,
     bytes: &[u8],
@@ -184,6 +226,7 @@ pub fn put_run(
     requires printable { ArePrintable bytes.now }
     requires cols { history.old.cols ≡ grid.old.screen.cols }
     ensures screen { grid.new.screen ≡ put_all (map (λ byte. ascii_in byte pen) bytes.now) writing grid.old.screen }
+    ensures marks { grid.new.marks ≡ marks_put_all (map (λ byte. ascii_in byte pen) bytes.now) writing grid.old.screen grid.old.marks }
     ensures history { history.new ≡ with_rows (on_main alternate
         (left_by_puts (map (λ byte. ascii_in byte pen) bytes.now) writing grid.old.screen)) history.old }
     ensures size { IsSameSize grid.old.screen grid.new.screen }
@@ -194,4 +237,42 @@ pub fn put_run(
         at += count;
     }
     stays(history);
+}
+
+// Whether so many cells of one column fit into the rest of the cursor's row, and no wrap pends: then no row leaves.
+#[inline]
+fn fits_row(grid: &Grid, n: usize) -> bool
+    ensures settled { IsTrue result → grid.now.screen.pending ≡ false }
+    ensures room { IsTrue result → grid.now.screen.col + n ≤ grid.now.screen.cols }
+    ensures only { grid.now.screen.pending ≡ false → grid.now.screen.col + n ≤ grid.now.screen.cols → IsTrue result }
+{
+    grid.facts();
+    !grid.pending() && n <= grid.room()
+}
+
+/// Writes printable ASCII bytes in the style and guard of a pen; what they make leave comes in.
+#[inline]
+pub fn put_run(
+    grid: &mut Grid,
+    pen: Cell,
+    bytes: &[u8],
+    writing: Writing,
+    alternate: bool,
+    history: &mut History,
+)
+    requires some { 0 < length bytes.now }
+    requires printable { ArePrintable bytes.now }
+    requires cols { history.old.cols ≡ grid.old.screen.cols }
+    ensures screen { grid.new.screen ≡ put_all (map (λ byte. ascii_in byte pen) bytes.now) writing grid.old.screen }
+    ensures marks { grid.new.marks ≡ marks_put_all (map (λ byte. ascii_in byte pen) bytes.now) writing grid.old.screen grid.old.marks }
+    ensures history { history.new ≡ with_rows (on_main alternate
+        (left_by_puts (map (λ byte. ascii_in byte pen) bytes.now) writing grid.old.screen)) history.old }
+    ensures size { IsSameSize grid.old.screen grid.new.screen }
+{
+    stays(history);
+    if fits_row(grid, bytes.len()) {
+        grid.put_row_run(pen, bytes, writing);
+    } else {
+        put_rows(grid, pen, bytes, writing, alternate, history);
+    }
 }

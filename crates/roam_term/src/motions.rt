@@ -2,7 +2,9 @@
 ghost use Rattle.std.specs.Prelude.{◌≡◌, ◌-◌, if◌then◌else◌};
 ghost use Rattle.roam_grid.specs.Cursor.{carried, indexed, moved_to};
 ghost use Rattle.roam_grid.specs.Screen.{IsSameSize};
+ghost use Rattle.roam_grid.specs.Marks.{marks_indexed};
 ghost use Rattle.roam_term.specs.Motions.{row_under, homed, moved_by};
+ghost use Rattle.roam_term.specs.Marks.{marks_moved_by};
 
 use roam_controls::{Modes, Motion};
 use roam_grid::Grid;
@@ -23,6 +25,7 @@ fn row_under(grid: &Grid, origin: bool, row: u16) -> usize
 /// To the first column of the first row, under DECOM of the top margin's.
 pub fn home(grid: &mut Grid, origin: bool)
     ensures homed { grid.new.screen ≡ homed origin grid.old.screen }
+    ensures marks { grid.new.marks ≡ grid.old.marks }
     ensures size { IsSameSize grid.old.screen grid.new.screen }
 {
     let row = row_under(grid, origin, 1);
@@ -32,6 +35,7 @@ pub fn home(grid: &mut Grid, origin: bool)
 // LF, VT and FF: as IND, and under LNM to the first column too.
 fn line_feed(grid: &mut Grid, returns: bool)
     ensures fed { grid.new.screen ≡ (if returns then carried (indexed grid.old.screen) else indexed grid.old.screen) }
+    ensures marks { grid.new.marks ≡ marks_indexed grid.old.screen grid.old.marks }
     ensures size { IsSameSize grid.old.screen grid.new.screen }
 {
     grid.index();
@@ -43,6 +47,7 @@ fn line_feed(grid: &mut Grid, returns: bool)
 // To a column from 1 of the cursor's row.
 fn move_to_column(grid: &mut Grid, col: u16)
     ensures moved { grid.new.screen ≡ moved_to grid.old.screen.row (col - 1) grid.old.screen }
+    ensures marks { grid.new.marks ≡ grid.old.marks }
     ensures size { IsSameSize grid.old.screen grid.new.screen }
 {
     let (row, _) = grid.cursor();
@@ -52,6 +57,7 @@ fn move_to_column(grid: &mut Grid, col: u16)
 // To a row from 0, in the cursor's column.
 fn move_to_row(grid: &mut Grid, row: usize)
     ensures moved { grid.new.screen ≡ moved_to row grid.old.screen.col grid.old.screen }
+    ensures marks { grid.new.marks ≡ grid.old.marks }
     ensures size { IsSameSize grid.old.screen grid.new.screen }
 {
     let (_, col) = grid.cursor();
@@ -61,6 +67,7 @@ fn move_to_row(grid: &mut Grid, row: usize)
 /// Moves the cursor.
 pub fn move_by(grid: &mut Grid, motion: Motion, modes: Modes)
     ensures moved { grid.new.screen ≡ moved_by motion modes grid.old.screen }
+    ensures marks { grid.new.marks ≡ marks_moved_by motion grid.old.screen grid.old.marks }
     ensures size { IsSameSize grid.old.screen grid.new.screen }
 {
     match motion {

@@ -5,9 +5,10 @@ ghost use Rattle.roam_cells.specs.Glyph.{Glyph};
 ghost use Rattle.roam_term.specs.Picture.{shown, shown_style, rows_in_view, cells_in_view, picture_of};
 
 use crate::canvases::Canvas;
-use roam_cells::{Cell, Fault, Shot, Style};
+use roam_cells::{Cell, Fault, Style};
 use roam_grid::Grid;
 use roam_history::History;
+use roam_screens::Shot;
 use std::alloc::{AllocError, Global};
 
 // A style with its reverse flag turned where the whole screen is reversed.
@@ -36,7 +37,7 @@ fn shown_cell(cell: &Cell, reversed: bool) -> Cell
         return Cell::right_half(style, false);
     }
     cell.facts();
-    match Cell::of(cell.chars(), style, false) {
+    match Cell::of(cell.chars().as_slice(), style, false) {
         Some(cell) => cell,
         None => cell.unguarded(),
     }
@@ -53,7 +54,7 @@ fn show_row(cells: &mut Vec<Cell>, row: &[Cell], reversed: bool) -> Result<(), A
 
 // How many rows of the history a view shows.
 fn rows_in_view(canvas: &Canvas, history: &History, view: u16) -> usize
-    ensures rows { result ≡ rows_in_view canvas.now history.now view }
+    ensures rows { result ≡ rows_in_view canvas.now.live history.now view }
 {
     if canvas.is_alternate() {
         0
@@ -113,10 +114,10 @@ fn shown_cells(
     history: &History,
     v: usize,
 ) -> Result<Vec<Cell>, AllocError>
-    requires cols { history.now.cols ≡ canvas.now.screen.cols }
+    requires cols { history.now.cols ≡ canvas.now.live.screen.cols }
     requires within { v ≤ length history.now.rows }
     ensures cells { IfOk result (λ cells.
-        cells.items ≡ map (shown canvas.now.modes.reverse_screen) (cells_in_view v canvas.now history.now)) }
+        cells.items ≡ map (shown canvas.now.live.modes.reverse_screen) (cells_in_view v canvas.now.live history.now)) }
 {
     canvas.facts();
     history.facts();
@@ -131,8 +132,8 @@ fn shown_cells(
 
 /// The screen as it is shown, scrolled back by a view; refuses want of memory.
 pub fn draw(alloc: Global, canvas: &Canvas, history: &History, view: u16) -> Result<Shot, Fault>
-    requires cols { history.now.cols ≡ canvas.now.screen.cols }
-    ensures shown { IfOk result (λ shot. shot ≡ picture_of canvas.now history.now view) }
+    requires cols { history.now.cols ≡ canvas.now.live.screen.cols }
+    ensures shown { IfOk result (λ shot. shot ≡ picture_of canvas.now.live history.now view) }
     ensures fault { IsOkUnless result Fault.OutOfMemory }
 {
     canvas.facts();

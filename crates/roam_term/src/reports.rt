@@ -9,7 +9,7 @@ use roam_grid::Grid;
 // The cursor's row from 1, under DECOM from the top margin.
 fn reported_row(grid: &Grid, origin: bool) -> usize
     ensures row { result ≡ reported_row origin grid.now.screen }
-    ensures low { result ≤ 100 }
+    ensures low { result ≤ 200 }
 {
     grid.facts();
     let (row, _) = grid.cursor();

@@ -2,6 +2,7 @@
 ghost use Rattle.std.specs.Prelude.{◌≡◌};
 ghost use Rattle.roam_grid.specs.Screen.{IsSameSize};
 ghost use Rattle.roam_term.specs.Settings.{bottom_of, margins_set, after_private_mode};
+ghost use Rattle.roam_term.specs.Marks.{marks_followed};
 
 use crate::motions::home;
 use roam_grid::Grid;
@@ -21,6 +22,7 @@ fn bottom_of(grid: &Grid, bottom: u16) -> usize
 /// Sets margins of rows from 1 where the top one is above the bottom one, and moves the cursor home.
 pub fn set_margins(grid: &mut Grid, top: u16, bottom: u16, origin: bool)
     ensures set { grid.new.screen ≡ margins_set top bottom origin grid.old.screen }
+    ensures marks { grid.new.marks ≡ grid.old.marks }
     ensures size { IsSameSize grid.old.screen grid.new.screen }
 {
     let top = usize::from(top).saturating_sub(1);
@@ -34,9 +36,11 @@ pub fn set_margins(grid: &mut Grid, top: u16, bottom: u16, origin: bool)
 /// What a private mode's change makes of the screen at once.
 pub fn follow_private_mode(grid: &mut Grid, on: bool, number: u16)
     ensures followed { grid.new.screen ≡ after_private_mode on number grid.old.screen }
+    ensures marks { grid.new.marks ≡ marks_followed number grid.old.marks }
     ensures size { IsSameSize grid.old.screen grid.new.screen }
 {
     match number {
+        5 => grid.mark_all(),
         6 => home(grid, on),
         7 => {
             if !on {

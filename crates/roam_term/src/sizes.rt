@@ -1,6 +1,7 @@
 //! A terminal brought to another size: all memory first, then the content.
 ghost use Rattle.std.specs.Prelude.{◌≡◌, ◌<◌, ◌⊎◌, ◌↔◌, IfOk, IfErr, IsErrOf, OnOk, OnErr};
 ghost use Rattle.roam_cells.specs.Limits.{IsSize};
+ghost use Rattle.roam_grid.specs.Marks.{all_on};
 ghost use Rattle.roam_term.specs.Stands.{HasSize, Sized};
 ghost use Rattle.roam_term.specs.Terminal.{sized_to};
 
@@ -59,7 +60,8 @@ impl Canvas {
     fn adopt(&mut self, shown: roam_grid::Fitted, other: roam_grid::Fitted)
         requires some { 0 < shown.rows }
         requires same { other ≡ shown }
-        ensures sized { self.new ≡ sized_to shown.rows shown.cols self.old }
+        ensures sized { self.new.live ≡ sized_to shown.rows shown.cols self.old.live }
+        ensures marks { self.new.marks ≡ all_on }
     {
         let off = self.grid.leaving(shown.rows());
         self.grid.adopt(shown, off);
@@ -69,8 +71,8 @@ impl Canvas {
 }
 
 impl Term {
-    /// All the memory that this terminal takes in another size; the terminal stays as it is. Refuses a size outside 2 to 100 rows and
-    /// 4 to 250 columns, and want of memory.
+    /// All the memory that this terminal takes in another size; the terminal stays as it is. Refuses a size outside 2 to 200 rows and
+    /// 4 to 500 columns, and want of memory.
     pub fn fit(&self, alloc: Global, rows: u16, cols: u16) -> Result<Fitted, Fault>
         ensures fitted { IfOk result (λ f. f ≡ record { rows = rows; cols = cols; lines = self.now.history.lines }) }
         ensures bad_size { IsErrOf result Fault.BadSize ↔ (¬ IsSize rows cols) }
@@ -96,6 +98,7 @@ impl Term {
         requires lines { fitted.lines ≡ self.old.history.lines }
         ensures sized { Sized self.old self.new fitted.rows fitted.cols }
         ensures screen { HasSize self.new fitted.rows fitted.cols }
+        ensures marks { self.new.marks ≡ all_on }
         ensures waiting { self.new.waiting ≡ self.old.waiting }
     {
         let rows = fitted.rows();
@@ -112,10 +115,11 @@ impl Term {
         self.history.adopt(history);
     }
 
-    /// Brings the terminal to another size, as `fit` and `adopt` do. Refuses a size outside 2 to 100 rows and 4 to 250 columns, and want
+    /// Brings the terminal to another size, as `fit` and `adopt` do. Refuses a size outside 2 to 200 rows and 4 to 500 columns, and want
     /// of memory, and changes nothing then.
     pub fn resize(&mut self, alloc: Global, rows: u16, cols: u16) -> Result<(), Fault>
         ensures sized { OnOk result (Sized self.old self.new rows cols) }
+        ensures marks { OnOk result (self.new.marks ≡ all_on) }
         ensures waiting { self.new.waiting ≡ self.old.waiting }
         ensures err { OnErr result (self.new ≡ self.old) }
         ensures bad_size { IsErrOf result Fault.BadSize ↔ (¬ IsSize rows cols) }

@@ -3,17 +3,21 @@ ghost use Rattle.std.specs.Prelude.{◌≡◌, ◌⊎◌, ◌+◌, ◌*◌, ◌�
 ghost use Rattle.roam_text.specs.Log.{Item};
 ghost use Rattle.roam_text.specs.Dispatched.{function_of, dispatched};
 ghost use Rattle.roam_controls.specs.Commands.{command_of, parameters_of};
-ghost use Rattle.roam_term.specs.Picture.{picture};
+ghost use Rattle.roam_grid.specs.Marks.{all_off, all_on};
+ghost use Rattle.roam_term.specs.Marks.{marked, marked_through};
+ghost use Rattle.roam_term.specs.Picture.{picture, picture_of};
 ghost use Rattle.roam_term.specs.Terminal.{changed, kept, answer, lived, kept_by, answered};
 ghost use Rattle.roam_term.specs.Stands.{Shows, Fed, HasSize, IsTermSize, IsAccepted};
 
 use crate::canvases::Canvas;
+use crate::leaving::stays;
 use crate::outputs::{MOST_OUTPUT, Output};
 use crate::pictures::draw;
+use roam_cells::Fault;
 use roam_cells::limits::is_size;
-use roam_cells::{Fault, Shot};
 use roam_controls::{Command, command_of};
 use roam_history::History;
+use roam_screens::Shot;
 use roam_text::{Dispatch, Dispatched, REPLACEMENT, Reader};
 use std::alloc::Global;
 use std::marker::Model;
@@ -25,7 +29,7 @@ pub const MOST_PIECE: usize = 1024;
 pub const MOST_LINES: u16 = 500;
 
 // One byte completes at most two functions. The first of two prints, so one answer comes of a byte at most. The longest have 10 bytes:
-// DA's second answer, and a report of the cursor at row 100 and column 250; 12 leave room for a larger screen.
+// DA's second answer, and a report of the cursor at row 200 and column 500; 12 leave room for a larger screen.
 const MOST_ANSWER: usize = 12;
 
 // What a dispatched function asks for, with what the reader lends.
@@ -61,19 +65,26 @@ impl Model for Term {
 
     ghost Value = { TermView };
 
-    ghost view = { λ t. record { reader = t.reader; live = t.canvas; history = t.history; waiting = t.output } };
+    ghost view = { λ t. record {
+      reader = t.reader;
+      live = t.canvas.live;
+      marks = t.canvas.marks;
+      history = t.history;
+      waiting = t.output;
+    } };
 
     ghost use Rattle.std.specs.Prelude.{◌≡◌};
 
-    ghost invariant = { λ t. t.history.cols ≡ t.canvas.screen.cols };
+    ghost invariant = { λ t. t.history.cols ≡ t.canvas.live.screen.cols };
 }
 
 impl Term {
-    /// A terminal that has read nothing, of 2 to 100 rows and 4 to 250 columns, with up to 500 lines of history.
+    /// A terminal that has read nothing, of 2 to 200 rows and 4 to 500 columns, with up to 500 lines of history.
     /// Refuses another size or number of lines, and want of memory.
     pub fn new(alloc: Global, rows: u16, cols: u16, lines: u16) -> Result<Self, Fault>
         ensures stands { IfOk result (λ t. Shows t rows cols lines []) }
         ensures waiting { IfOk result (λ t. t.waiting ≡ []) }
+        ensures marks { IfOk result (λ t. t.marks ≡ all_on) }
         ensures screen { IfOk result (λ t. HasSize t rows cols) }
         ensures size { OnOk result (IsTermSize rows cols lines) }
         ensures bad_size { IsErrOf result Fault.BadSize ↔ (¬ IsTermSize rows cols lines) }
@@ -99,6 +110,8 @@ impl Term {
         requires room { length self.old.waiting + MOST_ANSWER ≤ MOST_OUTPUT }
         ensures live { self.new.live
             ≡ changed (function_of dispatch self.old.reader.parameters self.old.reader.intermediates) self.old.live }
+        ensures marks { self.new.marks
+            ≡ marked (function_of dispatch self.old.reader.parameters self.old.reader.intermediates) self.old.live self.old.marks }
         ensures history { self.new.history
             ≡ kept (function_of dispatch self.old.reader.parameters self.old.reader.intermediates) self.old.live self.old.history }
         ensures waiting { self.new.waiting ≡ self.old.waiting
@@ -117,6 +130,8 @@ impl Term {
     fn take_in(&mut self, step: Dispatched)
         requires room { length self.old.waiting + MOST_ANSWER ≤ MOST_OUTPUT }
         ensures live { self.new.live ≡ lived self.old.live (dispatched step self.old.reader.parameters self.old.reader.intermediates) }
+        ensures marks { self.new.marks
+            ≡ marked_through self.old.live (dispatched step self.old.reader.parameters self.old.reader.intermediates) self.old.marks }
         ensures history { self.new.history
             ≡ kept_by self.old.live (dispatched step self.old.reader.parameters self.old.reader.intermediates) self.old.history }
         ensures waiting { self.new.waiting ≡ self.old.waiting
@@ -149,12 +164,13 @@ impl Term {
     // Prints the printable ASCII at the front of a piece at once, where it shows itself, and tells how many bytes that were.
     #[inline]
     fn feed_plain(&mut self, piece: &[u8]) -> usize
+        requires some { 0 < length piece.now }
         ensures within { result ≤ length piece.now }
         ensures fed { Fed self.old self.new (take result piece.now) }
         ensures waiting { self.new.waiting ≡ self.old.waiting }
         ensures screen { HasSize self.new self.old.live.screen.rows self.old.live.screen.cols }
     {
-        if !self.canvas.prints_ascii() {
+        if piece[0] < 0x20 || !self.canvas.prints_ascii() {
             return 0;
         }
         let count = self.reader.plain_run(piece);
@@ -167,7 +183,7 @@ impl Term {
 
     // Prints the graphic character from U+00A0 up at the front of a piece at once, and tells how many bytes it took.
     #[inline]
-    fn feed_whole(&mut self, piece: &[u8]) -> usize
+    fn feed_character(&mut self, piece: &[u8]) -> usize
         ensures within { result ≤ length piece.now }
         ensures fed { Fed self.old self.new (take result piece.now) }
         ensures waiting { self.new.waiting ≡ self.old.waiting }
@@ -179,6 +195,56 @@ impl Term {
                 size
             }
             None => 0,
+        }
+    }
+
+    // Prints the graphic characters from U+00A0 up at the front of a piece, and tells how many bytes they took.
+    #[inline]
+    fn feed_characters(&mut self, piece: &[u8]) -> usize
+        ensures within { result ≤ length piece.now }
+        ensures fed { Fed self.old self.new (take result piece.now) }
+        ensures waiting { self.new.waiting ≡ self.old.waiting }
+        ensures screen { HasSize self.new self.old.live.screen.rows self.old.live.screen.cols }
+    {
+        let mut at = 0;
+        while at < piece.len() && 0x80 <= piece[at] {
+            let size = self.feed_character(&piece[at..]);
+            if size == 0 {
+                return at;
+            }
+            at += size;
+        }
+        at
+    }
+
+    // Ends SGR, the control sequence that comes most, by a short cut, and any other sequence as `feed_byte` does.
+    #[inline]
+    fn feed_rendition(&mut self)
+        requires room { length self.old.waiting + MOST_ANSWER ≤ MOST_OUTPUT }
+        ensures fed { Fed self.old self.new (0x6D ∷ []) }
+        ensures short { length self.new.waiting ≤ length self.old.waiting + MOST_ANSWER }
+        ensures screen { HasSize self.new self.old.live.screen.rows self.old.live.screen.cols }
+    {
+        stays(&self.history);
+        if self.reader.end_rendition() {
+            self.canvas.restyle(self.reader.parameters());
+        } else {
+            self.feed_byte(b'm');
+        }
+    }
+
+    // Reads a byte that may end a sequence.
+    #[inline]
+    fn feed_last(&mut self, byte: u8)
+        requires room { length self.old.waiting + MOST_ANSWER ≤ MOST_OUTPUT }
+        ensures fed { Fed self.old self.new (byte ∷ []) }
+        ensures short { length self.new.waiting ≤ length self.old.waiting + MOST_ANSWER }
+        ensures screen { HasSize self.new self.old.live.screen.rows self.old.live.screen.cols }
+    {
+        if byte == b'm' {
+            self.feed_rendition();
+        } else {
+            self.feed_byte(byte);
         }
     }
 
@@ -198,8 +264,45 @@ impl Term {
         if count == piece.len() {
             return count;
         }
-        self.feed_byte(piece[count]);
+        self.feed_last(piece[count]);
         count + 1
+    }
+
+    // Reads as much as goes by one way of the front of a piece that begins with no ASCII, and tells how many bytes that were.
+    #[inline]
+    fn feed_wide(&mut self, piece: &[u8]) -> usize
+        requires some { 0 < length piece.now }
+        requires room { length self.old.waiting + MOST_ANSWER ≤ MOST_OUTPUT }
+        ensures some { 0 < result }
+        ensures within { result ≤ length piece.now }
+        ensures fed { Fed self.old self.new (take result piece.now) }
+        ensures short { length self.new.waiting ≤ length self.old.waiting + MOST_ANSWER * result }
+        ensures screen { HasSize self.new self.old.live.screen.rows self.old.live.screen.cols }
+    {
+        let whole = self.feed_characters(piece);
+        if 0 < whole {
+            return whole;
+        }
+        self.feed_byte(piece[0]);
+        1
+    }
+
+    // The same of one that begins with ASCII.
+    #[inline]
+    fn feed_ascii(&mut self, piece: &[u8]) -> usize
+        requires some { 0 < length piece.now }
+        requires room { length self.old.waiting + MOST_ANSWER ≤ MOST_OUTPUT }
+        ensures some { 0 < result }
+        ensures within { result ≤ length piece.now }
+        ensures fed { Fed self.old self.new (take result piece.now) }
+        ensures short { length self.new.waiting ≤ length self.old.waiting + MOST_ANSWER * result }
+        ensures screen { HasSize self.new self.old.live.screen.rows self.old.live.screen.cols }
+    {
+        let plain = self.feed_plain(piece);
+        if 0 < plain {
+            return plain;
+        }
+        self.feed_sequence(piece)
     }
 
     // Reads as much of the front of a piece as goes by one way, and tells how many bytes that were.
@@ -213,19 +316,10 @@ impl Term {
         ensures short { length self.new.waiting ≤ length self.old.waiting + MOST_ANSWER * result }
         ensures screen { HasSize self.new self.old.live.screen.rows self.old.live.screen.cols }
     {
-        let plain = self.feed_plain(piece);
-        if 0 < plain {
-            return plain;
+        if 0x80 <= piece[0] {
+            return self.feed_wide(piece);
         }
-        if piece[0] < 0x80 {
-            return self.feed_sequence(piece);
-        }
-        let whole = self.feed_whole(piece);
-        if 0 < whole {
-            return whole;
-        }
-        self.feed_byte(piece[0]);
-        1
+        self.feed_ascii(piece)
     }
 
     fn feed_each(&mut self, piece: &[u8])
@@ -284,8 +378,26 @@ impl Term {
         ensures waiting { self.new.waiting ≡ drop n self.old.waiting }
         ensures stands { (rows cols lines : ℕ) (log : List Item) → Shows self.old rows cols lines log → Shows self.new rows cols lines log }
         ensures live { self.new.live ≡ self.old.live }
+        ensures marks { self.new.marks ≡ self.old.marks }
+        ensures history { self.new.history ≡ self.old.history }
     {
         self.output.drop_front(n);
+    }
+
+    /// For each row of the screen that is shown, from 0, whether it may show something else at view 0 than when the marks were last
+    /// cleared. At first all marks are on.
+    pub fn marks(&self) -> &[bool]
+        ensures marks { result.now ≡ take self.now.live.screen.rows self.now.marks }
+        ensures len { length result.now ≡ self.now.live.screen.rows }
+    {
+        self.canvas.marks()
+    }
+
+    /// Puts all marks off.
+    pub fn clear_marks(&mut self)
+        ensures cleared { self.new ≡ record self.old { marks = all_off } }
+    {
+        self.canvas.clear_marks();
     }
 
     /// The screen as it is shown, scrolled back by up to `view` rows of the history; the alternate screen isn't scrolled back. Refuses
@@ -293,6 +405,7 @@ impl Term {
     pub fn shot(&self, alloc: Global, view: u16) -> Result<Shot, Fault>
         ensures picture { IfOk result (λ shot. (rows cols lines : ℕ) (log : List Item) → Shows self.now rows cols lines log
             → shot ≡ picture rows cols lines log view) }
+        ensures now { IfOk result (λ shot. shot ≡ picture_of self.now.live self.now.history view) }
         ensures size { IfOk result (λ shot. HasSize self.now shot.rows shot.cols) }
         ensures fault { IsOkUnless result Fault.OutOfMemory }
     {

@@ -1,6 +1,6 @@
 -- ASCII between sequences and within them.
-use Rattle.std.proofs.Common.{◌≡◌, ◌<◌, ℕ, List, [], ◌∷◌, ◌++◌, map, refl, sym, ap, ◌∙◌, append_assoc}
-use Rattle.std.proofs.lemmas.List.{map-append}
+use Rattle.std.proofs.Common.{◌≡◌, ◌<◌, ℕ, List, [], ◌∷◌, ◌++◌, ◌+◌, ◌-◌, length, length-drop, take, take_all, drop, map, refl, sym, ap, ◌∙◌, append_assoc, arith}
+use Rattle.std.proofs.lemmas.List.{map-append, take-append-drop, take-take, drop-take}
 use Rattle.roam_text.specs.Log.{Item, Byte, Sign, character, settled, unfinished}
 use Rattle.roam_text.specs.Functions.{functions_of, AreAscii}
 use Rattle.roam_text.specs.Residual.{given}
@@ -42,6 +42,32 @@ characters-more old now new xs b before next rest =
     ap (λ l. given old (l ++ rest)) (map-append character xs (b ∷ []))
     ∙ ap (given old) (append_assoc (map character xs) (character b ∷ []) rest)
     ∙ before (character b ∷ rest) ∙ next rest
+
+-- more characters of those that were read
+pub characters-joined : (old now new : Parser) (xs ys : List ℕ)
+    → ((rest : List Sign) → given old (map character xs ++ rest) ≡ given now rest)
+    → ((rest : List Sign) → given now (map character ys ++ rest) ≡ given new rest)
+    → (rest : List Sign) → given old (map character (xs ++ ys) ++ rest) ≡ given new rest
+characters-joined old now new xs ys before next rest =
+    ap (λ l. given old (l ++ rest)) (map-append character xs ys)
+    ∙ ap (given old) (append_assoc (map character xs) (map character ys) rest)
+    ∙ before (map character ys ++ rest) ∙ next rest
+
+pub ascii-joined : (xs ys : List ℕ) → AreAscii xs → AreAscii ys → AreAscii (xs ++ ys)
+ascii-joined [] ys below more = more
+ascii-joined (x ∷ xs) ys below more = (below.0, ascii-joined xs ys below.1 more)
+
+-- what is lent from a place on is all of the rest
+rest-lent : (xs : List ℕ) (a : ℕ) → take (length xs - a) (drop a xs) ≡ drop a xs
+rest-lent xs a = take_all (length xs - a) (drop a xs) (omega (arith, length-drop a xs))
+
+-- the front of a list in two parts
+pub front-joined : (xs : List ℕ) (a b : ℕ) → take (a + b) xs ≡ take a xs ++ take b (take (length xs - a) (drop a xs))
+front-joined xs a b =
+    sym (take-append-drop a (take (a + b) xs))
+    ∙ ap (λ l. l ++ drop a (take (a + b) xs)) (take-take a (a + b) xs (omega arith))
+    ∙ ap (λ l. take a xs ++ l) (drop-take a b xs)
+    ∙ sym (ap (λ l. take a xs ++ take b l) (rest-lent xs a))
 
 -- bytes of ASCII that complete no function
 module _ (old new : View) (bs : List ℕ) (below : AreAscii bs) (whole : old.pending ≡ []) (same : new.pending ≡ [])

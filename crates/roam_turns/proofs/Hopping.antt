@@ -1,154 +1,156 @@
 -- From a session's log through a tick, its datagrams and a client start to a painted terminal.
-use Rattle.std.proofs.Common.{◌≡◌, ℕ, ◌+◌, ◌-◌, ◌<◌, Bool, true, false, ◌&&◌, eqb, List, [], ◌∷◌, ◌++◌, length, take, get_or, Some, None, refl, ap, ◌∙◌, subst, inl, inr, arith}
-use Rattle.std.specs.Prelude.{nat_lt}
-use Rattle.std.specs.List.{slice_get}
-use Rattle.std.proofs.Math.Seq.{get_or-append_seam, take-length}
-use Rattle.std.proofs.lemmas.Bool.{cases_Bool}
-use Rattle.std.proofs.lemmas.Bool.Decides.{nat_tests}
-use Rattle.std.proofs.lemmas.List.{length-append}
-use Rattle.std.proofs.lemmas.Option.{slice_get_within}
-use Rattle.roam_cells.specs.Screenshot.{Screenshot, IsScreenshot}
-use Rattle.roam_paint.specs.Colours.{AreIndexed}
+use Rattle.std.proofs.Common.{◌≡◌, ℕ, ◌+◌, ◌<◌, ◌≤◌, ◌^◌, Bool, true, false, ◌&&◌, List, ◌∷◌, length, map, take, drop, refl, sym, ap, ◌∙◌, subst, arith}
+use Rattle.std.specs.Prelude.{nat_lt, Result}
+use Rattle.std.specs.List.{enumerate_from}
+use Rattle.roam_cells.specs.declared.faults.Fault.{Fault}
+use Rattle.roam_screens.specs.Screenshot.{Screenshot, IsScreenshot}
 use Rattle.roam_paint.specs.Ground.{PaintedLeadsOver}
-use Rattle.roam_sync.specs.Senders.{newest, count}
-use Rattle.roam_wire.specs.Datagrams.{DatagramValue}
+use Rattle.roam_wire.specs.Cutting.{pieces_of}
+use Rattle.roam_wire.specs.Datagrams.{DatagramValue, IsDatagram, datagram_text}
+use Rattle.roam_wire.specs.Instructions.{IsDown, down_text}
+use Rattle.roam_wire.specs.declared.datagrams.Kind.TheVariants.{ToClient as ToClientKind}
+use Rattle.roam_wire.specs.declared.versions.Version.{Version}
+use Rattle.roam_wire.specs.declared.versions.Version.TheVariants.{One, Two}
+use Rattle.roam_wire.proofs.Cuts.{pieces_of-step}
+use Rattle.roam_layout.specs.Layouts.{IsSessionSize}
 use Rattle.roam_session.specs.Sessions.{SessionSize, Entry}
 use Rattle.roam_session.specs.Faces.{face}
-use Rattle.roam_world.specs.Numbers.{screen}
-use Rattle.roam_world.specs.Servers.{Server, moment}
-use Rattle.roam_world.specs.Ticks.{makes, cuts_after, number_after, is_live, after_tick}
-use Rattle.roam_world.specs.Clients.{shown_number, shown_screen}
-use Rattle.roam_world.specs.Worlds.{World, Event, ServerTick, Reply, datagram_at, after_server_tick}
-use Rattle.roam_world.specs.Steps.{Run, ToClientStep, ServerTickStep}
-use Rattle.roam_world.specs.Steps.ToClientStep.{empty_slot, not_sent, refused, piece, unread, bad_change, whole, no_memory}
-use Rattle.roam_world.specs.Steps.ServerTickStep.{spent, ticked, no_memory as tick_no_memory}
-use Rattle.roam_world.specs.Laws.{Reaches, AreEvents, Always, ShowsTrueScreens, OneRoundSuffices, OffersNewest, deliveries}
-use Rattle.roam_turns.specs.Hops.{Round, Hops}
+use Rattle.roam_world.specs.Versions.{seen_by, IsSeenBy}
+use Rattle.roam_world.specs.Lists.{IsIn}
+use Rattle.roam_world.specs.Texts.{datagram_with, datagrams_of}
+use Rattle.roam_world.specs.Servers.{Record, Server, moment}
+use Rattle.roam_world.specs.Ticks.{number_after, screen_to, Parcel, sent_by}
+use Rattle.roam_world.specs.Clients.{Client, shown_screen}
+use Rattle.roam_world.proofs.Versions.{seen_is}
+use Rattle.roam_world.proofs.Places.{map_here, enumerate_here, some_at}
+use Rattle.roam_hub.specs.declared.clients.Heard.{Heard}
+use Rattle.roam_hub.specs.Servers.{is_number_spent}
+use Rattle.roam_hub.specs.Clients.{ClientView}
+use Rattle.roam_turns.specs.Calls.{Letter, ClientCall}
+use Rattle.roam_turns.specs.Calls.ClientCall.{Typed, ToClient, ClientTick}
+use Rattle.roam_turns.specs.Hops.{IsHandedOver, Hop, seen_face, Arrives}
+use Rattle.roam_turns.proofs.HopTick.{has_arrived, texts_sent, of_start, is_sent, is_to, told, is_live_then, datagrams_then, is_of, are_datagrams, instruction_low, datagrams_low, told_down, screen_made, told_short}
+use Rattle.roam_turns.proofs.HopDeliveries.{IsGood, all_come}
 
--- ---- runs
+known_live : (a b : Bool) → (a && b) ≡ true → a ≡ true
+known_live true b e = refl
+known_live false b e = absurd (cc)
 
-run_on : (a b c : World) (es es' : List Event) (rs rs' : List Reply) → Run a es rs b → Run b es' rs' c → Run a (es ++ es') (rs ++ rs') c
-run_on a b c [] es' [] rs' h k = subst (λ w. Run w es' rs' c) h k
-run_on a b c [] es' (r ∷ rs) rs' h k = absurd h
-run_on a b c (e ∷ es) es' [] rs' h k = absurd h
-run_on a b c (e ∷ es) es' (r ∷ rs) rs' h k = (h.0, h.1, run_on h.0 b c es es' rs rs' h.2 k)
+-- a screen of either version is a screen
+seen_screen : (v : Version) (s : Screenshot) → IsSeenBy v s → IsScreenshot s
+seen_screen One s is = is.screenshot
+seen_screen Two s is = is
 
-events_on : (es es' : List Event) → AreEvents es → AreEvents es' → AreEvents (es ++ es')
-events_on [] es' h k = k
-events_on (e ∷ es) es' h k = (h.0, events_on es es' h.1 k)
+module _ (faces : (size : SessionSize) (log : List Entry) → IsSessionSize size.rows size.cols → IsScreenshot (face size log))
+    (painted_leads : PaintedLeadsOver) (s : Server) (id now : ℕ) (c : Client) (view : ClientView) (h : Hop s id now c view) where
+  abbrev m : ℕ
+  m = moment s now
 
-deliveries_are : (slot : ℕ) (ks : List (ℕ × ℕ)) → AreEvents (deliveries slot ks)
-deliveries_are slot [] = tt
-deliveries_are slot (k ∷ ks) = (tt, deliveries_are slot ks)
+  abbrev r : Record
+  r = s.records id
 
--- ---- deliveries leave the server
+  abbrev shot : Screenshot
+  shot = screen_to s (moment s now) id
 
-one_leaves : (w : World) (slot k now : ℕ) (reply : Reply) (w' : World) → ToClientStep w slot k now reply w' → w'.server ≡ w.server
-one_leaves w slot k now reply w' (empty_slot a b e) = ap (λ (x : World). x.server) e
-one_leaves w slot k now reply w' (not_sent a b e) = ap (λ (x : World). x.server) e
-one_leaves w slot k now reply w' (refused id d f a b g h e) = ap (λ (x : World). x.server) e
-one_leaves w slot k now reply w' (piece id d h g a b f i e) = ap (λ (x : World). x.server) e
-one_leaves w slot k now reply w' (unread id d g t y a b f h i e) = ap (λ (x : World). x.server) e
-one_leaves w slot k now reply w' (bad_change id d g t v x a b f h i j l m e) = ap (λ (x : World). x.server) e
-one_leaves w slot k now reply w' (whole id d g t v r a b f h i j e) = ap (λ (x : World). x.server) e
-one_leaves w slot k now reply w' (no_memory a e) = ap (λ (x : World). x.server) e
+  there : IsIn id s.arrival
+  there =
+      let live = is_live_then r (number_after s m) shot m h.offered in
+      has_arrived h.server s id h.server_stands (known_live r.known (nat_lt m (r.heard_at + 60000)) live)
 
-deliveries_leave : (w : World) (slot : ℕ) (ks : List (ℕ × ℕ)) (rs : List Reply) (w' : World) → Run w (deliveries slot ks) rs w'
-    → w'.server ≡ w.server
-deliveries_leave w slot [] [] w' h = ap (λ (x : World). x.server) h
-deliveries_leave w slot [] (r ∷ rs) w' h = absurd h
-deliveries_leave w slot (k ∷ ks) [] w' h = absurd h
-deliveries_leave w slot (k ∷ ks) (r ∷ rs) w' h =
-    deliveries_leave h.0 slot ks rs w' h.2 ∙ one_leaves w slot k.0 k.1 r h.0 h.1
+  id_low : id < 2 ^ 64
+  id_low = h.ids.starts id there
 
--- ---- the tick
+  is_screen : shot ≡ seen_by r.version (face s.size s.log)
+  is_screen = screen_made s m id h.made
 
-no_later : (ds : List DatagramValue) (k : ℕ) (d : DatagramValue) → length ds < k → datagram_at ds k ≡ Some d → ⊥
-no_later ds k d late is =
-    elim (cases_Bool (eqb k 0)) [
-      | inl a ↦ let no : None ≡ Some d = rw a at is in cc
-      | inr a ↦
-          let here : slice_get ds (k - 1) ≡ Some d = rw a at is in
-          let within = slice_get_within ds (k - 1) d here in
-          omega (arith, within, late)
-    ]
+  seen : IsSeenBy r.version shot
+  seen = subst (IsSeenBy r.version) (sym is_screen) (seen_is r.version (face s.size s.log) (faces s.size s.log h.ids.size))
 
-ticks_once : (w : World) (slot id now : ℕ) (ks : List (ℕ × ℕ)) (w' w'' : World) → Round w slot id now ks w' w''
-    → w' ≡ after_server_tick w (moment w.server now)
-ticks_once w slot id now ks w' w'' r = go r.ticks
-  where
-    go : ServerTickStep w now r.reply w' → w' ≡ after_server_tick w (moment w.server now)
-    go (ticked a b e) = e
-    go (tick_no_memory a e) = absurd (r.ample a)
-    go (spent a b e) =
-        let fresh = r.sent.2 in
-        absurd (no_later w.sent r.sent.0 r.sent.1 fresh.0 (subst (λ (x : World). datagram_at x.sent r.sent.0 ≡ Some r.sent.1) e fresh.1))
+  texts : (is_number_spent s m ≡ false)
+      × (map (λ (l : Letter). l.1) h.letters ≡ map (λ (p : Parcel). datagram_text p.datagram) (sent_by s m))
+  texts = let t = h.ticks s h.server_stands in texts_sent s now t.0 h.ticked h.letters t.1 t.2
 
-both_true : (a b : Bool) → (a && b) ≡ true → (a ≡ true) × (b ≡ true)
-both_true true true e = (refl, refl)
-both_true true false e = absurd (let no : false ≡ true = e in cc)
-both_true false b e = absurd (let no : false ≡ true = e in cc)
+  low : r.sender.base.number ≤ number_after s m
+  low = let from = h.ready.from in let below = h.ready.below in omega (arith, from, below)
 
--- the screen of the number that comes after these cuts
-screen_made : (size : SessionSize) (log : List Entry) (cuts : List ℕ) (n : ℕ) → n ≡ length cuts + 1
-    → screen size log (cuts ++ length log ∷ []) n ≡ face size log
-screen_made size log cuts n e =
-    let some : eqb n 0 ≡ false = grind (arith, nat_tests, e) in
-    let last : n - 1 ≡ length cuts = omega (arith, e) in
-    rw some (ap (λ k. face size (take (get_or (cuts ++ length log ∷ []) k 0) log)) last
-    ∙ (ap (λ k. face size (take k log)) (get_or-append_seam cuts (length log) [] 0) ∙ ap (λ l. face size l) (take-length log)))
+  down : IsDown (told r (number_after s m) shot)
+  down = told_down s m id h.made texts.0 there h.offered low
 
-cuts_made : (s : Server) (now : ℕ) → makes s now ≡ true → cuts_after s now ≡ s.cuts ++ length s.log ∷ []
-cuts_made s now e = rw e refl
+  -- the datagrams to the start
+  abbrev mine : List DatagramValue
+  mine = datagrams_of (s.records id).version ToClientKind s.session id (s.records id).datagrams (length (s.records id).instructions + 1)
+      (pieces_of (down_text (told (s.records id) (number_after s (moment s now)) (screen_to s (moment s now) id))))
 
-number_made : (s : Server) (now : ℕ) → makes s now ≡ true → number_after s now ≡ length s.cuts + 1
-number_made s now e = ap length (cuts_made s now e) ∙ length-append s.cuts (length s.log ∷ [])
+  is_datagram : (d : DatagramValue) → IsIn d mine → IsDatagram d
+  is_datagram d i =
+      are_datagrams r.version s.session id r.datagrams (length r.instructions + 1) (down_text (told r (number_after s m) shot)) d
+      h.ids.session id_low (omega arith) (instruction_low s m id h.made texts.0 there h.offered)
+      (datagrams_low s m id h.made texts.0 there h.offered)
+      (told_short r (number_after s m) shot seen) i
 
--- ---- the hop
+  good : (call : ClientCall) → IsIn call h.calls → IsGood s.session id (number_after s m) c r shot h.ready seen down call
+  good call i = go call (h.hands_over.just call i)
+    where
+      go : (call : ClientCall) → IsHandedOver h.letters id call → IsGood s.session id (number_after s m) c r shot h.ready seen down call
+      go (Typed act answer) given = absurd given
+      go (ClientTick at answer) given = absurd given
+      go (ToClient bytes at answer) given =
+          let d = of_start s m id bytes h.ids.starts (subst (λ (xs : List (List ℕ)). IsIn bytes xs) texts.1 given.0) given.1 in
+          let i = subst (λ (ds : List DatagramValue). IsIn d.0 ds)
+          (datagrams_then r (number_after s m) shot m h.offered s.session id) d.1 in (
+            d.0,
+            is_datagram d.0 i,
+            is_of r.version s.session id r.datagrams (length r.instructions + 1)
+                (pieces_of (down_text (told r (number_after s m) shot))) d.0 i,
+            sym d.2,
+            given.2,
+          )
 
-module _ (round_suffices : Always OneRoundSuffices) (offers : Always OffersNewest) (shows : Always ShowsTrueScreens)
-    (painted_leads : PaintedLeadsOver) (session : ℕ) (size : SessionSize) (es : List Event) (rs : List Reply) (w : World)
-    (reach : Reaches session size es rs w) (slot id now : ℕ) (ks : List (ℕ × ℕ)) (w' w'' : World) (r : Round w slot id now ks w' w'') where
-  hop_number : shown_number (w''.clients id) ≡ number_after w.server (moment w.server now)
-  hop_number =
-      let m = moment w.server now in
-      let known = both_true
-      (is_live (w.server.records id) m && nat_lt (newest (w.server.records id).sender).number (number_after w.server m))
-      (nat_lt (count (w.server.records id).sender) 8) r.offered in
-      let live = both_true (is_live (w.server.records id) m)
-      (nat_lt (newest (w.server.records id).sender).number (number_after w.server m)) known.0 in
-      let few : count (w.server.records id).sender < 8 = let f = known.1 in grind (arith, nat_tests) in
-      round_suffices session size es rs w reach slot id now ks r.reply w' r.replies w'' r.here r.ticks r.ample r.sent r.delivers r.come
-      r.ample_then
-      ∙ (ap (λ (x : World). (newest (x.server.records id).sender).number) (ticks_once w slot id now ks w' w'' r)
-      ∙ offers session size es rs w reach id now live.0 (inl few))
+  -- each datagram is handed over
+  handed : (d : DatagramValue) → IsIn d mine
+      → (at : ℕ) × (answer : Result Heard Fault) × IsIn (ToClient (datagram_text d) at answer) h.calls
+  handed d i =
+      let is = is_of r.version s.session id r.datagrams (length r.instructions + 1)
+      (pieces_of (down_text (told r (number_after s m) shot))) d i in
+      let sent = is_sent s m id d there (subst (λ (ds : List DatagramValue). IsIn d ds)
+      (sym (datagrams_then r (number_after s m) shot m h.offered s.session id)) i) in
+      h.hands_over.all (datagram_text d) (subst (λ (xs : List (List ℕ)). IsIn (datagram_text d) xs) (sym texts.1) sent)
+      (is_to d id is.client_is id_low)
 
-  hop_screen : shown_screen (w''.clients id) ≡ face w.server.size w.server.log
-  hop_screen =
-      let m = moment w.server now in
-      let later : Reaches session size (es ++ ServerTick now ∷ deliveries slot ks) (rs ++ r.reply ∷ r.replies) w'' =
+  each : (i : ℕ) → i < length (pieces_of (down_text (told r (number_after s m) shot)))
+      → (d : DatagramValue) × IsDatagram d × (d.index ≡ i)
+      × (at : ℕ) × (answer : Result Heard Fault) × IsIn (ToClient (datagram_text d) at answer) h.calls
+  each i lt =
+      let ps = pieces_of (down_text (told r (number_after s m) shot)) in
+      let x = some_at ps i lt in
+      let z : 0 + i ≡ i = omega arith in
+      let make = datagram_with r.version ToClientKind s.session id r.datagrams (length r.instructions + 1) (length ps) in
+      let in_there = map_here make (i, x.0) (enumerate_from 0 ps)
+      (subst (λ (q : ℕ). IsIn (q, x.0) (enumerate_from 0 ps)) z (enumerate_here 0 i x.0 ps x.1)) in
+      let given = handed (make (i, x.0)) in_there in
+      (make (i, x.0), is_datagram (make (i, x.0)) in_there, refl, given.0, given.1, given.2)
+
+  some : 0 < length (pieces_of (down_text (told r (number_after s m) shot)))
+  some =
+      let text = down_text (told r (number_after s m) shot) in
+      let step : pieces_of text ≡ take 1200 text ∷ pieces_of (drop 1200 text) = pieces_of-step text (omega arith) in
+      subst (λ (ps : List (List ℕ)). 0 < length ps) (sym step) (omega arith)
+
+  shows : (view.receiver.newest.number ≡ number_after s m) × (view.receiver.newest.state ≡ shot)
+  shows =
+      all_come s.session id (number_after s m) c r shot h.ready seen down h.client h.calls view h.client_stands good h.come some each
+
+  is_face : shot ≡ seen_face s c
+  is_face = is_screen ∙ ap (λ (v : Version). seen_by v (face s.size s.log)) (sym h.ready.version)
+
+  pub hops : Arrives s now c view
+  hops =
+      let is : IsScreenshot (seen_face s c) = seen_screen c.version (seen_face s c) (seen_is c.version (face s.size s.log)
+      (faces s.size s.log h.ids.size)) in
       record {
-        id = reach.id;
-        limits = reach.limits;
-        events = events_on es (ServerTick now ∷ deliveries slot ks) reach.events (tt, deliveries_are slot ks);
-        run = run_on _ w w'' es (ServerTick now ∷ deliveries slot ks) rs (r.reply ∷ r.replies) reach.run (w', r.ticks, r.come);
-      } in
-      let server : w''.server ≡ after_tick w.server m =
-      deliveries_leave w' slot ks r.replies w'' r.come ∙ ap (λ (x : World). x.server) (ticks_once w slot id now ks w' w'' r) in
-      (shows session size _ _ w'' later).same id
-      ∙ (ap (λ (s : Server). screen s.size s.log s.cuts (shown_number (w''.clients id))) server
-      ∙ (ap (λ cuts. screen w.server.size w.server.log cuts (shown_number (w''.clients id))) (cuts_made w.server m r.makes)
-      ∙ screen_made w.server.size w.server.log w.server.cuts (shown_number (w''.clients id))
-      (hop_number ∙ number_made w.server m r.makes)))
-
-  pub hops : IsScreenshot (shown_screen (w''.clients id)) → AreIndexed (shown_screen (w''.clients id)).cells → Hops w id now w''
-  hops is indexed =
-      let new = face w.server.size w.server.log in
-      record {
-        number = hop_number;
-        screen = hop_screen;
+        number = shows.0;
+        screen = shows.1 ∙ is_face;
         terminal =
-            λ rows cols lines log displays fits. (painted_leads rows cols lines log (shown_screen (w.clients id)) new
-            (subst IsScreenshot hop_screen is) (subst (λ (s : Screenshot). AreIndexed s.cells) hop_screen indexed) displays
-            fits.rows_fit fits.cols_fit).displays;
+            λ indexed rows cols lines log displays fits. (painted_leads rows cols lines log (shown_screen c) (seen_face s c) is indexed
+            displays fits.rows_fit fits.cols_fit).displays;
       }

@@ -1,7 +1,7 @@
 -- What a turn shows leads the outer terminal from what was noted to what is noted then.
 use Rattle.std.proofs.Common.{◌≡◌, ℕ, zero, suc, List, [], ◌∷◌, ◌++◌, map, append-nil, append_assoc, Bool, Option, Some, None, refl, sym, ap, ◌∙◌, subst, inl, inr, arith}
 use Rattle.std.proofs.lemmas.List.{map-append}
-use Rattle.roam_cells.specs.Screenshot.{Screenshot, IsScreenshot, blank_screenshot}
+use Rattle.roam_screens.specs.Screenshot.{Screenshot, IsScreenshot, blank_screenshot}
 use Rattle.roam_acts.specs.declared.acts.Act.{Act}
 use Rattle.roam_text.specs.Log.{Item, Byte}
 use Rattle.roam_paint.specs.Colours.{AreIndexed}
@@ -10,7 +10,7 @@ use Rattle.roam_paint.specs.Painting.{painted, opened}
 use Rattle.roam_hub.specs.declared.addresses.Addr.{Addr}
 use Rattle.roam_turns.specs.declared.outer.Noted.{Noted}
 use Rattle.roam_turns.specs.Calls.{Letter, PortCall, ClientCall}
-use Rattle.roam_turns.specs.Calls.PortCall.{Now, Received, NothingReceived, Sent, PaneGave, PaneGaveNothing, PaneTook, Showed}
+use Rattle.roam_turns.specs.Calls.PortCall.{Now, Received, NothingReceived, Sent, PaneLives, PaneGave, PaneGaveNothing, PaneTook, Showed}
 use Rattle.roam_turns.specs.Painting.{IsNoted, IsBehind, IsReady, Fits, Shows, Leads, text_for}
 use Rattle.roam_turns.specs.Parts.{Call, ReceivesUpTo}
 use Rattle.roam_turns.specs.Parts.Call.{Port, Core}
@@ -27,6 +27,7 @@ shown_both (Port (Now t) ∷ xs) ys = shown_both xs ys
 shown_both (Port (Received room from bytes) ∷ xs) ys = shown_both xs ys
 shown_both (Port (NothingReceived room) ∷ xs) ys = shown_both xs ys
 shown_both (Port (Sent to bytes went) ∷ xs) ys = shown_both xs ys
+shown_both (Port (PaneLives pane life) ∷ xs) ys = shown_both xs ys
 shown_both (Port (PaneGave pane room bytes) ∷ xs) ys = shown_both xs ys
 shown_both (Port (PaneGaveNothing pane room) ∷ xs) ys = shown_both xs ys
 shown_both (Port (PaneTook pane bytes n) ∷ xs) ys = shown_both xs ys

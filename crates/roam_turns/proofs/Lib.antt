@@ -4,4 +4,7 @@ pub mod Letters
 pub mod Starts
 pub mod Painted
 pub mod Leading
+pub mod HopTick
+pub mod HopDeliveries
 pub mod Hopping
+pub mod Readiness

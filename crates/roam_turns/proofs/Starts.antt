@@ -6,9 +6,10 @@ use Rattle.std.proofs.lemmas.Bool.{cases_Bool}
 use Rattle.std.proofs.lemmas.Bool.Decides.{nat_tests}
 use Rattle.std.proofs.lemmas.List.{length-replicate}
 use Rattle.roam_cells.specs.declared.faults.Fault.{Fault}
-use Rattle.roam_cells.specs.Screenshot.{Screenshot}
+use Rattle.roam_screens.specs.Screenshot.{Screenshot}
 use Rattle.roam_acts.specs.declared.acts.Act.{Act}
-use Rattle.roam_update.specs.Shots.{applied}
+use Rattle.roam_world.specs.Versions.{applied_by}
+use Rattle.roam_wire.specs.declared.versions.Version.{Version}
 use Rattle.roam_sync.specs.declared.receivers.Step.{Step}
 use Rattle.roam_sync.specs.declared.receivers.Step.TheVariants as step
 use Rattle.roam_sync.specs.Receivers.{Receiving, step_for}
@@ -18,7 +19,7 @@ use Rattle.roam_world.specs.Texts.{update_in}
 use Rattle.roam_world.specs.Clients.{Client as ClientOf}
 use Rattle.roam_hub.specs.declared.clients.Heard.{Heard}
 use Rattle.roam_hub.specs.Clients.{ClientView, Stands, bare, Types, Hears, Sends}
-use Rattle.roam_hub.specs.Clients.Types.{full, spent as typed_spent, typed, no_memory as typed_no_memory}
+use Rattle.roam_hub.specs.Clients.Types.{watching, full, spent as typed_spent, typed, no_memory as typed_no_memory}
 use Rattle.roam_hub.specs.Clients.Hears.{no_datagram, refused, piece, unread, bad_change, whole, no_memory as heard_no_memory}
 use Rattle.roam_hub.specs.Clients.Sends.{quiet, spent, sent, no_memory}
 use Rattle.roam_turns.specs.Painting.{Follows}
@@ -61,8 +62,8 @@ above r old new floor is =
       | inr a ↦ grind (arith, nat_tests)
     ]
 
-delivers_follow : (r r' : Receiving Screenshot) (u : Update) → Delivers applied r u r' → ReceiverFollows r r'
-delivers_follow r r' u d = go (step_for r u.old u.new u.floor) refl
+delivers_follow : (v : Version) (r r' : Receiving Screenshot) (u : Update) → Delivers (applied_by v) r u r' → ReceiverFollows r r'
+delivers_follow v r r' u d = go (step_for r u.old u.new u.floor) refl
   where
     other : (s : Step) → step_for r u.old u.new u.floor ≡ s → (s ≡ step.New → ⊥) → ReceiverFollows r r'
     other s e not = same_follows r r' (d.other (λ f. not (sym e ∙ f)))
@@ -82,9 +83,10 @@ receiver_of v = v.receiver
 
 pub types_same : (session id : ℕ) (c : ClientOf) (act : Act) (result : Result (Unit {0}) Fault) (new : ClientView)
     → Types session id c act result new → new.receiver ≡ c.receiver
-types_same session id c act result new (full a b st) = ap receiver_of st
-types_same session id c act result new (typed_spent a b st) = ap receiver_of st
-types_same session id c act result new (typed a b d st) = ap receiver_of st
+types_same session id c act result new (watching a b st) = ap receiver_of st
+types_same session id c act result new (full a b d st) = ap receiver_of st
+types_same session id c act result new (typed_spent a b d st) = ap receiver_of st
+types_same session id c act result new (typed a b d e st) = ap receiver_of st
 types_same session id c act result new (typed_no_memory a st) = ap receiver_of st
 
 pub sends_same : (session id : ℕ) (c : ClientOf) (now : ℕ) (result : Result (Vec (Vec ℕ Global) Global) Fault) (new : ClientView)
@@ -105,5 +107,5 @@ hears_follow session id c bytes now result new (bad_change d g t v x a b e f h k
     same_follows c.receiver new.receiver (ap receiver_of st)
 hears_follow session id c bytes now result new (whole d h g t v r a b e delivers f k st) =
     subst (λ (x : Receiving Screenshot). ReceiverFollows c.receiver x) (sym (ap receiver_of st))
-    (delivers_follow c.receiver r (update_in v) delivers)
+    (delivers_follow c.version c.receiver r (update_in v) delivers)
 hears_follow session id c bytes now result new (heard_no_memory a st) = same_follows c.receiver new.receiver (ap receiver_of st)

@@ -18,13 +18,14 @@ Tells (Some xs) (Some ys) calls = ys ≡ xs ++ calls
 -- ---- ports
 
 -- A call of a port: the moment; a datagram that came, into room for so many bytes, and from where; none came; a datagram that was to go
--- somewhere, and whether it went; what the program of a pane wrote, into room for so many bytes; it wrote nothing; what was handed to it,
--- and how much of that it took; what was to be shown, and whether it was.
+-- somewhere, and whether it went; which making of a pane is there, if any; what the program of a pane wrote, into room for so many bytes;
+-- it wrote nothing; what was handed to it, and how much of that it took; what was to be shown, and whether it was.
 pub data PortCall : Type 0 where
   Now : ℕ → PortCall
   Received : ℕ → Addr → List ℕ → PortCall
   NothingReceived : ℕ → PortCall
   Sent : Addr → List ℕ → Bool → PortCall
+  PaneLives : ℕ → Option ℕ → PortCall
   PaneGave : ℕ → ℕ → List ℕ → PortCall
   PaneGaveNothing : ℕ → ℕ → PortCall
   PaneTook : ℕ → List ℕ → ℕ → PortCall
@@ -46,10 +47,12 @@ pane_gave pane room (Some n) buf = PaneGave pane room (take n buf)
 abbrev pub Letter : Type 0
 Letter = Addr × List ℕ
 
--- A call of the server with its answer: a datagram that came from somewhere at a moment; how much room there is for the output of a pane;
--- bytes of a pane's program; the first bytes, so many at most, that wait for one; so many of them that went; a tick at a moment.
+-- A call of the server with its answer: a datagram that came from somewhere at a moment; which making of a pane is there; how much room
+-- there is for the output of a pane; bytes of a pane's program; the first bytes, so many at most, that wait for one; so many of them that
+-- went; a tick at a moment.
 pub data ServerCall : Type 0 where
   ToServer : Addr → List ℕ → ℕ → Result ℕ Stop → ServerCall
+  Life : ℕ → Option ℕ → ServerCall
   Room : ℕ → Option ℕ → ServerCall
   PaneBytes : ℕ → List ℕ → Result (Unit {0}) Fault → ServerCall
   Output : ℕ → ℕ → Option (List ℕ) → ServerCall

@@ -1,49 +1,114 @@
 -- One hop: from what was put into a session to what the outer terminal of a client start shows.
-use Rattle.std.specs.Prelude.{◌≡◌, ℕ, List, ◌++◌, map, Some, true}
+use Rattle.std.specs.Prelude.{◌≡◌, ℕ, ◌<◌, ◌≤◌, ◌^◌, List, length, ◌++◌, map, Some, Result, Ok, Err, true}
+use Rattle.roam_cells.specs.declared.faults.Fault.{Fault}
 use Rattle.roam_cells.specs.declared.faults.Fault.TheVariants.{OutOfMemory}
+use Rattle.roam_screens.specs.Screenshot.{Screenshot}
 use Rattle.roam_text.specs.Log.{Item, Byte}
+use Rattle.roam_paint.specs.Colours.{AreIndexed}
 use Rattle.roam_paint.specs.Ground.{Displays}
 use Rattle.roam_paint.specs.Painting.{painted}
-use Rattle.roam_wire.specs.Datagrams.{DatagramValue}
-use Rattle.roam_session.specs.Sessions.{SessionSize}
+use Rattle.roam_sync.specs.Receivers.{pairs, state_at, from_floor}
+use Rattle.roam_wire.specs.Headers.{header_at}
+use Rattle.roam_layout.specs.Layouts.{IsSessionSize}
 use Rattle.roam_session.specs.Faces.{face}
+use Rattle.roam_world.specs.Versions.{seen_by}
 use Rattle.roam_world.specs.Lists.{IsIn}
-use Rattle.roam_world.specs.Servers.{moment}
+use Rattle.roam_world.specs.Servers.{Record, Server, moment}
 use Rattle.roam_world.specs.Ticks.{makes, number_after, is_offered}
-use Rattle.roam_world.specs.Clients.{shown_number, shown_screen}
-use Rattle.roam_world.specs.Worlds.{World, Event, ServerTick, Reply, Failed}
-use Rattle.roam_world.specs.Steps.{wstep, Run}
-use Rattle.roam_world.specs.Laws.{Reaches, IsFresh, DeliversAll, deliveries}
-use Rattle.roam_hub.specs.Clients.{ClientView, Stands}
+use Rattle.roam_world.specs.Clients.{Client, shown_number, shown_screen}
+use Rattle.roam_world.specs.Worlds.{World}
+use Rattle.roam_hub.specs.Servers.{ServerView, Stands as ServerStands}
+use Rattle.roam_hub.specs.Clients.{ClientView, Stands as ClientStands}
+use Rattle.roam_hub.specs.declared.clients.Heard.{Heard}
+use Rattle.roam_turns.specs.Calls.{Letter, ClientCall, RunOf}
+use Rattle.roam_turns.specs.Calls.ServerCall.{ServerTick}
+use Rattle.roam_turns.specs.Calls.ClientCall.{Typed, ToClient, ClientTick}
+use Rattle.roam_turns.specs.Cores.{server_step, client_step}
 use Rattle.roam_turns.specs.Painting.{Fits}
 
--- A tick makes a number of the session's face, offers it to a start that is in a slot and sends to it; just those datagrams come there,
--- each at least once, in any order; and memory is never wanting.
-pub record Round (w : World) (slot id now : ℕ) (ks : List (ℕ × ℕ)) (w' w'' : World) : Type 0 where
-  pub reply : Reply
-  pub replies : List Reply
-  pub here : w.slots slot ≡ Some id
-  pub ticks : wstep w (ServerTick now) reply w'
-  pub ample : (reply ≡ Failed OutOfMemory) → ⊥
-  pub makes : makes w.server (moment w.server now) ≡ true
-  pub offered : is_offered (w.server.records id) (number_after w.server (moment w.server now)) (moment w.server now) ≡ true
-  pub sent : (k : ℕ) × (d : DatagramValue) × IsFresh w w' id k d
-  pub delivers : DeliversAll w w' id ks
-  pub come : Run w' (deliveries slot ks) replies w''
-  pub ample_then : IsIn (Failed OutOfMemory) replies → ⊥
+-- ---- what is true before
 
--- The start shows the face of all that was put into the session, under the number that was made; and whatever terminal showed what the
--- start showed before, of at least the face's size, shows the face once the text between the two is written.
-pub record Hops (w : World) (id now : ℕ) (w'' : World) : Type 0 where
-  pub number : shown_number (w''.clients id) ≡ number_after w.server (moment w.server now)
-  pub screen : shown_screen (w''.clients id) ≡ face w.server.size w.server.log
-  pub terminal : (rows cols lines : ℕ) (log : List Item) → Displays rows cols lines log (shown_screen (w.clients id))
-      → Fits rows cols lines log (face w.server.size w.server.log)
-      → Displays rows cols lines (log ++ map Byte (painted (shown_screen (w.clients id)) (face w.server.size w.server.log)))
-      (face w.server.size w.server.log)
+-- A client start is ready for a number, by its record at the server: both are of one version; the start holds the pair of the sender's
+-- base; it shows a number from that one on, below this one; it gathered no instruction as high as the next; and it holds at most seven
+-- pairs from the base on.
+pub record IsReady (n : ℕ) (r : Record) (c : Client) : Type 0 where
+  pub version : c.version ≡ r.version
+  pub base : state_at r.sender.base.number (pairs c.receiver) ≡ Some r.sender.base.state
+  pub from : r.sender.base.number ≤ shown_number c
+  pub below : shown_number c < n
+  pub gathered : c.gathering.id ≤ length r.instructions
+  pub few : length (from_floor r.sender.base.number (pairs c.receiver)) ≤ 7
 
--- so it is after every list of events, for each start of the code that is the start then
-abbrev pub OneHop : ClientView → Type 0
-OneHop v = (session : ℕ) (size : SessionSize) (es : List Event) (rs : List Reply) (w : World) → Reaches session size es rs w
-    → (slot id now : ℕ) (ks : List (ℕ × ℕ)) (w' w'' : World) → Round w slot id now ks w' w'' → Stands v session id (w''.clients id)
-    → Hops w id now w''
+-- the session began with a size that it may have, and ids have 64 bits
+pub record HasIds (s : Server) : Type 0 where
+  pub size : IsSessionSize s.size.rows s.size.cols
+  pub session : s.session < 2 ^ 64
+  pub starts : (id : ℕ) → IsIn id s.arrival → id < 2 ^ 64
+
+-- the newest number after a tick at a moment
+abbrev pub number_by : Server → ℕ → ℕ
+number_by s now = number_after s (moment s now)
+
+-- a tick at a moment offers its number to a start
+abbrev pub IsOffered : Server → ℕ → ℕ → Type 0
+IsOffered s id now = is_offered (s.records id) (number_by s now) (moment s now) ≡ true
+
+-- so it is in a world: each start to which a tick would offer its number is ready for it
+pub record IsReadyForTicks (w : World) : Type 0 where
+  pub ids : HasIds w.server
+  pub ready : (id now : ℕ) → IsOffered w.server id now → IsReady (number_by w.server now) (w.server.records id) (w.clients id)
+
+-- ---- the hop
+
+-- bytes tell the id of a start
+abbrev pub IsTo : ℕ → List ℕ → Type 0
+IsTo id bytes = (header_at bytes).client ≡ id
+
+-- a start is handed a letter to it, and memory isn't wanting
+abbrev pub IsHandedOver : List Letter → ℕ → ClientCall → Type 0
+IsHandedOver letters id (ToClient bytes now answer) =
+    IsIn bytes (map (λ (l : Letter). l.1) letters) × IsTo id bytes × ((answer ≡ Err OutOfMemory) → ⊥)
+IsHandedOver letters id (Typed act answer) = ⊥
+IsHandedOver letters id (ClientTick now answer) = ⊥
+
+-- just the letters to a start are handed to it, each at least once, in any order, and memory is never wanting
+pub record HandsOver (letters : List Letter) (id : ℕ) (calls : List ClientCall) : Type 0 where
+  pub just : (call : ClientCall) → IsIn call calls → IsHandedOver letters id call
+  pub all : (bytes : List ℕ) → IsIn bytes (map (λ (l : Letter). l.1) letters) → IsTo id bytes
+      → (now : ℕ) × (answer : Result Heard Fault) × IsIn (ToClient bytes now answer) calls
+
+-- A tick of a server makes a number and offers it to a start that is ready for it, and just the letters to it come there. Of both ends it
+-- is known what the contracts of their calls say, and nothing else.
+pub record Hop (s : Server) (id now : ℕ) (c : Client) (after : ClientView) : Type 0 where
+  pub ids : HasIds s
+  pub made : makes s (moment s now) ≡ true
+  pub offered : IsOffered s id now
+  pub ready : IsReady (number_by s now) (s.records id) c
+  pub server : ServerView
+  pub server_stands : ServerStands server s
+  pub letters : List Letter
+  pub ticked : ServerView
+  pub ticks : server_step server (ServerTick now (Ok letters)) ticked
+  pub client : ClientView
+  pub client_stands : ClientStands client s.session id c
+  pub calls : List ClientCall
+  pub hands_over : HandsOver letters id calls
+  pub come : RunOf client_step client calls after
+
+-- the face of all that was put into the session, as a start's version is shown it
+abbrev pub seen_face : Server → Client → Screenshot
+seen_face s c = seen_by c.version (face s.size s.log)
+
+-- The start shows the face of all that was put into the session, as its version is shown it, under the number that was made; and where its
+-- colours can be written, whatever terminal showed what the start showed before, of at least that screen's size, shows it once the text
+-- between the two is written.
+pub record Arrives (s : Server) (now : ℕ) (c : Client) (after : ClientView) : Type 0 where
+  pub number : after.receiver.newest.number ≡ number_by s now
+  pub screen : after.receiver.newest.state ≡ seen_face s c
+  pub terminal : AreIndexed (seen_face s c).cells → (rows cols lines : ℕ) (log : List Item)
+      → Displays rows cols lines log (shown_screen c) → Fits rows cols lines log (seen_face s c)
+      → Displays rows cols lines (log ++ map Byte (painted (shown_screen c) (seen_face s c))) (seen_face s c)
+
+-- so it is after every hop
+abbrev pub OneHop : Type 0
+OneHop = (s : Server) (id now : ℕ) (c : Client) (after : ClientView) → Hop s id now c after → Arrives s now c after

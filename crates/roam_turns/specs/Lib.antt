@@ -1,7 +1,9 @@
+pub mod Screens
 pub mod Calls
 pub mod Cores
 pub mod Parts
 pub mod Turns
 pub mod Painting
 pub mod Recording
+pub mod Giving
 pub mod Hops

@@ -1,6 +1,6 @@
 -- The outer terminal: what is noted of it, and what is written to it.
 use Rattle.std.specs.Prelude.{◌≡◌, ℕ, ◌≤◌, List, ◌++◌, map, Option, Some, None}
-use Rattle.roam_cells.specs.Screenshot.{Screenshot, blank_screenshot}
+use Rattle.roam_screens.specs.Screenshot.{Screenshot, blank_screenshot}
 use Rattle.roam_text.specs.Log.{Item, Byte}
 use Rattle.roam_term.specs.Terminal.{term}
 use Rattle.roam_paint.specs.Painting.{painted, opened}

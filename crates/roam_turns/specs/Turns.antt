@@ -1,14 +1,14 @@
 -- What a turn is: the calls that it makes, of its ports and of its core, in their order.
 use Rattle.std.specs.Prelude.{◌≡◌, ℕ, ◌<◌, ◌≤◌, List, [], ◌∷◌, ◌++◌, map, Bool, Option, Some, None, Result, Ok, Err, is_ok, true, false}
 use Rattle.roam_cells.specs.declared.faults.Fault.{Fault}
-use Rattle.roam_cells.specs.Screenshot.{Screenshot}
+use Rattle.roam_screens.specs.Screenshot.{Screenshot}
 use Rattle.roam_acts.specs.declared.acts.Act.{Act}
 use Rattle.roam_hub.specs.declared.addresses.Addr.{Addr}
 use Rattle.roam_hub.specs.declared.addresses.Stop.{Stop}
 use Rattle.roam_hub.specs.declared.clients.Heard.{Heard}
 use Rattle.roam_turns.specs.Calls.{Letter, PortCall, ServerCall, ClientCall}
-use Rattle.roam_turns.specs.Calls.PortCall.{Now, Sent, PaneGave, PaneGaveNothing, PaneTook, Showed}
-use Rattle.roam_turns.specs.Calls.ServerCall.{ToServer, Room, PaneBytes, Output, Drain, ServerTick}
+use Rattle.roam_turns.specs.Calls.PortCall.{Now, Sent, PaneLives, PaneGave, PaneGaveNothing, PaneTook, Showed}
+use Rattle.roam_turns.specs.Calls.ServerCall.{ToServer, Life, Room, PaneBytes, Output, Drain, ServerTick}
 use Rattle.roam_turns.specs.Calls.ClientCall.{Typed, ToClient, ClientTick}
 use Rattle.roam_turns.specs.declared.outer.Noted.{Noted}
 use Rattle.roam_turns.specs.Painting.{IsNoted, text_for}
@@ -33,6 +33,10 @@ Sends (letter ∷ letters) calls =
 -- a datagram is handed to the server at a moment
 abbrev pub IsToServer : ℕ → Addr → List ℕ → ServerCall → Type 0
 IsToServer now from bytes call = (answer : Result ℕ Stop) × (call ≡ ToServer from bytes now answer)
+
+-- the ports are told which making of a pane is there, as the server answers it
+abbrev pub TellsLife : ℕ → List (Call ServerCall) → Type 0
+TellsLife pane calls = (life : Option ℕ) × (calls ≡ Core (Life pane life) ∷ Port (PaneLives pane life) ∷ [])
 
 -- there is room for the answers to a full piece: 12 bytes for each of 1,024
 abbrev pub TakesPiece : Option ℕ → Type 0
@@ -68,13 +72,14 @@ ServerTicks now calls =
     (answer : Result (List Letter) Fault) × (sent : List PortCall)
     × (calls ≡ Core (ServerTick now answer) ∷ map Port sent) × Sends (sent_in answer) sent
 
--- the server's turn: the moment; at most 32 datagrams of up to 2,048 bytes; panes 1 to 9 are asked, then they are filled; a tick
+-- the server's turn: the moment; at most 32 datagrams of up to 2,048 bytes; the lives of panes 1 to 9 are told, then these panes are asked,
+-- then they are filled; a tick
 pub record ServeTurn (calls : List (Call ServerCall)) : Type 0 where
   pub now : ℕ
   pub rest : List (Call ServerCall)
   pub all : calls ≡ Port (Now now) ∷ rest
   pub parts : Then (ReceivesUpTo (IsToServer now) 2048 32)
-      (Then (Each AsksPane 1 9) (Then (Each FillsPane 1 9) (ServerTicks now))) rest
+      (Then (Each TellsLife 1 9) (Then (Each AsksPane 1 9) (Then (Each FillsPane 1 9) (ServerTicks now)))) rest
 
 -- ---- the turn of a client start
 

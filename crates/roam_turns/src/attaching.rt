@@ -2,7 +2,7 @@
 ghost use Rattle.std.specs.Prelude.{◌≡◌, List, Option, IfSome};
 ghost use Rattle.std.specs.Option.{option_copied};
 ghost use Rattle.roam_acts.specs.Acts.{IsInRange};
-ghost use Rattle.roam_cells.specs.Screenshot.{IsScreenshot};
+ghost use Rattle.roam_screens.specs.Screenshot.{IsScreenshot};
 ghost use Rattle.roam_paint.specs.Colours.{AreIndexed};
 ghost use Rattle.roam_turns.specs.Calls.{ClientCall, PortCall};
 ghost use Rattle.roam_turns.specs.Painting.{Follows, IsNoted, IsBehind, Leads, Shows};
@@ -18,6 +18,7 @@ use roam_acts::Act;
 use roam_hub::Addr;
 use roam_paint::colours_of;
 use roam_paint::laws::{opened_begins_blank, painted_leads_over};
+use roam_screens::Seen;
 use std::alloc::Global;
 
 // Types the next act, where there is one, and answers whether it was taken.
@@ -64,11 +65,11 @@ fn paint_screen<C: ClientCore, P: Ports>(
 {
     let (number, screen) = client.shown();
     screen.facts();
-    colours_of(screen.cells());
+    colours_of(&screen);
     if outer.is_noted(number) {
         return;
     }
-    let Ok(painting) = outer.painting(alloc, number, screen) else {
+    let Ok(painting) = outer.painting(alloc, number, &screen) else {
         return;
     };
     if ports.show(&painting.text) {

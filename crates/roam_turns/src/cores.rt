@@ -1,18 +1,20 @@
 //! What a turn asks of a core. A core may tell its calls: so a turn can't pass over what came by saying that the core refused it.
 ghost use Rattle.std.specs.Prelude.{◌≡◌, ◌≤◌, ℕ, length, List, [], ◌∷◌, Option, None, IfSome};
 ghost use Rattle.roam_acts.specs.Acts.{IsInRange};
-ghost use Rattle.roam_cells.specs.Screenshot.{Screenshot};
+ghost use Rattle.roam_screens.specs.Screenshot.{Screenshot};
+ghost use Rattle.roam_screens.specs.Shown.{shown_by};
 ghost use Rattle.roam_session.specs.Queues.{IsWithin};
 ghost use Rattle.roam_turns.specs.Calls.{Tells, ServerCall, ClientCall, copied, letters_of, texts_in};
-ghost use Rattle.roam_turns.specs.Calls.ServerCall.{ToServer, Room, PaneBytes, Output, Drain, ServerTick};
+ghost use Rattle.roam_turns.specs.Calls.ServerCall.{ToServer, Life, Room, PaneBytes, Output, Drain, ServerTick};
 ghost use Rattle.roam_turns.specs.Calls.ClientCall.{Typed, ToClient, ClientTick};
 ghost use Rattle.roam_session.specs.Stands.{waiting_at};
 ghost use Rattle.roam_turns.specs.Cores.{server_step, client_step};
 ghost use Rattle.roam_turns.specs.Painting.{Follows};
 
 use roam_acts::Act;
-use roam_cells::{Fault, Shot};
+use roam_cells::Fault;
 use roam_hub::{Addr, Client, Heard, Server, Stop};
+use roam_screens::Shown;
 use std::alloc::Global;
 
 /// The server, as a turn calls it.
@@ -30,6 +32,11 @@ pub trait ServerCore {
     fn datagram(&mut self, alloc: Global, from: Addr, bytes: &[u8], now: u64) -> Result<usize, Stop>
         ensures tells { Tells (made self.old) (made self.new) (ToServer from bytes.now now result ∷ []) }
         ensures step { step self.old (ToServer from bytes.now now result) self.new };
+
+    /// Which making of a pane of this number is there, if any.
+    fn life(&mut self, pane: u8) -> Option<u64>
+        ensures tells { Tells (made self.old) (made self.new) (Life pane result ∷ []) }
+        ensures step { step self.old (Life pane result) self.new };
 
     /// How many more bytes may wait for the program of a pane that is there.
     fn room(&mut self, pane: u8) -> Option<usize>
@@ -94,9 +101,9 @@ pub trait ClientCore {
         ensures screen { screen self.new ≡ screen self.old };
 
     /// The number and the screen that it shows.
-    fn shown(&self) -> (u64, &Shot)
+    fn shown(&self) -> (u64, Shown<'_>)
         ensures number { result.0 ≡ number self.now }
-        ensures screen { result.1.now ≡ screen self.now };
+        ensures screen { shown_by result.1 ≡ screen self.now };
 }
 
 impl ServerCore for Server {
@@ -112,6 +119,10 @@ impl ServerCore for Server {
         now: u64,
     ) -> Result<usize, Stop> {
         Server::datagram(self, alloc, from, bytes, now)
+    }
+
+    fn life(&mut self, pane: u8) -> Option<u64> {
+        Server::life(self, pane)
     }
 
     fn room(&mut self, pane: u8) -> Option<usize> {
@@ -158,7 +169,7 @@ impl ClientCore for Client {
         Client::tick(self, alloc, now)
     }
 
-    fn shown(&self) -> (u64, &Shot) {
+    fn shown(&self) -> (u64, Shown<'_>) {
         Client::shown(self)
     }
 }

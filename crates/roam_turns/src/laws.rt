@@ -1,21 +1,17 @@
 //! Laws of the definitions, each the contract of a function that does nothing when it runs.
-ghost use Rattle.roam_turns.specs.Hops.{OneHop};
+ghost use Rattle.roam_world.specs.Laws.{Always};
+ghost use Rattle.roam_turns.specs.Hops.{IsReadyForTicks, OneHop};
 
-use roam_hub::Client;
-use roam_paint::colours_of;
-use roam_paint::laws::painted_leads_over;
-use roam_world::laws::{clients_show_the_session, one_round_suffices};
+/// One hop. Where a tick of a server makes a number and offers it to a client start that is ready for it, and just the letters to that
+/// start come there, each at least once, in any order: the start shows the face of all that was put into the session until then, as its
+/// version is shown it, and the text of `paint` leads a terminal that displayed what the start showed before to that face.
+pub fn one_hop()
+    ensures hop { OneHop }
+{}
 
-/// One hop. After every list of events, where a server tick makes a number, offers it to a client start and sends to it, and just those
-/// datagrams come there, each at least once, in any order: the start shows the face of all that was put into the session until then, and
-/// the text of `paint` leads a ground terminal that showed what the start showed before to that face.
-pub fn one_hop(client: &Client)
-    ensures hop { OneHop client.now }
-{
-    let (_, screen) = client.shown();
-    screen.facts();
-    colours_of(screen.cells());
-    one_round_suffices();
-    clients_show_the_session();
-    painted_leads_over();
-}
+/// After every list of events, each client start to which a tick would offer its number is ready for it: of one version with its record,
+/// it holds the pair of the sender's base, shows a number from that one on and below the tick's, gathered no instruction as high as the
+/// tick's, and holds at most seven pairs from the base on.
+pub fn histories_make_ready()
+    ensures ready { Always IsReadyForTicks }
+{}

@@ -7,6 +7,7 @@ pub mod laws;
 pub mod memory;
 mod outer;
 pub mod ports;
+mod screens;
 mod sending;
 mod serving;
 

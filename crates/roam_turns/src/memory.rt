@@ -1,6 +1,8 @@
 //! Ports over memory, which tell their calls.
-ghost use Rattle.std.specs.Prelude.{◌≡◌, ◌∷◌, ◌++◌, [], is_ok, if◌then◌else◌, OnErr, IfOk, Some, None};
-ghost use Rattle.roam_turns.specs.Calls.{Tells};
+ghost use Rattle.std.specs.Prelude.{◌≡◌, ◌≤◌, ◌∷◌, ◌++◌, [], is_ok, if◌then◌else◌, not, length, min, take, OnErr, IfOk, IfSome, Some, None};
+ghost use Rattle.roam_turns.specs.Calls.{Tells, received, pane_gave};
+ghost use Rattle.roam_turns.specs.Calls.PortCall.{Now, Sent, PaneLives, PaneTook, Showed};
+ghost use Rattle.roam_turns.specs.Giving.{next_call, goes_well, first_where, rest_where, is_first, gives_piece, receive_of, piece_of, Notes, Counts};
 ghost use Rattle.roam_turns.specs.Recording.{call_of, datagrams_of, pieces_of, told_of};
 
 use crate::ports::Ports;
@@ -22,6 +24,9 @@ pub enum Told {
 
     /// A datagram was to go somewhere, and whether it went.
     Sent(Addr, Vec<u8>, bool),
+
+    /// Which making of a pane is there, if any.
+    PaneLives(u8, Option<u64>),
 
     /// What the program of a pane wrote, into room for so many bytes.
     PaneGave(u8, usize, Vec<u8>),
@@ -50,10 +55,33 @@ pub struct MemoryPorts {
     fails_at: u64,
 }
 
+// What is at the front of a queue leaves it, where it is taken.
+fn pop_where<T>(is_taken: bool, queue: &mut VecDeque<T>) -> Option<T>
+    ensures first { result ≡ first_where is_taken queue.old.items }
+    ensures rest { queue.new.items ≡ rest_where is_taken queue.old.items }
+{
+    if is_taken { queue.pop_front() } else { None }
+}
+
+// Copies bytes to the front of a buffer, as many as fit, and tells how many.
+fn copy_front(bytes: &[u8], buf: &mut [u8]) -> usize
+    ensures within { result ≤ length buf.new }
+    ensures copied { take result buf.new ≡ take (length buf.old) bytes.now }
+{
+    let len = bytes.len().min(buf.len());
+    buf[..len].copy_from_slice(&bytes[..len]);
+    len
+}
+
 impl MemoryPorts {
     /// Ports at the moment 0: nothing is to come, what is handed out goes, and no call fails.
     pub fn new(alloc: Global) -> MemoryPorts
         ensures told { told_of result ≡ Some [] }
+        ensures moment { result.moment ≡ 0 }
+        ensures no_datagram { datagrams_of result ≡ [] }
+        ensures no_piece { pieces_of result ≡ [] }
+        ensures appetite { result.appetite ≡ usize.MAX }
+        ensures fails { result.fails_at ≡ 0 }
     {
         MemoryPorts {
             alloc,
@@ -103,7 +131,8 @@ impl MemoryPorts {
         self.appetite = bytes;
     }
 
-    /// The call of this number fails, counted from 1 and from now on; none does at 0. A moment is told whatever fails.
+    /// The call of this number fails, counted from 1 and from now on; none does at 0. A moment is told whatever fails, and the lives of
+    /// panes aren't counted.
     pub fn fail_at(&mut self, call: u64)
         ensures fails { self.new ≡ record self.old { calls = 0; fails_at = call } }
     {
@@ -119,7 +148,9 @@ impl MemoryPorts {
     }
 
     // Whether the piece that is to come first is of this pane's program.
-    fn is_next(&self, pane: u8) -> bool {
+    fn is_next(&self, pane: u8) -> bool
+        ensures first { result ≡ is_first pane (pieces_of self.now) }
+    {
         match self.pieces.front() {
             None => false,
             Some((from, _)) => *from == pane,
@@ -128,7 +159,8 @@ impl MemoryPorts {
 
     // Counts a call, and tells whether it fails.
     fn is_failing(&mut self) -> bool
-        ensures told { told_of self.new ≡ told_of self.old }
+        ensures fails { result ≡ not (goes_well self.old) }
+        ensures counts { self.new ≡ record self.old { calls = next_call self.old } }
     {
         self.calls = self.calls.saturating_add(1);
         self.calls == self.fails_at
@@ -138,6 +170,7 @@ impl MemoryPorts {
     fn record(&mut self, call: Result<Told, AllocError>)
         ensures told { IfOk call (λ it. Tells (told_of self.old) (told_of self.new) (call_of it ∷ [])) }
         ensures lost { OnErr call (told_of self.new ≡ None) }
+        ensures notes { Notes self.old self.new }
     {
         match call {
             Ok(it) => {
@@ -153,28 +186,34 @@ impl MemoryPorts {
 impl Ports for MemoryPorts {
     ghost told = { told_of };
 
-    fn now(&mut self) -> u64 {
+    fn now(&mut self) -> u64
+        ensures moment { result ≡ self.old.moment }
+        ensures counts { Counts self.old self.new }
+        ensures tells { Tells (told_of self.old) (told_of self.new) (Now result ∷ []) }
+    {
         let _ = self.is_failing();
         let moment = self.moment;
         self.record(Ok(Told::Now(moment)));
         moment
     }
 
-    fn receive(&mut self, buf: &mut [u8]) -> Option<(Addr, usize)> {
+    fn receive(&mut self, buf: &mut [u8]) -> Option<(Addr, usize)>
+        ensures oldest { received (length buf.old) result buf.new
+            ≡ receive_of (length buf.old) (first_where (goes_well self.old) (datagrams_of self.old)) }
+        ensures later { datagrams_of self.new ≡ rest_where (goes_well self.old) (datagrams_of self.old) }
+        ensures counts { Counts (record self.old { datagrams = self.new.datagrams }) self.new }
+        ensures within { IfSome result (λ r. r.1 ≤ length buf.new) }
+        ensures tells { Tells (told_of self.old) (told_of self.new) (received (length buf.old) result buf.new ∷ []) }
+    {
         let room = buf.len();
-        let came = if self.is_failing() {
-            None
-        } else {
-            self.datagrams.pop_front()
-        };
-        match came {
+        let goes = !self.is_failing();
+        match pop_where(goes, &mut self.datagrams) {
             None => {
                 self.record(Ok(Told::NothingReceived(room)));
                 None
             }
             Some((from, bytes)) => {
-                let len = bytes.len().min(room);
-                buf[..len].copy_from_slice(&bytes[..len]);
+                let len = copy_front(&bytes, buf);
                 let text = Vec::from_slice(self.alloc, &buf[..len]);
                 self.record(text.map(|text| Told::Received(room, from, text)));
                 Some((from, len))
@@ -182,28 +221,41 @@ impl Ports for MemoryPorts {
         }
     }
 
-    fn send(&mut self, to: Addr, bytes: &[u8]) -> bool {
+    fn send(&mut self, to: Addr, bytes: &[u8]) -> bool
+        ensures goes { result ≡ goes_well self.old }
+        ensures counts { Counts self.old self.new }
+        ensures tells { Tells (told_of self.old) (told_of self.new) (Sent to bytes.now result ∷ []) }
+    {
         let went = !self.is_failing();
         let text = Vec::from_slice(self.alloc, bytes);
         self.record(text.map(|text| Told::Sent(to, text, went)));
         went
     }
 
-    fn pane_in(&mut self, pane: u8, buf: &mut [u8]) -> Option<usize> {
+    fn pane_lives(&mut self, pane: u8, life: Option<u64>)
+        ensures notes { Notes self.old self.new }
+        ensures tells { Tells (told_of self.old) (told_of self.new) (PaneLives pane life ∷ []) }
+    {
+        self.record(Ok(Told::PaneLives(pane, life)));
+    }
+
+    fn pane_in(&mut self, pane: u8, buf: &mut [u8]) -> Option<usize>
+        ensures first { pane_gave pane (length buf.old) result buf.new
+            ≡ piece_of pane (length buf.old) (first_where (gives_piece pane self.old) (pieces_of self.old)) }
+        ensures later { pieces_of self.new ≡ rest_where (gives_piece pane self.old) (pieces_of self.old) }
+        ensures counts { Counts (record self.old { pieces = self.new.pieces }) self.new }
+        ensures within { IfSome result (λ n. n ≤ length buf.new) }
+        ensures tells { Tells (told_of self.old) (told_of self.new) (pane_gave pane (length buf.old) result buf.new ∷ []) }
+    {
         let room = buf.len();
-        let wrote = if self.is_failing() || !self.is_next(pane) {
-            None
-        } else {
-            self.pieces.pop_front()
-        };
-        match wrote {
+        let gives = !self.is_failing() && self.is_next(pane);
+        match pop_where(gives, &mut self.pieces) {
             None => {
                 self.record(Ok(Told::PaneGaveNothing(pane, room)));
                 None
             }
             Some((_, bytes)) => {
-                let len = bytes.len().min(room);
-                buf[..len].copy_from_slice(&bytes[..len]);
+                let len = copy_front(&bytes, buf);
                 let text = Vec::from_slice(self.alloc, &buf[..len]);
                 self.record(text.map(|text| Told::PaneGave(pane, room, text)));
                 Some(len)
@@ -211,7 +263,12 @@ impl Ports for MemoryPorts {
         }
     }
 
-    fn pane_out(&mut self, pane: u8, bytes: &[u8]) -> usize {
+    fn pane_out(&mut self, pane: u8, bytes: &[u8]) -> usize
+        ensures takes { result ≡ (if goes_well self.old then min (length bytes.now) self.old.appetite else 0) }
+        ensures counts { Counts self.old self.new }
+        ensures within { result ≤ length bytes.now }
+        ensures tells { Tells (told_of self.old) (told_of self.new) (PaneTook pane bytes.now result ∷ []) }
+    {
         let took = if self.is_failing() {
             0
         } else {
@@ -222,7 +279,11 @@ impl Ports for MemoryPorts {
         took
     }
 
-    fn show(&mut self, bytes: &[u8]) -> bool {
+    fn show(&mut self, bytes: &[u8]) -> bool
+        ensures goes { result ≡ goes_well self.old }
+        ensures counts { Counts self.old self.new }
+        ensures tells { Tells (told_of self.old) (told_of self.new) (Showed bytes.now result ∷ []) }
+    {
         let is_shown = !self.is_failing();
         let text = Vec::from_slice(self.alloc, bytes);
         self.record(text.map(|text| Told::Showed(text, is_shown)));

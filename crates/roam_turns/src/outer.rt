@@ -1,9 +1,12 @@
 //! What is known of the outer terminal.
 ghost use Rattle.std.specs.Prelude.{◌≡◌, ◌↔◌, None, Some, IsTrue, IfOk};
+ghost use Rattle.roam_screens.specs.Shown.{shown_by};
 ghost use Rattle.roam_turns.specs.Painting.{IsNoted, text_for};
 
-use roam_cells::{Fault, Shot};
+use crate::screens::AnyShot;
+use roam_cells::Fault;
 use roam_paint::{open, paint};
+use roam_screens::{RowShot, Seen, Shown};
 use std::alloc::Global;
 use std::marker::Model;
 
@@ -11,7 +14,7 @@ use std::marker::Model;
 #[derive(Drop)]
 pub(crate) struct Noted {
     pub(crate) number: u64,
-    pub(crate) screen: Shot,
+    pub(crate) screen: AnyShot,
 }
 
 /// The screen that the outer terminal shows and its number, or that neither is known.
@@ -36,17 +39,20 @@ pub(crate) struct Painting {
     pub(crate) noted: Noted,
 }
 
-fn text_of(alloc: Global, noted: &Option<Noted>, screen: &Shot) -> Result<Vec<u8>, Fault>
-    ensures text { IfOk result (λ text. text.items ≡ text_for noted.now screen.now) }
+fn text_of(alloc: Global, noted: &Option<Noted>, screen: &Shown<'_>) -> Result<Vec<u8>, Fault>
+    ensures text { IfOk result (λ text. text.items ≡ text_for noted.now (shown_by screen.now)) }
 {
     let mut text = Vec::new(alloc);
     match noted {
         None => {
             open(&mut text)?;
-            let blank = Shot::blank(alloc, screen.rows(), screen.cols())?;
+            let blank = RowShot::blank(alloc, screen.rows(), screen.cols())?;
             paint(&blank, screen, &mut text)?;
         }
-        Some(noted) => paint(&noted.screen, screen, &mut text)?,
+        Some(noted) => {
+            let before = noted.screen.shown();
+            paint(&before, screen, &mut text)?;
+        }
     }
     Ok(text)
 }
@@ -74,13 +80,13 @@ impl Outer {
         &self,
         alloc: Global,
         number: u64,
-        screen: &Shot,
+        screen: &Shown<'_>,
     ) -> Result<Painting, Fault>
-        ensures text { IfOk result (λ painting. painting.text.items ≡ text_for self.now screen.now) }
-        ensures noted { IfOk result (λ painting. painting.noted ≡ record { number = number; screen = screen.now }) }
+        ensures text { IfOk result (λ painting. painting.text.items ≡ text_for self.now (shown_by screen.now)) }
+        ensures noted { IfOk result (λ painting. painting.noted ≡ record { number = number; screen = shown_by screen.now }) }
     {
         let text = text_of(alloc, &self.noted, screen)?;
-        let screen = screen.copy(alloc)?;
+        let screen = AnyShot::of(alloc, screen)?;
         Ok(Painting {
             text,
             noted: Noted { number, screen },

@@ -1,7 +1,7 @@
 //! What a turn reaches outside its core.
 ghost use Rattle.std.specs.Prelude.{◌≤◌, length, List, [], ◌∷◌, Option, None, IfSome};
 ghost use Rattle.roam_turns.specs.Calls.{PortCall, Tells, received, pane_gave};
-ghost use Rattle.roam_turns.specs.Calls.PortCall.{Now, Sent, PaneTook, Showed};
+ghost use Rattle.roam_turns.specs.Calls.PortCall.{Now, Sent, PaneLives, PaneTook, Showed};
 
 use roam_hub::Addr;
 
@@ -23,6 +23,11 @@ pub trait Ports {
     /// Sends a datagram, and tells whether it went.
     fn send(&mut self, to: Addr, bytes: &[u8]) -> bool
         ensures tells { Tells (told self.old) (told self.new) (Sent to bytes.now result ∷ []) };
+
+    /// Tells which making of a pane, 1 to 9, is there, or that none is: a program that came to another one is let go, and nothing more of
+    /// it is read.
+    fn pane_lives(&mut self, pane: u8, life: Option<u64>)
+        ensures tells { Tells (told self.old) (told self.new) (PaneLives pane life ∷ []) };
 
     /// Bytes that the program of pane 1 to 9 wrote: how many bytes of `buf` they fill from the front.
     fn pane_in(&mut self, pane: u8, buf: &mut [u8]) -> Option<usize>

@@ -1,7 +1,7 @@
 //! One turn of the server.
 ghost use Rattle.std.specs.Prelude.{◌↔◌, IsTrue};
 ghost use Rattle.roam_turns.specs.Parts.{Makes, Each, ReceivesUpTo};
-ghost use Rattle.roam_turns.specs.Turns.{TakesPiece, AsksPane, FillsPane, IsToServer, ServerTicks, ServeTurn};
+ghost use Rattle.roam_turns.specs.Turns.{TellsLife, TakesPiece, AsksPane, FillsPane, IsToServer, ServerTicks, ServeTurn};
 
 use crate::cores::ServerCore;
 use crate::ports::Ports;
@@ -33,6 +33,24 @@ fn receive_all<C: ServerCore, P: Ports>(alloc: Global, server: &mut C, ports: &m
                 let _dropped = server.datagram(alloc, from, &buf[..len], now);
             }
         }
+    }
+}
+
+// Tells the ports which making of a pane is there.
+fn tell_life<C: ServerCore, P: Ports>(server: &mut C, ports: &mut P, pane: u8)
+    ensures tells { Makes C.step (TellsLife pane) (P.told ports.old) (P.told ports.new)
+        (C.made server.old) (C.made server.new) server.old server.new }
+{
+    let life = server.life(pane);
+    ports.pane_lives(pane, life);
+}
+
+fn tell_lives<C: ServerCore, P: Ports>(server: &mut C, ports: &mut P)
+    ensures tells { Makes C.step (Each TellsLife 1 9) (P.told ports.old) (P.told ports.new)
+        (C.made server.old) (C.made server.new) server.old server.new }
+{
+    for number in 1..10u8 {
+        tell_life(server, ports, number);
     }
 }
 
@@ -110,15 +128,17 @@ fn tick_and_send<C: ServerCore, P: Ports>(alloc: Global, server: &mut C, ports: 
     }
 }
 
-/// One turn of a server round its ports: the moment; at most 32 datagrams of up to 2,048 bytes, until one receive brings nothing; up to
-/// 1,024 bytes of the program of each pane, 1 to 9, that would take a full piece; up to 1,024 bytes for the program of each pane, of which
-/// what it took goes; and a tick, whose datagrams are sent. What the server refuses is dropped, and a datagram that isn't sent is lost.
+/// One turn of a server round its ports: the moment; at most 32 datagrams of up to 2,048 bytes, until one receive brings nothing; of each
+/// pane, 1 to 9, which making of it is there, before any of their programs is asked; up to 1,024 bytes of the program of each pane that
+/// would take a full piece; up to 1,024 bytes for the program of each pane, of which what it took goes; and a tick, whose datagrams are
+/// sent. What the server refuses is dropped, and a datagram that isn't sent is lost.
 pub fn serve_turn<C: ServerCore, P: Ports>(alloc: Global, server: &mut C, ports: &mut P)
     ensures turn { Makes C.step ServeTurn (P.told ports.old) (P.told ports.new)
         (C.made server.old) (C.made server.new) server.old server.new }
 {
     let now = ports.now();
     receive_all(alloc, server, ports, now);
+    tell_lives(server, ports);
     ask_panes(server, ports);
     fill_panes(server, ports);
     tick_and_send(alloc, server, ports, now);

@@ -1,5 +1,5 @@
 -- The bytes of a number are read as that number, and the bytes that are read as a number are its bytes.
-use Rattle.std.proofs.Common.{◌≡◌, ℕ, ◌+◌, ◌<◌, ◌≤◌, List, ◌++◌, length, get_or, take, drop, sym, ap, ◌∙◌, arith, inl, inr, lit<}
+use Rattle.std.proofs.Common.{◌≡◌, ℕ, ◌+◌, ◌/◌, ◌%◌, ◌^◌, ◌<◌, ◌≤◌, List, [], ◌∷◌, ◌++◌, length, get_or, take, drop, sym, ap, ◌∙◌, arith, inl, inr, lit<}
 use Rattle.std.specs.Prelude.{All}
 use Rattle.std.specs.Int.{w16, w32, from_be_bytes}
 use Rattle.std.proofs.lemmas.Bool.{cases_lt}
@@ -56,3 +56,23 @@ number_2 at text long fits =
     let here : big_bytes 2 (big_number 2 (drop at text)) ≡ take 2 (drop at text) = back_2 (drop at text) (omega (arith, length-drop at text)) (bytes-drop at text fits) in
     sym (take-append-drop 2 (drop at text)) ∙ ap (λ (x : List ℕ). x ++ drop 2 (drop at text)) (sym here)
     ∙ ap (λ (x : List ℕ). big_bytes 2 (big_number 2 (drop at text)) ++ x) (drop-drop 2 at text)
+
+back_3 : (xs : List ℕ) → 3 ≤ length xs → AreBytes xs → big_bytes 3 (big_number 3 xs) ≡ take 3 xs
+back_3 [] long fits = absurd (omega arith)
+back_3 (a ∷ []) long fits = absurd (omega arith)
+back_3 (a ∷ b ∷ []) long fits = absurd (omega arith)
+back_3 (a ∷ b ∷ c ∷ rest) long fits =
+    let n = big_number 3 (a ∷ b ∷ c ∷ rest) in
+    let first : a < 256 = fits 0 in
+    let second : b < 256 = fits 1 in
+    let third : c < 256 = fits 2 in
+    let one : n / 256 ^ 2 % 256 ≡ a = omega (arith, first, second, third) in
+    let two : n / 256 ^ 1 % 256 ≡ b = omega (arith, first, second, third) in
+    let three : n % 256 ≡ c = omega (arith, first, second, third) in
+    λ i. one i ∷ (two i ∷ (three i ∷ []))
+
+pub number_3 : (at : ℕ) (text : List ℕ) → at + 3 ≤ length text → AreBytes text → drop at text ≡ big_bytes 3 (big_number 3 (drop at text)) ++ drop (at + 3) text
+number_3 at text long fits =
+    let here : big_bytes 3 (big_number 3 (drop at text)) ≡ take 3 (drop at text) = back_3 (drop at text) (omega (arith, length-drop at text)) (bytes-drop at text fits) in
+    sym (take-append-drop 3 (drop at text)) ∙ ap (λ (x : List ℕ). x ++ drop 3 (drop at text)) (sym here)
+    ∙ ap (λ (x : List ℕ). big_bytes 3 (big_number 3 (drop at text)) ++ x) (drop-drop 3 at text)

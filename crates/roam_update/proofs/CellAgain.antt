@@ -2,7 +2,7 @@
 use Rattle.std.proofs.Common.{◌≡◌, ℕ, ◌+◌, ◌*◌, ◌^◌, ◌/◌, ◌%◌, ◌<◌, ◌≤◌, Bool, true, false, not, cond, eqb, leb, ◌&&◌, List, [], ◌∷◌, ◌++◌, length, drop, Option, Some, None, refl, sym, ap, ◌∙◌, append_assoc, arith, length-append}
 use Rattle.std.specs.Prelude.{All, option_and_then}
 use Rattle.std.specs.Char.{IsScalar}
-use Rattle.std.proofs.lemmas.Bool.{and_parts, leb-true, le-leb}
+use Rattle.std.proofs.lemmas.Bool.{and_parts, leb-true, le-leb, false≢true}
 use Rattle.std.proofs.lemmas.Bool.Decides.{nat_tests}
 use Rattle.std.proofs.lemmas.List.{drop_at}
 use Rattle.std.proofs.lemmas.List.Elements.{All-head, All-tail}
@@ -10,10 +10,12 @@ use Rattle.byteorder.specs.Endian.{big_bytes, big_number}
 use Rattle.byteorder.specs.Numbers.{big_number-reads_back}
 use Rattle.roam_cells.specs.declared.styles.Style.{Style}
 use Rattle.roam_cells.specs.declared.styles.Colour.{Colour}
-use Rattle.roam_cells.specs.declared.styles.Colour.TheVariants.{Default, Index}
+use Rattle.roam_cells.specs.declared.styles.Colour.TheVariants.{Default, Index, Rgb}
 use Rattle.roam_cells.specs.Width.{width_of}
 use Rattle.roam_cells.specs.Glyph.{Glyph, is_text, are_joiners}
-use Rattle.roam_update.specs.CellText.{Front, IsPlain, bit, flags, colour_kind, colour_index, points_text, cell_text, cells_text, is_scalar, point_read, points_read, colour_read, style_of, style_read, glyph_of, glyph_read, cell_size, cell_read, cells_read}
+use Rattle.roam_update.specs.CellText.{Front, IsPlain, bit, flags, colour_kind, colour_index, is_short_colour, is_short_style, points_text, style_text, cell_text, cells_text, is_scalar, point_read, points_read, colour_read, style_of, number_read, style_read, form_after, head_size, glyph_of, glyph_read, cell_size, cell_read, cells_read}
+use Rattle.roam_update.specs.Styles.{Form, Whole, Numbered, number_in, used_after, style_in}
+use Rattle.roam_update.proofs.Forms.{past, past_all, Fits, TakesCells, IsForm, form_past, cells_past, stands}
 use Rattle.roam_update.proofs.Testing.{is_scalar_of}
 
 pub few_points : (ps : List ℕ) → is_text ps ≡ true → length ps ≤ 3
@@ -57,7 +59,7 @@ bit_again : (b : Bool) (n : ℕ) → n ≡ bit b → eqb n 1 ≡ b
 bit_again true n e = ap (λ (k : ℕ). eqb k 1) e
 bit_again false n e = ap (λ (k : ℕ). eqb k 1) e
 
-flags_again : (s : Style) → style_of (flags s) s.foreground s.background ≡ s
+pub flags_again : (s : Style) → style_of (flags s) s.foreground s.background ≡ s
 flags_again s =
     let a = few_bit s.bold in
     let b = few_bit s.faint in
@@ -80,9 +82,10 @@ flags_again s =
       background = s.background;
     }
 
-colour_again : (a : Colour) → colour_read (colour_kind a) (colour_index a) ≡ Some a
-colour_again Default = refl
-colour_again (Index n) = refl
+colour_again : (a : Colour) → is_short_colour a ≡ true → colour_read (colour_kind a) (colour_index a) ≡ Some a
+colour_again Default h = refl
+colour_again (Index n) h = refl
+colour_again (Rgb r g b) h = absurd (false≢true h)
 
 abbrev some_glyph : Glyph → Option Glyph
 some_glyph g = Some g
@@ -101,52 +104,98 @@ styled n tail style = option_and_then (λ s. glyphs s (points_read n tail)) styl
 abbrev coloured : ℕ → Option Colour → Option Colour → Option Style
 coloured f fore back = option_and_then (λ a. option_and_then (λ b. Some (style_of f a b)) back) fore
 
-style_again : (s : Style) → coloured (flags s) (colour_read (colour_kind s.foreground) (colour_index s.foreground)) (colour_read (colour_kind s.background) (colour_index s.background)) ≡ Some s
-style_again s =
-    rw (colour_again s.foreground, colour_again s.background) (ap (λ (t : Style). Some t) (flags_again s))
+whole_again : (s : Style) → is_short_style s ≡ true → coloured (flags s) (colour_read (colour_kind s.foreground) (colour_index s.foreground)) (colour_read (colour_kind s.background) (colour_index s.background)) ≡ Some s
+whole_again s h =
+    let both = and_parts (is_short_colour s.foreground) (is_short_colour s.background) h in
+    rw (colour_again s.foreground both.0, colour_again s.background both.1) (ap (λ (t : Style). Some t) (flags_again s))
 
-glyph_again : (g : Glyph) (rest : List ℕ) → IsPlain g → glyph_read (cell_text g ++ rest) ≡ Some g
-glyph_again g rest h =
+-- the text of a cell whose number of code points is n
+abbrev texted : Form → ℕ → Style → List ℕ → List ℕ
+texted f n s tail = n ∷ (style_text f s ++ tail)
+
+number_again : (table : List Style) (used n : ℕ) (s : Style) (tail : List ℕ) → number_in table s < length table → length table < 256 ^ 3
+    → number_read (texted (Numbered table used) n s tail) ≡ number_in table s
+number_again table used n s tail h k = big_number-reads_back 3 (number_in table s) tail (omega (arith, h, k))
+
+style_again : (f : Form) (n : ℕ) (s : Style) (tail : List ℕ) → IsForm f → Fits f s → style_read f (texted f n s tail) ≡ Some s
+style_again Whole n s tail is h = whole_again s h
+style_again (Numbered table used) n s tail is h =
+    let low : leb (number_in table s) used ≡ true = le-leb (number_in table s) used h.0 in
+    ap (style_in table used) (number_again table used n s tail h.1 is.few)
+    ∙ rw low (stands table s h.1)
+
+form_again : (f : Form) (n : ℕ) (s : Style) (tail : List ℕ) → IsForm f → Fits f s → form_after f (texted f n s tail) ≡ past f s
+form_again Whole n s tail is h = refl
+form_again (Numbered table used) n s tail is h =
+    ap (λ (k : ℕ). Numbered table (used_after used k)) (number_again table used n s tail h.1 is.few)
+
+head_again : (f : Form) (n : ℕ) (s : Style) (tail : List ℕ) → drop (head_size f) (texted f n s tail) ≡ tail
+head_again Whole n s tail = refl
+head_again (Numbered table used) n s tail = refl
+
+head_long : (f : Form) (n : ℕ) (s : Style) (tail : List ℕ) → leb (head_size f) (length (texted f n s tail)) ≡ true
+head_long Whole n s tail = le-leb _ _ (omega arith)
+head_long (Numbered table used) n s tail = le-leb _ _ (omega arith)
+
+glyph_again : (f : Form) (g : Glyph) (rest : List ℕ) → IsPlain g → IsForm f → Fits f g.style
+    → glyph_read f (texted f (length g.points) g.style (points_text g.points ++ rest)) ≡ Some g
+glyph_again f g rest h is fits =
     let n = length g.points in
     let tail = points_text g.points ++ rest in
-    let t = cell_text g ++ rest in
+    let t = texted f n g.style tail in
     let few : leb n 3 ≡ true = le-leb n 3 (few_points g.points h.shown.text) in
-    let long : leb 6 (length t) ≡ true = le-leb _ _ (omega arith) in
-    ap (λ x. cond (x && leb n 3) (styled n tail (style_read t)) None) long
-    ∙ ap (λ x. cond x (styled n tail (style_read t)) None) few
-    ∙ ap (styled n tail) (style_again g.style)
+    ap (λ x. cond (x && leb n 3) (styled n (drop (head_size f) t) (style_read f t)) None) (head_long f n g.style tail)
+    ∙ ap (λ x. cond x (styled n (drop (head_size f) t) (style_read f t)) None) few
+    ∙ ap (λ (y : List ℕ). styled n y (style_read f t)) (head_again f n g.style tail)
+    ∙ ap (styled n tail) (style_again f n g.style tail is fits)
     ∙ ap (glyphs g.style) (points_again g.points rest h.shown.scalars)
     ∙ glyph_made g h
 
-pub length_cell : (g : Glyph) → length (cell_text g) ≡ 6 + 4 * length g.points
-length_cell g = omega (arith, length_points g.points)
+pub length_style : (f : Form) (s : Style) → 1 + length (style_text f s) ≡ head_size f
+length_style Whole s = refl
+length_style (Numbered table used) s = refl
+
+pub length_cell : (f : Form) (g : Glyph) → length (cell_text f g) ≡ head_size f + 4 * length g.points
+length_cell f g = omega (arith, length_points g.points, length_style f g.style, length-append (style_text f g.style) (points_text g.points))
 
 abbrev Cut : Type 0
 Cut = Option (Front Glyph)
 
-abbrev some_cut : Glyph → List ℕ → Cut
-some_cut g rest = Some (record { value = g; rest = rest })
+abbrev some_cut : Form → Glyph → List ℕ → Cut
+some_cut f g rest = Some (record { value = g; rest = rest; form = f })
 
-abbrev cut_from : List ℕ → Glyph → Cut
-cut_from t g = Some (record { value = g; rest = drop (cell_size t) t })
+abbrev cut_from : Form → List ℕ → Glyph → Cut
+cut_from f t g = Some (record { value = g; rest = drop (cell_size f t) t; form = form_after f t })
 
-cell_again : (g : Glyph) (rest : List ℕ) → IsPlain g → cell_read (cell_text g ++ rest) ≡ some_cut g rest
-cell_again g rest h =
-    ap (λ o. option_and_then (cut_from (cell_text g ++ rest)) o) (glyph_again g rest h)
-    ∙ ap (some_cut g) (drop_at (cell_text g) rest (6 + 4 * length g.points) (length_cell g))
+-- a cell's text and what follows it
+cell_split : (f : Form) (g : Glyph) (rest : List ℕ) → cell_text f g ++ rest ≡ texted f (length g.points) g.style (points_text g.points ++ rest)
+cell_split f g rest = ap (λ (t : List ℕ). length g.points ∷ t) (append_assoc (style_text f g.style) (points_text g.points) rest)
+
+cell_again : (f : Form) (g : Glyph) (rest : List ℕ) → IsPlain g → IsForm f → Fits f g.style → cell_read f (cell_text f g ++ rest) ≡ some_cut (past f g.style) g rest
+cell_again f g rest h is fits =
+    let n = length g.points in
+    let tail = points_text g.points ++ rest in
+    ap (cell_read f) (cell_split f g rest)
+    ∙ ap (λ o. option_and_then (cut_from f (texted f n g.style tail)) o) (glyph_again f g rest h is fits)
+    ∙ ap (λ (k : Form). some_cut k g (drop (head_size f + 4 * n) (texted f n g.style tail))) (form_again f n g.style tail is fits)
+    ∙ ap (λ (t : List ℕ). some_cut (past f g.style) g (drop (head_size f + 4 * n) t)) (sym (cell_split f g rest))
+    ∙ ap (some_cut (past f g.style) g) (drop_at (cell_text f g) rest (head_size f + 4 * n) (length_cell f g))
 
 -- ---- cells
 
-abbrev some_cells : List Glyph → List ℕ → Option (Front (List Glyph))
-some_cells gs rest = Some (record { value = gs; rest = rest })
+abbrev some_cells : Form → List Glyph → List ℕ → Option (Front (List Glyph))
+some_cells f gs rest = Some (record { value = gs; rest = rest; form = f })
 
 abbrev then_cells : ℕ → Cut → Option (Front (List Glyph))
-then_cells n o = option_and_then (λ c. option_and_then (λ cs. some_cells (c.value ∷ cs.value) cs.rest) (cells_read n c.rest)) o
+then_cells n o = option_and_then (λ c. option_and_then (λ cs. some_cells cs.form (c.value ∷ cs.value) cs.rest) (cells_read c.form n c.rest)) o
 
-pub cells_again : (gs : List Glyph) (rest : List ℕ) → All IsPlain gs → cells_read (length gs) (cells_text gs ++ rest) ≡ some_cells gs rest
+pub cells_again : (f : Form) (gs : List Glyph) (rest : List ℕ) → All IsPlain gs → IsForm f → TakesCells f gs
+    → cells_read f (length gs) (cells_text f gs ++ rest) ≡ some_cells (past_all f gs) gs rest
 unfolding cells_read
-cells_again [] rest h = refl
-cells_again (g ∷ gs) rest h =
-    ap (λ t. then_cells (length gs) (cell_read t)) (append_assoc (cell_text g) (cells_text gs) rest)
-    ∙ ap (then_cells (length gs)) (cell_again g (cells_text gs ++ rest) (All-head IsPlain g gs h))
-    ∙ ap (λ o. option_and_then (λ cs. some_cells (g ∷ cs.value) cs.rest) o) (cells_again gs rest (All-tail IsPlain g gs h))
+cells_again f [] rest h is fits = refl
+cells_again f (g ∷ gs) rest h is fits =
+    let next = past f g.style in
+    ap (λ t. then_cells (length gs) (cell_read f t)) (append_assoc (cell_text f g) (cells_text f gs) rest)
+    ∙ ap (then_cells (length gs)) (cell_again f g (cells_text f gs ++ rest) (All-head IsPlain g gs h) is fits.0)
+    ∙ ap (λ (t : List ℕ). option_and_then (λ cs. some_cells cs.form (g ∷ cs.value) cs.rest) (cells_read next (length gs) (t ++ rest))) (sym (cells_past f g.style gs))
+    ∙ ap (λ o. option_and_then (λ cs. some_cells cs.form (g ∷ cs.value) cs.rest) o) (cells_again next gs rest (All-tail IsPlain g gs h) (form_past f g.style is) fits.1)

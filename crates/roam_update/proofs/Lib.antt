@@ -1,5 +1,7 @@
 pub mod Sameness
 pub mod Stretches
+pub mod Forms
+pub mod UsedUp
 pub mod Putting
 pub mod Sizing
 pub mod Testing
@@ -16,4 +18,18 @@ pub mod ChangeSpelled
 pub mod Naming
 pub mod Bounds
 pub mod Touching
+pub mod Joined
+pub mod Said
+pub mod Placed
+pub mod Lookup
+pub mod Entries
+pub mod TableAgain
+pub mod TableSpelled
+pub mod Few
+pub mod Walking
+pub mod Slices
+pub mod Short
+pub mod OldApplying
+pub mod OldBounds
+pub mod OldMakes
 pub mod Worked

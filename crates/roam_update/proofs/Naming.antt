@@ -6,7 +6,7 @@ use Rattle.roam_cells.specs.Glyph.{Glyph}
 use Rattle.roam_cells.specs.Place.{glyph_at}
 use Rattle.roam_update.specs.Same.{same}
 use Rattle.roam_update.specs.Runs.{Run, IsNamed, IsNamedBy, AreApart, lead, runs_from, runs_between}
-use Rattle.roam_cells.specs.Screenshot.{Screenshot, IsScreenshot}
+use Rattle.roam_screens.specs.Screenshot.{Screenshot, IsScreenshot}
 use Rattle.roam_update.specs.Shots.{change_to}
 use Rattle.roam_update.specs.Sizes.{sized}
 use Rattle.roam_update.proofs.ChangeAgain.{is_change_to}

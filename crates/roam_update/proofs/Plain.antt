@@ -9,10 +9,11 @@ use Rattle.byteorder.specs.Endian.{big_number}
 use Rattle.roam_cells.specs.declared.styles.Style.{Style}
 use Rattle.roam_cells.specs.Glyph.{Glyph, IsShown, is_text, is_wide, space_in, blank}
 use Rattle.roam_cells.specs.Place.{cell_at}
-use Rattle.roam_cells.specs.Screenshot.{Screenshot, IsScreenshot}
+use Rattle.roam_screens.specs.Screenshot.{Screenshot, IsScreenshot}
 use Rattle.roam_cells.specs.Width.{width-space}
 use Rattle.roam_cells.proofs.Places.{get_or-table, place_of, place_below}
-use Rattle.roam_update.specs.CellText.{Front, IsPlain, is_scalar, point_read, points_read, style_read, glyph_of, glyph_read, cell_size, cell_read, cells_read}
+use Rattle.roam_update.specs.CellText.{Front, IsPlain, is_scalar, point_read, points_read, style_read, form_after, head_size, glyph_of, glyph_read, cell_size, cell_read, cells_read}
+use Rattle.roam_update.specs.Styles.{Form, is_used_up}
 use Rattle.roam_update.specs.ChangeText.{may_begin, runs_read}
 use Rattle.roam_update.specs.Put.{runs_put}
 use Rattle.roam_update.specs.Runs.{Run, placed, patched}
@@ -47,48 +48,49 @@ glyph_of_plain ps style g h e =
     let a = cond_some (is_text ps) (record { points = ps; style = style; guarded = false }) g e in
     subst IsPlain a.1 (record { shown = record { text = a.0; scalars = h }; unguarded = refl })
 
-pub glyph_plain : (text : List ℕ) (g : Glyph) → glyph_read text ≡ Some g → IsPlain g
-glyph_plain text g e =
-    let a = if_some (leb 6 (length text) && leb (slice_index text 0) 3) _ g e in
-    option_and_then_some (λ style. option_and_then (λ points. glyph_of points style) (points_read (slice_index text 0) (drop 6 text))) (style_read text) g a.1 (λ style f k.
-    option_and_then_some (λ (points : List ℕ). glyph_of points style) (points_read (slice_index text 0) (drop 6 text)) g k (λ ps m o.
-    glyph_of_plain ps style g (points_scalar (slice_index text 0) (drop 6 text) ps m) o))
+pub glyph_plain : (f : Form) (text : List ℕ) (g : Glyph) → glyph_read f text ≡ Some g → IsPlain g
+glyph_plain f text g e =
+    let m = head_size f in
+    let a = if_some (leb m (length text) && leb (slice_index text 0) 3) _ g e in
+    option_and_then_some (λ style. option_and_then (λ points. glyph_of points style) (points_read (slice_index text 0) (drop m text))) (style_read f text) g a.1 (λ style h k.
+    option_and_then_some (λ (points : List ℕ). glyph_of points style) (points_read (slice_index text 0) (drop m text)) g k (λ ps j o.
+    glyph_of_plain ps style g (points_scalar (slice_index text 0) (drop m text) ps j) o))
 
-pub cells_plain : (n : ℕ) (text : List ℕ) (cs : Front (List Glyph)) → cells_read n text ≡ Some cs → All IsPlain cs.value
+pub cells_plain : (form : Form) (n : ℕ) (text : List ℕ) (cs : Front (List Glyph)) → cells_read form n text ≡ Some cs → All IsPlain cs.value
 unfolding cells_read
-cells_plain zero text cs e =
-    let none : record { value = []; rest = text } ≡ cs = cc in
+cells_plain form zero text cs e =
+    let none : record { value = []; rest = text; form = form } ≡ cs = cc in
     subst (λ (f : Front (List Glyph)). All IsPlain f.value) none (All-nil IsPlain)
-cells_plain (suc n) text cs e =
+cells_plain form (suc n) text cs e =
     option_and_then_some
-    (λ c. option_and_then (λ more. Some (record { value = c.value ∷ more.value; rest = more.rest })) (cells_read n c.rest)) (cell_read text) cs e (λ c f g.
-    option_and_then_some (λ (more : Front (List Glyph)). Some (record { value = c.value ∷ more.value; rest = more.rest })) (cells_read n c.rest) cs g (λ more h k.
-    option_and_then_some (λ (x : Glyph). Some (record { value = x; rest = drop (cell_size text) text })) (glyph_read text) c f (λ x m o.
-    let one : record { value = x; rest = drop (cell_size text) text } ≡ c = cc in
-    let here : IsPlain c.value = subst (λ (y : Front Glyph). IsPlain y.value) one (glyph_plain text x m) in
-    let same : record { value = c.value ∷ more.value; rest = more.rest } ≡ cs = cc in
-    subst (λ (y : Front (List Glyph)). All IsPlain y.value) same (All-cons IsPlain c.value more.value here (cells_plain n c.rest more h)))))
+    (λ c. option_and_then (λ more. Some (record { value = c.value ∷ more.value; rest = more.rest; form = more.form })) (cells_read c.form n c.rest)) (cell_read form text) cs e (λ c f g.
+    option_and_then_some (λ (more : Front (List Glyph)). Some (record { value = c.value ∷ more.value; rest = more.rest; form = more.form })) (cells_read c.form n c.rest) cs g (λ more h k.
+    option_and_then_some (λ (x : Glyph). Some (record { value = x; rest = drop (cell_size form text) text; form = form_after form text })) (glyph_read form text) c f (λ x m o.
+    let one : record { value = x; rest = drop (cell_size form text) text; form = form_after form text } ≡ c = cc in
+    let here : IsPlain c.value = subst (λ (y : Front Glyph). IsPlain y.value) one (glyph_plain form text x m) in
+    let same : record { value = c.value ∷ more.value; rest = more.rest; form = more.form } ≡ cs = cc in
+    subst (λ (y : Front (List Glyph)). All IsPlain y.value) same (All-cons IsPlain c.value more.value here (cells_plain c.form n c.rest more h)))))
 
 abbrev pub ArePlain : List Run → Type 0
 ArePlain runs = All (λ (run : Run). All IsPlain run.cells) runs
 
-pub runs_plain : (n least end : ℕ) (text : List ℕ) (runs : List Run) → runs_read n least end text ≡ Some runs → ArePlain runs
+pub runs_plain : (form : Form) (n least end : ℕ) (text : List ℕ) (runs : List Run) → runs_read form n least end text ≡ Some runs → ArePlain runs
 unfolding runs_read
-runs_plain zero least end text runs e =
-    let a = if_some (eqb (length text) 0) (Some []) runs e in
+runs_plain form zero least end text runs e =
+    let a = if_some (eqb (length text) 0 && is_used_up form) (Some []) runs e in
     let none : [] ≡ runs = cc a.1 in
     subst ArePlain none (All-nil (λ (run : Run). All IsPlain run.cells))
-runs_plain (suc n) least end text runs e =
+runs_plain form (suc n) least end text runs e =
     let a = if_some (may_begin least end text) _ runs e in
     let first = big_number 4 text in
     let len = big_number 4 (drop 4 text) in
     option_and_then_some
-    (λ (cs : Front (List Glyph)). option_and_then (λ (more : List Run). Some (record { first = first; cells = cs.value } ∷ more)) (runs_read n (first + len + 1) end cs.rest))
-    (cells_read len (drop 8 text)) runs a.1 (λ cs f g.
-    option_and_then_some (λ (more : List Run). Some (record { first = first; cells = cs.value } ∷ more)) (runs_read n (first + len + 1) end cs.rest) runs g (λ more h k.
+    (λ (cs : Front (List Glyph)). option_and_then (λ (more : List Run). Some (record { first = first; cells = cs.value } ∷ more)) (runs_read cs.form n (first + len + 1) end cs.rest))
+    (cells_read form len (drop 8 text)) runs a.1 (λ cs f g.
+    option_and_then_some (λ (more : List Run). Some (record { first = first; cells = cs.value } ∷ more)) (runs_read cs.form n (first + len + 1) end cs.rest) runs g (λ more h k.
     let same : record { first = first; cells = cs.value } ∷ more ≡ runs = cc in
     subst ArePlain same
-    (All-cons (λ (run : Run). All IsPlain run.cells) (record { first = first; cells = cs.value }) more (cells_plain len (drop 8 text) cs f) (runs_plain n (first + len + 1) end cs.rest more h))))
+    (All-cons (λ (run : Run). All IsPlain run.cells) (record { first = first; cells = cs.value }) more (cells_plain form len (drop 8 text) cs f) (runs_plain cs.form n (first + len + 1) end cs.rest more h))))
 
 -- ---- cells that are put into places
 
@@ -105,11 +107,11 @@ patched_plain cells (run ∷ runs) h p =
     patched_plain (placed cells run.first run.cells) runs
     (placed_plain cells run.first run.cells h (All-head (λ (r : Run). All IsPlain r.cells) run runs p)) (All-tail (λ (r : Run). All IsPlain r.cells) run runs p)
 
-pub put_plain : (n least : ℕ) (cells : List Glyph) (text : List ℕ) (after : List Glyph) → All IsPlain cells → runs_put n least cells text ≡ Some after → All IsPlain after
-put_plain n least cells text after h e =
-    option_and_then_some (λ (runs : List Run). Some (patched cells runs)) (runs_read n least (length cells) text) after e (λ runs f g.
+pub put_plain : (form : Form) (n least : ℕ) (cells : List Glyph) (text : List ℕ) (after : List Glyph) → All IsPlain cells → runs_put form n least cells text ≡ Some after → All IsPlain after
+put_plain form n least cells text after h e =
+    option_and_then_some (λ (runs : List Run). Some (patched cells runs)) (runs_read form n least (length cells) text) after e (λ runs f g.
     let same : patched cells runs ≡ after = cc in
-    subst (All IsPlain) same (patched_plain cells runs h (runs_plain n least (length cells) text runs f)))
+    subst (All IsPlain) same (patched_plain cells runs h (runs_plain form n least (length cells) text runs f)))
 
 placed_length : (cells : List Glyph) (k : ℕ) (gs : List Glyph) → length (placed cells k gs) ≡ length cells
 unfolding placed
@@ -121,9 +123,9 @@ unfolding patched
 patched_length cells [] = refl
 patched_length cells (run ∷ runs) = patched_length (placed cells run.first run.cells) runs ∙ placed_length cells run.first run.cells
 
-pub put_length : (n least : ℕ) (cells : List Glyph) (text : List ℕ) (after : List Glyph) → runs_put n least cells text ≡ Some after → length after ≡ length cells
-put_length n least cells text after e =
-    option_and_then_some (λ (runs : List Run). Some (patched cells runs)) (runs_read n least (length cells) text) after e (λ runs f g.
+pub put_length : (form : Form) (n least : ℕ) (cells : List Glyph) (text : List ℕ) (after : List Glyph) → runs_put form n least cells text ≡ Some after → length after ≡ length cells
+put_length form n least cells text after e =
+    option_and_then_some (λ (runs : List Run). Some (patched cells runs)) (runs_read form n least (length cells) text) after e (λ runs f g.
     let same : patched cells runs ≡ after = cc in
     sym (ap length same) ∙ patched_length cells runs)
 

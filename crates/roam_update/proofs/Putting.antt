@@ -1,14 +1,15 @@
 -- Reading the text of one thing more, and putting it into its place.
-use Rattle.std.proofs.Common.{◌≡◌, ℕ, zero, suc, ◌+◌, ◌-◌, ◌*◌, ◌<◌, ◌≤◌, true, false, eqb, leb, ◌&&◌, List, [], ◌∷◌, length, drop, set, Option, Some, None, refl, sym, ap, ◌∙◌, arith}
+use Rattle.std.proofs.Common.{◌≡◌, ℕ, zero, suc, ◌+◌, ◌-◌, ◌*◌, ◌^◌, ◌<◌, ◌≤◌, true, false, eqb, leb, ◌&&◌, List, [], ◌∷◌, length, drop, set, Option, Some, None, refl, sym, ap, ◌∙◌, arith}
 use Rattle.std.specs.Prelude.{IfSome, option_and_then}
 use Rattle.std.proofs.lemmas.List.{drop-drop, length-drop}
 use Rattle.std.proofs.lemmas.Option.{cond_some, option_and_then_some}
-use Rattle.std.proofs.lemmas.Bool.{ne_eqb, and_parts, leb-true}
+use Rattle.std.proofs.lemmas.Bool.{ne_eqb, and_parts, and_right, leb-true}
 use Rattle.byteorder.specs.Endian.{big_number}
 use Rattle.roam_cells.specs.Glyph.{Glyph}
 use Rattle.roam_cells.specs.declared.styles.Style.{Style}
 use Rattle.roam_update.specs.Runs.{Run, placed, patched}
-use Rattle.roam_update.specs.CellText.{Front, is_scalar, point_read, points_read, glyph_of, glyph_read, cell_size, cells_read}
+use Rattle.roam_update.specs.CellText.{Front, is_scalar, point_read, points_read, glyph_of, glyph_read, cell_size, form_after, cells_read}
+use Rattle.roam_update.specs.Styles.{Form, Whole, is_used_up}
 use Rattle.roam_update.specs.ChangeText.{runs_read, may_begin}
 use Rattle.roam_update.specs.Put.{cells_put, runs_put}
 
@@ -51,16 +52,16 @@ pub three_long : (o : Option Glyph) (text : List ℕ) (n third : ℕ) → n ≤ 
 three_long None text n third h e = tt
 three_long (Some g) text n third h e = let long = point_long (drop 8 text) third e in omega (arith, h, long, length-drop 8 text)
 
-pub cells_put_none : (n first : ℕ) (cells : List Glyph) (text : List ℕ) → n ≡ 0 → cells_put n first cells text ≡ Some (record { value = cells; rest = text })
+pub cells_put_none : (f : Form) (n first : ℕ) (cells : List Glyph) (text : List ℕ) → n ≡ 0 → cells_put f n first cells text ≡ Some (record { value = cells; rest = text; form = f })
 unfolding cells_read placed
-cells_put_none zero first cells text h = refl
-cells_put_none (suc n) first cells text h = absurd (omega arith)
+cells_put_none f zero first cells text h = refl
+cells_put_none f (suc n) first cells text h = absurd (omega arith)
 
 abbrev laid : ℕ → List Glyph → Front (List Glyph) → Option (Front (List Glyph))
-laid first cells cs = Some (record { value = placed cells first cs.value; rest = cs.rest })
+laid first cells cs = Some (record { value = placed cells first cs.value; rest = cs.rest; form = cs.form })
 
 abbrev after : Glyph → Front (List Glyph) → Option (Front (List Glyph))
-after g cs = Some (record { value = g ∷ cs.value; rest = cs.rest })
+after g cs = Some (record { value = g ∷ cs.value; rest = cs.rest; form = cs.form })
 
 regroup : (first : ℕ) (cells : List Glyph) (g : Glyph) (o : Option (Front (List Glyph)))
     → option_and_then (laid first cells) (option_and_then (after g) o) ≡ option_and_then (laid (first + 1) (set cells first g)) o
@@ -68,29 +69,30 @@ unfolding placed
 regroup first cells g None = refl
 regroup first cells g (Some cs) = refl
 
-cells_put_suc : (n first : ℕ) (cells : List Glyph) (text : List ℕ) (g : Glyph) → glyph_read text ≡ Some g
-    → cells_put (suc n) first cells text ≡ cells_put n (first + 1) (set cells first g) (drop (cell_size text) text)
+cells_put_suc : (f : Form) (n first : ℕ) (cells : List Glyph) (text : List ℕ) (g : Glyph) → glyph_read f text ≡ Some g
+    → cells_put f (suc n) first cells text ≡ cells_put (form_after f text) n (first + 1) (set cells first g) (drop (cell_size f text) text)
 unfolding cells_read
-cells_put_suc n first cells text g e = rw e (regroup first cells g (cells_read n (drop (cell_size text) text)))
+cells_put_suc f n first cells text g e = rw e (regroup first cells g (cells_read (form_after f text) n (drop (cell_size f text) text)))
 
-pub cells_put_more : (n first : ℕ) (cells : List Glyph) (text : List ℕ) (g : Glyph) → 1 ≤ n → glyph_read text ≡ Some g
-    → cells_put n first cells text ≡ cells_put (n - 1) (first + 1) (set cells first g) (drop (cell_size text) text)
-cells_put_more zero first cells text g h e = absurd (omega arith)
-cells_put_more (suc n) first cells text g h e =
+pub cells_put_more : (f : Form) (n first : ℕ) (cells : List Glyph) (text : List ℕ) (g : Glyph) → 1 ≤ n → glyph_read f text ≡ Some g
+    → cells_put f n first cells text ≡ cells_put (form_after f text) (n - 1) (first + 1) (set cells first g) (drop (cell_size f text) text)
+cells_put_more f zero first cells text g h e = absurd (omega arith)
+cells_put_more f (suc n) first cells text g h e =
     let one : n ≡ suc n - 1 = omega arith in
-    cells_put_suc n first cells text g e ∙ ap (λ (k : ℕ). cells_put k (first + 1) (set cells first g) (drop (cell_size text) text)) one
+    cells_put_suc f n first cells text g e ∙ ap (λ (k : ℕ). cells_put (form_after f text) k (first + 1) (set cells first g) (drop (cell_size f text) text)) one
 
-pub cells_put_go : (n k first : ℕ) (cells : List Glyph) (text : List ℕ) (g : Glyph) (size : ℕ) → k < n → glyph_read text ≡ Some g → size ≡ cell_size text
-    → cells_put (n - (k + 1)) (first + (k + 1)) (set cells (first + k) g) (drop size text) ≡ cells_put (n - k) (first + k) cells text
-cells_put_go n k first cells text g size h e s =
+pub cells_put_go : (f next : Form) (n k first : ℕ) (cells : List Glyph) (text : List ℕ) (g : Glyph) (size : ℕ) → k < n → glyph_read f text ≡ Some g → size ≡ cell_size f text
+    → next ≡ form_after f text
+    → cells_put next (n - (k + 1)) (first + (k + 1)) (set cells (first + k) g) (drop size text) ≡ cells_put f (n - k) (first + k) cells text
+cells_put_go f next n k first cells text g size h e s t =
     let a : n - (k + 1) ≡ n - k - 1 = omega arith in
     let b : first + (k + 1) ≡ first + k + 1 = omega arith in
-    rw (a, b, s) (sym (cells_put_more (n - k) (first + k) cells text g (omega arith) e))
+    rw (a, b, s, t) (sym (cells_put_more f (n - k) (first + k) cells text g (omega arith) e))
 
-pub cells_put_fails : (n first : ℕ) (cells : List Glyph) (text : List ℕ) → 1 ≤ n → glyph_read text ≡ None → cells_put n first cells text ≡ None
+pub cells_put_fails : (f : Form) (n first : ℕ) (cells : List Glyph) (text : List ℕ) → 1 ≤ n → glyph_read f text ≡ None → cells_put f n first cells text ≡ None
 unfolding cells_read
-cells_put_fails zero first cells text h e = absurd (omega arith)
-cells_put_fails (suc n) first cells text h e = rw e refl
+cells_put_fails f zero first cells text h e = absurd (omega arith)
+cells_put_fails f (suc n) first cells text h e = rw e refl
 
 -- ---- runs
 
@@ -106,23 +108,28 @@ patch cells rs = Some (patched cells rs)
 abbrev ran : ℕ → List Glyph → List Run → Option (List Run)
 ran first cs rs = Some (record { first = first; cells = cs } ∷ rs)
 
-pub runs_put_whole : (n least : ℕ) (cells : List Glyph) (text : List ℕ) → n ≡ 0 → length text ≡ 0 → runs_put n least cells text ≡ Some cells
+pub runs_put_whole : (f : Form) (n least : ℕ) (cells : List Glyph) (text : List ℕ) → n ≡ 0 → length text ≡ 0 → is_used_up f ≡ true → runs_put f n least cells text ≡ Some cells
 unfolding runs_read patched
-runs_put_whole zero least cells text h e = rw e refl
-runs_put_whole (suc n) least cells text h e = absurd (omega arith)
+runs_put_whole f zero least cells text h e u = rw (e, u) refl
+runs_put_whole f (suc n) least cells text h e u = absurd (omega arith)
 
-pub runs_put_more_text : (n least : ℕ) (cells : List Glyph) (text : List ℕ) → n ≡ 0 → 1 ≤ length text → runs_put n least cells text ≡ None
+pub runs_put_more_text : (f : Form) (n least : ℕ) (cells : List Glyph) (text : List ℕ) → n ≡ 0 → 1 ≤ length text → runs_put f n least cells text ≡ None
 unfolding runs_read
-runs_put_more_text zero least cells text h e = let no : eqb (length text) 0 ≡ false = ne_eqb (length text) 0 (λ z. omega (arith, z)) in rw no refl
-runs_put_more_text (suc n) least cells text h e = absurd (omega arith)
+runs_put_more_text f zero least cells text h e = let no : eqb (length text) 0 ≡ false = ne_eqb (length text) 0 (λ z. omega (arith, z)) in rw no refl
+runs_put_more_text f (suc n) least cells text h e = absurd (omega arith)
 
-pub runs_put_refused : (n least : ℕ) (cells : List Glyph) (text : List ℕ) → 1 ≤ n → may_begin least (length cells) text ≡ false → runs_put n least cells text ≡ None
+pub runs_put_unused : (f : Form) (n least : ℕ) (cells : List Glyph) (text : List ℕ) → n ≡ 0 → is_used_up f ≡ false → runs_put f n least cells text ≡ None
 unfolding runs_read
-runs_put_refused zero least cells text h e = absurd (omega arith)
-runs_put_refused (suc n) least cells text h e = rw e refl
+runs_put_unused f zero least cells text h u = rw (and_right (eqb (length text) 0) (is_used_up f) u) refl
+runs_put_unused f (suc n) least cells text h u = absurd (omega arith)
+
+pub runs_put_refused : (f : Form) (n least : ℕ) (cells : List Glyph) (text : List ℕ) → 1 ≤ n → may_begin least (length cells) text ≡ false → runs_put f n least cells text ≡ None
+unfolding runs_read
+runs_put_refused f zero least cells text h e = absurd (omega arith)
+runs_put_refused f (suc n) least cells text h e = rw e refl
 
 abbrev rest_of : ℕ → ℕ → List ℕ → Front (List Glyph) → Option (List Run)
-rest_of n end text cs = option_and_then (ran (first_of text) cs.value) (runs_read n (first_of text + len_of text + 1) end cs.rest)
+rest_of n end text cs = option_and_then (ran (first_of text) cs.value) (runs_read cs.form n (first_of text + len_of text + 1) end cs.rest)
 
 abbrev maybe : Front (List Glyph) → Option (Front (List Glyph))
 maybe f = Some f
@@ -132,14 +139,14 @@ none_laid : (first : ℕ) (cells : List Glyph) (o : Option (Front (List Glyph)))
 none_laid first cells None n end text e = refl
 none_laid first cells (Some cs) n end text e = absurd cc
 
-pub runs_put_fails : (n least : ℕ) (cells : List Glyph) (text : List ℕ) → 1 ≤ n → may_begin least (length cells) text ≡ true
-    → cells_put (len_of text) (first_of text) cells (drop 8 text) ≡ None → runs_put n least cells text ≡ None
+pub runs_put_fails : (f : Form) (n least : ℕ) (cells : List Glyph) (text : List ℕ) → 1 ≤ n → may_begin least (length cells) text ≡ true
+    → cells_put f (len_of text) (first_of text) cells (drop 8 text) ≡ None → runs_put f n least cells text ≡ None
 unfolding runs_read
-runs_put_fails zero least cells text h e f = absurd (omega arith)
-runs_put_fails (suc n) least cells text h e f = rw e (none_laid (first_of text) cells (cells_read (len_of text) (drop 8 text)) n (length cells) text f)
+runs_put_fails f zero least cells text h e g = absurd (omega arith)
+runs_put_fails f (suc n) least cells text h e g = rw e (none_laid (first_of text) cells (cells_read f (len_of text) (drop 8 text)) n (length cells) text g)
 
 abbrev some_of : Option (Front (List Glyph)) → Front (List Glyph)
-some_of None = record { value = []; rest = [] }
+some_of None = record { value = []; rest = []; form = Whole }
 some_of (Some f) = f
 
 some_path : {a b : Front (List Glyph)} → maybe a ≡ maybe b → a ≡ b
@@ -151,36 +158,37 @@ unfolding patched
 regroup_runs cells text cs None = refl
 regroup_runs cells text cs (Some rs) = refl
 
-abbrev front : List Glyph → List ℕ → Option (Front (List Glyph))
-front cells rest = Some (record { value = cells; rest = rest })
+abbrev front : Form → List Glyph → List ℕ → Option (Front (List Glyph))
+front f cells rest = Some (record { value = cells; rest = rest; form = f })
 
-some_laid : (cells : List Glyph) (o : Option (Front (List Glyph))) (n end : ℕ) (text : List ℕ) (after : List Glyph) (rest : List ℕ)
-    → option_and_then (laid (first_of text) cells) o ≡ front after rest → length after ≡ end
-    → option_and_then (patch cells) (option_and_then (rest_of n end text) o) ≡ runs_put n (first_of text + len_of text + 1) after rest
-some_laid cells None n end text after rest e h = absurd cc
-some_laid cells (Some cs) n end text after rest e h =
+some_laid : (next : Form) (cells : List Glyph) (o : Option (Front (List Glyph))) (n end : ℕ) (text : List ℕ) (after : List Glyph) (rest : List ℕ)
+    → option_and_then (laid (first_of text) cells) o ≡ front next after rest → length after ≡ end
+    → option_and_then (patch cells) (option_and_then (rest_of n end text) o) ≡ runs_put next n (first_of text + len_of text + 1) after rest
+some_laid next cells None n end text after rest e h = absurd cc
+some_laid next cells (Some cs) n end text after rest e h =
     let both = some_path e in
     let here : placed cells (first_of text) cs.value ≡ after = ap (λ (f : Front (List Glyph)). f.value) both in
     let left : cs.rest ≡ rest = ap (λ (f : Front (List Glyph)). f.rest) both in
-    rw (← here, ← left) (regroup_runs cells text cs.value (runs_read n (first_of text + len_of text + 1) end cs.rest)
-    ∙ ap (λ (k : ℕ). option_and_then (patch (placed cells (first_of text) cs.value)) (runs_read n (first_of text + len_of text + 1) k cs.rest)) (sym (ap length here ∙ h)))
+    let form : cs.form ≡ next = ap (λ (f : Front (List Glyph)). f.form) both in
+    rw (← here, ← left, ← form) (regroup_runs cells text cs.value (runs_read cs.form n (first_of text + len_of text + 1) end cs.rest)
+    ∙ ap (λ (k : ℕ). option_and_then (patch (placed cells (first_of text) cs.value)) (runs_read cs.form n (first_of text + len_of text + 1) k cs.rest)) (sym (ap length here ∙ h)))
 
-pub runs_put_more : (n least : ℕ) (cells : List Glyph) (text : List ℕ) (after : List Glyph) (rest : List ℕ) → 1 ≤ n → may_begin least (length cells) text ≡ true
-    → cells_put (len_of text) (first_of text) cells (drop 8 text) ≡ front after rest → length after ≡ length cells
-    → runs_put n least cells text ≡ runs_put (n - 1) (first_of text + len_of text + 1) after rest
+pub runs_put_more : (f next : Form) (n least : ℕ) (cells : List Glyph) (text : List ℕ) (after : List Glyph) (rest : List ℕ) → 1 ≤ n → may_begin least (length cells) text ≡ true
+    → cells_put f (len_of text) (first_of text) cells (drop 8 text) ≡ front next after rest → length after ≡ length cells
+    → runs_put f n least cells text ≡ runs_put next (n - 1) (first_of text + len_of text + 1) after rest
 unfolding runs_read
-runs_put_more zero least cells text after rest h e f k = absurd (omega arith)
-runs_put_more (suc n) least cells text after rest h e f k =
+runs_put_more f next zero least cells text after rest h e g k = absurd (omega arith)
+runs_put_more f next (suc n) least cells text after rest h e g k =
     let one : n ≡ suc n - 1 = omega arith in
-    rw e (some_laid cells (cells_read (len_of text) (drop 8 text)) n (length cells) text after rest f k)
-    ∙ ap (λ (m : ℕ). runs_put m (first_of text + len_of text + 1) after rest) one
+    rw e (some_laid next cells (cells_read f (len_of text) (drop 8 text)) n (length cells) text after rest g k)
+    ∙ ap (λ (m : ℕ). runs_put next m (first_of text + len_of text + 1) after rest) one
 
-pub runs_put_go : (n k least next : ℕ) (cells : List Glyph) (text : List ℕ) (after : List Glyph) (rest : List ℕ) → k < n → may_begin least (length cells) text ≡ true
-    → cells_put (len_of text) (first_of text) cells (drop 8 text) ≡ front after rest → length after ≡ length cells → next ≡ first_of text + len_of text + 1
-    → runs_put (n - (k + 1)) next after rest ≡ runs_put (n - k) least cells text
-runs_put_go n k least next cells text after rest h e f l s =
+pub runs_put_go : (f after_form : Form) (n k least next : ℕ) (cells : List Glyph) (text : List ℕ) (after : List Glyph) (rest : List ℕ) → k < n → may_begin least (length cells) text ≡ true
+    → cells_put f (len_of text) (first_of text) cells (drop 8 text) ≡ front after_form after rest → length after ≡ length cells → next ≡ first_of text + len_of text + 1
+    → runs_put after_form (n - (k + 1)) next after rest ≡ runs_put f (n - k) least cells text
+runs_put_go f after_form n k least next cells text after rest h e g l s =
     let a : n - (k + 1) ≡ n - k - 1 = omega arith in
-    rw (a, s) (sym (runs_put_more (n - k) least cells text after rest (omega arith) e f l))
+    rw (a, s) (sym (runs_put_more f after_form (n - k) least cells text after rest (omega arith) e g l))
 
 -- what holds of a run that may begin
 pub record Begins (least last first len : ℕ) : Type 0 where
@@ -195,4 +203,8 @@ begin_facts least last text e =
     record { some = leb-true _ _ c.0; to = leb-true _ _ c.1 }
 
 -- the steps of the loop over the runs of a text
-pub ruleset put_steps = (runs_put_whole, runs_put_more_text, runs_put_refused, runs_put_fails, runs_put_go)
+pub ruleset put_steps = (runs_put_whole, runs_put_more_text, runs_put_unused, runs_put_refused, runs_put_fails, runs_put_go)
+
+-- three bytes are a number of three bytes
+pub number_at : (a b c : ℕ) → a * 65536 + b * 256 + c ≡ a * 256 ^ 2 + (b * 256 ^ 1 + (c * 256 ^ 0 + 0))
+number_at a b c = omega arith

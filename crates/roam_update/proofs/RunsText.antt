@@ -1,12 +1,14 @@
 -- The text of the runs from a place on.
-use Rattle.std.proofs.Common.{◌≡◌, ℕ, ◌+◌, ◌<◌, ◌≤◌, false, List, ◌++◌, length, drop, sym, ap, ◌∙◌, append_assoc, arith, subst, inl, inr}
+use Rattle.std.proofs.Common.{◌≡◌, ℕ, ◌+◌, ◌<◌, ◌≤◌, false, List, ◌++◌, length, drop, sym, ap, ◌∙◌, arith, subst, inl, inr}
 use Rattle.std.specs.Prelude.{slice_range}
 use Rattle.std.proofs.lemmas.Bool.{cases_lt}
 use Rattle.std.proofs.lemmas.List.{append-nil}
 use Rattle.roam_cells.specs.Glyph.{Glyph}
 use Rattle.roam_cells.specs.Place.{glyph_at}
 use Rattle.roam_update.specs.Runs.{Run, runs_from, runs_between}
-use Rattle.roam_update.specs.ChangeText.{run_text, runs_text}
+use Rattle.roam_update.specs.Numbers.{form_over, form_behind, run_said, runs_said}
+use Rattle.roam_update.specs.Styles.{Form}
+use Rattle.roam_update.proofs.Said.{runs_step, used_step, runs_end, used_end}
 use Rattle.roam_update.proofs.Stretches.{left, skipped, next_run, at_end}
 
 -- what holds of a place and of those behind it
@@ -32,17 +34,28 @@ module _ (base cells : List Glyph) (len : length base ≡ length cells) where
     abbrev run : Run
     run = record { first = first; cells = slice_range cells first end }
 
-    pub text_more : (t : List ℕ) → (t ++ run_text run) ++ runs_text (runs_from false next (drop next base) (drop next cells))
-        ≡ t ++ runs_text (runs_from false first (drop first base) (drop first cells))
-    text_more t =
-        append_assoc t (run_text run) (runs_text (left base cells len false next))
-        ∙ ap (λ (runs : List Run). t ++ runs_text runs) (sym (next_run base cells len first end next p q r differ agree last))
+    pub text_more : (t : List ℕ) (f : Form)
+        → (t ++ run_said f run) ++ runs_said (form_over f run.cells) (runs_from false next (drop next base) (drop next cells))
+        ≡ t ++ runs_said f (runs_from false first (drop first base) (drop first cells))
+    text_more t f =
+        runs_step t f run (left base cells len false next)
+        ∙ ap (λ (runs : List Run). t ++ runs_said f runs) (sym (next_run base cells len first end next p q r differ agree last))
+
+    pub used_more : (f : Form) → form_behind (form_over f run.cells) (runs_from false next (drop next base) (drop next cells))
+        ≡ form_behind f (runs_from false first (drop first base) (drop first cells))
+    used_more f =
+        used_step f run (left base cells len false next)
+        ∙ ap (form_behind f) (sym (next_run base cells len first end next p q r differ agree last))
 
     pub count_more : (n : ℕ) → n + 1 + length (runs_from false next (drop next base) (drop next cells)) ≡ n + length (runs_from false first (drop first base) (drop first cells))
     count_more n = let e = ap length (next_run base cells len first end next p q r differ agree last) in omega (arith, e)
 
-  pub text_end : (t : List ℕ) (k : ℕ) → length cells ≤ k → t ++ runs_text (runs_from false k (drop k base) (drop k cells)) ≡ t
-  text_end t k h = ap (λ (runs : List Run). t ++ runs_text runs) (at_end base cells len false k h) ∙ append-nil t
+  pub text_end : (t : List ℕ) (f : Form) (k : ℕ) → length cells ≤ k → t ++ runs_said f (runs_from false k (drop k base) (drop k cells)) ≡ t
+  text_end t f k h =
+      ap (λ (runs : List Run). t ++ runs_said f runs) (at_end base cells len false k h) ∙ ap (λ (x : List ℕ). t ++ x) (runs_end f) ∙ append-nil t
+
+  pub used_past : (f : Form) (k : ℕ) → length cells ≤ k → form_behind f (runs_from false k (drop k base) (drop k cells)) ≡ f
+  used_past f k h = ap (form_behind f) (at_end base cells len false k h) ∙ used_end f
 
   pub count_end : (k : ℕ) → length cells ≤ k → length (runs_from false k (drop k base) (drop k cells)) ≡ 0
   count_end k h = ap length (at_end base cells len false k h)

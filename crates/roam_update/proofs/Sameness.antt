@@ -1,10 +1,10 @@
 -- The test on two cells answers yes exactly where they are one.
-use Rattle.std.proofs.Common.{◌≡◌, ℕ, Bool, true, false, eqb, List, [], ◌∷◌, refl, sym, ap, ◌∙◌}
+use Rattle.std.proofs.Common.{◌≡◌, ℕ, Bool, true, false, eqb, ◌&&◌, List, [], ◌∷◌, refl, sym, ap, ◌∙◌}
 use Rattle.std.proofs.lemmas.Bool.{and_parts, eqb-true, eq-eqb, false≢true, false_from_ne_true}
 use mathlib.Core.Bool.{beq}
 use Rattle.roam_cells.specs.declared.styles.Style.{Style}
 use Rattle.roam_cells.specs.declared.styles.Colour.{Colour}
-use Rattle.roam_cells.specs.declared.styles.Colour.TheVariants.{Default, Index}
+use Rattle.roam_cells.specs.declared.styles.Colour.TheVariants.{Default, Index, Rgb}
 use Rattle.roam_cells.specs.Glyph.{Glyph}
 use Rattle.roam_update.specs.Same.{same, same_points, same_style, same_colour}
 
@@ -25,10 +25,18 @@ points_same (x ∷ xs) [] e = absurd (false≢true e)
 colour_same : (a b : Colour) → same_colour a b ≡ true → a ≡ b
 colour_same Default Default e = refl
 colour_same (Index a) (Index b) e = ap (λ (n : ℕ). Index n) (eqb-true a b e)
+colour_same (Rgb r g b) (Rgb x y z) e =
+    let h = and_parts (eqb r x) (eqb g y && eqb b z) e in
+    let k = and_parts (eqb g y) (eqb b z) h.1 in
+    λ i. Rgb (eqb-true r x h.0 i) (eqb-true g y k.0 i) (eqb-true b z k.1 i)
 colour_same Default (Index b) e = absurd (false≢true e)
+colour_same Default (Rgb x y z) e = absurd (false≢true e)
 colour_same (Index a) Default e = absurd (false≢true e)
+colour_same (Index a) (Rgb x y z) e = absurd (false≢true e)
+colour_same (Rgb r g b) Default e = absurd (false≢true e)
+colour_same (Rgb r g b) (Index c) e = absurd (false≢true e)
 
-style_same : (s t : Style) → same_style s t ≡ true → s ≡ t
+pub style_same : (s t : Style) → same_style s t ≡ true → s ≡ t
 style_same s t e =
     let a = and_parts (beq s.bold t.bold) _ e in
     let b = and_parts (beq s.faint t.faint) _ a.1 in
@@ -69,8 +77,9 @@ points_again (x ∷ xs) = rw (eq-eqb x x refl) (points_again xs)
 colour_again : (a : Colour) → same_colour a a ≡ true
 colour_again Default = refl
 colour_again (Index a) = eq-eqb a a refl
+colour_again (Rgb r g b) = rw (eq-eqb r r refl, eq-eqb g g refl, eq-eqb b b refl) refl
 
-style_again : (s : Style) → same_style s s ≡ true
+pub style_again : (s : Style) → same_style s s ≡ true
 style_again s =
     rw (bool_again s.bold, bool_again s.faint, bool_again s.italic, bool_again s.underline, bool_again s.blink, bool_again s.reverse, bool_again s.conceal, bool_again s.strike, colour_again s.foreground, colour_again s.background) refl
 

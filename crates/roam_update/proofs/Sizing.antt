@@ -6,12 +6,12 @@ use Rattle.std.proofs.lemmas.List.{append-nil, append_assoc, ext_get_or, get_or-
 use Rattle.std.proofs.lemmas.List.FromFn.{map-range_with_len_more}
 use Rattle.std.proofs.lemmas.Bool.{cases_Bool, lt-ltb, eqb-true}
 use Rattle.roam_cells.specs.Glyph.{Glyph, is_wide, space_in, blank}
-use Rattle.roam_cells.specs.Place.{cell_at, table}
-use Rattle.roam_cells.specs.Screenshot.{Screenshot, IsScreenshot, row_of}
+use Rattle.roam_cells.specs.Place.{cell_at, table, row_of}
+use Rattle.roam_screens.specs.Screenshot.{Screenshot, IsScreenshot}
 use Rattle.roam_cells.proofs.Places.{length-table, get_or-table, table_is}
 use Rattle.roam_update.specs.Sizes.{sized, sized_at}
 
-pub area : (rows cols : ℕ) → rows ≤ 100 → cols ≤ 250 → rows * cols ≤ 25000
+pub area : (rows cols : ℕ) → rows ≤ 200 → cols ≤ 500 → rows * cols ≤ 100000
 area rows cols p q = let a = mul-le-mul_right cols p in omega (arith, a)
 
 pub length_sized : (rows cols : ℕ) (s : Screenshot) → length (sized rows cols s) ≡ rows * cols
@@ -67,19 +67,22 @@ row_more t f n =
 pub same_count : (base s : Screenshot) → IsScreenshot base → IsScreenshot s → base.rows ≡ s.rows → base.cols ≡ s.cols → length base.cells ≡ length s.cells
 same_count base s g h p q = g.count ∙ ap (λ (n : ℕ). n * base.cols) p ∙ ap (λ (n : ℕ). s.rows * n) q ∙ sym h.count
 
-pub few_cells : (s : Screenshot) → IsScreenshot s → length s.cells ≤ 25000
+pub few_cells : (s : Screenshot) → IsScreenshot s → length s.cells ≤ 100000
 few_cells s h = let n = area s.rows s.cols h.size.most_rows h.size.most_columns in omega (arith, h.count, n)
+
+pub places_are : (s : Screenshot) (rows cols : ℕ) → IsScreenshot s → rows ≡ s.rows → cols ≡ s.cols → rows * cols ≡ length s.cells
+places_are s rows cols is p q = (λ i. p i * q i) ∙ sym is.count
 
 -- ---- one row
 
-length-row_of : (rows cols r : ℕ) (cells : List Glyph) → length cells ≡ rows * cols → r < rows → length (row_of cols cells r) ≡ cols
+pub length-row_of : (rows cols r : ℕ) (cells : List Glyph) → length cells ≡ rows * cols → r < rows → length (row_of cols cells r) ≡ cols
 length-row_of rows cols r cells e p =
     let whole : (r + 1) * cols ≤ rows * cols = mul-le-mul_right cols (omega (arith, p)) in
     let wide : (r + 1) * cols - r * cols ≡ cols = omega arith in
     length-take-le ((r + 1) * cols - r * cols) (drop (r * cols) cells) (omega (arith, length-drop (r * cols) cells, whole, e)) ∙ wide
 
-get_or-row_of : (cols r c : ℕ) (cells : List Glyph) → c < cols → get_or (row_of cols cells r) c blank ≡ cell_at cols cells r c
-get_or-row_of cols r c cells p =
+pub row_cell : (cols r c : ℕ) (cells : List Glyph) → c < cols → get_or (row_of cols cells r) c blank ≡ cell_at cols cells r c
+row_cell cols r c cells p =
     let wide : (r + 1) * cols - r * cols ≡ cols = omega arith in
     get_or-take ((r + 1) * cols - r * cols) (drop (r * cols) cells) c blank (omega (arith, p, wide)) ∙ get_or-drop (r * cols) cells c blank
 
@@ -91,5 +94,5 @@ row_stays rows r s h p q =
     let two = length-row_of s.rows s.cols r s.cells h.count q in
     ext_get_or blank (row_of s.cols new r) (row_of s.cols s.cells r) (one ∙ sym two) (λ c a.
     let b : c < s.cols = omega (arith, a, one) in
-    get_or-row_of s.cols r c new b ∙ get_or-table rows s.cols (sized_at s.cols s) r c blank p b
-    ∙ same_width s r c h q b ∙ sym (get_or-row_of s.cols r c s.cells b))
+    row_cell s.cols r c new b ∙ get_or-table rows s.cols (sized_at s.cols s) r c blank p b
+    ∙ same_width s r c h q b ∙ sym (row_cell s.cols r c s.cells b))

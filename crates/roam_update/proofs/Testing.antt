@@ -9,11 +9,12 @@ use Rattle.std.proofs.lemmas.List.Elements.{All-head, All-tail, All-cons, All-ni
 use Rattle.std.proofs.Math.Utf8.{scalar_cases}
 use Rattle.roam_cells.specs.Glyph.{Glyph, is_wide, is_right_half, is_wide_text, is_empty_text, right_of, is_text, blank}
 use Rattle.roam_cells.specs.Limits.{IsSize}
-use Rattle.roam_cells.specs.Place.{cell_at, IsWholeAt, AreWhole}
-use Rattle.roam_cells.specs.Screenshot.{Screenshot, IsScreenshot, IsPlace, AreShown, AreUnguarded}
+use Rattle.roam_screens.specs.Narrow.{IsOldScreenshot, is_plain_style}
+use Rattle.roam_cells.specs.Place.{cell_at, IsWholeAt, AreWhole, AreShown, AreUnguarded}
+use Rattle.roam_screens.specs.Screenshot.{Screenshot, IsScreenshot, IsPlace}
 use Rattle.roam_update.specs.Same.{same}
 use Rattle.roam_update.specs.CellText.{IsPlain, is_scalar}
-use Rattle.roam_update.specs.Tested.{all_below, is_size, is_place, is_whole_at, are_whole, is_plain, is_screenshot}
+use Rattle.roam_update.specs.Tested.{all_below, is_size, is_place, is_whole_at, are_whole, is_plain, is_screenshot, is_old_screenshot}
 use Rattle.roam_update.proofs.Sameness.{glyph_same, same_glyph}
 
 -- ---- each number below n, each element
@@ -81,13 +82,13 @@ is_plain_of g h =
 pub size_is : (rows cols : ℕ) → is_size rows cols ≡ true → IsSize rows cols
 size_is rows cols e =
     let a = and_parts (leb 2 rows) _ e in
-    let b = and_parts (leb rows 100) _ a.1 in
-    let c = and_parts (leb 4 cols) (leb cols 250) b.1 in
+    let b = and_parts (leb rows 200) _ a.1 in
+    let c = and_parts (leb 4 cols) (leb cols 500) b.1 in
     record { least_rows = leb-true _ _ a.0; most_rows = leb-true _ _ b.0; least_columns = leb-true _ _ c.0; most_columns = leb-true _ _ c.1 }
 
 pub is_size_of : (rows cols : ℕ) → IsSize rows cols → is_size rows cols ≡ true
 is_size_of rows cols h =
-    rw (le-leb 2 rows h.least_rows, le-leb rows 100 h.most_rows, le-leb 4 cols h.least_columns, le-leb cols 250 h.most_columns) refl
+    rw (le-leb 2 rows h.least_rows, le-leb rows 200 h.most_rows, le-leb 4 cols h.least_columns, le-leb cols 500 h.most_columns) refl
 
 place_is : (rows cols row col : ℕ) → is_place rows cols row col ≡ true → IsPlace rows cols row col
 place_is rows cols row col e =
@@ -188,3 +189,29 @@ is_screenshot_of s h =
 
 pub no_screenshot : (s : Screenshot) → ¬ IsScreenshot s → is_screenshot s ≡ false
 no_screenshot s h = false_from_ne_true (is_screenshot s) (λ e. h (screenshot_is s e))
+
+-- ---- a screen of version 1
+
+pub old_screenshot_is : (s : Screenshot) → is_old_screenshot s ≡ true → IsOldScreenshot s
+old_screenshot_is s e =
+    let a = and_parts (is_screenshot s) _ e in
+    let b = and_parts (leb s.rows 100) _ a.1 in
+    let c = and_parts (leb s.cols 250) (list_all (λ (g : Glyph). is_plain_style g.style) s.cells) b.1 in
+    let plain = list_each (λ (g : Glyph). is_plain_style g.style) (λ (g : Glyph). is_plain_style g.style ≡ true) (λ g h. h) s.cells c.1 in
+    record {
+      screenshot = screenshot_is s a.0;
+      rows = leb-true _ _ b.0;
+      cols = leb-true _ _ c.0;
+      plain = λ k p. All-get_or (λ (g : Glyph). is_plain_style g.style ≡ true) s.cells k blank p plain;
+    }
+
+pub is_old_screenshot_of : (s : Screenshot) → IsOldScreenshot s → is_old_screenshot s ≡ true
+is_old_screenshot_of s h =
+    and_from (is_screenshot s) _ (is_screenshot_of s h.screenshot)
+    (and_from (leb s.rows 100) _ (le-leb s.rows 100 h.rows)
+    (and_from (leb s.cols 250) (list_all (λ (g : Glyph). is_plain_style g.style) s.cells) (le-leb s.cols 250 h.cols)
+    (each_list (λ (g : Glyph). is_plain_style g.style) (λ (g : Glyph). is_plain_style g.style ≡ true) (λ g k. k) s.cells
+    (All-from_get_or (λ (g : Glyph). is_plain_style g.style ≡ true) s.cells blank h.plain))))
+
+pub no_old_screenshot : (s : Screenshot) → ¬ IsOldScreenshot s → is_old_screenshot s ≡ false
+no_old_screenshot s h = false_from_ne_true (is_old_screenshot s) (λ e. h (old_screenshot_is s e))

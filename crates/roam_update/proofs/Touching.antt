@@ -8,26 +8,27 @@ use Rattle.std.proofs.lemmas.Nat.{mod_below}
 use Rattle.std.proofs.lemmas.Option.{option_and_then_some}
 use Rattle.roam_cells.specs.Glyph.{Glyph, is_wide, is_right_half, right_of, space_in, blank, is_wide_text, is_empty_text}
 use Rattle.roam_cells.specs.Place.{cell_at, IsWholeAt, IsWholeLine, AreWhole}
-use Rattle.roam_cells.specs.Screenshot.{Screenshot, IsScreenshot}
+use Rattle.roam_screens.specs.Screenshot.{Screenshot, IsScreenshot}
 use Rattle.roam_cells.proofs.Places.{get_or-table, place_of}
-use Rattle.roam_cells.proofs.Screens.{is_wide-blank}
+use Rattle.roam_cells.proofs.CellLists.{is_wide-blank}
 use Rattle.roam_update.specs.CellText.{Front, cell_read, cells_read}
 use Rattle.roam_update.specs.Put.{cells_put}
+use Rattle.roam_update.specs.Styles.{Form}
 use Rattle.roam_update.specs.Runs.{placed}
 use Rattle.roam_update.specs.Sizes.{sized, sized_at}
 use Rattle.roam_update.proofs.Sizing.{kept_at}
 
 -- ---- cells outside a run
 
-cells_count : (n : ℕ) (text : List ℕ) (cs : Front (List Glyph)) → cells_read n text ≡ Some cs → length cs.value ≡ n
+cells_count : (form : Form) (n : ℕ) (text : List ℕ) (cs : Front (List Glyph)) → cells_read form n text ≡ Some cs → length cs.value ≡ n
 unfolding cells_read
-cells_count zero text cs e = let none : record { value = []; rest = text } ≡ cs = cc in sym (ap (λ (f : Front (List Glyph)). length f.value) none)
-cells_count (suc n) text cs e =
+cells_count form zero text cs e = let none : record { value = []; rest = text; form = form } ≡ cs = cc in sym (ap (λ (f : Front (List Glyph)). length f.value) none)
+cells_count form (suc n) text cs e =
     option_and_then_some
-    (λ c. option_and_then (λ more. Some (record { value = c.value ∷ more.value; rest = more.rest })) (cells_read n c.rest)) (cell_read text) cs e (λ c f g.
-    option_and_then_some (λ (more : Front (List Glyph)). Some (record { value = c.value ∷ more.value; rest = more.rest })) (cells_read n c.rest) cs g (λ more h k.
-    let same : record { value = c.value ∷ more.value; rest = more.rest } ≡ cs = cc in
-    sym (ap (λ (f : Front (List Glyph)). length f.value) same) ∙ ap suc (cells_count n c.rest more h)))
+    (λ c. option_and_then (λ more. Some (record { value = c.value ∷ more.value; rest = more.rest; form = more.form })) (cells_read c.form n c.rest)) (cell_read form text) cs e (λ c f g.
+    option_and_then_some (λ (more : Front (List Glyph)). Some (record { value = c.value ∷ more.value; rest = more.rest; form = more.form })) (cells_read c.form n c.rest) cs g (λ more h k.
+    let same : record { value = c.value ∷ more.value; rest = more.rest; form = more.form } ≡ cs = cc in
+    sym (ap (λ (f : Front (List Glyph)). length f.value) same) ∙ ap suc (cells_count c.form n c.rest more h)))
 
 placed_outside : (cells : List Glyph) (k : ℕ) (gs : List Glyph) (i : ℕ) → (i < k) ⊎ (k + length gs ≤ i) → get_or (placed cells k gs) i blank ≡ get_or cells i blank
 unfolding placed
@@ -37,12 +38,12 @@ placed_outside cells k (g ∷ gs) i h =
     let next : (i < k + 1) ⊎ (k + 1 + length gs ≤ i) = elim h [ inl p ↦ inl (omega (arith, p)) | inr p ↦ inr (omega (arith, p)) ] in
     placed_outside (set cells k g) (k + 1) gs i next ∙ get_or-set_other cells k i g blank other
 
-pub put_outside : (n first : ℕ) (cells : List Glyph) (text : List ℕ) (r : Front (List Glyph)) (i : ℕ) → cells_put n first cells text ≡ Some r
+pub put_outside : (form : Form) (n first : ℕ) (cells : List Glyph) (text : List ℕ) (r : Front (List Glyph)) (i : ℕ) → cells_put form n first cells text ≡ Some r
     → (i < first) ⊎ (first + n ≤ i) → get_or r.value i blank ≡ get_or cells i blank
-put_outside n first cells text r i e h =
-    option_and_then_some (λ (cs : Front (List Glyph)). Some (record { value = placed cells first cs.value; rest = cs.rest })) (cells_read n text) r e (λ cs f g.
-    let same : record { value = placed cells first cs.value; rest = cs.rest } ≡ r = cc in
-    let count = cells_count n text cs f in
+put_outside form n first cells text r i e h =
+    option_and_then_some (λ (cs : Front (List Glyph)). Some (record { value = placed cells first cs.value; rest = cs.rest; form = cs.form })) (cells_read form n text) r e (λ cs f g.
+    let same : record { value = placed cells first cs.value; rest = cs.rest; form = cs.form } ≡ r = cc in
+    let count = cells_count form n text cs f in
     let far : (i < first) ⊎ (first + length cs.value ≤ i) = elim h [ inl p ↦ inl p | inr p ↦ inr (omega (arith, p, count)) ] in
     sym (ap (λ (x : Front (List Glyph)). get_or x.value i blank) same) ∙ placed_outside cells first cs.value i far)
 

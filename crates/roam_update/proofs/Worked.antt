@@ -1,11 +1,13 @@
 -- The definitions at worked rows; those that rest on a character's width are in src/tests.rt, since it is opaque here.
 use Rattle.std.proofs.Common.{◌≡◌, ℕ, true, false, List, [], ◌∷◌, Some, None, refl}
 use Rattle.roam_cells.specs.declared.styles.Style.{Style}
-use Rattle.roam_cells.specs.declared.styles.Colour.TheVariants.{Default, Index}
+use Rattle.roam_cells.specs.declared.styles.Colour.TheVariants.{Default, Index, Rgb}
 use Rattle.roam_cells.specs.Glyph.{Glyph, blank, default_style, right_of}
-use Rattle.roam_cells.specs.Screenshot.{Screenshot}
+use Rattle.roam_screens.specs.Screenshot.{Screenshot}
 use Rattle.roam_update.specs.CellText.{flags, colour_read, cell_text, glyph_read}
 use Rattle.roam_update.specs.ChangeText.{Change, change_text}
+use Rattle.roam_update.specs.Styles.{Whole, styles_used, styles_after}
+use Rattle.roam_update.specs.TableText.{tabled_text}
 use Rattle.roam_update.specs.Runs.{lead, runs_from, runs_between, placed, patched}
 use Rattle.roam_update.specs.Sizes.{sized_at}
 use Rattle.roam_update.specs.Tested.{is_size, is_place}
@@ -29,14 +31,14 @@ red_flags = refl
 colours : colour_read 0 0 ∷ colour_read 0 1 ∷ colour_read 1 255 ∷ colour_read 2 0 ∷ [] ≡ Some Default ∷ None ∷ Some (Index 255) ∷ None ∷ []
 colours = refl
 
-red_a : cell_text (record a { style = red }) ≡ 1 ∷ 137 ∷ 1 ∷ 1 ∷ 0 ∷ 0 ∷ 0 ∷ 0 ∷ 0 ∷ 97 ∷ []
+red_a : cell_text Whole (record a { style = red }) ≡ 1 ∷ 137 ∷ 1 ∷ 1 ∷ 0 ∷ 0 ∷ 0 ∷ 0 ∷ 0 ∷ 97 ∷ []
 red_a = refl
 
-a_right_half : cell_text (right_of a) ≡ 0 ∷ 0 ∷ 0 ∷ 0 ∷ 0 ∷ 0 ∷ []
+a_right_half : cell_text Whole (right_of a) ≡ 0 ∷ 0 ∷ 0 ∷ 0 ∷ 0 ∷ 0 ∷ []
 a_right_half = refl
 
 -- three code points where the bytes of two stand are none
-cut_short : glyph_read (3 ∷ 0 ∷ 0 ∷ 0 ∷ 0 ∷ 0 ∷ 0 ∷ 0 ∷ 0 ∷ 97 ∷ 0 ∷ 0 ∷ 3 ∷ 1 ∷ []) ≡ None
+cut_short : glyph_read Whole (3 ∷ 0 ∷ 0 ∷ 0 ∷ 0 ∷ 0 ∷ 0 ∷ 0 ∷ 0 ∷ 97 ∷ 0 ∷ 0 ∷ 3 ∷ 1 ∷ []) ≡ None
 cut_short = refl
 
 -- two runs with a place between them, one that goes to the end, none
@@ -59,7 +61,7 @@ put_back : patched base (record { first = 0; cells = a ∷ [] } ∷ record { fir
 unfolding patched placed
 put_back = refl
 
-sizes : is_size 2 4 ∷ is_size 100 250 ∷ is_size 1 4 ∷ is_size 2 251 ∷ [] ≡ true ∷ true ∷ false ∷ false ∷ []
+sizes : is_size 2 4 ∷ is_size 200 500 ∷ is_size 1 4 ∷ is_size 2 501 ∷ [] ≡ true ∷ true ∷ false ∷ false ∷ []
 sizes = refl
 
 cursors : is_place 2 8 1 1 ∷ is_place 2 8 2 8 ∷ is_place 2 8 0 1 ∷ is_place 2 8 1 9 ∷ [] ≡ true ∷ true ∷ false ∷ false ∷ []
@@ -82,3 +84,21 @@ kept = refl
 
 new_place : sized_at 3 wide 0 2 ≡ blank
 new_place = refl
+
+-- the same in a mixture of red, green and blue, with a table
+abbrev mixed : Change
+mixed =
+    record {
+      rows = 2;
+      cols = 8;
+      cursor_row = 1;
+      cursor_col = 2;
+      visible = true;
+      runs = record { first = 0; cells = record a { style = record default_style { foreground = Rgb 10 20 30 } } ∷ [] } ∷ [];
+    }
+
+mixed_text : tabled_text mixed
+    ≡ 0 ∷ 2 ∷ 0 ∷ 8 ∷ 0 ∷ 1 ∷ 0 ∷ 2 ∷ 1 ∷ 0 ∷ 0 ∷ 1 ∷ 0 ∷ 2 ∷ 10 ∷ 20 ∷ 30 ∷ 0 ∷ 0 ∷ 0 ∷ 0 ∷ 0 ∷ 0 ∷ 0 ∷ 1
+    ∷ 0 ∷ 0 ∷ 0 ∷ 0 ∷ 0 ∷ 0 ∷ 0 ∷ 1 ∷ 1 ∷ 0 ∷ 0 ∷ 0 ∷ 0 ∷ 0 ∷ 0 ∷ 97 ∷ []
+unfolding styles_used styles_after
+mixed_text = refl

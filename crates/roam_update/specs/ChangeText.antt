@@ -1,10 +1,12 @@
 -- A change, and the one text that it has (this project's profile). Numbers are big-endian; a text is a list of bytes.
-use Rattle.std.specs.Prelude.{All, ◌≡◌, ℕ, zero, suc, ◌+◌, ◌*◌, ◌^◌, ◌<◌, Bool, ◌&&◌, ◌==◌, nat_le, List, [], ◌∷◌, ◌++◌, length, drop, slice_index, Option, Some, None, option_and_then, if◌then◌else◌}
+use Rattle.std.specs.Prelude.{All, ◌≡◌, ℕ, zero, suc, ◌+◌, ◌*◌, ◌^◌, ◌<◌, Bool, true, ◌&&◌, ◌==◌, nat_le, List, [], ◌∷◌, ◌++◌, length, drop, slice_index, Option, Some, None, option_and_then, if◌then◌else◌}
 use Rattle.std.specs.List.{flat_map}
 use Rattle.byteorder.specs.Endian.{big_bytes, big_number}
+use Rattle.roam_cells.specs.Glyph.{Glyph}
 use Rattle.roam_cells.specs.Limits.{IsSize}
 use Rattle.roam_update.specs.Runs.{Run, AreApart}
-use Rattle.roam_update.specs.CellText.{IsPlain, bit, cells_text, cells_read}
+use Rattle.roam_update.specs.CellText.{IsPlain, bit, cells_text, cells_read, is_short_style}
+use Rattle.roam_update.specs.Styles.{Form, Whole, is_used_up}
 use Rattle.roam_update.specs.Tested.{is_size}
 use Rattle.roam_update.specs.declared.change_text.Head.{Head}
 
@@ -27,12 +29,12 @@ pub record IsChange (x : Change) : Type 0 where
   pub plain : All (λ (run : Run). All IsPlain run.cells) x.runs
 
 -- the text of a run: its first place, its length, its cells
-abbrev pub run_text : Run → List ℕ
-run_text run = big_bytes 4 run.first ++ (big_bytes 4 (length run.cells) ++ cells_text run.cells)
+abbrev pub run_text : Form → Run → List ℕ
+run_text f run = big_bytes 4 run.first ++ (big_bytes 4 (length run.cells) ++ cells_text f run.cells)
 
 -- the texts of runs, one after the other
-abbrev pub runs_text : List Run → List ℕ
-runs_text runs = flat_map run_text runs
+abbrev pub runs_text : Form → List Run → List ℕ
+runs_text f runs = flat_map (run_text f) runs
 
 -- what stands before the runs: rows, columns, the cursor's row and column, whether it is visible, the number of runs
 abbrev pub head_text : Head → List ℕ
@@ -47,11 +49,16 @@ head_of x =
 
 -- the text of a change
 abbrev pub change_text : Change → List ℕ
-change_text x = head_text (head_of x) ++ runs_text x.runs
+change_text x = head_text (head_of x) ++ runs_text Whole x.runs
+
+-- each cell's colours have two bytes each
+abbrev pub AreShort : List Run → Type 0
+AreShort runs = All (λ (run : Run). All (λ (g : Glyph). is_short_style g.style ≡ true) run.cells) runs
 
 -- the grammar: a change and its text
 pub record Spells (x : Change) (text : List ℕ) : Type 0 where
   pub change : IsChange x
+  pub short : AreShort x.runs
   pub spelled : text ≡ change_text x
 
 -- whether a run may begin a text: not before `least`, of one place or more, and not past the end
@@ -61,14 +68,15 @@ may_begin least end text =
     && (nat_le least (big_number 4 text)
     && (nat_le 1 (big_number 4 (drop 4 text)) && nat_le (big_number 4 text + big_number 4 (drop 4 text)) end))
 
--- the whole text of n runs that rise and do not touch
-unfoldable pub runs_read : ℕ → ℕ → ℕ → List ℕ → Option (List Run)
-runs_read zero least end text = if length text == 0 then Some [] else None
-runs_read (suc n) least end text =
+-- the whole text of n runs that rise and do not touch, behind which all styles of a table have been used
+unfoldable pub runs_read : Form → ℕ → ℕ → ℕ → List ℕ → Option (List Run)
+runs_read f zero least end text = if (length text == 0) && is_used_up f then Some [] else None
+runs_read f (suc n) least end text =
     if may_begin least end text then
     option_and_then
     (λ cs. option_and_then (λ rs. Some (record { first = big_number 4 text; cells = cs.value } ∷ rs))
-    (runs_read n (big_number 4 text + big_number 4 (drop 4 text) + 1) end cs.rest)) (cells_read (big_number 4 (drop 4 text)) (drop 8 text))
+    (runs_read cs.form n (big_number 4 text + big_number 4 (drop 4 text) + 1) end cs.rest))
+    (cells_read f (big_number 4 (drop 4 text)) (drop 8 text))
     else None
 
 -- the numbers in the first 13 bytes of a text
@@ -94,7 +102,7 @@ change_of h runs =
 
 -- the runs behind a head
 abbrev pub body_read : Head → List ℕ → Option (List Run)
-body_read h text = runs_read h.runs 0 (h.rows * h.cols) (drop 13 text)
+body_read h text = runs_read Whole h.runs 0 (h.rows * h.cols) (drop 13 text)
 
 -- the change that a text spells
 abbrev pub change_read : List ℕ → Option Change

@@ -1,9 +1,13 @@
 pub mod Same
 pub mod Runs
+pub mod Styles
 pub mod Sizes
 pub mod CellText
 pub mod ChangeText
 pub mod Put
 pub mod Marks
 pub mod Tested
+pub mod TableText
+pub mod Numbers
+pub mod Tabled
 pub mod Shots

@@ -1,10 +1,14 @@
 -- What a change makes of a screen, and the change that leads from one screen to another.
 use Rattle.std.specs.Prelude.{◌≡◌, ℕ, List, Option, Some, None, option_and_then, if◌then◌else◌}
-use Rattle.roam_cells.specs.Screenshot.{Screenshot, IsScreenshot}
+use Rattle.roam_screens.specs.Screenshot.{Screenshot, IsScreenshot}
 use Rattle.roam_update.specs.Runs.{runs_between, patched}
 use Rattle.roam_update.specs.Sizes.{sized}
 use Rattle.roam_update.specs.ChangeText.{Change, Spells, change_text, change_read}
-use Rattle.roam_update.specs.Tested.{is_screenshot}
+use Rattle.roam_update.specs.TableText.{SpellsTabled, tabled_text, tabled_read}
+use Rattle.roam_update.specs.Tested.{is_screenshot, is_old_screenshot}
+use Rattle.roam_cells.specs.Glyph.{Glyph}
+use Rattle.roam_screens.specs.Narrow.{IsOldScreenshot}
+use Rattle.roam_update.specs.declared.change_text.Head.{Head}
 
 -- a base brought to a change's size, with the cells of its runs and its cursor
 abbrev pub screen_by : Screenshot → Change → Screenshot
@@ -22,14 +26,22 @@ screen_by base x =
 abbrev pub if_screenshot : Screenshot → Option Screenshot
 if_screenshot s = if is_screenshot s then Some s else None
 
--- what a text makes of a base: none where it spells no change, or the result is no screen that is shown
-abbrev pub applied : Screenshot → List ℕ → Option Screenshot
-applied base text = option_and_then (λ x. if_screenshot (screen_by base x)) (change_read text)
+-- what a text of version 2 makes of a base: none where it spells no change, or the result is no screen that is shown
+abbrev pub applied_two : Screenshot → List ℕ → Option Screenshot
+applied_two base text = option_and_then (λ x. if_screenshot (screen_by base x)) (tabled_read text)
+
+-- a value where it is a screen of version 1, else none
+abbrev pub if_old_screenshot : Screenshot → Option Screenshot
+if_old_screenshot s = if is_old_screenshot s then Some s else None
+
+-- what a text of version 1 makes of a base
+abbrev pub applied_one : Screenshot → List ℕ → Option Screenshot
+applied_one base text = option_and_then (λ x. if_old_screenshot (screen_by base x)) (change_read text)
 
 -- a text spells a change that makes of a base a screen that is shown, and this is the screen
 pub record Makes (base : Screenshot) (text : List ℕ) (s : Screenshot) : Type 0 where
   pub change : Change
-  pub spells : Spells change text
+  pub spells : SpellsTabled change text
   pub screen : screen_by base change ≡ s
   pub shown : IsScreenshot s
 
@@ -45,6 +57,22 @@ change_to base s =
       runs = runs_between (sized s.rows s.cols base) s.cells;
     }
 
--- the text of the change that leads from a base, the first, to a screen
-abbrev pub difference : Screenshot → Screenshot → List ℕ
-difference base s = change_text (change_to base s)
+-- the text of version 2 of the change that leads from a base, the first, to a screen
+abbrev pub difference_two : Screenshot → Screenshot → List ℕ
+difference_two base s = tabled_text (change_to base s)
+
+-- a text of version 1 spells a change that makes of a base a screen of version 1, and this is the screen
+pub record MakesOld (base : Screenshot) (text : List ℕ) (s : Screenshot) : Type 0 where
+  pub change : Change
+  pub spells : Spells change text
+  pub screen : screen_by base change ≡ s
+  pub shown : IsOldScreenshot s
+
+-- the text of version 1 of the change that leads from a base, the first, to a screen
+abbrev pub difference_one : Screenshot → Screenshot → List ℕ
+difference_one base s = change_text (change_to base s)
+
+-- the screen of a change's head and cells
+abbrev pub shown_by : Head → List Glyph → Screenshot
+shown_by h cells =
+    record { rows = h.rows; cols = h.cols; cells = cells; cursor_row = h.cursor_row; cursor_col = h.cursor_col; visible = h.visible }

@@ -1,8 +1,8 @@
 -- The cells of a screen brought to a size.
-use Rattle.std.specs.Prelude.{ℕ, ◌+◌, ◌==◌, ◌&&◌, nat_lt, List, if◌then◌else◌}
+use Rattle.std.specs.Prelude.{◌≡◌, ℕ, ◌+◌, ◌==◌, ◌&&◌, nat_lt, List, if◌then◌else◌}
 use Rattle.roam_cells.specs.Glyph.{Glyph, is_wide, space_in, blank}
 use Rattle.roam_cells.specs.Place.{cell_at, table}
-use Rattle.roam_cells.specs.Screenshot.{Screenshot}
+use Rattle.roam_screens.specs.Screenshot.{Screenshot}
 
 -- what stands at a row and a column, from 0: the cell that stood there, a wide one in the last column as a space in its style;
 -- a blank where none stood
@@ -16,3 +16,8 @@ sized_at cols s r c =
 -- the cells of a screen brought to a number of rows and of columns: places keep their row and column (this project's profile)
 abbrev pub sized : ℕ → ℕ → Screenshot → List Glyph
 sized rows cols s = table rows cols (sized_at cols s)
+
+-- two screens of one size
+pub record AreSameSize (a b : Screenshot) : Type 0 where
+  pub rows : a.rows ≡ b.rows
+  pub cols : a.cols ≡ b.cols

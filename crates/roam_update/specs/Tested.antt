@@ -2,8 +2,9 @@
 use Rattle.std.specs.Prelude.{ℕ, zero, suc, ◌+◌, ◌-◌, ◌*◌, Bool, true, ◌&&◌, ◌==◌, nat_le, nat_lt, not, length, List, if◌then◌else◌}
 use Rattle.std.specs.List.{list_all}
 use Rattle.roam_cells.specs.Glyph.{Glyph, is_wide, is_right_half, right_of, is_text}
+use Rattle.roam_screens.specs.Narrow.{is_plain_style}
 use Rattle.roam_cells.specs.Place.{cell_at}
-use Rattle.roam_cells.specs.Screenshot.{Screenshot}
+use Rattle.roam_screens.specs.Screenshot.{Screenshot}
 use Rattle.roam_update.specs.CellText.{is_scalar}
 use Rattle.roam_update.specs.Same.{same}
 
@@ -14,7 +15,7 @@ all_below (suc n) test = all_below n test && test n
 
 -- whether a screen may have this size
 abbrev pub is_size : ℕ → ℕ → Bool
-is_size rows cols = nat_le 2 rows && (nat_le rows 100 && (nat_le 4 cols && nat_le cols 250))
+is_size rows cols = nat_le 2 rows && (nat_le rows 200 && (nat_le 4 cols && nat_le cols 500))
 
 -- whether a screen of this size has the row and the column, both from 1
 abbrev pub is_place : ℕ → ℕ → ℕ → ℕ → Bool
@@ -41,3 +42,8 @@ is_screenshot s =
     is_size s.rows s.cols
     && (is_place s.rows s.cols s.cursor_row s.cursor_col
     && ((length s.cells == s.rows * s.cols) && (are_whole s.rows s.cols s.cells && list_all is_plain s.cells)))
+
+-- whether it is a screen of version 1
+abbrev pub is_old_screenshot : Screenshot → Bool
+is_old_screenshot s =
+    is_screenshot s && (nat_le s.rows 100 && (nat_le s.cols 250 && list_all (λ (g : Glyph). is_plain_style g.style) s.cells))

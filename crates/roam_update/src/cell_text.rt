@@ -1,10 +1,12 @@
 //! The text of a cell, written and read.
 
-ghost use Rattle.std.specs.Prelude.{◌≡◌, ◌≤◌, ◌+◌, ◌*◌, ◌++◌, length, option_and_then, IfSome, OnOk};
+ghost use Rattle.std.specs.Prelude.{◌≡◌, ◌≤◌, ◌+◌, ◌*◌, ◌<◌, ◌++◌, length, option_and_then, IfSome, OnOk};
 ghost use Rattle.byteorder.specs.Endian.{big_bytes};
-ghost use Rattle.roam_update.specs.CellText.{bit, flags, colour_kind, colour_index, points_text, cell_text, cells_text};
-ghost use Rattle.roam_update.specs.CellText.{point_read, points_read, colour_read, style_read, glyph_of, glyph_read, cell_size};
+ghost use Rattle.roam_update.specs.CellText.{bit, flags, colour_kind, colour_index, points_text, cell_text};
+ghost use Rattle.roam_update.specs.Styles.{Whole};
+ghost use Rattle.roam_update.specs.CellText.{point_read, points_read, colour_read, style_of, whole_style, number_read, glyph_of, glyph_read, cell_size};
 
+use crate::spelling::Spelling;
 use byteorder::{BigEndian, ByteOrder};
 use roam_cells::{Cell, Colour, Style};
 use std::alloc::AllocError;
@@ -25,7 +27,7 @@ fn bit(set: bool) -> u8
     if set { 1 } else { 0 }
 }
 
-fn flags(style: Style) -> u8
+pub fn flags(style: Style) -> u8
     ensures flags { result ≡ flags style }
 {
     bit(style.bold)
@@ -38,17 +40,7 @@ fn flags(style: Style) -> u8
         + 128 * bit(style.strike)
 }
 
-fn colour(colour: Colour) -> (u8, u8)
-    ensures kind { result.0 ≡ colour_kind colour }
-    ensures index { result.1 ≡ colour_index colour }
-{
-    match colour {
-        Colour::Default => (0, 0),
-        Colour::Index(index) => (1, index),
-    }
-}
-
-fn add_points(text: &mut Vec<u8>, points: &[char]) -> Result<(), AllocError>
+pub fn add_points(text: &mut Vec<u8>, points: &[char]) -> Result<(), AllocError>
     ensures points { OnOk result (text.new.items ≡ text.old.items ++ points_text points.now) }
 {
     for point in points {
@@ -57,9 +49,22 @@ fn add_points(text: &mut Vec<u8>, points: &[char]) -> Result<(), AllocError>
     Ok(())
 }
 
+// A colour in two bytes; a mixture has none, and is said as the default.
+fn colour(colour: Colour) -> (u8, u8)
+    ensures kind { result.0 ≡ colour_kind colour }
+    ensures index { result.1 ≡ colour_index colour }
+{
+    match colour {
+        Colour::Default => (0, 0),
+        Colour::Index(index) => (1, index),
+        Colour::Rgb(_, _, _) => (0, 0),
+    }
+}
+
+/// Adds the text of a cell that says its style in full.
 #[tactic(auto, using(crate::proofs::CellAgain::few_points))]
-fn add_cell(text: &mut Vec<u8>, cell: &Cell) -> Result<(), AllocError>
-    ensures cell { OnOk result (text.new.items ≡ text.old.items ++ cell_text cell.now) }
+pub fn add_whole_cell(text: &mut Vec<u8>, cell: &Cell) -> Result<(), AllocError>
+    ensures cell { OnOk result (text.new.items ≡ text.old.items ++ cell_text Whole cell.now) }
 {
     cell.facts();
     let points = cell.chars();
@@ -74,17 +79,7 @@ fn add_cell(text: &mut Vec<u8>, cell: &Cell) -> Result<(), AllocError>
         background.0,
         background.1,
     ])?;
-    add_points(text, points)
-}
-
-/// Adds the texts of cells.
-pub fn add_cells(text: &mut Vec<u8>, cells: &[Cell]) -> Result<(), AllocError>
-    ensures cells { OnOk result (text.new.items ≡ text.old.items ++ cells_text cells.now) }
-{
-    for cell in cells {
-        add_cell(text, cell)?;
-    }
-    Ok(())
+    add_points(text, points.as_slice())
 }
 
 fn read_point(text: &[u8]) -> Option<char>
@@ -108,14 +103,31 @@ fn read_colour(kind: u8, index: u8) -> Option<Colour>
     }
 }
 
-fn read_style(text: &[u8]) -> Option<Style>
-    requires long { 6 ≤ length text.now }
-    ensures style { result ≡ style_read text.now }
+/// The number of a style in the second to the fourth byte of a text.
+#[tactic(auto, using(crate::proofs::Putting::number_at))]
+pub fn read_number(text: &[u8]) -> usize
+    requires long { 4 ≤ length text.now }
+    ensures number { result ≡ number_read text.now }
+    ensures few { result < 0x1000000 }
 {
-    let flags = text[1];
+    text[1] as usize * 65536 + text[2] as usize * 256 + text[3] as usize
+}
+
+/// A style that is said in full, in the second to the sixth byte of a text.
+pub fn read_whole_style(text: &[u8]) -> Option<Style>
+    requires long { 6 ≤ length text.now }
+    ensures style { result ≡ whole_style text.now }
+{
     let foreground = read_colour(text[2], text[3])?;
     let background = read_colour(text[4], text[5])?;
-    Some(Style {
+    Some(style_of(text[1], foreground, background))
+}
+
+/// The style of a byte of flags and two colours.
+pub fn style_of(flags: u8, foreground: Colour, background: Colour) -> Style
+    ensures style { result ≡ style_of flags foreground background }
+{
+    Style {
         bold: flags % 2 == 1,
         faint: flags / 2 % 2 == 1,
         italic: flags / 4 % 2 == 1,
@@ -126,7 +138,7 @@ fn read_style(text: &[u8]) -> Option<Style>
         strike: flags / 128 % 2 == 1,
         foreground,
         background,
-    })
+    }
 }
 
 #[tactic(auto, using(crate::proofs::Putting::points_long))]
@@ -151,13 +163,14 @@ fn read_points(text: &[u8], count: u8, style: Style) -> Option<Cell>
 }
 
 /// The unguarded cell at the front of a text, or `None` where there is none.
-pub fn read_cell(text: &[u8]) -> Option<Cell>
-    ensures cell { result ≡ glyph_read text.now }
-    ensures long { IfSome result (λ _. cell_size text.now ≤ length text.now) }
+pub fn read_cell(form: &Spelling, text: &[u8]) -> Option<Cell>
+    ensures cell { result ≡ glyph_read form.now text.now }
+    ensures long { IfSome result (λ _. cell_size form.now text.now ≤ length text.now) }
 {
-    if text.len() < 6 || 3 < text[0] {
+    let head = form.head_size();
+    if text.len() < head || 3 < text[0] {
         return None;
     }
-    let style = read_style(text)?;
-    read_points(&text[6..], text[0], style)
+    let style = form.read_style(text)?;
+    read_points(&text[head..], text[0], style)
 }

@@ -1,18 +1,21 @@
 //! Laws of changes, over every base, screen and text. Each stands on a function with an empty body.
 
 ghost use Rattle.std.specs.Prelude.{All, ◌≡◌, ℕ, ◌≤◌, ◌<◌, ◌*◌, ◌↔◌, List, Some, length, IsTrue};
-ghost use Rattle.roam_cells.specs.Place.{glyph_at};
-ghost use Rattle.roam_cells.specs.Screenshot.{Screenshot, IsScreenshot, row_of};
-ghost use Rattle.roam_update.specs.ChangeText.{Change, IsChange, Spells, change_text, change_read};
+ghost use Rattle.roam_screens.specs.Narrow.{IsOldScreenshot};
+ghost use Rattle.roam_cells.specs.Place.{glyph_at, row_of};
+ghost use Rattle.roam_screens.specs.Screenshot.{Screenshot, IsScreenshot};
+ghost use Rattle.roam_update.specs.ChangeText.{Change, Spells, change_read};
+ghost use Rattle.roam_update.specs.TableText.{SpellsTabled, tabled_read};
 ghost use Rattle.roam_update.specs.Runs.{AreApart, IsNamed};
-ghost use Rattle.roam_update.specs.Shots.{Makes, applied, change_to, difference};
+ghost use Rattle.roam_update.specs.Shots.{Makes, MakesOld, applied_one, applied_two, change_to, difference_one, difference_two};
 ghost use Rattle.roam_update.specs.Sizes.{sized};
 ghost use Rattle.roam_update.specs.Tested.{is_screenshot};
 
-/// The change that leads to a screen has at most 650,013 bytes.
-#[tactic(auto, using(crate::proofs::Bounds::most))]
+/// The change that leads to a screen has at most 3,300,016 bytes, and in version 1 at most 650,013.
+#[tactic(auto, using(crate::proofs::Bounds::most_two, crate::proofs::OldBounds::most_one))]
 pub fn most_bytes()
-    ensures most { (base s : Screenshot) → IsScreenshot s → length (difference base s) ≤ 650013 }
+    ensures most { (base s : Screenshot) → IsScreenshot s → length (difference_two base s) ≤ 3300016 }
+    ensures old { (base s : Screenshot) → IsOldScreenshot s → length (difference_one base s) ≤ 650013 }
 {}
 
 /// The change that leads from a base to a screen names exactly the places at which the screen differs from the base
@@ -25,11 +28,17 @@ pub fn named_places()
 
 /// The grammar both ways: what a change spells is read as that change, what is read is a change that spells the text, and two
 /// changes with one text are one.
-#[tactic(auto, using(crate::proofs::ChangeAgain::change_again, crate::proofs::ChangeSpelled::one_change))]
 pub fn grammar()
-    ensures again { (x : Change) → IsChange x → change_read (change_text x) ≡ Some x }
+    ensures again { (x : Change) (text : List ℕ) → Spells x text → change_read text ≡ Some x }
     ensures spelled { (text : List ℕ) (x : Change) → All (λ (b : ℕ). b < 256) text → change_read text ≡ Some x → Spells x text }
-    ensures one { (x y : Change) → IsChange x → IsChange y → change_text x ≡ change_text y → x ≡ y }
+    ensures one { (x y : Change) (text : List ℕ) → Spells x text → Spells y text → x ≡ y }
+{}
+
+/// The same of the text with a table of styles.
+pub fn tabled_grammar()
+    ensures again { (x : Change) (text : List ℕ) → SpellsTabled x text → tabled_read text ≡ Some x }
+    ensures spelled { (text : List ℕ) (x : Change) → All (λ (b : ℕ). b < 256) text → tabled_read text ≡ Some x → SpellsTabled x text }
+    ensures one { (x y : Change) (text : List ℕ) → SpellsTabled x text → SpellsTabled y text → x ≡ y }
 {}
 
 /// A text makes a screen of a base exactly where it spells a change whose result is a screen that is shown, and then that one;
@@ -37,7 +46,9 @@ pub fn grammar()
 #[tactic(auto, using(crate::proofs::Testing::screenshot_is, crate::proofs::Testing::is_screenshot_of))]
 pub fn made_screens()
     ensures made { (base s : Screenshot) (text : List ℕ) → All (λ (b : ℕ). b < 256) text
-        → (applied base text ≡ Some s ↔ Makes base text s) }
+        → (applied_two base text ≡ Some s ↔ Makes base text s) }
+    ensures old { (base s : Screenshot) (text : List ℕ) → All (λ (b : ℕ). b < 256) text
+        → (applied_one base text ≡ Some s ↔ MakesOld base text s) }
     ensures tested { (s : Screenshot) → (IsTrue (is_screenshot s) ↔ IsScreenshot s) }
 {}
 

@@ -21,7 +21,7 @@ pub fn mark_rows(marks: &mut [bool], from: usize, to: usize)
 // Whether one row has whole characters.
 #[tactic(auto, using(crate::proofs::Touching::row_count))]
 fn is_whole(cells: &[Cell], cols: usize, row: usize) -> bool
-    requires size { (row < 100) × (0 < cols) × (cols ≤ 250) }
+    requires size { (row < 200) × (0 < cols) × (cols ≤ 500) }
     requires inside { (row + 1) * cols ≤ length cells.now }
     ensures whole { IsTrue result ↔ IsWholeLine cols (cell_at cols cells.now row) }
 {
@@ -31,7 +31,7 @@ fn is_whole(cells: &[Cell], cols: usize, row: usize) -> bool
 
 /// Whether each row has whole characters, where each unmarked one has.
 pub fn are_whole(cells: &[Cell], rows: usize, cols: usize, marks: &[bool]) -> bool
-    requires size { (rows ≤ 100) × (0 < cols) × (cols ≤ 250) }
+    requires size { (rows ≤ 200) × (0 < cols) × (cols ≤ 500) }
     requires marks { rows ≤ length marks.now }
     requires count { length cells.now ≡ rows * cols }
     requires unmarked { (r : ℕ) → r < rows → IsUnmarked marks.now r → IsWholeLine cols (cell_at cols cells.now r) }

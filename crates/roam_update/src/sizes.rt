@@ -5,31 +5,50 @@ ghost use Rattle.std.specs.List.{range_with_len};
 ghost use Rattle.roam_cells.specs.Place.{cell_at};
 ghost use Rattle.roam_update.specs.Sizes.{sized, sized_at};
 
-use roam_cells::{Cell, Shot};
+use roam_cells::Cell;
+use roam_screens::Seen;
 use std::alloc::{AllocError, Global};
 
 /// The cells of a screen brought to a size: those that stay keep their row and column, new ones are blank, and a wide
 /// cell that is cut in two becomes a space in its style.
 #[tactic(auto, using(crate::proofs::Sizing::table_none, crate::proofs::Sizing::table_more, crate::proofs::Sizing::sized_at_same))]
-pub fn sized(alloc: Global, base: &Shot, rows: u16, cols: u16) -> Result<Vec<Cell>, AllocError>
-    requires few { (rows ≤ 100) × (cols ≤ 250) }
-    ensures cells { IfOk result (λ cells. cells.items ≡ sized rows cols base.now) }
+pub fn sized<B: Seen>(
+    alloc: Global,
+    base: &B,
+    rows: u16,
+    cols: u16,
+) -> Result<Vec<Cell>, AllocError>
+    requires few { (rows ≤ 200) × (cols ≤ 500) }
+    ensures cells { IfOk result (λ cells. cells.items ≡ sized rows cols (B.screen base.now)) }
 {
     base.facts();
-    if base.rows() == rows && base.cols() == cols {
-        return Vec::from_slice(alloc, base.cells());
-    }
     let mut cells = Vec::with_capacity(alloc, rows as usize * cols as usize)?;
+    if base.rows() == rows && base.cols() == cols {
+        add_all(&mut cells, base)?;
+        return Ok(cells);
+    }
     for row in 0..rows {
         add_row(&mut cells, base, cols, row)?;
     }
     Ok(cells)
 }
 
+// Adds the cells of a screen, row by row.
+fn add_all<B: Seen>(cells: &mut Vec<Cell>, base: &B) -> Result<(), AllocError>
+    ensures cells { OnOk result (cells.new.items ≡ cells.old.items ++ (B.screen base.now).cells) }
+{
+    base.facts();
+    for row in 0..base.rows() {
+        cells.extend_from_slice(base.row(row))?;
+    }
+    Ok(())
+}
+
 #[tactic(auto, using(crate::proofs::Sizing::row_more, crate::proofs::Sizing::row_none))]
-fn add_row(cells: &mut Vec<Cell>, base: &Shot, cols: u16, row: u16) -> Result<(), AllocError>
-    requires few { (row < 100) × (cols ≤ 250) }
-    ensures row { OnOk result (cells.new.items ≡ cells.old.items ++ map (sized_at cols base.now row) (range_with_len 0 cols)) }
+fn add_row<B: Seen>(cells: &mut Vec<Cell>, base: &B, cols: u16, row: u16) -> Result<(), AllocError>
+    requires few { (row < 200) × (cols ≤ 500) }
+    ensures row { OnOk result (cells.new.items ≡ cells.old.items
+        ++ map (sized_at cols (B.screen base.now) row) (range_with_len 0 cols)) }
 {
     for col in 0..cols {
         cells.push(sized_at(base, cols, row, col))?;
@@ -37,14 +56,14 @@ fn add_row(cells: &mut Vec<Cell>, base: &Shot, cols: u16, row: u16) -> Result<()
     Ok(())
 }
 
-fn sized_at(base: &Shot, cols: u16, row: u16, col: u16) -> Cell
-    requires few { (row < 100) × (col < 250) }
-    ensures cell { result ≡ sized_at cols base.now row col }
+fn sized_at<B: Seen>(base: &B, cols: u16, row: u16, col: u16) -> Cell
+    requires few { (row < 200) × (col < 500) }
+    ensures cell { result ≡ sized_at cols (B.screen base.now) row col }
 {
     if base.rows() <= row || base.cols() <= col {
         return Cell::blank();
     }
-    let cell = cell_of(base, row as usize, col as usize);
+    let cell = cell_of(base, row, col);
     if col + 1 == cols && cell.is_wide() {
         cell.space_in()
     } else {
@@ -52,11 +71,10 @@ fn sized_at(base: &Shot, cols: u16, row: u16, col: u16) -> Cell
     }
 }
 
-fn cell_of(base: &Shot, row: usize, col: usize) -> Cell
-    requires there { (row < base.now.rows) × (col < base.now.cols) }
-    ensures cell { result ≡ cell_at base.now.cols base.now.cells row col }
+#[tactic(auto, using(crate::proofs::Sizing::row_cell))]
+fn cell_of<B: Seen>(base: &B, row: u16, col: u16) -> Cell
+    requires there { (row < (B.screen base.now).rows) × (col < (B.screen base.now).cols) }
+    ensures cell { result ≡ cell_at (B.screen base.now).cols (B.screen base.now).cells row col }
 {
-    base.facts();
-    let cells = base.cells();
-    cells[row * base.cols() as usize + col]
+    base.row(row)[col as usize]
 }

@@ -3,6 +3,9 @@ use Rattle.std.proofs.Common.{◌≡◌, ℕ, zero, suc, ◌+◌, ◌*◌, ◌<�
 use Rattle.std.proofs.lemmas.List.{take-append-drop, take_min, drop_min}
 use Rattle.std.specs.declared.alloc.Global.{Global}
 use Rattle.roam_wire.specs.Cutting.{cut_within, pieces_of, joined, AreSendable, texts_of}
+use Rattle.roam_wire.specs.Versions.{most_bytes, most_pieces}
+use Rattle.roam_wire.specs.declared.versions.Version.{Version}
+use Rattle.roam_wire.specs.declared.versions.Version.TheVariants.{One, Two}
 
 -- a number at least the text's length is as good as another
 enough : (size n m : ℕ) (text : List ℕ) → 0 < size → length text ≤ n → length text ≤ m → cut_within size n text ≡ cut_within size m text
@@ -79,13 +82,18 @@ sized size (suc n) (x ∷ xs) some le (suc i) lt =
     let is = sized size n (drop size (x ∷ xs)) some (omega (arith, rest)) i (omega (arith, lt)) in
     record { low = is.low; high = is.high; whole = λ more. is.whole (omega (arith, more)) }
 
-pub sendable : (text : List ℕ) → length text ≤ 1228800 → AreSendable (pieces_of text)
+-- the pieces of a text that isn't too long for a version are as datagrams of the version may carry them
+pub sendable_in : (v : Version) (text : List ℕ) → length text ≤ most_bytes v → AreSendable v (pieces_of text)
 unfolding pieces_of
-sendable text le =
+sendable_in v text le =
     record {
-      few = few (length text) 1024 text (omega arith);
+      few = go v le;
       lengths = λ i lt. let is = sized 1200 (length text) text (omega arith) (omega arith) i lt in record { low = is.low; high = is.high; whole = is.whole };
     }
+  where
+    go : (v : Version) → length text ≤ most_bytes v → length (cut_within 1200 (length text) text) ≤ most_pieces v
+    go One le = few (length text) 1024 text (omega arith)
+    go Two le = few (length text) 4096 text (omega arith)
 
 -- ---- a loop over a text
 

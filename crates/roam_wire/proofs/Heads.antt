@@ -1,18 +1,22 @@
 -- Datagrams: what is read has this text, what has this text is read, and two datagrams with one text are one.
-use Rattle.std.proofs.Common.{◌≡◌, ℕ, ◌+◌, ◌^◌, ◌<◌, ◌≤◌, Bool, true, false, not, ◌||◌, cond, eqb, ltb, List, ◌∷◌, ◌++◌, length, get_or, drop, Option, Some, None, Result, Ok, Err, refl, sym, ap, ◌∙◌, arith, lit<}
+use Rattle.std.proofs.Common.{◌≡◌, ℕ, ◌+◌, ◌^◌, ◌<◌, ◌≤◌, Bool, true, false, not, ◌||◌, cond, eqb, ltb, List, ◌∷◌, ◌++◌, length, get_or, drop, Option, Some, None, Result, Ok, Err, refl, sym, ap, subst, ◌∙◌, arith, lit<}
+use Rattle.std.specs.Prelude.{is_ok, IsOk}
 use Rattle.std.proofs.lemmas.Bool.{le-ltb, or_parts, not-false, eqb-true, eqb-false, ltb-false}
 use Rattle.std.proofs.lemmas.Bool.Decides.{nat_tests}
 use Rattle.std.proofs.lemmas.List.{length-append}
 use Rattle.byteorder.specs.Endian.{big_bytes, big_number}
 use Rattle.byteorder.specs.Numbers.{big_number-reads_back, big_from-lt}
 use Rattle.roam_cells.specs.declared.faults.Reason.{Reason}
-use Rattle.roam_cells.specs.declared.faults.Reason.TheVariants.{Magic, Version, Length, Fragment}
+use Rattle.roam_cells.specs.declared.faults.Reason.TheVariants.{Magic, Length, Fragment}
 use Rattle.roam_acts.proofs.Fields.{IsBytes, IsBytes-drop}
 use Rattle.roam_wire.specs.declared.datagrams.Kind.{Kind}
-use Rattle.roam_wire.specs.declared.datagrams.Kind.TheVariants.{ToClient, ToServer}
+use Rattle.roam_wire.specs.declared.datagrams.Kind.TheVariants.{ToClient, ToServer, FromWatcher}
 use Rattle.roam_wire.specs.declared.headers.Header.{Header}
+use Rattle.roam_wire.specs.declared.versions.Version.{Version}
+use Rattle.roam_wire.specs.declared.versions.Version.TheVariants.{One, Two}
+use Rattle.roam_wire.specs.Versions.{most_pieces, number_of_version, version_numbered}
 use Rattle.roam_wire.specs.Datagrams.{DatagramValue, IsDatagram, datagram_text, header_of, header_text, tag_of}
-use Rattle.roam_wire.specs.Headers.{header_at, kind_tagged, is_bad_length, is_bad_fragment, piece_fault, kind_unless, checked, datagram_with, datagram_if, datagram_at}
+use Rattle.roam_wire.specs.Headers.{header_at, watcher_in, kind_tagged, is_bad_length, is_bad_fragment, piece_fault, kind_unless, version_unless, checked, datagram_with, datagram_if, datagram_at}
 use Rattle.roam_wire.proofs.Numbers.{number, byte, back_8, back_2}
 
 -- ---- the header's text
@@ -59,62 +63,104 @@ header_again h rest fits =
 -- ---- the tests on a header
 
 -- what is true of a header without a fault
-record Passes (h : Header) (rest : ℕ) (kind : Kind) : Type 0 where
+record Passes (h : Header) (rest : ℕ) (v : Version) (kind : Kind) : Type 0 where
   magic : h.magic ≡ 0x524D
-  version : h.version ≡ 1
+  version : number_of_version v ≡ h.version
   tag : tag_of kind ≡ h.kind
+  watches : kind ≡ FromWatcher → v ≡ Two
   len : h.len ≡ rest
   piece : (1 ≤ h.len) × (h.len ≤ 1200)
   number : (1 ≤ h.number) × (h.number < 2 ^ 62)
   id : (1 ≤ h.id) × (h.id < 2 ^ 62)
-  count : (1 ≤ h.count) × (h.count ≤ 1024)
+  count : (1 ≤ h.count) × (h.count ≤ most_pieces v)
   index : h.index < h.count
   whole : h.index + 1 < h.count → h.len ≡ 1200
 
-abbrev a_kind : Kind → Result Kind Reason
-a_kind kind = Ok kind
+abbrev Ends : Type 0
+Ends = Version × Kind
 
-err_or : (b : Bool) (r : Reason) (x : Result Kind Reason) (kind : Kind) → cond b (Err r) x ≡ a_kind kind → (b ≡ false) × (x ≡ a_kind kind)
-err_or true r x kind e = absurd cc
-err_or false r x kind e = (refl, e)
+abbrev both_ends : Version → Kind → Result Ends Reason
+both_ends v kind = Ok (v, kind)
+
+err_or : (b : Bool) (r : Reason) (x : Result Ends Reason) (v : Version) (kind : Kind) → cond b (Err r) x ≡ both_ends v kind → (b ≡ false) × (x ≡ both_ends v kind)
+err_or true r x v kind e = absurd cc
+err_or false r x v kind e = (refl, e)
 
 some_or : (b : Bool) (r : Reason) (x : Option Reason) → cond b (Some r) x ≡ None → (b ≡ false) × (x ≡ None)
 some_or true r x e = absurd cc
 some_or false r x e = (refl, e)
 
-unless : (fault : Option Reason) (o : Option Kind) (kind : Kind) → kind_unless fault o ≡ a_kind kind → (fault ≡ None) × (o ≡ Some kind)
-unless None None kind e = absurd cc
-unless (Some r) None kind e = absurd cc
-unless (Some r) (Some k) kind e = absurd cc
-unless None (Some k) kind e = (refl, cc)
+-- what is true of a version and a direction that were read
+record Reads (h : Header) (rest : ℕ) (v : Version) (kind : Kind) : Type 0 where
+  version : version_numbered h.version ≡ Some v
+  fault : piece_fault v h rest ≡ None
+  tag : kind_tagged v h.kind ≡ Some kind
 
-tagged : (tag : ℕ) (kind : Kind) → kind_tagged tag ≡ Some kind → tag_of kind ≡ tag
-tagged tag kind e = by (eqb tag 1) refl (eqb tag 2) refl e
+unless : (w : Version) (fault : Option Reason) (o : Option Kind) (v : Version) (kind : Kind) → kind_unless w fault o ≡ both_ends v kind → (fault ≡ None) × (o ≡ Some kind) × (w ≡ v)
+unless w None None v kind e = absurd cc
+unless w (Some r) None v kind e = absurd cc
+unless w (Some r) (Some k) v kind e = absurd cc
+unless w None (Some k) v kind e =
+    let same : (w, k) ≡ (v, kind) = cc in
+    (refl, ap (λ (p : Ends). Some (p.1)) same, ap (λ (p : Ends). p.0) same)
+
+reads : (h : Header) (rest : ℕ) (o : Option Version) (v : Version) (kind : Kind) → version_numbered h.version ≡ o → version_unless h rest o ≡ both_ends v kind → Reads h rest v kind
+reads h rest None v kind is e = absurd cc
+reads h rest (Some w) v kind is e =
+    let all = unless w (piece_fault w h rest) (kind_tagged w h.kind) v kind e in
+    subst (λ (x : Version). (version_numbered h.version ≡ Some x) → piece_fault x h rest ≡ None → kind_tagged x h.kind ≡ Some kind → Reads h rest v kind) (sym all.2)
+    (λ a b c. record { version = a; fault = b; tag = c }) is all.0 all.1
+
+numbered : (n : ℕ) (v : Version) → version_numbered n ≡ Some v → number_of_version v ≡ n
+numbered n v e = by (eqb n 1) refl (eqb n 2) refl e
   where
-    by : (a : Bool) → eqb tag 1 ≡ a → (b : Bool) → eqb tag 2 ≡ b → cond a (Some ToClient) (cond b (Some ToServer) None) ≡ Some kind → tag_of kind ≡ tag
-    by true is b at e = let same : ToClient ≡ kind = cc in ap tag_of (sym same) ∙ sym (eqb-true tag 1 is)
-    by false is true at e = let same : ToServer ≡ kind = cc in ap tag_of (sym same) ∙ sym (eqb-true tag 2 at)
+    by : (a : Bool) → eqb n 1 ≡ a → (b : Bool) → eqb n 2 ≡ b → cond a (Some One) (cond b (Some Two) None) ≡ Some v → number_of_version v ≡ n
+    by true is b at e = let same : One ≡ v = cc in ap number_of_version (sym same) ∙ sym (eqb-true n 1 is)
+    by false is true at e = let same : Two ≡ v = cc in ap number_of_version (sym same) ∙ sym (eqb-true n 2 at)
     by false is false at e = absurd cc
 
-tagged_again : (kind : Kind) → kind_tagged (tag_of kind) ≡ Some kind
-tagged_again ToClient = refl
-tagged_again ToServer = refl
+numbered_again : (v : Version) → version_numbered (number_of_version v) ≡ Some v
+numbered_again One = refl
+numbered_again Two = refl
 
-passes : (h : Header) (rest : ℕ) (kind : Kind) → checked h rest ≡ a_kind kind → Passes h rest kind
-passes h rest kind e =
-    let magic = err_or (not (eqb h.magic 0x524D)) Magic _ kind e in
-    let version = err_or (not (eqb h.version 1)) Version _ kind magic.1 in
-    let both = unless (piece_fault h rest) (kind_tagged h.kind) kind version.1 in
-    let length = some_or (is_bad_length h rest) Length _ both.0 in
-    let fragment = some_or (is_bad_fragment h) Fragment _ length.1 in
+-- the byte of a direction, which is a watcher's in version 2 alone
+abbrev IsTag : Version → ℕ → Kind → Type 0
+IsTag v tag kind = (tag_of kind ≡ tag) × (kind ≡ FromWatcher → v ≡ Two)
+
+tagged : (v : Version) (tag : ℕ) (kind : Kind) → kind_tagged v tag ≡ Some kind → IsTag v tag kind
+tagged v tag kind e = by (eqb tag 1) refl (eqb tag 2) refl (eqb tag 3) refl e
+  where
+    watcher : (v : Version) → eqb tag 3 ≡ true → watcher_in v ≡ Some kind → IsTag v tag kind
+    watcher One on e = absurd cc
+    watcher Two on e = let same : FromWatcher ≡ kind = cc in (ap tag_of (sym same) ∙ sym (eqb-true tag 3 on), λ is. refl)
+
+    by : (a : Bool) → eqb tag 1 ≡ a → (b : Bool) → eqb tag 2 ≡ b → (d : Bool) → eqb tag 3 ≡ d → cond a (Some ToClient) (cond b (Some ToServer) (cond d (watcher_in v) None)) ≡ Some kind → IsTag v tag kind
+    by true is b at d on e = let same : ToClient ≡ kind = cc in (ap tag_of (sym same) ∙ sym (eqb-true tag 1 is), λ other. absurd cc)
+    by false is true at d on e = let same : ToServer ≡ kind = cc in (ap tag_of (sym same) ∙ sym (eqb-true tag 2 at), λ other. absurd cc)
+    by false is false at true on e = watcher v on e
+    by false is false at false on e = absurd cc
+
+tagged_again : (v : Version) (kind : Kind) → (kind ≡ FromWatcher → v ≡ Two) → kind_tagged v (tag_of kind) ≡ Some kind
+tagged_again v ToClient is = refl
+tagged_again v ToServer is = refl
+tagged_again v FromWatcher is = ap watcher_in (is refl)
+
+passes : (h : Header) (rest : ℕ) (v : Version) (kind : Kind) → checked h rest ≡ both_ends v kind → Passes h rest v kind
+passes h rest v kind e =
+    let magic = err_or (not (eqb h.magic 0x524D)) Magic _ v kind e in
+    let both = reads h rest (version_numbered h.version) v kind refl magic.1 in
+    let length = some_or (is_bad_length h rest) Length _ both.fault in
+    let fragment = some_or (is_bad_fragment v h) Fragment _ length.1 in
     let parts = or_parts (eqb h.len 0 || ltb 1200 h.len) (not (eqb h.len rest)) length.0 in
     let within = or_parts (eqb h.len 0) (ltb 1200 h.len) parts.0 in
     let nonzero : h.len ≡ 0 → ⊥ = eqb-false h.len 0 within.0 in
     let high : h.len ≤ 1200 = ltb-false 1200 h.len within.1 in
+    let tag = tagged v h.kind kind both.tag in
     record {
       magic = eqb-true _ _ (not-false _ magic.0);
-      version = eqb-true _ _ (not-false _ version.0);
-      tag = tagged h.kind kind both.1;
+      version = numbered h.version v both.version;
+      tag = tag.0;
+      watches = tag.1;
       len = eqb-true h.len rest (not-false _ parts.1);
       piece = (omega arith, high);
       number = grind (arith, nat_tests, fragment.0);
@@ -124,26 +170,27 @@ passes h rest kind e =
       whole = grind (arith, nat_tests, fragment.0);
     }
 
-no_fault : (h : Header) (rest : ℕ) (kind : Kind) → Passes h rest kind → piece_fault h rest ≡ None
-no_fault h rest kind p = grind (arith, nat_tests)
+no_fault : (h : Header) (rest : ℕ) (v : Version) (kind : Kind) → Passes h rest v kind → piece_fault v h rest ≡ None
+no_fault h rest v kind p = grind (arith, nat_tests)
 
-pass_again : (h : Header) (rest : ℕ) (kind : Kind) → Passes h rest kind → checked h rest ≡ a_kind kind
-pass_again h rest kind p =
-    let is_kind : kind_tagged h.kind ≡ Some kind = ap kind_tagged (sym p.tag) ∙ tagged_again kind in
-    rw (p.magic, p.version, is_kind, no_fault h rest kind p) refl
+pass_again : (h : Header) (rest : ℕ) (v : Version) (kind : Kind) → Passes h rest v kind → checked h rest ≡ both_ends v kind
+pass_again h rest v kind p =
+    let is_version : version_numbered h.version ≡ Some v = ap version_numbered (sym p.version) ∙ numbered_again v in
+    let is_kind : kind_tagged v h.kind ≡ Some kind = ap (kind_tagged v) (sym p.tag) ∙ tagged_again v kind p.watches in
+    rw (p.magic, is_version, is_kind, no_fault h rest v kind p) refl
 
 -- ---- the grammar
 
 -- what is read has this text
-pub found : (bytes : List ℕ) (kind : Kind) → 42 ≤ length bytes → IsBytes bytes → checked (header_at bytes) (length (drop 42 bytes)) ≡ Ok kind
-    → IsDatagram (datagram_with (header_at bytes) (drop 42 bytes) kind) × (bytes ≡ datagram_text (datagram_with (header_at bytes) (drop 42 bytes) kind))
-found bytes kind long fits e =
+pub found : (bytes : List ℕ) (v : Version) (kind : Kind) → 42 ≤ length bytes → IsBytes bytes → checked (header_at bytes) (length (drop 42 bytes)) ≡ Ok (v, kind)
+    → IsDatagram (datagram_with (header_at bytes) (drop 42 bytes) v kind) × (bytes ≡ datagram_text (datagram_with (header_at bytes) (drop 42 bytes) v kind))
+found bytes v kind long fits e =
     let h = header_at bytes in
-    let p = passes h (length (drop 42 bytes)) kind e in
+    let p = passes h (length (drop 42 bytes)) v kind e in
     let len = p.len in
-    let same : h ≡ header_of (datagram_with h (drop 42 bytes) kind) = λ i. record h { magic = p.magic i; kind = sym p.tag i; len = p.len i } in (
+    let same : h ≡ header_of (datagram_with h (drop 42 bytes) v kind) = λ i. record h { magic = p.magic i; version = sym p.version i; kind = sym p.tag i; len = p.len i } in (
       record {
-        version = p.version;
+        kind = p.watches;
         session = big_from-lt 0 8 (drop 4 bytes) (IsBytes-drop 4 bytes fits);
         client = big_from-lt 0 8 (drop 12 bytes) (IsBytes-drop 12 bytes fits);
         number = p.number;
@@ -163,6 +210,7 @@ a_datagram d = Ok d
 pub again : (d : DatagramValue) → IsDatagram d → datagram_at (datagram_text d) ≡ a_datagram d
 again d is =
     let h = header_of d in
+    let most = at_most d.version in
     let bytes = datagram_text d in
     let fits : FitsHeader h = record {
       magic = lit< tt;
@@ -170,15 +218,16 @@ again d is =
       client = is.client;
       number = omega (arith, is.number.1);
       id = omega (arith, is.id.1);
-      index = omega (arith, is.index, is.count.1);
-      count = omega (arith, is.count.1);
+      index = omega (arith, is.index, is.count.1, most);
+      count = omega (arith, is.count.1, most);
       len = omega (arith, is.len.1);
     } in
     let there : header_at bytes ≡ h = header_again h d.payload fits in
-    let p : Passes h (length d.payload) d.kind = record {
+    let p : Passes h (length d.payload) d.version d.kind = record {
       magic = refl;
-      version = is.version;
+      version = refl;
       tag = refl;
+      watches = is.kind;
       len = refl;
       piece = is.len;
       number = is.number;
@@ -187,10 +236,14 @@ again d is =
       index = is.index;
       whole = is.whole;
     } in
-    let clean : checked (header_at bytes) (length d.payload) ≡ Ok d.kind =
-    ap (λ (x : Header). checked x (length d.payload)) there ∙ pass_again h (length d.payload) d.kind p in
+    let clean : checked (header_at bytes) (length d.payload) ≡ both_ends d.version d.kind =
+    ap (λ (x : Header). checked x (length d.payload)) there ∙ pass_again h (length d.payload) d.version d.kind p in
     let whole : ltb (length bytes) 42 ≡ false = le-ltb _ _ (omega (arith, length-append (header_text h) d.payload)) in
-    rw whole (ap (datagram_if (header_at bytes) d.payload) clean ∙ ap (λ (x : Header). a_datagram (datagram_with x d.payload d.kind)) there)
+    rw whole (ap (datagram_if (header_at bytes) d.payload) clean ∙ ap (λ (x : Header). a_datagram (datagram_with x d.payload d.version d.kind)) there)
+  where
+    at_most : (v : Version) → most_pieces v ≤ 4096
+    at_most One = omega arith
+    at_most Two = omega arith
 
 -- two datagrams with one text are one
 pub one_datagram : (d e : DatagramValue) → IsDatagram d → IsDatagram e → datagram_text d ≡ datagram_text e → d ≡ e
@@ -200,13 +253,17 @@ one_datagram d e is_d is_e same =
 
 -- ---- what a call has found
 
-long_at : (bytes : List ℕ) (r : Result Kind Reason) → 42 ≤ length bytes → checked (header_at bytes) (length (drop 42 bytes)) ≡ r
+long_at : (bytes : List ℕ) (r : Result Ends Reason) → 42 ≤ length bytes → checked (header_at bytes) (length (drop 42 bytes)) ≡ r
     → datagram_at bytes ≡ datagram_if (header_at bytes) (drop 42 bytes) r
 long_at bytes r long e =
     let whole : ltb (length bytes) 42 ≡ false = le-ltb _ _ long in
     rw whole (ap (datagram_if (header_at bytes) (drop 42 bytes)) e)
 
-abbrev a_reason : Reason → Result Kind Reason
+-- bytes without a fault are read
+pub is_read : (bytes : List ℕ) (v : Version) (kind : Kind) → 42 ≤ length bytes → checked (header_at bytes) (length (drop 42 bytes)) ≡ Ok (v, kind) → IsOk (datagram_at bytes)
+is_read bytes v kind long e = ap is_ok (long_at bytes (both_ends v kind) long e)
+
+abbrev a_reason : Reason → Result Ends Reason
 a_reason r = Err r
 
 -- bytes with a fault are the text of no datagram
@@ -217,8 +274,8 @@ refused bytes r long e d is text =
     absurd cc
 
 -- bytes without a fault are the text of one datagram alone
-pub read_as : (bytes : List ℕ) (kind : Kind) → 42 ≤ length bytes → checked (header_at bytes) (length (drop 42 bytes)) ≡ Ok kind
-    → (d : DatagramValue) → IsDatagram d → bytes ≡ datagram_text d → datagram_with (header_at bytes) (drop 42 bytes) kind ≡ d
-read_as bytes kind long e d is text =
-    let both : datagram_if (header_at bytes) (drop 42 bytes) (a_kind kind) ≡ a_datagram d = sym (long_at bytes (a_kind kind) long e) ∙ ap datagram_at text ∙ again d is in
+pub read_as : (bytes : List ℕ) (v : Version) (kind : Kind) → 42 ≤ length bytes → checked (header_at bytes) (length (drop 42 bytes)) ≡ Ok (v, kind)
+    → (d : DatagramValue) → IsDatagram d → bytes ≡ datagram_text d → datagram_with (header_at bytes) (drop 42 bytes) v kind ≡ d
+read_as bytes v kind long e d is text =
+    let both : datagram_if (header_at bytes) (drop 42 bytes) (both_ends v kind) ≡ a_datagram d = sym (long_at bytes (both_ends v kind) long e) ∙ ap datagram_at text ∙ again d is in
     cc

@@ -2,7 +2,9 @@
 use Rattle.std.proofs.Common.{◌≡◌, ℕ, suc, zero, List, [], ◌∷◌, ◌++◌, replicate, drop, take, Some, None, Ok, Err, refl}
 use Rattle.roam_acts.specs.declared.acts.Act.TheVariants.{Close, Next}
 use Rattle.roam_cells.specs.declared.faults.Reason.TheVariants.{Short, Magic, Version, Length}
-use Rattle.roam_wire.specs.declared.datagrams.Kind.TheVariants.{ToServer}
+use Rattle.roam_cells.specs.declared.faults.Reason.TheVariants as reason
+use Rattle.roam_wire.specs.declared.datagrams.Kind.TheVariants.{ToServer, FromWatcher}
+use Rattle.roam_wire.specs.declared.versions.Version.TheVariants.{One, Two}
 use Rattle.roam_wire.specs.Cutting.{cut_within}
 use Rattle.roam_wire.specs.Datagrams.{DatagramValue, datagram_text}
 use Rattle.roam_wire.specs.Gatherers.{Gathering, Old, Part, Piece, Whole, gather, nothing}
@@ -14,7 +16,7 @@ use Rattle.roam_wire.specs.Arrivals.{answer_to, gathered_of}
 abbrev first : DatagramValue
 first =
     record {
-      version = 1;
+      version = One;
       kind = ToServer;
       session = 1;
       client = 0xA1;
@@ -53,6 +55,16 @@ other_version = refl
 other_letters : datagram_at (0x53 ∷ drop 1 (head 3) ++ body) ≡ Err Magic
 other_letters = refl
 
+-- the first datagram of a start that only watches, which version 1 doesn't have
+abbrev watching : ℕ → List ℕ
+watching version = 0x52 ∷ 0x4D ∷ version ∷ 3 ∷ drop 4 (head version)
+
+watcher : datagram_at (watching 2 ++ body) ≡ Ok (record first { version = Two; kind = FromWatcher })
+watcher = refl
+
+no_watcher : datagram_at (watching 1 ++ body) ≡ Err reason.Kind
+no_watcher = refl
+
 down : down_text (record { old = 0; new = 5; floor = 0; acked = 258; change = 7 ∷ [] }) ≡ nulls 15 ++ 5 ∷ nulls 14 ++ 1 ∷ 2 ∷ 7 ∷ []
 down = refl
 
@@ -77,6 +89,13 @@ then_whole = refl
 
 again : gather half (piece 1 1 2 (3 ∷ [])) ≡ Some (Old, half)
 again = refl
+
+-- an old id is told before a bad index
+old_first : gather half (piece 0 7 2 (3 ∷ [])) ≡ Some (Old, half)
+old_first = refl
+
+bad_index : gather half (piece 2 7 2 (3 ∷ [])) ≡ None
+bad_index = refl
 
 other_count : gather half (piece 1 0 3 (1 ∷ [])) ≡ None
 other_count = refl

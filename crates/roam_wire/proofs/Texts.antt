@@ -1,5 +1,5 @@
 -- Instructions: bytes are the text of the numbers that stand in them.
-use Rattle.std.proofs.Common.{◌≡◌, ℕ, ◌≤◌, List, ◌++◌, length, drop, sym, ap, ◌∙◌, arith}
+use Rattle.std.proofs.Common.{◌≡◌, ℕ, ◌≤◌, List, [], ◌∷◌, ◌++◌, length, drop, refl, sym, ap, ◌∙◌, arith}
 use Rattle.std.proofs.lemmas.List.Elements.{recursion_from_All}
 use Rattle.byteorder.specs.Endian.{big_bytes, big_number}
 use Rattle.byteorder.specs.Numbers.{big_number-reads_back}
@@ -34,6 +34,10 @@ up_read bytes acts acked first long fits a f n t =
     ∙ (λ i. big_bytes 8 (sym a i) ++ (number 8 8 bytes back_8 (omega arith) fits
     ∙ (λ j. big_bytes 8 (sym f j) ++ (number 2 16 bytes back_2 (omega arith) fits
     ∙ (λ k. big_bytes 2 (sym n k) ++ t k)) j)) i)
+
+pub no_acts : (acts : List Act) → length acts ≡ 0 → acts ≡ []
+no_acts [] none = refl
+no_acts (a ∷ acts) none = absurd (omega (arith, none))
 
 -- two instructions to the server with one text are one
 pub one_up : (u v : UpValue) → IsUp u → IsUp v → up_text u ≡ up_text v → u ≡ v

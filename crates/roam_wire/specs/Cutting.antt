@@ -1,6 +1,8 @@
 -- Cutting: the pieces in which a text is sent (this project's profile).
 use Rattle.std.specs.Prelude.{◌≡◌, ℕ, zero, suc, ◌+◌, ◌<◌, ◌≤◌, List, [], ◌∷◌, ◌++◌, length, take, drop, map, get_or, Vec}
 use Rattle.std.specs.declared.alloc.Global.{Global}
+use Rattle.roam_wire.specs.declared.versions.Version.{Version}
+use Rattle.roam_wire.specs.Versions.{most_pieces}
 
 -- the pieces of a text, as long as told, and the rest; the second number is at least the text's length
 abbrev pub cut_within : ℕ → ℕ → List ℕ → List (List ℕ)
@@ -23,9 +25,9 @@ pub record HasLength (index count len : ℕ) : Type 0 where
   pub high : len ≤ 1200
   pub whole : index + 1 < count → len ≡ 1200
 
--- pieces as datagrams may carry them
-pub record AreSendable (pieces : List (List ℕ)) : Type 0 where
-  pub few : length pieces ≤ 1024
+-- pieces as datagrams of a version may carry them
+pub record AreSendable (v : Version) (pieces : List (List ℕ)) : Type 0 where
+  pub few : length pieces ≤ most_pieces v
   pub lengths : (i : ℕ) → i < length pieces → HasLength i (length pieces) (length (get_or pieces i []))
 
 -- what lists of bytes in memory hold

@@ -3,12 +3,15 @@ use Rattle.std.specs.Prelude.{◌≡◌, ℕ, ◌+◌, ◌^◌, ◌<◌, ◌≤�
 use Rattle.byteorder.specs.Endian.{big_bytes}
 use Rattle.roam_wire.specs.declared.datagrams.Datagram.{Datagram}
 use Rattle.roam_wire.specs.declared.datagrams.Kind.{Kind}
-use Rattle.roam_wire.specs.declared.datagrams.Kind.TheVariants.{ToClient, ToServer}
+use Rattle.roam_wire.specs.declared.datagrams.Kind.TheVariants.{ToClient, ToServer, FromWatcher}
 use Rattle.roam_wire.specs.declared.headers.Header.{Header}
+use Rattle.roam_wire.specs.declared.versions.Version.{Version}
+use Rattle.roam_wire.specs.declared.versions.Version.TheVariants.{Two}
+use Rattle.roam_wire.specs.Versions.{most_pieces, number_of_version}
 
 -- what a datagram says, wherever its payload lies in memory
 pub record DatagramValue : Type 0 where
-  pub version : ℕ
+  pub version : Version
   pub kind : Kind
   pub session : ℕ
   pub client : ℕ
@@ -36,13 +39,14 @@ datagram_value d =
 abbrev pub tag_of : Kind → ℕ
 tag_of ToClient = 1
 tag_of ToServer = 2
+tag_of FromWatcher = 3
 
 -- the header of a datagram: the letters RM, and the payload's length
 abbrev pub header_of : DatagramValue → Header
 header_of d =
     record {
       magic = 0x524D;
-      version = d.version;
+      version = number_of_version d.version;
       kind = tag_of d.kind;
       session = d.session;
       client = d.client;
@@ -63,14 +67,15 @@ header_text h =
 abbrev pub datagram_text : DatagramValue → List ℕ
 datagram_text d = header_text (header_of d) ++ d.payload
 
--- what has a text: version 1, numbers from 1 and below 2^62, at most 1,024 pieces of 1,200 bytes but for the last, none of them empty
+-- what has a text: a watcher's in version 2 alone, numbers from 1 and below 2^62, no more pieces than its version allows, each of 1,200
+-- bytes but for the last, none of them empty
 pub record IsDatagram (d : DatagramValue) : Type 0 where
-  pub version : d.version ≡ 1
+  pub kind : d.kind ≡ FromWatcher → d.version ≡ Two
   pub session : d.session < 2 ^ 64
   pub client : d.client < 2 ^ 64
   pub number : (1 ≤ d.number) × (d.number < 2 ^ 62)
   pub id : (1 ≤ d.id) × (d.id < 2 ^ 62)
-  pub count : (1 ≤ d.count) × (d.count ≤ 1024)
+  pub count : (1 ≤ d.count) × (d.count ≤ most_pieces d.version)
   pub index : d.index < d.count
   pub len : (1 ≤ length d.payload) × (length d.payload ≤ 1200)
   pub whole : d.index + 1 < d.count → length d.payload ≡ 1200

@@ -53,13 +53,13 @@ with_piece ps p =
     let pieces = slice_set ps p.index (Some p.payload) in
     (answer_in pieces, record { id = p.id; pieces = pieces })
 
--- what is said to a piece, and what is gathered then; none where it is no piece of what is gathered: an index that isn't below its
--- count, or another count under the current id. An id below the current one is old, and so are the current one where it is whole and
--- a piece that is there; a higher id begins anew.
+-- what is said to a piece, and what is gathered then; none where it is no piece of what is gathered. In this order: an id below the
+-- current one is old, and so is the current one where it is whole; an index that isn't below its count is none; a higher id begins anew;
+-- another count under the current id is none; a piece that is there is old.
 abbrev pub gather : Gathering → Piece → Option (Answer × Gathering)
 gather g p =
-    if nat_le p.count p.index then None
-    else if nat_lt p.id g.id || (p.id == g.id && all_there g.pieces) then Some (Old, g)
+    if nat_lt p.id g.id || (p.id == g.id && all_there g.pieces) then Some (Old, g)
+    else if nat_le p.count p.index then None
     else if nat_lt g.id p.id then Some (with_piece (replicate p.count None) p)
     else if not (length g.pieces == p.count) then None
     else if is_some (get_or g.pieces p.index None) then Some (Old, g)

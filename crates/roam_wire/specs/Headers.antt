@@ -1,14 +1,17 @@
 -- What bytes say as a datagram, or their first fault (this project's profile).
-use Rattle.std.specs.Prelude.{ℕ, ◌+◌, ◌^◌, Bool, not, ◌||◌, ◌&&◌, List, length, drop, slice_index, Option, Some, None, Result, Ok, Err, nat_lt, nat_le, ◌==◌, if◌then◌else◌, ◌≡◌}
+use Rattle.std.specs.Prelude.{ℕ, ◌+◌, ◌^◌, Bool, not, ◌||◌, ◌&&◌, List, length, drop, slice_index, Option, Some, None, Result, Ok, Err, IsOk, nat_lt, nat_le, ◌==◌, if◌then◌else◌, ◌≡◌}
 use Rattle.byteorder.specs.Endian.{big_number}
 use Rattle.roam_cells.specs.declared.faults.Fault.{Fault}
 use Rattle.roam_cells.specs.declared.faults.Fault.TheVariants.{OutOfMemory, BadDatagram}
 use Rattle.roam_cells.specs.declared.faults.Reason.{Reason}
-use Rattle.roam_cells.specs.declared.faults.Reason.TheVariants.{Short, Magic, Version, Length, Fragment}
+use Rattle.roam_cells.specs.declared.faults.Reason.TheVariants.{Short, Magic, Length, Fragment}
 use Rattle.roam_cells.specs.declared.faults.Reason.TheVariants as reason
 use Rattle.roam_wire.specs.declared.datagrams.Kind.{Kind}
-use Rattle.roam_wire.specs.declared.datagrams.Kind.TheVariants.{ToClient, ToServer}
+use Rattle.roam_wire.specs.declared.datagrams.Kind.TheVariants.{ToClient, ToServer, FromWatcher}
 use Rattle.roam_wire.specs.declared.headers.Header.{Header}
+use Rattle.roam_wire.specs.declared.versions.Version.{Version}
+use Rattle.roam_wire.specs.declared.versions.Version.TheVariants.{One, Two}
+use Rattle.roam_wire.specs.Versions.{most_pieces, version_numbered}
 use Rattle.roam_wire.specs.Datagrams.{DatagramValue}
 
 -- the numbers at their places
@@ -27,49 +30,54 @@ header_at bytes =
       len = big_number 2 (drop 40 bytes);
     }
 
--- the one version
-abbrev pub is_version : ℕ → Bool
-is_version version = version == 1
+-- a watcher's, which version 2 alone has
+abbrev pub watcher_in : Version → Option Kind
+watcher_in One = None
+watcher_in Two = Some FromWatcher
 
--- the direction that a byte stands for
-abbrev pub kind_tagged : ℕ → Option Kind
-kind_tagged tag = if tag == 1 then Some ToClient else if tag == 2 then Some ToServer else None
+-- the direction that a byte stands for in a version
+abbrev pub kind_tagged : Version → ℕ → Option Kind
+kind_tagged v tag = if tag == 1 then Some ToClient else if tag == 2 then Some ToServer else if tag == 3 then watcher_in v else None
 
 -- a length of 0, above 1,200, or not that of what follows
 abbrev pub is_bad_length : Header → ℕ → Bool
 is_bad_length h rest = h.len == 0 || nat_lt 1200 h.len || not (h.len == rest)
 
 -- no count, too great a count, an index beyond it, a short piece before the last, a number or an id of 0 or from 2^62 on
-abbrev pub is_bad_fragment : Header → Bool
-is_bad_fragment h =
-    h.count == 0 || nat_lt 1024 h.count || nat_le h.count h.index || (nat_lt (h.index + 1) h.count && not (h.len == 1200))
+abbrev pub is_bad_fragment : Version → Header → Bool
+is_bad_fragment v h =
+    h.count == 0 || nat_lt (most_pieces v) h.count || nat_le h.count h.index || (nat_lt (h.index + 1) h.count && not (h.len == 1200))
     || h.number == 0 || nat_le (2 ^ 62) h.number || h.id == 0 || nat_le (2 ^ 62) h.id
 
 -- the first fault after the direction
-abbrev pub piece_fault : Header → ℕ → Option Reason
-piece_fault h rest =
+abbrev pub piece_fault : Version → Header → ℕ → Option Reason
+piece_fault v h rest =
     if is_bad_length h rest then Some Length
-    else if is_bad_fragment h then Some Fragment
+    else if is_bad_fragment v h then Some Fragment
     else None
 
--- a direction, unless there is none or a later fault
-abbrev pub kind_unless : Option Reason → Option Kind → Result Kind Reason
-kind_unless fault None = Err reason.Kind
-kind_unless None (Some kind) = Ok kind
-kind_unless (Some fault) (Some kind) = Err fault
+-- a version and a direction, unless there is no direction or a later fault
+abbrev pub kind_unless : Version → Option Reason → Option Kind → Result (Version × Kind) Reason
+kind_unless v fault None = Err reason.Kind
+kind_unless v None (Some kind) = Ok (v, kind)
+kind_unless v (Some fault) (Some kind) = Err fault
 
--- the direction that a header tells before so many bytes, or the first fault
-abbrev pub checked : Header → ℕ → Result Kind Reason
+-- the same, unless there is no version
+abbrev pub version_unless : Header → ℕ → Option Version → Result (Version × Kind) Reason
+version_unless h rest None = Err reason.Version
+version_unless h rest (Some v) = kind_unless v (piece_fault v h rest) (kind_tagged v h.kind)
+
+-- the version and the direction that a header tells before so many bytes, or the first fault
+abbrev pub checked : Header → ℕ → Result (Version × Kind) Reason
 checked h rest =
     if not (h.magic == 0x524D) then Err Magic
-    else if not (is_version h.version) then Err Version
-    else kind_unless (piece_fault h rest) (kind_tagged h.kind)
+    else version_unless h rest (version_numbered h.version)
 
 -- a datagram with this header
-abbrev pub datagram_with : Header → List ℕ → Kind → DatagramValue
-datagram_with h payload kind =
+abbrev pub datagram_with : Header → List ℕ → Version → Kind → DatagramValue
+datagram_with h payload version kind =
     record {
-      version = h.version;
+      version = version;
       kind = kind;
       session = h.session;
       client = h.client;
@@ -81,8 +89,8 @@ datagram_with h payload kind =
     }
 
 -- what a checked header and a payload say
-abbrev pub datagram_if : Header → List ℕ → Result Kind Reason → Result DatagramValue Reason
-datagram_if h payload (Ok kind) = Ok (datagram_with h payload kind)
+abbrev pub datagram_if : Header → List ℕ → Result (Version × Kind) Reason → Result DatagramValue Reason
+datagram_if h payload (Ok p) = Ok (datagram_with h payload p.0 p.1)
 datagram_if h payload (Err fault) = Err fault
 
 -- what bytes say, or the first fault: too few of them, then the letters, the version, the direction, the length, the piece
@@ -91,9 +99,9 @@ datagram_at bytes =
     if nat_lt (length bytes) 42 then Err Short
     else datagram_if (header_at bytes) (drop 42 bytes) (checked (header_at bytes) (length (drop 42 bytes)))
 
--- a refusal is for want of memory, or tells that reason
+-- a refusal is for want of memory, where a value was read, or tells that reason
 abbrev pub Refuses : {V : Type 0} → Result V Reason → Fault → Type 0
-Refuses read OutOfMemory = Unit {0}
+Refuses read OutOfMemory = IsOk read
 Refuses read (BadDatagram r) = read ≡ Err r
 Refuses read _ = ⊥
 

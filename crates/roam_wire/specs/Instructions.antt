@@ -1,7 +1,7 @@
 -- Instructions: the one text of each (this project's profile). Numbers are big-endian.
-use Rattle.std.specs.Prelude.{ℕ, ◌^◌, ◌<◌, ◌≤◌, List, ◌++◌, length, nat_lt, if◌then◌else◌}
+use Rattle.std.specs.Prelude.{◌≡◌, ℕ, ◌^◌, ◌<◌, ◌≤◌, Bool, true, false, List, [], ◌++◌, length, drop, nat_lt, if◌then◌else◌}
 use Rattle.std.specs.List.{All}
-use Rattle.byteorder.specs.Endian.{big_bytes}
+use Rattle.byteorder.specs.Endian.{big_bytes, big_number}
 use Rattle.roam_acts.specs.declared.acts.Act.{Act}
 use Rattle.roam_acts.specs.Acts.{IsAct}
 use Rattle.roam_acts.specs.Bytes.{acts_text}
@@ -32,6 +32,10 @@ pub record IsDown (d : DownValue) : Type 0 where
   pub new : d.new < 2 ^ 62
   pub acked : d.acked < 2 ^ 62
 
+-- bytes are the text of one
+abbrev pub IsDownText : List ℕ → Type 0
+IsDownText bytes = (d : DownValue) × IsDown d × (bytes ≡ down_text d)
+
 -- what an instruction to the server says
 pub record UpValue : Type 0 where
   pub acked : ℕ
@@ -51,6 +55,19 @@ pub record IsUp (u : UpValue) : Type 0 where
   pub first : (1 ≤ u.first) × (u.first < 2 ^ 62)
   pub count : length u.acts ≤ 64
   pub acts : All IsAct u.acts
+
+-- what has a text that comes from a start that only watches, which has no acts, or from another one
+pub record IsUpOf (watches : Bool) (u : UpValue) : Type 0 where
+  pub is : IsUp u
+  pub none : watches ≡ true → u.acts ≡ []
+
+-- the numbers before the acts are within their limits, and acts are to follow
+pub record HasActs (watches : Bool) (bytes : List ℕ) : Type 0 where
+  pub long : 18 ≤ length bytes
+  pub acked : big_number 8 bytes < 2 ^ 62
+  pub first : (1 ≤ big_number 8 (drop 8 bytes)) × (big_number 8 (drop 8 bytes) < 2 ^ 62)
+  pub count : (1 ≤ big_number 2 (drop 16 bytes)) × (big_number 2 (drop 16 bytes) ≤ 64)
+  pub typed : watches ≡ false
 
 -- the reason for which bytes are no instruction that has so many before its change or its acts
 abbrev pub reason_for : ℕ → List ℕ → Reason

@@ -1,3 +1,4 @@
+pub mod Versions
 pub mod Datagrams
 pub mod Headers
 pub mod Instructions

@@ -4,14 +4,12 @@ ghost use Rattle.roam_wire.specs.Datagrams.{DatagramValue, datagram_value, datag
 ghost use Rattle.roam_wire.specs.Headers.{datagram_at, Gives, kind_tagged};
 
 use crate::headers::{HEADER, Header, MAGIC};
+use crate::versions::Version;
 use byteorder::{BigEndian, ByteOrder};
 use roam_cells::{Fault, Reason};
 use std::alloc::Global;
 
-/// The version of the format that this crate writes, the only one that it reads.
-pub const VERSION: u8 = 1;
-
-/// Where a datagram goes.
+/// Where a datagram goes, and whether it comes from a start that only watches.
 #[derive(Clone, Copy, Debug, PartialEq, Eq)]
 pub enum Kind {
     /// From the server to a client.
@@ -19,6 +17,9 @@ pub enum Kind {
 
     /// From a client to the server.
     ToServer,
+
+    /// From a client that only watches to the server, in version 2 alone.
+    FromWatcher,
 }
 
 impl Kind {
@@ -29,16 +30,18 @@ impl Kind {
         match self {
             Kind::ToClient => 1,
             Kind::ToServer => 2,
+            Kind::FromWatcher => 3,
         }
     }
 
-    // The direction that a byte stands for.
-    pub(crate) fn tagged(tag: u8) -> Option<Kind>
-        ensures kind { result ≡ kind_tagged tag }
+    // The direction that a byte stands for in a version.
+    pub(crate) fn tagged(version: Version, tag: u8) -> Option<Kind>
+        ensures kind { result ≡ kind_tagged version tag }
     {
-        match tag {
-            1 => Some(Kind::ToClient),
-            2 => Some(Kind::ToServer),
+        match (version, tag) {
+            (_, 1) => Some(Kind::ToClient),
+            (_, 2) => Some(Kind::ToServer),
+            (Version::Two, 3) => Some(Kind::FromWatcher),
             _ => None,
         }
     }
@@ -47,8 +50,8 @@ impl Kind {
 /// One piece of an instruction, and whom it is for.
 #[derive(Debug, Drop)]
 pub struct Datagram {
-    /// The version of the format, [`VERSION`].
-    pub version: u8,
+    /// The version of the format.
+    pub version: Version,
 
     /// Where it goes.
     pub kind: Kind,
@@ -68,7 +71,7 @@ pub struct Datagram {
     /// The piece's place among the pieces of the instruction, from 0.
     pub index: u16,
 
-    /// How many pieces the instruction has, 1 to 1,024.
+    /// How many pieces the instruction has, 1 to 1,024, in version 2 to 4,096.
     pub count: u16,
 
     /// The piece, 1 to 1,200 bytes; each piece before the last has 1,200.
@@ -93,8 +96,8 @@ pub fn read_datagram(alloc: Global, bytes: &[u8]) -> Result<Datagram, Fault>
     let (_, payload) = bytes.split_at(HEADER);
     match header.check(payload.len()) {
         Err(reason) => Err(Fault::BadDatagram(reason)),
-        Ok(kind) => Ok(Datagram {
-            version: header.version,
+        Ok((version, kind)) => Ok(Datagram {
+            version,
             kind,
             session: header.session,
             client: header.client,
@@ -115,7 +118,7 @@ pub fn write_datagram(alloc: Global, datagram: &Datagram) -> Result<Vec<u8>, Fau
 {
     let mut head = [0u8; HEADER];
     BigEndian::write_u16(&mut head, MAGIC);
-    head[2] = datagram.version;
+    head[2] = datagram.version.number();
     head[3] = datagram.kind.tag();
     BigEndian::write_u64(&mut head[4..], datagram.session);
     BigEndian::write_u64(&mut head[12..], datagram.client);

@@ -102,7 +102,7 @@ fn begun(
 }
 
 impl Gatherer {
-    ghost use Rattle.std.specs.Prelude.{◌≡◌, ◌⊎◌, Some, None, IfOk, IfErr, OnOk, OnErr, IsErrOf};
+    ghost use Rattle.std.specs.Prelude.{◌≡◌, ◌⊎◌, ◌↔◌, Some, None, IfOk, IfErr, OnOk, OnErr, IsErrOf};
     ghost use Rattle.roam_cells.specs.declared.faults.Reason.TheVariants.{Fragment};
     ghost use Rattle.roam_wire.specs.Datagrams.{datagram_value};
     ghost use Rattle.roam_wire.specs.Gatherers.{gather, answer_of, nothing, piece_of, untaken};
@@ -118,26 +118,26 @@ impl Gatherer {
         }
     }
 
-    /// Takes the piece that a datagram carries: `Old` for an id below the current one, for a current one that is whole and for a piece
-    /// that is there; a higher id begins anew. `BadDatagram(Fragment)` for another count under the current id, and for an index that
-    /// isn't below its count; `OutOfMemory`. A refusal leaves the gatherer as it was.
+    /// Takes the piece that a datagram carries. In this order: `Old` for an id below the current one and for a current one that is whole;
+    /// `BadDatagram(Fragment)` for an index that isn't below its count; a higher id begins anew; `BadDatagram(Fragment)` for another count
+    /// under the current id; `Old` for a piece that is there. `OutOfMemory` comes after these. A refusal leaves the gatherer as it was.
     pub fn take(&mut self, alloc: Global, datagram: &Datagram) -> Result<Gathered, Fault>
         ensures answer { IfOk result (λ a. gather self.old.current (piece_of (datagram_value datagram.now))
             ≡ Some (answer_of a, self.new.current)) }
         // What `untake` gives back.
         ensures before { OnOk result (self.new.before ≡ Some self.old.current) }
         ensures bad { IsErrOf result (Fault.BadDatagram Fragment)
-            → gather self.old.current (piece_of (datagram_value datagram.now)) ≡ None }
+            ↔ (gather self.old.current (piece_of (datagram_value datagram.now)) ≡ None) }
         ensures err { OnErr result (self.new ≡ self.old) }
         ensures fault { IfErr result (λ e. (e ≡ Fault.OutOfMemory) ⊎ (e ≡ Fault.BadDatagram Fragment)) }
     {
-        if datagram.index >= datagram.count {
-            return Err(Fault::BadDatagram(Reason::Fragment));
-        }
         let whole = self.pieces.is_whole();
         if datagram.id < self.id || (datagram.id == self.id && whole) {
             self.undo = Undo::Same;
             return Ok(Gathered::Old);
+        }
+        if datagram.index >= datagram.count {
+            return Err(Fault::BadDatagram(Reason::Fragment));
         }
         let index = datagram.index as usize;
         let count = datagram.count as usize;

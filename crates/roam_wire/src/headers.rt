@@ -2,9 +2,10 @@
 ghost use Rattle.std.specs.Prelude.{◌≡◌, ◌≤◌, length};
 ghost use Rattle.roam_wire.specs.Headers.{header_at, is_bad_length, is_bad_fragment, piece_fault, checked};
 
-use crate::cutting::{PIECE, PIECES};
-use crate::datagrams::{Kind, VERSION};
+use crate::cutting::PIECE;
+use crate::datagrams::Kind;
 use crate::instructions::NUMBERS;
+use crate::versions::Version;
 use byteorder::{BigEndian, ByteOrder};
 use roam_cells::Reason;
 
@@ -56,10 +57,13 @@ impl Header {
         len == 0 || len > PIECE || len != rest
     }
 
-    fn has_bad_fragment(&self) -> bool
-        ensures test { result ≡ is_bad_fragment self.now }
+    fn has_bad_fragment(&self, version: Version) -> bool
+        ensures test { result ≡ is_bad_fragment version self.now }
     {
-        if self.count == 0 || self.count as usize > PIECES || self.index >= self.count {
+        if self.count == 0
+            || self.count as usize > version.most_pieces()
+            || self.index >= self.count
+        {
             return true;
         }
         if self.index + 1 < self.count && self.len as usize != PIECE {
@@ -69,34 +73,34 @@ impl Header {
     }
 
     // The first fault after the direction, before this many bytes.
-    fn piece_fault(&self, rest: usize) -> Option<Reason>
-        ensures fault { result ≡ piece_fault self.now rest }
+    fn piece_fault(&self, version: Version, rest: usize) -> Option<Reason>
+        ensures fault { result ≡ piece_fault version self.now rest }
     {
         if self.has_bad_length(rest) {
             Some(Reason::Length)
-        } else if self.has_bad_fragment() {
+        } else if self.has_bad_fragment(version) {
             Some(Reason::Fragment)
         } else {
             None
         }
     }
 
-    // The direction that the header tells before this many bytes, or the first fault.
-    pub(crate) fn check(&self, rest: usize) -> Result<Kind, Reason>
+    // The version and the direction that the header tells before this many bytes, or the first fault.
+    pub(crate) fn check(&self, rest: usize) -> Result<(Version, Kind), Reason>
         ensures checked { result ≡ checked self.now rest }
     {
         if self.magic != MAGIC {
             return Err(Reason::Magic);
         }
-        if self.version != VERSION {
+        let Some(version) = Version::numbered(self.version) else {
             return Err(Reason::Version);
-        }
-        let Some(kind) = Kind::tagged(self.kind) else {
+        };
+        let Some(kind) = Kind::tagged(version, self.kind) else {
             return Err(Reason::Kind);
         };
-        match self.piece_fault(rest) {
+        match self.piece_fault(version, rest) {
             Some(fault) => Err(fault),
-            None => Ok(kind),
+            None => Ok((version, kind)),
         }
     }
 }

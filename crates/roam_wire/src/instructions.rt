@@ -1,8 +1,8 @@
 //! Instructions in both directions: a change of the screen for a client, acts for the server.
-ghost use Rattle.std.specs.Prelude.{◌≡◌, ◌++◌, ◌⊎◌, IfOk, IfErr, IsOkUnless, MatchResult};
+ghost use Rattle.std.specs.Prelude.{◌≡◌, ◌++◌, ◌⊎◌, IfOk, IfErr, IsErrOf, IsOkUnless, MatchResult};
 ghost use Rattle.std.specs.List.{All};
 ghost use Rattle.roam_acts.specs.Acts.{IsInRange};
-ghost use Rattle.roam_wire.specs.Instructions.{DownValue, down_value, down_text, IsDown, UpValue, up_value, up_text, IsUp, reason_for};
+ghost use Rattle.roam_wire.specs.Instructions.{DownValue, down_value, down_text, IsDown, IsDownText, UpValue, up_value, up_text, IsUp, IsUpOf, HasActs, reason_for};
 
 use byteorder::{BigEndian, ByteOrder};
 use roam_acts::{Act, read_acts, write_acts};
@@ -54,7 +54,7 @@ pub struct Up {
 }
 
 /// The instruction to a client that the bytes spell. `BadDatagram(Short)` for fewer than 32 bytes, `BadDatagram(Length)` for others
-/// that spell none; `OutOfMemory`.
+/// that spell none; `OutOfMemory` only for bytes that spell one.
 pub fn read_down(alloc: Global, bytes: &[u8]) -> Result<Down, Fault>
     // What is read has this text.
     ensures found { IfOk result (λ d. IsDown (down_value d) × (bytes.now ≡ down_text (down_value d))) }
@@ -62,6 +62,7 @@ pub fn read_down(alloc: Global, bytes: &[u8]) -> Result<Down, Fault>
     ensures only { (d : DownValue) → IsDown d → bytes.now ≡ down_text d
         → MatchResult result (λ read. down_value read ≡ d) (λ e. e ≡ Fault.OutOfMemory) }
     ensures fault { IfErr result (λ e. (e ≡ Fault.OutOfMemory) ⊎ (e ≡ Fault.BadDatagram (reason_for 32 bytes.now))) }
+    ensures memory { IsErrOf result Fault.OutOfMemory → IsDownText bytes.now }
 {
     if bytes.len() < DOWN {
         return Err(Fault::BadDatagram(Reason::Short));
@@ -100,15 +101,16 @@ pub fn write_down(alloc: Global, down: &Down) -> Result<Vec<u8>, Fault>
 }
 
 /// The instruction to the server that the bytes spell. `BadDatagram(Short)` for fewer than 18 bytes, `BadDatagram(Length)` for others
-/// that spell none; `OutOfMemory`.
-pub fn read_up(alloc: Global, bytes: &[u8]) -> Result<Up, Fault>
+/// that spell none, and for acts of a start that only watches; `OutOfMemory` only where acts are to be read.
+pub fn read_up(alloc: Global, bytes: &[u8], watches: bool) -> Result<Up, Fault>
     // What is read has this text.
-    ensures found { IfOk result (λ u. IsUp (up_value u) × (bytes.now ≡ up_text (up_value u))) }
+    ensures found { IfOk result (λ u. IsUpOf watches (up_value u) × (bytes.now ≡ up_text (up_value u))) }
     ensures in_range { IfOk result (λ u. All IsInRange u.acts.items) }
     // What has this text is read.
-    ensures only { (u : UpValue) → IsUp u → bytes.now ≡ up_text u
+    ensures only { (u : UpValue) → IsUpOf watches u → bytes.now ≡ up_text u
         → MatchResult result (λ read. up_value read ≡ u) (λ e. e ≡ Fault.OutOfMemory) }
     ensures fault { IfErr result (λ e. (e ≡ Fault.OutOfMemory) ⊎ (e ≡ Fault.BadDatagram (reason_for 18 bytes.now))) }
+    ensures memory { IsErrOf result Fault.OutOfMemory → HasActs watches bytes.now }
 {
     if bytes.len() < UP {
         return Err(Fault::BadDatagram(Reason::Short));
@@ -117,6 +119,9 @@ pub fn read_up(alloc: Global, bytes: &[u8]) -> Result<Up, Fault>
     let first = BigEndian::read_u64(bytes.split_at(8).1);
     let count = BigEndian::read_u16(bytes.split_at(16).1) as usize;
     if acked >= NUMBERS || first == 0 || first >= NUMBERS || count > ACTS {
+        return Err(Fault::BadDatagram(Reason::Length));
+    }
+    if watches && count != 0 {
         return Err(Fault::BadDatagram(Reason::Length));
     }
     let acts = read_acts(alloc, count, bytes.split_at(UP).1)?;

@@ -8,8 +8,10 @@ mod headers;
 pub mod instructions;
 pub mod laws;
 mod pieces;
+pub mod versions;
 
 pub use cutting::cut;
-pub use datagrams::{Datagram, Kind, VERSION, read_datagram, write_datagram};
+pub use datagrams::{Datagram, Kind, read_datagram, write_datagram};
 pub use gatherers::{Gathered, Gatherer};
 pub use instructions::{Down, Up, read_down, read_up, write_down, write_up};
+pub use versions::Version;

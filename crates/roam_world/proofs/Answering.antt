@@ -3,23 +3,22 @@ use Rattle.std.proofs.Common.{◌≡◌, ◌⊎◌, ℕ, ◌+◌, ◌<◌, ◌�
 use Rattle.std.specs.Prelude.{nat_lt}
 use Rattle.std.proofs.lemmas.Bool.Decides.{nat_tests}
 use Rattle.roam_cells.specs.declared.faults.Fault.{Fault}
-use Rattle.roam_cells.specs.declared.faults.Fault.TheVariants.{NoPane, Busy, BadDatagram, BadChange, Spent}
+use Rattle.roam_cells.specs.declared.faults.Fault.TheVariants.{NoPane, Busy, BadDatagram, BadChange, Spent, Watching}
 use Rattle.roam_cells.specs.declared.faults.Reason.{Reason}
-use Rattle.roam_cells.specs.Screenshot.{Screenshot}
+use Rattle.roam_screens.specs.Screenshot.{Screenshot}
 use Rattle.roam_acts.specs.declared.acts.Act.{Act}
 use Rattle.roam_acts.specs.Senders.{IsFull, IsSpent}
-use Rattle.roam_update.specs.Shots.{applied}
 use Rattle.roam_sync.specs.declared.receivers.Step.{Step}
 use Rattle.roam_sync.specs.declared.receivers.Step.TheVariants as step
 use Rattle.roam_sync.specs.Receivers.{Receiving, pairs, state_at, step_for}
 use Rattle.roam_sync.specs.Lines.{Update, Delivers}
-use Rattle.roam_wire.specs.Datagrams.{DatagramValue}
 use Rattle.roam_wire.specs.Gatherers.{Gathering}
 use Rattle.roam_wire.specs.Instructions.{DownValue, UpValue}
 use Rattle.roam_wire.proofs.Texts.{one_down, one_up}
 use Rattle.roam_session.specs.Sessions.{Given, Drained}
 use Rattle.roam_session.specs.Refusals.{refuses_bytes, output_at}
-use Rattle.roam_world.specs.Texts.{Address, SaysDown, SaysNoDown, SaysUp, SaysNoUp, update_in}
+use Rattle.roam_world.specs.Versions.{applied_by}
+use Rattle.roam_world.specs.Texts.{Address, SaysDown, SaysNoDown, SaysUp, SaysNoUp, update_in, is_watching}
 use Rattle.roam_world.specs.Servers.{moment, after_input}
 use Rattle.roam_world.specs.Comings.{Coming, turned_away, noted, completed, coming, after_note, new_acts, after_acts, room_for}
 use Rattle.roam_world.specs.Ticks.{sent_by, is_tick_spent}
@@ -27,8 +26,10 @@ use Rattle.roam_world.specs.Clients.{moment_of, after_typed}
 use Rattle.roam_world.specs.Arrivals.{Arriving, sent_back, kept, fulfilled, arriving, after_piece, step_of, hearing_of, after_whole}
 use Rattle.roam_world.specs.Sendings.{is_client_due, is_client_spent, datagrams_from, after_quiet}
 use Rattle.roam_world.specs.Worlds.{World, PaneBytes, Typed, ServerTick, ClientTick, ToServer, ToClient, Start, Drain, Reply, Done, Sent, Taken, Heard, Refused, Failed, Stopped, datagram_at, with_server, with_client, after_server_tick, after_client_sent, after_start}
-use Rattle.roam_world.specs.Steps.{PaneBytesStep, DrainStep, TypedStep, ServerTickStep, ClientTickStep, ToServerStep, ToClientStep, StartStep, refused, taken, no_pane, too_many, gone, empty_slot, full, spent, typed, no_memory, ticked, quiet, sent, not_sent, piece, unread, all_taken, no_room, no_memory_at_act, bad_change, whole, used, started}
+use Rattle.roam_world.specs.Steps.{PaneBytesStep, DrainStep, TypedStep, ServerTickStep, ClientTickStep, ToServerStep, ToClientStep, StartStep, refused, taken, no_pane, too_many, gone, empty_slot, full, spent, typed, no_memory, ticked, quiet, sent, not_sent, piece, unread, all_taken, no_room, no_memory_at_act, bad_change, whole, used, started, watching, unfit, is_unfit}
 use Rattle.roam_world.specs.Laws.{IsAmple, HasOneReply}
+use Rattle.roam_wire.specs.declared.versions.Version.{Version}
+use Rattle.roam_wire.specs.Datagrams.{DatagramValue}
 
 -- a reply and a world are these
 abbrev Are : Reply → World → Reply → World → Type 0
@@ -81,26 +82,36 @@ one_drain w pane n (Some out) r r' v v' a b =
 
 -- ---- typing
 
-abbrev ByTyped : World → Act → Option ℕ → Reply → World → Type 0
-ByTyped w act None r v = Are r v Refused w
-ByTyped w act (Some id) r v =
+abbrev ByWatching : World → Act → ℕ → Bool → Reply → World → Type 0
+ByWatching w act id true r v = Are r v (Failed Watching) w
+ByWatching w act id false r v =
     (IsFull (w.clients id).acts × Are r v (Failed Busy) w)
     ⊎ (IsSpent (w.clients id).acts × Are r v (Failed Spent) w)
     ⊎ ((IsFull (w.clients id).acts → ⊥) × (IsSpent (w.clients id).acts → ⊥)
     × Are r v Done (with_client w id (after_typed (w.clients id) act)))
 
+abbrev ByTyped : World → Act → Option ℕ → Reply → World → Type 0
+ByTyped w act None r v = Are r v Refused w
+ByTyped w act (Some id) r v = ByWatching w act id (w.clients id).watches r v
+
 by_typed : (w : World) (slot : ℕ) (act : Act) (r : Reply) (v : World) → TypedStep w slot act r v → IsAmple r
     → ByTyped w act (w.slots slot) r v
 by_typed w slot act r v (empty_slot x e is) m = subst (λ (o : Option ℕ). ByTyped w act o r v) (sym x) (e, is)
-by_typed w slot act r v (full id x y e is) m = subst (λ (o : Option ℕ). ByTyped w act o r v) (sym x) (inl (y, (e, is)))
-by_typed w slot act r v (spent id x y e is) m = subst (λ (o : Option ℕ). ByTyped w act o r v) (sym x) (inr (inl (y, (e, is))))
-by_typed w slot act r v (typed id x y z e is) m = subst (λ (o : Option ℕ). ByTyped w act o r v) (sym x) (inr (inr (y, z, (e, is))))
+by_typed w slot act r v (watching id x q e is) m =
+    subst (λ (o : Option ℕ). ByTyped w act o r v) (sym x) (subst (λ (b : Bool). ByWatching w act id b r v) (sym q) (e, is))
+by_typed w slot act r v (full id x q y e is) m =
+    subst (λ (o : Option ℕ). ByTyped w act o r v) (sym x) (subst (λ (b : Bool). ByWatching w act id b r v) (sym q) (inl (y, (e, is))))
+by_typed w slot act r v (spent id x q y e is) m =
+    subst (λ (o : Option ℕ). ByTyped w act o r v) (sym x) (subst (λ (b : Bool). ByWatching w act id b r v) (sym q) (inr (inl (y, (e, is)))))
+by_typed w slot act r v (typed id x q y z e is) m =
+    subst (λ (o : Option ℕ). ByTyped w act o r v) (sym x)
+    (subst (λ (b : Bool). ByWatching w act id b r v) (sym q) (inr (inr (y, z, (e, is)))))
 by_typed w slot act r v (no_memory e is) m = absurd (m.whole e)
 
-one_typed : (w : World) (act : Act) (o : Option ℕ) (r r' : Reply) (v v' : World) → ByTyped w act o r v → ByTyped w act o r' v'
-    → (r ≡ r') × (v ≡ v')
-one_typed w act None r r' v v' a b = both r r' Refused v v' w a b
-one_typed w act (Some id) r r' v v' a b =
+one_watching : (w : World) (act : Act) (id : ℕ) (b : Bool) (r r' : Reply) (v v' : World) → ByWatching w act id b r v
+    → ByWatching w act id b r' v' → (r ≡ r') × (v ≡ v')
+one_watching w act id true r r' v v' a b = both r r' (Failed Watching) v v' w a b
+one_watching w act id false r r' v v' a b =
     elim a [
       | inl x ↦ elim b [
         | inl y ↦ both r r' (Failed Busy) v v' w x.1 y.1
@@ -124,6 +135,11 @@ one_typed w act (Some id) r r' v v' a b =
   where
     clash : IsFull (w.clients id).acts → IsSpent (w.clients id).acts → ⊥
     clash f s = let lt = s.0 in omega (arith, f, lt)
+
+one_typed : (w : World) (act : Act) (o : Option ℕ) (r r' : Reply) (v v' : World) → ByTyped w act o r v → ByTyped w act o r' v'
+    → (r ≡ r') × (v ≡ v')
+one_typed w act None r r' v v' a b = both r r' Refused v v' w a b
+one_typed w act (Some id) r r' v v' a b = one_watching w act id (w.clients id).watches r r' v v' a b
 
 -- ---- ticks
 
@@ -200,8 +216,8 @@ has_no_room w d u = nat_lt (room_for w.server d u) (length (new_acts w.server d 
 
 abbrev ByText : World → Address → ℕ → DatagramValue → Gathering → List ℕ → Reply → World → Type 0
 ByText w from now d g text r v =
-    ((why : Reason) × SaysNoUp text why × Are r v (Stopped (BadDatagram why) 0) w)
-    ⊎ ((u : UpValue) × SaysUp text u × ByRoom w from now d g u (has_no_room w d u) r v)
+    ((why : Reason) × SaysNoUp (is_watching d.kind) text why × Are r v (Stopped (BadDatagram why) 0) w)
+    ⊎ ((u : UpValue) × SaysUp (is_watching d.kind) text u × ByRoom w from now d g u (has_no_room w d u) r v)
 
 abbrev ByComing : World → Address → ℕ → DatagramValue → Coming → Reply → World → Type 0
 ByComing w from now d (turned_away fault) r v = Are r v (Stopped fault 0) w
@@ -248,7 +264,7 @@ by_server w k from now r v step m = go step
           subst (λ (b : Bool). ByRoom w from (moment w.server now) d g u b r v)
               (sym (below (room_for w.server d u) (length (new_acts w.server d u)) a)) (e, is),
         ))
-    go (no_memory_at_act d g text u n x y z le lt e is) = absurd (m.part n e)
+    go (no_memory_at_act d g text u n x y z lt e is) = absurd (m.part n e)
     go (no_memory e is) = absurd (m.part 0 e)
 
 one_room : (w : World) (from : Address) (now : ℕ) (d : DatagramValue) (g : Gathering) (u : UpValue) (b : Bool) (r r' : Reply) (v v' : World)
@@ -273,7 +289,7 @@ one_coming w from now d (completed g text) r r' v v' x y =
       ]
       | inr a ↦ elim y [
         | inl b ↦ absurd (b.1.none a.0 a.1.is a.1.spelled)
-        | inr b ↦ (let same : b.0 ≡ a.0 = one_up b.0 a.0 b.1.is a.1.is (sym b.1.spelled ∙ a.1.spelled) in
+        | inr b ↦ (let same : b.0 ≡ a.0 = one_up b.0 a.0 b.1.is.is a.1.is.is (sym b.1.spelled ∙ a.1.spelled) in
             one_room w from now d g a.0 (has_no_room w d a.0) r r' v v' a.2
             (subst (λ (u : UpValue). ByRoom w from now d g u (has_no_room w d u) r' v') same b.2))
       ]
@@ -287,8 +303,8 @@ one_server w from now (Some d) r r' v v' x y = one_coming w from now d (coming w
 -- ---- a datagram to a client start
 
 -- what a receiver makes of an update is one
-delivers_one : (c r r' : Receiving Screenshot) (u : Update) → Delivers applied c u r → Delivers applied c u r' → r ≡ r'
-delivers_one c r r' u d e = go (step_for c u.old u.new u.floor) refl
+delivers_one : (a : Version) (c r r' : Receiving Screenshot) (u : Update) → Delivers (applied_by a) c u r → Delivers (applied_by a) c u r' → r ≡ r'
+delivers_one v c r r' u d e = go (step_for c u.old u.new u.floor) refl
   where
     none : (x : Step) → step_for c u.old u.new u.floor ≡ x → (x ≡ step.New → ⊥) → r ≡ r'
     none x f other = d.other (λ n. other (sym f ∙ n)) ∙ sym (e.other (λ n. other (sym f ∙ n)))
@@ -301,7 +317,7 @@ delivers_one c r r' u d e = go (step_for c u.old u.new u.floor) refl
         let b = e.fresh f in
         let held : Some a.base ≡ Some b.base = sym a.held ∙ b.held in
         let base : a.base ≡ b.base = cc in
-        let states : Some r.newest.state ≡ Some r'.newest.state = sym a.leads ∙ ap (λ (s : Screenshot). applied s u.change) base
+        let states : Some r.newest.state ≡ Some r'.newest.state = sym a.leads ∙ ap (λ (s : Screenshot). applied_by v s u.change) base
         ∙ b.leads in
         let state : r.newest.state ≡ r'.newest.state = cc in
         let number : r.newest.number ≡ r'.newest.number = a.number ∙ sym b.number in
@@ -313,12 +329,12 @@ pub record IsBad (w : World) (id : ℕ) (u : DownValue) : Type 0 where
   pub new : step_of (w.clients id) u ≡ step.New
   pub base : Screenshot
   pub there : state_at u.old (pairs (w.clients id).receiver) ≡ Some base
-  pub none : applied base u.change ≡ None
+  pub none : applied_by (w.clients id).version base u.change ≡ None
 
 abbrev ByDown : World → ℕ → ℕ → Gathering → DownValue → Reply → World → Type 0
 ByDown w id now g u r v =
     (IsBad w id u × Are r v (Failed BadChange) w)
-    ⊎ ((q : Receiving Screenshot) × Delivers applied (w.clients id).receiver (update_in u) q
+    ⊎ ((q : Receiving Screenshot) × Delivers (applied_by (w.clients id).version) (w.clients id).receiver (update_in u) q
     × Are r v (Heard (hearing_of (step_of (w.clients id) u))) (with_client w id (after_whole (w.clients id) now g q u)))
 
 abbrev ByArriving : World → ℕ → ℕ → Arriving → Reply → World → Type 0
@@ -368,18 +384,18 @@ one_down_reply w id now g u r r' v v' x y =
       | inl a ↦ elim y [ inl b ↦ both r r' (Failed BadChange) v v' w a.1 b.1 | inr b ↦ absurd (clash a.0 b.0 b.1) ]
       | inr a ↦ elim y [
         | inl b ↦ absurd (clash b.0 a.0 a.1)
-        | inr b ↦ (let same = delivers_one (w.clients id).receiver b.0 a.0 (update_in u) b.1 a.1 in
+        | inr b ↦ (let same = delivers_one (w.clients id).version (w.clients id).receiver b.0 a.0 (update_in u) b.1 a.1 in
             both r r' (Heard (hearing_of (step_of (w.clients id) u))) v v' (with_client w id (after_whole (w.clients id) now g a.0 u)) a.2
             (b.2.0, b.2.1 ∙ ap (λ (q : Receiving Screenshot). with_client w id (after_whole (w.clients id) now g q u)) same))
       ]
     ]
   where
-    clash : IsBad w id u → (q : Receiving Screenshot) → Delivers applied (w.clients id).receiver (update_in u) q → ⊥
+    clash : IsBad w id u → (q : Receiving Screenshot) → Delivers (applied_by (w.clients id).version) (w.clients id).receiver (update_in u) q → ⊥
     clash bad q d =
         let t = d.fresh bad.new in
         let held : Some t.base ≡ Some bad.base = sym t.held ∙ bad.there in
         let base : t.base ≡ bad.base = cc in
-        let no : Some q.newest.state ≡ None = sym t.leads ∙ ap (λ (s : Screenshot). applied s u.change) base ∙ bad.none in
+        let no : Some q.newest.state ≡ None = sym t.leads ∙ ap (λ (s : Screenshot). applied_by (w.clients id).version s u.change) base ∙ bad.none in
         cc
 
 one_arriving : (w : World) (id now : ℕ) (c : Arriving) (r r' : Reply) (v v' : World) → ByArriving w id now c r v
@@ -409,20 +425,32 @@ one_client w now (Some id) (Some d) r r' v v' x y =
 
 -- ---- a start
 
-abbrev ByStart : World → ℕ → ℕ → Bool → Reply → World → Type 0
-ByStart w slot id true r v = Are r v Refused w
-ByStart w slot id false r v = Are r v Done (after_start w slot id)
+-- of a start whose id was used, or not; that may not be, or may
+abbrev ByStart : World → ℕ → ℕ → Version → Bool → Bool → Bool → Reply → World → Type 0
+ByStart w slot id at watches true b r v = Are r v Refused w
+ByStart w slot id at watches false true r v = Are r v Refused w
+ByStart w slot id at watches false false r v = Are r v Done (after_start w slot id at watches)
 
-by_start : (w : World) (slot id : ℕ) (r : Reply) (v : World) → StartStep w slot id r v → IsAmple r
-    → ByStart w slot id (w.clients id).made r v
-by_start w slot id r v (used x e is) m = subst (λ (b : Bool). ByStart w slot id b r v) (sym x) (e, is)
-by_start w slot id r v (started x e is) m = subst (λ (b : Bool). ByStart w slot id b r v) (sym x) (e, is)
-by_start w slot id r v (no_memory e is) m = absurd (m.whole e)
+by_start : (w : World) (slot id : ℕ) (at : Version) (watches : Bool) (r : Reply) (v : World) → StartStep w slot id at watches r v → IsAmple r
+    → ByStart w slot id at watches (w.clients id).made (is_unfit at watches) r v
+by_start w slot id at watches r v (used x e is) m =
+    subst (λ (b : Bool). ByStart w slot id at watches b (is_unfit at watches) r v) (sym x) (e, is)
+by_start w slot id at watches r v (unfit x e is) m =
+    subst (λ (b : Bool). ByStart w slot id at watches (w.clients id).made b r v) (sym x) (go (w.clients id).made)
+  where
+    go : (b : Bool) → ByStart w slot id at watches b true r v
+    go true = (e, is)
+    go false = (e, is)
+by_start w slot id at watches r v (started x y e is) m =
+    subst (λ (b : Bool). ByStart w slot id at watches b (is_unfit at watches) r v) (sym x)
+    (subst (λ (b : Bool). ByStart w slot id at watches false b r v) (sym y) (e, is))
+by_start w slot id at watches r v (no_memory e is) m = absurd (m.whole e)
 
-one_start : (w : World) (slot id : ℕ) (b : Bool) (r r' : Reply) (v v' : World) → ByStart w slot id b r v → ByStart w slot id b r' v'
-    → (r ≡ r') × (v ≡ v')
-one_start w slot id true r r' v v' x y = both r r' Refused v v' w x y
-one_start w slot id false r r' v v' x y = both r r' Done v v' (after_start w slot id) x y
+one_start : (w : World) (slot id : ℕ) (at : Version) (watches b c : Bool) (r r' : Reply) (v v' : World)
+    → ByStart w slot id at watches b c r v → ByStart w slot id at watches b c r' v' → (r ≡ r') × (v ≡ v')
+one_start w slot id at watches true c r r' v v' x y = both r r' Refused v v' w x y
+one_start w slot id at watches false true r r' v v' x y = both r r' Refused v v' w x y
+one_start w slot id at watches false false r r' v v' x y = both r r' Done v v' (after_start w slot id at watches) x y
 
 -- ---- all events
 
@@ -441,7 +469,8 @@ one_reply w (ToServer k from now) r r' v v' s t m n =
     (by_server w k from now r' v' t n)
 one_reply w (ToClient slot k now) r r' v v' s t m n =
     one_client w now (w.slots slot) (datagram_at w.sent k) r r' v v' (by_client w slot k now r v s m) (by_client w slot k now r' v' t n)
-one_reply w (Start slot id) r r' v v' s t m n =
-    one_start w slot id (w.clients id).made r r' v v' (by_start w slot id r v s m) (by_start w slot id r' v' t n)
+one_reply w (Start slot id at watches) r r' v v' s t m n =
+    one_start w slot id at watches (w.clients id).made (is_unfit at watches) r r' v v' (by_start w slot id at watches r v s m)
+    (by_start w slot id at watches r' v' t n)
 one_reply w (Drain p n) r r' v v' s t m q = one_drain w p n (output_at w.server.size w.server.log p) r r' v v' (by_drain w p n r v s)
     (by_drain w p n r' v' t)

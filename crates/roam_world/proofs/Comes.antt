@@ -4,22 +4,21 @@ use Rattle.std.specs.Prelude.{nat_eq, nat_le, not, ◌&&◌}
 use Rattle.std.proofs.lemmas.Bool.Decides.{nat_tests}
 use Rattle.roam_cells.specs.declared.faults.Fault.TheVariants.{BadChange, BadDatagram, OtherSession, OtherClient, ClientsFull}
 use Rattle.roam_cells.specs.declared.faults.Reason.TheVariants as reason
-use Rattle.roam_wire.specs.declared.datagrams.Kind.{Kind}
-use Rattle.roam_wire.specs.declared.datagrams.Kind.TheVariants.{ToClient, ToServer}
-use Rattle.roam_wire.specs.Datagrams.{DatagramValue}
 use Rattle.roam_wire.specs.Gatherers.{Piece, Gathering, Answer, Part, Old, Whole, gather, piece_of}
 use Rattle.roam_wire.specs.Arrivals.{IsPieceOf, GathersOf, GathersWell}
 use Rattle.roam_wire.specs.Instructions.{DownValue, IsDown, down_text, UpValue, IsUp, up_text}
 use Rattle.roam_wire.proofs.Arrive.{well}
 use Rattle.roam_wire.proofs.Texts.{one_down, one_up}
 use Rattle.roam_world.specs.Lists.{IsIn}
-use Rattle.roam_world.specs.Texts.{SaysDown, SaysUp}
+use Rattle.roam_world.specs.Texts.{SaysDown, SaysUp, is_to_server, is_watching}
+use Rattle.roam_world.specs.Versions.{is_same_version}
 use Rattle.roam_world.specs.Servers.{Record, Server}
-use Rattle.roam_world.specs.Comings.{is_to_server, Coming, turned_away, noted, completed, coming, coming_gathered}
+use Rattle.roam_world.specs.Comings.{Coming, turned_away, noted, completed, coming, coming_gathered, most_of, alike, is_same, is_full_for, is_of_other, is_else}
 use Rattle.roam_world.specs.Clients.{Client}
 use Rattle.roam_world.specs.Arrivals.{IsGap, Arriving, sent_back, kept, fulfilled, arriving, arriving_gathered}
 use Rattle.roam_world.specs.Holds.{cuts_of, Gathers, IsPiece}
 use Rattle.roam_world.proofs.Pieces.{IsTextOf, piece_low, whole_is}
+use Rattle.roam_wire.specs.Datagrams.{DatagramValue}
 
 -- ---- a text says one instruction
 
@@ -28,9 +27,9 @@ pub says_down : (vs : List DownValue) (text : List ℕ) (d v : DownValue) → ((
     → IsIn v vs → text ≡ down_text v → SaysDown text d → v ≡ d
 says_down vs text d v are i e says = one_down v d (are v i) says.is (sym e ∙ says.spelled)
 
-pub says_up : (us : List UpValue) (text : List ℕ) (u v : UpValue) → ((v : UpValue) → IsIn v us → IsUp v)
-    → IsIn v us → text ≡ up_text v → SaysUp text u → v ≡ u
-says_up us text u v are i e says = one_up v u (are v i) says.is (sym e ∙ says.spelled)
+pub says_up : (us : List UpValue) (text : List ℕ) (u v : UpValue) (watches : Bool) → ((v : UpValue) → IsIn v us → IsUp v)
+    → IsIn v us → text ≡ up_text v → SaysUp watches text u → v ≡ u
+says_up us text u v watches are i e says = one_up v u (are v i) says.is.is (sym e ∙ says.spelled)
 
 -- ---- at the server: what is gathered is of the client's instructions, and what came whole is the text of one
 
@@ -53,24 +52,55 @@ came_well us g p (Some (Part, h)) is of w = gathers_then up_text us g h p is of 
 came_well us g p (Some (Old, h)) is of w = gathers_then up_text us g h p is of w.0 w.1
 came_well us g p (Some (Whole text, h)) is of w = (gathers_then up_text us g h p is of w.0 w.1, whole_is up_text us p text is w.2)
 
-pub coming_well : (s : Server) (r : Record) (c : Client) (d : DatagramValue) → s.records d.client ≡ r → IsPiece d.kind d r c
+pub coming_well : (s : Server) (r : Record) (c : Client) (d : DatagramValue) → s.records d.client ≡ r → IsPiece (is_to_server d.kind) d r c
     → Gathers up_text c.instructions r.gathering → ComesWell c.instructions (coming s d)
 coming_well s r c d same is of =
     subst (λ (q : Record). ComesWell c.instructions
     (cond (not (is_to_server d.kind)) (turned_away (BadDatagram reason.Kind))
     (cond (not (nat_eq d.session s.session)) (turned_away OtherSession)
-    (cond (not q.known && nat_le 64 (length s.arrival)) (turned_away ClientsFull)
-    (coming_gathered (gather q.gathering (piece_of d)))))))
-    (sym same) (one d.kind is (not (nat_eq d.session s.session)) (not r.known && nat_le 64 (length s.arrival)))
+    (cond (not q.known && nat_le (most_of (is_watching d.kind)) (length (alike s (is_watching d.kind)))) (turned_away ClientsFull)
+    (cond (q.known && not (is_same_version q.version d.version)) (turned_away (BadDatagram reason.Version))
+    (cond (q.known && not (is_same q.watches (is_watching d.kind))) (turned_away (BadDatagram reason.Kind))
+    (coming_gathered (gather q.gathering (piece_of d)))))))))
+    (sym same) (one (is_to_server d.kind) is (not (nat_eq d.session s.session)) (not r.known && nat_le (most_of (is_watching d.kind)) (length (alike s (is_watching d.kind))))
+    (r.known && not (is_same_version r.version d.version)) (r.known && not (is_same r.watches (is_watching d.kind))))
   where
-    one : (kind : Kind) → IsPiece kind d r c → (a b : Bool)
-        → ComesWell c.instructions (cond (not (is_to_server kind)) (turned_away (BadDatagram reason.Kind))
-        (cond a (turned_away OtherSession) (cond b (turned_away ClientsFull) (coming_gathered (gather r.gathering (piece_of d))))))
-    one ToClient i a b = tt
-    one ToServer i true b = tt
-    one ToServer i false true = tt
-    one ToServer i false false = came_well c.instructions r.gathering (piece_of d) (gather r.gathering (piece_of d)) i of
+    one : (to : Bool) → IsPiece to d r c → (a b e f : Bool)
+        → ComesWell c.instructions (cond (not to) (turned_away (BadDatagram reason.Kind))
+        (cond a (turned_away OtherSession) (cond b (turned_away ClientsFull) (cond e (turned_away (BadDatagram reason.Version))
+        (cond f (turned_away (BadDatagram reason.Kind)) (coming_gathered (gather r.gathering (piece_of d))))))))
+    one false i a b e f = tt
+    one true i true b e f = tt
+    one true i false true e f = tt
+    one true i false false true f = tt
+    one true i false false false true = tt
+    one true i false false false false = came_well c.instructions r.gathering (piece_of d) (gather r.gathering (piece_of d)) i of
         (well (cuts_of up_text c.instructions) r.gathering (piece_of d) of.of i)
+
+-- what isn't turned away is a datagram to the server
+abbrev pub IsTo : Bool → Coming → Type 0
+IsTo to (turned_away fault) = Unit {0}
+IsTo to (noted g) = to ≡ true
+IsTo to (completed g text) = to ≡ true
+
+pub to_server : (s : Server) (d : DatagramValue) → IsTo (is_to_server d.kind) (coming s d)
+to_server s d = go (is_to_server d.kind) (not (nat_eq d.session s.session)) (is_full_for s d) (is_of_other s d) (is_else s d)
+    (coming_gathered (gather (s.records d.client).gathering (piece_of d)))
+  where
+    there : (x : Coming) → IsTo true x
+    there (turned_away fault) = tt
+    there (noted g) = refl
+    there (completed g text) = refl
+
+    go : (to a b e f : Bool) (x : Coming) → IsTo to (cond (not to) (turned_away (BadDatagram reason.Kind))
+        (cond a (turned_away OtherSession) (cond b (turned_away ClientsFull) (cond e (turned_away (BadDatagram reason.Version))
+        (cond f (turned_away (BadDatagram reason.Kind)) x)))))
+    go false a b e f x = tt
+    go true true b e f x = tt
+    go true false true e f x = tt
+    go true false false true f x = tt
+    go true false false false true x = tt
+    go true false false false false x = there x
 
 -- ---- at a client start: what is gathered is of the record's instructions, and what came whole is the text of one
 
@@ -87,22 +117,25 @@ arrived_well vs g p (Some (Part, h)) is of w = ((λ z. cc), gathers_then down_te
 arrived_well vs g p (Some (Old, h)) is of w = ((λ z. cc), gathers_then down_text vs g h p is of w.0 w.1)
 arrived_well vs g p (Some (Whole text, h)) is of w = (gathers_then down_text vs g h p is of w.0 w.1, whole_is down_text vs p text is w.2)
 
-pub arriving_well : (session id : ℕ) (r : Record) (c : Client) (d : DatagramValue) → (d.client ≡ id → IsPiece d.kind d r c)
+pub arriving_well : (session id : ℕ) (r : Record) (c : Client) (d : DatagramValue) → (d.client ≡ id → IsPiece (is_to_server d.kind) d r c)
     → Gathers down_text r.instructions c.gathering → ArrivesWell r.instructions (arriving session id c d)
-arriving_well session id r c d is of = one d.kind is (not (nat_eq d.session session)) (nat_eq d.client id) refl
+arriving_well session id r c d is of = one (is_to_server d.kind) is (not (nat_eq d.session session)) (nat_eq d.client id) refl
+    (not (is_same_version c.version d.version))
   where
     two : IsPieceOf (cuts_of down_text r.instructions) (piece_of d)
         → ArrivesWell r.instructions (arriving_gathered (gather c.gathering (piece_of d)))
     two i = arrived_well r.instructions c.gathering (piece_of d) (gather c.gathering (piece_of d)) i of
         (well (cuts_of down_text r.instructions) c.gathering (piece_of d) of.of i)
 
-    one : (kind : Kind) → (d.client ≡ id → IsPiece kind d r c) → (a b : Bool) → nat_eq d.client id ≡ b
-        → ArrivesWell r.instructions (cond (is_to_server kind) (sent_back (BadDatagram reason.Kind))
-        (cond a (sent_back OtherSession) (cond (not b) (sent_back OtherClient) (arriving_gathered (gather c.gathering (piece_of d))))))
-    one ToServer i a b e = λ z. cc
-    one ToClient i true b e = λ z. cc
-    one ToClient i false false e = λ z. cc
-    one ToClient i false true e = two (i (same e))
+    one : (to : Bool) → (d.client ≡ id → IsPiece to d r c) → (a b : Bool) → nat_eq d.client id ≡ b → (o : Bool)
+        → ArrivesWell r.instructions (cond to (sent_back (BadDatagram reason.Kind))
+        (cond a (sent_back OtherSession) (cond (not b) (sent_back OtherClient) (cond o (sent_back (BadDatagram reason.Version))
+        (arriving_gathered (gather c.gathering (piece_of d)))))))
+    one true i a b e o = λ z. cc
+    one false i true b e o = λ z. cc
+    one false i false false e o = λ z. cc
+    one false i false true e true = λ z. cc
+    one false i false true e false = two (i (same e))
       where
         same : nat_eq d.client id ≡ true → d.client ≡ id
         same f = grind (arith, nat_tests)

@@ -4,22 +4,20 @@ use Rattle.std.specs.Prelude.{nat_eq, not}
 use Rattle.std.proofs.lemmas.Bool.Decides.{nat_tests}
 use Rattle.roam_cells.specs.declared.faults.Fault.TheVariants.{OutOfMemory, BadDatagram, OtherSession, OtherClient}
 use Rattle.roam_cells.specs.declared.faults.Reason.TheVariants as reason
-use Rattle.roam_update.specs.Shots.{applied}
 use Rattle.roam_sync.specs.Senders.{newest}
 use Rattle.roam_sync.specs.Lines.{Delivers}
 use Rattle.roam_sync.proofs.Rounds.{one_round}
-use Rattle.roam_wire.specs.declared.datagrams.Kind.TheVariants.{ToClient}
 use Rattle.roam_wire.specs.Cutting.{joined}
-use Rattle.roam_wire.specs.Datagrams.{DatagramValue}
 use Rattle.roam_wire.specs.Gatherers.{Gathering, Answer, Part, Old, Whole, gather, piece_of}
 use Rattle.roam_wire.specs.Pieces.{all_there}
 use Rattle.roam_wire.specs.Arrivals.{IsPieceOf, GathersWell, after}
 use Rattle.roam_wire.specs.Instructions.{DownValue, down_text}
 use Rattle.roam_wire.proofs.Arrive.{well}
 use Rattle.roam_wire.proofs.Cuts.{joined-pieces}
+use Rattle.roam_world.specs.Versions.{is_same_version, applied_by}
+use Rattle.roam_world.proofs.Versions.{is_same-refl}
 use Rattle.roam_world.specs.Lists.{IsIn}
-use Rattle.roam_world.specs.Texts.{update_in, SaysDown}
-use Rattle.roam_world.specs.Comings.{is_to_server}
+use Rattle.roam_world.specs.Texts.{update_in, SaysDown, is_to_server}
 use Rattle.roam_world.specs.Clients.{Client, moment_of}
 use Rattle.roam_world.specs.Arrivals.{Arriving, sent_back, kept, fulfilled, arriving, arriving_gathered, after_piece, after_whole}
 use Rattle.roam_world.specs.Worlds.{World, Reply, Failed, datagram_at, with_client}
@@ -30,6 +28,9 @@ use Rattle.roam_world.proofs.Pieces.{numbered-is_in}
 use Rattle.roam_world.proofs.Comes.{says_down}
 use Rattle.roam_world.proofs.Follows.{good_change}
 use Rattle.roam_world.proofs.Gathered.{IsPart, IsSame, is_part}
+use Rattle.roam_wire.specs.declared.versions.Version.{Version}
+use Rattle.roam_wire.specs.declared.datagrams.Kind.TheVariants.{ToClient}
+use Rattle.roam_wire.specs.Datagrams.{DatagramValue}
 
 -- where instruction n came whole, the number that is shown is m
 abbrev pub Shows : ℕ → ℕ → Gathering → ℕ → Type 0
@@ -37,6 +38,7 @@ Shows n m g shown = g.id ≡ n → all_there g.pieces ≡ true → shown ≡ m
 
 -- a piece of instruction n to this start
 pub record IsOne (w : World) (id n : ℕ) (d : DatagramValue) : Type 0 where
+  pub version_is : d.version ≡ (w.clients id).version
   pub kind_is : d.kind ≡ ToClient
   pub session_is : d.session ≡ w.server.session
   pub client_is : d.client ≡ id
@@ -74,19 +76,22 @@ arriving_leaves : (w : World) (id n m shown : ℕ) (v : DownValue) (d : Datagram
 arriving_leaves w id n m shown v d h t is =
     go (is_to_server d.kind) (ap is_to_server is.kind_is) (nat_eq d.session w.server.session)
     (same d.session w.server.session is.session_is) (nat_eq d.client id) (same d.client id is.client_is)
+    (is_same_version (w.clients id).version d.version)
+    (subst (λ (v : Version). is_same_version (w.clients id).version v ≡ true) (sym is.version_is) (is_same-refl (w.clients id).version))
   where
     same : (a b : ℕ) → a ≡ b → nat_eq a b ≡ true
     same a b e = grind (arith, nat_tests)
 
-    go : (a : Bool) → a ≡ false → (b : Bool) → b ≡ true → (e : Bool) → e ≡ true
+    go : (a : Bool) → a ≡ false → (b : Bool) → b ≡ true → (e : Bool) → e ≡ true → (f : Bool) → f ≡ true
         → Leaves n m shown (w.clients id).gathering (after (w.clients id).gathering (gather (w.clients id).gathering (piece_of d))) v
         (cond a (sent_back (BadDatagram reason.Kind))
-        (cond (not b) (sent_back OtherSession) (cond (not e) (sent_back OtherClient)
-        (arriving_gathered (gather (w.clients id).gathering (piece_of d))))))
-    go true x b y e z = absurd (cc)
-    go false x false y e z = absurd (cc)
-    go false x true y false z = absurd (cc)
-    go false x true y true z =
+        (cond (not b) (sent_back OtherSession) (cond (not e) (sent_back OtherClient) (cond (not f) (sent_back (BadDatagram reason.Version))
+        (arriving_gathered (gather (w.clients id).gathering (piece_of d)))))))
+    go true x b y e z f q = absurd (cc)
+    go false x false y e z f q = absurd (cc)
+    go false x true y false z f q = absurd (cc)
+    go false x true y true z false q = absurd (cc)
+    go false x true y true z true q =
         let part = is_part (w.clients id).gathering (piece_of d) in
         gathered_leaves w id n m shown v d t is (gather (w.clients id).gathering (piece_of d))
         (well (cuts_of down_text (w.server.records id).instructions) (w.clients id).gathering (piece_of d) (h.lines id).gathers_down.of
@@ -97,6 +102,7 @@ pub record Delivered (w w' : World) (id n m : ℕ) (d : DatagramValue) : Type 0 
   pub server : w'.server ≡ w.server
   pub slots : w'.slots ≡ w.slots
   pub sent : w'.sent ≡ w.sent
+  pub version : (w'.clients id).version ≡ (w.clients id).version
   pub gatherer : (w'.clients id).gathering ≡ after (w.clients id).gathering (gather (w.clients id).gathering (piece_of d))
   pub shows : Shows n m (w.clients id).gathering (w.clients id).receiver.newest.number
       → Shows n m (w'.clients id).gathering (w'.clients id).receiver.newest.number
@@ -149,6 +155,7 @@ deliver w w' slot k now id n m v d r h s at t is step fine = go step
           server = ap (λ (q : World). q.server) z';
           slots = ap (λ (q : World). q.slots) z';
           sent = ap (λ (q : World). q.sent) z';
+          version = ap (λ (q : Client). q.version) here;
           gatherer = ap (λ (q : Client). q.gathering) here ∙ p.0;
           shows = (λ old. subst (λ (q : Client). Shows n m q.gathering q.receiver.newest.number) (sym here) (p.1 old));
         }
@@ -161,7 +168,8 @@ deliver w w' slot k now id n m v d r h s at t is step fine = go step
         let same = says_it text u p.1 says in
         absurd (good_change w id u base (subst (λ (q : DownValue). IsIn q (w.server.records id).instructions) same sent_one)
         (subst (λ (q : ℕ). Rattle.roam_sync.specs.Receivers.state_at u.old
-        (Rattle.roam_sync.specs.Receivers.pairs (w.clients q).receiver) ≡ Some base) (sym i) there) none h)
+        (Rattle.roam_sync.specs.Receivers.pairs (w.clients q).receiver) ≡ Some base) (sym i) there)
+        (subst (λ (q : ℕ). applied_by (w.clients q).version base u.change ≡ None) (sym i) none) h)
     go (whole id' d' g text u q x y a says heard e z) =
         let i = some_same id id' (w.slots slot) s x in
         let p = leaves id' d' (fulfilled g text) x y a in
@@ -170,16 +178,17 @@ deliver w w' slot k now id n m v d r h s at t is step fine = go step
         subst (λ (j : ℕ). w' ≡ with_client w j (after_whole (w.clients j) (moment_of (w.clients j) now) g q u)) (sym i) z in
         let here : w'.clients id ≡ after_whole (w.clients id) (moment_of (w.clients id) now) g q u = ap (λ (j : World). j.clients id) z'
         ∙ put_same w.clients id (after_whole (w.clients id) (moment_of (w.clients id) now) g q u) in
-        let heard' : Delivers applied (w.clients id).receiver (update_in v) q =
-        subst (λ (j : ℕ). Delivers applied (w.clients j).receiver (update_in v) q) (sym i)
-        (subst (λ (b : DownValue). Delivers applied (w.clients id').receiver (update_in b) q) (sym same) heard) in
+        let heard' : Delivers (applied_by (w.clients id).version) (w.clients id).receiver (update_in v) q =
+        subst (λ (j : ℕ). Delivers (applied_by (w.clients j).version) (w.clients j).receiver (update_in v) q) (sym i)
+        (subst (λ (b : DownValue). Delivers (applied_by (w.clients id').version) (w.clients id').receiver (update_in b) q) (sym same) heard) in
         let top = one_round (w.server.records id).sender (w.clients id).receiver (Tells (w.server.records id).instructions)
-        (Acks (w.clients id).instructions) (h.lines id).link applied q (update_in v)
+        (Acks (w.clients id).instructions) (h.lines id).link (applied_by (w.clients id).version) q (update_in v)
         (v, sent_one, refl) (t.new ∙ t.top) heard' in
         record {
           server = ap (λ (j : World). j.server) z';
           slots = ap (λ (j : World). j.slots) z';
           sent = ap (λ (j : World). j.sent) z';
+          version = ap (λ (j : Client). j.version) here;
           gatherer = ap (λ (j : Client). j.gathering) here ∙ p.0;
           shows = (λ old b f. ap (λ (j : Client). j.receiver.newest.number) here ∙ top.1 ∙ sym t.top);
         }

@@ -90,7 +90,7 @@ adds cuts g p of is le =
         → all_there g.pieces ≡ d
         → (e : Bool) → nat_lt g.id p.id ≡ e → (f : Bool) → nat_eq (length g.pieces) p.count ≡ f → (k : Bool)
         → is_some (get_or g.pieces p.index None) ≡ k
-        → Adds g (after g (cond a None (cond (b || (c && d)) (Some (Old, g))
+        → Adds g (after g (cond (b || (c && d)) (Some (Old, g)) (cond a None
         (cond e (Some (with_piece (replicate p.count None) p))
         (cond (not f) None (cond k (Some (Old, g)) (Some (with_piece g.pieces p)))))))) p.id p.index
     go true a' b b' c c' d d' e e' f f' k k' = let le' : p.count ≤ p.index = grind (arith, nat_tests) in absurd (omega (arith, within, le'))
@@ -187,14 +187,14 @@ is_part g p = go (nat_le p.count p.index) (nat_lt p.id g.id || (nat_eq p.id g.id
     (nat_eq (length g.pieces) p.count) (is_some (get_or g.pieces p.index None))
   where
     go : (a b c d e : Bool)
-        → IsPart (cond a None (cond b (Some (Old, g))
+        → IsPart (cond b (Some (Old, g)) (cond a None
         (cond c (Some (with_piece (replicate p.count None) p))
         (cond (not d) None (cond e (Some (Old, g)) (Some (with_piece g.pieces p)))))))
-        × IsSame g (cond a None (cond b (Some (Old, g))
+        × IsSame g (cond b (Some (Old, g)) (cond a None
         (cond c (Some (with_piece (replicate p.count None) p))
         (cond (not d) None (cond e (Some (Old, g)) (Some (with_piece g.pieces p)))))))
-    go true b c d e = (tt, tt)
-    go false true c d e = (tt, refl)
+    go a true c d e = (tt, refl)
+    go true false c d e = (tt, tt)
     go false false true d e = with_part g (replicate p.count None) p
     go false false false false e = (tt, tt)
     go false false false true true = (tt, refl)

@@ -4,11 +4,10 @@ use Rattle.std.specs.Prelude.{◌||◌}
 use Rattle.std.proofs.lemmas.Bool.Decides.{nat_tests}
 use Rattle.std.proofs.lemmas.List.{take-append-le}
 use Rattle.std.proofs.lemmas.List.Elements.{All-push, All-pop, All-take, All-drop}
-use Rattle.roam_cells.specs.Screenshot.{Screenshot}
+use Rattle.roam_screens.specs.Screenshot.{Screenshot}
 use Rattle.roam_acts.specs.declared.acts.Act.{Act}
 use Rattle.roam_acts.specs.Acts.{IsAct}
 use Rattle.roam_acts.specs.Senders.{IsFull, IsSpent, IsStretch}
-use Rattle.roam_update.specs.Shots.{applied}
 use Rattle.roam_sync.specs.declared.receivers.Pair.{Pair}
 use Rattle.roam_sync.specs.declared.receivers.Step.TheVariants as step
 use Rattle.roam_sync.specs.Senders.{Sending}
@@ -16,30 +15,33 @@ use Rattle.roam_sync.specs.Receivers.{Receiving, pairs, step_for}
 use Rattle.roam_sync.specs.Lines.{Update, Hears, Delivers}
 use Rattle.roam_sync.specs.TrueLines.{HasTrueStates, TrueLine}
 use Rattle.roam_sync.specs.Links.{Link}
-use Rattle.roam_sync.proofs.TrueStates.{true_still, true_heard}
+use Rattle.roam_sync.proofs.TrueStates.{true_at_first, true_still, true_heard}
 use Rattle.roam_sync.proofs.Steps.{link_answered, link_heard}
 use Rattle.roam_sync.proofs.Rounds.{old_or_new}
-use Rattle.roam_wire.specs.declared.datagrams.Kind.{Kind}
-use Rattle.roam_wire.specs.declared.datagrams.Kind.TheVariants.{ToClient, ToServer}
-use Rattle.roam_wire.specs.Datagrams.{DatagramValue}
 use Rattle.roam_wire.specs.Gatherers.{Gathering, piece_of}
 use Rattle.roam_wire.specs.Arrivals.{IsPieceOf}
 use Rattle.roam_wire.specs.Instructions.{DownValue, down_text, UpValue, IsUp, up_text}
 use Rattle.roam_session.specs.Sessions.{SessionSize, Entry}
+use Rattle.roam_world.specs.Steps.{is_unfit}
+use Rattle.roam_world.specs.Versions.{applied_by}
 use Rattle.roam_world.specs.Lists.{IsIn, put}
 use Rattle.roam_world.specs.Moments.{is_spent}
-use Rattle.roam_world.specs.Numbers.{IsScreenOf, acts_of}
-use Rattle.roam_world.specs.Texts.{update_in}
-use Rattle.roam_world.specs.Servers.{Record, after_input}
+use Rattle.roam_world.specs.Numbers.{first_screen, IsScreenOf, acts_of}
+use Rattle.roam_world.specs.Texts.{update_in, is_to_server, is_watching, kind_from}
+use Rattle.roam_world.specs.Servers.{Record, no_record, after_input}
 use Rattle.roam_world.specs.Clients.{Client, nobody, new_client, shown_number, after_typed}
 use Rattle.roam_world.specs.Arrivals.{after_piece, after_whole}
 use Rattle.roam_world.specs.Sendings.{up_from, pieces_from, datagrams_from, is_client_spent, after_sending, after_quiet}
 use Rattle.roam_world.specs.Worlds.{World, with_server, with_client, after_client_sent, after_start}
-use Rattle.roam_world.specs.Holds.{cuts_of, Gathers, Tells, Acks, ActsOf, LineOf, IsPiece, AreCuts, Holds}
+use Rattle.roam_world.specs.Holds.{cuts_of, Gathers, Tells, Acks, ActsOf, LineOf, IsPiece, Bears, Fits, AreCuts, Holds, OnlyWatches}
 use Rattle.roam_world.proofs.Members.{IsIn-append_cases, IsIn-push_cases, on_put, put_same}
-use Rattle.roam_world.proofs.Screens.{one_screen, is_more, cuts_more, screens_more, acts_of-append}
+use Rattle.roam_world.proofs.Screens.{one_screen, first_is, is_more, cuts_more, screens_more, acts_of-append}
 use Rattle.roam_world.proofs.Acting.{has_typed-more, has_typed-acked, acked_few, stretch-waiting, stretch-more}
-use Rattle.roam_world.proofs.Pieces.{piece-more, gathers-more, packed_is}
+use Rattle.roam_world.proofs.Pieces.{piece-more, gathers-more, IsPacked, packed_is}
+use Rattle.roam_wire.specs.declared.versions.Version.{Version}
+use Rattle.roam_wire.specs.declared.datagrams.Kind.{Kind}
+use Rattle.roam_wire.specs.Datagrams.{DatagramValue}
+use Rattle.roam_wire.specs.declared.versions.Version.TheVariants.{One, Two}
 
 -- ---- an input
 
@@ -49,8 +51,8 @@ pub line-more : (size : SessionSize) (log more : List Entry) (cuts : List ℕ) (
     → taken' ≡ taken → LineOf size log cuts taken r c → LineOf size (log ++ more) cuts taken' r c
 line-more size log more cuts taken taken' r c low same l =
     record {
-      truth = true_still applied (IsScreenOf size log cuts) r.sender c.receiver (Tells r.instructions) l.truth
-          (IsScreenOf size (log ++ more) cuts) (Tells r.instructions) (is_more size log more cuts low) (λ u t. t);
+      truth = true_still (applied_by c.version) (IsScreenOf c.version size log cuts) r.sender c.receiver (Tells r.instructions) l.truth
+          (IsScreenOf c.version size (log ++ more) cuts) (Tells r.instructions) (is_more c.version size log more cuts low) (λ u t. t);
       link = l.link;
       acts = subst (λ (t : List Act). ActsOf t r c) (sym same) l.acts;
       downs = l.downs;
@@ -75,6 +77,9 @@ keeps-input w entry none h =
           line-more w.server.size w.server.log (entry ∷ []) w.server.cuts (acts_of id w.server.log)
           (acts_of id (w.server.log ++ entry ∷ [])) (w.server.records id) (w.clients id) h.cuts same (h.lines id));
       pieces = h.pieces;
+      bears = h.bears;
+      fits = h.fits;
+      watchers = h.watchers;
       unused = h.unused;
       slots = h.slots;
     }
@@ -86,27 +91,47 @@ abbrev pub Line : World → ℕ → Record → Client → Type 0
 Line w id r c = LineOf w.server.size w.server.log w.server.cuts (acts_of id w.server.log) r c
 
 -- a client start that was made changes, and sent nothing
-pub keeps-client : (w : World) (id : ℕ) (c : Client) → c.made ≡ true → c.instructions ≡ (w.clients id).instructions
+pub keeps-client : (w : World) (id : ℕ) (c : Client) → c.made ≡ true → c.version ≡ (w.clients id).version → c.watches ≡ (w.clients id).watches → OnlyWatches c
+    → c.instructions ≡ (w.clients id).instructions
     → Line w id (w.server.records id) c
     → Holds w → Holds (with_client w id c)
-keeps-client w id c made same line h =
+keeps-client w id c made version watches alone same line h =
     record {
       size = h.size;
       numbers = h.numbers;
       cuts = h.cuts;
       screens = h.screens;
       lines = on_put (λ j x. Line w j (w.server.records j) x) w.clients id c line (λ j e. h.lines j);
-      pieces = (λ d i. on_put (λ j x. IsPiece d.kind d (w.server.records d.client) (w.clients j)
-          → IsPiece d.kind d (w.server.records d.client) x) w.clients id c (like d.kind d) (λ j e p. p) d.client (h.pieces d i));
+      pieces = (λ d i. on_put (λ j x. IsPiece (is_to_server d.kind) d (w.server.records d.client) (w.clients j)
+          → IsPiece (is_to_server d.kind) d (w.server.records d.client) x) w.clients id c (like (is_to_server d.kind) d) (λ j e p. p)
+          d.client (h.pieces d i));
+      bears = (λ d i. on_put (λ j x. Bears d (w.clients j) → Bears d x) w.clients id c
+          (λ b. record { made = made; version = b.version ∙ sym version; watches = (λ t. b.watches t ∙ sym watches) }) (λ j e b. b) d.client (h.bears d i));
+      fits = on_put (λ j x. Fits (w.server.records j) x) w.clients id c (let f = h.fits id in record {
+        made = (λ e. made);
+        version = (λ e. f.version e ∙ sym version);
+        watches = (λ e. f.watches e ∙ sym watches);
+        none = f.none;
+      }) (λ j e. h.fits j);
+      watchers = on_put (λ j x. OnlyWatches x) w.clients id c alone (λ j e. h.watchers j);
       unused = on_put (λ j x. x.made ≡ false → x ≡ nobody) w.clients id c (λ f. let z : true ≡ false = sym made ∙ f in cc)
           (λ j e. h.unused j);
       slots = (λ slot j. on_put (λ k x. w.slots slot ≡ Some k → x.made ≡ true) w.clients id c (λ s. made) (λ k e. h.slots slot k) j);
     }
   where
-    like : (kind : Kind) (d : DatagramValue) → IsPiece kind d (w.server.records d.client) (w.clients id)
-        → IsPiece kind d (w.server.records d.client) c
-    like ToClient d p = p
-    like ToServer d p = subst (λ (us : List UpValue). IsPieceOf (cuts_of up_text us) (piece_of d)) (sym same) p
+    like : (to : Bool) (d : DatagramValue) → IsPiece to d (w.server.records d.client) (w.clients id)
+        → IsPiece to d (w.server.records d.client) c
+    like false d p = p
+    like true d p = subst (λ (us : List UpValue). IsPieceOf (cuts_of up_text us) (piece_of d)) (sym same) p
+
+-- what a start sends goes to the server, and tells whether it watches
+pub kind_goes : (watches : Bool) → is_to_server (kind_from watches) ≡ true
+kind_goes true = refl
+kind_goes false = refl
+
+pub kind_watches : (watches : Bool) → is_watching (kind_from watches) ≡ watches
+kind_watches true = refl
+kind_watches false = refl
 
 -- all that was typed: what is acknowledged, and what isn't
 typed_length : (taken : List Act) (r : Record) (c : Client) → ActsOf taken r c → length c.typed ≡ c.acts.acked + length c.acts.acts
@@ -115,10 +140,10 @@ typed_length taken r c a =
     let held = ap length a.typed.held in
     omega (arith, known, held, length-drop c.acts.acked c.typed)
 
-pub keeps-typed : (w : World) (id : ℕ) (act : Act) → (w.clients id).made ≡ true → IsAct act → (IsFull (w.clients id).acts → ⊥)
+pub keeps-typed : (w : World) (id : ℕ) (act : Act) → (w.clients id).made ≡ true → (w.clients id).watches ≡ false → IsAct act → (IsFull (w.clients id).acts → ⊥)
     → (IsSpent (w.clients id).acts → ⊥)
     → Holds w → Holds (with_client w id (after_typed (w.clients id) act))
-keeps-typed w id act made is full spent h =
+keeps-typed w id act made edits is full spent h =
     let c = w.clients id in
     let l = h.lines id in
     let a = l.acts in
@@ -129,7 +154,7 @@ keeps-typed w id act made is full spent h =
     let below = a.below in
     let fits : length (w.clients id).typed + 1 < 2 ^ 62 = not_spent room spent many below in
     let low = a.low in
-    keeps-client w id (after_typed (w.clients id) act) made refl
+    keeps-client w id (after_typed (w.clients id) act) made refl refl (λ z. absurd (let no : true ≡ false = sym z ∙ edits in cc)) refl
     (record {
       truth = l.truth;
       link = l.link;
@@ -170,7 +195,7 @@ pub keeps-quiet : (w : World) (id now : ℕ) → (w.clients id).made ≡ true �
 keeps-quiet w id now made h =
     let l = h.lines id in
     let a = l.acts in
-    keeps-client w id (after_quiet (w.clients id) now) made refl
+    keeps-client w id (after_quiet (w.clients id) now) made refl refl (h.watchers id) refl
     (record {
       truth = l.truth;
       link = l.link;
@@ -198,7 +223,7 @@ pub keeps-piece : (w : World) (id now : ℕ) (g : Gathering) → (w.clients id).
 keeps-piece w id now g made of h =
     let l = h.lines id in
     let a = l.acts in
-    keeps-client w id (after_piece (w.clients id) now g) made refl
+    keeps-client w id (after_piece (w.clients id) now g) made refl refl (h.watchers id) refl
     (record {
       truth = l.truth;
       link = l.link;
@@ -254,17 +279,18 @@ hearken {S} applied Is s r r' u WasSent WasAnswered one truth link sent delivers
 
 pub keeps-whole : (w : World) (id now : ℕ) (g : Gathering) (r' : Receiving Screenshot) (v : DownValue) → (w.clients id).made ≡ true
     → Gathers down_text (w.server.records id).instructions g → IsIn v (w.server.records id).instructions
-    → Delivers applied (w.clients id).receiver (update_in v) r' → Holds w → Holds (with_client w id (after_whole (w.clients id) now g r' v))
+    → Delivers (applied_by (w.clients id).version) (w.clients id).receiver (update_in v) r'
+    → Holds w → Holds (with_client w id (after_whole (w.clients id) now g r' v))
 keeps-whole w id now g r' v made of sent delivers h =
     let c = w.clients id in
     let r = w.server.records id in
     let l = h.lines id in
     let a = l.acts in
     let few = a.few in
-    let t = hearken applied (IsScreenOf w.server.size w.server.log w.server.cuts) r.sender c.receiver r' (update_in v)
+    let t = hearken (applied_by c.version) (IsScreenOf c.version w.server.size w.server.log w.server.cuts) r.sender c.receiver r' (update_in v)
     (Tells r.instructions) (Acks c.instructions)
-    (one_screen w.server.size w.server.log w.server.cuts) l.truth l.link (v, sent, refl) delivers in
-    keeps-client w id (after_whole (w.clients id) now g r' v) made refl
+    (one_screen c.version w.server.size w.server.log w.server.cuts) l.truth l.link (v, sent, refl) delivers in
+    keeps-client w id (after_whole (w.clients id) now g r' v) made refl refl (h.watchers id) refl
     (record {
       truth = t.truth;
       link = t.link;
@@ -305,7 +331,7 @@ up_is w id e h =
     let c = w.clients id in
     let l = h.lines id in
     let a = l.acts in
-    let made = (newest_true (IsScreenOf w.server.size w.server.log w.server.cuts) c.receiver l.truth.receiver).made in
+    let made = (newest_true (IsScreenOf c.version w.server.size w.server.log w.server.cuts) c.receiver l.truth.receiver).made in
     let numbers = h.numbers in
     let left = or_left (is_spent (c.acts.acked + 1) || is_spent (length c.instructions + 1))
     (is_spent (c.datagrams + length (pieces_from c))) e in
@@ -352,10 +378,24 @@ keeps-sending w id now made e h =
         notes = l.notes;
       }) (λ j f. h.lines j);
       pieces = (λ d i. elim (IsIn-append_cases d w.sent (datagrams_from w.server.session id c) i) [
-        | inl o ↦ on_put (λ j x. IsPiece d.kind d (w.server.records d.client) (w.clients j)
-            → IsPiece d.kind d (w.server.records d.client) x) w.clients id c' (like d.kind d) (λ j f p. p) d.client (h.pieces d o)
+        | inl o ↦ on_put (λ j x. IsPiece (is_to_server d.kind) d (w.server.records d.client) (w.clients j)
+            → IsPiece (is_to_server d.kind) d (w.server.records d.client) x) w.clients id c' (like (is_to_server d.kind) d)
+            (λ j f p. p) d.client (h.pieces d o)
         | inr n ↦ new d n
       ]);
+      bears = (λ d i. elim (IsIn-append_cases d w.sent (datagrams_from w.server.session id c) i) [
+        | inl o ↦ on_put (λ j x. Bears d (w.clients j) → Bears d x) w.clients id c'
+            (λ b. record { made = made; version = b.version; watches = b.watches }) (λ j f b. b) d.client (h.bears d o)
+        | inr n ↦ subst (λ (k : ℕ). Bears d (put w.clients id c' k)) (sym (packed d n).client_is)
+            (subst (λ (x : Client). Bears d x) (sym (put_same w.clients id c')) (record {
+              made = made;
+              version = (packed d n).version_is;
+              watches = (λ t. ap is_watching (packed d n).kind_is ∙ kind_watches (w.clients id).watches);
+            }))
+      ]);
+      fits = on_put (λ j x. Fits (w.server.records j) x) w.clients id c' (let f = h.fits id in
+          record { made = (λ g. made); version = f.version; watches = f.watches; none = f.none }) (λ j g. h.fits j);
+      watchers = on_put (λ j x. OnlyWatches x) w.clients id c' (h.watchers id) (λ j g. h.watchers j);
       unused = on_put (λ j x. x.made ≡ false → x ≡ nobody) w.clients id c' (λ f. let z : true ≡ false = sym made ∙ f in cc)
           (λ j f. h.unused j);
       slots = (λ slot j. on_put (λ k x. w.slots slot ≡ Some k → x.made ≡ true) w.clients id c' (λ s. made) (λ k f. h.slots slot k) j);
@@ -381,35 +421,68 @@ keeps-sending w id now made e h =
     acks n b = elim (IsIn-push_cases b.0 (up_from (w.clients id)) (w.clients id).instructions b.1)
         [ inl o ↦ inl (b.0, o, b.2) | inr f ↦ inr (sym b.2 ∙ ap (λ (u : UpValue). u.acked) (sym f)) ]
 
-    like : (kind : Kind) (d : DatagramValue) → IsPiece kind d (w.server.records d.client) (w.clients id)
-        → IsPiece kind d (w.server.records d.client) (after_sending (w.clients id) now)
-    like ToClient d p = p
-    like ToServer d p = piece-more up_text (w.clients id).instructions (up_from (w.clients id) ∷ []) (piece_of d) p
+    packed : (d : DatagramValue) → IsIn d (datagrams_from w.server.session id (w.clients id))
+        → IsPacked up_text ((w.clients id).instructions ++ up_from (w.clients id) ∷ []) (w.clients id).version (kind_from (w.clients id).watches) w.server.session id d
+    packed d i = packed_is up_text (w.clients id).instructions (up_from (w.clients id)) (w.clients id).version (kind_from (w.clients id).watches) w.server.session id
+        (w.clients id).datagrams d i
+
+    like : (to : Bool) (d : DatagramValue) → IsPiece to d (w.server.records d.client) (w.clients id)
+        → IsPiece to d (w.server.records d.client) (after_sending (w.clients id) now)
+    like false d p = p
+    like true d p = piece-more up_text (w.clients id).instructions (up_from (w.clients id) ∷ []) (piece_of d) p
 
     new : (d : DatagramValue) → IsIn d (datagrams_from w.server.session id (w.clients id))
-        → IsPiece d.kind d (w.server.records d.client) (put w.clients id (after_sending (w.clients id) now) d.client)
+        → IsPiece (is_to_server d.kind) d (w.server.records d.client) (put w.clients id (after_sending (w.clients id) now) d.client)
     new d i =
-        let p = packed_is up_text (w.clients id).instructions (up_from (w.clients id)) ToServer w.server.session id
-        (w.clients id).datagrams d i in
-        subst (λ (kind : Kind). IsPiece kind d (w.server.records d.client) (put w.clients id (after_sending (w.clients id) now) d.client))
+        let p = packed d i in
+        subst (λ (kind : Kind). IsPiece (is_to_server kind) d (w.server.records d.client)
+        (put w.clients id (after_sending (w.clients id) now) d.client))
         (sym p.kind_is)
-        (subst (λ (k : ℕ). IsPiece ToServer d (w.server.records d.client) (put w.clients id (after_sending (w.clients id) now) k))
+        (subst (λ (to : Bool). IsPiece to d (w.server.records d.client) (put w.clients id (after_sending (w.clients id) now) d.client))
+        (sym (kind_goes (w.clients id).watches))
+        (subst (λ (k : ℕ). IsPiece true d (w.server.records d.client) (put w.clients id (after_sending (w.clients id) now) k))
         (sym p.client_is)
-        (subst (λ (x : Client). IsPiece ToServer d (w.server.records d.client) x)
-        (sym (put_same w.clients id (after_sending (w.clients id) now))) p.piece))
+        (subst (λ (x : Client). IsPiece true d (w.server.records d.client) x)
+        (sym (put_same w.clients id (after_sending (w.clients id) now))) p.piece)))
 
-pub keeps-start : (w : World) (slot id : ℕ) → (w.clients id).made ≡ false → Holds w → Holds (after_start w slot id)
-keeps-start w slot id made h =
+-- no record is known of a start that isn't made
+unknown : (r : Record) (c : Client) → c.made ≡ false → Fits r c → r ≡ no_record
+unknown r c made f = go r.known refl
+  where
+    go : (b : Bool) → r.known ≡ b → r ≡ no_record
+    go true e = absurd (let z : true ≡ false = sym (f.made e) ∙ made in cc)
+    go false e = f.none e
+
+-- both ends have the first screen alone, which is one screen in each version
+first_true : (v : Version) (watches : Bool) (size : SessionSize) (log : List Entry) (cuts : List ℕ) (r : Record) → r ≡ no_record
+    → TrueLine (applied_by v) (IsScreenOf v size log cuts) r.sender (new_client v watches).receiver (Tells r.instructions)
+unfolding no_record nobody
+first_true v watches size log cuts r is =
+    subst (λ (x : Record). TrueLine (applied_by v) (IsScreenOf v size log cuts) x.sender (new_client v watches).receiver (Tells x.instructions))
+    (sym is) (true_at_first (applied_by v) (IsScreenOf v size log cuts) first_screen (Tells []) (first_is v size log cuts) (λ u t. t.1))
+
+none_typed : (v : Version) (watches : Bool) → (new_client v watches).typed ≡ []
+unfolding nobody
+none_typed v watches = refl
+
+is_new : (v : Version) (watches : Bool) → is_unfit v watches ≡ false → watches ≡ true → v ≡ Two
+is_new One watches fit z = absurd (let no : true ≡ false = sym z ∙ fit in cc)
+is_new Two watches fit z = refl
+
+pub keeps-start : (w : World) (slot id : ℕ) (v : Version) (watches : Bool) → (w.clients id).made ≡ false
+    → is_unfit v watches ≡ false → Holds w → Holds (after_start w slot id v watches)
+keeps-start w slot id v watches made fit h =
     let is = h.unused id made in
     let l = subst (λ (x : Client). Line w id (w.server.records id) x) is (h.lines id) in
     let a = l.acts in
+    let none = unknown (w.server.records id) (w.clients id) made (h.fits id) in
     record {
       size = h.size;
       numbers = h.numbers;
       cuts = h.cuts;
       screens = h.screens;
-      lines = on_put (λ j x. Line w j (w.server.records j) x) w.clients id new_client (record {
-        truth = l.truth;
+      lines = on_put (λ j x. Line w j (w.server.records j) x) w.clients id (new_client v watches) (record {
+        truth = first_true v watches w.server.size w.server.log w.server.cuts (w.server.records id) none;
         link = l.link;
         acts = record {
           count = a.count;
@@ -428,20 +501,30 @@ keeps-start w slot id made h =
         gathers_up = l.gathers_up;
         notes = l.notes;
       }) (λ j e. h.lines j);
-      pieces = (λ d i. on_put (λ j x. IsPiece d.kind d (w.server.records d.client) (w.clients j)
-          → IsPiece d.kind d (w.server.records d.client) x) w.clients id new_client
-          (λ p. like d.kind d (subst (λ (x : Client). IsPiece d.kind d (w.server.records d.client) x) is p)) (λ j e p. p) d.client
-          (h.pieces d i));
-      unused = on_put (λ j x. x.made ≡ false → x ≡ nobody) w.clients id new_client (λ f. let z : true ≡ false = f in cc)
+      pieces = (λ d i. on_put (λ j x. IsPiece (is_to_server d.kind) d (w.server.records d.client) (w.clients j)
+          → IsPiece (is_to_server d.kind) d (w.server.records d.client) x) w.clients id (new_client v watches)
+          (λ p. like (is_to_server d.kind) d (subst (λ (x : Client). IsPiece (is_to_server d.kind) d (w.server.records d.client) x) is p))
+          (λ j e p. p) d.client (h.pieces d i));
+      bears = (λ d i. on_put (λ j x. Bears d (w.clients j) → Bears d x) w.clients id (new_client v watches)
+          (λ b. absurd (let z : true ≡ false = sym b.made ∙ made in cc)) (λ j e b. b) d.client (h.bears d i));
+      fits = on_put (λ j x. Fits (w.server.records j) x) w.clients id (new_client v watches) (let f = h.fits id in record {
+        made = (λ e. refl);
+        version = (λ e. absurd (let z : true ≡ false = sym (f.made e) ∙ made in cc));
+        watches = (λ e. absurd (let z : true ≡ false = sym (f.made e) ∙ made in cc));
+        none = f.none;
+      }) (λ j e. h.fits j);
+      watchers = on_put (λ j x. OnlyWatches x) w.clients id (new_client v watches) (λ z. (none_typed v watches, is_new v watches fit z))
+          (λ j e. h.watchers j);
+      unused = on_put (λ j x. x.made ≡ false → x ≡ nobody) w.clients id (new_client v watches) (λ f. let z : true ≡ false = f in cc)
           (λ j e. h.unused j);
-      slots = (λ place j. on_put (λ k x. x ≡ Some j → (put w.clients id new_client j).made ≡ true) w.slots slot (Some id)
-          (λ e. let same : id ≡ j = cc in subst (λ (k : ℕ). (put w.clients id new_client k).made ≡ true) same
-          (ap (λ (x : Client). x.made) (put_same w.clients id new_client)))
-          (λ k f s. on_put (λ i x. w.slots k ≡ Some i → x.made ≡ true) w.clients id new_client (λ t. refl) (λ i e. h.slots k i) j s)
+      slots = (λ place j. on_put (λ k x. x ≡ Some j → (put w.clients id (new_client v watches) j).made ≡ true) w.slots slot (Some id)
+          (λ e. let same : id ≡ j = cc in subst (λ (k : ℕ). (put w.clients id (new_client v watches) k).made ≡ true) same
+          (ap (λ (x : Client). x.made) (put_same w.clients id (new_client v watches))))
+          (λ k f s. on_put (λ i x. w.slots k ≡ Some i → x.made ≡ true) w.clients id (new_client v watches) (λ t. refl) (λ i e. h.slots k i) j s)
           place);
     }
   where
-    like : (kind : Kind) (d : DatagramValue) → IsPiece kind d (w.server.records d.client) nobody
-        → IsPiece kind d (w.server.records d.client) new_client
-    like ToClient d p = p
-    like ToServer d p = p
+    like : (to : Bool) (d : DatagramValue) → IsPiece to d (w.server.records d.client) nobody
+        → IsPiece to d (w.server.records d.client) (new_client v watches)
+    like false d p = p
+    like true d p = p

@@ -1,3 +1,4 @@
+pub mod Versions
 pub mod Members
 pub mod Screens
 pub mod Acting
@@ -13,6 +14,7 @@ pub mod Delivering
 pub mod OneRound
 pub mod Answering
 pub mod Replying
+pub mod Alike
 pub mod Sendable
 pub mod Passing
 mod WorkedRows

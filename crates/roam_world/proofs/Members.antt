@@ -72,5 +72,12 @@ on_put P f i x here others j = go (nat_eq j i) refl
     go true e = let same : i ≡ j = grind (arith, nat_tests) in subst (λ (k : ℕ). P k x) same here
     go false e = others j e
 
+pub put_other : {X : Type 0} (f : ℕ → X) (i : ℕ) (x : X) (j : ℕ) → (j ≡ i → ⊥) → put f i x j ≡ f j
+put_other f i x j other = go (nat_eq j i) refl
+  where
+    go : (b : Bool) → nat_eq j i ≡ b → cond b x (f j) ≡ f j
+    go true e = absurd (other (grind (arith, nat_tests)))
+    go false e = refl
+
 pub put_same : {X : Type 0} (f : ℕ → X) (i : ℕ) (x : X) → put f i x i ≡ x
 put_same f i x = grind (arith, nat_tests)

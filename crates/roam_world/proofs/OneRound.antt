@@ -3,12 +3,10 @@ use Rattle.std.proofs.Common.{◌≡◌, ℕ, ◌+◌, ◌<◌, List, [], ◌∷
 use Rattle.std.specs.Prelude.{map}
 use Rattle.std.specs.List.{enumerate_from}
 use Rattle.roam_cells.specs.declared.faults.Fault.TheVariants.{OutOfMemory}
-use Rattle.roam_cells.specs.Screenshot.{Screenshot}
+use Rattle.roam_screens.specs.Screenshot.{Screenshot}
 use Rattle.roam_sync.specs.Senders.{newest}
 use Rattle.roam_sync.proofs.Ends.{marked_newest}
-use Rattle.roam_wire.specs.declared.datagrams.Kind.TheVariants.{ToClient as ToClientKind}
 use Rattle.roam_wire.specs.Cutting.{pieces_of}
-use Rattle.roam_wire.specs.Datagrams.{DatagramValue}
 use Rattle.roam_wire.specs.Gatherers.{Piece, Gathering, piece_of}
 use Rattle.roam_wire.specs.Pieces.{all_there}
 use Rattle.roam_wire.specs.Arrivals.{IsPieceOf, GathersOf}
@@ -16,18 +14,21 @@ use Rattle.roam_wire.specs.Instructions.{DownValue, down_text}
 use Rattle.roam_world.specs.Lists.{IsIn}
 use Rattle.roam_world.specs.Texts.{datagram_with, datagrams_of}
 use Rattle.roam_world.specs.Servers.{Record, Server, moment}
-use Rattle.roam_world.specs.Ticks.{number_after, screen_after, holds_after, sends, down_to, pieces_to, after_sent, ticked, datagrams_to, Parcel, parcel, parcels_to, sent_by, is_tick_spent}
+use Rattle.roam_world.specs.Ticks.{number_after, screen_to, holds_after, sends, down_to, pieces_to, after_sent, ticked, datagrams_to, Parcel, parcel, parcels_to, sent_by, is_tick_spent}
 use Rattle.roam_world.specs.Worlds.{World, ToClient, Reply, Failed, datagram_at, after_server_tick}
 use Rattle.roam_world.specs.Steps.{ServerTickStep, spent, ticked as did_tick, no_memory, Run}
 use Rattle.roam_world.specs.Laws.{deliveries, IsFresh, DeliversAll, OneRoundSuffices}
 use Rattle.roam_world.specs.Holds.{numbered, pieces_by, cuts_of, Holds}
 use Rattle.roam_world.proofs.Members.{IsIn-map, IsIn-flat_map}
 use Rattle.roam_world.proofs.Pieces.{numbered-last}
-use Rattle.roam_world.proofs.ServerKeeps.{to_record, keeps-tick}
+use Rattle.roam_world.proofs.ServerKeeps.{to_record, to_known, keeps-tick}
 use Rattle.roam_world.proofs.Runs.{keeps-step}
 use Rattle.roam_world.proofs.Gathered.{gathered_all, AllOf, Comes, all_gathered_anew}
 use Rattle.roam_world.proofs.Places.{map_here, flat_here, enumerate_here, some_at, number_behind, late, no_later}
 use Rattle.roam_world.proofs.Delivering.{Shows, IsOne, IsTop, some_same, deliver}
+use Rattle.roam_wire.specs.declared.versions.Version.{Version}
+use Rattle.roam_wire.specs.declared.datagrams.Kind.TheVariants.{ToClient as ToClientKind}
+use Rattle.roam_wire.specs.Datagrams.{DatagramValue}
 
 -- ---- the deliveries
 
@@ -52,9 +53,10 @@ top_at w' w id n m v same t =
       top = subst (λ (q : Server). m ≡ (newest (q.records id).sender).number) same t.top;
     }
 
-one_at : (w' w : World) (id n : ℕ) → w.server ≡ w'.server → (d : DatagramValue) → IsOne w id n d → IsOne w' id n d
-one_at w' w id n same d o =
+one_at : (w' w : World) (id n : ℕ) → w.server ≡ w'.server → (w.clients id).version ≡ (w'.clients id).version → (d : DatagramValue) → IsOne w id n d → IsOne w' id n d
+one_at w' w id n same version d o =
     record {
+      version_is = o.version_is ∙ version;
       kind_is = o.kind_is;
       session_is = subst (λ (q : Server). d.session ≡ q.session) same o.session_is;
       client_is = o.client_is;
@@ -86,7 +88,7 @@ goes w w'' slot id n m v (k ∷ ks) (r ∷ rs) h s t each run fine =
     let s' : run.0.slots slot ≡ Some id = ap (λ (q : ℕ → Option ℕ). q slot) one.slots ∙ s in
     let rest = goes run.0 w'' slot id n m v ks rs h' s' t'
     (λ k later i. let e = each k later (inr i) in
-    (e.0, ap (λ (ds : List DatagramValue). datagram_at ds k) one.sent ∙ e.1, one_at run.0 w id n (sym one.server) e.0 e.2)) run.2
+    (e.0, ap (λ (ds : List DatagramValue). datagram_at ds k) one.sent ∙ e.1, one_at run.0 w id n (sym one.server) (sym one.version) e.0 e.2)) run.2
     (λ i. fine (inr i)) in
     record {
       ps = piece_of first.0 ∷ rest.ps;
@@ -110,26 +112,26 @@ goes w w'' slot id n m v (k ∷ ks) (r ∷ rs) h s t each run fine =
 
 -- ---- the datagrams of a tick to one start
 
-packed_id : (session client before id : ℕ) (pieces : List (List ℕ)) (d : DatagramValue)
-    → IsIn d (datagrams_of ToClientKind session client before id pieces) → d.id ≡ id
-packed_id session client before id pieces d i =
-    let m = IsIn-map (datagram_with ToClientKind session client before id (length pieces)) d (enumerate_from 0 pieces) i in ap
+packed_id : (v : Version) (session client before id : ℕ) (pieces : List (List ℕ)) (d : DatagramValue)
+    → IsIn d (datagrams_of v ToClientKind session client before id pieces) → d.id ≡ id
+packed_id v session client before id pieces d i =
+    let m = IsIn-map (datagram_with v ToClientKind session client before id (length pieces)) d (enumerate_from 0 pieces) i in ap
     (λ (q : DatagramValue). q.id) (sym m.2)
 
 -- a datagram of the tick to this start is one of those to its record
 to_start : (s : Server) (now id : ℕ) (d : DatagramValue) → IsIn d (map (λ (p : Parcel). p.datagram) (sent_by s now)) → d.client ≡ id
-    → IsIn id s.arrival × IsIn d (datagrams_to s.session id (s.records id) (number_after s now) (screen_after s now) now)
+    → IsIn id s.arrival × IsIn d (datagrams_to s.session id (s.records id) (number_after s now) (screen_to s now id) now)
 to_start s now id d i same =
     let a = IsIn-map (λ (p : Parcel). p.datagram) d (sent_by s now) i in
     let f = IsIn-flat_map (parcels_to s now) a.0 s.arrival a.1 in
     let m = IsIn-map (parcel (s.records f.0).address) a.0
-    (datagrams_to s.session f.0 (s.records f.0) (number_after s now) (screen_after s now) now) f.2 in
+    (datagrams_to s.session f.0 (s.records f.0) (number_after s now) (screen_to s now f.0) now) f.2 in
     let is : m.0 ≡ d = ap (λ (y : Parcel). y.datagram) m.2 ∙ a.2 in
-    let p = to_record s.session f.0 (s.records f.0) (number_after s now) (screen_after s now) now m.0 m.1 in
+    let p = to_record s.session f.0 (s.records f.0) (number_after s now) (screen_to s now f.0) now m.0 m.1 in
     let at : f.0 ≡ id = sym p.client_is ∙ ap (λ (y : DatagramValue). y.client) is ∙ same in (
       subst (λ (k : ℕ). IsIn k s.arrival) at f.1,
-      subst (λ (k : ℕ). IsIn d (datagrams_to s.session k (s.records k) (number_after s now) (screen_after s now) now)) at
-          (subst (λ (y : DatagramValue). IsIn y (datagrams_to s.session f.0 (s.records f.0) (number_after s now) (screen_after s now)
+      subst (λ (k : ℕ). IsIn d (datagrams_to s.session k (s.records k) (number_after s now) (screen_to s now k) now)) at
+          (subst (λ (y : DatagramValue). IsIn y (datagrams_to s.session f.0 (s.records f.0) (number_after s now) (screen_to s now f.0)
           now)) is m.1),
     )
 
@@ -139,9 +141,9 @@ sends_to : (session id : ℕ) (r : Record) (n : ℕ) (s : Screenshot) (now : ℕ
 sends_to session id r n s now d i = go (sends r n s now) refl i
   where
     go : (b : Bool) → sends r n s now ≡ b → IsIn d
-        (cond b (datagrams_of ToClientKind session id r.datagrams (length r.instructions + 1) (pieces_to r n s now)) [])
+        (cond b (datagrams_of r.version ToClientKind session id r.datagrams (length r.instructions + 1) (pieces_to r n s now)) [])
         → (sends r n s now ≡ true) × (d.id ≡ length r.instructions + 1)
-    go true e i = (e, packed_id session id r.datagrams (length r.instructions + 1) (pieces_to r n s now) d i)
+    go true e i = (e, packed_id r.version session id r.datagrams (length r.instructions + 1) (pieces_to r n s now) d i)
     go false e i = absurd i
 
 -- what a tick leaves, where it sends to this start
@@ -185,6 +187,7 @@ round_of w now id unspent h k0 d0 some =
           let t = to_start w.server now id d (late w.sent new k d f.0 f.1) f.2 in
           let p = to_record w.server.session id r n s now d t.1 in
           record {
+            version_is = p.version_is ∙ (h.fits id).version (to_known w.server.session id r n s now d t.1);
             kind_is = p.kind_is;
             session_is = p.session_is;
             client_is = f.2;
@@ -202,7 +205,7 @@ round_of w now id unspent h k0 d0 some =
           (enumerate_here 0 i x.0 (pieces_of (down_text (down_to r n s now))) x.1)) in
           let b : IsIn (mine i x.0) (datagrams_to w.server.session id r n s now) =
           subst (λ (b : Bool). IsIn (mine i x.0) (cond b
-          (datagrams_of ToClientKind w.server.session id r.datagrams (length r.instructions + 1) (pieces_to r n s now)) []))
+          (datagrams_of r.version ToClientKind w.server.session id r.datagrams (length r.instructions + 1) (pieces_to r n s now)) []))
           (sym sends'.0) a in
           let c = flat_here (parcels_to w.server now) id (parcel r.address (mine i x.0)) w.server.arrival first.0
           (map_here (parcel r.address) (mine i x.0) (datagrams_to w.server.session id r n s now) b) in
@@ -218,14 +221,14 @@ round_of w now id unspent h k0 d0 some =
     n = number_after w.server now
 
     s : Screenshot
-    s = screen_after w.server now
+    s = screen_to w.server now id
 
     new : List DatagramValue
     new = map (λ (p : Parcel). p.datagram) (sent_by w.server now)
 
     make : ℕ × List ℕ → DatagramValue
-    make = datagram_with ToClientKind w.server.session id (w.server.records id).datagrams (length (w.server.records id).instructions + 1)
-        (length (pieces_to (w.server.records id) (number_after w.server now) (screen_after w.server now) now))
+    make = datagram_with (w.server.records id).version ToClientKind w.server.session id (w.server.records id).datagrams (length (w.server.records id).instructions + 1)
+        (length (pieces_to (w.server.records id) (number_after w.server now) (screen_to w.server now id) now))
 
     mine : ℕ → List ℕ → DatagramValue
     mine i x = make (i, x)

@@ -2,9 +2,7 @@
 use Rattle.std.proofs.Common.{◌≡◌, ℕ, zero, suc, ◌+◌, ◌≤◌, List, [], ◌∷◌, ◌++◌, length, Option, Some, None, refl, sym, ap, ◌∙◌, subst, arith, length-append}
 use Rattle.std.specs.Prelude.{slice_get}
 use Rattle.std.specs.List.{enumerate_from}
-use Rattle.roam_wire.specs.declared.datagrams.Kind.{Kind}
 use Rattle.roam_wire.specs.Cutting.{pieces_of, joined}
-use Rattle.roam_wire.specs.Datagrams.{DatagramValue}
 use Rattle.roam_wire.specs.Gatherers.{Piece, Gathering, nothing, piece_of}
 use Rattle.roam_wire.specs.Arrivals.{IsPieceOf}
 use Rattle.roam_wire.proofs.Cuts.{joined-pieces}
@@ -12,6 +10,9 @@ use Rattle.roam_world.specs.Lists.{IsIn}
 use Rattle.roam_world.specs.Texts.{datagram_with, datagrams_of}
 use Rattle.roam_world.specs.Holds.{numbered, pieces_by, cuts_of, Gathers}
 use Rattle.roam_world.proofs.Members.{IsIn-map, IsIn-enumerate, IsIn-slice_get, slice_get-within, slice_get-more, slice_get-last}
+use Rattle.roam_wire.specs.declared.versions.Version.{Version}
+use Rattle.roam_wire.specs.declared.datagrams.Kind.{Kind}
+use Rattle.roam_wire.specs.Datagrams.{DatagramValue}
 
 numbered-within : {V : Type 0} (vs : List V) (n : ℕ) (v : V) → numbered vs n ≡ Some v → n ≤ length vs
 numbered-within vs zero v e = omega arith
@@ -92,22 +93,26 @@ whole_is text_of vs p text is e =
     }
 
 -- the datagrams of an instruction are its pieces
-pub record IsPacked {V : Type 0} (text_of : V → List ℕ) (vs : List V) (kind : Kind) (session client : ℕ) (d : DatagramValue) : Type 0 where
+pub record IsPacked {V : Type 0} (text_of : V → List ℕ) (vs : List V) (version : Version) (kind : Kind) (session client : ℕ)
+    (d : DatagramValue) : Type 0 where
+  pub version_is : d.version ≡ version
   pub kind_is : d.kind ≡ kind
   pub session_is : d.session ≡ session
   pub client_is : d.client ≡ client
   pub piece : IsPieceOf (cuts_of text_of vs) (piece_of d)
 
-pub packed_is : {V : Type 0} (text_of : V → List ℕ) (vs : List V) (v : V) (kind : Kind) (session client before : ℕ) (d : DatagramValue)
-    → IsIn d (datagrams_of kind session client before (length vs + 1) (pieces_of (text_of v)))
-    → IsPacked text_of (vs ++ v ∷ []) kind session client d
-packed_is {V} text_of vs v kind session client before d i =
-    let m = IsIn-map (datagram_with kind session client before (length vs + 1) (length (pieces_of (text_of v)))) d
+pub packed_is : {V : Type 0} (text_of : V → List ℕ) (vs : List V) (v : V) (version : Version) (kind : Kind) (session client before : ℕ)
+    (d : DatagramValue)
+    → IsIn d (datagrams_of version kind session client before (length vs + 1) (pieces_of (text_of v)))
+    → IsPacked text_of (vs ++ v ∷ []) version kind session client d
+packed_is {V} text_of vs v version kind session client before d i =
+    let m = IsIn-map (datagram_with version kind session client before (length vs + 1) (length (pieces_of (text_of v)))) d
     (enumerate_from 0 (pieces_of (text_of v))) i in
     let n = IsIn-enumerate 0 (pieces_of (text_of v)) m.0 m.1 in
     let last = cuts-last text_of vs v in
     let at : m.0.0 ≡ n.0 = n.1 ∙ (let z : 0 + n.0 ≡ n.0 = omega arith in z) in
     record {
+      version_is = ap (λ (x : DatagramValue). x.version) (sym m.2);
       kind_is = ap (λ (x : DatagramValue). x.kind) (sym m.2);
       session_is = ap (λ (x : DatagramValue). x.session) (sym m.2);
       client_is = ap (λ (x : DatagramValue). x.client) (sym m.2);

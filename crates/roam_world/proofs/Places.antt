@@ -3,10 +3,10 @@ use Rattle.std.proofs.Common.{◌≡◌, ℕ, zero, suc, ◌+◌, ◌-◌, ◌<�
 use Rattle.std.specs.Prelude.{nat_eq, slice_get, map}
 use Rattle.std.specs.List.{flat_map, enumerate_from}
 use Rattle.std.proofs.lemmas.Bool.Decides.{nat_tests}
-use Rattle.roam_wire.specs.Datagrams.{DatagramValue}
 use Rattle.roam_world.specs.Lists.{IsIn}
 use Rattle.roam_world.specs.Worlds.{datagram_at}
 use Rattle.roam_world.proofs.Members.{IsIn-append_left, IsIn-append_right, IsIn-slice_get, slice_get-within}
+use Rattle.roam_wire.specs.Datagrams.{DatagramValue}
 
 pub map_here : {X Y : Type 0} (f : X → Y) (x : X) (xs : List X) → IsIn x xs → IsIn (f x) (map f xs)
 map_here f x [] i = absurd i

@@ -1,40 +1,41 @@
 -- Each event has a reply that doesn't tell of memory.
-use Rattle.std.proofs.Common.{◌≡◌, ◌⊎◌, ℕ, ◌+◌, ◌<◌, ◌≤◌, ◌^◌, List, length, Option, Some, None, Bool, true, false, refl, sym, ap, ◌∙◌, subst, inl, inr, arith, cond}
+use Rattle.std.proofs.Common.{◌≡◌, ◌⊎◌, ℕ, zero, suc, ◌+◌, ◌-◌, ◌<◌, ◌≤◌, ◌^◌, List, [], length, take, drop, Option, Some, None, Bool, true, false, refl, sym, ap, ◌∙◌, subst, inl, inr, arith, cond}
 use Rattle.std.specs.Prelude.{nat_lt, nat_le, nat_eq, is_none, not, ◌&&◌}
 use Rattle.roam_cells.specs.declared.faults.Fault.{Fault}
-use Rattle.roam_cells.specs.declared.faults.Fault.TheVariants.{OutOfMemory, NoPane, Busy, TooLong, BadDatagram, OtherSession, OtherClient, ClientsFull, Spent}
+use Rattle.roam_cells.specs.declared.faults.Fault.TheVariants.{OutOfMemory, NoPane, Busy, TooLong, BadDatagram, OtherSession, OtherClient, ClientsFull, Spent, Watching}
 use Rattle.roam_cells.specs.declared.faults.Reason.TheVariants as reason
-use Rattle.roam_cells.specs.Screenshot.{Screenshot}
+use Rattle.roam_screens.specs.Screenshot.{Screenshot}
 use Rattle.roam_acts.specs.declared.acts.Act.{Act}
-use Rattle.roam_acts.specs.Senders.{last_number}
-use Rattle.roam_update.specs.Shots.{applied}
+use Rattle.roam_acts.specs.Senders.{last_number, IsStretch}
 use Rattle.roam_sync.specs.declared.receivers.Step.{Step}
 use Rattle.roam_sync.specs.declared.receivers.Step.TheVariants as step
 use Rattle.roam_sync.specs.Receivers.{Receiving, pairs, state_at, from_floor}
 use Rattle.roam_sync.specs.Lines.{Delivers}
 use Rattle.roam_sync.specs.TrueLines.{LeadsTruly}
 use Rattle.roam_sync.proofs.TrueStates.{found_true}
-use Rattle.roam_wire.specs.Datagrams.{DatagramValue}
 use Rattle.roam_wire.specs.Gatherers.{Gathering, Answer, Part, Old, Whole, gather, piece_of}
 use Rattle.roam_wire.specs.Instructions.{DownValue, UpValue}
 use Rattle.roam_session.specs.Sessions.{Given, Drained}
 use Rattle.roam_session.specs.Refusals.{refuses_bytes, output_at, bytes_refused}
+use Rattle.roam_world.specs.Versions.{is_same_version, applied_by}
 use Rattle.roam_world.specs.Lists.{IsIn}
 use Rattle.roam_world.specs.Numbers.{IsScreenOf}
-use Rattle.roam_world.specs.Texts.{Address, SaysUp, update_in}
+use Rattle.roam_world.specs.Texts.{Address, SaysUp, update_in, is_to_server, is_watching}
 use Rattle.roam_world.specs.Servers.{Server, moment, after_input}
-use Rattle.roam_world.specs.Comings.{is_to_server, Coming, turned_away, noted, completed, coming, coming_gathered, after_note, new_acts, after_acts, room_for}
+use Rattle.roam_world.specs.Comings.{Coming, turned_away, noted, completed, coming, coming_gathered, after_note, new_acts, after_acts, room_for, is_full_for, is_of_other, is_else}
 use Rattle.roam_world.specs.Ticks.{sent_by, is_tick_spent}
 use Rattle.roam_world.specs.Clients.{Client, moment_of, after_typed}
 use Rattle.roam_world.specs.Arrivals.{Hearing, Arriving, sent_back, kept, fulfilled, arriving, arriving_gathered, after_piece, step_of, hearing_of, after_whole}
 use Rattle.roam_world.specs.Sendings.{is_client_due, is_client_spent, datagrams_from, after_quiet}
 use Rattle.roam_world.specs.Worlds.{World, PaneBytes, Typed, ServerTick, ClientTick, ToServer, ToClient, Start, Drain, Done, Sent, Taken, Heard, Refused, Failed, Stopped, datagram_at, with_server, with_client, after_server_tick, after_client_sent, after_start}
-use Rattle.roam_world.specs.Steps.{refused, taken, no_pane, too_many, gone, empty_slot, full, spent, typed, ticked, quiet, sent, not_sent, piece, all_taken, no_room, whole, used, started}
+use Rattle.roam_world.specs.Steps.{refused, taken, no_pane, too_many, gone, empty_slot, full, spent, typed, ticked, quiet, sent, not_sent, piece, all_taken, no_room, whole, used, started, watching, unfit, is_unfit}
 use Rattle.roam_world.specs.Laws.{IsAmple, IsAnswered, HasReply}
 use Rattle.roam_world.specs.Holds.{Holds}
 use Rattle.roam_world.proofs.Screens.{one_screen}
-use Rattle.roam_world.proofs.Comes.{ComesWell, ArrivesWell}
-use Rattle.roam_world.proofs.Runs.{comes, arrives, reach_low}
+use Rattle.roam_world.proofs.Comes.{ComesWell, ArrivesWell, IsTo, to_server}
+use Rattle.roam_world.proofs.Runs.{comes, arrives, reach_low, was_sent}
+use Rattle.roam_wire.specs.declared.versions.Version.{Version}
+use Rattle.roam_wire.specs.Datagrams.{DatagramValue}
 
 -- ---- replies that don't tell of memory
 
@@ -88,15 +89,18 @@ coming_other : (s : Server) (d : DatagramValue) → IsOther (coming s d)
 unfolding IsOther
 coming_other s d =
     go (coming_gathered (gather (s.records d.client).gathering (piece_of d))) (not (is_to_server d.kind))
-    (not (nat_eq d.session s.session)) (not (s.records d.client).known && nat_le 64 (length s.arrival))
+    (not (nat_eq d.session s.session)) (is_full_for s d) (is_of_other s d) (is_else s d)
     (gathered_other (gather (s.records d.client).gathering (piece_of d)))
   where
-    go : (x : Coming) (a b c : Bool) → IsOther x → IsOther
-        (cond a (turned_away (BadDatagram reason.Kind)) (cond b (turned_away OtherSession) (cond c (turned_away ClientsFull) x)))
-    go x true b c i = λ e. cc
-    go x false true c i = λ e. cc
-    go x false false true i = λ e. cc
-    go x false false false i = i
+    go : (x : Coming) (a b c o q : Bool) → IsOther x → IsOther
+        (cond a (turned_away (BadDatagram reason.Kind)) (cond b (turned_away OtherSession) (cond c (turned_away ClientsFull)
+        (cond o (turned_away (BadDatagram reason.Version)) (cond q (turned_away (BadDatagram reason.Kind)) x)))))
+    go x true b c o q i = λ e. cc
+    go x false true c o q i = λ e. cc
+    go x false false true o q i = λ e. cc
+    go x false false false true q i = λ e. cc
+    go x false false false false true i = λ e. cc
+    go x false false false false false i = i
 
 away_other : (s : Server) (d : DatagramValue) (f : Fault) → coming s d ≡ turned_away f → f ≡ OutOfMemory → ⊥
 unfolding IsOther
@@ -118,14 +122,16 @@ arriving_else : (session id : ℕ) (c : Client) (d : DatagramValue) → IsElse (
 unfolding IsElse
 arriving_else session id c d =
     go (arriving_gathered (gather c.gathering (piece_of d))) (is_to_server d.kind) (not (nat_eq d.session session))
-    (not (nat_eq d.client id)) (gathered_else (gather c.gathering (piece_of d)))
+    (not (nat_eq d.client id)) (not (is_same_version c.version d.version)) (gathered_else (gather c.gathering (piece_of d)))
   where
-    go : (x : Arriving) (a b c : Bool) → IsElse x
-        → IsElse (cond a (sent_back (BadDatagram reason.Kind)) (cond b (sent_back OtherSession) (cond c (sent_back OtherClient) x)))
-    go x true b c i = λ e. cc
-    go x false true c i = λ e. cc
-    go x false false true i = λ e. cc
-    go x false false false i = i
+    go : (x : Arriving) (a b c o : Bool) → IsElse x
+        → IsElse (cond a (sent_back (BadDatagram reason.Kind)) (cond b (sent_back OtherSession) (cond c (sent_back OtherClient)
+        (cond o (sent_back (BadDatagram reason.Version)) x))))
+    go x true b c o i = λ e. cc
+    go x false true c o i = λ e. cc
+    go x false false true o i = λ e. cc
+    go x false false false true i = λ e. cc
+    go x false false false false i = i
 
 back_other : (session id : ℕ) (c : Client) (d : DatagramValue) (f : Fault) → arriving session id c d ≡ sent_back f → f ≡ OutOfMemory → ⊥
 unfolding IsElse
@@ -166,18 +172,18 @@ drain_reply w pane n (Some output) e =
 equal_or : (a b : ℕ) → (a ≡ b) ⊎ (a ≡ b → ⊥)
 equal_or a b = grind arith
 
-typed_reply : (w : World) (slot : ℕ) (act : Act) (o : Option ℕ) → w.slots slot ≡ o → IsAnswered w (Typed slot act)
-typed_reply w slot act None e = record { reply = Refused; left = w; step = empty_slot e refl refl; ample = refused_ample }
-typed_reply w slot act (Some id) e =
+edited_reply : (w : World) (slot : ℕ) (act : Act) (id : ℕ) → w.slots slot ≡ Some id → (w.clients id).watches ≡ false
+    → IsAnswered w (Typed slot act)
+edited_reply w slot act id e q =
     elim (equal_or (length (w.clients id).acts.acts) 1024) [
-      | inl f ↦ record { reply = Failed Busy; left = w; step = full id e f refl refl; ample = failed_ample Busy (λ g. cc) }
+      | inl f ↦ record { reply = Failed Busy; left = w; step = full id e q f refl refl; ample = failed_ample Busy (λ g. cc) }
       | inr f ↦ elim (spent_or (length (w.clients id).acts.acts) (last_number (w.clients id).acts)) [
-        | inl g ↦ record { reply = Failed Spent; left = w; step = spent id e g refl refl; ample = failed_ample Spent (λ z. cc) }
+        | inl g ↦ record { reply = Failed Spent; left = w; step = spent id e q g refl refl; ample = failed_ample Spent (λ z. cc) }
         | inr g ↦ record {
           reply = Done;
           left = with_client w id (after_typed (w.clients id) act);
           step =
-              typed id e f g refl refl;
+              typed id e q f g refl refl;
           ample = done_ample;
         }
       ]
@@ -192,6 +198,14 @@ typed_reply w slot act (Some id) e =
       where
         below : (a : ℕ) → (a < 1024) ⊎ (a < 1024 → ⊥)
         below a = grind arith
+
+typed_reply : (w : World) (slot : ℕ) (act : Act) (o : Option ℕ) → w.slots slot ≡ o → IsAnswered w (Typed slot act)
+typed_reply w slot act None e = record { reply = Refused; left = w; step = empty_slot e refl refl; ample = refused_ample }
+typed_reply w slot act (Some id) e = go (w.clients id).watches refl
+  where
+    go : (b : Bool) → (w.clients id).watches ≡ b → IsAnswered w (Typed slot act)
+    go true q = record { reply = Failed Watching; left = w; step = watching id e q refl refl; ample = failed_ample Watching (λ z. cc) }
+    go false q = edited_reply w slot act id e q
 
 server_tick_reply : (w : World) (now : ℕ) (b : Bool) → is_tick_spent w.server (moment w.server now) ≡ b → IsAnswered w (ServerTick now)
 server_tick_reply w now true e = record
@@ -225,9 +239,25 @@ client_tick_reply w slot now (Some id) e = go (is_client_due (w.clients id) (mom
       ample = sent_ample (length w.sent + 1) (length (datagrams_from w.server.session id (w.clients id)));
     }
 
-start_reply : (w : World) (slot id : ℕ) (b : Bool) → (w.clients id).made ≡ b → IsAnswered w (Start slot id)
-start_reply w slot id true e = record { reply = Refused; left = w; step = used e refl refl; ample = refused_ample }
-start_reply w slot id false e = record { reply = Done; left = after_start w slot id; step = started e refl refl; ample = done_ample }
+start_reply : (w : World) (slot id : ℕ) (v : Version) (watches b c : Bool) → (w.clients id).made ≡ b → is_unfit v watches ≡ c
+    → IsAnswered w (Start slot id v watches)
+start_reply w slot id v watches true c e f = record { reply = Refused; left = w; step = used e refl refl; ample = refused_ample }
+start_reply w slot id v watches false true e f = record { reply = Refused; left = w; step = unfit f refl refl; ample = refused_ample }
+start_reply w slot id v watches false false e f =
+    record { reply = Done; left = after_start w slot id v watches; step = started e f refl refl; ample = done_ample }
+
+-- nothing is a stretch of nothing but nothing
+no_acts : (all acts : List Act) (first : ℕ) → all ≡ [] → IsStretch all first acts → acts ≡ []
+no_acts all acts first none s = s.is ∙ ap (λ (xs : List Act). take s.count (drop (first - 1) xs)) none
+    ∙ ap (take s.count) (drop_none (first - 1)) ∙ take_none s.count
+  where
+    drop_none : (n : ℕ) → drop {A = Act} n [] ≡ []
+    drop_none zero = refl
+    drop_none (suc n) = refl
+
+    take_none : (n : ℕ) → take {A = Act} n [] ≡ []
+    take_none zero = refl
+    take_none (suc n) = refl
 
 -- ---- a datagram to the server
 
@@ -236,7 +266,7 @@ server_reply : (w : World) (k : ℕ) (from : Address) (now : ℕ) → Holds w �
 server_reply w k from now h None e = record { reply = Refused; left = w; step = not_sent e refl refl; ample = refused_ample }
 server_reply w k from now h (Some d) e = go (coming w.server d) refl (comes w k d e h)
   where
-    room : (g : Gathering) (text : List ℕ) (u : UpValue) → coming w.server d ≡ completed g text → SaysUp text u
+    room : (g : Gathering) (text : List ℕ) (u : UpValue) → coming w.server d ≡ completed g text → SaysUp (is_watching d.kind) text u
         → IsAnswered w (ToServer k from now)
     room g text u f says =
         elim (cases (room_for w.server d u) (length (new_acts w.server d u))
@@ -277,19 +307,28 @@ server_reply w k from now h (Some d) e = go (coming w.server d) refl (comes w k 
     }
     go (completed g text) x well =
         let of = (subst (ComesWell (w.clients d.client).instructions) x well).1 in
-        room g text of.value x (record { is = (h.lines d.client).ups of.value of.there; spelled = of.is })
+        let goes = subst (IsTo (is_to_server d.kind)) x (to_server w.server d) in
+        let b = h.bears d (was_sent w k d e) in
+        room g text of.value x (record {
+          is = record {
+            is = (h.lines d.client).ups of.value of.there;
+            none = (λ z. no_acts (w.clients d.client).typed of.value.acts of.value.first
+                (h.watchers d.client (sym (b.watches goes) ∙ z)).0 ((h.lines d.client).acts.told of.value of.there));
+          };
+          spelled = of.is;
+        })
 
 -- ---- a datagram to a client start
 
 -- an update that was sent is heard
 heard_by : (w : World) (id : ℕ) (v : DownValue) → IsIn v (w.server.records id).instructions → Holds w
-    → (r : Receiving Screenshot) × Delivers applied (w.clients id).receiver (update_in v) r
+    → (r : Receiving Screenshot) × Delivers (applied_by (w.clients id).version) (w.clients id).receiver (update_in v) r
 heard_by w id v was h = go (step_of (w.clients id) v) refl (state_at v.old (pairs (w.clients id).receiver)) refl
   where
     c : Receiving Screenshot
     c = (w.clients id).receiver
 
-    leads : LeadsTruly applied (IsScreenOf w.server.size w.server.log w.server.cuts) (update_in v)
+    leads : LeadsTruly (applied_by (w.clients id).version) (IsScreenOf (w.clients id).version w.server.size w.server.log w.server.cuts) (update_in v)
     leads = (h.lines id).truth.updates (update_in v) (v, was, refl)
 
     there : (o : Option Screenshot) → state_at v.old (pairs (w.clients id).receiver) ≡ o → step_of (w.clients id) v ≡ step.New
@@ -307,19 +346,19 @@ heard_by w id v was h = go (step_of (w.clients id) v) refl (state_at v.old (pair
             step.New) ≡ step.New) n g in cc
 
     other : (x : Step) → step_of (w.clients id) v ≡ x → (x ≡ step.New → ⊥)
-        → (r : Receiving Screenshot) × Delivers applied (w.clients id).receiver (update_in v) r
+        → (r : Receiving Screenshot) × Delivers (applied_by (w.clients id).version) (w.clients id).receiver (update_in v) r
     other x e differs = (c, record { fresh = (λ f. absurd (differs (sym e ∙ f))); other = (λ f. refl) })
 
     go : (x : Step) → step_of (w.clients id) v ≡ x → (o : Option Screenshot) → state_at v.old (pairs (w.clients id).receiver) ≡ o
-        → (r : Receiving Screenshot) × Delivers applied (w.clients id).receiver (update_in v) r
+        → (r : Receiving Screenshot) × Delivers (applied_by (w.clients id).version) (w.clients id).receiver (update_in v) r
     go step.Old e o f = other step.Old e (λ z. cc)
     go step.Gap e o f = other step.Gap e (λ z. cc)
     go step.New e None f = absurd (there None f e refl)
     go step.New e (Some base) f =
-        let mine : IsScreenOf w.server.size w.server.log w.server.cuts v.old base =
-        found_true (IsScreenOf w.server.size w.server.log w.server.cuts) v.old (pairs (w.clients id).receiver) base
+        let mine : IsScreenOf (w.clients id).version w.server.size w.server.log w.server.cuts v.old base =
+        found_true (IsScreenOf (w.clients id).version w.server.size w.server.log w.server.cuts) v.old (pairs (w.clients id).receiver) base
         (h.lines id).truth.receiver f in
-        let same : base ≡ leads.base = one_screen w.server.size w.server.log w.server.cuts v.old base leads.base mine leads.from_true in
+        let same : base ≡ leads.base = one_screen (w.clients id).version w.server.size w.server.log w.server.cuts v.old base leads.base mine leads.from_true in
         let r' : Receiving Screenshot = record {
           earlier = from_floor v.floor (pairs c);
           newest =
@@ -330,7 +369,7 @@ heard_by w id v was h = go (step_of (w.clients id) v) refl (state_at v.old (pair
             fresh = (λ n. record {
               base = base;
               held = f;
-              leads = ap (λ (s : Screenshot). applied s v.change) same ∙ leads.leads;
+              leads = ap (λ (s : Screenshot). applied_by (w.clients id).version s v.change) same ∙ leads.leads;
               number =
                   refl;
               earlier = refl;
@@ -381,5 +420,5 @@ has_reply w h (ServerTick now) = server_tick_reply w now (is_tick_spent w.server
 has_reply w h (ClientTick slot now) = client_tick_reply w slot now (w.slots slot) refl
 has_reply w h (ToServer k from now) = server_reply w k from now h (datagram_at w.sent k) refl
 has_reply w h (ToClient slot k now) = client_reply w slot k now h (w.slots slot) refl (datagram_at w.sent k) refl
-has_reply w h (Start slot id) = start_reply w slot id (w.clients id).made refl
+has_reply w h (Start slot id v watches) = start_reply w slot id v watches (w.clients id).made (is_unfit v watches) refl refl
 has_reply w h (Drain pane n) = drain_reply w pane n (output_at w.server.size w.server.log pane) refl

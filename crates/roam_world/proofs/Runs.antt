@@ -4,33 +4,34 @@ use Rattle.std.specs.Prelude.{nat_eq, slice_get}
 use Rattle.std.proofs.lemmas.List.Elements.{All-nil}
 use Rattle.roam_acts.specs.declared.acts.Act.{Act}
 use Rattle.roam_acts.specs.Acts.{IsAct}
-use Rattle.roam_update.specs.Shots.{applied}
-use Rattle.roam_cells.specs.Screenshot.{IsScreenshot}
-use Rattle.roam_cells.proofs.Screens.{blank_is_screenshot}
 use Rattle.roam_sync.proofs.TrueStates.{true_at_first}
 use Rattle.roam_sync.proofs.Steps.{link_at_first}
-use Rattle.roam_wire.specs.Datagrams.{DatagramValue}
 use Rattle.roam_wire.specs.Instructions.{DownValue, down_text, UpValue, up_text}
 use Rattle.roam_layout.specs.Layouts.{IsSessionSize}
 use Rattle.roam_session.specs.Sessions.{SessionSize, Entry, Given, Did, Drained}
 use Rattle.roam_session.specs.Refusals.{stops}
+use Rattle.roam_world.specs.Versions.{IsSeenBy, applied_by}
+use Rattle.roam_world.proofs.Versions.{first_seen}
 use Rattle.roam_world.specs.Lists.{IsIn}
 use Rattle.roam_world.specs.Numbers.{first_screen, screen, IsScreenOf}
-use Rattle.roam_world.specs.Texts.{Address, SaysDown, SaysUp}
+use Rattle.roam_world.specs.Texts.{Address, SaysDown, SaysUp, is_to_server, is_watching}
 use Rattle.roam_world.specs.Servers.{new_server, no_record, moment}
 use Rattle.roam_world.specs.Comings.{coming, new_acts, room_for, reach}
 use Rattle.roam_world.specs.Clients.{nobody, moment_of}
 use Rattle.roam_world.specs.Arrivals.{arriving}
 use Rattle.roam_world.specs.Worlds.{World, new_world, Event, PaneBytes, Typed, ServerTick, ClientTick, ToServer, ToClient, Start, Drain, Reply, datagram_at}
-use Rattle.roam_world.specs.Steps.{PaneBytesStep, DrainStep, TypedStep, ServerTickStep, ClientTickStep, ToServerStep, ToClientStep, StartStep, refused, taken, no_pane, too_many, gone, empty_slot, full, spent, typed, no_memory, ticked, quiet, sent, not_sent, piece, unread, all_taken, no_room, no_memory_at_act, bad_change, whole, used, started, wstep, Run}
+use Rattle.roam_world.specs.Steps.{PaneBytesStep, DrainStep, TypedStep, ServerTickStep, ClientTickStep, ToServerStep, ToClientStep, StartStep, refused, taken, no_pane, too_many, gone, empty_slot, full, spent, typed, no_memory, ticked, quiet, sent, not_sent, piece, unread, all_taken, no_room, no_memory_at_act, bad_change, whole, used, started, wstep, Run, watching, unfit}
 use Rattle.roam_world.specs.Laws.{IsEvent, AreEvents, Always}
 use Rattle.roam_world.specs.Holds.{Tells, Acks, IsPiece, Holds}
 use Rattle.roam_world.proofs.Members.{IsIn-slice_get}
 use Rattle.roam_world.proofs.Screens.{first_is}
 use Rattle.roam_world.proofs.Pieces.{IsTextOf, gathers-nothing}
-use Rattle.roam_world.proofs.Comes.{ComesWell, coming_well, says_up, ArrivesWell, arriving_well, says_down}
+use Rattle.roam_world.proofs.Comes.{ComesWell, coming_well, says_up, ArrivesWell, arriving_well, says_down, IsTo, to_server}
 use Rattle.roam_world.proofs.Keeps.{keeps-input, keeps-typed, keeps-quiet, keeps-piece, keeps-whole, keeps-sending, keeps-start}
 use Rattle.roam_world.proofs.ServerKeeps.{keeps-note, keeps-acts, keeps-tick}
+use Rattle.roam_wire.specs.declared.versions.Version.{Version}
+use Rattle.roam_wire.specs.declared.versions.Version.TheVariants.{Two}
+use Rattle.roam_wire.specs.Datagrams.{DatagramValue}
 
 -- ---- what was sent
 
@@ -52,7 +53,7 @@ pub arrives : (w : World) (id k : ℕ) (d : DatagramValue) → datagram_at w.sen
     → ArrivesWell (w.server.records id).instructions (arriving w.server.session id (w.clients id) d)
 arrives w id k d e h =
     arriving_well w.server.session id (w.server.records id) (w.clients id) d
-    (λ same. subst (λ (i : ℕ). IsPiece d.kind d (w.server.records i) (w.clients i)) same (h.pieces d (was_sent w k d e)))
+    (λ same. subst (λ (i : ℕ). IsPiece (is_to_server d.kind) d (w.server.records i) (w.clients i)) same (h.pieces d (was_sent w k d e)))
     (h.lines id).gathers_down
 
 pub reach_low : (size : SessionSize) (log : List Entry) (id : ℕ) (acts : List Act) → reach size log id acts ≤ length acts
@@ -77,9 +78,10 @@ keeps-drain w p n r w' (gone out x y e is) h = subst Holds (sym is) (keeps-input
 
 keeps-typing : (w : World) (slot : ℕ) (a : Act) (r : Reply) (w' : World) → IsAct a → TypedStep w slot a r w' → Holds w → Holds w'
 keeps-typing w slot a r w' act (empty_slot x e is) h = subst Holds (sym is) h
-keeps-typing w slot a r w' act (full id x y e is) h = subst Holds (sym is) h
-keeps-typing w slot a r w' act (spent id x y e is) h = subst Holds (sym is) h
-keeps-typing w slot a r w' act (typed id x y z e is) h = subst Holds (sym is) (keeps-typed w id a (h.slots slot id x) act y z h)
+keeps-typing w slot a r w' act (watching id x y e is) h = subst Holds (sym is) h
+keeps-typing w slot a r w' act (full id x q y e is) h = subst Holds (sym is) h
+keeps-typing w slot a r w' act (spent id x q y e is) h = subst Holds (sym is) h
+keeps-typing w slot a r w' act (typed id x q y z e is) h = subst Holds (sym is) (keeps-typed w id a (h.slots slot id x) q act y z h)
 keeps-typing w slot a r w' act (no_memory e is) h = subst Holds (sym is) h
 
 keeps-server_tick : (w : World) (now : ℕ) (r : Reply) (w' : World) → ServerTickStep w now r w' → Holds w → Holds w'
@@ -98,31 +100,33 @@ keeps-client_tick w slot now r w' (no_memory e is) h = subst Holds (sym is) h
 
 -- what an instruction says that came whole at the server was sent
 came : (w : World) (d : DatagramValue) (text : List ℕ) (u : UpValue) → IsTextOf up_text (w.clients d.client).instructions text
-    → SaysUp text u → Holds w → IsIn u (w.clients d.client).instructions
+    → SaysUp (is_watching d.kind) text u → Holds w → IsIn u (w.clients d.client).instructions
 came w d text u of says h =
     subst (λ (x : UpValue). IsIn x (w.clients d.client).instructions)
-    (says_up (w.clients d.client).instructions text u of.value (h.lines d.client).ups of.there of.is says) of.there
+    (says_up (w.clients d.client).instructions text u of.value (is_watching d.kind) (h.lines d.client).ups of.there of.is says) of.there
 
 keeps-to_server : (w : World) (k : ℕ) (from : Address) (now : ℕ) (r : Reply) (w' : World) → ToServerStep w k from now r w' → Holds w
     → Holds w'
 keeps-to_server w k from now r w' (not_sent x e is) h = subst Holds (sym is) h
 keeps-to_server w k from now r w' (refused d f x y e is) h = subst Holds (sym is) h
 keeps-to_server w k from now r w' (piece d g x y e is) h =
-    subst Holds (sym is) (keeps-note w d from (moment w.server now) g
+    subst Holds (sym is) (keeps-note w d from (moment w.server now) g (subst (IsTo (is_to_server d.kind)) y (to_server w.server d)) (h.bears d (was_sent w k d x))
     (subst (ComesWell (w.clients d.client).instructions) y (comes w k d x h)) h)
 keeps-to_server w k from now r w' (unread d g text why x y z e is) h = subst Holds (sym is) h
 keeps-to_server w k from now r w' (all_taken d g text u x y z a e is) h =
     let c = subst (ComesWell (w.clients d.client).instructions) y (comes w k d x h) in
-    subst Holds (sym is) (keeps-acts w d from (moment w.server now) g u (length (new_acts w.server d u)) c.0 (came w d text u c.1 z h)
+    subst Holds (sym is) (keeps-acts w d from (moment w.server now) g u (length (new_acts w.server d u))
+    (subst (IsTo (is_to_server d.kind)) y (to_server w.server d)) (h.bears d (was_sent w k d x)) c.0 (came w d text u c.1 z h)
     (omega arith) h)
 keeps-to_server w k from now r w' (no_room d g text u x y z a e is) h =
     let c = subst (ComesWell (w.clients d.client).instructions) y (comes w k d x h) in
     subst Holds (sym is) (keeps-acts w d from (moment w.server now) (w.server.records d.client).gathering u (room_for w.server d u)
-    (h.lines d.client).gathers_up (came w d text u c.1 z h) (omega arith) h)
-keeps-to_server w k from now r w' (no_memory_at_act d g text u n x y z le lt e is) h =
+    (subst (IsTo (is_to_server d.kind)) y (to_server w.server d)) (h.bears d (was_sent w k d x)) (h.lines d.client).gathers_up (came w d text u c.1 z h) (omega arith) h)
+keeps-to_server w k from now r w' (no_memory_at_act d g text u n x y z lt e is) h =
     let c = subst (ComesWell (w.clients d.client).instructions) y (comes w k d x h) in
     subst Holds (sym is) (keeps-acts w d from (moment w.server now) (w.server.records d.client).gathering u n
-    (h.lines d.client).gathers_up (came w d text u c.1 z h) (omega arith) h)
+    (subst (IsTo (is_to_server d.kind)) y (to_server w.server d)) (h.bears d (was_sent w k d x)) (h.lines d.client).gathers_up (came w d text u c.1 z h)
+    (omega (arith, lt, reach_low w.server.size w.server.log d.client (new_acts w.server d u))) h)
 keeps-to_server w k from now r w' (no_memory e is) h = subst Holds (sym is) h
 
 -- what an instruction says that came whole at a client start was sent to it
@@ -146,10 +150,11 @@ keeps-to_client w slot k now r w' (whole id d g text v q x y z a b e is) h =
     subst Holds (sym is) (keeps-whole w id (moment_of (w.clients id) now) g q v (h.slots slot id x) c.0 (arrived w id text v c.1 a h) b h)
 keeps-to_client w slot k now r w' (no_memory e is) h = subst Holds (sym is) h
 
-keeps-starting : (w : World) (slot id : ℕ) (r : Reply) (w' : World) → StartStep w slot id r w' → Holds w → Holds w'
-keeps-starting w slot id r w' (used x e is) h = subst Holds (sym is) h
-keeps-starting w slot id r w' (started x e is) h = subst Holds (sym is) (keeps-start w slot id x h)
-keeps-starting w slot id r w' (no_memory e is) h = subst Holds (sym is) h
+keeps-starting : (w : World) (slot id : ℕ) (v : Version) (watches : Bool) (r : Reply) (w' : World) → StartStep w slot id v watches r w' → Holds w → Holds w'
+keeps-starting w slot id v watches r w' (used x e is) h = subst Holds (sym is) h
+keeps-starting w slot id v watches r w' (unfit x e is) h = subst Holds (sym is) h
+keeps-starting w slot id v watches r w' (started x y e is) h = subst Holds (sym is) (keeps-start w slot id v watches x y h)
+keeps-starting w slot id v watches r w' (no_memory e is) h = subst Holds (sym is) h
 
 pub keeps-step : (w : World) (e : Event) (r : Reply) (w' : World) → IsEvent e → wstep w e r w' → Holds w → Holds w'
 keeps-step w (PaneBytes p bytes) r w' i s h = keeps-pane_bytes w p bytes r w' s h
@@ -158,15 +163,10 @@ keeps-step w (ServerTick now) r w' i s h = keeps-server_tick w now r w' s h
 keeps-step w (ClientTick slot now) r w' i s h = keeps-client_tick w slot now r w' s h
 keeps-step w (ToServer k from now) r w' i s h = keeps-to_server w k from now r w' s h
 keeps-step w (ToClient slot k now) r w' i s h = keeps-to_client w slot k now r w' s h
-keeps-step w (Start slot id) r w' i s h = keeps-starting w slot id r w' s h
+keeps-step w (Start slot id v watches) r w' i s h = keeps-starting w slot id v watches r w' s h
 keeps-step w (Drain p n) r w' i s h = keeps-drain w p n r w' s h
 
 -- ---- a new world, and runs
-
-first_shown : IsScreenshot first_screen
-unfolding first_screen
-first_shown = blank_is_screenshot 24 80 (record
-    { least_rows = omega arith; most_rows = omega arith; least_columns = omega arith; most_columns = omega arith })
 
 pub holds-new : (session : ℕ) (size : SessionSize) → IsSessionSize size.rows size.cols → Holds (new_world session size)
 unfolding new_world new_server nobody no_record
@@ -175,9 +175,9 @@ holds-new session size limits =
       size = limits;
       numbers = omega arith;
       cuts = (λ k lt. omega arith);
-      screens = (λ n le. let z : 0 ≡ n = omega arith in subst (λ (m : ℕ). IsScreenshot (screen size [] [] m)) z first_shown);
+      screens = (λ v n le. let z : 0 ≡ n = omega arith in subst (λ (m : ℕ). IsSeenBy v (screen v size [] [] m)) z (first_seen v));
       lines = (λ id. record {
-        truth = true_at_first applied (IsScreenOf size [] []) first_screen (Tells []) (first_is size [] []) (λ u t. t.1);
+        truth = true_at_first (applied_by Two) (IsScreenOf Two size [] []) first_screen (Tells []) (first_is Two size [] []) (λ u t. t.1);
         link = link_at_first first_screen (Tells []) (Acks []) (λ u t. t.1) (λ a t. t.1);
         acts = record {
           count = refl;
@@ -196,6 +196,9 @@ holds-new session size limits =
         notes = refl;
       });
       pieces = (λ d i. absurd i);
+      bears = (λ d i. absurd i);
+      fits = (λ id. record { made = (λ e. absurd (cc)); version = (λ e. refl); watches = (λ e. refl); none = (λ e. refl) });
+      watchers = (λ id e. absurd (let z : false ≡ true = e in cc));
       unused = (λ id e. refl);
       slots = (λ slot id e. absurd (cc));
     }

@@ -1,43 +1,46 @@
 -- Each event at the server keeps what holds.
-use Rattle.std.proofs.Common.{◌≡◌, ℕ, ◌+◌, ◌<◌, ◌≤◌, ◌⊎◌, ◌^◌, max, List, [], ◌∷◌, ◌++◌, length, take, map, Bool, true, false, refl, sym, ap, ◌∙◌, subst, inl, inr, arith, cond, append-nil}
-use Rattle.std.specs.Prelude.{nat_eq, nat_lt, ◌&&◌}
+use Rattle.std.proofs.Common.{◌≡◌, ℕ, ◌+◌, ◌<◌, ◌≤◌, ◌⊎◌, ◌^◌, max, List, [], ◌∷◌, ◌++◌, length, take, map, Some, Bool, true, false, refl, sym, ap, ◌∙◌, subst, inl, inr, arith, cond, append-nil}
+use Rattle.std.specs.Prelude.{nat_eq, nat_lt, ◌&&◌, ◌||◌}
 use Rattle.std.proofs.lemmas.Bool.Decides.{nat_tests}
 use Rattle.std.proofs.lemmas.List.{length-take-le}
 use Rattle.std.proofs.lemmas.List.Elements.{All-head, All-tail}
-use Rattle.roam_cells.specs.Screenshot.{Screenshot, IsScreenshot}
+use Rattle.roam_screens.specs.Screenshot.{Screenshot}
 use Rattle.roam_acts.specs.declared.acts.Act.{Act}
-use Rattle.roam_update.specs.Shots.{applied}
 use Rattle.roam_sync.specs.declared.senders.Held.{Held}
-use Rattle.roam_sync.specs.Senders.{Sending, newest, last_of, count, offered}
+use Rattle.roam_sync.specs.Senders.{Sending, newest, last_of, count, offered, is_due}
 use Rattle.roam_sync.specs.Lines.{Update, update_of, IsChange}
 use Rattle.roam_sync.specs.TrueLines.{HoldsTrueStates, TrueLine}
 use Rattle.roam_sync.specs.Links.{Link}
 use Rattle.roam_sync.proofs.Ends.{base_least, last_among}
 use Rattle.roam_sync.proofs.TrueStates.{true_still, true_offered, true_acked, true_sent}
 use Rattle.roam_sync.proofs.Steps.{link_offered, link_acked, link_sent}
-use Rattle.roam_wire.specs.declared.datagrams.Kind.{Kind}
-use Rattle.roam_wire.specs.declared.datagrams.Kind.TheVariants.{ToClient, ToServer}
-use Rattle.roam_wire.specs.Datagrams.{DatagramValue}
 use Rattle.roam_wire.specs.Gatherers.{Gathering, piece_of}
 use Rattle.roam_wire.specs.Arrivals.{IsPieceOf}
 use Rattle.roam_wire.specs.Instructions.{DownValue, IsDown, down_text, UpValue, up_text}
 use Rattle.roam_session.specs.Sessions.{SessionSize, Entry, Did}
 use Rattle.roam_session.proofs.Screening.{face_is}
+use Rattle.roam_world.specs.Versions.{IsSeenBy, difference_by, applied_by}
 use Rattle.roam_world.specs.Lists.{IsIn}
-use Rattle.roam_world.specs.Numbers.{IsScreenOf, acts_of}
-use Rattle.roam_world.specs.Texts.{Address, update_in, datagrams_of}
-use Rattle.roam_world.specs.Servers.{Note, Record, Server}
+use Rattle.roam_world.specs.Moments.{is_overdue}
+use Rattle.roam_world.specs.Numbers.{screen, IsScreenOf, acts_of}
+use Rattle.roam_world.specs.Texts.{Address, update_in, datagrams_of, is_to_server, is_watching}
+use Rattle.roam_world.specs.Servers.{Note, Record, no_record, Server}
 use Rattle.roam_world.specs.Comings.{heard_from, told_by, after_note, new_acts, after_acts}
-use Rattle.roam_world.specs.Ticks.{makes, cuts_after, number_after, screen_after, is_live, is_offered, holds_after, sends, down_to, pieces_to, after_sent, ticked, datagrams_to, Parcel, parcel, parcels_to, sent_by, is_tick_spent}
+use Rattle.roam_world.specs.Ticks.{makes, cuts_after, number_after, screen_to, is_live, is_offered, holds_after, sends, down_to, pieces_to, after_sent, ticked, datagrams_to, Parcel, parcel, parcels_to, sent_by, is_tick_spent}
 use Rattle.roam_world.specs.Clients.{Client}
 use Rattle.roam_world.specs.Worlds.{World, with_server, after_server_tick}
 use Rattle.roam_world.specs.Laws.{greatest_from, no_note}
-use Rattle.roam_world.specs.Holds.{cuts_of, Gathers, Tells, Acks, ActsOf, LineOf, IsPiece, AreCuts, AreScreens, Holds}
+use Rattle.roam_world.specs.Holds.{cuts_of, Gathers, Tells, Acks, ActsOf, LineOf, IsPiece, Bears, Fits, AreCuts, AreScreens, Holds}
 use Rattle.roam_world.proofs.Members.{IsIn-append_cases, IsIn-push_cases, IsIn-map, IsIn-flat_map, on_put}
-use Rattle.roam_world.proofs.Screens.{is_more, is_cut, cuts_more, cuts_cut, screens_more, screens_cut, difference_leads, acts_of-append, acts_of-own, acts_of-other}
+use Rattle.roam_world.proofs.Screens.{is_more, is_cut, cuts_more, cuts_cut, screens_more, screens_cut, acts_of-append, acts_of-own, acts_of-other}
+use Rattle.roam_world.proofs.Versions.{difference_leads}
 use Rattle.roam_world.proofs.Acting.{front_more, front_low}
 use Rattle.roam_world.proofs.Pieces.{piece-more, gathers-more, IsPacked, packed_is}
 use Rattle.roam_world.proofs.Keeps.{line-more, Line, not_past, or_left}
+use Rattle.roam_wire.specs.declared.versions.Version.{Version}
+use Rattle.roam_wire.specs.declared.datagrams.Kind.{Kind}
+use Rattle.roam_wire.specs.declared.datagrams.Kind.TheVariants.{ToClient}
+use Rattle.roam_wire.specs.Datagrams.{DatagramValue}
 
 -- ---- a datagram comes
 
@@ -65,15 +68,26 @@ latest_noted r number from e =
         omega arith in ap (λ (k : ℕ). noted_at k r.address) m
 
 -- the record of a start changes, and nothing was sent to it
-piece-record : (kind : Kind) (d : DatagramValue) (r r' : Record) (c : Client) → r'.instructions ≡ r.instructions → IsPiece kind d r c
-    → IsPiece kind d r' c
-piece-record ToClient d r r' c same p = subst (λ (vs : List DownValue). IsPieceOf (cuts_of down_text vs) (piece_of d)) (sym same) p
-piece-record ToServer d r r' c same p = p
+piece-record : (to : Bool) (d : DatagramValue) (r r' : Record) (c : Client) → r'.instructions ≡ r.instructions → IsPiece to d r c
+    → IsPiece to d r' c
+piece-record false d r r' c same p = subst (λ (vs : List DownValue). IsPieceOf (cuts_of down_text vs) (piece_of d)) (sym same) p
+piece-record true d r r' c same p = p
 
-pub keeps-note : (w : World) (d : DatagramValue) (from : Address) (now : ℕ) (g : Gathering)
+-- the record of a datagram that was sent is one of its client start's version
+fits-heard : (r r' : Record) (c : Client) (d : DatagramValue) → r'.known ≡ true → r'.version ≡ d.version → r'.watches ≡ is_watching d.kind
+    → is_to_server d.kind ≡ true → Bears d c → Fits r' c
+fits-heard r r' c d known version watches to b =
+    record {
+      made = (λ e. b.made);
+      version = (λ e. version ∙ b.version);
+      watches = (λ e. watches ∙ b.watches to);
+      none = (λ e. absurd (let z : true ≡ false = sym known ∙ e in cc));
+    }
+
+pub keeps-note : (w : World) (d : DatagramValue) (from : Address) (now : ℕ) (g : Gathering) → is_to_server d.kind ≡ true → Bears d (w.clients d.client)
     → Gathers up_text (w.clients d.client).instructions g
     → Holds w → Holds (with_server w (after_note w.server d from now g))
-keeps-note w d from now g of h =
+keeps-note w d from now g to bears of h =
     let r = w.server.records d.client in
     let l = h.lines d.client in
     let a = l.acts in
@@ -102,18 +116,22 @@ keeps-note w d from now g of h =
         gathers_up = of;
         notes = latest_noted r d.number from l.notes;
       }) (λ j e. h.lines j);
-      pieces = (λ x i. on_put (λ j y. IsPiece x.kind x (w.server.records j) (w.clients x.client)
-          → IsPiece x.kind x y (w.clients x.client)) w.server.records d.client (heard_from r d from now g)
-          (piece-record x.kind x r (heard_from r d from now g) (w.clients x.client) refl) (λ j e p. p) x.client (h.pieces x i));
+      pieces = (λ x i. on_put (λ j y. IsPiece (is_to_server x.kind) x (w.server.records j) (w.clients x.client)
+          → IsPiece (is_to_server x.kind) x y (w.clients x.client)) w.server.records d.client (heard_from r d from now g)
+          (piece-record (is_to_server x.kind) x r (heard_from r d from now g) (w.clients x.client) refl) (λ j e p. p) x.client (h.pieces x i));
+      bears = h.bears;
+      fits = on_put (λ j x. Fits x (w.clients j)) w.server.records d.client (heard_from r d from now g)
+          (fits-heard r (heard_from r d from now g) (w.clients d.client) d refl refl refl to bears) (λ j e. h.fits j);
+      watchers = h.watchers;
       unused = h.unused;
       slots = h.slots;
     }
 
 pub keeps-acts : (w : World) (d : DatagramValue) (from : Address) (now : ℕ) (g : Gathering) (u : UpValue) (n : ℕ)
-    → Gathers up_text (w.clients d.client).instructions g
+    → is_to_server d.kind ≡ true → Bears d (w.clients d.client) → Gathers up_text (w.clients d.client).instructions g
     → IsIn u (w.clients d.client).instructions → n ≤ length (new_acts w.server d u) → Holds w
     → Holds (with_server w (after_acts w.server d from now g u n))
-keeps-acts w d from now g u n of sent few h =
+keeps-acts w d from now g u n to bears of sent few h =
     record {
       size = h.size;
       numbers = h.numbers;
@@ -121,9 +139,9 @@ keeps-acts w d from now g u n of sent few h =
       screens = screens_more size log more cuts h.cuts h.screens;
       lines = on_put (λ j x. LineOf size (log ++ more) cuts (acts_of j (log ++ more)) x (w.clients j)) w.server.records d.client r'
           (record {
-            truth = true_acked applied (IsScreenOf size (log ++ more) cuts) r.sender c.receiver (Tells r.instructions)
-                (true_still applied (IsScreenOf size log cuts) r.sender c.receiver (Tells r.instructions) l.truth
-                (IsScreenOf size (log ++ more) cuts) (Tells r.instructions) (is_more size log more cuts h.cuts) (λ u t. t)) u.acked;
+            truth = true_acked (applied_by c.version) (IsScreenOf c.version size (log ++ more) cuts) r.sender c.receiver (Tells r.instructions)
+                (true_still (applied_by c.version) (IsScreenOf c.version size log cuts) r.sender c.receiver (Tells r.instructions) l.truth
+                (IsScreenOf c.version size (log ++ more) cuts) (Tells r.instructions) (is_more c.version size log more cuts h.cuts) (λ u t. t)) u.acked;
             link = link_acked r.sender c.receiver (Tells r.instructions) (Acks c.instructions) l.link u.acked (u, sent, refl);
             acts =
                 (let count = a.count in
@@ -152,9 +170,13 @@ keeps-acts w d from now g u n of sent few h =
           (λ j e. line-more size log more cuts (acts_of j log) (acts_of j (log ++ more)) (w.server.records j) (w.clients j) h.cuts
           (acts_of-append j log more ∙ ap (λ (xs : List Act). acts_of j log ++ xs) (acts_of-other j id (take n new) (flip j e))
           ∙ append-nil (acts_of j log)) (h.lines j));
-      pieces = (λ x i. on_put (λ j y. IsPiece x.kind x (w.server.records j) (w.clients x.client)
-          → IsPiece x.kind x y (w.clients x.client)) w.server.records d.client r'
-          (piece-record x.kind x r r' (w.clients x.client) refl) (λ j e p. p) x.client (h.pieces x i));
+      pieces = (λ x i. on_put (λ j y. IsPiece (is_to_server x.kind) x (w.server.records j) (w.clients x.client)
+          → IsPiece (is_to_server x.kind) x y (w.clients x.client)) w.server.records d.client r'
+          (piece-record (is_to_server x.kind) x r r' (w.clients x.client) refl) (λ j e p. p) x.client (h.pieces x i));
+      bears = h.bears;
+      fits = on_put (λ j x. Fits x (w.clients j)) w.server.records d.client r' (fits-heard r r' (w.clients d.client) d refl refl refl to bears)
+          (λ j e. h.fits j);
+      watchers = h.watchers;
       unused = h.unused;
       slots = h.slots;
     }
@@ -210,7 +232,7 @@ top_true Is s are = go s.base s.later are
 -- what a line is that holds, with the sender s
 record HoldsLine (size : SessionSize) (log : List Entry) (cuts : List ℕ) (s : Sending Screenshot) (vs : List DownValue)
     (c : Client) : Type 0 where
-  truth : TrueLine applied (IsScreenOf size log cuts) s c.receiver (Tells vs)
+  truth : TrueLine (applied_by c.version) (IsScreenOf c.version size log cuts) s c.receiver (Tells vs)
   link : Link s c.receiver (Tells vs) (Acks c.instructions)
 
 pub and_right : (a b : Bool) → (a && b) ≡ true → b ≡ true
@@ -221,9 +243,23 @@ pub and_left : (a b : Bool) → (a && b) ≡ true → a ≡ true
 and_left true b e = refl
 and_left false b e = absurd (cc)
 
+live_known : (r : Record) (now : ℕ) → is_live r now ≡ true → r.known ≡ true
+live_known r now e = and_left r.known (nat_lt now (r.heard_at + 60000)) e
+
+-- only a record that is known is sent to
+pub sends_known : (r : Record) (n : ℕ) (s : Screenshot) (now : ℕ) → sends r n s now ≡ true → r.known ≡ true
+unfolding sends
+sends_known r n s now e = live_known r now
+    (and_left (is_live r now) (is_due (holds_after r n s now) now || is_overdue r.owed now) e)
+
+-- nothing is offered to one that isn't
+none_held : (n : ℕ) (s : Screenshot) (now : ℕ) → record no_record { sender = holds_after no_record n s now } ≡ no_record
+unfolding holds_after no_record
+none_held n s now = refl
+
 module _ (size : SessionSize) (log : List Entry) (cuts : List ℕ) (taken : List Act) (r : Record) (c : Client) (n : ℕ) (s : Screenshot)
     (now : ℕ)
-    (is : IsScreenOf size log cuts n s) (screens : AreScreens size log cuts) (few : length cuts < 2 ^ 62)
+    (is : r.known ≡ true → IsScreenOf c.version size log cuts n s) (fit : Fits r c) (screens : AreScreens size log cuts) (few : length cuts < 2 ^ 62)
     (l : LineOf size log cuts taken r c) where
   -- after the offer
   offer_holds : HoldsLine size log cuts (holds_after r n s now) r.instructions c
@@ -232,31 +268,37 @@ module _ (size : SessionSize) (log : List Entry) (cuts : List ℕ) (taken : List
     where
       go : (b : Bool) → is_offered r n now ≡ b → HoldsLine size log cuts (cond b (offered r.sender n s) r.sender) r.instructions c
       go true e =
+          let live = and_left (is_live r now) (nat_lt (newest r.sender).number n)
+          (and_left (is_live r now && nat_lt (newest r.sender).number n) (nat_lt (count r.sender) 8) e) in
           let above = and_right (is_live r now) (nat_lt (newest r.sender).number n)
           (and_left (is_live r now && nat_lt (newest r.sender).number n) (nat_lt (count r.sender) 8) e) in
           let room = and_right (is_live r now && nat_lt (newest r.sender).number n) (nat_lt (count r.sender) 8) e in
           record {
-            truth = true_offered applied (IsScreenOf size log cuts) r.sender c.receiver (Tells r.instructions) l.truth n s is;
+            truth = true_offered (applied_by c.version) (IsScreenOf c.version size log cuts) r.sender c.receiver (Tells r.instructions) l.truth n s
+                (is (live_known r now live));
             link = link_offered r.sender c.receiver (Tells r.instructions) (Acks c.instructions) l.link n s (grind (arith, nat_tests))
                 (grind (arith, nat_tests));
           }
       go false e = record { truth = l.truth; link = l.link }
 
   -- what is told is a screen
-  pub newest_shown : IsScreenshot (newest (holds_after r n s now)).state
+  pub newest_shown : IsSeenBy c.version (newest (holds_after r n s now)).state
   newest_shown =
-      let top = top_true (IsScreenOf size log cuts) (holds_after r n s now) offer_holds.truth.sender in
-      subst IsScreenshot (sym top.same) (screens (newest (holds_after r n s now)).number top.made)
+      let top = top_true (IsScreenOf c.version size log cuts) (holds_after r n s now) offer_holds.truth.sender in
+      subst (IsSeenBy c.version) (sym top.same) (screens c.version (newest (holds_after r n s now)).number top.made)
 
   -- the change that is sent leads from the base to the newest
-  change_leads : IsChange applied (holds_after r n s now) (down_to r n s now).change
-  change_leads = difference_leads (holds_after r n s now).base.state (newest (holds_after r n s now)).state newest_shown
+  change_leads : r.known ≡ true → IsChange (applied_by c.version) (holds_after r n s now) (down_to r n s now).change
+  change_leads known = subst (λ (v : Version). applied_by c.version (holds_after r n s now).base.state
+      (difference_by v (holds_after r n s now).base.state (newest (holds_after r n s now)).state) ≡ Some (newest (holds_after r n s now)).state)
+      (sym (fit.version known))
+      (difference_leads c.version (holds_after r n s now).base.state (newest (holds_after r n s now)).state newest_shown)
 
   -- what is sent has a text
   pub down_is : IsDown (down_to r n s now)
   down_is =
       let held = holds_after r n s now in
-      let top = (top_true (IsScreenOf size log cuts) (holds_after r n s now) offer_holds.truth.sender).made in
+      let top = (top_true (IsScreenOf c.version size log cuts) (holds_after r n s now) offer_holds.truth.sender).made in
       let rises = base_least held.base held.later (newest held).number offer_holds.link.sender_rises (last_among held.base held.later) in
       let low = l.acts.low in
       let below = l.acts.below in
@@ -268,15 +310,16 @@ module _ (size : SessionSize) (log : List Entry) (cuts : List ℕ) (taken : List
       [ inl o ↦ inl (t.0, o, t.2) | inr e ↦ inr (sym t.2 ∙ ap update_in (sym e)) ]
 
   pub line_ticked : LineOf size log cuts taken (ticked r n s now) c
-  line_ticked = go (sends r n s now)
+  line_ticked = go (sends r n s now) refl
     where
       a : ActsOf taken r c
       a = l.acts
 
-      go : (b : Bool) → LineOf size log cuts taken (cond b (after_sent r n s now) (record r { sender = holds_after r n s now })) c
-      go true = record {
-        truth = true_sent applied (IsScreenOf size log cuts) (holds_after r n s now) c.receiver (Tells r.instructions) offer_holds.truth
-            (Tells (r.instructions ++ down_to r n s now ∷ [])) now (down_to r n s now).change change_leads tells;
+      go : (b : Bool) → sends r n s now ≡ b → LineOf size log cuts taken (cond b (after_sent r n s now) (record r { sender = holds_after r n s now })) c
+      go true e = record {
+        truth = true_sent (applied_by c.version) (IsScreenOf c.version size log cuts) (holds_after r n s now) c.receiver (Tells r.instructions) offer_holds.truth
+            (Tells (r.instructions ++ down_to r n s now ∷ [])) now (down_to r n s now).change
+            (change_leads (sends_known r n s now e)) tells;
         link = link_sent (holds_after r n s now) c.receiver (Tells r.instructions) (Acks c.instructions) offer_holds.link
             (Tells (r.instructions ++ down_to r n s now ∷ [])) now (down_to r n s now).change tells;
         acts = record {
@@ -297,7 +340,7 @@ module _ (size : SessionSize) (log : List Entry) (cuts : List ℕ) (taken : List
         gathers_up = l.gathers_up;
         notes = l.notes;
       }
-      go false = record {
+      go false e = record {
         truth = offer_holds.truth;
         link = offer_holds.link;
         acts = record {
@@ -323,8 +366,8 @@ line-cut : (size : SessionSize) (log : List Entry) (cuts : List ℕ) (k : ℕ) (
     → LineOf size log (cuts ++ k ∷ []) taken r c
 line-cut size log cuts k taken r c l =
     record {
-      truth = true_still applied (IsScreenOf size log cuts) r.sender c.receiver (Tells r.instructions) l.truth
-          (IsScreenOf size log (cuts ++ k ∷ [])) (Tells r.instructions) (λ n s i. is_cut size log cuts k n s i) (λ u t. t);
+      truth = true_still (applied_by c.version) (IsScreenOf c.version size log cuts) r.sender c.receiver (Tells r.instructions) l.truth
+          (IsScreenOf c.version size log (cuts ++ k ∷ [])) (Tells r.instructions) (λ n s i. is_cut c.version size log cuts k n s i) (λ u t. t);
       link = l.link;
       acts = l.acts;
       downs = l.downs;
@@ -334,10 +377,10 @@ line-cut size log cuts k taken r c l =
       notes = l.notes;
     }
 
-piece_ticked : (kind : Kind) (d : DatagramValue) (r : Record) (c : Client) (n : ℕ) (s : Screenshot) (now : ℕ) → IsPiece kind d r c
-    → IsPiece kind d (ticked r n s now) c
-piece_ticked ToServer d r c n s now p = p
-piece_ticked ToClient d r c n s now p = go (sends r n s now)
+piece_ticked : (to : Bool) (d : DatagramValue) (r : Record) (c : Client) (n : ℕ) (s : Screenshot) (now : ℕ) → IsPiece to d r c
+    → IsPiece to d (ticked r n s now) c
+piece_ticked true d r c n s now p = p
+piece_ticked false d r c n s now p = go (sends r n s now)
   where
     go : (b : Bool) → IsPieceOf (cuts_of down_text
         (cond b (after_sent r n s now) (record r { sender = holds_after r n s now })).instructions) (piece_of d)
@@ -347,34 +390,67 @@ piece_ticked ToClient d r c n s now p = go (sends r n s now)
 -- the datagrams of a tick to a record
 pub to_record : (session id : ℕ) (r : Record) (n : ℕ) (s : Screenshot) (now : ℕ) (d : DatagramValue)
     → IsIn d (datagrams_to session id r n s now)
-    → IsPacked down_text (ticked r n s now).instructions ToClient session id d
+    → IsPacked down_text (ticked r n s now).instructions r.version ToClient session id d
 to_record session id r n s now d i = go (sends r n s now) i
   where
-    go : (b : Bool) → IsIn d (cond b (datagrams_of ToClient session id r.datagrams (length r.instructions + 1) (pieces_to r n s now)) [])
-        → IsPacked down_text (cond b (after_sent r n s now) (record r { sender = holds_after r n s now })).instructions ToClient session
-        id d
-    go true i = packed_is down_text r.instructions (down_to r n s now) ToClient session id r.datagrams d i
+    go : (b : Bool) → IsIn d (cond b (datagrams_of r.version ToClient session id r.datagrams (length r.instructions + 1) (pieces_to r n s now)) [])
+        → IsPacked down_text (cond b (after_sent r n s now) (record r { sender = holds_after r n s now })).instructions r.version
+        ToClient session id d
+    go true i = packed_is down_text r.instructions (down_to r n s now) r.version ToClient session id r.datagrams d i
     go false i = absurd i
+
+-- only a record that is known is sent to
+pub to_known : (session id : ℕ) (r : Record) (n : ℕ) (s : Screenshot) (now : ℕ) (d : DatagramValue)
+    → IsIn d (datagrams_to session id r n s now) → r.known ≡ true
+to_known session id r n s now d i = go (sends r n s now) refl i
+  where
+    go : (b : Bool) → sends r n s now ≡ b
+        → IsIn d (cond b (datagrams_of r.version ToClient session id r.datagrams (length r.instructions + 1) (pieces_to r n s now)) [])
+        → r.known ≡ true
+    go true e i = sends_known r n s now e
+    go false e i = absurd i
+
+-- what fits still fits after a tick, which gives nothing to a record that isn't known
+fits_ticked : (r : Record) (c : Client) (n : ℕ) (s : Screenshot) (now : ℕ) → Fits r c → Fits (ticked r n s now) c
+fits_ticked r c n s now f = go (sends r n s now) refl
+  where
+    go : (b : Bool) → sends r n s now ≡ b → Fits (cond b (after_sent r n s now) (record r { sender = holds_after r n s now })) c
+    go true e = record {
+      made = f.made;
+      version = f.version;
+      watches = f.watches;
+      none = (λ k. absurd (let z : true ≡ false = sym (sends_known r n s now e) ∙ k in cc));
+    }
+    go false e = record {
+      made = f.made;
+      version = f.version;
+      watches = f.watches;
+      none = (λ k. ap (λ (x : Record). record x { sender = holds_after x n s now }) (f.none k) ∙ none_held n s now);
+    }
 
 -- a datagram of a tick, and where it goes
 pub record IsOfTick (s : Server) (now : ℕ) (p : Parcel) : Type 0 where
-  pub packed : IsPacked down_text (ticked (s.records p.datagram.client) (number_after s now) (screen_after s now) now).instructions
-      ToClient s.session p.datagram.client p.datagram
+  pub known : (s.records p.datagram.client).known ≡ true
+  pub packed : IsPacked down_text (ticked (s.records p.datagram.client) (number_after s now) (screen_to s now p.datagram.client)
+      now).instructions (s.records p.datagram.client).version ToClient s.session p.datagram.client p.datagram
   pub to : p.to ≡ (s.records p.datagram.client).address
 
 pub in_tick : (s : Server) (now : ℕ) (p : Parcel) → IsIn p (sent_by s now) → IsOfTick s now p
 in_tick s now p i =
     let f = IsIn-flat_map (parcels_to s now) p s.arrival i in
     let m = IsIn-map (parcel (s.records f.0).address) p
-    (datagrams_to s.session f.0 (s.records f.0) (number_after s now) (screen_after s now) now) f.2 in
+    (datagrams_to s.session f.0 (s.records f.0) (number_after s now) (screen_to s now f.0) now) f.2 in
     let same : m.0 ≡ p.datagram = ap (λ (y : Parcel). y.datagram) m.2 in
-    let q = to_record s.session f.0 (s.records f.0) (number_after s now) (screen_after s now) now m.0 m.1 in
+    let q = to_record s.session f.0 (s.records f.0) (number_after s now) (screen_to s now f.0) now m.0 m.1 in
     let at : f.0 ≡ p.datagram.client = sym q.client_is ∙ ap (λ (y : DatagramValue). y.client) same in
     record {
-      packed = subst (λ (k : ℕ). IsPacked down_text (ticked (s.records k) (number_after s now) (screen_after s now) now).instructions
-          ToClient s.session k p.datagram) at
+      known = subst (λ (k : ℕ). (s.records k).known ≡ true) at
+          (to_known s.session f.0 (s.records f.0) (number_after s now) (screen_to s now f.0) now m.0 m.1);
+      packed = subst (λ (k : ℕ). IsPacked down_text (ticked (s.records k) (number_after s now) (screen_to s now k) now).instructions
+          (s.records k).version ToClient s.session k p.datagram) at
           (subst (λ (y : DatagramValue). IsPacked down_text
-          (ticked (s.records f.0) (number_after s now) (screen_after s now) now).instructions ToClient s.session f.0 y) same q);
+          (ticked (s.records f.0) (number_after s now) (screen_to s now f.0) now).instructions (s.records f.0).version ToClient s.session f.0
+          y) same q);
       to = ap (λ (y : Parcel). y.to) (sym m.2) ∙ ap (λ (k : ℕ). (s.records k).address) at;
     }
 
@@ -404,16 +480,24 @@ cuts_hold w now spent h = go (makes w.server now) refl (or_left _ _ spent)
     }
     go false e f = record { numbers = h.numbers; cuts_low = h.cuts; screens = h.screens; lines = h.lines }
 
--- the screen that a tick tells a record of is a screen
+-- the screen of the newest number for a record is one of its start's version
+screen_for : (w : World) (now id : ℕ) → Fits (w.server.records id) (w.clients id) → (w.server.records id).known ≡ true
+    → IsScreenOf (w.clients id).version w.server.size w.server.log (cuts_after w.server now) (number_after w.server now)
+    (screen_to w.server now id)
+screen_for w now id f known = record {
+  made = omega arith;
+  same = ap (λ (v : Version). screen v w.server.size w.server.log (cuts_after w.server now) (number_after w.server now)) (f.version known);
+}
+
+-- the screen that a tick tells a record of is one that its start may be shown
 pub newest_screen : (w : World) (now : ℕ) → is_tick_spent w.server now ≡ false → Holds w → (id : ℕ)
-    → IsScreenshot (newest (holds_after (w.server.records id) (number_after w.server now) (screen_after w.server now) now)).state
+    → IsSeenBy (w.clients id).version
+    (newest (holds_after (w.server.records id) (number_after w.server now) (screen_to w.server now id) now)).state
 newest_screen w now spent h id =
     let c = cuts_hold w now spent h in
-    let made : IsScreenOf w.server.size w.server.log (cuts_after w.server now) (number_after w.server now) (screen_after w.server now) =
-    record { made = omega arith; same = refl } in
     newest_shown w.server.size w.server.log (cuts_after w.server now) (acts_of id w.server.log) (w.server.records id) (w.clients id)
-    (number_after w.server now) (screen_after w.server now) now
-    made c.screens c.numbers (c.lines id)
+    (number_after w.server now) (screen_to w.server now id) now
+    (screen_for w now id (h.fits id)) (h.fits id) c.screens c.numbers (c.lines id)
 
 pub keeps-tick : (w : World) (now : ℕ) → is_tick_spent w.server now ≡ false → Holds w
     → Holds (after_server_tick w now)
@@ -424,13 +508,19 @@ keeps-tick w now spent h =
       cuts = c.cuts_low;
       screens = c.screens;
       lines = (λ id. line_ticked w.server.size w.server.log (cuts_after w.server now) (acts_of id w.server.log) (w.server.records id)
-          (w.clients id) (number_after w.server now) (screen_after w.server now) now
-          made c.screens c.numbers (c.lines id));
+          (w.clients id) (number_after w.server now) (screen_to w.server now id) now
+          (screen_for w now id (h.fits id)) (h.fits id) c.screens c.numbers (c.lines id));
       pieces = (λ d i. elim (IsIn-append_cases d w.sent (map (λ (p : Parcel). p.datagram) (sent_by w.server now)) i) [
-        | inl o ↦ piece_ticked d.kind d (w.server.records d.client) (w.clients d.client) (number_after w.server now)
-            (screen_after w.server now) now (h.pieces d o)
+        | inl o ↦ piece_ticked (is_to_server d.kind) d (w.server.records d.client) (w.clients d.client) (number_after w.server now)
+            (screen_to w.server now d.client) now (h.pieces d o)
         | inr n ↦ new d n
       ]);
+      bears = (λ d i. elim (IsIn-append_cases d w.sent (map (λ (p : Parcel). p.datagram) (sent_by w.server now)) i) [
+        | inl o ↦ h.bears d o
+        | inr n ↦ born d n
+      ]);
+      fits = (λ id. fits_ticked (w.server.records id) (w.clients id) (number_after w.server now) (screen_to w.server now id) now (h.fits id));
+      watchers = h.watchers;
       unused = h.unused;
       slots = h.slots;
     }
@@ -438,17 +528,26 @@ keeps-tick w now spent h =
     c : CutsHold w (cuts_after w.server now)
     c = cuts_hold w now spent h
 
-    made : IsScreenOf w.server.size w.server.log (cuts_after w.server now) (number_after w.server now) (screen_after w.server now)
-    made = record { made = omega arith; same = refl }
-
     new : (d : DatagramValue) → IsIn d (map (λ (p : Parcel). p.datagram) (sent_by w.server now))
-        → IsPiece d.kind d (ticked (w.server.records d.client) (number_after w.server now) (screen_after w.server now) now)
-        (w.clients d.client)
+        → IsPiece (is_to_server d.kind) d (ticked (w.server.records d.client) (number_after w.server now) (screen_to w.server now d.client)
+        now) (w.clients d.client)
     new d i =
         let m = IsIn-map (λ (p : Parcel). p.datagram) d (sent_by w.server now) i in
         let p = (in_tick w.server now m.0 m.1).packed in
-        subst (λ (x : DatagramValue). IsPiece x.kind x
-        (ticked (w.server.records x.client) (number_after w.server now) (screen_after w.server now) now) (w.clients x.client)) m.2
-        (subst (λ (kind : Kind). IsPiece kind m.0.datagram
-        (ticked (w.server.records m.0.datagram.client) (number_after w.server now) (screen_after w.server now) now)
+        subst (λ (x : DatagramValue). IsPiece (is_to_server x.kind) x
+        (ticked (w.server.records x.client) (number_after w.server now) (screen_to w.server now x.client) now) (w.clients x.client)) m.2
+        (subst (λ (kind : Kind). IsPiece (is_to_server kind) m.0.datagram
+        (ticked (w.server.records m.0.datagram.client) (number_after w.server now) (screen_to w.server now m.0.datagram.client) now)
         (w.clients m.0.datagram.client)) (sym p.kind_is) p.piece)
+
+    born : (d : DatagramValue) → IsIn d (map (λ (p : Parcel). p.datagram) (sent_by w.server now)) → Bears d (w.clients d.client)
+    born d i =
+        let m = IsIn-map (λ (p : Parcel). p.datagram) d (sent_by w.server now) i in
+        let t = in_tick w.server now m.0 m.1 in
+        let f = h.fits m.0.datagram.client in
+        subst (λ (x : DatagramValue). Bears x (w.clients x.client)) m.2
+        (record {
+          made = f.made t.known;
+          version = t.packed.version_is ∙ f.version t.known;
+          watches = (λ e. absurd (let z : false ≡ true = ap is_to_server (sym t.packed.kind_is) ∙ e in cc));
+        })

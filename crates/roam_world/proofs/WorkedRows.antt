@@ -6,33 +6,35 @@ use Rattle.roam_cells.specs.declared.faults.Reason.TheVariants as reason
 use Rattle.roam_acts.specs.declared.acts.Act.{Act}
 use Rattle.roam_acts.specs.declared.acts.Act.TheVariants.{Key, SplitRight, SplitDown, Close}
 use Rattle.roam_keys.specs.declared.keys.Key.TheVariants.{Char}
-use Rattle.roam_cells.specs.Screenshot.{Screenshot}
+use Rattle.roam_screens.specs.Screenshot.{Screenshot}
 use Rattle.roam_sync.specs.declared.senders.Held.{Held}
 use Rattle.roam_sync.specs.declared.receivers.Step.TheVariants as step
 use Rattle.roam_sync.specs.Senders.{Sending, acked, offered, is_due}
 use Rattle.roam_sync.specs.Receivers.{start, step_for}
-use Rattle.roam_wire.specs.declared.datagrams.Kind.{Kind}
-use Rattle.roam_wire.specs.declared.datagrams.Kind.TheVariants.{ToClient, ToServer}
-use Rattle.roam_wire.specs.Datagrams.{DatagramValue}
 use Rattle.roam_session.specs.Sessions.{SessionSize, Entry, Given, Did}
 use Rattle.roam_session.specs.Refusals.{stops}
 use Rattle.roam_acts.specs.Takers.{fresh_of}
 use Rattle.roam_world.specs.Numbers.{acts_of}
 use Rattle.roam_world.specs.Texts.{Address, datagram_with}
 use Rattle.roam_world.specs.Servers.{Record, Server, no_record, new_server, after_input}
-use Rattle.roam_world.specs.Comings.{turned_away, coming, reach}
+use Rattle.roam_world.specs.Comings.{turned_away, coming, reach, is_full_for}
 use Rattle.roam_world.specs.Ticks.{makes, cuts_after, is_live, is_offered, down_from}
 use Rattle.roam_world.specs.Clients.{new_client}
 use Rattle.roam_world.specs.Arrivals.{sent_back, arriving}
 use Rattle.roam_world.specs.Laws.{greatest_from, no_note}
+use Rattle.roam_wire.specs.declared.versions.Version.{Version}
+use Rattle.roam_wire.specs.declared.versions.Version.TheVariants.{One, Two}
+use Rattle.roam_wire.specs.declared.datagrams.Kind.{Kind}
+use Rattle.roam_wire.specs.declared.datagrams.Kind.TheVariants.{ToClient, ToServer, FromWatcher}
+use Rattle.roam_wire.specs.Datagrams.{DatagramValue}
 
 -- a size of 4 rows and 17 columns
 abbrev size : SessionSize
 size = record { rows = 4; cols = 17 }
 
 -- the only piece of the first instruction of a start
-abbrev first_of : Kind → ℕ → DatagramValue
-first_of kind client = datagram_with kind 1 client 0 1 1 (0, 7 ∷ [])
+abbrev first_of : Version → Kind → ℕ → DatagramValue
+first_of v kind client = datagram_with v kind 1 client 0 1 1 (0, 7 ∷ [])
 
 -- ---- five layout commands are all taken, refused ones too, whatever the session is
 
@@ -66,23 +68,59 @@ first_acts : acts_of 161 (Did 161 a ∷ Did 161 b ∷ Did 162 c ∷ []) ≡ a �
 first_acts = refl
 
 -- what was sent to the first start is nothing for the later one in its slot
-other_start : arriving 1 162 new_client (first_of ToClient 161) ≡ sent_back OtherClient
+other_start : arriving 1 162 (new_client One false) (first_of One ToClient 161) ≡ sent_back OtherClient
 other_start = refl
 
-other_session : arriving 2 161 new_client (first_of ToClient 161) ≡ sent_back OtherSession
+other_session : arriving 2 161 (new_client One false) (first_of One ToClient 161) ≡ sent_back OtherSession
 other_session = refl
 
-wrong_way : arriving 1 161 new_client (first_of ToServer 161) ≡ sent_back (BadDatagram reason.Kind)
+wrong_way : arriving 1 161 (new_client One false) (first_of One ToServer 161) ≡ sent_back (BadDatagram reason.Kind)
 wrong_way = refl
 
--- ---- a 65th start
+-- nor is what was sent to it in the other version
+other_version : arriving 1 161 (new_client One false) (first_of Two ToClient 161) ≡ sent_back (BadDatagram reason.Version)
+other_version = refl
+
+-- ---- a 65th start, a 17th that only watches
 
 abbrev full_server : Server
 full_server = record (new_server 1 size) { arrival = range_with_len 1 64 }
 
-too_many_starts : coming full_server (first_of ToServer 65) ≡ turned_away ClientsFull
+too_many_starts : coming full_server (first_of One ToServer 65) ≡ turned_away ClientsFull
 unfolding new_server no_record
 too_many_starts = refl
+
+-- there is room for one that only watches
+room_to_watch : is_full_for full_server (first_of Two FromWatcher 65) ≡ false
+unfolding new_server no_record
+room_to_watch = refl
+
+abbrev watched_server : Server
+watched_server = record (new_server 1 size) { arrival = range_with_len 1 16; records = λ id. record no_record { watches = true } }
+
+too_many_watch : coming watched_server (first_of Two FromWatcher 17) ≡ turned_away ClientsFull
+unfolding new_server no_record
+too_many_watch = refl
+
+room_to_edit : is_full_for watched_server (first_of Two ToServer 17) ≡ false
+unfolding new_server no_record
+room_to_edit = refl
+
+-- ---- a record keeps its version and its kind
+
+abbrev known_server : Server
+known_server = record (new_server 1 size) {
+  arrival = 161 ∷ [];
+  records = λ id. record no_record { known = true; version = Two };
+}
+
+other_version_there : coming known_server (first_of One ToServer 161) ≡ turned_away (BadDatagram reason.Version)
+unfolding new_server no_record
+other_version_there = refl
+
+other_kind_there : coming known_server (first_of Two FromWatcher 161) ≡ turned_away (BadDatagram reason.Kind)
+unfolding new_server no_record
+other_kind_there = refl
 
 -- ---- numbers are made 20 ms apart, where an input came
 
@@ -155,10 +193,10 @@ not_yet_due s = refl
 due_again : (s : Screenshot) → is_due (eight_held s) 370 ≡ true
 due_again s = refl
 
-base_is_kept : (s : Screenshot) → (down_from (eight_held s) 0).old ≡ 0
+base_is_kept : (s : Screenshot) → (down_from Two (eight_held s) 0).old ≡ 0
 base_is_kept s = refl
 
-newest_is_told : (s : Screenshot) → (down_from (eight_held s) 0).new ≡ 7
+newest_is_told : (s : Screenshot) → (down_from Two (eight_held s) 0).new ≡ 7
 newest_is_told s = refl
 
 -- the second's answer leaves 7 alone, and number 8 is offered to it

@@ -4,17 +4,18 @@ use Rattle.roam_cells.specs.declared.faults.Fault.{Fault}
 use Rattle.roam_cells.specs.declared.faults.Fault.TheVariants.{BadDatagram, OtherSession, OtherClient}
 use Rattle.roam_cells.specs.declared.faults.Reason.TheVariants.{Fragment}
 use Rattle.roam_cells.specs.declared.faults.Reason.TheVariants as reason
-use Rattle.roam_cells.specs.Screenshot.{Screenshot}
+use Rattle.roam_screens.specs.Screenshot.{Screenshot}
 use Rattle.roam_acts.specs.Senders.{acked_to}
 use Rattle.roam_sync.specs.declared.receivers.Step.{Step}
 use Rattle.roam_sync.specs.declared.receivers.Step.TheVariants as step
 use Rattle.roam_sync.specs.Receivers.{Receiving, step_for}
-use Rattle.roam_wire.specs.Datagrams.{DatagramValue}
 use Rattle.roam_wire.specs.Gatherers.{Gathering, Answer, Part, Old, Whole, gather, piece_of}
 use Rattle.roam_wire.specs.Instructions.{DownValue}
 use Rattle.roam_world.specs.Moments.{owed_from}
-use Rattle.roam_world.specs.Comings.{is_to_server}
+use Rattle.roam_world.specs.Versions.{is_same_version}
+use Rattle.roam_world.specs.Texts.{is_to_server}
 use Rattle.roam_world.specs.Clients.{Client}
+use Rattle.roam_wire.specs.Datagrams.{DatagramValue}
 
 -- what a client start answers to a datagram that it takes: the instruction isn't whole, or its update is old, leaves a gap or is new
 pub data Hearing : Type 0 where
@@ -39,12 +40,13 @@ arriving_gathered (Some (Part, g)) = kept IsPart g
 arriving_gathered (Some (Old, g)) = kept IsOld g
 arriving_gathered (Some (Whole text, g)) = fulfilled g text
 
--- in this order: its direction, its session, its client start, its piece
+-- in this order: its direction, its session, its client start, its version, its piece
 abbrev pub arriving : ℕ → ℕ → Client → DatagramValue → Arriving
 arriving session id c d =
     if is_to_server d.kind then sent_back (BadDatagram reason.Kind)
     else if not (d.session == session) then sent_back OtherSession
     else if not (d.client == id) then sent_back OtherClient
+    else if not (is_same_version c.version d.version) then sent_back (BadDatagram reason.Version)
     else arriving_gathered (gather c.gathering (piece_of d))
 
 -- ---- what it leaves

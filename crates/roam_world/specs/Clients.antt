@@ -1,16 +1,21 @@
 -- A client start, and what is typed at it.
 use Rattle.std.specs.Prelude.{ℕ, max, List, [], ◌∷◌, ◌++◌, Option, None, Bool, true, false}
-use Rattle.roam_cells.specs.Screenshot.{Screenshot}
+use Rattle.roam_screens.specs.Screenshot.{Screenshot}
 use Rattle.roam_acts.specs.declared.acts.Act.{Act}
 use Rattle.roam_acts.specs.Senders.{Typing, typed, start as no_acts}
 use Rattle.roam_sync.specs.Receivers.{Receiving, start}
 use Rattle.roam_wire.specs.Gatherers.{Gathering, nothing}
 use Rattle.roam_wire.specs.Instructions.{UpValue}
 use Rattle.roam_world.specs.Numbers.{first_screen}
+use Rattle.roam_wire.specs.declared.versions.Version.{Version}
+use Rattle.roam_wire.specs.declared.versions.Version.TheVariants.{Two}
 
 pub record Client : Type 0 where
   -- whether there was such a start
   pub made : Bool
+  -- its version, and whether it only watches
+  pub version : Version
+  pub watches : Bool
   -- all acts that were typed at it, as a history: no program keeps it
   pub typed : List Act
   -- how many of them are acknowledged, and those that aren't
@@ -36,6 +41,8 @@ unfoldable pub nobody : Client
 nobody =
     record {
       made = false;
+      version = Two;
+      watches = false;
       typed = [];
       acts = no_acts;
       gathering = nothing;
@@ -49,8 +56,8 @@ nobody =
     }
 
 -- what a start is at first
-abbrev pub new_client : Client
-new_client = record nobody { made = true }
+abbrev pub new_client : Version → Bool → Client
+new_client v watches = record nobody { made = true; version = v; watches = watches }
 
 -- the moment that the start goes by: none below an earlier one
 abbrev pub moment_of : Client → ℕ → ℕ

@@ -1,5 +1,5 @@
 -- A datagram comes to the server: what it is there, and what it leaves.
-use Rattle.std.specs.Prelude.{ℕ, ◌+◌, suc, max, List, [], ◌∷◌, ◌++◌, length, take, map, Option, Some, None, Bool, true, false, not, ◌&&◌, ◌||◌, nat_le, nat_lt, ◌==◌, if◌then◌else◌}
+use Rattle.std.specs.Prelude.{ℕ, ◌+◌, suc, max, filter, List, [], ◌∷◌, ◌++◌, length, take, map, Option, Some, None, Bool, true, false, not, ◌&&◌, ◌||◌, nat_le, nat_lt, ◌==◌, if◌then◌else◌}
 use Rattle.roam_cells.specs.declared.faults.Fault.{Fault}
 use Rattle.roam_cells.specs.declared.faults.Fault.TheVariants.{BadDatagram, OtherSession, ClientsFull}
 use Rattle.roam_cells.specs.declared.faults.Reason.TheVariants.{Fragment}
@@ -7,21 +7,16 @@ use Rattle.roam_cells.specs.declared.faults.Reason.TheVariants as reason
 use Rattle.roam_acts.specs.declared.acts.Act.{Act}
 use Rattle.roam_acts.specs.Takers.{fresh_of}
 use Rattle.roam_sync.specs.Senders.{acked}
-use Rattle.roam_wire.specs.declared.datagrams.Kind.{Kind}
-use Rattle.roam_wire.specs.declared.datagrams.Kind.TheVariants.{ToClient, ToServer}
-use Rattle.roam_wire.specs.Datagrams.{DatagramValue}
 use Rattle.roam_wire.specs.Gatherers.{Gathering, Answer, Part, Old, Whole, gather, piece_of}
 use Rattle.roam_wire.specs.Instructions.{UpValue}
 use Rattle.roam_session.specs.Sessions.{SessionSize, Entry, Did}
 use Rattle.roam_session.specs.Refusals.{stops}
 use Rattle.roam_world.specs.Lists.{put}
 use Rattle.roam_world.specs.Moments.{owed_from}
-use Rattle.roam_world.specs.Texts.{Address}
+use Rattle.roam_world.specs.Texts.{Address, is_to_server, is_watching}
+use Rattle.roam_world.specs.Versions.{is_same_version}
 use Rattle.roam_world.specs.Servers.{Record, Server}
-
-abbrev pub is_to_server : Kind → Bool
-is_to_server ToClient = false
-is_to_server ToServer = true
+use Rattle.roam_wire.specs.Datagrams.{DatagramValue}
 
 -- what a datagram is to the server
 pub data Coming : Type 0 where
@@ -39,12 +34,43 @@ coming_gathered (Some (Part, g)) = noted g
 coming_gathered (Some (Old, g)) = noted g
 coming_gathered (Some (Whole text, g)) = completed g text
 
--- in this order: its direction, its session, room for one more record, its piece
+abbrev pub is_same : Bool → Bool → Bool
+is_same true b = b
+is_same false b = not b
+
+-- so many starts that only watch, or so many others, are known at most
+abbrev pub most_of : Bool → ℕ
+most_of watches = if watches then 16 else 64
+
+-- those of them, of a list, that only watch, or the others
+abbrev pub alike_in : (ℕ → Record) → Bool → List ℕ → List ℕ
+alike_in records watches ids = filter (λ id. is_same (records id).watches watches) ids
+
+-- the known starts that only watch, or the others
+abbrev pub alike : Server → Bool → List ℕ
+alike s watches = alike_in s.records watches s.arrival
+
+-- the start isn't known, and as many as may be are that watch, or don't, as it does
+abbrev pub is_full_for : Server → DatagramValue → Bool
+is_full_for s d =
+    not (s.records d.client).known && nat_le (most_of (is_watching d.kind)) (length (alike s (is_watching d.kind)))
+
+-- its record is one of another version
+abbrev pub is_of_other : Server → DatagramValue → Bool
+is_of_other s d = (s.records d.client).known && not (is_same_version (s.records d.client).version d.version)
+
+-- its record is one of a start that watches, and it doesn't come from one, or the other way round
+abbrev pub is_else : Server → DatagramValue → Bool
+is_else s d = (s.records d.client).known && not (is_same (s.records d.client).watches (is_watching d.kind))
+
+-- in this order: its direction, its session, room for one more record or the version and the kind of the one that is there, its piece
 abbrev pub coming : Server → DatagramValue → Coming
 coming s d =
     if not (is_to_server d.kind) then turned_away (BadDatagram reason.Kind)
     else if not (d.session == s.session) then turned_away OtherSession
-    else if not (s.records d.client).known && nat_le 64 (length s.arrival) then turned_away ClientsFull
+    else if is_full_for s d then turned_away ClientsFull
+    else if is_of_other s d then turned_away (BadDatagram reason.Version)
+    else if is_else s d then turned_away (BadDatagram reason.Kind)
     else coming_gathered (gather (s.records d.client).gathering (piece_of d))
 
 -- ---- what it leaves
@@ -54,6 +80,8 @@ abbrev pub heard_from : Record → DatagramValue → Address → ℕ → Gatheri
 heard_from r d from now g =
     record r {
       known = true;
+      version = d.version;
+      watches = is_watching d.kind;
       gathering = g;
       heard_at = now;
       latest = max r.latest d.number;

@@ -1,17 +1,13 @@
 -- What holds of every world that can be reached, and with every step again.
-use Rattle.std.specs.Prelude.{◌≡◌, ℕ, zero, suc, ◌<◌, ◌≤◌, ◌^◌, All, List, [], length, take, slice_index, slice_get, Option, Some, None, true, false}
-use Rattle.roam_cells.specs.Screenshot.{IsScreenshot}
+use Rattle.std.specs.Prelude.{◌≡◌, ℕ, zero, suc, ◌<◌, ◌≤◌, ◌^◌, All, List, [], length, take, slice_index, slice_get, Option, Some, None, Bool, true, false}
 use Rattle.roam_acts.specs.declared.acts.Act.{Act}
 use Rattle.roam_acts.specs.Acts.{IsAct}
 use Rattle.roam_acts.specs.Senders.{HasTyped, IsStretch}
-use Rattle.roam_update.specs.Shots.{applied}
+use Rattle.roam_world.specs.Versions.{IsSeenBy, applied_by}
 use Rattle.roam_sync.specs.Lines.{Update}
 use Rattle.roam_sync.specs.TrueLines.{TrueLine}
 use Rattle.roam_sync.specs.Links.{Link}
-use Rattle.roam_wire.specs.declared.datagrams.Kind.{Kind}
-use Rattle.roam_wire.specs.declared.datagrams.Kind.TheVariants.{ToClient, ToServer}
 use Rattle.roam_wire.specs.Cutting.{pieces_of}
-use Rattle.roam_wire.specs.Datagrams.{DatagramValue, IsDatagram}
 use Rattle.roam_wire.specs.Gatherers.{Gathering, piece_of}
 use Rattle.roam_wire.specs.Arrivals.{IsPieceOf, GathersOf}
 use Rattle.roam_wire.specs.Instructions.{DownValue, IsDown, down_text, UpValue, IsUp, up_text}
@@ -19,11 +15,15 @@ use Rattle.roam_layout.specs.Layouts.{IsSessionSize}
 use Rattle.roam_session.specs.Sessions.{SessionSize, Entry}
 use Rattle.roam_world.specs.Lists.{IsIn}
 use Rattle.roam_world.specs.Numbers.{screen, IsScreenOf, acts_of}
-use Rattle.roam_world.specs.Texts.{update_in}
-use Rattle.roam_world.specs.Servers.{Record}
+use Rattle.roam_world.specs.Texts.{is_to_server, is_watching, update_in}
+use Rattle.roam_world.specs.Servers.{Record, no_record}
+use Rattle.roam_world.specs.Comings.{most_of, alike}
 use Rattle.roam_world.specs.Clients.{Client, nobody}
 use Rattle.roam_world.specs.Worlds.{World}
 use Rattle.roam_world.specs.Laws.{greatest_from, no_note}
+use Rattle.roam_wire.specs.declared.versions.Version.{Version}
+use Rattle.roam_wire.specs.declared.versions.Version.TheVariants.{Two}
+use Rattle.roam_wire.specs.Datagrams.{DatagramValue, IsDatagram}
 
 -- the instruction of an id, of those that were sent
 abbrev pub numbered : {V : Type 0} → List V → ℕ → Option V
@@ -64,7 +64,7 @@ pub record ActsOf (taken : List Act) (r : Record) (c : Client) : Type 0 where
 
 -- of one client start and its record
 pub record LineOf (size : SessionSize) (log : List Entry) (cuts : List ℕ) (taken : List Act) (r : Record) (c : Client) : Type 0 where
-  pub truth : TrueLine applied (IsScreenOf size log cuts) r.sender c.receiver (Tells r.instructions)
+  pub truth : TrueLine (applied_by c.version) (IsScreenOf c.version size log cuts) r.sender c.receiver (Tells r.instructions)
   pub link : Link r.sender c.receiver (Tells r.instructions) (Acks c.instructions)
   pub acts : ActsOf taken r c
   pub downs : (v : DownValue) → IsIn v r.instructions → IsDown v
@@ -74,17 +74,34 @@ pub record LineOf (size : SessionSize) (log : List Entry) (cuts : List ℕ) (tak
   pub notes : greatest_from no_note r.notes ≡ record { number = r.latest; source = r.address }
 
 -- a datagram is a piece of the instruction that was sent under its id
-abbrev pub IsPiece : Kind → DatagramValue → Record → Client → Type 0
-IsPiece ToClient d r c = IsPieceOf (cuts_of down_text r.instructions) (piece_of d)
-IsPiece ToServer d r c = IsPieceOf (cuts_of up_text c.instructions) (piece_of d)
+abbrev pub IsPiece : Bool → DatagramValue → Record → Client → Type 0
+IsPiece false d r c = IsPieceOf (cuts_of down_text r.instructions) (piece_of d)
+IsPiece true d r c = IsPieceOf (cuts_of up_text c.instructions) (piece_of d)
+
+-- its client start was made, it has that one's version, and one to the server tells whether the start watches
+pub record Bears (d : DatagramValue) (c : Client) : Type 0 where
+  pub made : c.made ≡ true
+  pub version : d.version ≡ c.version
+  pub watches : is_to_server d.kind ≡ true → is_watching d.kind ≡ c.watches
+
+-- a record that is known is of a start that was made, has its version, and watches as it does; another one has nothing
+pub record Fits (r : Record) (c : Client) : Type 0 where
+  pub made : r.known ≡ true → c.made ≡ true
+  pub version : r.known ≡ true → r.version ≡ c.version
+  pub watches : r.known ≡ true → r.watches ≡ c.watches
+  pub none : r.known ≡ false → r ≡ no_record
+
+-- nothing is typed at a start that only watches, and it is of version 2
+abbrev pub OnlyWatches : Client → Type 0
+OnlyWatches c = c.watches ≡ true → (c.typed ≡ []) × (c.version ≡ Two)
 
 -- each number stands for a place in the log
 abbrev pub AreCuts : List Entry → List ℕ → Type 0
 AreCuts log cuts = (k : ℕ) → k < length cuts → slice_index cuts k ≤ length log
 
--- each number has a screen
+-- each number has a screen in each version
 abbrev pub AreScreens : SessionSize → List Entry → List ℕ → Type 0
-AreScreens size log cuts = (n : ℕ) → n ≤ length cuts → IsScreenshot (screen size log cuts n)
+AreScreens size log cuts = (v : Version) (n : ℕ) → n ≤ length cuts → IsSeenBy v (screen v size log cuts n)
 
 pub record Holds (w : World) : Type 0 where
   pub size : IsSessionSize w.server.size.rows w.server.size.cols
@@ -92,7 +109,10 @@ pub record Holds (w : World) : Type 0 where
   pub cuts : AreCuts w.server.log w.server.cuts
   pub screens : AreScreens w.server.size w.server.log w.server.cuts
   pub lines : (id : ℕ) → LineOf w.server.size w.server.log w.server.cuts (acts_of id w.server.log) (w.server.records id) (w.clients id)
-  pub pieces : (d : DatagramValue) → IsIn d w.sent → IsPiece d.kind d (w.server.records d.client) (w.clients d.client)
+  pub pieces : (d : DatagramValue) → IsIn d w.sent → IsPiece (is_to_server d.kind) d (w.server.records d.client) (w.clients d.client)
+  pub bears : (d : DatagramValue) → IsIn d w.sent → Bears d (w.clients d.client)
+  pub fits : (id : ℕ) → Fits (w.server.records id) (w.clients id)
+  pub watchers : (id : ℕ) → OnlyWatches (w.clients id)
   pub unused : (id : ℕ) → (w.clients id).made ≡ false → w.clients id ≡ nobody
   pub slots : (slot id : ℕ) → w.slots slot ≡ Some id → (w.clients id).made ≡ true
 
@@ -101,6 +121,7 @@ pub record Counts (w : World) : Type 0 where
   pub session : w.server.session < 2 ^ 64
   pub starts : (id : ℕ) → (w.clients id).made ≡ true → id < 2 ^ 64
   pub arrived : (id : ℕ) → (w.server.records id).known ≡ true → IsIn id w.server.arrival
+  pub known : (id : ℕ) → IsIn id w.server.arrival → (w.server.records id).known ≡ true
   pub ids : (id : ℕ) → IsIn id w.server.arrival → id < 2 ^ 64
-  pub few : length w.server.arrival ≤ 64
+  pub few : (watches : Bool) → length (alike w.server watches) ≤ most_of watches
   pub sent : (d : DatagramValue) → IsIn d w.sent → IsDatagram d

@@ -5,17 +5,21 @@ use Rattle.roam_acts.specs.Acts.{IsAct}
 use Rattle.roam_sync.specs.Senders.{newest, count}
 use Rattle.roam_sync.specs.Receivers.{pairs}
 use Rattle.roam_sync.specs.TrueLines.{HoldsTrueStates, HasTrueStates}
-use Rattle.roam_wire.specs.Datagrams.{DatagramValue}
 use Rattle.roam_layout.specs.Layouts.{IsSessionSize}
 use Rattle.roam_session.specs.Sessions.{SessionSize}
+use Rattle.roam_sync.specs.Lines.{IsAmong, numbers_held, numbers_had}
+use Rattle.roam_wire.specs.Instructions.{DownValue}
+use Rattle.roam_world.specs.Versions.{applied_by}
 use Rattle.roam_world.specs.Lists.{IsIn, IsFront}
 use Rattle.roam_world.specs.Numbers.{screen, IsScreenOf, acts_of}
-use Rattle.roam_world.specs.Servers.{Note, nowhere, moment}
+use Rattle.roam_world.specs.Texts.{Address, is_to_server, is_watching}
+use Rattle.roam_world.specs.Servers.{Note, Server, nowhere, moment}
 use Rattle.roam_world.specs.Ticks.{Parcel, sent_by, is_live, number_after, after_tick}
 use Rattle.roam_world.specs.Clients.{shown_number, shown_screen}
 use Rattle.roam_world.specs.Arrivals.{IsGap}
 use Rattle.roam_world.specs.Worlds.{World, new_world, Event, PaneBytes, Typed, ServerTick, ClientTick, ToServer, ToClient, Start, Drain, Reply, Heard, Failed, Stopped, datagram_at}
 use Rattle.roam_world.specs.Steps.{wstep, Run}
+use Rattle.roam_wire.specs.Datagrams.{DatagramValue}
 
 -- ---- what can be reached
 
@@ -27,7 +31,7 @@ IsEvent (ServerTick now) = Unit {0}
 IsEvent (ClientTick slot now) = Unit {0}
 IsEvent (ToServer k from now) = Unit {0}
 IsEvent (ToClient slot k now) = Unit {0}
-IsEvent (Start slot id) = id < 2 ^ 64
+IsEvent (Start slot id v watches) = id < 2 ^ 64
 IsEvent (Drain pane n) = Unit {0}
 
 abbrev pub AreEvents : List Event → Type 0
@@ -50,12 +54,15 @@ Always Is = (session : ℕ) (size : SessionSize) (es : List Event) (rs : List Re
 -- each client start shows a number that was made, or 0, and exactly the screen of that number
 pub record ShowsTrueScreens (w : World) : Type 0 where
   pub made : (id : ℕ) → shown_number (w.clients id) ≤ length w.server.cuts
-  pub same : (id : ℕ) → shown_screen (w.clients id) ≡ screen w.server.size w.server.log w.server.cuts (shown_number (w.clients id))
+  pub same : (id : ℕ) → shown_screen (w.clients id) ≡ screen (w.clients id).version w.server.size w.server.log w.server.cuts
+      (shown_number (w.clients id))
 
 -- so is each pair that a client start or the sender of a record has
 pub record HoldTrueScreens (w : World) : Type 0 where
-  pub receivers : (id : ℕ) → HasTrueStates (IsScreenOf w.server.size w.server.log w.server.cuts) (w.clients id).receiver
-  pub senders : (id : ℕ) → HoldsTrueStates (IsScreenOf w.server.size w.server.log w.server.cuts) (w.server.records id).sender
+  pub receivers : (id : ℕ) → HasTrueStates (IsScreenOf (w.clients id).version w.server.size w.server.log w.server.cuts)
+      (w.clients id).receiver
+  pub senders : (id : ℕ) → HoldsTrueStates (IsScreenOf (w.server.records id).version w.server.size w.server.log w.server.cuts)
+      (w.server.records id).sender
 
 -- no client start and no sender ever has a ninth pair
 pub record HoldAtMostEight (w : World) : Type 0 where
@@ -67,12 +74,38 @@ abbrev pub LeavesNoGap : World → Type 0
 LeavesNoGap w = (slot k now : ℕ) (reply : Reply) (w' : World) → wstep w (ToClient slot k now) reply w'
     → ((reply ≡ Heard IsGap) → ⊥) × ((reply ≡ Failed BadChange) → ⊥)
 
+-- two starts of one version that show one number show one screen
+abbrev pub StartsAgree : World → Type 0
+StartsAgree w = (id j : ℕ) → (w.clients id).version ≡ (w.clients j).version → shown_number (w.clients id) ≡ shown_number (w.clients j)
+    → shown_screen (w.clients id) ≡ shown_screen (w.clients j)
+
 -- ---- acts
 
 -- The acts of each client start that were taken are the first of those typed there, each once and in order, and its record counts them.
 pub record TakesActsInOrder (w : World) : Type 0 where
   pub front : (id : ℕ) → IsFront (acts_of id w.server.log) (w.clients id).typed
   pub count : (id : ℕ) → (w.server.records id).taken ≡ length (acts_of id w.server.log)
+
+-- ---- starts that only watch
+
+-- Nothing is typed at one, and nothing is taken of it.
+abbrev pub WatchersTakeNoPart : World → Type 0
+WatchersTakeNoPart w = (id : ℕ) → (w.clients id).watches ≡ true → ((w.clients id).typed ≡ []) × (acts_of id w.server.log ≡ [])
+
+-- the server after another one, in which only the record of one start may be another, and its moments
+pub record IsSameBut (id : ℕ) (s s' : Server) : Type 0 where
+  pub size : s'.size ≡ s.size
+  pub log : s'.log ≡ s.log
+  pub cuts : s'.cuts ≡ s.cuts
+  pub made_at : s'.made_at ≡ s.made_at
+  pub input : s'.input ≡ s.input
+  pub records : (j : ℕ) → (j ≡ id → ⊥) → s'.records j ≡ s.records j
+
+-- A datagram of one leaves the session, its log and every other record as they were, in every world.
+abbrev pub WatchersDisturbNothing : World → Type 0
+WatchersDisturbNothing w = (k : ℕ) (from : Address) (now : ℕ) (d : DatagramValue) (reply : Reply) (w' : World)
+    → datagram_at w.sent k ≡ Some d → is_watching d.kind ≡ true → wstep w (ToServer k from now) reply w'
+    → IsSameBut d.client w.server w'.server
 
 -- ---- the headline
 
@@ -84,7 +117,8 @@ Headline w = ShowsTrueScreens w × TakesActsInOrder w
 -- An instruction's id names one text for good: two datagrams of one direction, start and id tell one count, and at one index they have one
 -- payload.
 abbrev pub NamesOneText : World → Type 0
-NamesOneText w = (d e : DatagramValue) → IsIn d w.sent → IsIn e w.sent → d.kind ≡ e.kind → d.client ≡ e.client → d.id ≡ e.id
+NamesOneText w = (d e : DatagramValue) → IsIn d w.sent → IsIn e w.sent → is_to_server d.kind ≡ is_to_server e.kind → d.client ≡ e.client
+    → d.id ≡ e.id
     → (d.count ≡ e.count) × (d.index ≡ e.index → d.payload ≡ e.payload)
 
 -- of these the greatest-numbered, and of several such the first to come
@@ -99,6 +133,42 @@ no_note = record { number = 0; source = nowhere }
 abbrev pub RepliesToLatest : World → Type 0
 RepliesToLatest w = (now : ℕ) (p : Parcel) → IsIn p (sent_by w.server now)
     → p.to ≡ (greatest_from no_note (w.server.records p.datagram.client).notes).source
+
+-- the record of a start that is known to the server is one of its version and its kind
+abbrev pub RecordsFit : World → Type 0
+RecordsFit w = (id : ℕ) → (w.server.records id).known ≡ true
+    → ((w.clients id).made ≡ true) × ((w.server.records id).version ≡ (w.clients id).version)
+    × ((w.server.records id).watches ≡ (w.clients id).watches)
+
+-- ---- all of it together
+
+-- of a client start and its record
+pub record KeepsStep (w : World) (id : ℕ) : Type 0 where
+  -- the sender's base is there at the start, whose pairs from there on are among the sender's
+  pub base : IsAmong (w.server.records id).sender.base.number (numbers_had (w.clients id).receiver)
+  pub later : (n : ℕ) → IsAmong n (numbers_had (w.clients id).receiver) → (w.server.records id).sender.base.number ≤ n
+      → IsAmong n (numbers_held (w.server.records id).sender)
+  -- the start gathered no id above those that were sent to it
+  pub gathered : (w.clients id).gathering.id ≤ length (w.server.records id).instructions
+
+-- What always holds, of which the headline is a part.
+pub record KeepsAll (w : World) : Type 0 where
+  -- each update that was ever sent leads from the screen of its old number to that of its new one
+  pub updates : (id : ℕ) (v : DownValue) → IsIn v (w.server.records id).instructions
+      → (v.old ≤ length w.server.cuts) × (v.new ≤ length w.server.cuts)
+      × (applied_by (w.clients id).version (screen (w.clients id).version w.server.size w.server.log w.server.cuts v.old) v.change
+      ≡ Some (screen (w.clients id).version w.server.size w.server.log w.server.cuts v.new))
+  -- an instruction's id names one text for good
+  pub ids : NamesOneText w
+  -- each pair at either end is a number with its screen
+  pub pairs : HoldTrueScreens w
+  -- a sender's base is held by its start, and they keep in step from there on
+  pub step : (id : ℕ) → KeepsStep w id
+  -- each update that was sent has its old number at the start, or its new one isn't above the one that is shown
+  pub known : (id : ℕ) (v : DownValue) → IsIn v (w.server.records id).instructions
+      → IsAmong v.old (numbers_had (w.clients id).receiver) ⊎ (v.new ≤ shown_number (w.clients id))
+  -- a record's count is the length of a front of what was typed
+  pub count : TakesActsInOrder w
 
 -- ---- one round
 

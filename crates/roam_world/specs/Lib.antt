@@ -1,5 +1,6 @@
 pub mod Lists
 pub mod Moments
+pub mod Versions
 pub mod Numbers
 pub mod Texts
 pub mod Servers

@@ -1,9 +1,10 @@
 -- All that is sent is within the limits of its text, so that it is read as it was written; and what is kept is bounded.
-use Rattle.std.specs.Prelude.{ℕ, ◌<◌, ◌≤◌, ◌^◌, length}
-use Rattle.roam_wire.specs.Datagrams.{DatagramValue, IsDatagram}
+use Rattle.std.specs.Prelude.{ℕ, ◌<◌, ◌≤◌, ◌^◌, Bool, length}
 use Rattle.roam_wire.specs.Instructions.{DownValue, IsDown, UpValue, IsUp}
 use Rattle.roam_world.specs.Lists.{IsIn}
+use Rattle.roam_world.specs.Comings.{most_of, alike}
 use Rattle.roam_world.specs.Worlds.{World}
+use Rattle.roam_wire.specs.Datagrams.{DatagramValue, IsDatagram}
 
 pub record Limits (w : World) : Type 0 where
   -- numbers of states and of acts are below 2^62
@@ -11,8 +12,8 @@ pub record Limits (w : World) : Type 0 where
   pub typed : (id : ℕ) → length (w.clients id).typed < 2 ^ 62
   -- at most 1,024 acts of a start are unacknowledged
   pub unacknowledged : (id : ℕ) → length (w.clients id).acts.acts ≤ 1024
-  -- at most 64 starts are known to the server
-  pub known : length w.server.arrival ≤ 64
+  -- at most 16 starts that only watch, and 64 others, are known to the server
+  pub known : (watches : Bool) → length (alike w.server watches) ≤ most_of watches
   -- each instruction and each datagram that was ever sent has a text
   pub downs : (id : ℕ) (v : DownValue) → IsIn v (w.server.records id).instructions → IsDown v
   pub ups : (id : ℕ) (u : UpValue) → IsIn u (w.clients id).instructions → IsUp u

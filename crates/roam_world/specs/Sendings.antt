@@ -1,13 +1,12 @@
 -- A tick of a client start.
 use Rattle.std.specs.Prelude.{ℕ, ◌+◌, max, List, [], ◌∷◌, ◌++◌, length, take, Option, Some, None, Bool, true, ◌&&◌, ◌||◌, nat_lt}
 use Rattle.roam_acts.specs.declared.acts.Act.{Act}
-use Rattle.roam_wire.specs.declared.datagrams.Kind.TheVariants.{ToServer}
 use Rattle.roam_wire.specs.Cutting.{pieces_of}
-use Rattle.roam_wire.specs.Datagrams.{DatagramValue}
 use Rattle.roam_wire.specs.Instructions.{UpValue, up_text}
 use Rattle.roam_world.specs.Moments.{has_passed, is_overdue, is_spent}
-use Rattle.roam_world.specs.Texts.{datagrams_of}
+use Rattle.roam_world.specs.Texts.{kind_from, datagrams_of}
 use Rattle.roam_world.specs.Clients.{Client, shown_number}
+use Rattle.roam_wire.specs.Datagrams.{DatagramValue}
 
 -- the acts to send: those that aren't acknowledged, at most 64
 abbrev pub waiting : Client → List Act
@@ -26,7 +25,7 @@ is_unacknowledged c = nat_lt 0 (length c.acts.acts)
 abbrev pub is_due_since : Client → Option ℕ → ℕ → Bool
 is_due_since c None now = true
 is_due_since c (Some since) now =
-    nat_lt c.sent_act (last_waiting c)
+    (is_unacknowledged c && nat_lt c.sent_act (last_waiting c))
     || (is_unacknowledged c && has_passed 250 since now)
     || is_overdue c.owed now
     || has_passed 3000 since now
@@ -42,7 +41,8 @@ abbrev pub pieces_from : Client → List (List ℕ)
 pieces_from c = pieces_of (up_text (up_from c))
 
 abbrev pub datagrams_from : ℕ → ℕ → Client → List DatagramValue
-datagrams_from session id c = datagrams_of ToServer session id c.datagrams (length c.instructions + 1) (pieces_from c)
+datagrams_from session id c =
+    datagrams_of c.version (kind_from c.watches) session id c.datagrams (length c.instructions + 1) (pieces_from c)
 
 -- a number that it needs would be past the last: that of its first act, of the instruction, of a datagram
 abbrev pub is_client_spent : Client → Bool

@@ -1,12 +1,14 @@
 -- The server, and what it keeps of each client start.
 use Rattle.std.specs.Prelude.{ℕ, ◌++◌, max, List, [], ◌∷◌, Option, None, Bool, true, false}
-use Rattle.roam_cells.specs.Screenshot.{Screenshot}
+use Rattle.roam_screens.specs.Screenshot.{Screenshot}
 use Rattle.roam_sync.specs.Senders.{Sending, start}
 use Rattle.roam_wire.specs.Gatherers.{Gathering, nothing}
 use Rattle.roam_wire.specs.Instructions.{DownValue}
 use Rattle.roam_session.specs.Sessions.{SessionSize, Entry}
 use Rattle.roam_world.specs.Numbers.{first_screen}
 use Rattle.roam_world.specs.Texts.{Address}
+use Rattle.roam_wire.specs.declared.versions.Version.{Version}
+use Rattle.roam_wire.specs.declared.versions.Version.TheVariants.{Two}
 
 -- the number of a datagram that came, and where it came from
 pub record Note : Type 0 where
@@ -17,6 +19,9 @@ pub record Note : Type 0 where
 pub record Record : Type 0 where
   -- whether something came from it
   pub known : Bool
+  -- the version of its first datagram, and whether that came from a watcher
+  pub version : Version
+  pub watches : Bool
   -- what is gathered of its newest instruction
   pub gathering : Gathering
   -- how many of its acts were taken
@@ -45,6 +50,8 @@ unfoldable pub no_record : Record
 no_record =
     record {
       known = false;
+      version = Two;
+      watches = false;
       gathering = nothing;
       taken = 0;
       sender = start first_screen;

@@ -1,22 +1,21 @@
 -- Each event with its reply and what it leaves, a case at a time. Want of memory may come in every call that asks for memory; it leaves the
 -- world as it was, but for a datagram to the server that stops at an act.
-use Rattle.std.specs.Prelude.{◌≡◌, ℕ, ◌+◌, ◌<◌, ◌≤◌, List, [], ◌∷◌, length, Some, None, true, false}
+use Rattle.std.specs.Prelude.{◌≡◌, ℕ, ◌+◌, ◌<◌, ◌≤◌, List, [], ◌∷◌, length, Some, None, Bool, true, false}
 use Rattle.roam_cells.specs.declared.faults.Fault.{Fault}
-use Rattle.roam_cells.specs.declared.faults.Fault.TheVariants.{OutOfMemory, NoPane, Busy, BadDatagram, BadChange, Spent}
+use Rattle.roam_cells.specs.declared.faults.Fault.TheVariants.{OutOfMemory, NoPane, Busy, BadDatagram, BadChange, Spent, Watching}
 use Rattle.roam_cells.specs.declared.faults.Reason.{Reason}
-use Rattle.roam_cells.specs.Screenshot.{Screenshot}
+use Rattle.roam_screens.specs.Screenshot.{Screenshot}
 use Rattle.roam_acts.specs.declared.acts.Act.{Act}
 use Rattle.roam_acts.specs.Senders.{IsFull, IsSpent}
-use Rattle.roam_update.specs.Shots.{applied}
+use Rattle.roam_world.specs.Versions.{applied_by}
 use Rattle.roam_sync.specs.declared.receivers.Step.TheVariants as step
 use Rattle.roam_sync.specs.Receivers.{Receiving, pairs, state_at}
 use Rattle.roam_sync.specs.Lines.{Delivers}
-use Rattle.roam_wire.specs.Datagrams.{DatagramValue}
 use Rattle.roam_wire.specs.Gatherers.{Gathering}
 use Rattle.roam_wire.specs.Instructions.{DownValue, UpValue}
 use Rattle.roam_session.specs.Sessions.{Given, Drained}
 use Rattle.roam_session.specs.Refusals.{refuses_bytes, output_at}
-use Rattle.roam_world.specs.Texts.{Address, SaysDown, SaysNoDown, SaysUp, SaysNoUp, update_in}
+use Rattle.roam_world.specs.Texts.{Address, is_watching, SaysDown, SaysNoDown, SaysUp, SaysNoUp, update_in}
 use Rattle.roam_world.specs.Servers.{moment, after_input}
 use Rattle.roam_world.specs.Comings.{turned_away, noted, completed, coming, after_note, new_acts, after_acts, room_for}
 use Rattle.roam_world.specs.Ticks.{sent_by, is_tick_spent}
@@ -24,6 +23,9 @@ use Rattle.roam_world.specs.Clients.{moment_of, after_typed}
 use Rattle.roam_world.specs.Arrivals.{Hearing, sent_back, kept, fulfilled, arriving, after_piece, step_of, hearing_of, after_whole}
 use Rattle.roam_world.specs.Sendings.{is_client_due, is_client_spent, datagrams_from, after_quiet}
 use Rattle.roam_world.specs.Worlds.{World, Event, PaneBytes, Typed, ServerTick, ClientTick, ToServer, ToClient, Start, Drain, Reply, Done, Sent, Taken, Heard, Refused, Failed, Stopped, datagram_at, with_server, with_client, after_server_tick, after_client_sent, after_start}
+use Rattle.roam_wire.specs.declared.versions.Version.{Version}
+use Rattle.roam_wire.specs.declared.versions.Version.TheVariants.{One, Two}
+use Rattle.roam_wire.specs.Datagrams.{DatagramValue}
 
 -- bytes come from a pane's program: refused by the session, or taken; no memory is asked for
 pub data PaneBytesStep (w : World) (pane : ℕ) (bytes : List ℕ) (reply : Reply) (w' : World) : Type 0 where
@@ -41,15 +43,18 @@ pub data DrainStep (w : World) (pane n : ℕ) (reply : Reply) (w' : World) : Typ
   gone : (output : List ℕ) → output_at w.server.size w.server.log pane ≡ Some output → n ≤ length output
       → reply ≡ Done → w' ≡ with_server w (after_input w.server (Drained pane n)) → DrainStep w pane n reply w'
 
--- an act is typed: no start in the slot; 1,024 are unacknowledged; numbers are spent; or it is taken
+-- an act is typed: no start in the slot; it only watches; 1,024 are unacknowledged; numbers are spent; or it is taken
 pub data TypedStep (w : World) (slot : ℕ) (act : Act) (reply : Reply) (w' : World) : Type 0 where
   empty_slot : w.slots slot ≡ None
       → reply ≡ Refused → w' ≡ w → TypedStep w slot act reply w'
-  full : (id : ℕ) → w.slots slot ≡ Some id → IsFull (w.clients id).acts
+  watching : (id : ℕ) → w.slots slot ≡ Some id → (w.clients id).watches ≡ true
+      → reply ≡ Failed Watching → w' ≡ w → TypedStep w slot act reply w'
+  full : (id : ℕ) → w.slots slot ≡ Some id → (w.clients id).watches ≡ false → IsFull (w.clients id).acts
       → reply ≡ Failed Busy → w' ≡ w → TypedStep w slot act reply w'
-  spent : (id : ℕ) → w.slots slot ≡ Some id → IsSpent (w.clients id).acts
+  spent : (id : ℕ) → w.slots slot ≡ Some id → (w.clients id).watches ≡ false → IsSpent (w.clients id).acts
       → reply ≡ Failed Spent → w' ≡ w → TypedStep w slot act reply w'
-  typed : (id : ℕ) → w.slots slot ≡ Some id → (IsFull (w.clients id).acts → ⊥) → (IsSpent (w.clients id).acts → ⊥)
+  typed : (id : ℕ) → w.slots slot ≡ Some id → (w.clients id).watches ≡ false → (IsFull (w.clients id).acts → ⊥)
+      → (IsSpent (w.clients id).acts → ⊥)
       → reply ≡ Done → w' ≡ with_client w id (after_typed (w.clients id) act) → TypedStep w slot act reply w'
   no_memory : reply ≡ Failed OutOfMemory → w' ≡ w → TypedStep w slot act reply w'
 
@@ -90,21 +95,21 @@ pub data ToServerStep (w : World) (k : ℕ) (from : Address) (now : ℕ) (reply 
       → reply ≡ Taken 0 → w' ≡ with_server w (after_note w.server d from (moment w.server now) g)
       → ToServerStep w k from now reply w'
   unread : (d : DatagramValue) (g : Gathering) (text : List ℕ) (why : Reason) → datagram_at w.sent k ≡ Some d
-      → coming w.server d ≡ completed g text → SaysNoUp text why
+      → coming w.server d ≡ completed g text → SaysNoUp (is_watching d.kind) text why
       → reply ≡ Stopped (BadDatagram why) 0 → w' ≡ w → ToServerStep w k from now reply w'
   all_taken : (d : DatagramValue) (g : Gathering) (text : List ℕ) (u : UpValue) → datagram_at w.sent k ≡ Some d
-      → coming w.server d ≡ completed g text → SaysUp text u → room_for w.server d u ≡ length (new_acts w.server d u)
+      → coming w.server d ≡ completed g text → SaysUp (is_watching d.kind) text u → room_for w.server d u ≡ length (new_acts w.server d u)
       → reply ≡ Taken (length (new_acts w.server d u))
       → w' ≡ with_server w (after_acts w.server d from (moment w.server now) g u (length (new_acts w.server d u)))
       → ToServerStep w k from now reply w'
   no_room : (d : DatagramValue) (g : Gathering) (text : List ℕ) (u : UpValue) → datagram_at w.sent k ≡ Some d
-      → coming w.server d ≡ completed g text → SaysUp text u → room_for w.server d u < length (new_acts w.server d u)
+      → coming w.server d ≡ completed g text → SaysUp (is_watching d.kind) text u → room_for w.server d u < length (new_acts w.server d u)
       → reply ≡ Stopped Busy (room_for w.server d u)
       → w' ≡ with_server w (after_acts w.server d from (moment w.server now) (w.server.records d.client).gathering u
       (room_for w.server d u))
       → ToServerStep w k from now reply w'
   no_memory_at_act : (d : DatagramValue) (g : Gathering) (text : List ℕ) (u : UpValue) (n : ℕ) → datagram_at w.sent k ≡ Some d
-      → coming w.server d ≡ completed g text → SaysUp text u → n ≤ room_for w.server d u → n < length (new_acts w.server d u)
+      → coming w.server d ≡ completed g text → SaysUp (is_watching d.kind) text u → n < room_for w.server d u
       → reply ≡ Stopped OutOfMemory n
       → w' ≡ with_server w (after_acts w.server d from (moment w.server now) (w.server.records d.client).gathering u n)
       → ToServerStep w k from now reply w'
@@ -129,22 +134,30 @@ pub data ToClientStep (w : World) (slot k now : ℕ) (reply : Reply) (w' : World
       → reply ≡ Failed (BadDatagram why) → w' ≡ w → ToClientStep w slot k now reply w'
   bad_change : (id : ℕ) (d : DatagramValue) (g : Gathering) (text : List ℕ) (v : DownValue) (base : Screenshot) → w.slots slot ≡ Some id
       → datagram_at w.sent k ≡ Some d → arriving w.server.session id (w.clients id) d ≡ fulfilled g text → SaysDown text v
-      → step_of (w.clients id) v ≡ step.New → state_at v.old (pairs (w.clients id).receiver) ≡ Some base → applied base v.change ≡ None
+      → step_of (w.clients id) v ≡ step.New → state_at v.old (pairs (w.clients id).receiver) ≡ Some base
+      → applied_by (w.clients id).version base v.change ≡ None
       → reply ≡ Failed BadChange → w' ≡ w → ToClientStep w slot k now reply w'
   whole : (id : ℕ) (d : DatagramValue) (g : Gathering) (text : List ℕ) (v : DownValue) (r : Receiving Screenshot) → w.slots slot ≡ Some id
       → datagram_at w.sent k ≡ Some d → arriving w.server.session id (w.clients id) d ≡ fulfilled g text → SaysDown text v
-      → Delivers applied (w.clients id).receiver (update_in v) r
+      → Delivers (applied_by (w.clients id).version) (w.clients id).receiver (update_in v) r
       → reply ≡ Heard (hearing_of (step_of (w.clients id) v))
       → w' ≡ with_client w id (after_whole (w.clients id) (moment_of (w.clients id) now) g r v) → ToClientStep w slot k now reply w'
   no_memory : reply ≡ Failed OutOfMemory → w' ≡ w → ToClientStep w slot k now reply w'
 
--- a client starts in a slot: its id was used before; or it starts
-pub data StartStep (w : World) (slot id : ℕ) (reply : Reply) (w' : World) : Type 0 where
+-- a start that only watches is of version 2
+abbrev pub is_unfit : Version → Bool → Bool
+is_unfit One watches = watches
+is_unfit Two watches = false
+
+-- a client starts in a slot: its id was used before; it would watch in version 1; or it starts
+pub data StartStep (w : World) (slot id : ℕ) (v : Version) (watches : Bool) (reply : Reply) (w' : World) : Type 0 where
   used : (w.clients id).made ≡ true
-      → reply ≡ Refused → w' ≡ w → StartStep w slot id reply w'
-  started : (w.clients id).made ≡ false
-      → reply ≡ Done → w' ≡ after_start w slot id → StartStep w slot id reply w'
-  no_memory : reply ≡ Failed OutOfMemory → w' ≡ w → StartStep w slot id reply w'
+      → reply ≡ Refused → w' ≡ w → StartStep w slot id v watches reply w'
+  unfit : is_unfit v watches ≡ true
+      → reply ≡ Refused → w' ≡ w → StartStep w slot id v watches reply w'
+  started : (w.clients id).made ≡ false → is_unfit v watches ≡ false
+      → reply ≡ Done → w' ≡ after_start w slot id v watches → StartStep w slot id v watches reply w'
+  no_memory : reply ≡ Failed OutOfMemory → w' ≡ w → StartStep w slot id v watches reply w'
 
 -- an event, with its reply, makes of a world another
 abbrev pub wstep : World → Event → Reply → World → Type 0
@@ -154,7 +167,7 @@ wstep w (ServerTick now) reply w' = ServerTickStep w now reply w'
 wstep w (ClientTick slot now) reply w' = ClientTickStep w slot now reply w'
 wstep w (ToServer k from now) reply w' = ToServerStep w k from now reply w'
 wstep w (ToClient slot k now) reply w' = ToClientStep w slot k now reply w'
-wstep w (Start slot id) reply w' = StartStep w slot id reply w'
+wstep w (Start slot id v watches) reply w' = StartStep w slot id v watches reply w'
 wstep w (Drain pane n) reply w' = DrainStep w pane n reply w'
 
 -- a list of events, each with its reply, makes of a world another

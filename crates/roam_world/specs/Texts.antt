@@ -1,11 +1,13 @@
 -- What goes over the network: datagrams, each with one piece of an instruction's text.
-use Rattle.std.specs.Prelude.{◌≡◌, ℕ, ◌+◌, List, length, map}
+use Rattle.std.specs.Prelude.{◌≡◌, ℕ, ◌+◌, List, [], length, map, Bool, true, false, if◌then◌else◌}
 use Rattle.std.specs.List.{enumerate_from}
 use Rattle.roam_cells.specs.declared.faults.Reason.{Reason}
-use Rattle.roam_wire.specs.declared.datagrams.Kind.{Kind}
-use Rattle.roam_wire.specs.Datagrams.{DatagramValue}
-use Rattle.roam_wire.specs.Instructions.{DownValue, IsDown, down_text, UpValue, IsUp, up_text, reason_for}
+use Rattle.roam_wire.specs.Instructions.{DownValue, IsDown, down_text, UpValue, IsUpOf, up_text, reason_for}
 use Rattle.roam_sync.specs.Lines.{Update}
+use Rattle.roam_wire.specs.declared.datagrams.Kind.{Kind}
+use Rattle.roam_wire.specs.declared.datagrams.Kind.TheVariants.{ToClient, ToServer, FromWatcher}
+use Rattle.roam_wire.specs.Datagrams.{DatagramValue}
+use Rattle.roam_wire.specs.declared.versions.Version.{Version}
 
 -- where datagrams come from and go to: an IPv4 address and a port
 pub record Address : Type 0 where
@@ -30,21 +32,37 @@ abbrev pub SaysNoDown : List ℕ → Reason → Type 0
 SaysNoDown = SaysNone IsDown down_text 32
 
 -- a text says an instruction to the server, or none
-abbrev pub SaysUp : List ℕ → UpValue → Type 0
-SaysUp = Says IsUp up_text
+abbrev pub SaysUp : Bool → List ℕ → UpValue → Type 0
+SaysUp watches = Says (IsUpOf watches) up_text
 
-abbrev pub SaysNoUp : List ℕ → Reason → Type 0
-SaysNoUp = SaysNone IsUp up_text 18
+abbrev pub SaysNoUp : Bool → List ℕ → Reason → Type 0
+SaysNoUp watches = SaysNone (IsUpOf watches) up_text 18
+
+-- a datagram of this kind goes to the server
+abbrev pub is_to_server : Kind → Bool
+is_to_server ToClient = false
+is_to_server ToServer = true
+is_to_server FromWatcher = true
+
+-- it comes from a start that only watches
+abbrev pub is_watching : Kind → Bool
+is_watching ToClient = false
+is_watching ToServer = false
+is_watching FromWatcher = true
+
+-- the kind of what a start sends
+abbrev pub kind_from : Bool → Kind
+kind_from watches = if watches then FromWatcher else ToServer
 
 -- the update that an instruction to a client brings
 abbrev pub update_in : DownValue → Update
 update_in d = record { old = d.old; new = d.new; floor = d.floor; change = d.change }
 
 -- the datagram with the piece of an index; its number follows those before the instruction's first
-abbrev pub datagram_with : Kind → ℕ → ℕ → ℕ → ℕ → ℕ → ℕ × List ℕ → DatagramValue
-datagram_with kind session client before id count piece =
+abbrev pub datagram_with : Version → Kind → ℕ → ℕ → ℕ → ℕ → ℕ → ℕ × List ℕ → DatagramValue
+datagram_with v kind session client before id count piece =
     record {
-      version = 1;
+      version = v;
       kind = kind;
       session = session;
       client = client;
@@ -56,6 +74,6 @@ datagram_with kind session client before id count piece =
     }
 
 -- the datagrams of an instruction: each of its pieces in its order
-abbrev pub datagrams_of : Kind → ℕ → ℕ → ℕ → ℕ → List (List ℕ) → List DatagramValue
-datagrams_of kind session client before id pieces =
-    map (datagram_with kind session client before id (length pieces)) (enumerate_from 0 pieces)
+abbrev pub datagrams_of : Version → Kind → ℕ → ℕ → ℕ → ℕ → List (List ℕ) → List DatagramValue
+datagrams_of v kind session client before id pieces =
+    map (datagram_with v kind session client before id (length pieces)) (enumerate_from 0 pieces)

@@ -1,17 +1,18 @@
 -- A tick of the server.
 use Rattle.std.specs.Prelude.{ℕ, ◌+◌, List, [], ◌∷◌, ◌++◌, length, map, None, Bool, false, ◌&&◌, ◌||◌, nat_lt, ◌==◌, if◌then◌else◌}
 use Rattle.std.specs.List.{flat_map, list_any}
-use Rattle.roam_cells.specs.Screenshot.{Screenshot}
-use Rattle.roam_update.specs.Shots.{difference}
+use Rattle.roam_screens.specs.Screenshot.{Screenshot}
 use Rattle.roam_sync.specs.Senders.{Sending, newest, count, offered, sent_at, is_due}
-use Rattle.roam_wire.specs.declared.datagrams.Kind.TheVariants.{ToClient}
 use Rattle.roam_wire.specs.Cutting.{pieces_of}
-use Rattle.roam_wire.specs.Datagrams.{DatagramValue}
 use Rattle.roam_wire.specs.Instructions.{DownValue, down_text}
+use Rattle.roam_world.specs.Versions.{difference_by}
 use Rattle.roam_world.specs.Numbers.{screen}
 use Rattle.roam_world.specs.Moments.{has_passed, is_overdue, is_spent}
 use Rattle.roam_world.specs.Texts.{Address, datagrams_of}
 use Rattle.roam_world.specs.Servers.{Record, Server}
+use Rattle.roam_wire.specs.declared.datagrams.Kind.TheVariants.{ToClient}
+use Rattle.roam_wire.specs.Datagrams.{DatagramValue}
+use Rattle.roam_wire.specs.declared.versions.Version.{Version}
 
 -- ---- the number
 
@@ -26,10 +27,10 @@ cuts_after s now = if makes s now then s.cuts ++ length s.log ∷ [] else s.cuts
 abbrev pub number_after : Server → ℕ → ℕ
 number_after s now = length (cuts_after s now)
 
-abbrev pub screen_after : Server → ℕ → Screenshot
-screen_after s now = screen s.size s.log (cuts_after s now) (number_after s now)
+abbrev pub screen_after : Server → Version → ℕ → Screenshot
+screen_after s v now = screen v s.size s.log (cuts_after s now) (number_after s now)
 
--- ---- what it does to one record, where s is the screen of the newest number n
+-- ---- what it does to one record, where s is the screen of the newest number n in its version
 
 -- it was heard less than 60,000 ms ago
 abbrev pub is_live : Record → ℕ → Bool
@@ -48,19 +49,19 @@ unfoldable pub sends : Record → ℕ → Screenshot → ℕ → Bool
 sends r n s now = is_live r now && (is_due (holds_after r n s now) now || is_overdue r.owed now)
 
 -- what is told by a sender: the change from its base to its newest, and how many acts were taken
-abbrev pub down_from : Sending Screenshot → ℕ → DownValue
-down_from s taken =
+abbrev pub down_from : Version → Sending Screenshot → ℕ → DownValue
+down_from v s taken =
     record {
       old = s.base.number;
       new = (newest s).number;
       floor = s.base.number;
       acked = taken;
-      change = difference s.base.state (newest s).state;
+      change = difference_by v s.base.state (newest s).state;
     }
 
 -- the instruction to a record, and the pieces of its text
 abbrev pub down_to : Record → ℕ → Screenshot → ℕ → DownValue
-down_to r n s now = down_from (holds_after r n s now) r.taken
+down_to r n s now = down_from r.version (holds_after r n s now) r.taken
 
 abbrev pub pieces_to : Record → ℕ → Screenshot → ℕ → List (List ℕ)
 pieces_to r n s now = pieces_of (down_text (down_to r n s now))
@@ -82,7 +83,7 @@ ticked r n s now = if sends r n s now then after_sent r n s now else record r { 
 -- the datagrams to the record of a client start
 abbrev pub datagrams_to : ℕ → ℕ → Record → ℕ → Screenshot → ℕ → List DatagramValue
 datagrams_to session id r n s now =
-    if sends r n s now then datagrams_of ToClient session id r.datagrams (length r.instructions + 1) (pieces_to r n s now) else []
+    if sends r n s now then datagrams_of r.version ToClient session id r.datagrams (length r.instructions + 1) (pieces_to r n s now) else []
 
 -- a number that sending to it needs would be past the last
 abbrev pub is_record_spent : Record → ℕ → Screenshot → ℕ → Bool
@@ -90,6 +91,10 @@ is_record_spent r n s now =
     sends r n s now && (is_spent (length r.instructions + 1) || is_spent (r.datagrams + length (pieces_to r n s now)))
 
 -- ---- the whole tick
+
+-- the screen of the newest number for the record of a client start
+abbrev pub screen_to : Server → ℕ → ℕ → Screenshot
+screen_to s now id = screen_after s (s.records id).version now
 
 -- a datagram, and where it goes
 pub record Parcel : Type 0 where
@@ -102,7 +107,7 @@ parcel to d = record { to = to; datagram = d }
 -- the datagrams to a client start, each to its address
 abbrev pub parcels_to : Server → ℕ → ℕ → List Parcel
 parcels_to s now id =
-    map (parcel (s.records id).address) (datagrams_to s.session id (s.records id) (number_after s now) (screen_after s now) now)
+    map (parcel (s.records id).address) (datagrams_to s.session id (s.records id) (number_after s now) (screen_to s now id) now)
 
 -- all that is sent, to one record after another in the order of arrival
 abbrev pub sent_by : Server → ℕ → List Parcel
@@ -112,7 +117,7 @@ sent_by s now = flat_map (parcels_to s now) s.arrival
 abbrev pub is_tick_spent : Server → ℕ → Bool
 is_tick_spent s now =
     (makes s now && is_spent (number_after s now))
-    || list_any (λ id. is_record_spent (s.records id) (number_after s now) (screen_after s now) now) s.arrival
+    || list_any (λ id. is_record_spent (s.records id) (number_after s now) (screen_to s now id) now) s.arrival
 
 abbrev pub after_tick : Server → ℕ → Server
 after_tick s now =
@@ -121,5 +126,5 @@ after_tick s now =
       made_at = if makes s now then now else s.made_at;
       input = if makes s now then false else s.input;
       clock = now;
-      records = λ id. ticked (s.records id) (number_after s now) (screen_after s now) now;
+      records = λ id. ticked (s.records id) (number_after s now) (screen_to s now id) now;
     }

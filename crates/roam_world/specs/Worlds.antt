@@ -1,8 +1,7 @@
 -- The world: one server, all client starts, all datagrams ever sent; and what may happen in it.
-use Rattle.std.specs.Prelude.{ℕ, ◌-◌, ◌==◌, List, [], ◌++◌, map, slice_get, Option, Some, None, if◌then◌else◌}
+use Rattle.std.specs.Prelude.{ℕ, ◌-◌, ◌==◌, List, [], ◌++◌, map, slice_get, Option, Some, None, Bool, if◌then◌else◌}
 use Rattle.roam_cells.specs.declared.faults.Fault.{Fault}
 use Rattle.roam_acts.specs.declared.acts.Act.{Act}
-use Rattle.roam_wire.specs.Datagrams.{DatagramValue}
 use Rattle.roam_session.specs.Sessions.{SessionSize}
 use Rattle.roam_world.specs.Lists.{put}
 use Rattle.roam_world.specs.Texts.{Address}
@@ -11,6 +10,8 @@ use Rattle.roam_world.specs.Ticks.{Parcel, sent_by, after_tick}
 use Rattle.roam_world.specs.Clients.{Client, nobody, new_client}
 use Rattle.roam_world.specs.Arrivals.{Hearing}
 use Rattle.roam_world.specs.Sendings.{datagrams_from, after_sending}
+use Rattle.roam_wire.specs.Datagrams.{DatagramValue}
+use Rattle.roam_wire.specs.declared.versions.Version.{Version}
 
 pub record World : Type 0 where
   pub server : Server
@@ -37,8 +38,8 @@ pub data Event : Type 0 where
   ToServer : (k : ℕ) → (from : Address) → (now : ℕ) → Event
   -- the k-th datagram comes to the start in a slot
   ToClient : (slot : ℕ) → (k : ℕ) → (now : ℕ) → Event
-  -- a client starts in a slot
-  Start : (slot : ℕ) → (id : ℕ) → Event
+  -- a client of a version starts in a slot, and only watches or not
+  Start : (slot : ℕ) → (id : ℕ) → (version : Version) → (watches : Bool) → Event
   -- bytes go to a pane's program
   Drain : (pane : ℕ) → (count : ℕ) → Event
 
@@ -82,5 +83,5 @@ after_client_sent w id now =
     }
 
 -- a client started
-abbrev pub after_start : World → ℕ → ℕ → World
-after_start w slot id = record w { clients = put w.clients id new_client; slots = put w.slots slot (Some id) }
+abbrev pub after_start : World → ℕ → ℕ → Version → Bool → World
+after_start w slot id v watches = record w { clients = put w.clients id (new_client v watches); slots = put w.slots slot (Some id) }

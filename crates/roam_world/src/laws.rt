@@ -1,5 +1,6 @@
 //! What holds of every world that can be reached. Each law stands on a function with an empty body.
-ghost use Rattle.roam_world.specs.Laws.{Always, HasOneReply, HasReply, HoldAtMostEight, HoldTrueScreens, LeavesNoGap, NamesOneText, OffersNewest, OneRoundSuffices, RepliesToLatest, ShowsTrueScreens, TakesActsInOrder};
+ghost use Rattle.roam_world.specs.Laws.{Always, HasOneReply, HasReply, HoldAtMostEight, HoldTrueScreens, KeepsAll, LeavesNoGap, NamesOneText, OffersNewest, OneRoundSuffices, RecordsFit, RepliesToLatest, ShowsTrueScreens, StartsAgree, TakesActsInOrder, WatchersDisturbNothing, WatchersTakeNoPart};
+ghost use Rattle.roam_world.specs.Worlds.{World};
 ghost use Rattle.roam_world.specs.Limits.{Limits};
 ghost use Rattle.roam_world.specs.Outputs.{BeginsWithNoOutput, PassesEachByteOn};
 
@@ -9,6 +10,18 @@ ghost use Rattle.roam_world.specs.Outputs.{BeginsWithNoOutput, PassesEachByteOn}
 pub fn clients_show_the_session()
     ensures screens { Always ShowsTrueScreens }
     ensures acts { Always TakesActsInOrder }
+{}
+
+/// What holds after every list of events, the headline with what it rests on: each update that was ever sent leads from the screen of its
+/// old number to that of its new one; an instruction's id names one text for good; each pair that either end holds is a number with its
+/// screen; a sender's base is held by its client start, whose pairs from there on are among the sender's, and which gathered no id above
+/// those that were sent to it; each update that was sent has its old number there, or its new one isn't above the one that is shown; a
+/// record's count is the length of a front of what was typed. So two starts of one version that show one number show one screen. A record
+/// is one of its start's version and kind.
+pub fn what_always_holds()
+    ensures all { Always KeepsAll }
+    ensures agree { Always StartsAgree }
+    ensures fit { Always RecordsFit }
 {}
 
 /// After every list of events: each pair that either end holds is a number with its screen, neither end ever has a ninth pair, and no
@@ -39,6 +52,13 @@ pub fn one_round_suffices()
 pub fn each_event_is_answered()
     ensures reply { Always HasReply }
     ensures one { Always HasOneReply }
+{}
+
+/// After every list of events, nothing is typed at a start that only watches, and nothing is taken of it. In every world, of whatever
+/// datagrams, one that comes from such a start leaves the session and every other record as they were.
+pub fn watchers_only_watch()
+    ensures part { Always WatchersTakeNoPart }
+    ensures rest { (w : World) → WatchersDisturbNothing w }
 {}
 
 /// Each byte for a pane's program, of a key or of what its terminal answers, goes to it once and in order: while the pane is there, those

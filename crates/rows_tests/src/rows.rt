@@ -563,7 +563,7 @@ fn sign_of(cell: &Cell) -> char {
 }
 
 fn first_of(cell: &Cell) -> char {
-    match cell.chars() {
+    match cell.chars().as_slice() {
         [] => '~',
         [first, ..] => *first,
     }
@@ -668,7 +668,12 @@ a|0|b|a
 a|7|\u{301}|a/ / / / / / / \u{301}";
 
 fn has_cells(row: &[Cell], wanted: &str) -> bool {
-    let is_cell = |cell: &Cell, points: &str| cell.chars().iter().copied().eq(points.chars());
+    let is_cell = |cell: &Cell, points: &str| cell
+        .chars()
+        .as_slice()
+        .iter()
+        .copied()
+        .eq(points.chars());
     wanted.split('/').count() <= row.len()
         && row
             .iter()
@@ -756,7 +761,7 @@ fn is_made(alloc: Global, rows: u16, cols: u16) -> Result<bool, AllocError> {
 
 #[test]
 fn memory_is_made_for_a_size(rt: HostRuntime) -> Result<(), Fail> {
-    for (rows, cols) in [(2, 4), (24, 80), (100, 250)] {
+    for (rows, cols) in [(2, 4), (24, 80), (200, 500)] {
         assert!(rt; is_made(rt.alloc(), rows, cols)?);
     }
     laws::rows_of_the_buffer();

@@ -6,7 +6,8 @@
 
 use anyhow::{Context, bail};
 use roam_acts::{Act, read_act};
-use roam_cells::{Fault, Shot};
+use roam_cells::Fault;
+use roam_screens::{RowShot, Seen};
 use roam_session::Session;
 use std::alloc::Global;
 use std::env;
@@ -57,11 +58,16 @@ fn fill(session: &mut Session, pane: u8, piece: &[u8]) -> Result<(), Fault> {
     Ok(())
 }
 
-fn copies(alloc: Global, shot: &Shot, times: u32) -> Result<u64, Fault> {
+// How many cells a screen has.
+fn cells_of(shot: &RowShot) -> u64 {
+    u64::from(shot.rows()) * u64::from(shot.cols())
+}
+
+fn copies(alloc: Global, shot: &RowShot, times: u32) -> Result<u64, Fault> {
     let mut sum: u64 = 0;
     for _ in 0..times {
         let copy = shot.copy(alloc)?;
-        sum = sum.wrapping_add(copy.cells().len() as u64);
+        sum = sum.wrapping_add(cells_of(&copy));
     }
     Ok(sum)
 }
@@ -79,7 +85,7 @@ fn faces(alloc: Global, session: &Session, times: u32) -> Result<u64, Fault> {
     let mut sum: u64 = 0;
     for _ in 0..times {
         let shot = session.face(alloc)?;
-        sum = sum.wrapping_add(shot.cells().len() as u64);
+        sum = sum.wrapping_add(cells_of(&shot));
     }
     Ok(sum)
 }

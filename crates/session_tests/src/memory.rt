@@ -1,8 +1,13 @@
 //! Sessions that find no memory: an act is done whole or not at all, and is done once more when there is some.
 //!
 //! With ample memory nothing is refused here. Where one allocation is refused, what isn't the act itself is asked once more.
+ghost use Rattle.std.specs.Prelude.{◌≡◌, IfOk};
+ghost use Rattle.roam_session.specs.Stands.{face_now};
+
 use crate::requests::{NINE, act, with_panes};
-use roam_cells::{Fault, Shot};
+use crate::sessions::is_same_screen;
+use roam_cells::Fault;
+use roam_screens::RowShot;
 use roam_session::Session;
 use std::alloc::Global;
 use std::test::*;
@@ -27,7 +32,9 @@ fn made(alloc: Global, acts: &[&str]) -> Result<Session, Fault> {
     }
 }
 
-fn face_of(alloc: Global, session: &Session) -> Result<Shot, Fault> {
+pub fn face_of(alloc: Global, session: &Session) -> Result<RowShot, Fault>
+    ensures now { IfOk result (λ shot. shot ≡ face_now session.now) }
+{
     match session.face(alloc) {
         Err(Fault::OutOfMemory) => session.face(alloc),
         answer => answer,
@@ -50,7 +57,7 @@ fn is_whole_or_nothing(alloc: Global, session: &mut Session, line: &str) -> Resu
     if act(alloc, session, line).is_ok() {
         return Ok(true);
     }
-    let same = face_of(alloc, session)?.is_same(&before);
+    let same = is_same_screen(&face_of(alloc, session)?, &before);
     act(alloc, session, line)?;
     Ok(same)
 }
@@ -76,7 +83,7 @@ fn wait_alike(one: &Session, other: &Session) -> bool {
 }
 
 fn are_alike(alloc: Global, one: &Session, other: &Session) -> Result<bool, Fault> {
-    let same = face_of(alloc, one)?.is_same(&face_of(alloc, other)?);
+    let same = is_same_screen(&face_of(alloc, one)?, &face_of(alloc, other)?);
     Ok(same && wait_alike(one, other))
 }
 

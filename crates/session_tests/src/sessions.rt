@@ -1,7 +1,8 @@
 //! Sessions: what acts, bytes and drains make of the face and of the bytes that wait.
 use crate::requests::Request::{self, Act, Bytes, Drain, Long};
 use crate::requests::{NINE, act, ask, is_each_drained, is_refused, wait, with_panes};
-use roam_cells::{Cell, Fault, Shot, Style};
+use roam_cells::{Cell, Fault, Style, are_same_cells};
+use roam_screens::{RowShot, Seen};
 use roam_session::Session;
 use std::alloc::Global;
 use std::test::*;
@@ -238,7 +239,7 @@ static KEYS: [Row; 4] = [
     },
 ];
 
-fn has_row(alloc: Global, shot: &Shot, i: u16, text: &str) -> Result<bool, Fault> {
+pub fn has_row(alloc: Global, shot: &RowShot, i: u16, text: &str) -> Result<bool, Fault> {
     if shot.rows() <= i {
         return Ok(false);
     }
@@ -246,13 +247,26 @@ fn has_row(alloc: Global, shot: &Shot, i: u16, text: &str) -> Result<bool, Fault
     Ok(points.iter().copied().eq(text.chars()))
 }
 
-fn has_rows(alloc: Global, shot: &Shot, rows: &[&str]) -> Result<bool, Fault> {
+fn has_rows(alloc: Global, shot: &RowShot, rows: &[&str]) -> Result<bool, Fault> {
     for i in 0..rows.len().min(100) {
         if !has_row(alloc, shot, i as u16, rows[i])? {
             return Ok(false);
         }
     }
     Ok(true)
+}
+
+// Whether two faces show the same.
+pub fn is_same_screen(one: &RowShot, other: &RowShot) -> bool {
+    if one.rows() != other.rows() || one.cols() != other.cols() {
+        return false;
+    }
+    for row in 0..one.rows() {
+        if !are_same_cells(one.row(row), other.row(row)) {
+            return false;
+        }
+    }
+    one.cursor() == other.cursor() && one.visible() == other.visible()
 }
 
 fn holds(alloc: Global, row: &Row) -> Result<bool, Fault> {
@@ -283,13 +297,40 @@ fn keys_under_the_modes_of_the_pane_in_focus(rt: HostRuntime) -> Result<(), Fail
     Ok(())
 }
 
+// Acts, each with the lives of panes 1, 2 and 3 after it.
+static LIVES: [(&str, [Option<u64>; 3]); 10] = [
+    ("close", [Some(1), None, None]),
+    ("split right", [Some(1), Some(1), None]),
+    ("close", [Some(1), None, None]),
+    ("split down", [Some(1), Some(2), None]),
+    ("key up", [Some(1), Some(2), None]),
+    ("focus 1", [Some(1), Some(2), None]),
+    ("close", [None, Some(2), None]),
+    ("split right", [Some(2), Some(2), None]),
+    ("split right", [Some(2), Some(2), Some(1)]),
+    ("size 30 90", [Some(2), Some(2), Some(1)]),
+];
+
+#[test]
+fn a_number_that_is_used_again_has_another_life(rt: HostRuntime) -> Result<(), Fail> {
+    let mut session = Session::new(rt.alloc(), 24, 80)?;
+    for (line, lives) in LIVES {
+        let answer = act(rt.alloc(), &mut session, line);
+        assert!(rt; answer.is_ok() || line == "close", "{line}");
+        assert_eq!(rt; [session.life(1), session.life(2), session.life(3)], lives);
+    }
+    assert_eq!(rt; session.life(0), None);
+    assert_eq!(rt; session.life(255), None);
+    Ok(())
+}
+
 #[test]
 fn sizes_outside_the_limits_are_refused(rt: HostRuntime) -> Result<(), Fail> {
-    for (rows, cols) in [(3, 80), (101, 80), (24, 7), (24, 251)] {
+    for (rows, cols) in [(3, 80), (201, 80), (24, 7), (24, 501)] {
         let refused = Session::new(rt.alloc(), rows, cols);
         assert!(rt; matches!(refused, Err(Fault::BadSize)));
     }
-    for (rows, cols) in [(4, 8), (100, 250)] {
+    for (rows, cols) in [(4, 8), (200, 500)] {
         let shot = Session::new(rt.alloc(), rows, cols)?.face(rt.alloc())?;
         assert_eq!(rt; (shot.rows(), shot.cols()), (rows, cols));
     }
@@ -335,12 +376,17 @@ fn a_full_queue_takes_no_more(rt: HostRuntime) -> Result<(), Fail> {
 }
 
 // How many cells of a face show a digit in the default style, above the last row.
-fn digits(shot: &Shot, digit: u8) -> usize {
+fn digits(shot: &RowShot, digit: u8) -> usize {
     let cell = Cell::ascii(digit.clamp(b'0', b'9'), Style::default(), false);
-    shot.cells().iter().filter(|c| c.is_same(&cell)).count()
+    let mut count = 0_usize;
+    for row in 0..shot.rows() {
+        let here = shot.row(row).iter().filter(|c| c.is_same(&cell)).count();
+        count = count.saturating_add(here);
+    }
+    count
 }
 
-fn has_each_digit_once(shot: &Shot) -> bool {
+fn has_each_digit_once(shot: &RowShot) -> bool {
     for digit in b'1'..=b'9' {
         if digits(shot, digit) != 1 {
             return false;
@@ -362,7 +408,7 @@ fn shows_each_after(
 
 static SIZES: [(&str, Option<Fault>); 4] = [
     ("split down", Some(Fault::PanesFull)),
-    ("size 100 250", None),
+    ("size 200 500", None),
     ("size 5 8", Some(Fault::TooSmall)),
     ("size 24 80", None),
 ];
@@ -380,7 +426,7 @@ fn shows_each_at_all_sizes(alloc: Global, session: &mut Session) -> Result<bool,
 fn goes_up_and_down(alloc: Global, session: &mut Session) -> Result<bool, Fault> {
     let first = session.face(alloc)?;
     let shown = shows_each_at_all_sizes(alloc, session)?;
-    Ok(session.face(alloc)?.is_same(&first) && shown)
+    Ok(is_same_screen(&session.face(alloc)?, &first) && shown)
 }
 
 #[test]

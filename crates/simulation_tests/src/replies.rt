@@ -4,9 +4,11 @@ ghost use Rattle.std.specs.List.{All};
 ghost use Rattle.roam_simulation.specs.Events.{IsHandedIn};
 
 use roam_acts::read_act;
-use roam_cells::{Fault, Reason, Shot};
+use roam_cells::{Fault, Reason};
 use roam_hub::{Addr, Heard, Stop};
+use roam_screens::{Seen, row_text};
 use roam_simulation::{Event, Reply, World};
+use roam_wire::Version;
 use std::alloc::Global;
 use std::test::*;
 
@@ -19,10 +21,12 @@ enum Step {
     Up(u64, u16, u64),
     Down(u8, u64, u64),
     Start(u8, u64),
+    Watch(u8, u64),
+    OldWatch(u8, u64),
     Drain(u8, u64),
 }
 
-use Step::{Bytes, ClientTick, Down, Drain, ServerTick, Start, Type, Up};
+use Step::{Bytes, ClientTick, Down, Drain, OldWatch, ServerTick, Start, Type, Up, Watch};
 
 const NOT_TO_A_CLIENT: Reply = Reply::Fault(Fault::BadDatagram(Reason::Kind));
 
@@ -32,7 +36,7 @@ const NOT_TO_THE_SERVER: Reply = Reply::Stopped(Stop {
 });
 
 /// Each event done, and each refused, in a session of 4 by 8.
-static KINDS: [(Step, Reply); 30] = [
+static KINDS: [(Step, Reply); 37] = [
     (Start(0, 0xA1), Reply::Done),
     (Start(1, 0xA1), Reply::Refused),
     (Type(0, "char 61"), Reply::Done),
@@ -64,6 +68,14 @@ static KINDS: [(Step, Reply); 30] = [
     (ServerTick(20), Reply::Sent(4, 2)),
     (Down(0, 4, 20), Reply::Fault(Fault::OtherClient)),
     (Down(0, 5, 20), Reply::Heard(Heard::New)),
+    // A watcher beside them, and one that would be of version 1.
+    (OldWatch(1, 0xA3), Reply::Refused),
+    (Watch(1, 0xA3), Reply::Done),
+    (Type(1, "char 61"), Reply::Fault(Fault::Watching)),
+    (ClientTick(1, 20), Reply::Sent(6, 1)),
+    (Up(6, 5003, 20), Reply::Taken(0)),
+    (ServerTick(20), Reply::Sent(7, 1)),
+    (Down(1, 7, 20), Reply::Heard(Heard::New)),
 ];
 
 fn event_of(alloc: Global, step: &Step) -> Result<Event, Fault>
@@ -82,8 +94,10 @@ fn event_of(alloc: Global, step: &Step) -> Result<Event, Fault>
             Ok(Event::ToServer(*number, from, *now))
         }
         Down(slot, number, now) => Ok(Event::ToClient(*slot, *number, *now)),
-        Start(slot, _) if *slot >= 8 => Err(Fault::BadAct),
-        Start(slot, id) => Ok(Event::Start(*slot, *id)),
+        Start(slot, _) | Watch(slot, _) | OldWatch(slot, _) if *slot >= 8 => Err(Fault::BadAct),
+        Start(slot, id) => Ok(Event::Start(*slot, *id, Version::One, false)),
+        Watch(slot, id) => Ok(Event::Start(*slot, *id, Version::Two, true)),
+        OldWatch(slot, id) => Ok(Event::Start(*slot, *id, Version::One, true)),
         Drain(pane, count) => Ok(Event::Drained(*pane, *count)),
     }
 }
@@ -111,26 +125,26 @@ fn events_of(alloc: Global, rows: &[(Step, Reply)]) -> Result<Vec<Event>, Fault>
     Ok(events)
 }
 
-fn has_first_row(alloc: Global, shot: &Shot, text: &str) -> Result<bool, Fault> {
+fn has_first_row<S: Seen>(alloc: Global, shot: &S, text: &str) -> Result<bool, Fault> {
     if shot.rows() == 0 {
         return Ok(false);
     }
-    let points = shot.row_text(alloc, 0)?;
+    let points = row_text(alloc, shot, 0)?;
     Ok(points.iter().copied().eq(text.chars()))
 }
 
-// Whether the start in slot 0 shows this number and first row, as the server does, and no other slot has one.
+// Whether the start in slot 0 shows this number and first row, as the server does, and no slot from 2 on has one.
 fn shows(alloc: Global, world: &World, number: u64, text: &str) -> Result<bool, Fault> {
     let Some(client) = world.client(0) else {
         return Ok(false);
     };
     let (shown, shot) = client.shown();
     let face = world.server().face(alloc)?;
-    let is_alone = world.client(1).is_none() && world.client(8).is_none();
+    let is_alone = world.client(2).is_none() && world.client(8).is_none();
     Ok(
         is_alone
             && shown == number
-            && has_first_row(alloc, shot, text)?
+            && has_first_row(alloc, &shot, text)?
             && has_first_row(alloc, &face, text)?,
     )
 }

@@ -8,4 +8,8 @@ mod keys;
 #[cfg(test)]
 mod meeting;
 #[cfg(test)]
+mod peers;
+#[cfg(test)]
 mod runs;
+#[cfg(test)]
+mod silence;

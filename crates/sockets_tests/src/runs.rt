@@ -1,9 +1,13 @@
 //! Runs of `roam serve` and `roam attach`: what ends them, and what stays.
 use roam_faults::RunFault;
-use roam_sockets::{Attach, Moments, Serve, ServerPorts, run_attach, run_serve};
+use roam_sockets::{
+    Attach, End, Moments, Serve, ServerPorts, follow_session, run_attach, run_serve,
+};
+use roam_wire::Version;
 use std::fs::{create_dir, remove_file, write};
 use std::io;
-use std::io::{ErrorKind, Write};
+use std::io::{ErrorKind, Write, pipe};
+use std::os::fd::AsRawFd;
 use std::test::*;
 
 /// An outer terminal that is closed.
@@ -79,8 +83,11 @@ fn attaches<W: Write + Drop>(
         port: 9,
         session: 1,
         client: 0xC1,
-        keys,
+        keys: Some(keys),
+        version: Version::Two,
+        watches: false,
         turns: 3,
+        painted_to: None,
     };
     run_attach(rt, &attach, outer) == wanted
 }
@@ -94,5 +101,35 @@ fn files_of_acts_and_outer_terminals(rt: HostRuntime) -> Result<(), Fail> {
     assert!(rt; attaches(&rt, "good", Closed, Err(RunFault::Write)));
     write(&rt, "bad", b"char 61\nsplit left\n")?;
     assert!(rt; attaches(&rt, "bad", Vec::new(alloc), Err(RunFault::Act(2))));
+    Ok(())
+}
+
+#[test]
+fn how_a_run_ends(rt: HostRuntime) -> Result<(), Fail> {
+    let alloc = rt.alloc();
+    let short = Attach {
+        port: 9,
+        session: 1,
+        client: 0xC1,
+        keys: None,
+        version: Version::Two,
+        watches: true,
+        turns: 3,
+        painted_to: None,
+    };
+    assert!(rt; follow_session(&rt, &short, Vec::new(alloc)) == Ok(End::Unheard));
+    // It would take a quarter of an hour if it went on to its last turn.
+    let long = Attach {
+        turns: 100_000,
+        ..short
+    };
+    assert!(rt; follow_session(&rt, &long, Closed) == Err(RunFault::Write));
+    let (reader, writer) = pipe(&rt)?;
+    drop(reader);
+    let unread = Attach {
+        painted_to: Some(writer.as_raw_fd()),
+        ..long
+    };
+    assert!(rt; follow_session(&rt, &unread, Vec::new(alloc)) == Err(RunFault::Write));
     Ok(())
 }

@@ -1,6 +1,7 @@
 //! The history, views and sizes: which rows leave for the history, what a view shows of them, and what a size makes of both.
 use crate::pairs::pair;
-use roam_cells::{Fault, Shot};
+use roam_cells::Fault;
+use roam_screens::Shot;
 use roam_term::Term;
 use std::alloc::Global;
 use std::test::*;
@@ -434,7 +435,7 @@ fn stays_whole(
 
 // Shows the same after each refused size, and after a fit.
 fn keeps_its_size(alloc: Global, term: &mut Term) -> Result<bool, Fault> {
-    for (rows, cols) in [(1, 8), (101, 8), (2, 3), (2, 251), (0, 0)] {
+    for (rows, cols) in [(1, 8), (201, 8), (2, 3), (2, 501), (0, 0)] {
         if !refuses(alloc, term, rows, cols) {
             return Ok(false);
         }

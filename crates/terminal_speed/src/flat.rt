@@ -34,7 +34,7 @@ fn fill(cells: &mut [Cell], times: u64) {
 }
 
 fn move_between(cells: &mut [Cell], rows: usize, cols: usize, times: u64)
-    requires size { (rows ≤ 100) × (cols ≤ 250) }
+    requires size { (rows ≤ 200) × (cols ≤ 500) }
 {
     if rows < 4 || cells.len() != rows * cols {
         return;
@@ -61,7 +61,7 @@ fn move_and_back(cells: &mut [Cell], by: usize, times: u64) {
 
 /// Does it so often to a list of these rows and columns.
 pub fn work(cells: &mut [Cell], flat: Flat, rows: usize, cols: usize, times: u64)
-    requires size { (rows ≤ 100) × (cols ≤ 250) }
+    requires size { (rows ≤ 200) × (cols ≤ 500) }
 {
     if cells.len() < cols {
         return;

@@ -73,7 +73,7 @@ fn measure_grid(rt: &HostRuntime, rows: usize, cols: usize, count: u64) -> anyho
 }
 
 fn measure_flat(rt: &HostRuntime, rows: usize, cols: usize, count: u64) -> anyhow::Result<()>
-    requires size { (rows ≤ 100) × (cols ≤ 250) }
+    requires size { (rows ≤ 200) × (cols ≤ 500) }
 {
     let mut cells = vec![in rt.alloc(); Cell::blank(); rows * cols]?;
     let lines = count / cols.max(1) as u64;

@@ -5,7 +5,8 @@ ghost use Rattle.roam_turns.specs.Painting.{IsBehind};
 
 use crate::stage::{End, Stage, carry_down, carry_up};
 use roam_acts::{Act, Key};
-use roam_cells::{Fault, Shot};
+use roam_cells::Fault;
+use roam_screens::{Seen, Shot, row_text};
 use roam_term::Term;
 use roam_turns::MemoryPorts;
 use roam_turns::memory::Told;
@@ -31,11 +32,33 @@ struct Failure {
     call: u64,
 }
 
+// No call.
+const NONE: Failure = Failure {
+    round: 0,
+    who: Who::Server,
+    call: 0,
+};
+
+/// Calls that fail, at most one of each turn.
+#[derive(Clone, Copy)]
+struct Failures {
+    one: Failure,
+    other: Failure,
+}
+
 impl Failure {
+    fn is_in(&self, round: u64, who: Who) -> bool {
+        self.call > 0 && self.round == round && self.who == who
+    }
+}
+
+impl Failures {
     // The call that fails in a turn, or none.
     fn in_turn(&self, round: u64, who: Who) -> u64 {
-        if self.round == round && self.who == who {
-            self.call
+        if self.one.is_in(round, who) {
+            self.one.call
+        } else if self.other.is_in(round, who) {
+            self.other.call
         } else {
             0
         }
@@ -74,7 +97,7 @@ fn serve(alloc: Global, stage: &mut Stage, round: u64, fails: u64) -> Result<(),
 
 // A round: the first start splits in round 0, and the second types a letter for pane 2 in round 2. An act that isn't taken waits for the
 // next round.
-fn play(alloc: Global, stage: &mut Stage, round: u64, failure: Failure) -> Result<(), Fault>
+fn play(alloc: Global, stage: &mut Stage, round: u64, failures: Failures) -> Result<(), Fault>
     requires first { IsBehind stage.old.first.outer stage.old.first.client.receiver.newest.number
         stage.old.first.client.receiver.newest.state }
     requires second { IsBehind stage.old.second.outer stage.old.second.client.receiver.newest.number
@@ -89,18 +112,18 @@ fn play(alloc: Global, stage: &mut Stage, round: u64, failure: Failure) -> Resul
     let key = Act::Key(Key::Char('x'));
     let first = next_of(!stage.is_split, &split);
     let second = next_of(!stage.is_typed && round >= 2, &key);
-    let first_fails = failure.in_turn(round, Who::First);
-    let second_fails = failure.in_turn(round, Who::Second);
+    let first_fails = failures.in_turn(round, Who::First);
+    let second_fails = failures.in_turn(round, Who::Second);
     stage.is_split = stage.first.turn(alloc, now, first_fails, first) || stage.is_split;
     stage.is_typed = stage.second.turn(alloc, now, second_fails, second) || stage.is_typed;
-    serve(alloc, stage, round, failure.in_turn(round, Who::Server))
+    serve(alloc, stage, round, failures.in_turn(round, Who::Server))
 }
 
-fn has_top(alloc: Global, shot: &Shot) -> Result<bool, Fault> {
+fn has_top<S: Seen>(alloc: Global, shot: &S) -> Result<bool, Fault> {
     if shot.rows() == 0 {
         return Ok(false);
     }
-    let points = shot.row_text(alloc, 0)?;
+    let points = row_text(alloc, shot, 0)?;
     Ok(points.iter().copied().eq(TOP.chars()))
 }
 
@@ -119,7 +142,7 @@ fn terminal(alloc: Global, ports: &MemoryPorts) -> Result<Shot, Fault> {
 
 // The start shows the last screen, and so does its terminal.
 fn is_shown(alloc: Global, end: &End) -> Result<bool, Fault> {
-    Ok(has_top(alloc, end.screen())? && has_top(alloc, &terminal(alloc, end.ports())?)?)
+    Ok(has_top(alloc, &end.screen())? && has_top(alloc, &terminal(alloc, end.ports())?)?)
 }
 
 // How many bytes the program of pane 2 took, and whether each is an x.
@@ -136,14 +159,14 @@ fn taken(ports: &MemoryPorts) -> (usize, bool) {
 }
 
 // So many rounds.
-fn play_all(alloc: Global, stage: &mut Stage, rounds: u64, failure: Failure) -> Result<(), Fault>
+fn play_all(alloc: Global, stage: &mut Stage, rounds: u64, failures: Failures) -> Result<(), Fault>
     requires first { IsBehind stage.old.first.outer stage.old.first.client.receiver.newest.number
         stage.old.first.client.receiver.newest.state }
     requires second { IsBehind stage.old.second.outer stage.old.second.client.receiver.newest.number
         stage.old.second.client.receiver.newest.state }
 {
     for round in 0..rounds {
-        play(alloc, stage, round, failure)?;
+        play(alloc, stage, round, failures)?;
     }
     Ok(())
 }
@@ -156,9 +179,9 @@ fn has_settled(alloc: Global, stage: &Stage) -> Result<bool, Fault> {
 }
 
 // Whether all ends come to one end, whatever failed.
-fn settles(alloc: Global, failure: Failure) -> Result<bool, Fault> {
+fn settles(alloc: Global, one: Failure, other: Failure) -> Result<bool, Fault> {
     let mut stage = Stage::new(alloc)?;
-    play_all(alloc, &mut stage, 14, failure)?;
+    play_all(alloc, &mut stage, 14, Failures { one, other })?;
     has_settled(alloc, &stage)
 }
 
@@ -166,7 +189,7 @@ fn settles(alloc: Global, failure: Failure) -> Result<bool, Fault> {
 fn first_lost(alloc: Global, who: Who) -> Result<Option<(u64, u64)>, Fault> {
     for round in 0..5 {
         for call in 0..11 {
-            if !settles(alloc, Failure { round, who, call })? {
+            if !settles(alloc, Failure { round, who, call }, NONE)? {
                 return Ok(Some((round, call)));
             }
         }
@@ -187,19 +210,47 @@ fn a_failed_call_of_a_start_is_made_good(rt: HostRuntime) -> Result<(), Fail> {
     Ok(())
 }
 
+// The first pair that isn't made good, of a call of the server's turn in a round and one of a start's, that round or the one before.
+fn first_lost_pair(alloc: Global, starts: Who) -> Result<Option<(u64, u64)>, Fault> {
+    for round in 1..4 {
+        for call in 1..8 {
+            let of_server = Failure {
+                round,
+                who: Who::Server,
+                call,
+            };
+            let of_start = Failure {
+                round: round - call % 2,
+                who: starts,
+                call: 1 + (3 * call + round) % 5,
+            };
+            if !settles(alloc, of_server, of_start)? {
+                return Ok(Some((round, call)));
+            }
+        }
+    }
+    Ok(None)
+}
+
+#[test]
+fn two_calls_that_fail_at_once_are_made_good(rt: HostRuntime) -> Result<(), Fail> {
+    assert!(rt; first_lost_pair(rt.alloc(), Who::First)? == None);
+    assert!(rt; first_lost_pair(rt.alloc(), Who::Second)? == None);
+    Ok(())
+}
+
 // Both starts show the last screen, and nothing waits for a program.
 fn is_right(alloc: Global, stage: &Stage) -> Result<bool, Fault> {
-    let is_first = has_top(alloc, stage.first.screen())?;
-    let is_second = has_top(alloc, stage.second.screen())?;
+    let is_first = has_top(alloc, &stage.first.screen())?;
+    let is_second = has_top(alloc, &stage.second.screen())?;
     Ok(is_first && is_second && stage.server.output_len(2) == Some(0))
 }
 
 // Whether all comes right within 24 rounds. What the stage itself has no memory for ends it.
 fn comes_right(alloc: Global) -> Result<bool, Fault> {
-    let none = Failure {
-        round: 0,
-        who: Who::Server,
-        call: 0,
+    let none = Failures {
+        one: NONE,
+        other: NONE,
     };
     let mut stage = Stage::new(alloc)?;
     play_all(alloc, &mut stage, 24, none)?;

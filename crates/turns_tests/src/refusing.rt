@@ -38,6 +38,10 @@ impl ServerCore for Refuser {
         })
     }
 
+    fn life(&mut self, _pane: u8) -> Option<u64> {
+        Some(1)
+    }
+
     fn room(&mut self, _pane: u8) -> Option<usize> {
         Some(65_536)
     }
@@ -83,7 +87,7 @@ fn is_handed_all(alloc: Global) -> Result<bool, Fault> {
         pane_bytes: 3,
         ticks: 1,
     };
-    Ok(refuser == all && calls.as_str() == "NRRRrGGggggggg")
+    Ok(refuser == all && calls.as_str() == "NRRRrLLLLLLLLLGGggggggg")
 }
 
 #[test]

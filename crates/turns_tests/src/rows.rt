@@ -18,6 +18,8 @@ fn letter(call: &Told) -> char {
         Told::NothingReceived(_) => 'r',
         Told::Sent(_, _, true) => 'S',
         Told::Sent(_, _, false) => 's',
+        Told::PaneLives(_, Some(_)) => 'L',
+        Told::PaneLives(_, None) => 'l',
         Told::PaneGave(_, _, _) => 'G',
         Told::PaneGaveNothing(_, _) => 'g',
         Told::PaneTook(_, _, 0) => 't',
@@ -68,20 +70,34 @@ fn turn_of(
 
 fn rows() -> [Row; 11] {
     [
-        turn_of(0, "", 0, 9, "Nrg", 0),
-        turn_of(2, "", 0, 9, "NRRrg", 0),
-        turn_of(31, "", 0, 9, "NRRRRRRRRRRRRRRRRRRRRRRRRRRRRRRRrg", 0),
+        turn_of(0, "", 0, 9, "NrLllllllllg", 0),
+        turn_of(2, "", 0, 9, "NRRrLllllllllg", 0),
+        turn_of(
+            31,
+            "",
+            0,
+            9,
+            "NRRRRRRRRRRRRRRRRRRRRRRRRRRRRRRRrLllllllllg",
+            0,
+        ),
         // The 33rd waits for the next turn.
-        turn_of(33, "", 0, 9, "NRRRRRRRRRRRRRRRRRRRRRRRRRRRRRRRRg", 0),
-        turn_of(0, "a", 0, 9, "NrG", 0),
+        turn_of(
+            33,
+            "",
+            0,
+            9,
+            "NRRRRRRRRRRRRRRRRRRRRRRRRRRRRRRRRLllllllllg",
+            0,
+        ),
+        turn_of(0, "a", 0, 9, "NrLllllllllG", 0),
         // DA is answered by 8 bytes.
-        turn_of(0, "\x1B[c", 0, 9, "NrGT", 0),
-        turn_of(0, "\x1B[c", 0, 4, "NrGT", 4),
-        turn_of(0, "\x1B[c", 0, 0, "NrGt", 8),
+        turn_of(0, "\x1B[c", 0, 9, "NrLllllllllGT", 0),
+        turn_of(0, "\x1B[c", 0, 4, "NrLllllllllGT", 4),
+        turn_of(0, "\x1B[c", 0, 0, "NrLllllllllGt", 8),
         // A call that fails brings nothing, or takes nothing.
-        turn_of(2, "\x1B[c", 2, 9, "NrGT", 0),
-        turn_of(2, "\x1B[c", 5, 9, "NRRrg", 0),
-        turn_of(2, "\x1B[c", 6, 9, "NRRrGt", 8),
+        turn_of(2, "\x1B[c", 2, 9, "NrLllllllllGT", 0),
+        turn_of(2, "\x1B[c", 5, 9, "NRRrLllllllllg", 0),
+        turn_of(2, "\x1B[c", 6, 9, "NRRrLllllllllGt", 8),
     ]
 }
 

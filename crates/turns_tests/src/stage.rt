@@ -4,8 +4,9 @@ ghost use Rattle.roam_acts.specs.Acts.{IsInRange};
 ghost use Rattle.roam_turns.specs.Painting.{IsBehind};
 
 use roam_acts::Act;
-use roam_cells::{Fault, Shot};
+use roam_cells::Fault;
 use roam_hub::{Addr, Client, Server};
+use roam_screens::Shown;
 use roam_turns::memory::Told;
 use roam_turns::{MemoryPorts, Outer, attach_turn, serve_turn};
 use std::alloc::Global;
@@ -69,7 +70,7 @@ impl End {
         &self.ports
     }
 
-    pub fn screen(&self) -> &Shot {
+    pub fn screen(&self) -> Shown<'_> {
         self.client.shown().1
     }
 

@@ -1,88 +1,191 @@
-//! Measures how fast a change of screens is written: `update_speed ROWS COLS TIMES` writes the change of a screen that is the same, of one
-//! with another row and of one that differs everywhere that many times, and compares as many bytes as the cells have as often. It prints
-//! for each its name, the cells, TIMES, the microseconds that passed and the bytes of the text. Without words it writes each change of
-//! a screen of 24 by 80 once, and prints nothing.
+//! Measures how fast changes of screens are written and read in both versions: `update_speed ROWS COLS STYLES TIMES` makes, for each
+//! version, the change of a screen that is the same (`equal`), of one with another cell (`cell`), with another row (`row`), of one that has
+//! scrolled by a row so that each cell differs (`scroll`), and from a blank screen to one whose cells have so many styles, each cell
+//! another (`styles`). It writes and applies each that many times, and prints the version, the change, the cells, TIMES, the microseconds
+//! of writing and of applying, and the bytes of the text. Version 1 is left out above 100 by 250. Without words it writes and applies a
+//! change of version 2 at 4 by 8 and prints nothing.
 #![tactic(auto)]
 
 use anyhow::{Context, bail};
-use roam_cells::{Fault, Shot};
+use roam_cells::{Fault, are_same_cells};
+use roam_screens::{RowShot, RowShot1, Seen};
 use roam_term::Term;
 use roam_update::Synced;
 use std::alloc::Global;
 use std::env;
+use std::env::Args;
 use std::time::Instant;
 
-/// A screen full of one letter, one that has another letter in its middle row, and one full of another letter.
-#[derive(Drop)]
-struct Screens {
-    base: Shot,
-    row: Shot,
-    other: Shot,
-}
-
-// A screen full of a letter, with one row of another.
-fn full(alloc: Global, rows: u16, cols: u16, letter: u8, middle: u8) -> Result<Shot, Fault> {
+// A terminal that shows a text.
+fn fed(alloc: Global, rows: u16, cols: u16, text: &[u8]) -> Result<RowShot, Fault> {
     let mut term = Term::new(alloc, rows, cols, 0)?;
-    for row in 1..rows {
-        let byte = if row == rows / 2 { middle } else { letter };
-        for _ in 0..cols {
-            term.feed(&[byte])?;
+    for byte in text {
+        term.feed(&[*byte])?;
+    }
+    RowShot::of(alloc, &term.shot(alloc, 0)?)
+}
+
+// A line of letters that begins with another one from row to row.
+fn add_line(text: &mut Vec<u8>, first: u32, cols: u16) -> Result<(), Fault> {
+    for col in 0..u32::from(cols) {
+        text.push(b'a' + ((first % 26 + col % 26) % 26) as u8)?;
+    }
+    Ok(())
+}
+
+// Lines of letters, and then more bytes.
+fn text_of_lines(alloc: Global, rows: u16, cols: u16, end: &[u8]) -> Result<Vec<u8>, Fault> {
+    let mut text = Vec::new(alloc);
+    for row in 0..u32::from(rows) {
+        if 0 < row {
+            text.extend_from_slice(b"\r\n")?;
         }
+        add_line(&mut text, row * 7, cols)?;
     }
-    term.shot(alloc, 0)
+    text.extend_from_slice(end)?;
+    Ok(text)
 }
 
-impl Screens {
-    fn new(alloc: Global, rows: u16, cols: u16) -> Result<Screens, Fault> {
-        Ok(Screens {
-            base: full(alloc, rows, cols, b'a', b'a')?,
-            row: full(alloc, rows, cols, b'a', b'b')?,
-            other: full(alloc, rows, cols, b'c', b'c')?,
-        })
-    }
+fn lines(alloc: Global, rows: u16, cols: u16, end: &[u8]) -> Result<RowShot, Fault> {
+    let text = text_of_lines(alloc, rows, cols, end)?;
+    fed(alloc, rows, cols, &text)
 }
 
-// The bytes of the text of a change, written so often.
-fn written(alloc: Global, base: &Shot, shot: &Shot, times: u32) -> Result<usize, Fault> {
+// The bytes that write a letter in the style of this number.
+fn letter(alloc: Global, number: u32) -> Result<String, Fault> {
+    let front = number % 256;
+    let back = number / 256 % 256;
+    let text = format!(in alloc; "\x1B[38;5;{front};48;5;{back}ma")?;
+    Ok(text)
+}
+
+// A screen of so many styles.
+fn styled(alloc: Global, rows: u16, cols: u16, styles: u32) -> Result<RowShot, Fault> {
+    let mut term = Term::new(alloc, rows, cols, 0)?;
+    let cells = u32::from(rows) * u32::from(cols);
+    for cell in 0..cells {
+        let text = letter(alloc, cell % styles.max(1))?;
+        term.feed(text.as_bytes())?;
+    }
+    RowShot::of(alloc, &term.shot(alloc, 0)?)
+}
+
+// The text of a change, written so often.
+fn written<S: Synced>(alloc: Global, base: &S, shot: &S, times: u32) -> Result<Vec<u8>, Fault> {
     let mut out = Vec::new(alloc);
     for _ in 0..times {
         out.clear();
         shot.write_change(alloc, base, &mut out)?;
     }
-    Ok(out.len())
+    Ok(out)
 }
 
-fn report(
+// The screen that a text makes of a base, made so often.
+fn applied<S: Synced>(alloc: Global, base: &S, text: &[u8], times: u32) -> Result<S, Fault> {
+    let mut made = base.copy(alloc)?;
+    for _ in 0..times {
+        made = base.copy(alloc)?;
+        made.apply(alloc, text)?;
+    }
+    Ok(made)
+}
+
+// Whether two screens of one size have the same cells.
+fn is_same<S: Seen>(one: &S, other: &S) -> bool {
+    if one.rows() != other.rows() {
+        return false;
+    }
+    for i in 0..one.rows() {
+        if !are_same_cells(one.row(i), other.row(i)) {
+            return false;
+        }
+    }
+    true
+}
+
+fn report<S: Synced + Seen>(
     rt: &HostRuntime,
     name: &str,
-    base: &Shot,
-    shot: &Shot,
+    version: u32,
+    base: &S,
+    shot: &S,
     times: u32,
 ) -> anyhow::Result<()> {
-    let cells = base.cells().len();
+    let cells = u32::from(shot.rows()) * u32::from(shot.cols());
     let start = Instant::now(rt)?;
-    let bytes = written(rt.alloc(), base, shot, times)?;
-    let passed = start.elapsed(rt)?.as_micros();
-    println!(rt; "{name} {cells} {times} {passed} {bytes}")?;
+    let text = written(rt.alloc(), base, shot, times)?;
+    let wrote = start.elapsed(rt)?.as_micros();
+    let start = Instant::now(rt)?;
+    let made = applied(rt.alloc(), base, &text, times)?;
+    let read = start.elapsed(rt)?.as_micros();
+    if !is_same(&made, shot) {
+        bail!("the text makes another screen");
+    }
+    let bytes = text.len();
+    println!(rt; "{version} {name} {cells} {times} {wrote} {read} {bytes}")?;
     Ok(())
 }
 
-fn measure(rt: &HostRuntime, screens: &Screens, times: u32) -> anyhow::Result<()> {
-    let copy = screens.base.copy(rt.alloc())?;
-    report(rt, "equal", &screens.base, &copy, times)?;
-    report(rt, "row", &screens.base, &screens.row, times)?;
-    report(rt, "other", &screens.base, &screens.other, times)
+// Reports a change in version 1 where both screens are of one, and in version 2.
+fn report_both(
+    rt: &HostRuntime,
+    name: &str,
+    base: &RowShot,
+    shot: &RowShot,
+    times: u32,
+) -> anyhow::Result<()> {
+    if shot.rows() <= 100 && shot.cols() <= 250 {
+        let old_base = RowShot1::of(rt.alloc(), base)?;
+        let old = RowShot1::of(rt.alloc(), shot)?;
+        report(rt, name, 1, &old_base, &old, times)?;
+    }
+    report(rt, name, 2, base, shot, times)
+}
+
+/// The changes of a screen of lines by name, with the bytes that make them.
+static CHANGES: [(&str, &[u8]); 4] = [
+    ("equal", b""),
+    ("cell", b"\x1B[2;3H~"),
+    ("row", b"\x1B[2;1H\x1B[2K~"),
+    ("scroll", b"\r\n$ ls"),
+];
+
+fn measure_lines(rt: &HostRuntime, rows: u16, cols: u16, times: u32) -> anyhow::Result<()> {
+    let base = lines(rt.alloc(), rows, cols, b"")?;
+    for (name, end) in CHANGES {
+        let shot = lines(rt.alloc(), rows, cols, end)?;
+        report_both(rt, name, &base, &shot, times)?;
+    }
+    Ok(())
+}
+
+fn measure(rt: &HostRuntime, rows: u16, cols: u16, styles: u32, times: u32) -> anyhow::Result<()> {
+    measure_lines(rt, rows, cols, times)?;
+    let blank = RowShot::blank(rt.alloc(), rows, cols)?;
+    let shot = styled(rt.alloc(), rows, cols, styles)?;
+    report_both(rt, "styles", &blank, &shot, times)
+}
+
+// Whether the change from a base to a screen leads there.
+fn leads<S: Synced + Seen>(alloc: Global, base: &S, shot: &S) -> Result<bool, Fault> {
+    let text = written(alloc, base, shot, 1)?;
+    let made = applied(alloc, base, &text, 1)?;
+    Ok(is_same(&made, shot))
 }
 
 fn once(alloc: Global) -> anyhow::Result<()> {
-    let screens = Screens::new(alloc, 24, 80)?;
-    let same = written(alloc, &screens.base, &screens.base, 1)?;
-    let row = written(alloc, &screens.base, &screens.row, 1)?;
-    let other = written(alloc, &screens.base, &screens.other, 1)?;
-    if row <= same || other <= row {
-        bail!("the texts have other lengths");
+    let blank = RowShot::blank(alloc, 4, 8)?;
+    let shot = styled(alloc, 4, 8, 3)?;
+    if !leads(alloc, &blank, &shot)? {
+        bail!("the text makes another screen");
     }
     Ok(())
+}
+
+fn number(words: &mut Args) -> anyhow::Result<u32> {
+    let word = words.next().and_then(|word| word.parse::<u32>().ok());
+    let number = word.context("a number is wanted")?;
+    Ok(number)
 }
 
 fn main(rt: HostRuntime) -> anyhow::Result<()> {
@@ -92,9 +195,8 @@ fn main(rt: HostRuntime) -> anyhow::Result<()> {
         return once(rt.alloc());
     };
     let rows = rows.parse::<u16>().ok().context("ROWS is no number")?;
-    let cols = words.next().and_then(|word| word.parse::<u16>().ok());
-    let cols = cols.context("COLS is no number")?;
-    let times = words.next().and_then(|word| word.parse::<u32>().ok());
-    let times = times.context("TIMES is no number")?;
-    measure(&rt, &Screens::new(rt.alloc(), rows, cols)?, times)
+    let cols = number(&mut words)?;
+    let styles = number(&mut words)?;
+    let times = number(&mut words)?;
+    measure(&rt, rows, cols.min(500) as u16, styles, times)
 }

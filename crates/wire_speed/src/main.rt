@@ -5,10 +5,11 @@
 
 ghost use Rattle.std.specs.Prelude.{◌+◌, ◌^◌, ◌<◌, ◌≤◌, length};
 ghost use Rattle.roam_wire.specs.Cutting.{AreSendable, texts_of};
+ghost use Rattle.roam_wire.specs.declared.versions.Version.TheVariants.{One};
 
 use anyhow::{Context, bail};
 use roam_cells::Fault;
-use roam_wire::{Datagram, Gathered, Gatherer, Kind, cut, read_datagram, write_datagram};
+use roam_wire::{Datagram, Gathered, Gatherer, Kind, Version, cut, read_datagram, write_datagram};
 use std::alloc::Global;
 use std::env;
 use std::time::Instant;
@@ -18,13 +19,13 @@ const LARGEST: usize = 1_228_800;
 
 // The datagram of a piece, as bytes.
 fn packed(alloc: Global, pieces: &[Vec<u8>], index: usize, id: u64) -> Result<Vec<u8>, Fault>
-    requires sendable { AreSendable (texts_of pieces.now) }
+    requires sendable { AreSendable One (texts_of pieces.now) }
     requires place { index < length pieces.now }
     requires id { 1 ≤ id }
     requires numbers { id < 2 ^ 32 }
 {
     let datagram = Datagram {
-        version: 1,
+        version: Version::One,
         kind: Kind::ToClient,
         session: 1,
         client: 2,
@@ -39,7 +40,7 @@ fn packed(alloc: Global, pieces: &[Vec<u8>], index: usize, id: u64) -> Result<Ve
 
 // Carries a text over, and answers how long the text is that comes whole.
 fn carry(alloc: Global, gatherer: &mut Gatherer, text: &[u8], id: u32) -> Result<usize, Fault> {
-    let pieces = cut(alloc, text)?;
+    let pieces = cut(alloc, text, Version::One)?;
     let mut whole = 0;
     for index in 0..pieces.as_slice().len() {
         let bytes = packed(alloc, pieces.as_slice(), index, u64::from(id).max(1))?;

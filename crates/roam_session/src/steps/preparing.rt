@@ -27,7 +27,9 @@ fn begin(alloc: Global, rect: Rect) -> Result<Term, Fault>
     ensures fresh { IfOk result (λ term. IsFresh term rect) }
     ensures fault { IsOkUnless result Fault.OutOfMemory }
 {
-    Term::new(alloc, rect.rows, rect.cols, MOST_LINES)
+    let mut term = Term::new(alloc, rect.rows, rect.cols, MOST_LINES)?;
+    term.clear_marks();
+    Ok(term)
 }
 
 // The step of a terminal that goes from a rectangle to another.
@@ -125,6 +127,7 @@ fn settle(term: &mut Option<Term>, step: Step)
         Step::Fit(fitted) => {
             if let Some(term) = term {
                 term.adopt(fitted);
+                term.clear_marks();
             }
         }
     }

@@ -19,7 +19,7 @@ write_datagram-requires c =
     let len = ap length at in
     record {
       limits = record {
-        version = refl;
+        kind = λ other. absurd cc;
         session = omega arith;
         client = omega arith;
         number = (c.requires.id, omega arith);

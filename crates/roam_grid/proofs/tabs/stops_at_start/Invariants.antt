@@ -4,6 +4,6 @@ use Rattle.roam_grid.proofs.tabs.stops_at_start.Given as goal
 
 abbrev pub invariant-loop-c : goal.invariant-loop-c
 invariant-loop-c l = record {
-  len : length {A = Bool} l.stops ≡ 250;
+  len : length {A = Bool} l.stops ≡ 500;
   set : (k : ℕ) → k < l.c → get_or {A = Bool} l.stops k false ≡ is_start_stop k;
 }

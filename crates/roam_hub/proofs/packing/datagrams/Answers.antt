@@ -4,7 +4,7 @@ use Rattle.std.specs.declared.alloc.Global.{Global}
 use Rattle.roam_wire.specs.Cutting.{texts_of}
 use Rattle.roam_wire.specs.Datagrams.{datagram_text}
 use Rattle.roam_world.specs.Texts.{datagram_with}
-use Rattle.roam_hub.proofs.PackingTexts.{IsPacking, IsNext, nothing_left, pack_start, pack_more, pack_next, pack_end, piece_sendable}
+use Rattle.roam_hub.proofs.PackingTexts.{at_most, IsPacking, IsNext, nothing_left, pack_start, pack_more, pack_next, pack_end, piece_sendable}
 use Rattle.roam_hub.proofs.packing.datagrams.Goals as goal
 
 pub loop-piece-init : goal.loop-piece-init
@@ -16,8 +16,9 @@ overflow_cast-index c =
     let n = pack_next _ _ _ _ c.in-Some.piece.items _ c.loop-piece.invariant (ap texts_of c.in-Some.ensures.steps.0) in
     let w = n.within in
     let few = c.requires.sendable.few in
+    let most = at_most c.args.heading.version in
     let all = length-map c.loop-piece.all.items (λ (v : Vec ℕ Global). v.items) in
-    omega (arith, w, few, all, c.len-index.ensures)
+    omega (arith, w, few, most, all, c.len-index.ensures)
 
 pub datagram-requires : goal.datagram-requires
 datagram-requires c =
@@ -27,8 +28,9 @@ datagram-requires c =
     let at : length (texts_of c.loop-piece.all.items) ≡ c.len-index.result = omega (arith, all, c.len-index.ensures) in
     record {
       limits =
-          piece_sendable c.args.heading.kind c.args.heading.session c.args.heading.client c.args.heading.before c.args.heading.id
-          c.len-count.result c.len-index.result (texts_of c.args.pieces.items) c.in-Some.piece.items c.requires.session c.requires.client
+          piece_sendable c.args.heading.version c.args.heading.kind c.args.heading.session c.args.heading.client c.args.heading.before
+          c.args.heading.id c.len-count.result c.len-index.result (texts_of c.args.pieces.items) c.in-Some.piece.items c.requires.kind
+          c.requires.session c.requires.client
           c.requires.low c.requires.high (omega (arith, many, c.requires.numbers)) c.requires.sendable
           (omega (arith, many, c.len-count.ensures))
           (subst (λ (k : ℕ). IsNext (texts_of c.args.pieces.items) k c.in-Some.piece.items) at n);
@@ -41,14 +43,14 @@ loop-piece-preserved c =
     let at : c.len-index.result ≡ length (texts_of c.loop-piece.all.items) = omega (arith, all, c.len-index.ensures) in
     let count : c.len-count.result ≡ length (texts_of c.args.pieces.items) = omega (arith, many, c.len-count.ensures) in
     let h = c.args.heading in
-    subst (λ (done : List (List ℕ)). IsPacking (datagram_with h.kind h.session h.client h.before h.id (length
+    subst (λ (done : List (List ℕ)). IsPacking (datagram_with h.version h.kind h.session h.client h.before h.id (length
     (texts_of c.args.pieces.items)))
     (texts_of c.args.pieces.items) done (texts_of c.next.new.self.rest.items))
     (sym (ap texts_of c.in_ok-push.ensures.items ∙ map-append _ c.loop-piece.all.items (c.in_ok-datagram.field-0 ∷ [])))
     (pack_more _ _ _ _ c.in-Some.piece.items c.in_ok-datagram.field-0.items _ c.loop-piece.invariant
     (ap texts_of c.in-Some.ensures.steps.0)
     (c.in_ok-datagram.ensures.written
-    ∙ (λ i. datagram_text (datagram_with h.kind h.session h.client h.before h.id (count i) (at i, c.in-Some.piece.items)))))
+    ∙ (λ i. datagram_text (datagram_with h.version h.kind h.session h.client h.before h.id (count i) (at i, c.in-Some.piece.items)))))
 
 pub returns-clause-written : goal.returns-clause-written
 returns-clause-written c =

@@ -8,5 +8,6 @@ use Rattle.roam_hub.proofs.packing.datagrams.Given as goal
 abbrev pub invariant-loop-piece : goal.invariant-loop-piece
 invariant-loop-piece l =
     IsPacking
-    (datagram_with l.heading.kind l.heading.session l.heading.client l.heading.before l.heading.id (length (texts_of l.fn.pieces.items)))
+    (datagram_with l.heading.version l.heading.kind l.heading.session l.heading.client l.heading.before l.heading.id
+    (length (texts_of l.fn.pieces.items)))
     (texts_of l.fn.pieces.items) (texts_of l.all.items) (texts_of l.piece-iterator.rest.items)

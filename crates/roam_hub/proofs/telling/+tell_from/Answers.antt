@@ -33,7 +33,7 @@ tell_from-requires t c =
     let len = length-set_value_at c.args.records.now.entries c.args.at c.prepare.new.self in
     let low = is_within c.args.records.now.entries c.args.at c.pair_mut-record.result.0.now c.pair_mut-record.result.1.now
     c.pair_mut-record.ensures.value in
-    (omega (arith, len, low, c.decreases), (omega (arith, len, low), (c.requires.number, c.requires.session)))
+    (omega (arith, len, low, c.decreases), (omega (arith, len, low), (c.requires.number, (c.requires.session, c.prepare.ensures.kept))))
 
 pub pair_mut-record-requires-in-Ok : goal.pair_mut-record-requires-in-Ok
 pair_mut-record-requires-in-Ok t c =

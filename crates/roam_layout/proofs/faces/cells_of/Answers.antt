@@ -1,8 +1,8 @@
 use Rattle.std.proofs.Common.{◌≡◌, ◌<◌, ◌+◌, ◌++◌, List, ℕ, inl, inr, length, sym, subst, ap, ◌∙◌, arith, rules}
 use Rattle.std.proofs.lemmas.Bool.{cases_lt}
 use Rattle.roam_cells.specs.Glyph.{Glyph}
-use Rattle.roam_cells.specs.Place.{table, IsWholeRow, AreWhole}
-use Rattle.roam_cells.specs.Screenshot.{Screenshot, AreUnguarded}
+use Rattle.roam_cells.specs.Place.{table, IsWholeRow, AreWhole, AreUnguarded}
+use Rattle.roam_screens.specs.Screenshot.{Screenshot}
 use Rattle.roam_layout.specs.Faces.{face, face_at, face_row, picture_in, Show}
 use Rattle.roam_layout.proofs.Facing.{table_none, table_more, face_count, face_whole, face_unguarded}
 use Rattle.roam_layout.proofs.Listed.{shows_by_number}

@@ -1,6 +1,6 @@
 use Rattle.std.proofs.Common.{◌≡◌, ◌+◌, ◌<◌, ℕ}
-use Rattle.roam_cells.specs.Place.{table, IsWholeRow}
-use Rattle.roam_cells.specs.Screenshot.{Screenshot, AreUnguarded}
+use Rattle.roam_cells.specs.Place.{table, IsWholeRow, AreUnguarded}
+use Rattle.roam_screens.specs.Screenshot.{Screenshot}
 use Rattle.roam_layout.specs.Faces.{face_at, face_row, Show}
 use Rattle.roam_layout.proofs.faces.cells_of.Given as goal
 

@@ -4,9 +4,9 @@ use Rattle.roam_paint.proofs.Loops.{row_start, style_start, row_step, nothing, s
 use Rattle.roam_paint.proofs.painting.paint_row.Goals as goal
 
 pub loop-col-init : goal.loop-col-init
-loop-col-init c =
-    let old = c.args.old.now in
-    let new = c.args.new.now in (
+loop-col-init g c =
+    let old = (g.O.Seen.screen c.args.old.now) in
+    let new = (g.N.Seen.screen c.args.new.now) in (
       nothing c.args.text.now.items _ (row_start old new c.args.row c.args.style),
       sym (style_start old new c.args.row c.args.style),
       c.differs.ensures.differs,
@@ -14,9 +14,9 @@ loop-col-init c =
     )
 
 pub loop-col-preserved : goal.loop-col-preserved
-loop-col-preserved c =
-    let old = c.args.old.now in
-    let new = c.args.new.now in
+loop-col-preserved g c =
+    let old = (g.O.Seen.screen c.args.old.now) in
+    let new = (g.N.Seen.screen c.args.new.now) in
     let kept = c.loop-col.invariant in
     let step =
     row_step old new c.args.row c.args.style c.loop-col.col c.args.text.now.items c.loop-col.text.items c.paint_place.new.text.items
@@ -28,6 +28,6 @@ loop-col-preserved c =
     )
 
 pub returns-clause-style : goal.returns-clause-style
-returns-clause-style c =
-    let e : c.loop-col.col ≡ c.args.new.now.cols = omega arith in
-    c.loop-col.invariant.1 ∙ ap (row_style c.args.old.now c.args.new.now c.args.row c.args.style) e
+returns-clause-style g c =
+    let e : c.loop-col.col ≡ (g.N.Seen.screen c.args.new.now).cols = omega arith in
+    c.loop-col.invariant.1 ∙ ap (row_style (g.O.Seen.screen c.args.old.now) (g.N.Seen.screen c.args.new.now) c.args.row c.args.style) e

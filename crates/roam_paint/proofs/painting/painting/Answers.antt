@@ -5,9 +5,9 @@ use Rattle.roam_paint.proofs.Loops.{painted_text}
 use Rattle.roam_paint.proofs.painting.painting.Goals as goal
 
 pub returns : goal.returns
-returns c =
-    let old = c.args.old.now in
-    let new = c.args.new.now in
+returns g c =
+    let old = (g.O.Seen.screen c.args.old.now) in
+    let new = (g.N.Seen.screen c.args.new.now) in
     let first : c.open_painting.new.text.items ≡ opening_text (same_size old new) =
     c.in_ok-open_painting.ensures.text ∙ ap (λ l. l ++ opening_text c.is_same_size.result) c.new-text.ensures.items
     ∙ ap opening_text c.is_same_size.ensures.same in

@@ -1,4 +1,5 @@
 use Rattle.std.proofs.Common.{◌≡◌, Some, rules, string_bytes}
+use Rattle.roam_screens.specs.Shown.{shown_by}
 use Rattle.roam_simulation.specs.Worlds.{start_in}
 use Rattle.roam_play.proofs.Asking.{client_text, filled, ok_then}
 use Rattle.roam_play.proofs.asked.push_shown.Goals as goal
@@ -9,6 +10,6 @@ returns-clause-text c = ok_then c.push_screen.result c.push_screen.ensures.text 
     let start = filled w.server.session w.clients (start_in c.args.world.now.slots c.args.slot) (w.slots c.args.slot)
     c.in-Some.client.now here (s.starts.filled c.args.slot) in
     let shown = c.shown-number.ensures.shown w.server.session start.id (w.clients start.id) start.stands in
-    client_text w.clients (w.slots c.args.slot) start.id c.shown-number.result.0 c.shown-number.result.1.now (string_bytes
+    client_text w.clients (w.slots c.args.slot) start.id c.shown-number.result.0 (shown_by c.shown-number.result.1) (string_bytes
     c.args.text.now) (string_bytes c.write.new.self) (string_bytes c.push_screen.new.text) start.is shown.0 shown.1
     c.in_ok-write.ensures.bytes e)

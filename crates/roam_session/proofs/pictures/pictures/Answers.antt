@@ -1,9 +1,9 @@
 use Rattle.std.proofs.Common.{◌≡◌, ℕ, ◌+◌, ◌<◌, List, [], ◌∷◌, length, length-append, get_or, sym, ap, ◌∙◌, subst, arith}
-use Rattle.roam_cells.specs.Screenshot.{Screenshot}
+use Rattle.roam_screens.specs.Screenshot.{Screenshot}
 use Rattle.roam_layout.specs.Layouts.{panes}
 use Rattle.roam_layout.specs.declared.rects.Rect.{Rect}
 use Rattle.roam_session.specs.Pictures.{IsPictured}
-use Rattle.roam_session.proofs.Picturing.{pictured_more, are_pictures, are_shown}
+use Rattle.roam_session.proofs.Picturing.{pictured_more, are_pictures, are_shown, are_shown_now}
 use Rattle.roam_session.proofs.pictures.pictures.Goals as goal
 
 pub loop-k-preserved : goal.loop-k-preserved
@@ -39,3 +39,11 @@ returns-clause-show c pane of =
     omega (arith, c.loop-k-test.false, c.loop-k.auto.k-end, ap (λ l. length l) c.rects-k-end.ensures.rects) in
     are_shown s c.args.terms.now c.facts.ensures.plan c.requires.placed c.loop-k.shots.items (c.loop-k.invariant.count ∙ all)
     (λ k d e h. c.loop-k.invariant.each k d e (omega (arith, h, all))) pane of
+
+pub returns-clause-now : goal.returns-clause-now
+returns-clause-now c =
+    let s = c.args.layout.now in
+    let all : c.loop-k.k ≡ length (panes s) =
+    omega (arith, c.loop-k-test.false, c.loop-k.auto.k-end, ap (λ l. length l) c.rects-k-end.ensures.rects) in
+    are_shown_now s c.args.terms.now c.facts.ensures.plan c.requires.placed c.loop-k.shots.items (c.loop-k.invariant.count ∙ all)
+    (λ k d e h. c.loop-k.invariant.each k d e (omega (arith, h, all)))

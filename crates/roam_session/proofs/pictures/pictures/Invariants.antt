@@ -1,5 +1,5 @@
 use Rattle.std.proofs.Common.{◌≡◌, ℕ, ◌<◌, length, get_or}
-use Rattle.roam_cells.specs.Screenshot.{Screenshot}
+use Rattle.roam_screens.specs.Screenshot.{Screenshot}
 use Rattle.roam_layout.specs.Layouts.{panes}
 use Rattle.roam_layout.specs.declared.rects.Rect.{Rect}
 use Rattle.roam_session.specs.Pictures.{IsPictured}

@@ -7,6 +7,7 @@ returns c = record {
   screen = picture_screen;
   placed = grounds.cursor_is_placed;
   styled = grounds.style_is_set;
+  mixed = grounds.mixture_is_set;
   erased = grounds.all_is_erased;
   printed = grounds.character_is_printed;
   joined = grounds.character_is_joined;

@@ -23,54 +23,54 @@ framed s t e is = rw e is
 
 -- a row on or below the screen fits
 row_fits : (s : Screen) (h : Scrollback) (alternate : Bool) (view row v : ℕ) → IsFrame s → IsScrollback h → row ≡ s.row + 1
-    → v ≡ (if alternate then 0 else min view (length h.rows)) → row + v ≤ 600
+    → v ≡ (if alternate then 0 else min view (length h.rows)) → row + v ≤ 700
 row_fits s h alternate view row v frame is e f =
     omega (arith, low_in_view alternate view (length h.rows), is.few, is.size.most_lines, frame.row_in, frame.size.most_rows)
 
 pub overflow_cast-rows : goal.overflow_cast-rows
 overflow_cast-rows c =
-    let frame = framed c.grid-grid.result.now.screen c.args.canvas.now.screen c.grid-grid.ensures.screen c.facts.ensures.screen.frame in
+    let frame = framed c.grid-grid.result.now.screen c.args.canvas.now.live.screen c.grid-grid.ensures.screen c.facts.ensures.screen.frame in
     omega (arith, c.rows-2.ensures.rows, frame.size.most_rows)
 
 pub overflow_cast-cols : goal.overflow_cast-cols
 overflow_cast-cols c =
-    let frame = framed c.grid-grid.result.now.screen c.args.canvas.now.screen c.grid-grid.ensures.screen c.facts.ensures.screen.frame in
+    let frame = framed c.grid-grid.result.now.screen c.args.canvas.now.live.screen c.grid-grid.ensures.screen c.facts.ensures.screen.frame in
     omega (arith, c.cols.ensures.cols, frame.size.most_columns)
 
 pub overflow_cast-min : goal.overflow_cast-min
 overflow_cast-min c =
-    let frame = framed c.grid-grid.result.now.screen c.args.canvas.now.screen c.grid-grid.ensures.screen c.facts.ensures.screen.frame in
+    let frame = framed c.grid-grid.result.now.screen c.args.canvas.now.live.screen c.grid-grid.ensures.screen c.facts.ensures.screen.frame in
     omega (arith, c.min.ensures, c.rows-3.ensures.rows, frame.size.most_rows)
 
 pub overflow_cast-col : goal.overflow_cast-col
 overflow_cast-col c =
-    let frame = framed c.grid-grid.result.now.screen c.args.canvas.now.screen c.grid-grid.ensures.screen c.facts.ensures.screen.frame in
+    let frame = framed c.grid-grid.result.now.screen c.args.canvas.now.live.screen c.grid-grid.ensures.screen c.facts.ensures.screen.frame in
     omega (arith, c.cursor-row.ensures.col, frame.col_in, frame.size.most_columns)
 
 pub overflow_add-row : goal.overflow_add-row
 overflow_add-row c =
-    let frame = framed c.grid-grid.result.now.screen c.args.canvas.now.screen c.grid-grid.ensures.screen c.facts.ensures.screen.frame in
+    let frame = framed c.grid-grid.result.now.screen c.args.canvas.now.live.screen c.grid-grid.ensures.screen c.facts.ensures.screen.frame in
     let fits =
-    row_fits c.grid-grid.result.now.screen c.args.history.now c.args.canvas.now.alternate c.args.view c.cursor-row.result.0
+    row_fits c.grid-grid.result.now.screen c.args.history.now c.args.canvas.now.live.alternate c.args.view c.cursor-row.result.0
     c.rows_in_view-v.result frame c.facts-2.ensures.scrollback c.cursor-row.ensures.row c.rows_in_view-v.ensures.rows in
     omega (arith, fits)
 
 pub overflow_add-visible : goal.overflow_add-visible
 overflow_add-visible c =
-    let frame = framed c.grid-grid.result.now.screen c.args.canvas.now.screen c.grid-grid.ensures.screen c.facts.ensures.screen.frame in
+    let frame = framed c.grid-grid.result.now.screen c.args.canvas.now.live.screen c.grid-grid.ensures.screen c.facts.ensures.screen.frame in
     let fits =
-    row_fits c.grid-grid.result.now.screen c.args.history.now c.args.canvas.now.alternate c.args.view c.cursor-row.result.0
+    row_fits c.grid-grid.result.now.screen c.args.history.now c.args.canvas.now.live.alternate c.args.view c.cursor-row.result.0
     c.rows_in_view-v.result frame c.facts-2.ensures.scrollback c.cursor-row.ensures.row c.rows_in_view-v.ensures.rows in
     omega (arith, fits)
 
 pub shown_cells-requires : goal.shown_cells-requires
 shown_cells-requires c =
-    let low = low_in_view c.args.canvas.now.alternate c.args.view (length c.args.history.now.rows) in
+    let low = low_in_view c.args.canvas.now.live.alternate c.args.view (length c.args.history.now.rows) in
     record { cols = c.requires.cols; within = rw c.rows_in_view-v.ensures.rows low }
 
 pub new-requires : goal.new-requires
 new-requires c =
-    let l = c.args.canvas.now in
+    let l = c.args.canvas.now.live in
     let h = c.args.history.now in
     let v = c.rows_in_view-v.result in
     let s = c.grid-grid.result.now.screen in

@@ -1,4 +1,4 @@
-use Rattle.std.proofs.Common.{◌<◌, ◌+◌, ◌++◌, ◌∷◌, [], length, map, take, get_or, append_assoc, ◌∙◌, ap, sym, arith}
+use Rattle.std.proofs.Common.{◌<◌, ◌++◌, ◌∷◌, [], length, map, take, get_or, append_assoc, ◌∙◌, ap, sym, arith}
 use Rattle.std.proofs.lemmas.List.{map_more}
 use Rattle.roam_term.specs.Picture.{shown}
 use Rattle.roam_term.proofs.pictures.show_row.Goals as goal

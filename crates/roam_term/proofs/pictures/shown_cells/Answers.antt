@@ -10,7 +10,7 @@ use Rattle.roam_term.proofs.pictures.shown_cells.Goals as goal
 
 pub returns : goal.returns
 returns c =
-    let l = c.args.canvas.now in
+    let l = c.args.canvas.now.live in
     let h = c.args.history.now in
     let v = c.args.v in
     let each : All (IsRow l.screen.cols) h.rows = subst (λ n. All (IsRow n) h.rows) c.requires.cols c.facts-2.ensures.scrollback.each in

@@ -6,7 +6,7 @@ use Rattle.roam_term.proofs.reports.answer_position.Goals as goal
 grown : (new old more : List ℕ) → new ≡ old ++ more → length new ≡ length old + length more
 grown new old more e = ap (length {A = ℕ}) e ∙ length-append old more
 
-column_low : (s : Screen) (col : ℕ) → IsFrame s → col ≡ s.col + 1 → col ≤ 250
+column_low : (s : Screen) (col : ℕ) → IsFrame s → col ≡ s.col + 1 → col ≤ 500
 column_low s col frame e = omega (arith, frame.col_in, frame.size.most_columns)
 
 -- all but the last character

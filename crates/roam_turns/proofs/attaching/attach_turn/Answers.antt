@@ -1,6 +1,6 @@
 use Rattle.std.proofs.Common.{◌++◌, ap, sym, subst, [], ◌∷◌}
 use Rattle.std.specs.Option.{option_copied}
-use Rattle.roam_cells.specs.Screenshot.{Screenshot, IsScreenshot}
+use Rattle.roam_screens.specs.Screenshot.{Screenshot, IsScreenshot}
 use Rattle.roam_paint.specs.Colours.{AreIndexed}
 use Rattle.roam_turns.specs.Calls.PortCall.{Now}
 use Rattle.roam_turns.specs.Painting.{IsBehind}

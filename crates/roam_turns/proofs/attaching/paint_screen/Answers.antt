@@ -1,4 +1,5 @@
 use Rattle.std.proofs.Common.{rules, [], ◌∷◌, true, false}
+use Rattle.roam_screens.specs.Shown.{shown_by}
 use Rattle.roam_turns.specs.Calls.PortCall.{Showed}
 use Rattle.roam_turns.specs.Painting.{IsNoted}
 use Rattle.roam_turns.specs.Parts.Call.{Port}
@@ -15,7 +16,7 @@ returns-then-show-clause-paints g c =
     let not : IsNoted c.shown-number.result.0 c.args.outer.now → ⊥ = λ h. search (rules, c.is_noted.ensures.noted.1 h) in
     makes_as step (Just (Port (Showed c.deref.result.now true) ∷ [])) (Paints n s c.args.outer.now c.note.new.self)
     (makes_port step [] (Showed c.deref.result.now true) (makes_none step) c.if-show.ensures.tells)
-    (paints_shown n c.shown-number.result.0 s c.shown-number.result.1.now c.args.outer.now c.note.new.self c.in-Ok.painting.text.items
+    (paints_shown n c.shown-number.result.0 s (shown_by c.shown-number.result.1) c.args.outer.now c.note.new.self c.in-Ok.painting.text.items
     c.deref.result.now c.shown-number.ensures.number c.shown-number.ensures.screen not c.in-Ok.ensures.text c.deref.ensures.value
     c.in-Ok.painting.noted c.in-Ok.ensures.noted c.note.ensures.noted)
 
@@ -27,6 +28,6 @@ returns-else-show-clause-paints g c =
     let not : IsNoted c.shown-number.result.0 c.args.outer.now → ⊥ = λ h. search (rules, c.is_noted.ensures.noted.1 h) in
     makes_as step (Just (Port (Showed c.deref.result.now false) ∷ [])) (Paints n s c.args.outer.now c.note-else-show.new.self)
     (makes_port step [] (Showed c.deref.result.now false) (makes_none step) c.if-show.ensures.tells)
-    (paints_failed n c.shown-number.result.0 s c.shown-number.result.1.now c.args.outer.now c.note-else-show.new.self
+    (paints_failed n c.shown-number.result.0 s (shown_by c.shown-number.result.1) c.args.outer.now c.note-else-show.new.self
     c.in-Ok.painting.text.items c.deref.result.now c.shown-number.ensures.number c.shown-number.ensures.screen not c.in-Ok.ensures.text
     c.deref.ensures.value c.note-else-show.ensures.noted)

@@ -6,5 +6,5 @@ abbrev pub invariant-loop-k : goal.invariant-loop-k
 invariant-loop-k l =
     record {
       len : length l.cells ≡ length l.fn.cells;
-      same : cells_put (l.n - l.k) (l.first + l.k) l.cells l.rest ≡ cells_put l.n l.first l.fn.cells l.text;
+      same : cells_put l.form (l.n - l.k) (l.first + l.k) l.cells l.rest ≡ cells_put l.fn.form l.n l.first l.fn.cells l.text;
     }

@@ -13,9 +13,9 @@ loop-k-preserved c =
     let first : c.read_u32-first.result ≡ big_number 4 text = c.read_u32-first.ensures in
     let len : c.read_u32-len.result ≡ big_number 4 (drop 4 text) = c.read_u32-len.ensures ∙ ap (big_number 4) (take_rest text 4) in
     let e : may_begin c.loop-k.least (length c.loop-k.cells) text ≡ true = search rules in
-    let f : cells_put (big_number 4 (drop 4 text)) (big_number 4 text) c.loop-k.cells (drop 8 text) ≡ Some (record { value = c.put_cells.new.cells; rest = c.in-Some.after.now })
+    let f : cells_put c.loop-k.form (big_number 4 (drop 4 text)) (big_number 4 text) c.loop-k.cells (drop 8 text) ≡ Some (record { value = c.put_cells.new.cells; rest = c.in-Some.after.now; form = c.put_cells.new.form })
     = rw (← len, ← first, ← take_rest text 8) c.in-Some.ensures.some in
-    let g : cells_put c.read_u32-len.result c.read_u32-first.result c.loop-k.cells (drop 8 text) ≡ Some (record { value = c.put_cells.new.cells; rest = c.in-Some.after.now })
+    let g : cells_put c.loop-k.form c.read_u32-len.result c.read_u32-first.result c.loop-k.cells (drop 8 text) ≡ Some (record { value = c.put_cells.new.cells; rest = c.in-Some.after.now; form = c.put_cells.new.form })
     = rw (← take_rest text 8) c.in-Some.ensures.some in
     let cols = c.args.cols in
     let fits = begin_facts c.loop-k.least (length c.loop-k.cells) text e in
@@ -23,12 +23,12 @@ loop-k-preserved c =
       len = c.put_cells.ensures.len ∙ c.loop-k.invariant.len;
       marks_len = c.mark_rows.ensures.len ∙ c.loop-k.invariant.marks_len;
       few = omega (arith, fits.to, first, len, c.put_cells.ensures.len);
-      same = runs_put_go c.args.n c.loop-k._k c.loop-k.least (c.read_u32-first.result + c.read_u32-len.result + 1) c.loop-k.cells text c.put_cells.new.cells c.in-Some.after.now (omega arith) e f c.put_cells.ensures.len (omega (arith, first, len))
+      same = runs_put_go c.loop-k.form c.put_cells.new.form c.args.n c.loop-k._k c.loop-k.least (c.read_u32-first.result + c.read_u32-len.result + 1) c.loop-k.cells text c.put_cells.new.cells c.in-Some.after.now (omega arith) e f c.put_cells.ensures.len (omega (arith, first, len))
           ∙ c.loop-k.invariant.same;
       stays = λ r k off p.
           let mark = c.mark_rows.ensures.unmarked r off in
           let far = row_outside c.read_u32-first.result c.read_u32-len.result cols r k c.requires.cols (omega (arith, fits.some, len)) p mark.1 in
-          put_outside c.read_u32-len.result c.read_u32-first.result c.loop-k.cells (drop 8 text) (record { value = c.put_cells.new.cells; rest = c.in-Some.after.now }) (r * cols + k) g far
+          put_outside c.loop-k.form c.read_u32-len.result c.read_u32-first.result c.loop-k.cells (drop 8 text) (record { value = c.put_cells.new.cells; rest = c.in-Some.after.now; form = c.put_cells.new.form }) (r * cols + k) g far
           ∙ c.loop-k.invariant.stays r k mark.0 p;
     }
 
@@ -38,9 +38,9 @@ returns-in-None-clause-no c = λ _.
     let first : c.read_u32-first.result ≡ big_number 4 text = c.read_u32-first.ensures in
     let len : c.read_u32-len.result ≡ big_number 4 (drop 4 text) = c.read_u32-len.ensures ∙ ap (big_number 4) (take_rest text 4) in
     let e : may_begin c.loop-k.least (length c.loop-k.cells) text ≡ true = search rules in
-    let f : cells_put (big_number 4 (drop 4 text)) (big_number 4 text) c.loop-k.cells (drop 8 text) ≡ None
+    let f : cells_put c.loop-k.form (big_number 4 (drop 4 text)) (big_number 4 text) c.loop-k.cells (drop 8 text) ≡ None
     = rw (← len, ← first, ← take_rest text 8) (c.put_cells.ensures.none c.in-None.is) in
-    sym c.loop-k.invariant.same ∙ runs_put_fails (c.args.n - c.loop-k._k) c.loop-k.least c.loop-k.cells text (omega arith) e f
+    sym c.loop-k.invariant.same ∙ runs_put_fails c.loop-k.form (c.args.n - c.loop-k._k) c.loop-k.least c.loop-k.cells text (omega arith) e f
 
 pub mark_rows-requires : goal.mark_rows-requires
 mark_rows-requires c =

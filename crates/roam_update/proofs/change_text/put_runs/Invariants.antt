@@ -9,6 +9,6 @@ invariant-loop-k l =
       len : length l.cells ≡ length l.fn.cells;
       marks_len : length l.marks ≡ length l.fn.marks;
       few : l.least ≤ length l.cells + 1;
-      same : runs_put (l.n - l._k) l.least l.cells l.rest ≡ runs_put l.n 0 l.fn.cells l.text;
+      same : runs_put l.form (l.n - l._k) l.least l.cells l.rest ≡ runs_put l.fn.form l.n 0 l.fn.cells l.text;
       stays : StaysUnmarked l.cols l.marks l.fn.cells l.cells;
     }

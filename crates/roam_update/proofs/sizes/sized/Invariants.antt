@@ -4,4 +4,4 @@ use Rattle.roam_update.specs.Sizes.{sized_at}
 use Rattle.roam_update.proofs.sizes.sized.Given as goal
 
 abbrev pub invariant-loop-row : goal.invariant-loop-row
-invariant-loop-row l = l.cells.items ≡ table l.row l.cols (sized_at l.cols l.base)
+invariant-loop-row g l = l.cells.items ≡ table l.row l.cols (sized_at l.cols (g.B.Seen.screen l.base))

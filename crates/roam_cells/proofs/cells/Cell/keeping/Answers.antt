@@ -12,7 +12,7 @@ invariant_of-result c =
     let says : word / 4 ≡ digit + 2 * number = omega (arith, c.requires.few) in
     let shows : word / 8 ≡ number = omega (arith, c.requires.few, c.digit.ensures.one) in
     let has = c.requires in
-    kept_as c.args.points count number word c.args.wide has.three has.rest has.width has.text c.number.ensures.ink said
+    kept_as c.packed.result c.args.points count number word c.args.wide c.packed.ensures.places c.packed.ensures.scalars has.rest has.width has.text c.number.ensures.ink said
     (wide_says c.args.wide digit number word c.digit.ensures.digit says) shows
 
 pub returns : goal.returns
@@ -23,4 +23,4 @@ returns c =
     let word = count + 4 * digit + 8 * number in
     let said : word % 4 ≡ count = omega (arith, c.requires.few) in
     let shows : word / 8 ≡ number = omega (arith, c.requires.few, c.digit.ensures.one) in
-    record { cell = shown_as c.args.points count number word c.args.ink said shows c.number.ensures.number }
+    record { cell = shown_as c.packed.result c.args.points count number word c.args.ink c.packed.ensures.places said shows c.number.ensures.number }

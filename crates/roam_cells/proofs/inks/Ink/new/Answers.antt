@@ -18,7 +18,7 @@ returns c = record {
         c.digit-7.ensures.digit,
         c.digit-8.ensures.digit,
         c.digit-9.ensures.digit,
-      )) c.number_of.ensures.number c.number_of-2.ensures.number refl
+      )) c.number_of.ensures.back c.number_of-2.ensures.back refl
       (omega (
         arith,
         c.digit.ensures.one,

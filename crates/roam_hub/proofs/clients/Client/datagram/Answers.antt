@@ -1,8 +1,9 @@
-use Rattle.std.proofs.Common.{ℕ, refl, ap, ◌∙◌, subst, List, Option}
+use Rattle.std.proofs.Common.{ℕ, refl, sym, ap, ◌∙◌, subst, List, Option}
 use Rattle.std.specs.Prelude.{Err, unwrap_or}
 use Rattle.std.proofs.lemmas.Result.{err_from_is_err_and}
 use Rattle.roam_wire.specs.Datagrams.{datagram_value}
 use Rattle.roam_wire.specs.Gatherers.{GathererValue, Gathering, Part, Old}
+use Rattle.roam_hub.specs.Ends.{version_in, receiving_in}
 use Rattle.roam_hub.specs.Clients.{ClientView, Told, NotTold, Hears}
 use Rattle.roam_hub.specs.declared.clients.Heard.TheVariants as heard
 use Rattle.roam_hub.proofs.Hearing.{not_datagram, not_admitted, not_gathered, piece_heard, not_told, is_told, acts_acked, told_number}
@@ -20,15 +21,16 @@ returns-in_err-admit-clause-heard c session id k st =
     let found = c.in_ok-datagram.ensures.found in
     rw (p.1, p.2) (subst (λ (v : ClientView). Hears session id k c.args.bytes.now c.args.now (Err c.in_err-admit.field-0.0) v)
     c.self.view_is (not_admitted session id k c.args.bytes.now c.args.now _ (datagram_value c.in_ok-datagram.datagram) _
-    (c.self.view_is ∙ st) (record { is = found.0; spelled = found.1 }) c.in_err-admit.ensures.err))
+    (c.self.view_is ∙ st) (record { is = found.0; spelled = found.1 })
+    (λ x same. c.in_err-admit.ensures.err x (same ∙ sym c.version.ensures.version))))
 
 pub returns-in_err-take-clause-heard : goal.returns-in_err-take-clause-heard
 returns-in_err-take-clause-heard c session id k st =
     let p = err_from_is_err_and c.from_residual-in_err-take.result c.from_residual-in_err-take.ensures.1 in
     let found = c.in_ok-datagram.ensures.found in
     rw (p.1, p.2) (not_gathered session id k c.args.bytes.now c.args.now _ (datagram_value c.in_ok-datagram.datagram) _
-    c.take.new.self.current (c.self.view_is ∙ st) (record { is = found.0; spelled = found.1 }) c.in_ok-admit.ensures.ok
-    c.in_err-take.ensures.fault (λ e. c.in_err-take.ensures.bad (ap (λ f. Err f) e))
+    c.take.new.self.current (c.self.view_is ∙ st) (record { is = found.0; spelled = found.1 }) (λ x same. c.in_ok-admit.ensures.ok x (same ∙ sym c.version.ensures.version))
+    c.in_err-take.ensures.fault (λ e. c.in_err-take.ensures.bad.0 (ap (λ f. Err f) e))
     (ap (λ (g : GathererValue). g.current) c.in_err-take.ensures.err))
 
 pub returns-in-Part-clause-heard : goal.returns-in-Part-clause-heard
@@ -37,7 +39,7 @@ returns-in-Part-clause-heard c session id k st =
     let gathers = rw c.in-Part.is at c.in_ok-take.ensures.answer in
     piece_heard session id k c.args.bytes.now c.args.now _ (datagram_value c.in_ok-datagram.datagram) heard.Part Part
     c.take.new.self.current c.max-moment.result (c.self.view_is ∙ st) (record { is = found.0; spelled = found.1 })
-    c.in_ok-admit.ensures.ok gathers refl c.max-moment.ensures
+    (λ x same. c.in_ok-admit.ensures.ok x (same ∙ sym c.version.ensures.version)) gathers refl c.max-moment.ensures
 
 pub returns-in-Old-clause-heard : goal.returns-in-Old-clause-heard
 returns-in-Old-clause-heard c session id k st =
@@ -45,7 +47,7 @@ returns-in-Old-clause-heard c session id k st =
     let gathers = rw c.in-Old.is at c.in_ok-take.ensures.answer in
     piece_heard session id k c.args.bytes.now c.args.now _ (datagram_value c.in_ok-datagram.datagram) heard.Old Old
     c.take.new.self.current c.max-moment.result (c.self.view_is ∙ st) (record { is = found.0; spelled = found.1 })
-    c.in_ok-admit.ensures.ok gathers refl c.max-moment.ensures
+    (λ x same. c.in_ok-admit.ensures.ok x (same ∙ sym c.version.ensures.version)) gathers refl c.max-moment.ensures
 
 pub returns-in-Err-clause-heard : goal.returns-in-Err-clause-heard
 returns-in-Err-clause-heard c session id k st =
@@ -54,10 +56,12 @@ returns-in-Err-clause-heard c session id k st =
     let back = ap (λ (g : GathererValue). g.current) c.untake.ensures.untaken
     ∙ ap (λ (g : Option Gathering). unwrap_or g c.take.new.self.current) c.in_ok-take.ensures.before in
     not_told session id k c.args.bytes.now c.args.now _ (datagram_value c.in_ok-datagram.datagram) c.in-Err.fault
-    c.in-Whole.text.items c.take.new.self.current c.untake.new.self.current c.tell.new.acts c.tell.new.receiver
-    (c.self.view_is ∙ st) (record { is = found.0; spelled = found.1 }) c.in_ok-admit.ensures.ok gathers
-    (subst (λ (text : List ℕ). NotTold text c.self.inside.receiver c.in-Err.fault) c.as_slice.ensures.value c.in-Err.ensures.fault)
-    back c.in-Err.ensures.acts c.in-Err.ensures.receiver
+    c.in-Whole.text.items c.take.new.self.current c.untake.new.self.current (version_in c.tell.new.receiver) c.tell.new.acts
+    (receiving_in c.tell.new.receiver)
+    (c.self.view_is ∙ st) (record { is = found.0; spelled = found.1 }) (λ x same. c.in_ok-admit.ensures.ok x (same ∙ sym c.version.ensures.version)) gathers
+    (subst (λ (text : List ℕ). NotTold (version_in c.self.inside.receiver) text (receiving_in c.self.inside.receiver) c.in-Err.fault)
+    c.as_slice.ensures.value c.in-Err.ensures.fault)
+    back c.tell.ensures.version c.in-Err.ensures.acts (ap receiving_in c.in-Err.ensures.receiver)
 
 pub invariant_of-self-in-Ok : goal.invariant_of-self-in-Ok
 invariant_of-self-in-Ok c =
@@ -65,9 +69,10 @@ invariant_of-self-in-Ok c =
       acts_acked c.self.inside.acts c.tell.new.acts told.value.acked told.acts c.self.invariant.0,
       c.self.invariant.1,
       c.self.invariant.2,
-      told_number _ _ _ _ _ _ _ told c.self.invariant.3,
+      told_number _ _ _ _ _ _ _ _ told c.self.invariant.3,
       c.self.invariant.4,
       c.self.invariant.5,
+      (λ w. c.tell.ensures.version ∙ c.self.invariant.6 w),
     )
 
 pub returns-clause-heard : goal.returns-clause-heard
@@ -75,9 +80,9 @@ returns-clause-heard c session id k st =
     let found = c.in_ok-datagram.ensures.found in
     let gathers = rw c.in-Whole.is at c.in_ok-take.ensures.answer in
     is_told session id k c.args.bytes.now c.args.now _ (datagram_value c.in_ok-datagram.datagram) c.heard_of.result
-    c.in-Whole.text.items c.take.new.self.current c.in-Ok.step c.in-Ok.newer c.tell.new.acts c.tell.new.receiver
-    c.owed_after-self-inside.result c.max-moment.result
-    (c.self.view_is ∙ st) (record { is = found.0; spelled = found.1 }) c.in_ok-admit.ensures.ok gathers
-    (subst (λ (text : List ℕ). Told text c.self.inside.acts c.self.inside.receiver c.in-Ok.step c.in-Ok.newer c.tell.new.acts
-    c.tell.new.receiver) c.as_slice.ensures.value c.in-Ok.ensures.told)
-    c.heard_of.ensures.heard c.owed_after-self-inside.ensures.owed c.max-moment.ensures
+    c.in-Whole.text.items c.take.new.self.current c.in-Ok.step c.in-Ok.newer (version_in c.tell.new.receiver) c.tell.new.acts
+    (receiving_in c.tell.new.receiver) c.owed_after-self-inside.result c.max-moment.result
+    (c.self.view_is ∙ st) (record { is = found.0; spelled = found.1 }) (λ x same. c.in_ok-admit.ensures.ok x (same ∙ sym c.version.ensures.version)) gathers
+    (subst (λ (text : List ℕ). Told (version_in c.self.inside.receiver) text c.self.inside.acts (receiving_in c.self.inside.receiver)
+    c.in-Ok.step c.in-Ok.newer c.tell.new.acts (receiving_in c.tell.new.receiver)) c.as_slice.ensures.value c.in-Ok.ensures.told)
+    c.heard_of.ensures.heard c.tell.ensures.version c.owed_after-self-inside.ensures.owed c.max-moment.ensures

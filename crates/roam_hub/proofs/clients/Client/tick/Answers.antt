@@ -33,6 +33,7 @@ invariant_of-self-2 c =
       c.self.invariant.3,
       c.self.invariant.4,
       c.self.invariant.5,
+      c.self.invariant.6,
     )
 
 pub returns-clause-sent : goal.returns-clause-sent

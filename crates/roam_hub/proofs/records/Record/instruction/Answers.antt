@@ -4,11 +4,14 @@ use Rattle.std.proofs.lemmas.Bool.Decides.{nat_tests}
 use Rattle.std.proofs.lemmas.Result.{IfOk-weaker, MatchResult-weaker}
 use Rattle.roam_cells.specs.declared.faults.Fault.TheVariants.{OutOfMemory, Spent}
 use Rattle.roam_wire.specs.declared.datagrams.Kind.TheVariants.{ToClient}
+use Rattle.roam_wire.specs.declared.versions.Version.{Version}
+use Rattle.roam_wire.specs.Versions.{most_bytes}
 use Rattle.roam_wire.specs.Cutting.{pieces_of, texts_of}
 use Rattle.roam_wire.specs.Datagrams.{datagram_text}
 use Rattle.roam_world.specs.Moments.{is_spent}
 use Rattle.roam_world.specs.Texts.{datagrams_of}
 use Rattle.roam_sync.specs.Senders.{newest}
+use Rattle.roam_hub.specs.Ends.{version_of, sending_of}
 use Rattle.roam_hub.specs.Servers.{RecordView}
 use Rattle.roam_hub.specs.Records.{datagrams_for, is_letter_spent}
 use Rattle.roam_hub.proofs.Addressing.{the_down, down_short, letter_is, last_fits}
@@ -17,26 +20,31 @@ use Rattle.roam_hub.proofs.records.Record.instruction.Goals as goal
 pub packed-requires-clause-short : goal.packed-requires-clause-short
 packed-requires-clause-short c =
     let t = c.in_ok-told.ensures in
-    subst (λ (text : List ℕ). length text ≤ 1228800) (sym (c.as_slice.ensures.value ∙ c.in_ok-text.ensures.written))
-    (down_short (the_down c.in_ok-told.told c.taken-acked.result) c.self.inside.sender.base.state
-    (newest c.self.inside.sender).state t.change t.leads)
+    subst (λ (v : Version). length c.as_slice.result.now ≤ most_bytes v) (sym c.version.ensures.version)
+    (subst (λ (text : List ℕ). length text ≤ most_bytes (version_of c.self.inside.sender))
+    (sym (c.as_slice.ensures.value ∙ c.in_ok-text.ensures.written))
+    (down_short (version_of c.self.inside.sender) (the_down c.in_ok-told.told c.taken-acked.result)
+    (sending_of c.self.inside.sender).base.state (newest (sending_of c.self.inside.sender)).state t.change t.leads))
 
 pub returns-clause-written : goal.returns-clause-written
 returns-clause-written c =
     let t = c.in_ok-told.ensures in
-    let text = letter_is c.self.inside.sender c.self.inside.taker
+    let text = letter_is (version_of c.self.inside.sender) (sending_of c.self.inside.sender) c.self.inside.taker
     (the_down c.in_ok-told.told c.taken-acked.result) c.as_slice.result.now t.old t.new t.floor c.taken-acked.ensures.count t.change
     (c.as_slice.ensures.value ∙ c.in_ok-text.ensures.written) in
     subst (λ (v : RecordView). IfOk c.packed.result (λ all. texts_of all.items
     ≡ map datagram_text (datagrams_for c.args.session (c.args.client, v)))) c.self.view_is
     (subst (λ (x : List ℕ). IfOk c.packed.result (λ all. texts_of all.items ≡ map datagram_text
-    (datagrams_of ToClient c.args.session c.args.client c.self.inside.datagrams (c.self.inside.instructions + 1) (pieces_of x))))
-    text c.packed.ensures.written)
+    (datagrams_of (version_of c.self.inside.sender) ToClient c.args.session c.args.client c.self.inside.datagrams
+    (c.self.inside.instructions + 1) (pieces_of x))))
+    text (subst (λ (v : Version). IfOk c.packed.result (λ all. texts_of all.items ≡ map datagram_text
+    (datagrams_of v ToClient c.args.session c.args.client c.self.inside.datagrams (c.self.inside.instructions + 1)
+    (pieces_of c.as_slice.result.now)))) c.version.ensures.version c.packed.ensures.written))
 
 pub returns-clause-fit : goal.returns-clause-fit
 returns-clause-fit c =
     let t = c.in_ok-told.ensures in
-    let text = letter_is c.self.inside.sender c.self.inside.taker
+    let text = letter_is (version_of c.self.inside.sender) (sending_of c.self.inside.sender) c.self.inside.taker
     (the_down c.in_ok-told.told c.taken-acked.result) c.as_slice.result.now t.old t.new t.floor c.taken-acked.ensures.count t.change
     (c.as_slice.ensures.value ∙ c.in_ok-text.ensures.written) in
     let low : is_spent c.self.inside.taker ≡ false =
@@ -51,7 +59,7 @@ returns-clause-fit c =
 pub returns-clause-fault : goal.returns-clause-fault
 returns-clause-fault c =
     let t = c.in_ok-told.ensures in
-    let text = letter_is c.self.inside.sender c.self.inside.taker
+    let text = letter_is (version_of c.self.inside.sender) (sending_of c.self.inside.sender) c.self.inside.taker
     (the_down c.in_ok-told.told c.taken-acked.result) c.as_slice.result.now t.old t.new t.floor c.taken-acked.ensures.count t.change
     (c.as_slice.ensures.value ∙ c.in_ok-text.ensures.written) in
     let low : is_spent c.self.inside.taker ≡ false =

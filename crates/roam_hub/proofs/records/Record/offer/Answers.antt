@@ -1,6 +1,5 @@
-use Rattle.std.proofs.Common.{◌≡◌, ◌∙◌, ap, subst}
-use Rattle.roam_cells.specs.Screenshot.{Screenshot}
-use Rattle.roam_sync.specs.Senders.{offered}
+use Rattle.std.proofs.Common.{◌≡◌, subst}
+use Rattle.roam_hub.specs.Ends.{version_of, sending_of}
 use Rattle.roam_hub.specs.Servers.{RecordView}
 use Rattle.roam_hub.specs.Records.{held}
 use Rattle.roam_hub.specs.contracts.records.Record.{the_view}
@@ -15,10 +14,9 @@ returns-then-not-may_be_offered-clause-held c =
 
 pub returns-clause-held : goal.returns-clause-held
 returns-clause-held c =
-    subst (λ (v : RecordView). record (the_view c.self.inside) { sender = c.offered.new.sender }
+    subst (λ (v : RecordView). record (the_view c.self.inside) { version = version_of c.offer.new.self; sender = sending_of c.offer.new.self }
     ≡ held v c.args.number c.args.screen.now c.args.now)
     c.self.view_is
-    (held_now (the_view c.self.inside) c.args.number c.args.screen.now c.args.now c.may_be_offered.result c.offered.new.sender
-    c.may_be_offered.ensures.offered c.if-not-may_be_offered.false
-    (c.in_ok-offered.ensures.ok
-    ∙ ap (λ (s : Screenshot). offered c.self.inside.sender c.args.number s) c.in_ok-copy.ensures.same))
+    (held_now (the_view c.self.inside) c.args.number c.args.screen.now c.args.now c.may_be_offered.result (version_of c.offer.new.self)
+    (sending_of c.offer.new.self) c.offer.ensures.version
+    c.may_be_offered.ensures.offered c.if-not-may_be_offered.false c.in_ok-offer.ensures.ok)

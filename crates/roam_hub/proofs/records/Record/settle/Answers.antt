@@ -1,6 +1,7 @@
 use Rattle.std.proofs.Common.{ℕ, ◌<◌, ◌^◌, ◌∙◌, ap, sym, subst, arith}
-use Rattle.roam_cells.specs.Screenshot.{Screenshot}
+use Rattle.roam_screens.specs.Screenshot.{Screenshot}
 use Rattle.roam_sync.specs.Senders.{Sending, newest}
+use Rattle.roam_hub.specs.Ends.{sending_of}
 use Rattle.roam_hub.specs.Servers.{RecordView}
 use Rattle.roam_hub.proofs.Addressing.{newest_sent}
 use Rattle.roam_hub.proofs.records.Record.settle.Goals as goal
@@ -14,7 +15,8 @@ invariant_of-self c =
     let more = numbers.1 in (
       c.self.invariant.0,
       subst (λ (n : ℕ). n < 2 ^ 62)
-          (sym (ap (λ (s : Sending Screenshot). (newest s).number) c.sent.ensures.sent ∙ newest_sent c.self.inside.sender c.args.now))
+          (sym (ap (λ (s : Sending Screenshot). (newest s).number) c.sent.ensures.sent
+          ∙ newest_sent (sending_of c.self.inside.sender) c.args.now))
           c.self.invariant.1,
       omega (arith, few, datagrams),
       omega (arith, more, instructions),

@@ -1,12 +1,46 @@
-use Rattle.std.proofs.Common.{ap, ◌∙◌, sym, length, inr, arith, ◌<◌}
+use Rattle.std.proofs.Common.{ap, ◌∙◌, sym, length, inl, inr, arith, ◌<◌}
 use Rattle.std.specs.Prelude.{slice_set}
 use Rattle.std.proofs.lemmas.List.{length-set}
 use Rattle.roam_layout.specs.Trees.{shape_of, leaves}
 use Rattle.roam_layout.specs.Kept.{plan_of}
 use Rattle.roam_layout.specs.Layouts.{split, area, Laid}
 use Rattle.roam_layout.specs.Rects.{is_roomy, spot}
-use Rattle.roam_layout.proofs.Keeping.{plan_split, split_full, split_small, split_done, counted}
+use Rattle.roam_layout.proofs.Keeping.{plan_split, split_full, split_laid, split_small, split_done, counted}
+use Rattle.std.proofs.lemmas.Result.{err_from_is_err_and}
 use Rattle.roam_layout.proofs.layouts.Layout.split.Goals as goal
+
+pub returns-in_err-fork : goal.returns-in_err-fork
+returns-in_err-fork c =
+    let gone = err_from_is_err_and c.from_residual.result c.from_residual.ensures.1 in
+    record {
+      answer = rw (gone.1) (inl (
+        gone.2,
+        split_laid c.args.way (plan_of c.self.inside) c.args.self.now c.rects.result.now c.area_of.result c.has_room.result c.self.view_is c.rects.ensures.rects
+            (omega (arith, c.if-rects-ge9.false)) c.area_of.ensures.area c.has_room.ensures.room c.if-not-has_room.false,
+      ));
+    }
+
+pub returns-in_err-tree : goal.returns-in_err-tree
+returns-in_err-tree c =
+    let gone = err_from_is_err_and c.from_residual-in_err-tree.result c.from_residual-in_err-tree.ensures.1 in
+    record {
+      answer = rw (gone.1) (inl (
+        gone.2,
+        split_laid c.args.way (plan_of c.self.inside) c.args.self.now c.rects.result.now c.area_of.result c.has_room.result c.self.view_is c.rects.ensures.rects
+            (omega (arith, c.if-rects-ge9.false)) c.area_of.ensures.area c.has_room.ensures.room c.if-not-has_room.false,
+      ));
+    }
+
+pub returns-in_err-of : goal.returns-in_err-of
+returns-in_err-of c =
+    let gone = err_from_is_err_and c.from_residual-in_err-of.result c.from_residual-in_err-of.ensures.1 in
+    record {
+      answer = rw (gone.1) (inl (
+        gone.2,
+        split_laid c.args.way (plan_of c.self.inside) c.args.self.now c.rects.result.now c.area_of.result c.has_room.result c.self.view_is c.rects.ensures.rects
+            (omega (arith, c.if-rects-ge9.false)) c.area_of.ensures.area c.has_room.ensures.room c.if-not-has_room.false,
+      ));
+    }
 
 pub returns-then-rects-ge9 : goal.returns-then-rects-ge9
 returns-then-rects-ge9 c =

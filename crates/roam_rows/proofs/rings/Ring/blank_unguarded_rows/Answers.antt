@@ -1,5 +1,5 @@
 use Rattle.std.proofs.Common.{◌≡◌, ◌∙◌, ◌<◌, inl, inr, ap, arith, refl, sym}
-use Rattle.roam_cells.specs.Screenshot.{row_of}
+use Rattle.roam_cells.specs.Place.{row_of}
 use Rattle.roam_rows.specs.Rows.{with_row}
 use Rattle.roam_rows.specs.Erasing.{unguarded_blanked}
 use Rattle.roam_rows.proofs.Pages.{erased_more, erased_row, erased_rows}

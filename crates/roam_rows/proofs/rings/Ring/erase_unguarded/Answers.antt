@@ -3,7 +3,7 @@ use Rattle.std.proofs.lemmas.List.{with_items_is}
 use Rattle.std.specs.Vec.{with_items}
 use borrow.Rule.Slice.PartMut.{put_mid}
 use Rattle.roam_cells.specs.Glyph.{Glyph}
-use Rattle.roam_cells.specs.Screenshot.{row_of}
+use Rattle.roam_cells.specs.Place.{row_of}
 use Rattle.roam_rows.specs.Places.{moved, in_row}
 use Rattle.roam_rows.specs.Turned.{IsTurned, in_order}
 use Rattle.roam_rows.specs.Rows.{Rows}

@@ -2,15 +2,23 @@ use Rattle.std.proofs.Common.{◌≡◌, ◌<◌, ◌∙◌, subst, sym, arith, 
 use Rattle.std.specs.Prelude.{nat_eq}
 use Rattle.std.specs.List.{list_any}
 use Rattle.roam_simulation.specs.Worlds.{WorldView, Stands}
-use Rattle.roam_simulation.proofs.Starting.{steps_used, steps_started}
+use Rattle.roam_simulation.proofs.Starting.{steps_used, steps_started, steps_unfit}
 use Rattle.roam_simulation.proofs.worlds.World.start.Goals as goal
+
+pub returns-then-is_unfit : goal.returns-then-is_unfit
+returns-then-is_unfit c =
+    record {
+      steps =
+          λ w st.
+          steps_unfit _ w c.args.slot c.args.id c.args.version c.args.watches st (sym c.is_unfit.ensures.unfit ∙ c.if-is_unfit.true);
+    }
 
 pub returns-then-contains : goal.returns-then-contains
 returns-then-contains c =
     record {
       steps =
           λ w st.
-          steps_used _ w c.args.slot c.args.id st
+          steps_used _ w c.args.slot c.args.id c.args.version c.args.watches st
           (subst (λ (v : WorldView). list_any (λ (x : ℕ). nat_eq x c.args.id) v.used ≡ true) c.self.view_is
           (subst (λ (xs : List ℕ). list_any (λ (x : ℕ). nat_eq x c.args.id) xs ≡ true) c.as_slice.ensures.value
           (sym c.contains.ensures.value ∙ c.if-contains.true)));
@@ -23,7 +31,8 @@ returns c =
           λ w st.
           let s = subst (λ (v : WorldView). Stands v w) (sym c.self.view_is) st in
           let lt : c.args.slot < length c.self.inside.slots.items = omega (arith, c.self.invariant, c.requires.slot) in
-          steps_started _ w c.args.slot c.args.id c.in_ok-client.client c.push.new.self.items s lt
+          steps_started _ w c.args.slot c.args.id c.args.version c.args.watches c.in_ok-client.client c.push.new.self.items s lt
           (subst (λ (xs : List ℕ). list_any (λ (x : ℕ). nat_eq x c.args.id) xs ≡ false) c.as_slice.ensures.value
-          (sym c.contains.ensures.value ∙ c.if-contains.false)) c.in_ok-client.ensures.stands c.in_ok-push.ensures.items;
+          (sym c.contains.ensures.value ∙ c.if-contains.false)) (sym c.is_unfit.ensures.unfit ∙ c.if-is_unfit.false)
+          c.in_ok-client.ensures.stands c.in_ok-push.ensures.items;
     }

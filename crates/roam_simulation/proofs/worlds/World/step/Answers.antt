@@ -9,6 +9,7 @@ returns-in-Ok c =
           λ session size es rs st.
           stands_after _ _ session size es rs _ _ c.facts.ensures.event st
           (c.in-Ok.ensures.steps st.world (reached _ session size es rs st) st.stands);
+      steps = c.in-Ok.ensures.steps;
       refused =
           λ session size es rs st.
           stands_still _ _ session size es rs _ _ st
@@ -26,6 +27,7 @@ returns-in-Err c =
           λ session size es rs st.
           stands_after _ _ session size es rs _ _ c.facts.ensures.event st
           (c.in-Err.ensures.steps st.world (reached _ session size es rs st) st.stands);
+      steps = c.in-Err.ensures.steps;
       refused =
           λ session size es rs st.
           stands_still _ _ session size es rs _ _ st

@@ -29,5 +29,6 @@ returns c =
           ∙ ap (λ x. with_all (restarted f.grid.screen) (replicate (length f.other.screen.cells) blank) x m g) c.plain_pen-self-inside.ensures.pen
           ∙ ap (λ x. with_all (restarted f.grid.screen) (replicate (length f.other.screen.cells) blank) plain_pen x g) c.new-self-inside.ensures.modes
           ∙ ap (λ x. with_all (restarted f.grid.screen) (replicate (length f.other.screen.cells) blank) plain_pen started_modes x) c.new-self-inside-2.ensures.started);
+      marks = c.restart.ensures.marks;
       size = rw (← c.self.view_is) (record { rows = c.restart.ensures.size.rows; cols = c.restart.ensures.size.cols });
     }

@@ -5,6 +5,7 @@ use Rattle.roam_term.proofs.canvases.Canvas.set_modes.Given as goal
 
 abbrev pub invariant-loop-number : goal.invariant-loop-number
 invariant-loop-number l = record {
-  set : l.self ≡ fold (mode_set l.on) l.initial.self (take l.number-index l.numbers);
-  size : IsSameSize l.initial.self.screen l.self.screen;
+  set : l.self.live ≡ fold (mode_set l.on) l.initial.self.live (take l.number-index l.numbers);
+  marks : l.self.marks ≡ l.initial.self.marks;
+  size : IsSameSize l.initial.self.live.screen l.self.live.screen;
 }

@@ -25,6 +25,7 @@ returns c =
       switched = rw (← c.self.view_is)
           (ap (λ s. shows s c.swap.new.y.screen.cells) taken
           ∙ ap (λ (y : GridView). shows (record f.grid.screen { cells = f.other.screen.cells; pending = false }) y.screen.cells) c.swap.ensures.y_after);
+      marks = c.take_frame.ensures.marks;
       size = rw (← c.self.view_is) (record {
         rows = c.take_frame.ensures.size.rows ∙ ap (λ (x : GridView). x.screen.rows) c.swap.ensures.x_after ∙ c.self.invariant.rows;
         cols = c.take_frame.ensures.size.cols ∙ ap (λ (x : GridView). x.screen.cols) c.swap.ensures.x_after ∙ c.self.invariant.cols;

@@ -12,19 +12,19 @@ use Rattle.roam_term.specs.Leaving.{top_rows}
 use Rattle.roam_term.specs.Terminal.{Live, on_main, with_rows}
 use Rattle.roam_term.proofs.Lists.{append-nil}
 use Rattle.roam_term.proofs.Runs.{follows-out}
-use Rattle.roam_term.proofs.Resizes.{rows-sized, cols-sized, lived-size, kept-size, answered-size}
+use Rattle.roam_term.proofs.Resizes.{rows-sized, cols-sized, lived-size, kept-size, answered-size, marked-size}
 use Rattle.roam_term.proofs.terms.Term.adopt.Goals as goal
 
 pub invariant_of-self : goal.invariant_of-self
 invariant_of-self c =
     let f = c.fitted.inside in
     ap (λ (h : Scrollback). h.cols) c.adopt-2.ensures.history ∙ c.fitted.invariant.cols
-    ∙ sym (ap (λ (l : Live). l.screen.cols) c.adopt.ensures.sized ∙ cols-sized f.shown.rows f.shown.cols c.self.inside.canvas)
+    ∙ sym (ap (λ (l : Live). l.screen.cols) c.adopt.ensures.sized ∙ cols-sized f.shown.rows f.shown.cols c.self.inside.canvas.live)
 
 pub returns-clause-screen : goal.returns-clause-screen
 returns-clause-screen c =
     let f = c.fitted.inside in
-    let live = c.self.inside.canvas in
+    let live = c.self.inside.canvas.live in
     rw (← c.fitted.view_is) (
       ap (λ (l : Live). l.screen.rows) c.adopt.ensures.sized ∙ rows-sized f.shown.rows f.shown.cols live,
       ap (λ (l : Live). l.screen.cols) c.adopt.ensures.sized ∙ cols-sized f.shown.rows f.shown.cols live,
@@ -33,7 +33,7 @@ returns-clause-screen c =
 pub returns-clause-sized : goal.returns-clause-sized
 returns-clause-sized c =
     let f = c.fitted.inside in
-    let live = c.self.inside.canvas in
+    let live = c.self.inside.canvas.live in
     let waiting = c.self.inside.output in
     let rows : c.rows-rows.result ≡ f.shown.rows = c.rows-rows.ensures.rows ∙ ap (λ (t : TermSize). t.rows) (sym c.fitted.view_is) in
     let cols : c.cols-cols.result ≡ f.shown.cols = c.cols-cols.ensures.cols ∙ ap (λ (t : TermSize). t.cols) (sym c.fitted.view_is) in
@@ -53,4 +53,5 @@ returns-clause-sized c =
     ∙ ap (λ b. with_rows (on_main b (top_rows (leaving c.rows-rows.result live.screen) live.screen)) c.self.inside.history) c.is_alternate-alternate.ensures.alternate
     ∙ ap (λ r. with_rows (on_main live.alternate (top_rows (leaving r live.screen) live.screen)) c.self.inside.history) rows)
     ∙ sym (kept-size f.shown.rows f.shown.cols live c.self.inside.history))
-    (sym (ap (λ a. waiting ++ a) (answered-size f.shown.rows f.shown.cols live) ∙ append-nil waiting)))
+    (sym (ap (λ a. waiting ++ a) (answered-size f.shown.rows f.shown.cols live) ∙ append-nil waiting))
+    (c.adopt.ensures.marks ∙ sym (marked-size f.shown.rows f.shown.cols live c.self.inside.canvas.marks)))

@@ -13,4 +13,4 @@ returns-clause-fed c =
     subst (λ old. Fed old c.take_in.new.self (b ∷ [])) c.self.view_is
     (follows-out _ c.take_in.new.self (Byte b ∷ []) (dispatched c.dispatch-step.result reader.parameters reader.intermediates)
     (λ log stands. subst (λ r. Stands r (log ++ Byte b ∷ [])) (sym c.take_in.ensures.reader) (c.dispatch-step.ensures.stands log stands))
-    c.dispatch-step.ensures.gained c.take_in.ensures.live c.take_in.ensures.history c.take_in.ensures.waiting)
+    c.dispatch-step.ensures.gained c.take_in.ensures.live c.take_in.ensures.history c.take_in.ensures.waiting c.take_in.ensures.marks)

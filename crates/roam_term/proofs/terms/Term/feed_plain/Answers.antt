@@ -12,10 +12,11 @@ returns-then-count-eq0-clause-fed c = rw (← c.self.view_is) (fed-none _)
 pub returns-clause-fed : goal.returns-clause-fed
 returns-clause-fed c =
     let bs = take c.plain_run-count.result c.args.piece.now in
-    let live = c.self.inside.canvas in
+    let live = c.self.inside.canvas.live in
     let waiting = c.self.inside.output in
     rw (← c.self.view_is)
     (follows-out _ _ (map Byte bs) (map Print bs) c.plain_run-count.ensures.stands c.plain_run-count.ensures.gained
     (c.print_run.ensures.printed ∙ sym (lived-prints live bs))
     c.print_run.ensures.history
-    (sym (ap (λ a. waiting ++ a) (answered-prints live bs) ∙ append-nil waiting)))
+    (sym (ap (λ a. waiting ++ a) (answered-prints live bs) ∙ append-nil waiting))
+    c.print_run.ensures.marks)

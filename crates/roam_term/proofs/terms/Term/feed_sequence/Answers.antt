@@ -13,7 +13,7 @@ returns-then-count-piece-clause-fed c =
     rw (← c.self.view_is)
     (follows-out _ _ (map Byte bs) [] c.parameter_run-count.ensures.stands
     (λ log stands. c.parameter_run-count.ensures.gained log stands ∙ sym (append-nil (functions_of log)))
-    refl refl (sym (append-nil c.self.inside.output)))
+    refl refl (sym (append-nil c.self.inside.output)) refl)
 
 pub returns-clause-fed : goal.returns-clause-fed
 returns-clause-fed c =
@@ -22,15 +22,16 @@ returns-clause-fed c =
     let within = c.parameter_run-count.ensures.within in
     let run = subst (λ old. Fed old (record {
       reader = c.parameter_run-count.new.self;
-      live = c.self.inside.canvas;
+      live = c.self.inside.canvas.live;
+      marks = c.self.inside.canvas.marks;
       history = c.self.inside.history;
       waiting = c.self.inside.output;
     }) (take n piece)) c.self.view_is
     (follows-out _ _ (map Byte (take n piece)) [] c.parameter_run-count.ensures.stands
     (λ log stands. c.parameter_run-count.ensures.gained log stands ∙ sym (append-nil (functions_of log)))
-    refl refl (sym (append-nil c.self.inside.output))) in
-    subst (λ seen. Fed c.args.self.now c.feed_byte.new.self seen) (sym (take_more piece n 0 (below n _ within c.if-count-piece.false)))
-    (fed-then _ _ _ (take n piece) (get_or piece n 0 ∷ []) run c.feed_byte.ensures.fed)
+    refl refl (sym (append-nil c.self.inside.output)) refl) in
+    subst (λ seen. Fed c.args.self.now c.feed_last.new.self seen) (sym (take_more piece n 0 (below n _ within c.if-count-piece.false)))
+    (fed-then _ _ _ (take n piece) (get_or piece n 0 ∷ []) run c.feed_last.ensures.fed)
   where
     below : (a b : ℕ) → a ≤ b → (a ≡ b → ⊥) → a < b
     below a b le ne = omega arith

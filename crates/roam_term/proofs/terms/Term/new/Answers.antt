@@ -47,6 +47,7 @@ returns-in_err-canvas c =
     record {
       stands = rw gone.1 tt;
       waiting = rw gone.1 tt;
+      marks = rw gone.1 tt;
       screen = rw gone.1 tt;
       size = rw gone.1 tt;
       bad_size = (λ e. absurd (no_bad_size c.from_residual.result gone.0 gone.1 fault e), λ bad. absurd (bad size));
@@ -66,6 +67,7 @@ returns-in_err-history c =
     record {
       stands = rw gone.1 tt;
       waiting = rw gone.1 tt;
+      marks = rw gone.1 tt;
       screen = rw gone.1 tt;
       size = rw gone.1 tt;
       bad_size = (λ e. absurd (no_bad_size c.from_residual-in_err-history.result gone.0 gone.1 fault e), λ bad. absurd (bad size));
@@ -80,6 +82,7 @@ returns-in_err-output c =
     record {
       stands = rw gone.1 tt;
       waiting = rw gone.1 tt;
+      marks = rw gone.1 tt;
       screen = rw gone.1 tt;
       size = rw gone.1 tt;
       bad_size = (λ e. absurd (no_bad_size c.from_residual-in_err-output.result gone.0 gone.1 gone.2 e), λ bad. absurd (bad size));

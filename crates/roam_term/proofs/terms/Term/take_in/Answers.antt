@@ -1,6 +1,8 @@
 use Rattle.std.proofs.Common.{◌++◌, sym, ap, ◌∙◌}
 use Rattle.roam_text.specs.Dispatched.{function_of}
+use Rattle.roam_term.specs.Marks.{marked}
 use Rattle.roam_term.specs.Terminal.{changed, kept, answer}
+use Rattle.roam_term.proofs.Marking.{marked-print}
 use Rattle.roam_term.proofs.Prints.{changed-print, kept-print, answered-after}
 use Rattle.roam_term.proofs.terms.Term.take_in.Goals as goal
 
@@ -10,7 +12,18 @@ returns-in-AfterReplacement-clause-live c =
     rw (← c.self.view_is, c.in-AfterReplacement.is)
     (c.perform-in-AfterReplacement.ensures.live
     ∙ ap (changed (function_of c.in-AfterReplacement.dispatch reader.parameters reader.intermediates))
-    (c.print.ensures.printed ∙ sym (changed-print 0xFFFD c.self.inside.canvas)))
+    (c.print.ensures.printed ∙ sym (changed-print 0xFFFD c.self.inside.canvas.live)))
+
+pub returns-in-AfterReplacement-clause-marks : goal.returns-in-AfterReplacement-clause-marks
+returns-in-AfterReplacement-clause-marks c =
+    let reader = c.self.inside.reader in
+    let live = c.self.inside.canvas.live in
+    let marks = c.self.inside.canvas.marks in
+    let f = function_of c.in-AfterReplacement.dispatch reader.parameters reader.intermediates in
+    rw (← c.self.view_is, c.in-AfterReplacement.is)
+    (c.perform-in-AfterReplacement.ensures.marks
+    ∙ ap (λ l. marked f l c.print.new.self.marks) (c.print.ensures.printed ∙ sym (changed-print 0xFFFD live))
+    ∙ ap (marked f (changed _ live)) (c.print.ensures.marks ∙ sym (marked-print 0xFFFD live marks)))
 
 pub returns-in-AfterReplacement-clause-history : goal.returns-in-AfterReplacement-clause-history
 returns-in-AfterReplacement-clause-history c =
@@ -18,8 +31,8 @@ returns-in-AfterReplacement-clause-history c =
     let f = function_of c.in-AfterReplacement.dispatch reader.parameters reader.intermediates in
     rw (← c.self.view_is, c.in-AfterReplacement.is)
     (c.perform-in-AfterReplacement.ensures.history
-    ∙ ap (λ l. kept f l c.print.new.history) (c.print.ensures.printed ∙ sym (changed-print 0xFFFD c.self.inside.canvas))
-    ∙ ap (kept f (changed _ c.self.inside.canvas)) (c.print.ensures.history ∙ sym (kept-print 0xFFFD c.self.inside.canvas c.self.inside.history)))
+    ∙ ap (λ l. kept f l c.print.new.history) (c.print.ensures.printed ∙ sym (changed-print 0xFFFD c.self.inside.canvas.live))
+    ∙ ap (kept f (changed _ c.self.inside.canvas.live)) (c.print.ensures.history ∙ sym (kept-print 0xFFFD c.self.inside.canvas.live c.self.inside.history)))
 
 pub returns-in-AfterReplacement-clause-waiting : goal.returns-in-AfterReplacement-clause-waiting
 returns-in-AfterReplacement-clause-waiting c =
@@ -28,4 +41,4 @@ returns-in-AfterReplacement-clause-waiting c =
     rw (← c.self.view_is, c.in-AfterReplacement.is)
     (c.perform-in-AfterReplacement.ensures.waiting
     ∙ ap (λ l. c.self.inside.output ++ answer f l) c.print.ensures.printed
-    ∙ sym (ap (λ a. c.self.inside.output ++ a) (answered-after 0xFFFD f c.self.inside.canvas)))
+    ∙ sym (ap (λ a. c.self.inside.output ++ a) (answered-after 0xFFFD f c.self.inside.canvas.live)))

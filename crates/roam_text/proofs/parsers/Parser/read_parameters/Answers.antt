@@ -1,19 +1,22 @@
-use Rattle.std.proofs.Common.{take, get_or, map, sym, ap, subst, ◌∙◌, ◌++◌, arith, refl}
-use Rattle.std.proofs.lemmas.List.{take_more}
+use Rattle.std.proofs.Common.{length, ◌-◌, take, drop, map, sym, ap, subst, ◌∙◌, ◌++◌}
 use Rattle.roam_text.specs.Log.{character}
 use Rattle.roam_text.specs.Functions.{AreAscii}
 use Rattle.roam_text.specs.Residual.{given}
-use Rattle.roam_text.proofs.Asciis.{ascii-more, characters-more}
+use Rattle.roam_text.proofs.Asciis.{ascii-joined, characters-joined, front-joined}
 use Rattle.roam_text.proofs.parsers.Parser.read_parameters.Goals as goal
 
-pub loop-count-preserved : goal.loop-count-preserved
-loop-count-preserved c =
+pub returns-in-InControlSequence-clause-ascii : goal.returns-in-InControlSequence-clause-ascii
+returns-in-InControlSequence-clause-ascii c =
     let piece = c.args.piece.now in
-    let n = c.loop-count.count in
-    let more = take_more piece n 0 c.loop-count-test.true in (
-      omega arith,
-      subst AreAscii (sym more) (ascii-more (take n piece) (get_or piece n 0) c.loop-count.invariant.1 (c.if-read_parameter.ensures.ascii refl)),
-      λ rest. ap (λ l. given c.args.self.now (map character l ++ rest)) more
-          ∙ characters-more c.args.self.now c.loop-count.self c.read_parameter.new.self (take n piece) (get_or piece n 0)
-          c.loop-count.invariant.2 (c.if-read_parameter.ensures.read refl) rest,
-    )
+    let a = c.read_introducers-begun.result in
+    let b = c.read_numbers.result in
+    subst AreAscii (sym (front-joined piece a b)) (ascii-joined (take a piece) (take b (take (length piece - a) (drop a piece))) c.read_introducers-begun.ensures.ascii c.read_numbers.ensures.ascii)
+
+pub returns-in-InControlSequence-clause-read : goal.returns-in-InControlSequence-clause-read
+returns-in-InControlSequence-clause-read c rest =
+    let piece = c.args.piece.now in
+    let a = c.read_introducers-begun.result in
+    let b = c.read_numbers.result in
+    ap (λ l. given c.args.self.now (map character l ++ rest)) (front-joined piece a b)
+    ∙ characters-joined c.args.self.now c.read_introducers-begun.new.self c.read_numbers.new.self (take a piece) (take b (take (length piece - a) (drop a piece)))
+    c.read_introducers-begun.ensures.read c.read_numbers.ensures.read rest

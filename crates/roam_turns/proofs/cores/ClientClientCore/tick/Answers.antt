@@ -1,5 +1,5 @@
 use Rattle.std.proofs.Common.{ap, refl}
-use Rattle.roam_cells.specs.Screenshot.{Screenshot}
+use Rattle.roam_screens.specs.Screenshot.{Screenshot}
 use Rattle.roam_sync.specs.Receivers.{Receiving}
 use Rattle.roam_turns.proofs.Starts.{start_of, stands, sends_same}
 use Rattle.roam_turns.proofs.cores.ClientClientCore.tick.Goals as goal

@@ -1,0 +1,7 @@
+use Rattle.std.proofs.Common.{refl, arith}
+use Rattle.roam_cells.proofs.CellLists.{same_cells}
+use Rattle.roam_cells.proofs.shapes.are_same_cells.Goals as goal
+
+pub returns : goal.returns
+returns c =
+    record { same = (λ _. same_cells c.args.cells.now c.args.others.now (omega arith) (λ k h. c.loop-k.invariant k (omega arith)), λ _. refl) }

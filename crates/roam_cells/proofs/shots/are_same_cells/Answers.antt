@@ -1,7 +1,0 @@
-use Rattle.std.proofs.Common.{refl, arith}
-use Rattle.roam_cells.proofs.Screens.{same_cells}
-use Rattle.roam_cells.proofs.shots.are_same_cells.Goals as goal
-
-pub returns : goal.returns
-returns c =
-    record { same = (λ _. same_cells c.args.cells.now c.args.others.now (omega arith) (λ k h. c.loop-k.invariant k (omega arith)), λ _. refl) }

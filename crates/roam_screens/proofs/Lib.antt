@@ -1,0 +1,4 @@
+pub mod Lined
+pub mod Narrowed
+pub mod Rows
+pub mod Screens

@@ -1,0 +1,58 @@
+-- Reading one style more of a table.
+use Rattle.std.proofs.Common.{◌≡◌, ℕ, zero, suc, ◌+◌, ◌-◌, ◌<◌, ◌≤◌, Bool, true, false, cond, eqb, List, [], ◌∷◌, ◌++◌, map, length, drop, Option, Some, None, refl, sym, ap, ◌∙◌, arith}
+use Rattle.std.specs.List.{list_any}
+use Rattle.std.specs.Prelude.{option_and_then}
+use Rattle.std.proofs.lemmas.Bool.{le-leb, lt-leb}
+use Rattle.roam_cells.specs.Inks.{style_numbered}
+use Rattle.roam_cells.specs.declared.styles.Style.{Style}
+use Rattle.roam_update.specs.Styles.{has_style}
+use Rattle.roam_update.specs.TableText.{entry_read, table_read}
+use Rattle.roam_update.proofs.Lookup.{key_there, inserted, map_last}
+
+abbrev new_one : List Style → Option Style → Option Style
+new_one before o = option_and_then (λ (s : Style). cond (has_style before s) None (Some s)) o
+
+pub table_short : (n : ℕ) (before : List Style) (text : List ℕ) → 1 ≤ n → length text < 9 → table_read n before text ≡ None
+unfolding table_read
+table_short zero before text h k = absurd (omega (arith, h))
+table_short (suc n) before text h k = rw (lt-leb 9 (length text) k) refl
+
+pub table_no_entry : (n : ℕ) (before : List Style) (text : List ℕ) → 1 ≤ n → 9 ≤ length text → entry_read text ≡ None → table_read n before text ≡ None
+unfolding table_read
+table_no_entry zero before text h k e = absurd (omega (arith, h))
+table_no_entry (suc n) before text h k e = rw (le-leb 9 (length text) k, e) refl
+
+pub table_twice : (n : ℕ) (before : List Style) (text : List ℕ) (s : Style) → 1 ≤ n → 9 ≤ length text → entry_read text ≡ Some s → has_style before s ≡ true
+    → table_read n before text ≡ None
+unfolding table_read
+table_twice zero before text s h k e t = absurd (omega (arith, h))
+table_twice (suc n) before text s h k e t = rw (le-leb 9 (length text) k, e, t) refl
+
+table_suc : (n : ℕ) (before : List Style) (text : List ℕ) (s : Style) → 9 ≤ length text → entry_read text ≡ Some s → has_style before s ≡ false
+    → table_read (suc n) before text ≡ table_read n (before ++ s ∷ []) (drop 9 text)
+unfolding table_read
+table_suc n before text s k e t = rw (le-leb 9 (length text) k, e, t) refl
+
+pub table_go : (n k : ℕ) (before : List Style) (text : List ℕ) (s : Style) → k < n → 9 ≤ length text → entry_read text ≡ Some s → has_style before s ≡ false
+    → table_read (n - (k + 1)) (before ++ s ∷ []) (drop 9 text) ≡ table_read (n - k) before text
+table_go n k before text s h long e t =
+    let one : n - k ≡ suc (n - (k + 1)) = omega (arith, h) in
+    sym (ap (λ (m : ℕ). table_read m before text) one ∙ table_suc (n - (k + 1)) before text s long e t)
+
+pub table_done : (n : ℕ) (before : List Style) (text : List ℕ) → n ≡ 0 → table_read n before text ≡ Some (record { styles = before; rest = text })
+unfolding table_read
+table_done zero before text h = refl
+table_done (suc n) before text h = absurd (omega (arith, h))
+
+-- whether a style stands in a table is whether its number is among the keys
+pub key_tells : (k : ℕ) (ks : List ℕ) (s : Style) (table : List Style) → style_numbered k ≡ s → map style_numbered ks ≡ table
+    → list_any (λ j. eqb k j) ks ≡ has_style table s
+key_tells k ks s table e t = key_there k ks ∙ ap (λ (x : List Style). has_style x (style_numbered k)) t ∙ ap (has_style table) e
+
+pub keys_last : (k : ℕ) (ks : List ℕ) (s : Style) (table : List Style) → style_numbered k ≡ s → map style_numbered ks ≡ table → list_any (λ j. eqb k j) ks ≡ false
+    → map style_numbered (inserted ks k) ≡ table ++ s ∷ []
+keys_last k ks s table e t h =
+    ap (λ (b : Bool). map style_numbered (cond b ks (ks ++ k ∷ []))) h ∙ map_last ks k
+    ∙ ap (λ (x : List Style). x ++ style_numbered k ∷ []) t ∙ ap (λ (x : Style). table ++ x ∷ []) e
+
+pub ruleset entry_steps = (table_short, table_no_entry, table_done)

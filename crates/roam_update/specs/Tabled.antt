@@ -1,0 +1,41 @@
+-- What a text with a table says behind its head.
+use Rattle.std.specs.Prelude.{ℕ, ◌≤◌, nat_le, List, length, drop, Option, Some, None, option_and_then, if◌then◌else◌}
+use Rattle.byteorder.specs.Endian.{big_number}
+use Rattle.roam_cells.specs.Glyph.{Glyph}
+use Rattle.roam_screens.specs.Screenshot.{Screenshot, IsPlace}
+use Rattle.roam_update.specs.ChangeText.{has_head, head_at}
+use Rattle.roam_update.specs.Put.{cells_by}
+use Rattle.roam_update.specs.Styles.{Whole, Numbered}
+use Rattle.roam_update.specs.TableText.{Table, has_front, front_at, table_in}
+use Rattle.roam_update.specs.declared.change_text.Head.{Head}
+
+-- the head of a text, where a change with a table may begin so
+abbrev pub head_of_text : List ℕ → Option Head
+head_of_text text = if has_front text then Some (front_at text) else None
+
+-- there is a head, and its cursor is on its screen
+abbrev pub HasHead : Option Head → Type 0
+HasHead None = ⊥
+HasHead (Some h) = IsPlace h.rows h.cols h.cursor_row h.cursor_col
+
+-- the cells of a base brought to a head's size, after the runs behind a table replace what they name
+abbrev pub cells_behind : Screenshot → Head → Table → Option (List Glyph)
+cells_behind base h table =
+    if nat_le 4 (length table.rest) then cells_by (Numbered table.styles 0) (big_number 4 table.rest) base h (drop 4 table.rest) else None
+
+-- the same, from the whole text
+abbrev pub cells_in : Screenshot → Head → List ℕ → Option (List Glyph)
+cells_in base h text = option_and_then (cells_behind base h) (table_in text)
+
+-- the head of a text of version 1, where a change may begin so
+abbrev pub old_head_of_text : List ℕ → Option Head
+old_head_of_text text = if has_head text then Some (head_at text) else None
+
+-- there is a head of a screen of version 1, and its cursor is on it
+abbrev pub HasOldHead : Option Head → Type 0
+HasOldHead None = ⊥
+HasOldHead (Some h) = IsPlace h.rows h.cols h.cursor_row h.cursor_col × (h.rows ≤ 100) × (h.cols ≤ 250)
+
+-- the cells of a base brought to a head's size, after the runs behind the head of a text of version 1 replace what they name
+abbrev pub old_cells_in : Screenshot → Head → List ℕ → Option (List Glyph)
+old_cells_in base h text = cells_by Whole h.runs base h (drop 13 text)

@@ -1,0 +1,12 @@
+use Rattle.roam_world.proofs.laws.what_always_holds.Goals as goal
+use Rattle.roam_world.proofs.Runs.{holds-reached}
+use Rattle.roam_world.proofs.Follows.{all_of_it, starts_agree, records_fit}
+
+pub returns-clause-all : goal.returns-clause-all
+returns-clause-all c = λ session size es rs w reaches. all_of_it w (holds-reached session size es rs w reaches)
+
+pub returns-clause-agree : goal.returns-clause-agree
+returns-clause-agree c = λ session size es rs w reaches. starts_agree w (holds-reached session size es rs w reaches)
+
+pub returns-clause-fit : goal.returns-clause-fit
+returns-clause-fit c = λ session size es rs w reaches. records_fit w (holds-reached session size es rs w reaches)
