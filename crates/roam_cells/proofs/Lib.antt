@@ -7,4 +7,5 @@ pub mod Rows
 pub mod Scalars
 pub mod Sameness
 pub mod CellLists
+pub mod Colours
 pub mod Words

@@ -131,7 +131,8 @@ flags_back n h =
       digit_back n,
     )
 
-pub digits_back : (n : ℕ) → digit (is_odd n) + 2 * flags_of (style_of (n % 512 / 2) (n / 512 % 33554432) (n / 512 / 33554432)) ≡ n % 512
+pub digits_back : (n : ℕ)
+    → digit (is_odd n) + 2 * flags_of (style_of (n % 512 / 2) (n / 512 % 33554432) (n / 512 / 33554432)) ≡ n % 512
 unfolding flags_of style_of
 digits_back n = ap (λ k. digit (is_odd n) + 2 * k) (flags_back (n % 512 / 2) (omega arith)) ∙ omega (arith, digit_back n)
 

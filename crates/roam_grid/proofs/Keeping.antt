@@ -3,7 +3,7 @@ use Rattle.std.proofs.Common.{◌≡◌, ℕ, zero, suc, ◌+◌, ◌-◌, ◌*�
 use Rattle.std.specs.Char.{IsScalar}
 use Rattle.std.proofs.lemmas.Bool.{false≢true, ltb-true, ltb-false, eqb-true, eqb-false}
 use Rattle.std.proofs.lemmas.List.{length-replicate}
-use Rattle.roam_cells.specs.Glyph.{Glyph, IsShown, blank}
+use Rattle.roam_cells.specs.Glyph.{Glyph, IsShown, default_style, blank}
 use Rattle.roam_cells.specs.Limits.{IsSize}
 use Rattle.roam_cells.specs.Place.{cell_at, glyph_at, row_of}
 use Rattle.roam_cells.specs.Width.{width_of}
@@ -14,7 +14,8 @@ use Rattle.roam_rows.specs.Scrolling.{up, down}
 use Rattle.roam_rows.specs.Editing.{inserted, deleted}
 use Rattle.roam_rows.specs.Erasing.{blanked, unguarded_blanked}
 use Rattle.roam_rows.specs.Writing.{written}
-use Rattle.roam_rows.proofs.Keeping.{AreCells, IsPlain, IsPlainIn, either, cell_shown, plain_cells, up_plain, down_plain, blanked_plain, plain_row_cells, inserted_plain, deleted_plain, blanked_plain_in, written_cells, joined_cells, same_cells, blank_cells, sized_cells}
+use Rattle.roam_cells.proofs.CellLists.{cell_shown, default_is_style}
+use Rattle.roam_rows.proofs.Keeping.{AreCells, IsPlain, IsPlainIn, either, plain_cells, up_plain, down_plain, blanked_plain, plain_row_cells, inserted_plain, deleted_plain, blanked_plain_in, written_cells, joined_cells, same_cells, blank_cells, sized_cells}
 use Rattle.roam_grid.specs.Screen.{Screen, IsFrame, start, mapped}
 use Rattle.roam_grid.specs.Tabs.{stop_from, next_stop, stop_before, stops_on, stops_back}
 use Rattle.roam_grid.specs.Tabbing.{tabbed, back_tabbed, stop_set, stop_cleared, stops_cleared}
@@ -308,7 +309,7 @@ module _ (s : Screen) (is : IsSound s) where
             stops = is.frame.stops;
           };
           cells = same_cells s.rows s.cols letter_e (ap (λ w. eqb w 2) one) refl
-              (cell_shown 0x45 (ap (λ w. not (eqb w 0) && true && true) one) refl);
+              (cell_shown 0x45 default_style false (ap (λ w. not (eqb w 0) && true && true) one) refl default_is_style);
         };
       }
 
@@ -423,7 +424,7 @@ way_ready width w s is none =
     (λ e. record { kept = plain_row s is (inserted s.col width) (λ c q. inserted_plain s.cols s.col width c q); none = none })
     (λ e. record { kept = kept_same s is; none = none })
 
-inked_ready : (x : Glyph) (s : Screen) → IsShown x.points → IsSound s → s.pending ≡ false → Ready s (inked x s)
+inked_ready : (x : Glyph) (s : Screen) → IsShown x → IsSound s → s.pending ≡ false → Ready s (inked x s)
 unfolding inked
 inked_ready x s shown is none = record {
   kept = with_cells s is (moved s.rows s.cols s.cells (in_row s.row (written x s.col)))
@@ -439,7 +440,7 @@ advanced_kept n w s is none =
     (λ p. absurd (false≢true (sym none ∙ p))))
     (λ e. at_place s is s.row (s.cols - 1) w.wraps is.frame.row_in (omega (arith, is.frame.col_in)) (λ p. omega (arith, is.frame.col_in)))
 
-pub put_on_kept : (x : Glyph) (w : Writing) (s : Screen) → IsShown x.points → IsSound s → Kept s (put_on x w s)
+pub put_on_kept : (x : Glyph) (w : Writing) (s : Screen) → IsShown x → IsSound s → Kept s (put_on x w s)
 unfolding put_on
 put_on_kept x w s shown is =
     let n = columns x in
@@ -456,7 +457,7 @@ put_on_kept x w s shown is =
     (kept_then a b (advanced n w d) second.kept
     (kept_then b c (advanced n w d) third.kept (kept_then c d (advanced n w d) fourth.kept fifth)))
 
-pub put_all_kept : (n : ℕ) (x : Glyph) (w : Writing) (s : Screen) → IsShown x.points → IsSound s → Kept s (put_all (replicate n x) w s)
+pub put_all_kept : (n : ℕ) (x : Glyph) (w : Writing) (s : Screen) → IsShown x → IsSound s → Kept s (put_all (replicate n x) w s)
 unfolding put_all
 put_all_kept zero x w s shown is = kept_same s is
 put_all_kept (suc n) x w s shown is =

@@ -4,7 +4,7 @@ use Rattle.std.specs.List.{range_with_len}
 use Rattle.std.proofs.lemmas.Bool.{false≢true, cases_eq}
 use Rattle.std.proofs.lemmas.List.{same_lists, get_or-drop, map-append, take-append-drop}
 use Rattle.std.proofs.lemmas.Grind.{common_steps}
-use Rattle.roam_cells.specs.Glyph.{Glyph, is_wide, right_of, blank, ascii_in}
+use Rattle.roam_cells.specs.Glyph.{Glyph, is_wide, right_of, blank, ascii_in, inked_bytes}
 use Rattle.roam_cells.specs.Place.{cell_at, AreWhole, glyph_at, IsWholeRow}
 use Rattle.roam_cells.proofs.Places.{table_is, get_or-table, length-table}
 use Rattle.roam_rows.specs.Row.{RowSource, Column, Fresh, mended, row_taken, row_moved, row_moved_at}
@@ -18,7 +18,7 @@ use Rattle.roam_grid.specs.Writing.{columns, settled, first_settled, with_room, 
 use Rattle.roam_grid.specs.declared.writing.Writing.{Writing}
 use Rattle.roam_rows.proofs.Mending.{mended_same, mended-mended, is_wide-blank}
 use Rattle.roam_rows.proofs.Columns.{row_is, row_at, length-row, in_column, agrees_there, InRow}
-use Rattle.roam_rows.proofs.Inking.{IsNarrow, in_range, over, over_agrees, over_whole, inked_bytes}
+use Rattle.roam_rows.proofs.Inking.{IsNarrow, in_range, over, over_agrees, over_whole}
 use Rattle.roam_rows.proofs.Vertical.{row_stays}
 use Rattle.roam_rows.proofs.Lifting.{in_row_or, in_other, moved_here, row_whole, put_whole}
 use Rattle.roam_grid.proofs.Pages.{moved_same}

@@ -1,6 +1,6 @@
 //! Runs of printable ASCII that are written at once.
-ghost use Rattle.std.specs.Prelude.{◌≡◌, ◌+◌, ◌<◌, ◌≤◌, false, length, map};
-ghost use Rattle.roam_cells.specs.Glyph.{ascii_in};
+ghost use Rattle.std.specs.Prelude.{◌≡◌, ◌+◌, ◌<◌, ◌≤◌, false, length};
+ghost use Rattle.roam_cells.specs.Glyph.{inked_bytes};
 ghost use Rattle.roam_rows.specs.Places.{in_row};
 ghost use Rattle.roam_rows.specs.Writing.{ArePrintable, written_run};
 
@@ -18,9 +18,9 @@ impl Grid {
     /// turn.
     pub fn put_run(&mut self, pen: Cell, bytes: &[u8], writing: Writing)
         requires printable { ArePrintable bytes.now }
-        ensures screen { self.new.screen ≡ put_all (map (λ byte. ascii_in byte pen) bytes.now) writing self.old.screen }
-        ensures first { self.new.first ≡ first_put_all (map (λ byte. ascii_in byte pen) bytes.now) writing self.old.screen self.old.first }
-        ensures marks { self.new.marks ≡ marks_put_all (map (λ byte. ascii_in byte pen) bytes.now) writing self.old.screen self.old.marks }
+        ensures screen { self.new.screen ≡ put_all (inked_bytes pen bytes.now) writing self.old.screen }
+        ensures first { self.new.first ≡ first_put_all (inked_bytes pen bytes.now) writing self.old.screen self.old.first }
+        ensures marks { self.new.marks ≡ marks_put_all (inked_bytes pen bytes.now) writing self.old.screen self.old.marks }
         ensures size { IsSameSize self.old.screen self.new.screen }
     {
         if writing.inserts {
@@ -36,9 +36,9 @@ impl Grid {
         requires printable { ArePrintable bytes.now }
         requires some { 0 < length bytes.now }
         requires fits { (settled self.old.screen).col + length bytes.now ≤ (settled self.old.screen).cols }
-        ensures screen { self.new.screen ≡ put_all (map (λ byte. ascii_in byte pen) bytes.now) writing self.old.screen }
-        ensures first { self.new.first ≡ first_put_all (map (λ byte. ascii_in byte pen) bytes.now) writing self.old.screen self.old.first }
-        ensures marks { self.new.marks ≡ marks_put_all (map (λ byte. ascii_in byte pen) bytes.now) writing self.old.screen self.old.marks }
+        ensures screen { self.new.screen ≡ put_all (inked_bytes pen bytes.now) writing self.old.screen }
+        ensures first { self.new.first ≡ first_put_all (inked_bytes pen bytes.now) writing self.old.screen self.old.first }
+        ensures marks { self.new.marks ≡ marks_put_all (inked_bytes pen bytes.now) writing self.old.screen self.old.marks }
         ensures size { IsSameSize self.old.screen self.new.screen }
     {
         if writing.inserts {
@@ -54,9 +54,9 @@ impl Grid {
         requires some { 0 < length bytes.now }
         requires fits { (settled self.old.screen).col + length bytes.now ≤ (settled self.old.screen).cols }
         requires over { writing.inserts ≡ false }
-        ensures screen { self.new.screen ≡ put_all (map (λ byte. ascii_in byte pen) bytes.now) writing self.old.screen }
-        ensures first { self.new.first ≡ first_put_all (map (λ byte. ascii_in byte pen) bytes.now) writing self.old.screen self.old.first }
-        ensures marks { self.new.marks ≡ marks_put_all (map (λ byte. ascii_in byte pen) bytes.now) writing self.old.screen self.old.marks }
+        ensures screen { self.new.screen ≡ put_all (inked_bytes pen bytes.now) writing self.old.screen }
+        ensures first { self.new.first ≡ first_put_all (inked_bytes pen bytes.now) writing self.old.screen self.old.first }
+        ensures marks { self.new.marks ≡ marks_put_all (inked_bytes pen bytes.now) writing self.old.screen self.old.marks }
         ensures size { IsSameSize self.old.screen self.new.screen }
     {
         self.facts();
@@ -67,9 +67,9 @@ impl Grid {
     // Under IRM each character makes its own way.
     fn put_each(&mut self, pen: Cell, bytes: &[u8], writing: Writing)
         requires printable { ArePrintable bytes.now }
-        ensures screen { self.new.screen ≡ put_all (map (λ byte. ascii_in byte pen) bytes.now) writing self.old.screen }
-        ensures first { self.new.first ≡ first_put_all (map (λ byte. ascii_in byte pen) bytes.now) writing self.old.screen self.old.first }
-        ensures marks { self.new.marks ≡ marks_put_all (map (λ byte. ascii_in byte pen) bytes.now) writing self.old.screen self.old.marks }
+        ensures screen { self.new.screen ≡ put_all (inked_bytes pen bytes.now) writing self.old.screen }
+        ensures first { self.new.first ≡ first_put_all (inked_bytes pen bytes.now) writing self.old.screen self.old.first }
+        ensures marks { self.new.marks ≡ marks_put_all (inked_bytes pen bytes.now) writing self.old.screen self.old.marks }
         ensures size { IsSameSize self.old.screen self.new.screen }
     {
         for i in 0..bytes.len() {
@@ -83,9 +83,9 @@ impl Grid {
     fn put_segments(&mut self, pen: Cell, bytes: &[u8], writing: Writing)
         requires printable { ArePrintable bytes.now }
         requires over { writing.inserts ≡ false }
-        ensures screen { self.new.screen ≡ put_all (map (λ byte. ascii_in byte pen) bytes.now) writing self.old.screen }
-        ensures first { self.new.first ≡ first_put_all (map (λ byte. ascii_in byte pen) bytes.now) writing self.old.screen self.old.first }
-        ensures marks { self.new.marks ≡ marks_put_all (map (λ byte. ascii_in byte pen) bytes.now) writing self.old.screen self.old.marks }
+        ensures screen { self.new.screen ≡ put_all (inked_bytes pen bytes.now) writing self.old.screen }
+        ensures first { self.new.first ≡ first_put_all (inked_bytes pen bytes.now) writing self.old.screen self.old.first }
+        ensures marks { self.new.marks ≡ marks_put_all (inked_bytes pen bytes.now) writing self.old.screen self.old.marks }
         ensures size { IsSameSize self.old.screen self.new.screen }
     {
         let mut at = 0;
@@ -105,9 +105,9 @@ impl Grid {
         requires some { 0 < length bytes.now }
         requires printable { ArePrintable bytes.now }
         requires over { writing.inserts ≡ false }
-        ensures screen { self.new.screen ≡ put_all (map (λ byte. ascii_in byte pen) bytes.now) writing self.old.screen }
-        ensures first { self.new.first ≡ first_put_all (map (λ byte. ascii_in byte pen) bytes.now) writing self.old.screen self.old.first }
-        ensures marks { self.new.marks ≡ marks_put_all (map (λ byte. ascii_in byte pen) bytes.now) writing self.old.screen self.old.marks }
+        ensures screen { self.new.screen ≡ put_all (inked_bytes pen bytes.now) writing self.old.screen }
+        ensures first { self.new.first ≡ first_put_all (inked_bytes pen bytes.now) writing self.old.screen self.old.first }
+        ensures marks { self.new.marks ≡ marks_put_all (inked_bytes pen bytes.now) writing self.old.screen self.old.marks }
         ensures size { IsSameSize self.old.screen self.new.screen }
     {
         self.facts();
@@ -122,7 +122,7 @@ impl Grid {
         requires printable { ArePrintable bytes.now }
         ensures screen { self.new.screen
             ≡ mapped
-            (in_row self.old.screen.row (written_run (map (λ byte. ascii_in byte pen) bytes.now) self.old.screen.col))
+            (in_row self.old.screen.row (written_run (inked_bytes pen bytes.now) self.old.screen.col))
             self.old.screen }
         ensures first { self.new.first ≡ self.old.first }
         ensures marks { self.new.marks ≡ row_marked self.old.screen.row self.old.marks }

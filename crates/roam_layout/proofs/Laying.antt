@@ -1,5 +1,5 @@
 -- What an act makes of a layout is a layout, and its face is a screen.
-use Rattle.std.proofs.Common.{◌≡◌, ℕ, zero, suc, ℤ, pos, negsuc, ◌+◌, ◌-◌, ◌*◌, ◌/◌, ◌%◌, ◌<◌, ◌≤◌, ◌+ℤ◌, nat_le, inl, inr, true, not, ◌&&◌, cond, eqb, List, [], ◌∷◌, set, length, get_or, replicate, Option, Some, None, refl, sym, ap, ◌∙◌, subst, arith, length-set, get_or-set_same, get_or-set_other}
+use Rattle.std.proofs.Common.{◌≡◌, ℕ, zero, suc, ℤ, pos, negsuc, ◌+◌, ◌-◌, ◌*◌, ◌/◌, ◌%◌, ◌<◌, ◌≤◌, ◌+ℤ◌, nat_le, inl, inr, true, false, not, ◌&&◌, cond, eqb, List, [], ◌∷◌, set, length, get_or, replicate, Option, Some, None, refl, sym, ap, ◌∙◌, subst, arith, length-set, get_or-set_same, get_or-set_other}
 use Rattle.std.specs.Char.{IsScalar}
 use Rattle.std.specs.Prelude.{slice_set, slice_index}
 use Rattle.std.specs.List.{All}
@@ -7,11 +7,11 @@ use Rattle.std.proofs.lemmas.Bool.{cond_both, cases_lt, cases_eq, leb-false}
 use Rattle.std.proofs.lemmas.Bool.Decides.{nat_tests}
 use Rattle.std.proofs.lemmas.List.{get_or_past, get_or-replicate}
 use Rattle.std.proofs.lemmas.List.Elements.{All-nil, All-cons}
-use Rattle.roam_cells.specs.Glyph.{Glyph, IsShown, is_cell_text, blank}
+use Rattle.roam_cells.specs.Glyph.{Glyph, IsShown, IsStyle, default_style, blank}
 use Rattle.roam_cells.specs.Place.{IsWholeRow, AreUnguarded}
 use Rattle.roam_screens.specs.Screenshot.{Screenshot, IsScreenshot}
-use Rattle.roam_cells.specs.Width.{width-space}
 use Rattle.roam_cells.proofs.Ascii.{ascii_width}
+use Rattle.roam_cells.proofs.CellLists.{cell_shown, default_is_style, blank_shown}
 use Rattle.roam_cells.proofs.Places.{get_or-table, place_of}
 use Rattle.roam_acts.specs.declared.acts.Act.{Act}
 use Rattle.roam_acts.specs.declared.acts.Act.TheVariants.{Key, SplitRight, SplitDown, Close, Focus, Next, Grow, Size, View}
@@ -169,38 +169,36 @@ start_layout rows cols size = record {
 
 -- ---- the face
 
-cell_shown : (c : ℕ) → is_cell_text (c ∷ []) ≡ true → IsScalar c → IsShown (c ∷ [])
-cell_shown c e h = record { text = e; scalars = All-cons IsScalar c [] h (All-nil IsScalar) }
-
-space_shown : IsShown (32 ∷ [])
-space_shown = cell_shown 32 (ap (λ w. not (eqb w 0) && true && true) width-space) refl
-
 ascii_scalar : (b : ℕ) → b < 0x7F → IsScalar b
 ascii_scalar b h = grind (arith, nat_tests)
 
-printable_shown : (b : ℕ) → IsPrintable b → IsShown (b ∷ [])
-printable_shown b h = cell_shown b (ap (λ w. not (eqb w 0) && true && true) (ascii_width b h.0 h.1)) (ascii_scalar b h.1)
+reverse_is_style : IsStyle reverse_style
+reverse_is_style = record { foreground = tt; background = tt }
 
-border_shown : (o : Option (Way × Rect)) → IsShown (border_cell o).points
-border_shown None = space_shown
-border_shown (Some (Right, x)) = cell_shown 0x2502 right_text refl
-border_shown (Some (Down, x)) = cell_shown 0x2500 down_text refl
+printable_shown : (b : ℕ) → IsPrintable b → IsShown (character b reverse_style)
+printable_shown b h =
+    cell_shown b reverse_style false (ap (λ w. not (eqb w 0) && true && true) (ascii_width b h.0 h.1)) (ascii_scalar b h.1) reverse_is_style
+
+border_shown : (o : Option (Way × Rect)) → IsShown (border_cell o)
+border_shown None = blank_shown
+border_shown (Some (Right, x)) = cell_shown 0x2502 default_style false right_text refl default_is_style
+border_shown (Some (Down, x)) = cell_shown 0x2500 default_style false down_text refl default_is_style
 
 -- a place of a screen, or past it, shows what some cell does
-any_shown : (s : Screenshot) → IsScreenshot s → (k : ℕ) → IsShown (get_or s.cells k blank).points
+any_shown : (s : Screenshot) → IsScreenshot s → (k : ℕ) → IsShown (get_or s.cells k blank)
 any_shown s is k =
     elim (cases_lt k (length s.cells)) [
       | inl inside ↦ is.shown k inside
-      | inr past ↦ subst (λ (g : Glyph). IsShown g.points) (sym (get_or_past s.cells k blank past)) space_shown
+      | inr past ↦ subst IsShown (sym (get_or_past s.cells k blank past)) blank_shown
     ]
 
 panes_shown : (picture : ℕ → Screenshot) (xs : List (ℕ × Rect)) → ArePictured picture xs → (r c : ℕ) (border : Option (Way × Rect))
-    → IsShown (pane_cell picture r c (found r c xs) border).points
+    → IsShown (pane_cell picture r c (found r c xs) border)
 panes_shown picture [] are r c border = border_shown border
 panes_shown picture (x ∷ xs) are r c border =
     let rest = panes_shown picture xs are.1 r c border in
     let shot = picture x.0 in
-    cond_both (inside r c x.1) (Some x) (found r c xs) (λ (o : Option (ℕ × Rect)). IsShown (pane_cell picture r c o border).points)
+    cond_both (inside r c x.1) (Some x) (found r c xs) (λ (o : Option (ℕ × Rect)). IsShown (pane_cell picture r c o border))
     (λ e. any_shown shot are.0.shot ((r - x.1.row) * shot.cols + (c - x.1.col))) (λ e. rest)
 
 module _ (s : Plan) (picture : ℕ → Screenshot) (is : IsLayout s) (are : ArePictured picture (panes s)) where
@@ -220,13 +218,13 @@ module _ (s : Plan) (picture : ℕ → Screenshot) (is : IsLayout s) (are : AreP
   unguarded : (r : ℕ) → r < s.rows → AreUnguarded (face_row s picture (r + 1))
   unguarded r low = free_sound (face_row s picture (r + 1)) (sound r low)
 
-  place_shown : (r c : ℕ) → c < s.cols → IsShown (face_at s picture r (c + 1)).points
+  place_shown : (r c : ℕ) → c < s.cols → IsShown (face_at s picture r (c + 1))
   place_shown r c low =
       let back : c + 1 - 1 ≡ c = omega arith in
       let text = printable c 0 (omega (arith, length-status_row s, low)) in
       cond_both (eqb r s.rows) (character (slice_index (status_row s) (c + 1 - 1)) reverse_style)
-      (pane_cell picture r (c + 1) (found r (c + 1) (panes s)) (found r (c + 1) (edges s))) (λ (g : Glyph). IsShown g.points)
-      (λ e. subst (λ (j : ℕ). IsShown (slice_index (status_row s) j ∷ [])) (sym back) (printable_shown (slice_index (status_row s) c) text))
+      (pane_cell picture r (c + 1) (found r (c + 1) (panes s)) (found r (c + 1) (edges s))) IsShown
+      (λ e. subst (λ (j : ℕ). IsShown (character (slice_index (status_row s) j) reverse_style)) (sym back) (printable_shown (slice_index (status_row s) c) text))
       (λ e. panes_shown picture (panes s) are r (c + 1) (found r (c + 1) (edges s)))
 
   -- what shows screens of the panes' sizes in a layout is a screen
@@ -245,7 +243,7 @@ module _ (s : Plan) (picture : ℕ → Screenshot) (is : IsLayout s) (are : AreP
     shown = λ k low.
         let p = place_of s.rows s.cols k (omega (arith, low, face_count s picture whole unguarded)) in
         let f : ℕ → ℕ → Glyph = λ r c. face_at s picture (r + 1) (c + 1) in
-        subst (λ (g : Glyph). IsShown g.points)
+        subst IsShown
         (sym (ap (λ j. get_or (face s picture).cells j blank) (sym p.2) ∙ get_or-table s.rows s.cols f (k / s.cols)
         (k % s.cols) blank p.0 p.1))
         (place_shown (k / s.cols + 1) (k % s.cols) p.1);

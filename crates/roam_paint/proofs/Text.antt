@@ -9,7 +9,7 @@ use Rattle.std.proofs.lemmas.List.{append-nil, map-append}
 use Rattle.std.proofs.lemmas.Bool.{and_parts, and_from, false≢true, eq-eqb}
 use Rattle.unicode_width.specs.Width.{char_width}
 use Rattle.roam_cells.specs.Width.{width_of, is_joiner, is_answer_zero}
-use Rattle.roam_cells.specs.Glyph.{default_style, is_text, are_joiners}
+use Rattle.roam_cells.specs.Glyph.{IsColour, default_style, is_text, are_joiners}
 use Rattle.roam_screens.specs.Screenshot.{Screenshot, IsScreenshot}
 use Rattle.roam_cells.specs.declared.styles.Style.{Style}
 use Rattle.roam_cells.specs.declared.styles.Colour.{Colour}
@@ -21,8 +21,7 @@ use Rattle.roam_text.specs.Functions.{functions, functions_of}
 use Rattle.roam_text.proofs.Fronts.{functions-nil}
 use Rattle.roam_term.specs.Terminal.{Live, Terminal, run, started, term}
 use Rattle.roam_term.proofs.Runs.{run-append, run-live}
-use Rattle.roam_term.specs.ControlFunctions.{IsColour, flag_code, colour_codes, set_style, set_mixture, restyle, place_cursor, hide_cursor, show_cursor, erase_all}
-use Rattle.roam_paint.specs.Colours.{AreIndexed}
+use Rattle.roam_term.specs.ControlFunctions.{flag_code, colour_codes, set_style, set_mixture, restyle, place_cursor, hide_cursor, show_cursor, erase_all}
 use Rattle.roam_term.specs.Ground.{IsGround, ShowsScreen, shown_at}
 use Rattle.roam_text.specs.Resting.{AtRest}
 use Rattle.roam_paint.specs.Ground.{PaintedLeadsOver}
@@ -173,9 +172,9 @@ legible-closing row col p q true =
     (legible-restyle default_style tt tt, (legible-go_to row col p q, (legible-private 25 [] 0x68 (omega arith, tt) (omega arith) final-on, tt)))
 legible-closing row col p q false = (legible-restyle default_style tt tt, (legible-go_to row col p q, tt))
 
-legible-drawn : (old new : Screenshot) → IsScreenshot new → AreIndexed new.cells → AllLegible (drawn old new)
+legible-drawn : (old new : Screenshot) → IsScreenshot new → AllLegible (drawn old new)
 unfolding drawn
-legible-drawn old new h colours =
+legible-drawn old new h =
     let row = h.cursor.row_to in
     let col = h.cursor.col_to in
     let rows = h.size.most_rows in
@@ -183,7 +182,7 @@ legible-drawn old new h colours =
     let body = drawn_rows (differs old new) (shown_at new) new.cols new.rows in
     legible-append (opening old new) (body ++ closing new) (legible-opening (same_size old new))
     (legible-append body (closing new)
-    (legible-rows new.rows new.cols (differs old new) (shown_at new) (omega (arith, rows)) (omega (arith, cols)) (paintable_shown new h colours) new.rows (omega arith))
+    (legible-rows new.rows new.cols (differs old new) (shown_at new) (omega (arith, rows)) (omega (arith, cols)) (paintable_shown new h) new.rows (omega arith))
     (legible-closing new.cursor_row new.cursor_col (omega (arith, row, rows)) (omega (arith, col, cols)) new.visible))
 
 -- ---- the text of all
@@ -263,11 +262,11 @@ module _ (log : List Item) (fs : List Function) (rest : AtRest log) (legible : A
 
 pub painted_leads_over : PaintedLeadsOver
 unfolding painted
-painted_leads_over rows cols lines log old new painting colours h rows_in cols_in =
+painted_leads_over rows cols lines log old new painting h rows_in cols_in =
     let fs = drawn old new in
-    let legible = legible-drawn old new painting colours in
+    let legible = legible-drawn old new painting in
     let is = term-acted log fs h.reader legible rows cols lines in
-    let ends = goes_over (term rows cols lines log).live old new h.ground h.shows rows_in cols_in painting colours in
+    let ends = goes_over (term rows cols lines log).live old new h.ground h.shows rows_in cols_in painting in
     record {
       displays = record {
         reader = rests log fs h.reader legible;

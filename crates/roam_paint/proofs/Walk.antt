@@ -3,7 +3,7 @@ use Rattle.std.proofs.Common.{◌≡◌, ◌≤◌, ◌<◌, ℕ, zero, suc, ◌
 use Rattle.std.specs.Prelude.{if◌then◌else◌, nat_lt, ⊤}
 use Rattle.std.specs.Char.{IsScalar}
 use Rattle.std.proofs.lemmas.Bool.{false≢true, cases_eq, cases_Bool, cases_lt, and_parts, ltb-true}
-use Rattle.roam_cells.specs.Glyph.{Glyph, is_wide, is_wide_text, is_right_half, is_empty_text, is_text, right_of, default_style}
+use Rattle.roam_cells.specs.Glyph.{IsColour, Glyph, is_wide, is_wide_text, is_right_half, is_empty_text, is_text, right_of, default_style}
 use Rattle.roam_cells.specs.Place.{cell_at}
 use Rattle.roam_cells.specs.declared.styles.Style.{Style}
 use Rattle.roam_cells.proofs.Places.{get_or-table}
@@ -12,7 +12,7 @@ use Rattle.roam_rows.specs.Writing.{written}
 use Rattle.roam_grid.specs.Writing.{columns}
 use Rattle.roam_text.specs.declared.functions.Function.TheVariants.{Print}
 use Rattle.roam_term.specs.Terminal.{Live, changed}
-use Rattle.roam_term.specs.ControlFunctions.{IsColour, place_cursor, restyle}
+use Rattle.roam_term.specs.ControlFunctions.{place_cursor, restyle}
 use Rattle.roam_paint.specs.Same.{same_style}
 use Rattle.roam_paint.specs.Painting.{Places, is_drawn, goes_on, placing, styling, drawn_cell, style_after, style_in, drawn_row, style_at, drawn_rows}
 use Rattle.roam_paint.proofs.Sames.{same_style-true}

@@ -13,7 +13,6 @@ use Rattle.roam_rows.proofs.Mending.{is_wide-blank}
 use Rattle.roam_grid.specs.Erasing.{page_blanked}
 use Rattle.roam_grid.specs.declared.erasing.Extent.TheVariants.{All}
 use Rattle.roam_term.specs.Terminal.{Live, changed}
-use Rattle.roam_paint.specs.Colours.{AreIndexed}
 use Rattle.roam_term.specs.Ground.{IsGround, ShowsScreen, shown_at}
 use Rattle.roam_term.specs.ControlFunctions.{hide_cursor, show_cursor, erase_all, place_cursor, set_style}
 use Rattle.roam_paint.specs.Painting.{same_size, painted_over, differs, style_at, drawn_rows, opening, closing, drawn}
@@ -55,18 +54,17 @@ module _ (p : Screenshot) (h : IsScreenshot p) where
             ]
       ]
 
-module _ (p : Screenshot) (h : IsScreenshot p) (colours : AreIndexed p.cells) where
+module _ (p : Screenshot) (h : IsScreenshot p) where
   paintable_at : (r c : ℕ) → r < p.rows → c < p.cols → IsPaintable (cell_at p.cols p.cells r c)
   paintable_at r c a b =
       let within : r * p.cols + c < length p.cells = omega (arith, place_below p.rows p.cols r c a b, h.count) in
       let cell = h.shown (r * p.cols + c) within in
-      let style = colours (r * p.cols + c) within in
       record {
         text = cell.text;
         scalars = scalars_of (cell_at p.cols p.cells r c).points cell.scalars;
         unguarded = h.unguarded (r * p.cols + c) within;
-        foreground = style.foreground;
-        background = style.background;
+        foreground = cell.style.foreground;
+        background = cell.style.background;
       }
 
   pub paintable_shown : (r c : ℕ) → r < p.rows → c < p.cols → IsPaintable (shown_at p r c)
@@ -75,9 +73,9 @@ module _ (p : Screenshot) (h : IsScreenshot p) (colours : AreIndexed p.cells) wh
 -- ---- the whole
 
 module _ (still : Constants) (old new : Screenshot) (rows_in : new.rows ≤ still.rows) (cols_in : new.cols ≤ still.cols)
-    (painting : IsScreenshot new) (colours : AreIndexed new.cells) where
+    (painting : IsScreenshot new) where
   abbrev W : ℕ → ℕ → Style → Live → Type 0
-  W = Walked still new.rows new.cols (differs old new) (shown_at new) rows_in cols_in (wide_shown new painting) (half_shown new painting) (paintable_shown new painting colours)
+  W = Walked still new.rows new.cols (differs old new) (shown_at new) rows_in cols_in (wide_shown new painting) (half_shown new painting) (paintable_shown new painting)
 
   begun : (cells : List Glyph) (row col : ℕ) (pending : Bool) (t : Live) → t ≡ at_work still cells row col pending default_style false None
       → ((i j : ℕ) → i < still.rows → j < still.cols → cell_at still.cols cells i j ≡ painted_over old new i j) → W 0 0 default_style t
@@ -113,7 +111,7 @@ module _ (still : Constants) (old new : Screenshot) (rows_in : new.rows ≤ stil
         (λ i j p q. erased_shows still.rows still.cols cells row col i j p q ∙ sym (ap (λ b. if b then shown_at old i j else blank) e))
 
     walked : W new.rows 0 (style_at (differs old new) (shown_at new) new.cols new.rows) (acted (drawn_rows (differs old new) (shown_at new) new.cols new.rows) (acted (opening old new) before))
-    walked = all_rows still new.rows new.cols (differs old new) (shown_at new) rows_in cols_in (wide_shown new painting) (half_shown new painting) (paintable_shown new painting colours)
+    walked = all_rows still new.rows new.cols (differs old new) (shown_at new) rows_in cols_in (wide_shown new painting) (half_shown new painting) (paintable_shown new painting)
         (same_below old new) (same_right old new) new.rows (acted (opening old new) before) (omega arith) (opened (same_size old new) refl)
 
     revealed : (cells : List Glyph) (b : Bool)
@@ -175,7 +173,7 @@ module _ (still : Constants) (old new : Screenshot) (rows_in : new.rows ≤ stil
         (record {
           rows = rows_in;
           cols = cols_in;
-          places = all_shown still new.rows new.cols (differs old new) (shown_at new) rows_in cols_in (wide_shown new painting) (half_shown new painting) (paintable_shown new painting colours)
+          places = all_shown still new.rows new.cols (differs old new) (shown_at new) rows_in cols_in (wide_shown new painting) (half_shown new painting) (paintable_shown new painting)
               (same_below old new) (same_right old new) _ _ walked;
           cursor_row = omega (arith, c);
           cursor_col = omega (arith, e);
@@ -185,10 +183,10 @@ module _ (still : Constants) (old new : Screenshot) (rows_in : new.rows ≤ stil
 -- a ground terminal that shows the old screen and has the new one's size at least: after what is drawn it is a ground terminal of its size
 -- that shows the new screen
 pub goes_over : (t : Live) (old new : Screenshot) → IsGround t → ShowsScreen t old → new.rows ≤ t.screen.rows → new.cols ≤ t.screen.cols
-    → IsScreenshot new → AreIndexed new.cells
+    → IsScreenshot new
     → IsGround (acted (drawn old new) t) × ShowsScreen (acted (drawn old new) t) new
     × ((acted (drawn old new) t).screen.rows ≡ t.screen.rows) × ((acted (drawn old new) t).screen.cols ≡ t.screen.cols)
-goes_over t old new ground shows rows_in cols_in painting colours =
+goes_over t old new ground shows rows_in cols_in painting =
     let P : Live → Type 0 = λ u. IsGround (acted (drawn old new) u) × ShowsScreen (acted (drawn old new) u) new
     × ((acted (drawn old new) u).screen.rows ≡ t.screen.rows) × ((acted (drawn old new) u).screen.cols ≡ t.screen.cols) in
     let still = constants_of t in
@@ -197,10 +195,10 @@ goes_over t old new ground shows rows_in cols_in painting colours =
     let col = t.screen.col in
     let pending = t.screen.pending in
     let visible = t.modes.cursor_visible in
-    let is = final still old new rows_in cols_in painting colours cells row col pending visible t.printed shows.places in
+    let is = final still old new rows_in cols_in painting cells row col pending visible t.printed shows.places in
     subst P (sym (at_rest t ground)) (
-      ends_ground still old new rows_in cols_in painting colours cells row col pending visible t.printed shows.places,
-      ends_shown still old new rows_in cols_in painting colours cells row col pending visible t.printed shows.places,
+      ends_ground still old new rows_in cols_in painting cells row col pending visible t.printed shows.places,
+      ends_shown still old new rows_in cols_in painting cells row col pending visible t.printed shows.places,
       ap (λ (u : Live). u.screen.rows) is,
       ap (λ (u : Live). u.screen.cols) is,
     )

@@ -6,7 +6,6 @@ use Rattle.roam_text.specs.Resting.{AtRest}
 use Rattle.roam_text.specs.Stands.{View, Stands, IsAtRest}
 use Rattle.roam_term.specs.Ground.{IsGround, ShowsScreen, IsSized}
 use Rattle.roam_term.specs.Terminal.{term}
-use Rattle.roam_paint.specs.Colours.{AreIndexed}
 use Rattle.roam_paint.specs.Painting.{painted, opened}
 
 -- a size, a number of history lines and a log make a ground terminal that shows a screen
@@ -25,8 +24,7 @@ pub record LeadsOver (rows cols lines : ℕ) (log : List Item) (old new : Screen
 
 abbrev pub PaintedLeadsOver : Type 0
 PaintedLeadsOver =
-    (rows cols lines : ℕ) (log : List Item) (old new : Screenshot) → IsScreenshot new → AreIndexed new.cells
-    → Displays rows cols lines log old
+    (rows cols lines : ℕ) (log : List Item) (old new : Screenshot) → IsScreenshot new → Displays rows cols lines log old
     → new.rows ≤ (term rows cols lines log).live.screen.rows → new.cols ≤ (term rows cols lines log).live.screen.cols
     → LeadsOver rows cols lines log old new
 

@@ -1,5 +1,4 @@
 pub mod Same
-pub mod Colours
 pub mod Sequences
 pub mod Painting
 pub mod Texts

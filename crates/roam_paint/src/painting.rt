@@ -12,7 +12,6 @@ ghost use Rattle.roam_term.specs.Ground.{shown_at};
 ghost use Rattle.roam_paint.specs.Painting.{differs, is_drawn, goes_on, style_after, painted, opened};
 ghost use Rattle.roam_paint.specs.Texts.{place_text, cell_text, row_text, row_style, rows_text, opening_text, closing_text};
 
-use crate::colours::colours_of;
 use crate::differences::{cell_of, differs, is_same_row, is_same_size};
 use crate::laws::{opened_begins_blank, painted_leads_over};
 use crate::sequences::{
@@ -210,7 +209,6 @@ pub fn paint<O: Seen, N: Seen>(old: &O, new: &N, out: &mut Vec<u8>) -> Result<()
     ensures fault { IsOkUnless result Fault.OutOfMemory }
 {
     new.facts();
-    colours_of(new);
     painted_leads_over();
     let text = painting(*out.allocator(), old, new)?;
     out.extend_from_slice(&text)?;

@@ -3,7 +3,7 @@ use Rattle.std.proofs.Common.{◌≡◌, ◌≢◌, ℕ, ◌+◌, ◌-◌, ◌<�
 use Rattle.std.proofs.lemmas.Bool.{false≢true, cases_lt}
 use Rattle.std.proofs.lemmas.List.{length-map, get_or-map}
 use Rattle.std.proofs.lemmas.Grind.{common_steps}
-use Rattle.roam_cells.specs.Glyph.{Glyph, is_wide, is_right_half, right_of, blank, ascii_in}
+use Rattle.roam_cells.specs.Glyph.{Glyph, is_wide, is_right_half, right_of, blank, ascii_in, inked_bytes}
 use Rattle.roam_cells.proofs.Ascii.{ascii_narrow}
 use Rattle.roam_cells.specs.Place.{glyph_at, IsWholeRow}
 use Rattle.roam_rows.specs.Row.{RowSource, Column, Fresh, row_taken, are_neighbours, row_moved}
@@ -167,10 +167,6 @@ module _ (from to : ℕ) (row P Y : List Glyph) where
 
   pub blanked_whole : IsWholeRow row → IsWholeRow (row_moved row (blanked from to))
   blanked_whole whole = over_whole (λ c. blank) from to row P Y (λ c. (is_wide-blank, refl)) whole
-
--- the cells of a run of bytes
-abbrev pub inked_bytes : Glyph → List ℕ → List Glyph
-inked_bytes pen bytes = map (λ byte. ascii_in byte pen) bytes
 
 pub bytes_at : (pen : Glyph) (bytes : List ℕ) (k : ℕ) → k < length bytes → glyph_at (inked_bytes pen bytes) k ≡ ascii_in (get_or bytes k 0) pen
 bytes_at pen bytes k h = get_or-map (λ byte. ascii_in byte pen) bytes k 0 blank h

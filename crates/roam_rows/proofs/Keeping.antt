@@ -1,4 +1,4 @@
--- Maps of places keep cells: as many as there are places, whole characters, each with the code points of some cell.
+-- Maps of places keep cells: as many as there are places, whole characters, each what some cell shows.
 use Rattle.std.proofs.Common.{◌≡◌, ℕ, ◌+◌, ◌-◌, ◌*◌, ◌/◌, ◌%◌, ◌<◌, inl, inr, Bool, true, false, not, ◌&&◌, cond, eqb, ltb, leb, List, [], ◌∷◌, ◌++◌, map, set, length, get_or, replicate, refl, sym, ap, ◌∙◌, subst, arith, length-set, get_or-set_same, get_or-set_other}
 use Rattle.std.specs.Char.{IsScalar}
 use Rattle.std.specs.Prelude.{All}
@@ -11,6 +11,7 @@ use Rattle.std.proofs.lemmas.Nat.{same_from_place}
 use Rattle.roam_cells.specs.Width.{width-space}
 use Rattle.roam_cells.specs.Glyph.{Glyph, IsShown, is_wide, is_right_half, is_text, is_cell_text, right_of, space_in, with_point, blank}
 use Rattle.roam_cells.specs.Place.{cell_at, glyph_at, table, AreWhole, IsWholeLine}
+use Rattle.roam_cells.proofs.CellLists.{one_scalar, space_in_shown, blank_shown, half_shown}
 use Rattle.roam_cells.proofs.Joining.{with_point_like}
 use Rattle.roam_cells.proofs.Places.{length-table, get_or-table, place_of, place_below}
 use Rattle.roam_rows.specs.Row.{RowSource, mended}
@@ -24,49 +25,34 @@ use Rattle.roam_rows.proofs.Mending.{is_wide-blank, wide_not_half, and_left, and
 use Rattle.roam_rows.proofs.Columns.{length-row, row_at, whole_row_of}
 use Rattle.roam_rows.proofs.Joins.{replaced_whole}
 
--- cells in reading order: as many as there are places, whole characters, each with the code points of some cell
+-- cells in reading order: as many as there are places, whole characters, each what some cell shows
 pub record AreCells (rows cols : ℕ) (cells : List Glyph) : Type 0 where
   pub count : length cells ≡ rows * cols
   pub whole : AreWhole rows cols cells
-  pub shown : (k : ℕ) → IsShown (get_or cells k blank).points
+  pub shown : (k : ℕ) → IsShown (get_or cells k blank)
 
--- ---- code points
+-- ---- cells
 
-one_scalar : (c : ℕ) → IsScalar c → All IsScalar (c ∷ [])
-one_scalar c h = All-from_get_or IsScalar (c ∷ []) 0
-    (λ k p. let e : 0 ≡ k = omega arith in subst (λ (j : ℕ). IsScalar (get_or (c ∷ []) j 0)) e h)
-
-pub cell_shown : (c : ℕ) → is_cell_text (c ∷ []) ≡ true → IsScalar c → IsShown (c ∷ [])
-cell_shown c e h = record { text = e; scalars = one_scalar c h }
-
--- a space is what some cell shows
-pub space_shown : IsShown (32 ∷ [])
-space_shown = cell_shown 32 (ap (λ w. not (eqb w 0) && true && true) width-space) refl
-
--- and so is nothing
-pub half_shown : IsShown []
-half_shown = record { text = refl; scalars = All-nil IsScalar }
-
-mended_by : (v w : Bool) (x : Glyph) → IsShown x.points → IsShown (cond v (space_in x) (cond w (space_in x) x)).points
-mended_by true w x h = space_shown
-mended_by false true x h = space_shown
+mended_by : (v w : Bool) (x : Glyph) → IsShown x → IsShown (cond v (space_in x) (cond w (space_in x) x))
+mended_by true w x h = space_in_shown x h
+mended_by false true x h = space_in_shown x h
 mended_by false false x h = h
 
-mended_shown : (x : Glyph) (a b : Bool) → IsShown x.points → IsShown (mended x a b).points
+mended_shown : (x : Glyph) (a b : Bool) → IsShown x → IsShown (mended x a b)
 mended_shown x a b h = mended_by (is_wide x && not a) (is_right_half x && not b) x h
 
-pub table_shown : (rows cols : ℕ) (f : ℕ → ℕ → Glyph) → ((r c : ℕ) → r < rows → c < cols → IsShown (f r c).points) → (k : ℕ)
-    → IsShown (get_or (table rows cols f) k blank).points
+pub table_shown : (rows cols : ℕ) (f : ℕ → ℕ → Glyph) → ((r c : ℕ) → r < rows → c < cols → IsShown (f r c)) → (k : ℕ)
+    → IsShown (get_or (table rows cols f) k blank)
 table_shown rows cols f each k =
     elim (cases_lt k (rows * cols)) [
       | inl low ↦
           let p = place_of rows cols k low in
           let at : get_or (table rows cols f) k blank ≡ f (k / cols) (k % cols) =
           ap (λ j. get_or (table rows cols f) j blank) (sym p.2) ∙ get_or-table rows cols f (k / cols) (k % cols) blank p.0 p.1 in
-          subst (λ (g : Glyph). IsShown g.points) (sym at) (each (k / cols) (k % cols) p.0 p.1)
+          subst IsShown (sym at) (each (k / cols) (k % cols) p.0 p.1)
       | inr high ↦
-          subst (λ (g : Glyph). IsShown g.points)
-          (sym (get_or_past (table rows cols f) k blank (omega (arith, length-table rows cols f, high)))) space_shown
+          subst IsShown
+          (sym (get_or_past (table rows cols f) k blank (omega (arith, length-table rows cols f, high)))) blank_shown
     ]
 
 -- ---- whole lines
@@ -95,10 +81,10 @@ whole_line n T J f each wides halves =
 
 -- ---- maps of places
 
--- a source is a place of the cells, or new code points of a cell
+-- a source is a place of the cells, or what some cell shows
 abbrev pub IsPlaced : ℕ → ℕ → Source → Type 0
 IsPlaced rows cols (From r c) = (r < rows) × (c < cols)
-IsPlaced rows cols (Fresh x) = IsShown x.points
+IsPlaced rows cols (Fresh x) = IsShown x
 
 -- of two sources beside each other that are new, a wide cell and a right half are one character
 abbrev pub Suits : Source → Source → Type 0
@@ -113,7 +99,7 @@ joined_means r c s d h = (eqb-true s r (and_left (eqb s r) (eqb d (c + 1)) h), e
 module _ (rows cols new_rows new_cols : ℕ) (cells : List Glyph) (source : ℕ → ℕ → Source) (are : AreCells rows cols cells)
     (placed : (r c : ℕ) → r < new_rows → c < new_cols → IsPlaced rows cols (source r c))
     (suits : (r c : ℕ) → r < new_rows → c + 1 < new_cols → Suits (source r c) (source r (c + 1))) where
-  taken_shown : (s : Source) → IsPlaced rows cols s → IsShown (taken cols cells s).points
+  taken_shown : (s : Source) → IsPlaced rows cols s → IsShown (taken cols cells s)
   taken_shown (From r c) p = are.shown (r * cols + c)
   taken_shown (Fresh x) p = p
 
@@ -172,7 +158,7 @@ IsPlain rows cols (Fresh x) = x ≡ blank
 
 plain_placed : (rows cols : ℕ) (s : Source) → IsPlain rows cols s → IsPlaced rows cols s
 plain_placed rows cols (From r c) p = p
-plain_placed rows cols (Fresh x) e = subst (λ (g : Glyph). IsShown g.points) (sym e) space_shown
+plain_placed rows cols (Fresh x) e = subst IsShown (sym e) blank_shown
 
 plain_suits : (rows cols : ℕ) (s t : Source) → IsPlain rows cols s → Suits s t
 plain_suits rows cols (From r c) (From s d) p = tt
@@ -213,7 +199,7 @@ blanked_plain rows cols b r c p q = either (IsPlain rows cols) b (Fresh blank) (
 
 abbrev pub IsPlacedIn : ℕ → RowSource → Type 0
 IsPlacedIn cols (RowSource.Column c) = c < cols
-IsPlacedIn cols (RowSource.Fresh x) = IsShown x.points
+IsPlacedIn cols (RowSource.Fresh x) = IsShown x
 
 abbrev pub IsPlainIn : ℕ → RowSource → Type 0
 IsPlainIn cols (RowSource.Column c) = c < cols
@@ -291,7 +277,7 @@ written_suits x col c false false true e h k = tt
 written_suits x col c false false false true h k = tt
 written_suits x col c false false false false h k = tt
 
-pub written_cells : (rows cols row col : ℕ) (cells : List Glyph) (x : Glyph) → AreCells rows cols cells → row < rows → IsShown x.points
+pub written_cells : (rows cols row col : ℕ) (cells : List Glyph) (x : Glyph) → AreCells rows cols cells → row < rows → IsShown x
     → AreCells rows cols (moved rows cols cells (in_row row (written x col)))
 written_cells rows cols row col cells x are row_in shown =
     row_cells rows cols row cells (written x col) are row_in
@@ -299,7 +285,7 @@ written_cells rows cols row col cells x are row_in shown =
     either (IsPlacedIn cols) (eqb c col) (RowSource.Fresh x)
     (cond (is_wide x && eqb c (col + 1)) (RowSource.Fresh (right_of x)) (RowSource.Column c))
     (λ h. shown)
-    (λ h. either (IsPlacedIn cols) (is_wide x && eqb c (col + 1)) (RowSource.Fresh (right_of x)) (RowSource.Column c) (λ k. half_shown)
+    (λ h. either (IsPlacedIn cols) (is_wide x && eqb c (col + 1)) (RowSource.Fresh (right_of x)) (RowSource.Column c) (λ k. half_shown x shown)
     (λ k. q)))
     (λ c q. written_suits x col c (eqb c col) (is_wide x && eqb c (col + 1)) (eqb (c + 1) col)
     (is_wide x && eqb (c + 1) (col + 1)) refl refl)
@@ -310,16 +296,16 @@ text_of : (points : List ℕ) → is_cell_text points ≡ true → is_text point
 text_of [] h = refl
 text_of (c ∷ cs) h = h
 
-point_shown_by : (b : Bool) (c : ℕ) (x : Glyph) → is_cell_text (x.points ++ c ∷ []) ≡ b → IsScalar c → IsShown x.points
-    → IsShown (cond b (record x { points = x.points ++ c ∷ [] }) x).points
+point_shown_by : (b : Bool) (c : ℕ) (x : Glyph) → is_cell_text (x.points ++ c ∷ []) ≡ b → IsScalar c → IsShown x
+    → IsShown (cond b (record x { points = x.points ++ c ∷ [] }) x)
 point_shown_by true c x e s h = record {
   text = text_of (x.points ++ c ∷ []) e;
-  scalars = All-append IsScalar x.points (c ∷ []) h.scalars
-      (one_scalar c s);
+  scalars = All-append IsScalar x.points (c ∷ []) h.scalars (one_scalar c s);
+  style = h.style;
 }
 point_shown_by false c x e s h = h
 
-point_shown : (c : ℕ) (x : Glyph) → IsScalar c → IsShown x.points → IsShown (with_point c x).points
+point_shown : (c : ℕ) (x : Glyph) → IsScalar c → IsShown x → IsShown (with_point c x)
 point_shown c x s h = point_shown_by (is_cell_text (x.points ++ c ∷ [])) c x refl s h
 
 module _ (rows cols row col point : ℕ) (cells : List Glyph) (are : AreCells rows cols cells) (row_in : row < rows) (col_in : col < cols)
@@ -360,17 +346,17 @@ module _ (rows cols row col point : ℕ) (cells : List Glyph) (are : AreCells ro
     shown = λ k.
         elim (cases_eq k (row * cols + base)) [
           | inl e ↦
-              subst (λ (g : Glyph). IsShown g.points) (sym (ap (λ j. get_or new_cells j blank) e ∙ here))
+              subst IsShown (sym (ap (λ j. get_or new_cells j blank) e ∙ here))
               (point_shown point old_cell scalar (are.shown (row * cols + base)))
           | inr ne ↦
-              subst (λ (g : Glyph). IsShown g.points)
+              subst IsShown
               (sym (get_or-set_other cells (row * cols + base) k (with_point point old_cell) blank ne)) (are.shown k)
         ];
   }
 
 -- ---- one cell everywhere
 
-pub same_cells : (rows cols : ℕ) (x : Glyph) → is_wide x ≡ false → is_right_half x ≡ false → IsShown x.points → AreCells rows cols
+pub same_cells : (rows cols : ℕ) (x : Glyph) → is_wide x ≡ false → is_right_half x ≡ false → IsShown x → AreCells rows cols
     (replicate (rows * cols) x)
 same_cells rows cols x w l shown =
     let all = replicate (rows * cols) x in
@@ -383,14 +369,14 @@ same_cells rows cols x w l shown =
         half = λ h. absurd (false≢true (sym l ∙ sym (ap is_right_half (at r c p q)) ∙ h));
       };
       shown = λ k. elim (cases_lt k (rows * cols)) [
-        | inl low ↦ subst (λ (g : Glyph). IsShown g.points) (sym (get_or-replicate (rows * cols) k x blank low)) shown
-        | inr high ↦ subst (λ (g : Glyph). IsShown g.points)
-            (sym (get_or_past all k blank (omega (arith, length-replicate (rows * cols) x, high)))) space_shown
+        | inl low ↦ subst IsShown (sym (get_or-replicate (rows * cols) k x blank low)) shown
+        | inr high ↦ subst IsShown
+            (sym (get_or_past all k blank (omega (arith, length-replicate (rows * cols) x, high)))) blank_shown
       ];
     }
 
 pub blank_cells : (rows cols : ℕ) → AreCells rows cols (replicate (rows * cols) blank)
-blank_cells rows cols = same_cells rows cols blank is_wide-blank refl space_shown
+blank_cells rows cols = same_cells rows cols blank is_wide-blank refl blank_shown
 
 -- ---- another size
 

@@ -1,6 +1,6 @@
 //! The rows themselves: what they are made of, and what reads or changes one of them.
-ghost use Rattle.std.specs.Prelude.{◌≡◌, ℕ, ◌+◌, ◌-◌, ◌*◌, ◌<◌, ◌≤◌, ◌++◌, true, false, length, map, replicate, IfOk};
-ghost use Rattle.roam_cells.specs.Glyph.{ascii_in, blank, is_wide, is_right_half};
+ghost use Rattle.std.specs.Prelude.{◌≡◌, ℕ, ◌+◌, ◌-◌, ◌*◌, ◌<◌, ◌≤◌, ◌++◌, true, false, length, replicate, IfOk};
+ghost use Rattle.roam_cells.specs.Glyph.{inked_bytes, blank, is_wide, is_right_half};
 ghost use Rattle.roam_cells.specs.Limits.{IsSize};
 ghost use Rattle.roam_cells.specs.Place.{cell_at, row_of};
 ghost use Rattle.roam_rows.specs.Writing.{ArePrintable, joined, written, written_run};
@@ -147,7 +147,7 @@ impl Ring {
         requires on_rows { (row < self.old.rows) × (col + length bytes.now ≤ self.old.cols) }
         requires some { 0 < length bytes.now }
         requires printable { ArePrintable bytes.now }
-        ensures ring { self.new ≡ with_row row (written_run (map (λ byte. ascii_in byte pen) bytes.now) col) self.old }
+        ensures ring { self.new ≡ with_row row (written_run (inked_bytes pen bytes.now) col) self.old }
     {
         let at = place(self.rows, self.first, row);
         let start = start_of(self.rows, self.cols, at);

@@ -1,6 +1,6 @@
 //! Writing in one row.
-ghost use Rattle.std.specs.Prelude.{◌≡◌, ℕ, ◌+◌, ◌-◌, ◌<◌, ◌≤◌, ◌⊎◌, true, false, length, map, slice_index, slice_index_or, if◌then◌else◌};
-ghost use Rattle.roam_cells.specs.Glyph.{ascii_in, blank, is_wide, is_right_half};
+ghost use Rattle.std.specs.Prelude.{◌≡◌, ℕ, ◌+◌, ◌-◌, ◌<◌, ◌≤◌, ◌⊎◌, true, false, length, slice_index, slice_index_or, if◌then◌else◌};
+ghost use Rattle.roam_cells.specs.Glyph.{ascii_in, inked_bytes, blank, is_wide, is_right_half};
 ghost use Rattle.roam_cells.specs.Place.{glyph_at, IsWholeRow};
 ghost use Rattle.roam_rows.specs.Row.{row_moved};
 ghost use Rattle.roam_rows.specs.Writing.{written, written_run, ArePrintable};
@@ -53,7 +53,7 @@ pub fn write_run(row: &mut [Cell], col: usize, pen: Cell, bytes: &[u8])
     requires some { 0 < length bytes.now }
     requires printable { ArePrintable bytes.now }
     requires whole { IsWholeRow row.old }
-    ensures after { row.new ≡ row_moved row.old (written_run (map (λ byte. ascii_in byte pen) bytes.now) col) }
+    ensures after { row.new ≡ row_moved row.old (written_run (inked_bytes pen bytes.now) col) }
     ensures whole { IsWholeRow row.new }
 {
     part_twice(row, col, col + bytes.len());

@@ -138,7 +138,7 @@ module _ (cols : ℕ) where
 pub record IsLine (cols : ℕ) (line : List Glyph) : Type 0 where
   pub whole : IsWholeLine cols (glyph_at line)
   pub unguarded : (c : ℕ) → c < cols → (get_or line c blank).guarded ≡ false
-  pub shown : (c : ℕ) → c < cols → IsShown (get_or line c blank).points
+  pub shown : (c : ℕ) → c < cols → IsShown (get_or line c blank)
 
 line_is : (cols : ℕ) (line : List Glyph) → length line ≡ cols → IsWholeRow line → AreUnguarded line → AreShown line → IsLine cols line
 line_is cols line long whole unguarded shown =
@@ -159,7 +159,7 @@ lines_are s lines are e is r p =
     record {
       whole = line_like s.cols (cell_at s.cols s.cells r) (glyph_at (get_or lines r [])) at (is.whole r p);
       unguarded = λ c q. ap (λ (g : Glyph). g.guarded) (sym (at c q)) ∙ is.unguarded (r * s.cols + c) (there c q);
-      shown = λ c q. subst (λ (g : Glyph). IsShown g.points) (at c q) (is.shown (r * s.cols + c) (there c q));
+      shown = λ c q. subst IsShown (at c q) (is.shown (r * s.cols + c) (there c q));
     }
 
 -- rows that make a screen
@@ -179,7 +179,7 @@ screen_is s lines are is each =
           ap (λ (g : Glyph). g.guarded) t.2 ∙ (each (k / s.cols) t.0).unguarded (k % s.cols) t.1;
       shown = λ k h.
           let t = joined_place s.cols s.rows lines k are (omega (arith, count, h)) in
-          subst (λ (g : Glyph). IsShown g.points) (sym t.2) ((each (k / s.cols) t.0).shown (k % s.cols) t.1);
+          subst IsShown (sym t.2) ((each (k / s.cols) t.0).shown (k % s.cols) t.1);
     }
 
 -- ---- one row changed

@@ -6,7 +6,7 @@ use Rattle.std.proofs.lemmas.Bool.{cases_Bool, false≢true, eq-eqb, eqb-true, n
 use Rattle.std.proofs.lemmas.List.{append-nil, append_assoc, length-replicate, get_or-replicate, get_or_push, get_or_append_left}
 use Rattle.std.proofs.lemmas.List.Elements.{All-nil, All-cons}
 use Rattle.std.proofs.lemmas.List.FromFn.{map-range_with_len_more, length-map-range_with_len}
-use Rattle.roam_cells.specs.Glyph.{Glyph, IsShown, is_wide, is_right_half, right_of, space_in, blank}
+use Rattle.roam_cells.specs.Glyph.{Glyph, IsShown, IsColour, IsStyle, is_wide, is_right_half, right_of, space_in, blank}
 use Rattle.roam_cells.specs.Place.{cell_at, table, IsWholeAt, AreWhole}
 use Rattle.roam_screens.specs.Screenshot.{Screenshot, IsScreenshot, blank_screenshot}
 use Rattle.roam_cells.specs.Width.{width-space}
@@ -15,7 +15,7 @@ use Rattle.roam_cells.specs.declared.styles.Colour.{Colour}
 use Rattle.roam_cells.specs.declared.styles.Colour.TheVariants.{Default, Index, Rgb}
 use Rattle.roam_screens.specs.Lines.{joined, AreLines, screen_of}
 use Rattle.roam_cells.proofs.Places.{length-table, get_or-table, place_of, place_below, table_is}
-use Rattle.roam_cells.proofs.CellLists.{is_wide-blank, space_shown}
+use Rattle.roam_cells.proofs.CellLists.{is_wide-blank, space_in_shown}
 use Rattle.roam_screens.proofs.Screens.{blank_is_screenshot}
 use Rattle.roam_screens.specs.Narrow.{is_plain_colour, is_plain_style, IsOldScreenshot, narrow_colour, narrow_style, narrow_glyph, narrow_rows, narrow_cols, row_shown, narrow_at, is_row_out, is_col_out, narrow_row, narrow}
 
@@ -98,11 +98,20 @@ style_stays s h =
     let both = and_parts (is_plain_colour s.foreground) (is_plain_colour s.background) h in
     λ i. record s { foreground = colour_stays s.foreground both.0 i; background = colour_stays s.background both.1 i }
 
-shown_glyph : (last : Bool) (g : Glyph) → IsShown g.points → IsShown (narrow_glyph last g).points
+colour_is : (c : Colour) → IsColour c → IsColour (narrow_colour c)
+colour_is Default is = tt
+colour_is (Index n) is = is
+colour_is (Rgb r g b) is = omega (arith, is.0, is.1, is.2)
+
+style_is : (s : Style) → IsStyle s → IsStyle (narrow_style s)
+style_is s is = record { foreground = colour_is s.foreground is.foreground; background = colour_is s.background is.background }
+
+shown_glyph : (last : Bool) (g : Glyph) → IsShown g → IsShown (narrow_glyph last g)
 shown_glyph last g h =
     elim (cases_Bool (last && is_wide g)) [
-      | inl e ↦ rw e space_shown
-      | inr e ↦ rw e h
+      | inl e ↦
+          rw e (record { text = (space_in_shown g h).text; scalars = (space_in_shown g h).scalars; style = style_is g.style h.style })
+      | inr e ↦ rw e (record { text = h.text; scalars = h.scalars; style = style_is g.style h.style })
     ]
 
 guard_glyph : (last : Bool) (g : Glyph) → (narrow_glyph last g).guarded ≡ g.guarded
@@ -248,7 +257,7 @@ module _ (s : Screenshot) (h : IsScreenshot s) where
           };
           whole = whole;
           unguarded = each (λ g. g.guarded ≡ false) (λ r c p q. guard_glyph (last c) (old r c) ∙ h.unguarded (row_shown s.rows r * s.cols + c) (index_in r c p q));
-          shown = each (λ g. IsShown g.points) (λ r c p q. shown_glyph (last c) (old r c) (h.shown (row_shown s.rows r * s.cols + c) (index_in r c p q)));
+          shown = each (λ g. IsShown g) (λ r c p q. shown_glyph (last c) (old r c) (h.shown (row_shown s.rows r * s.cols + c) (index_in r c p q)));
         };
         rows = omega arith;
         cols = omega arith;

@@ -6,7 +6,7 @@ use Rattle.roam_cells.specs.Glyph.{Glyph, IsShown, is_wide, is_right_half, blank
 use Rattle.roam_cells.specs.Limits.{IsSize}
 use Rattle.roam_cells.specs.Place.{AreWhole}
 use Rattle.roam_screens.specs.Screenshot.{IsScreenshot, blank_screenshot}
-use Rattle.roam_cells.proofs.CellLists.{is_wide-blank, blank_at, space_shown}
+use Rattle.roam_cells.proofs.CellLists.{is_wide-blank, blank_at, blank_shown}
 
 pub blank_whole : (rows cols : ℕ) → AreWhole rows cols (replicate (rows * cols) blank)
 blank_whole rows cols =
@@ -24,5 +24,5 @@ blank_is_screenshot rows cols size =
       cursor = record { row_from = omega arith; row_to = omega (arith, size.least_rows); col_from = omega arith; col_to = omega (arith, size.least_columns) };
       whole = blank_whole rows cols;
       unguarded = λ k h. ap (λ (g : Glyph). g.guarded) (get_or-replicate (rows * cols) k blank blank (omega (arith, count, h)));
-      shown = λ k h. subst (λ (g : Glyph). IsShown g.points) (sym (get_or-replicate (rows * cols) k blank blank (omega (arith, count, h)))) space_shown;
+      shown = λ k h. subst IsShown (sym (get_or-replicate (rows * cols) k blank blank (omega (arith, count, h)))) blank_shown;
     }

@@ -2,15 +2,17 @@
 use Rattle.std.proofs.Common.{◌≡◌, ℕ, zero, suc, ◌-◌, ◌<◌, Bool, true, false, not, ◌&&◌, ◌||◌, cond, eqb, ltb, leb, max, List, [], ◌∷◌, length, get_or, replicate, Option, Some, None, refl, sym, ap, ◌∙◌, subst, arith}
 use Rattle.std.specs.Char.{IsScalar}
 use Rattle.std.specs.List.{fold}
+use Rattle.std.specs.Prelude.{unwrap_or}
 use Rattle.std.proofs.lemmas.Bool.{false≢true, ltb-true, ltb-false, or_parts}
-use Rattle.roam_cells.specs.Glyph.{Glyph, IsShown, blank}
+use Rattle.roam_cells.specs.Glyph.{Glyph, IsShown, IsStyle, blank}
+use Rattle.roam_cells.proofs.CellLists.{cell_shown, default_is_style}
 use Rattle.roam_cells.specs.Limits.{IsSize}
 use Rattle.roam_cells.specs.Width.{width_of}
 use Rattle.roam_charset.specs.Charsets.{special_graphics, character_of, mapped_by}
 use Rattle.roam_charset.specs.declared.charsets.Charset.{Charset}
 use Rattle.roam_charset.specs.declared.charsets.Charset.TheVariants.{Ascii, UnitedKingdom, DecSpecialGraphics}
 use Rattle.roam_charset.specs.Sets.{in_use, spent}
-use Rattle.roam_rows.proofs.Keeping.{AreCells, either, cell_shown, blank_cells, sized_cells}
+use Rattle.roam_rows.proofs.Keeping.{AreCells, either, blank_cells, sized_cells}
 use Rattle.roam_grid.specs.Screen.{Screen}
 use Rattle.roam_grid.specs.Scrolling.{with_margins}
 use Rattle.roam_grid.specs.Cursor.{carried, indexed, moved_up, moved_down, wrap_cleared}
@@ -43,6 +45,7 @@ use Rattle.roam_controls.specs.Settings.{c1_setting, setting_of, private_setting
 use Rattle.roam_controls.specs.Reports.{report_of, private_report, secondary_report}
 use Rattle.roam_cells.specs.Inks.{InkValue}
 use Rattle.roam_term.specs.declared.pens.Saved.{Saved}
+use Rattle.roam_term.specs.Pens.{plain_pen, nothing_saved}
 use Rattle.roam_term.specs.Edits.{edited_by}
 use Rattle.roam_term.specs.Erasures.{erased_by}
 use Rattle.roam_term.specs.Motions.{row_under, homed, moved_by}
@@ -50,6 +53,7 @@ use Rattle.roam_term.specs.Settings.{bottom_of, margins_set, after_private_mode}
 use Rattle.roam_term.specs.Terminal.{Live, glyph_in, writing_under, written, printed_on, repeated, saved_on, kept_of, keepsake, restored_to, is_alternate_mode, switched, blanked, alternate_shown, main_shown, screen_chosen, soft_reset, reset, mode_set, private_mode_set, set_by, performed, commanded, changed, sized_to, started_live}
 use Rattle.roam_controls.specs.Modes.{with_private_mode}
 use Rattle.roam_term.proofs.Characters.{Each, IsProper}
+use Rattle.roam_term.proofs.Colours.{styled_is}
 use Rattle.roam_term.proofs.LastSizes.{size_by}
 use Rattle.roam_term.proofs.Resizes.{rows-sized, cols-sized}
 
@@ -211,8 +215,8 @@ mapped_scalar : (set : Charset) (c : ℕ) → IsScalar c → IsScalar (mapped_by
 unfolding mapped_by
 mapped_scalar set c h = either IsScalar (leb 0x21 c && leb c 0x7E) (character_of set c) c (λ e. character_scalar set c h) (λ e. h)
 
-pub glyph_shown : (c : ℕ) (pen : InkValue) → eqb (width_of c) 0 ≡ false → IsScalar c → IsShown (glyph_in c pen).points
-glyph_shown c pen e h = cell_shown c (ap (λ v. not v && true && true) e) h
+pub glyph_shown : (c : ℕ) (pen : InkValue) → eqb (width_of c) 0 ≡ false → IsScalar c → IsStyle pen.style → IsShown (glyph_in c pen)
+glyph_shown c pen e h is = cell_shown c pen.style pen.guarded (ap (λ v. not v && true && true) e) h is
 
 -- ---- what lives
 
@@ -220,11 +224,26 @@ abbrev pub IsPrinted : Option ℕ → Type 0
 IsPrinted None = Unit {0}
 IsPrinted (Some c) = IsScalar c
 
--- both screens are sound and of one size, and what REP repeats is a character
+-- what is saved is in a style that there is
+abbrev pub IsSaved : Option Saved → Type 0
+IsSaved None = Unit {0}
+IsSaved (Some k) = IsStyle k.pen.style
+
+-- the pen and what is saved for both screens are in styles that there are
+pub record IsInked (ink : InkValue) (main other : Option Saved) : Type 0 where
+  pub pen : IsStyle ink.style
+  pub saved : IsSaved main
+  pub alternate : IsSaved other
+
+plain_inked : IsInked plain_pen None None
+plain_inked = record { pen = default_is_style; saved = tt; alternate = tt }
+
+-- both screens are sound and of one size, what REP repeats is a character, and all that is written is in styles that there are
 pub record IsLive (l : Live) : Type 0 where
   pub screen : IsSound l.screen
   pub other : AreCells l.screen.rows l.screen.cols l.other
   pub printed : IsPrinted l.printed
+  pub inks : IsInked l.pen l.saved l.saved_alternate
 
 -- such a state, with screens of the size of another's
 pub record Lives (l m : Live) : Type 0 where
@@ -236,8 +255,9 @@ cells_of_size : (s t : Screen) (cells : List Glyph) → Kept s t → AreCells s.
 cells_of_size s t cells kept are =
     subst (λ (n : ℕ). AreCells n t.cols cells) (sym kept.rows) (subst (λ (n : ℕ). AreCells s.rows n cells) (sym kept.cols) are)
 
-goes : (l m : Live) → IsLive l → Kept l.screen m.screen → m.other ≡ l.other → IsPrinted m.printed → Lives l m
-goes l m is kept same printed = record {
+goes : (l m : Live) → IsLive l → Kept l.screen m.screen → m.other ≡ l.other → IsPrinted m.printed
+    → IsInked m.pen m.saved m.saved_alternate → Lives l m
+goes l m is kept same printed inks = record {
   rows = kept.rows;
   cols = kept.cols;
   live = record {
@@ -245,12 +265,14 @@ goes l m is kept same printed = record {
     other = subst (λ (cells : List Glyph). AreCells m.screen.rows m.screen.cols cells) (sym same)
         (cells_of_size l.screen m.screen l.other kept is.other);
     printed = printed;
+    inks = inks;
   };
 }
 
-stays : (l m : Live) → IsLive l → m.screen ≡ l.screen → m.other ≡ l.other → m.printed ≡ l.printed → Lives l m
-stays l m is screen other printed =
-    goes l m is (subst (Kept l.screen) (sym screen) (kept_same l.screen is.screen)) other (subst IsPrinted (sym printed) is.printed)
+stays : (l m : Live) → IsLive l → m.screen ≡ l.screen → m.other ≡ l.other → m.printed ≡ l.printed
+    → IsInked m.pen m.saved m.saved_alternate → Lives l m
+stays l m is screen other printed inks =
+    goes l m is (subst (Kept l.screen) (sym screen) (kept_same l.screen is.screen)) other (subst IsPrinted (sym printed) is.printed) inks
 
 lives_same : (l : Live) → IsLive l → Lives l l
 lives_same l is = record { rows = refl; cols = refl; live = is }
@@ -264,16 +286,16 @@ written_lives : (c : ℕ) (l : Live) → IsScalar c → IsLive l → Lives l (wr
 written_lives c l h is =
     let t = put_on (glyph_in c l.pen) (writing_under l.modes) l.screen in
     either (Lives l) (eqb (width_of c) 0) (record l { screen = joined_on c l.screen }) (record l { screen = t; printed = Some c })
-    (λ e. goes l (record l { screen = joined_on c l.screen }) is (grid.joined_on_kept c l.screen h is.screen) refl is.printed)
+    (λ e. goes l (record l { screen = joined_on c l.screen }) is (grid.joined_on_kept c l.screen h is.screen) refl is.printed is.inks)
     (λ e. goes l (record l { screen = t; printed = Some c }) is
-    (grid.put_on_kept (glyph_in c l.pen) (writing_under l.modes) l.screen (glyph_shown c l.pen e h) is.screen) refl h)
+    (grid.put_on_kept (glyph_in c l.pen) (writing_under l.modes) l.screen (glyph_shown c l.pen e h is.inks.pen) is.screen) refl h is.inks)
 
 printed_lives : (c : ℕ) (l : Live) → IsScalar c → IsLive l → Lives l (printed_on c l)
 unfolding printed_on
 printed_lives c l h is =
     let m : Live = record l { sets = spent l.sets } in
     let d = mapped_by (in_use l.sets) c in
-    let first = stays l m is refl refl refl in
+    let first = stays l m is refl refl refl is.inks in
     lives_then l m (written d m) first (written_lives d m (mapped_scalar (in_use l.sets) c h) first.live)
 
 repeated_lives : (n : ℕ) (o : Option ℕ) (l : Live) → IsPrinted o → IsLive l → Lives l (repeated n o l)
@@ -282,19 +304,32 @@ repeated_lives n (Some c) l h is =
     let t = put_all (replicate n (glyph_in c l.pen)) (writing_under l.modes) l.screen in
     either (Lives l) (eqb (width_of c) 0) l (record l { screen = t }) (λ e. lives_same l is)
     (λ e. goes l (record l { screen = t }) is
-    (grid.put_all_kept n (glyph_in c l.pen) (writing_under l.modes) l.screen (glyph_shown c l.pen e h) is.screen) refl is.printed)
+    (grid.put_all_kept n (glyph_in c l.pen) (writing_under l.modes) l.screen (glyph_shown c l.pen e h is.inks.pen) is.screen) refl
+    is.printed is.inks)
 
 -- ---- settings
 
 saved_lives : (l : Live) → IsLive l → Lives l (saved_on l)
 saved_lives l is =
     either (Lives l) l.alternate (record l { saved_alternate = Some (keepsake l) }) (record l { saved = Some (keepsake l) })
-    (λ e. stays l (record l { saved_alternate = Some (keepsake l) }) is refl refl refl)
-    (λ e. stays l (record l { saved = Some (keepsake l) }) is refl refl refl)
+    (λ e. stays l (record l { saved_alternate = Some (keepsake l) }) is refl refl refl
+    (record { pen = is.inks.pen; saved = is.inks.saved; alternate = is.inks.pen }))
+    (λ e. stays l (record l { saved = Some (keepsake l) }) is refl refl refl
+    (record { pen = is.inks.pen; saved = is.inks.pen; alternate = is.inks.alternate }))
 
-restored_lives : (k : Saved) (l : Live) → IsLive l → Lives l (restored_to k l)
-restored_lives k l is = goes l (restored_to k l) is
+restored_lives : (k : Saved) (l : Live) → IsStyle k.pen.style → IsLive l → Lives l (restored_to k l)
+restored_lives k l pen is = goes l (restored_to k l) is
     (grid.restored_kept l.screen is.screen k.row k.col (k.pending && l.modes.autowrap)) refl is.printed
+    (record { pen = pen; saved = is.inks.saved; alternate = is.inks.alternate })
+
+unwrapped_is : (o : Option Saved) → IsSaved o → IsStyle (unwrap_or o nothing_saved).pen.style
+unwrapped_is None h = default_is_style
+unwrapped_is (Some k) h = h
+
+kept_is : (l : Live) → IsLive l → IsStyle (kept_of l).pen.style
+kept_is l is =
+    unwrapped_is (cond l.alternate l.saved_alternate l.saved)
+    (either IsSaved l.alternate l.saved_alternate l.saved (λ e. is.inks.alternate) (λ e. is.inks.saved))
 
 switched_lives : (l : Live) → IsLive l → Lives l (switched l)
 switched_lives l is = record {
@@ -314,11 +349,12 @@ switched_lives l is = record {
     };
     other = is.screen.cells;
     printed = is.printed;
+    inks = is.inks;
   };
 }
 
 blanked_lives : (l : Live) → IsLive l → Lives l (blanked l)
-blanked_lives l is = goes l (blanked l) is (grid.all_blank_kept l.screen is.screen) refl is.printed
+blanked_lives l is = goes l (blanked l) is (grid.all_blank_kept l.screen is.screen) refl is.printed is.inks
 
 alternate_lives : (p : ℕ) (l : Live) → IsLive l → Lives l (alternate_shown p l)
 alternate_lives p l is =
@@ -337,7 +373,7 @@ main_lives p l is =
     either (Lives l) (eqb p 1047) (switched (blanked l)) (cond (eqb p 1049) (restored_to (kept_of m) m) m)
     (λ e. let a = blanked_lives l is in lives_then l (blanked l) (switched (blanked l)) a (switched_lives (blanked l) a.live))
     (λ e. either (Lives l) (eqb p 1049) (restored_to (kept_of m) m) m
-    (λ k. lives_then l m (restored_to (kept_of m) m) b (restored_lives (kept_of m) m b.live)) (λ k. b))
+    (λ k. lives_then l m (restored_to (kept_of m) m) b (restored_lives (kept_of m) m (kept_is m b.live) b.live)) (λ k. b))
 
 chosen_lives : (alternate : Bool) (p : ℕ) (l : Live) → IsLive l → Lives l (screen_chosen alternate p l)
 chosen_lives alternate p l is =
@@ -357,6 +393,7 @@ reset_lives l is =
             (subst (λ (n : ℕ). AreCells l.screen.rows l.screen.cols (replicate n blank)) (sym is.other.count)
             (blank_cells l.screen.rows l.screen.cols));
         printed = tt;
+        inks = plain_inked;
       };
     }
 
@@ -364,14 +401,14 @@ modes_live : (on : Bool) (params : List ℕ) (l : Live) → IsLive l → Lives l
 modes_live on [] l is = lives_same l is
 modes_live on (p ∷ params) l is =
     let m = mode_set on l p in
-    let first = stays l m is refl refl refl in
+    let first = stays l m is refl refl refl is.inks in
     lives_then l m (fold (mode_set on) m params) first (modes_live on params m first.live)
 
 pub private_lives : (on : Bool) (p : ℕ) (l : Live) → IsLive l → Lives l (private_mode_set on l p)
 private_lives on p l is =
     let m : Live = record l { modes = with_private_mode on p l.modes; screen = after_private_mode on p l.screen } in
     either (Lives l) (is_alternate_mode p) (screen_chosen on p l) m (λ e. chosen_lives on p l is)
-    (λ e. goes l m is (private_kept on p l.screen is.screen) refl is.printed)
+    (λ e. goes l m is (private_kept on p l.screen is.screen) refl is.printed is.inks)
 
 privates_live : (on : Bool) (params : List ℕ) (l : Live) → IsLive l → Lives l (fold (private_mode_set on) l params)
 privates_live on [] l is = lives_same l is
@@ -384,20 +421,24 @@ set_lives : (setting : Setting) (params : List ℕ) (l : Live) → IsLive l → 
 set_lives (Mode on) params l is = modes_live on params l is
 set_lives (PrivateMode on) params l is = privates_live on params l is
 set_lives Rendition params l is = stays l (set_by Rendition params l) is refl refl refl
+    (record { pen = styled_is params l.pen.style is.inks.pen; saved = is.inks.saved; alternate = is.inks.alternate })
 set_lives (Margins top bottom) params l is =
-    goes l (set_by (Margins top bottom) params l) is (margins_kept top bottom l.modes.origin l.screen is.screen) refl is.printed
+    goes l (set_by (Margins top bottom) params l) is (margins_kept top bottom l.modes.origin l.screen is.screen) refl is.printed is.inks
 set_lives (Guard on) params l is = stays l (set_by (Guard on) params l) is refl refl refl
-set_lives (Keypad application) params l is = stays l (set_by (Keypad application) params l) is refl refl refl
+    (record { pen = is.inks.pen; saved = is.inks.saved; alternate = is.inks.alternate })
+set_lives (Keypad application) params l is = stays l (set_by (Keypad application) params l) is refl refl refl is.inks
 set_lives Save params l is = saved_lives l is
-set_lives Restore params l is = restored_lives (kept_of l) l is
+set_lives Restore params l is = restored_lives (kept_of l) l (kept_is l is) is
 set_lives SoftReset params l is =
     goes l (soft_reset l) is (grid.with_margins_kept l.screen is.screen 0 (l.screen.rows - 1)
     (omega (arith, is.screen.frame.size.least_rows))
-    (omega (arith, is.screen.frame.size.least_rows))) refl is.printed
+    (omega (arith, is.screen.frame.size.least_rows))) refl is.printed plain_inked
 set_lives Reset params l is = reset_lives l is
-set_lives SetStop params l is = goes l (set_by SetStop params l) is (grid.stop_set_kept l.screen is.screen) refl is.printed
+set_lives SetStop params l is = goes l (set_by SetStop params l) is (grid.stop_set_kept l.screen is.screen) refl is.printed is.inks
 set_lives ClearStop params l is = goes l (set_by ClearStop params l) is (grid.stop_cleared_kept l.screen is.screen) refl is.printed
+    is.inks
 set_lives ClearStops params l is = goes l (set_by ClearStops params l) is (grid.stops_cleared_kept l.screen is.screen) refl is.printed
+    is.inks
 
 -- ---- commands
 
@@ -417,12 +458,12 @@ performed_lives : (command : Command) (params : List ℕ) (l : Live) → IsSaid 
 performed_lives Nothing params l h is = lives_same l is
 performed_lives (Prints c) params l h is = printed_lives c l h is
 performed_lives (Moves motion) params l h is =
-    goes l (performed (Moves motion) params l) is (moved_kept motion l.modes l.screen is.screen) refl is.printed
+    goes l (performed (Moves motion) params l) is (moved_kept motion l.modes l.screen is.screen) refl is.printed is.inks
 performed_lives (Erases erasure) params l h is =
-    goes l (performed (Erases erasure) params l) is (erased_kept erasure l.screen is.screen) refl is.printed
+    goes l (performed (Erases erasure) params l) is (erased_kept erasure l.screen is.screen) refl is.printed is.inks
 performed_lives (Edits edit) params l h is =
-    goes l (performed (Edits edit) params l) is (edited_kept edit l.screen is.screen) refl is.printed
-performed_lives (Shifts shift) params l h is = stays l (performed (Shifts shift) params l) is refl refl refl
+    goes l (performed (Edits edit) params l) is (edited_kept edit l.screen is.screen) refl is.printed is.inks
+performed_lives (Shifts shift) params l h is = stays l (performed (Shifts shift) params l) is refl refl refl is.inks
 performed_lives (Sets setting) params l h is = set_lives setting params l is
 performed_lives (Reports report) params l h is = lives_same l is
 performed_lives (Repeats n) params l h is = repeated_lives n l.printed l is.printed is
@@ -433,7 +474,7 @@ commanded_lives command params l h is =
     let first = performed_lives command params l h is in
     either (Lives l) (forgets command) (record m { printed = None }) m
     (λ e. lives_then l m (record m { printed = None }) first
-    (goes m (record m { printed = None }) first.live (kept_same m.screen first.live.screen) refl tt))
+    (goes m (record m { printed = None }) first.live (kept_same m.screen first.live.screen) refl tt first.live.inks))
     (λ e. first)
 
 -- ---- the table
@@ -524,6 +565,7 @@ sized_live rows cols l size is =
       other = subst (λ (n : ℕ). AreCells n (sized_to rows cols l).screen.cols (sized_to rows cols l).other) (sym s.rows)
           (subst (λ (n : ℕ). AreCells rows n (sized_to rows cols l).other) (sym s.cols) cells);
       printed = tt;
+      inks = is.inks;
     }
 
 abbrev pub size_of : Live → ℕ × ℕ
@@ -555,4 +597,4 @@ changed_lives (Csi marker params inter b) l h is =
     (said_sequence marker params.items inter.items b) is)
 
 pub started_lives : (rows cols : ℕ) → IsSize rows cols → IsLive (started_live rows cols)
-started_lives rows cols size = record { screen = grid.start_sound rows cols size; other = blank_cells rows cols; printed = tt }
+started_lives rows cols size = record { screen = grid.start_sound rows cols size; other = blank_cells rows cols; printed = tt; inks = plain_inked }

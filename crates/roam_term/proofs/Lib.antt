@@ -13,6 +13,7 @@ pub mod Showing
 pub mod Queue
 pub mod Characters
 pub mod LastSizes
+pub mod Colours
 pub mod Keeping
 pub mod Lines
 pub mod Picturing

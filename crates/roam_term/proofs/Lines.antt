@@ -9,7 +9,8 @@ use Rattle.roam_cells.specs.Width.{width_of}
 use Rattle.roam_cells.proofs.Places.{row_from}
 use Rattle.roam_charset.specs.Charsets.{mapped_by}
 use Rattle.roam_charset.specs.Sets.{in_use}
-use Rattle.roam_rows.proofs.Keeping.{either, line_same, space_shown}
+use Rattle.roam_cells.proofs.CellLists.{space_in_shown, blank_shown}
+use Rattle.roam_rows.proofs.Keeping.{either, line_same}
 use Rattle.roam_history.specs.Histories.{Scrollback, IsRow}
 use Rattle.roam_history.specs.Lines.{refitted_row}
 use Rattle.roam_history.proofs.Refitting.{length-refitted_row, refitted_row_at, refitted_whole}
@@ -41,7 +42,7 @@ use Rattle.roam_term.proofs.Keeping.{IsLive, IsPrinted, size_of, glyph_shown, ch
 -- a row of whole characters, each with the code points of some cell
 pub record IsLine (cols : ℕ) (row : List Glyph) : Type 0 where
   pub is : IsRow cols row
-  pub shown : (k : ℕ) → IsShown (get_or row k blank).points
+  pub shown : (k : ℕ) → IsShown (get_or row k blank)
 
 -- ---- rows of a screen
 
@@ -61,8 +62,8 @@ row_line s is i low =
             (line_same s.cols (cell_at s.cols s.cells i) (glyph_at row) at (is.cells.whole i low));
       };
       shown = λ k. elim (cases_lt k s.cols) [
-        | inl inside ↦ subst (λ (g : Glyph). IsShown g.points) (sym (at k inside)) (is.cells.shown (i * s.cols + k))
-        | inr past ↦ subst (λ (g : Glyph). IsShown g.points) (sym (get_or_past row k blank (omega (arith, count, past)))) space_shown
+        | inl inside ↦ subst IsShown (sym (at k inside)) (is.cells.shown (i * s.cols + k))
+        | inr past ↦ subst IsShown (sym (get_or_past row k blank (omega (arith, count, past)))) blank_shown
       ];
     }
 
@@ -79,7 +80,7 @@ some_lines b n s is few = either (Each (IsLine s.cols)) b (top_rows n s) [] (λ 
 first_line : (b : Bool) (s : Screen) → IsSound s → Each (IsLine s.cols) (cond b (top_rows 1 s) [])
 first_line b s is = some_lines b 1 s is (omega (arith, is.frame.size.least_rows))
 
-puts_lines : (n : ℕ) (g : Glyph) (w : Writing) (s : Screen) → IsShown g.points → IsSound s → Each (IsLine s.cols)
+puts_lines : (n : ℕ) (g : Glyph) (w : Writing) (s : Screen) → IsShown g → IsSound s → Each (IsLine s.cols)
     (left_by_puts (replicate n g) w s)
 puts_lines zero g w s shown is = tt
 puts_lines (suc n) g w s shown is =
@@ -106,7 +107,7 @@ repeat_lines n None l h is = tt
 repeat_lines n (Some c) l h is =
     either (Each (IsLine l.screen.cols)) (eqb (width_of c) 0) []
     (left_by_puts (replicate n (glyph_in c l.pen)) (writing_under l.modes) l.screen) (λ e. tt)
-    (λ e. puts_lines n (glyph_in c l.pen) (writing_under l.modes) l.screen (glyph_shown c l.pen e h) is.screen)
+    (λ e. puts_lines n (glyph_in c l.pen) (writing_under l.modes) l.screen (glyph_shown c l.pen e h is.inks.pen) is.screen)
 
 character_lines : (c : ℕ) (l : Live) → IsLive l → Each (IsLine l.screen.cols) (left_by_character c l)
 character_lines c l is =
@@ -160,12 +161,12 @@ refitted_line old cols row line =
       is = record { count = count; whole = refitted_whole cols row line.is.whole };
       shown = λ k. elim (cases_lt k cols) [
         | inl inside ↦
-            subst (λ (g : Glyph). IsShown g.points) (sym (refitted_row_at cols row k inside))
-            (either (λ (g : Glyph). IsShown g.points) (is_wide (glyph_at row k) && eqb (k + 1) cols) (space_in (glyph_at row k))
+            subst IsShown (sym (refitted_row_at cols row k inside))
+            (either IsShown (is_wide (glyph_at row k) && eqb (k + 1) cols) (space_in (glyph_at row k))
             (glyph_at row k)
-            (λ e. space_shown) (λ e. line.shown k))
-        | inr past ↦ subst (λ (g : Glyph). IsShown g.points)
-            (sym (get_or_past (refitted_row cols row) k blank (omega (arith, count, past)))) space_shown
+            (λ e. space_in_shown (glyph_at row k) (line.shown k)) (λ e. line.shown k))
+        | inr past ↦ subst IsShown
+            (sym (get_or_past (refitted_row cols row) k blank (omega (arith, count, past)))) blank_shown
       ];
     }
 

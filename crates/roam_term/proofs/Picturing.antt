@@ -1,10 +1,11 @@
 -- What a terminal shows is a screen.
-use Rattle.std.proofs.Common.{◌≡◌, ℕ, ◌+◌, ◌-◌, ◌*◌, ◌<◌, inl, inr, Bool, List, [], ◌∷◌, ◌++◌, map, drop, length, get_or, refl, sym, ap, ◌∙◌, subst, arith, append_assoc}
+use Rattle.std.proofs.Common.{◌≡◌, ℕ, ◌+◌, ◌-◌, ◌*◌, ◌<◌, inl, inr, Bool, true, false, List, [], ◌∷◌, ◌++◌, map, drop, length, get_or, refl, sym, ap, ◌∙◌, subst, arith, append_assoc}
 use Rattle.std.specs.Prelude.{All}
 use Rattle.std.proofs.lemmas.Bool.{cases_lt}
 use Rattle.std.proofs.lemmas.List.{get_or-map, length-map, get_or_append_left, get_or-append_right, get_or-take}
 use Rattle.std.proofs.lemmas.List.Elements.{All-nil, All-cons}
-use Rattle.roam_cells.specs.Glyph.{Glyph, IsShown, blank}
+use Rattle.roam_cells.specs.Glyph.{Glyph, IsShown, IsStyle, blank}
+use Rattle.roam_cells.specs.declared.styles.Style.{Style}
 use Rattle.roam_cells.specs.Limits.{IsSize}
 use Rattle.roam_cells.specs.Place.{cell_at, AreWhole, IsWholeLine}
 use Rattle.roam_screens.specs.Screenshot.{IsScreenshot}
@@ -12,7 +13,7 @@ use Rattle.roam_cells.proofs.Places.{place_below}
 use Rattle.roam_rows.proofs.Keeping.{line_same}
 use Rattle.roam_history.specs.Histories.{Scrollback, IsRow}
 use Rattle.roam_text.specs.Log.{Item}
-use Rattle.roam_term.specs.Picture.{shown, rows_in_view, cells_in_view, picture_with, picture}
+use Rattle.roam_term.specs.Picture.{shown, shown_style, rows_in_view, cells_in_view, picture_with, picture}
 use Rattle.roam_term.specs.Screens.{AreSizes, IsScreenOf}
 use Rattle.roam_term.specs.Terminal.{Live, term}
 use Rattle.roam_term.proofs.Views.{flat, view_size, view_whole}
@@ -24,18 +25,18 @@ rows_of : (cols : ℕ) (rows : List (List Glyph)) → Each (IsLine cols) rows �
 rows_of cols [] h = All-nil (IsRow cols)
 rows_of cols (row ∷ rows) h = All-cons (IsRow cols) row rows h.0.is (rows_of cols rows h.1)
 
--- rows of a history, and then the screen, have the code points of cells
+-- rows of a history, and then the screen, are what cells show
 flat_shown : (cols : ℕ) (rows : List (List Glyph)) (cells : List Glyph) → Each (IsLine cols) rows →
-    ((k : ℕ) → IsShown (get_or cells k blank).points)
-    → (k : ℕ) → IsShown (get_or (flat rows ++ cells) k blank).points
+    ((k : ℕ) → IsShown (get_or cells k blank))
+    → (k : ℕ) → IsShown (get_or (flat rows ++ cells) k blank)
 flat_shown cols [] cells h each k = each k
 flat_shown cols (row ∷ rows) cells h each k =
     let more = flat rows ++ cells in
-    subst (λ (l : List Glyph). IsShown (get_or l k blank).points) (sym (append_assoc row (flat rows) cells))
+    subst (λ (l : List Glyph). IsShown (get_or l k blank)) (sym (append_assoc row (flat rows) cells))
     (elim (cases_lt k (length row)) [
-      | inl inside ↦ subst (λ (g : Glyph). IsShown g.points) (sym (get_or_append_left row more blank k inside)) (h.0.shown k)
+      | inl inside ↦ subst IsShown (sym (get_or_append_left row more blank k inside)) (h.0.shown k)
       | inr past ↦
-          subst (λ (g : Glyph). IsShown g.points) (sym (get_or-append_right row more (length row) k blank refl past))
+          subst IsShown (sym (get_or-append_right row more (length row) k blank refl past))
           (flat_shown cols rows cells h.1 each (k - length row))
     ])
 
@@ -47,6 +48,14 @@ shown_line cols reversed f whole c q =
       wide = λ w. let pair = was.wide w in (pair.0, ap (shown reversed) pair.1);
       half = λ h. was.half h;
     }
+
+turned_is : (reversed : Bool) (s : Style) → IsStyle s → IsStyle (shown_style reversed s)
+turned_is true s is = record { foreground = is.foreground; background = is.background }
+turned_is false s is = is
+
+-- and what some cell shows
+shown_is : (reversed : Bool) (g : Glyph) → IsShown g → IsShown (shown reversed g)
+shown_is reversed g is = record { text = is.text; scalars = is.scalars; style = turned_is reversed g.style is.style }
 
 module _ (v : ℕ) (l : Live) (h : Scrollback) (is : IsLive l) (lines : Each (IsLine l.screen.cols) h.rows) where
   abbrev rows : ℕ
@@ -70,9 +79,9 @@ module _ (v : ℕ) (l : Live) (h : Scrollback) (is : IsLive l) (lines : Each (Is
   whole : AreWhole rows cols cells
   whole = view_whole cols rows above l.screen.cells (rows_of cols above lines_above) is.screen.cells.count is.screen.cells.whole
 
-  each_shown : (k : ℕ) → k < rows * cols → IsShown (get_or cells k blank).points
+  each_shown : (k : ℕ) → k < rows * cols → IsShown (get_or cells k blank)
   each_shown k low =
-      subst (λ (g : Glyph). IsShown g.points) (sym (get_or-take (rows * cols) (flat above ++ l.screen.cells) k blank low))
+      subst IsShown (sym (get_or-take (rows * cols) (flat above ++ l.screen.cells) k blank low))
       (flat_shown cols above l.screen.cells lines_above is.screen.cells.shown k)
 
   abbrev reversed : Bool
@@ -100,7 +109,8 @@ module _ (v : ℕ) (l : Live) (h : Scrollback) (is : IsLive l) (lines : Each (Is
         (shown_line cols reversed (cell_at cols cells r) (whole r p));
     unguarded = λ k low. ap (λ (g : Glyph). g.guarded) (at k (omega (arith, count, low)));
     shown = λ k low.
-        subst (λ (g : Glyph). IsShown g.points) (sym (at k (omega (arith, count, low)))) (each_shown k (omega (arith, count, low)));
+        subst IsShown (sym (at k (omega (arith, count, low))))
+        (shown_is reversed (get_or cells k blank) (each_shown k (omega (arith, count, low))));
   }
 
 pub picture_screen : (rows cols lines : ℕ) (log : List Item) (view : ℕ) → IsSize rows cols → AreSizes log

@@ -2,9 +2,9 @@
 use Rattle.std.proofs.Common.{◌≡◌, ℕ, zero, suc, ◌+◌, ◌-◌, ◌<◌, ◌≤◌, Bool, true, false, ◌&&◌, cond, eqb, ltb, List, [], ◌∷◌, ◌++◌, take, drop, length, get_or, replicate, refl, sym, ap, ◌∙◌, append_assoc, length-drop, arith}
 use Rattle.std.proofs.lemmas.Grind.{common_steps}
 use Rattle.std.proofs.lemmas.List.{get_or-take, length-take-le}
-use Rattle.roam_cells.specs.Glyph.{Glyph, is_wide, ascii_in}
+use Rattle.roam_cells.specs.Glyph.{Glyph, is_wide, ascii_in, inked_bytes}
 use Rattle.roam_rows.specs.Writing.{ArePrintable}
-use Rattle.roam_rows.proofs.Inking.{inked_bytes, bytes_narrow, length-bytes}
+use Rattle.roam_rows.proofs.Inking.{bytes_narrow, length-bytes}
 use Rattle.roam_history.specs.Histories.{Scrollback, last, pushed}
 use Rattle.roam_history.proofs.Pushing.{last_more}
 use Rattle.roam_grid.specs.Screen.{Screen}

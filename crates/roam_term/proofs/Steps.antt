@@ -5,7 +5,7 @@ use Rattle.std.proofs.lemmas.Bool.{lt-ltb, le-ltb, le-leb, leb-true, eq-eqb, eqb
 use Rattle.std.proofs.lemmas.List.{append-nil}
 use Rattle.std.proofs.lemmas.Nat.{same_from_place}
 use Rattle.roam_cells.specs.Width.{width_of, is_answer_zero, is_joiner}
-use Rattle.roam_cells.specs.Glyph.{Glyph, is_wide, is_wide_text, is_right_half, is_empty_text, is_text, is_cell_text, are_joiners, right_of, with_point, blank}
+use Rattle.roam_cells.specs.Glyph.{IsColour, Glyph, is_wide, is_wide_text, is_right_half, is_empty_text, is_text, is_cell_text, are_joiners, right_of, with_point, blank}
 use Rattle.roam_cells.specs.Place.{cell_at}
 use Rattle.roam_cells.specs.declared.styles.Style.{Style}
 use Rattle.roam_cells.specs.declared.styles.Colour.{Colour}
@@ -31,7 +31,7 @@ use Rattle.roam_text.specs.declared.functions.Function.{Function}
 use Rattle.roam_text.specs.declared.functions.Function.TheVariants.{Print}
 use Rattle.roam_term.specs.declared.pens.Saved.{Saved}
 use Rattle.roam_term.specs.Terminal.{Live, changed, lived, printed_on, written as written_on}
-use Rattle.roam_term.specs.ControlFunctions.{IsColour, layer_code, plain_colour, plain_style, mixture, set_mixture, restyle, hide_cursor, show_cursor, erase_all, place_cursor, set_style}
+use Rattle.roam_term.specs.ControlFunctions.{layer_code, plain_colour, plain_style, mixture, set_mixture, restyle, hide_cursor, show_cursor, erase_all, place_cursor, set_style}
 use Rattle.roam_term.proofs.Cells.{first_of, by, written_hit, written_half}
 use Rattle.roam_term.proofs.Styles.{styled-codes, mixed-codes}
 

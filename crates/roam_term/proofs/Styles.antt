@@ -2,6 +2,7 @@
 use Rattle.std.proofs.Common.{◌≡◌, ℕ, Bool, true, false, List, [], ◌∷◌, refl, sym, ap, ◌∙◌}
 use Rattle.std.specs.Prelude.{fold, if◌then◌else◌}
 use Rattle.std.proofs.lemmas.Bool.{le-leb}
+use Rattle.roam_cells.specs.Glyph.{IsColour}
 use Rattle.roam_cells.specs.declared.styles.Style.{Style}
 use Rattle.roam_cells.specs.declared.styles.Colour.{Colour}
 use Rattle.roam_cells.specs.declared.styles.Colour.TheVariants.{Default, Index, Rgb}
@@ -9,7 +10,7 @@ use Rattle.roam_controls.specs.declared.renditions.Awaited.TheVariants.{Aspect}
 use Rattle.roam_controls.specs.declared.renditions.Layer.{Layer}
 use Rattle.roam_controls.specs.declared.renditions.Layer.TheVariants.{Foreground, Background}
 use Rattle.roam_controls.specs.Renditions.{Rendition, coloured, with_parameter, styled}
-use Rattle.roam_term.specs.ControlFunctions.{flag_code, colour_codes, style_codes, layer_code, plain_colour, plain_style, IsColour}
+use Rattle.roam_term.specs.ControlFunctions.{flag_code, colour_codes, style_codes, layer_code, plain_colour, plain_style}
 
 abbrev folded : Style → List ℕ → Rendition
 folded g params = fold with_parameter (record { style = g; awaited = Aspect }) params

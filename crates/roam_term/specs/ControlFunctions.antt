@@ -89,16 +89,3 @@ plain_colour (Rgb r g b) = Default
 -- a style without its mixtures
 abbrev pub plain_style : Style → Style
 plain_style s = record s { foreground = plain_colour s.foreground; background = plain_colour s.background }
-
--- ---- the styles that SGR sets
-
--- the default colour, one of a table of 256, or a mixture of bytes
-abbrev pub IsColour : Colour → Type 0
-IsColour Default = ⊤
-IsColour (Index n) = n ≤ 255
-IsColour (Rgb r g b) = (r ≤ 255) × (g ≤ 255) × (b ≤ 255)
-
--- both colours of a style
-pub record IsIndexed (s : Style) : Type 0 where
-  pub foreground : IsColour s.foreground
-  pub background : IsColour s.background

@@ -1,6 +1,6 @@
 -- What control functions and characters make of a ground terminal, in whatever style it is.
 use Rattle.std.specs.Prelude.{◌≡◌, ℕ, ◌+◌, ◌-◌, ◌*◌, ◌<◌, ◌≤◌, true, false, List, [], ◌∷◌, length, None, Some}
-use Rattle.roam_cells.specs.Glyph.{Glyph, is_wide, right_of, blank}
+use Rattle.roam_cells.specs.Glyph.{IsColour, IsStyle, Glyph, is_wide, right_of, blank}
 use Rattle.roam_cells.specs.Place.{cell_at}
 use Rattle.roam_screens.specs.Screenshot.{blank_screenshot}
 use Rattle.roam_cells.specs.Width.{width_of, is_joiner}
@@ -13,7 +13,7 @@ use Rattle.roam_grid.specs.Writing.{columns, joined_on}
 use Rattle.roam_rows.specs.Places.{in_row, moved}
 use Rattle.roam_rows.specs.Writing.{written}
 use Rattle.roam_text.specs.declared.functions.Function.TheVariants.{Print}
-use Rattle.roam_term.specs.ControlFunctions.{IsColour, IsIndexed, layer_code, plain_style, mixture, hide_cursor, show_cursor, erase_all, place_cursor, reset_all, set_style}
+use Rattle.roam_term.specs.ControlFunctions.{layer_code, plain_style, mixture, hide_cursor, show_cursor, erase_all, place_cursor, reset_all, set_style}
 use Rattle.roam_term.specs.Ground.{IsGround, ShowsScreen, IsSized, in_style}
 use Rattle.roam_term.specs.Terminal.{Live, changed}
 
@@ -26,7 +26,7 @@ CursorIsPlaced =
 
 -- SGR sets a style without its mixtures, whatever style was set
 abbrev pub StyleIsSet : Type 0
-StyleIsSet = (t : Live) (g s : Style) → IsGround t → IsIndexed s
+StyleIsSet = (t : Live) (g s : Style) → IsGround t → IsStyle s
     → changed (set_style s) (in_style g t) ≡ in_style (plain_style s) (record t { printed = None })
 
 -- SGR with 38 or 48 and 2 sets a mixture of three bytes, and nothing else of a style

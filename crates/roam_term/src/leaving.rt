@@ -1,6 +1,6 @@
 //! The rows that leave the screen at its top, which the history takes before they are gone.
-ghost use Rattle.std.specs.Prelude.{◌≡◌, ◌+◌, ◌≤◌, ◌<◌, [], IsTrue, replicate, false, length, map, take, if◌then◌else◌};
-ghost use Rattle.roam_cells.specs.Glyph.{is_right_half, ascii_in};
+ghost use Rattle.std.specs.Prelude.{◌≡◌, ◌+◌, ◌≤◌, ◌<◌, [], IsTrue, replicate, false, length, take, if◌then◌else◌};
+ghost use Rattle.roam_cells.specs.Glyph.{is_right_half, inked_bytes};
 ghost use Rattle.roam_grid.specs.Frames.{leaving};
 ghost use Rattle.roam_grid.specs.Marks.{marks_put, marks_put_all};
 ghost use Rattle.roam_grid.specs.Screen.{IsSameSize};
@@ -199,11 +199,11 @@ fn put_front(
     requires cols { history.old.cols ≡ grid.old.screen.cols }
     ensures some { 0 < result }
     ensures within { result ≤ length bytes.now }
-    ensures screen { grid.new.screen ≡ put_all (map (λ byte. ascii_in byte pen) (take result bytes.now)) writing grid.old.screen }
+    ensures screen { grid.new.screen ≡ put_all (inked_bytes pen (take result bytes.now)) writing grid.old.screen }
     ensures marks { grid.new.marks
-        ≡ marks_put_all (map (λ byte. ascii_in byte pen) (take result bytes.now)) writing grid.old.screen grid.old.marks }
+        ≡ marks_put_all (inked_bytes pen (take result bytes.now)) writing grid.old.screen grid.old.marks }
     ensures history { history.new ≡ with_rows (on_main alternate
-        (left_by_puts (map (λ byte. ascii_in byte pen) (take result bytes.now)) writing grid.old.screen)) history.old }
+        (left_by_puts (inked_bytes pen (take result bytes.now)) writing grid.old.screen)) history.old }
     ensures size { IsSameSize grid.old.screen grid.new.screen }
 {
     let mut cell = pen;
@@ -225,10 +225,10 @@ fn put_rows(
 )
     requires printable { ArePrintable bytes.now }
     requires cols { history.old.cols ≡ grid.old.screen.cols }
-    ensures screen { grid.new.screen ≡ put_all (map (λ byte. ascii_in byte pen) bytes.now) writing grid.old.screen }
-    ensures marks { grid.new.marks ≡ marks_put_all (map (λ byte. ascii_in byte pen) bytes.now) writing grid.old.screen grid.old.marks }
+    ensures screen { grid.new.screen ≡ put_all (inked_bytes pen bytes.now) writing grid.old.screen }
+    ensures marks { grid.new.marks ≡ marks_put_all (inked_bytes pen bytes.now) writing grid.old.screen grid.old.marks }
     ensures history { history.new ≡ with_rows (on_main alternate
-        (left_by_puts (map (λ byte. ascii_in byte pen) bytes.now) writing grid.old.screen)) history.old }
+        (left_by_puts (inked_bytes pen bytes.now) writing grid.old.screen)) history.old }
     ensures size { IsSameSize grid.old.screen grid.new.screen }
 {
     let mut at = 0;
@@ -263,10 +263,10 @@ pub fn put_run(
     requires some { 0 < length bytes.now }
     requires printable { ArePrintable bytes.now }
     requires cols { history.old.cols ≡ grid.old.screen.cols }
-    ensures screen { grid.new.screen ≡ put_all (map (λ byte. ascii_in byte pen) bytes.now) writing grid.old.screen }
-    ensures marks { grid.new.marks ≡ marks_put_all (map (λ byte. ascii_in byte pen) bytes.now) writing grid.old.screen grid.old.marks }
+    ensures screen { grid.new.screen ≡ put_all (inked_bytes pen bytes.now) writing grid.old.screen }
+    ensures marks { grid.new.marks ≡ marks_put_all (inked_bytes pen bytes.now) writing grid.old.screen grid.old.marks }
     ensures history { history.new ≡ with_rows (on_main alternate
-        (left_by_puts (map (λ byte. ascii_in byte pen) bytes.now) writing grid.old.screen)) history.old }
+        (left_by_puts (inked_bytes pen bytes.now) writing grid.old.screen)) history.old }
     ensures size { IsSameSize grid.old.screen grid.new.screen }
 {
     stays(history);

@@ -151,6 +151,6 @@ module _ (faces : (size : SessionSize) (log : List Entry) → IsSessionSize size
         number = shows.0;
         screen = shows.1 ∙ is_face;
         terminal =
-            λ indexed rows cols lines log displays fits. (painted_leads rows cols lines log (shown_screen c) (seen_face s c) is indexed
+            λ rows cols lines log displays fits. (painted_leads rows cols lines log (shown_screen c) (seen_face s c) is
             displays fits.rows_fit fits.cols_fit).displays;
       }

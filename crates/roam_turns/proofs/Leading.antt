@@ -4,7 +4,6 @@ use Rattle.std.proofs.lemmas.List.{map-append}
 use Rattle.roam_screens.specs.Screenshot.{Screenshot, IsScreenshot, blank_screenshot}
 use Rattle.roam_acts.specs.declared.acts.Act.{Act}
 use Rattle.roam_text.specs.Log.{Item, Byte}
-use Rattle.roam_paint.specs.Colours.{AreIndexed}
 use Rattle.roam_paint.specs.Ground.{Displays, PaintedLeadsOver, OpenedBeginsBlank}
 use Rattle.roam_paint.specs.Painting.{painted, opened}
 use Rattle.roam_hub.specs.declared.addresses.Addr.{Addr}
@@ -62,21 +61,21 @@ shows_noted outer None bytes n s leads behind is = absurd is
 shows_noted outer (Some noted) bytes n s leads behind is = subst (Shows outer bytes) (behind.same is) leads
 
 module _ (painted_leads : PaintedLeadsOver) (opened_begins : OpenedBeginsBlank) where
-  text_leads : (outer : Option Noted) (s : Screenshot) → IsScreenshot s → AreIndexed s.cells → (rows cols lines : ℕ) (log : List Item)
+  text_leads : (outer : Option Noted) (s : Screenshot) → IsScreenshot s → (rows cols lines : ℕ) (log : List Item)
       → IsReady rows cols lines log outer → Fits rows cols lines log s → Displays rows cols lines (log ++ map Byte (text_for outer s)) s
-  text_leads None s is indexed rows cols lines log ready fits =
+  text_leads None s is rows cols lines log ready fits =
       let open_text = opened_begins rows cols lines log ready.0 ready.1 in
       let blank = blank_screenshot s.rows s.cols in
       let begun = open_text.displays s.rows s.cols fits.rows_fit fits.cols_fit in
       let led =
-      painted_leads rows cols lines (log ++ map Byte opened) blank s is indexed begun
+      painted_leads rows cols lines (log ++ map Byte opened) blank s is begun
       (omega (arith, fits.rows_fit, open_text.size.rows)) (omega (arith, fits.cols_fit, open_text.size.cols)) in
       subst (λ l. Displays rows cols lines l s)
       (append_assoc log (map Byte opened) (map Byte (painted blank s))
       ∙ ap (λ l. log ++ l) (sym (map-append Byte opened (painted blank s))))
       led.displays
-  text_leads (Some noted) s is indexed rows cols lines log ready fits =
-      (painted_leads rows cols lines log noted.screen s is indexed ready fits.rows_fit fits.cols_fit).displays
+  text_leads (Some noted) s is rows cols lines log ready fits =
+      (painted_leads rows cols lines log noted.screen s is ready fits.rows_fit fits.cols_fit).displays
 
   same_leads : (outer : Option Noted) → Leads outer [] outer
   same_leads None = tt
@@ -84,22 +83,22 @@ module _ (painted_leads : PaintedLeadsOver) (opened_begins : OpenedBeginsBlank) 
       λ rows cols lines log ready fits. subst (λ l. Displays rows cols lines l noted.screen) (sym (append-nil log)) ready
 
   pub paints_leads : (n : ℕ) (s : Screenshot) (outer outer' : Option Noted) (xs : List (Call ClientCall)) → IsScreenshot s
-      → AreIndexed s.cells → Paints n s outer outer' xs → Leads outer (shown_in xs) outer'
-  paints_leads n s outer outer' xs is indexed (already there none same) =
+      → Paints n s outer outer' xs → Leads outer (shown_in xs) outer'
+  paints_leads n s outer outer' xs is (already there none same) =
       subst (Leads outer (shown_in xs)) (sym same) (subst (λ l. Leads outer l outer) (sym (ap shown_in none)) (same_leads outer))
-  paints_leads n s outer outer' xs is indexed (no_memory other none same) =
+  paints_leads n s outer outer' xs is (no_memory other none same) =
       subst (Leads outer (shown_in xs)) (sym same) (subst (λ l. Leads outer l outer) (sym (ap shown_in none)) (same_leads outer))
-  paints_leads n s outer outer' xs is indexed (shown other text now) =
+  paints_leads n s outer outer' xs is (shown other text now) =
       let all : text_for outer s ≡ shown_in xs = sym (ap shown_in text ∙ append-nil (text_for outer s)) in
       subst (Leads outer (shown_in xs)) (sym now)
       (λ rows cols lines log ready fits. subst (λ l. Displays rows cols lines (log ++ map Byte l) s) all
-      (text_leads outer s is indexed rows cols lines log ready fits))
-  paints_leads n s outer outer' xs is indexed (failed other text now) = subst (Leads outer (shown_in xs)) (sym now) tt
+      (text_leads outer s is rows cols lines log ready fits))
+  paints_leads n s outer outer' xs is (failed other text now) = subst (Leads outer (shown_in xs)) (sym now) tt
 
   pub turn_leads : (n : ℕ) (s : Screenshot) (outer outer' : Option Noted) (to : Addr) (next : Option Act) (taken : Bool)
-      (calls : List (Call ClientCall)) → IsScreenshot s → AreIndexed s.cells → AttachTurn n s outer outer' to next taken calls
+      (calls : List (Call ClientCall)) → IsScreenshot s → AttachTurn n s outer outer' to next taken calls
       → Leads outer (shown_in calls) outer'
-  turn_leads n s outer outer' to next taken calls is indexed t =
+  turn_leads n s outer outer' to next taken calls is t =
       let typing = t.parts in
       let receiving = typing.later in
       let painting = receiving.later in
@@ -111,4 +110,4 @@ module _ (painted_leads : PaintedLeadsOver) (opened_begins : OpenedBeginsBlank) 
       ∙ (ap (λ l. l ++ shown_in typing.after) a ∙ (ap shown_in receiving.all ∙ (shown_both receiving.before receiving.after
       ∙ (ap (λ l. l ++ shown_in receiving.after) b ∙ (ap shown_in painting.all ∙ (shown_both painting.before painting.after
       ∙ (ap (λ l. shown_in painting.before ++ l) d ∙ append-nil (shown_in painting.before)))))))))) in
-      subst (λ l. Leads outer l outer') (sym all) (paints_leads n s outer outer' painting.before is indexed painting.first)
+      subst (λ l. Leads outer l outer') (sym all) (paints_leads n s outer outer' painting.before is painting.first)

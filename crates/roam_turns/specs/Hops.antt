@@ -4,7 +4,6 @@ use Rattle.roam_cells.specs.declared.faults.Fault.{Fault}
 use Rattle.roam_cells.specs.declared.faults.Fault.TheVariants.{OutOfMemory}
 use Rattle.roam_screens.specs.Screenshot.{Screenshot}
 use Rattle.roam_text.specs.Log.{Item, Byte}
-use Rattle.roam_paint.specs.Colours.{AreIndexed}
 use Rattle.roam_paint.specs.Ground.{Displays}
 use Rattle.roam_paint.specs.Painting.{painted}
 use Rattle.roam_sync.specs.Receivers.{pairs, state_at, from_floor}
@@ -99,13 +98,12 @@ pub record Hop (s : Server) (id now : ℕ) (c : Client) (after : ClientView) : T
 abbrev pub seen_face : Server → Client → Screenshot
 seen_face s c = seen_by c.version (face s.size s.log)
 
--- The start shows the face of all that was put into the session, as its version is shown it, under the number that was made; and where its
--- colours can be written, whatever terminal showed what the start showed before, of at least that screen's size, shows it once the text
--- between the two is written.
+-- The start shows the face of all that was put into the session, as its version is shown it, under the number that was made; and whatever
+-- terminal showed what the start showed before, of at least that screen's size, shows it once the text between the two is written.
 pub record Arrives (s : Server) (now : ℕ) (c : Client) (after : ClientView) : Type 0 where
   pub number : after.receiver.newest.number ≡ number_by s now
   pub screen : after.receiver.newest.state ≡ seen_face s c
-  pub terminal : AreIndexed (seen_face s c).cells → (rows cols lines : ℕ) (log : List Item)
+  pub terminal : (rows cols lines : ℕ) (log : List Item)
       → Displays rows cols lines log (shown_screen c) → Fits rows cols lines log (seen_face s c)
       → Displays rows cols lines (log ++ map Byte (painted (shown_screen c) (seen_face s c))) (seen_face s c)
 

@@ -3,7 +3,6 @@ ghost use Rattle.std.specs.Prelude.{◌≡◌, List, Option, IfSome};
 ghost use Rattle.std.specs.Option.{option_copied};
 ghost use Rattle.roam_acts.specs.Acts.{IsInRange};
 ghost use Rattle.roam_screens.specs.Screenshot.{IsScreenshot};
-ghost use Rattle.roam_paint.specs.Colours.{AreIndexed};
 ghost use Rattle.roam_turns.specs.Calls.{ClientCall, PortCall};
 ghost use Rattle.roam_turns.specs.Painting.{Follows, IsNoted, IsBehind, Leads, Shows};
 ghost use Rattle.roam_turns.specs.Parts.{Call, Makes, ReceivesUpTo};
@@ -16,7 +15,6 @@ use crate::sending::send_texts;
 use crate::serving::{DATAGRAM, MOST_RECEIVES};
 use roam_acts::Act;
 use roam_hub::Addr;
-use roam_paint::colours_of;
 use roam_paint::laws::{opened_begins_blank, painted_leads_over};
 use roam_screens::Seen;
 use std::alloc::Global;
@@ -61,11 +59,9 @@ fn paint_screen<C: ClientCore, P: Ports>(
     ensures paints { Makes C.step (Paints (C.number client.now) (C.screen client.now) outer.old outer.new)
         (P.told ports.old) (P.told ports.new) (C.made client.now) (C.made client.now) client.now client.now }
     ensures screen { IsScreenshot (C.screen client.now) }
-    ensures indexed { AreIndexed (C.screen client.now).cells }
 {
     let (number, screen) = client.shown();
     screen.facts();
-    colours_of(&screen);
     if outer.is_noted(number) {
         return;
     }

@@ -2,7 +2,7 @@
 use Rattle.std.proofs.Common.{◌≡◌, ℕ, ◌+◌, ◌*◌, ◌^◌, ◌/◌, ◌%◌, ◌<◌, ◌≤◌, Bool, true, false, not, cond, eqb, leb, ◌&&◌, List, [], ◌∷◌, ◌++◌, length, drop, Option, Some, None, refl, sym, ap, ◌∙◌, append_assoc, arith, length-append}
 use Rattle.std.specs.Prelude.{All, option_and_then}
 use Rattle.std.specs.Char.{IsScalar}
-use Rattle.std.proofs.lemmas.Bool.{and_parts, leb-true, le-leb, false≢true}
+use Rattle.std.proofs.lemmas.Bool.{and_parts, and_from, leb-true, le-leb, false≢true}
 use Rattle.std.proofs.lemmas.Bool.Decides.{nat_tests}
 use Rattle.std.proofs.lemmas.List.{drop_at}
 use Rattle.std.proofs.lemmas.List.Elements.{All-head, All-tail}
@@ -13,10 +13,10 @@ use Rattle.roam_cells.specs.declared.styles.Colour.{Colour}
 use Rattle.roam_cells.specs.declared.styles.Colour.TheVariants.{Default, Index, Rgb}
 use Rattle.roam_cells.specs.Width.{width_of}
 use Rattle.roam_cells.specs.Glyph.{Glyph, is_text, are_joiners}
-use Rattle.roam_update.specs.CellText.{Front, IsPlain, bit, flags, colour_kind, colour_index, is_short_colour, is_short_style, points_text, style_text, cell_text, cells_text, is_scalar, point_read, points_read, colour_read, style_of, number_read, style_read, form_after, head_size, glyph_of, glyph_read, cell_size, cell_read, cells_read}
+use Rattle.roam_update.specs.CellText.{Front, IsPlain, bit, flags, colour_kind, colour_index, is_short_colour, is_short_style, points_text, style_text, cell_text, cells_text, is_scalar, point_read, points_read, colour_read, style_of, number_read, style_read, form_after, head_size, is_style, glyph_of, glyph_read, cell_size, cell_read, cells_read}
 use Rattle.roam_update.specs.Styles.{Form, Whole, Numbered, number_in, used_after, style_in}
 use Rattle.roam_update.proofs.Forms.{past, past_all, Fits, TakesCells, IsForm, form_past, cells_past, stands}
-use Rattle.roam_update.proofs.Testing.{is_scalar_of}
+use Rattle.roam_update.proofs.Testing.{is_scalar_of, is_style_of}
 
 pub few_points : (ps : List ℕ) → is_text ps ≡ true → length ps ≤ 3
 few_points [] e = omega arith
@@ -92,7 +92,8 @@ some_glyph g = Some g
 
 glyph_made : (g : Glyph) → IsPlain g → glyph_of g.points g.style ≡ Some g
 glyph_made g h =
-    ap (λ t. cond t (Some (record { points = g.points; style = g.style; guarded = false })) None) h.shown.text
+    ap (λ t. cond t (Some (record { points = g.points; style = g.style; guarded = false })) None)
+    (and_from (is_style g.style) (is_text g.points) (is_style_of g.style h.shown.style) h.shown.text)
     ∙ ap (λ (k : Bool). some_glyph (record { points = g.points; style = g.style; guarded = k })) (sym h.unguarded)
 
 abbrev glyphs : Style → Option (List ℕ) → Option Glyph

@@ -9,7 +9,7 @@ use Rattle.roam_cells.specs.declared.styles.Style.{Style}
 use Rattle.roam_cells.specs.declared.styles.Colour.{Colour}
 use Rattle.roam_cells.specs.declared.styles.Colour.TheVariants.{Default, Index}
 use Rattle.roam_cells.specs.Glyph.{Glyph, is_text}
-use Rattle.roam_update.specs.CellText.{Front, bit, flags, colour_kind, colour_index, is_short_colour, is_short_style, points_text, style_text, cell_text, cells_text, is_scalar, point_read, points_read, colour_read, style_of, whole_style, number_read, style_read, form_after, head_size, glyph_of, glyph_read, cell_size, cell_read, cells_read}
+use Rattle.roam_update.specs.CellText.{Front, bit, flags, colour_kind, colour_index, is_short_colour, is_short_style, points_text, style_text, cell_text, cells_text, is_scalar, point_read, points_read, colour_read, style_of, whole_style, is_style, number_read, style_read, form_after, head_size, glyph_of, glyph_read, cell_size, cell_read, cells_read}
 use Rattle.roam_update.specs.Styles.{Form, Whole, Numbered, number_in, used_after}
 use Rattle.roam_update.proofs.Forms.{past, past_all, Fits, TakesCells, IsForm, form_past, cells_past, place_below}
 use Rattle.roam_update.proofs.Bytes.{AreBytes, bytes-drop, number_3, number_4}
@@ -116,7 +116,7 @@ six (a ∷ b ∷ c ∷ d ∷ e ∷ f ∷ rest) h = refl
 
 glyph_of_parts : (ps : List ℕ) (s : Style) (g : Glyph) → glyph_of ps s ≡ Some g → (ps ≡ g.points) × (s ≡ g.style)
 glyph_of_parts ps s g e =
-    let a = cond_some (is_text ps) (record { points = ps; style = s; guarded = false }) g e in
+    let a = cond_some (is_style s && is_text ps) (record { points = ps; style = s; guarded = false }) g e in
     (ap (λ (x : Glyph). x.points) a.1, ap (λ (x : Glyph). x.style) a.1)
 
 -- what is read of a style: where it stands in the text, that it can be said, and what follows

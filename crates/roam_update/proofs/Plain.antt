@@ -11,15 +11,16 @@ use Rattle.roam_cells.specs.Glyph.{Glyph, IsShown, is_text, is_wide, space_in, b
 use Rattle.roam_cells.specs.Place.{cell_at}
 use Rattle.roam_screens.specs.Screenshot.{Screenshot, IsScreenshot}
 use Rattle.roam_cells.specs.Width.{width-space}
+use Rattle.roam_cells.proofs.CellLists.{space_in_shown, blank_shown}
 use Rattle.roam_cells.proofs.Places.{get_or-table, place_of, place_below}
-use Rattle.roam_update.specs.CellText.{Front, IsPlain, is_scalar, point_read, points_read, style_read, form_after, head_size, glyph_of, glyph_read, cell_size, cell_read, cells_read}
+use Rattle.roam_update.specs.CellText.{Front, IsPlain, is_scalar, is_style, point_read, points_read, style_read, form_after, head_size, glyph_of, glyph_read, cell_size, cell_read, cells_read}
 use Rattle.roam_update.specs.Styles.{Form, is_used_up}
 use Rattle.roam_update.specs.ChangeText.{may_begin, runs_read}
 use Rattle.roam_update.specs.Put.{runs_put}
 use Rattle.roam_update.specs.Runs.{Run, placed, patched}
 use Rattle.roam_update.specs.Sizes.{sized, sized_at}
 use Rattle.roam_update.proofs.Sizing.{length_sized}
-use Rattle.roam_update.proofs.Testing.{scalar_is}
+use Rattle.roam_update.proofs.Testing.{scalar_is, style_is}
 
 -- ---- cells that are read
 
@@ -45,8 +46,9 @@ points_scalar (suc n) text ps e =
 
 glyph_of_plain : (ps : List ℕ) (style : Style) (g : Glyph) → All IsScalar ps → glyph_of ps style ≡ Some g → IsPlain g
 glyph_of_plain ps style g h e =
-    let a = cond_some (is_text ps) (record { points = ps; style = style; guarded = false }) g e in
-    subst IsPlain a.1 (record { shown = record { text = a.0; scalars = h }; unguarded = refl })
+    let a = cond_some (is_style style && is_text ps) (record { points = ps; style = style; guarded = false }) g e in
+    let both = and_parts (is_style style) (is_text ps) a.0 in
+    subst IsPlain a.1 (record { shown = record { text = both.1; scalars = h; style = style_is style both.0 }; unguarded = refl })
 
 pub glyph_plain : (f : Form) (text : List ℕ) (g : Glyph) → glyph_read f text ≡ Some g → IsPlain g
 glyph_plain f text g e =
@@ -131,16 +133,6 @@ put_length form n least cells text after e =
 
 -- ---- cells that are brought to a size
 
-space_scalar : IsScalar 32
-space_scalar = refl
-
-space_shown : IsShown (32 ∷ [])
-space_shown =
-    record {
-      text = ap (λ w. not (eqb w 0) && true && true) width-space;
-      scalars = All-cons IsScalar 32 [] space_scalar (All-nil IsScalar);
-    }
-
 module _ (cols : ℕ) (s : Screenshot) (r c : ℕ) (h : IsScreenshot s) where
   abbrev old : Glyph
   old = cell_at s.cols s.cells r c
@@ -152,10 +144,11 @@ module _ (cols : ℕ) (s : Screenshot) (r c : ℕ) (h : IsScreenshot s) where
 
   kept_plain : (x y z : Bool) → ltb r s.rows ≡ x → ltb c s.cols ≡ y → IsPlain (cond (x && y) (cond z (space_in old) old) blank)
   kept_plain true true true a b =
-      record { shown = space_shown; unguarded = (old_plain (ltb-true r s.rows a) (ltb-true c s.cols b)).unguarded }
+      let was = old_plain (ltb-true r s.rows a) (ltb-true c s.cols b) in
+      record { shown = space_in_shown old was.shown; unguarded = was.unguarded }
   kept_plain true true false a b = old_plain (ltb-true r s.rows a) (ltb-true c s.cols b)
-  kept_plain true false z a b = record { shown = space_shown; unguarded = refl }
-  kept_plain false y z a b = record { shown = space_shown; unguarded = refl }
+  kept_plain true false z a b = record { shown = blank_shown; unguarded = refl }
+  kept_plain false y z a b = record { shown = blank_shown; unguarded = refl }
 
   pub sized_at_plain : IsPlain (sized_at cols s r c)
   sized_at_plain = kept_plain (ltb r s.rows) (ltb c s.cols) (eqb (c + 1) cols && is_wide old) refl refl

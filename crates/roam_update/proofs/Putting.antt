@@ -1,14 +1,14 @@
 -- Reading the text of one thing more, and putting it into its place.
-use Rattle.std.proofs.Common.{◌≡◌, ℕ, zero, suc, ◌+◌, ◌-◌, ◌*◌, ◌^◌, ◌<◌, ◌≤◌, true, false, eqb, leb, ◌&&◌, List, [], ◌∷◌, length, drop, set, Option, Some, None, refl, sym, ap, ◌∙◌, arith}
+use Rattle.std.proofs.Common.{◌≡◌, ℕ, zero, suc, ◌+◌, ◌-◌, ◌*◌, ◌^◌, ◌<◌, ◌≤◌, true, false, cond, eqb, leb, ◌&&◌, List, [], ◌∷◌, length, drop, set, Option, Some, None, refl, sym, ap, ◌∙◌, arith}
 use Rattle.std.specs.Prelude.{IfSome, option_and_then}
 use Rattle.std.proofs.lemmas.List.{drop-drop, length-drop}
 use Rattle.std.proofs.lemmas.Option.{cond_some, option_and_then_some}
 use Rattle.std.proofs.lemmas.Bool.{ne_eqb, and_parts, and_right, leb-true}
 use Rattle.byteorder.specs.Endian.{big_number}
-use Rattle.roam_cells.specs.Glyph.{Glyph}
+use Rattle.roam_cells.specs.Glyph.{Glyph, is_text}
 use Rattle.roam_cells.specs.declared.styles.Style.{Style}
 use Rattle.roam_update.specs.Runs.{Run, placed, patched}
-use Rattle.roam_update.specs.CellText.{Front, is_scalar, point_read, points_read, glyph_of, glyph_read, cell_size, form_after, cells_read}
+use Rattle.roam_update.specs.CellText.{Front, is_scalar, point_read, points_read, is_style, glyph_of, glyph_read, cell_size, form_after, cells_read}
 use Rattle.roam_update.specs.Styles.{Form, Whole, is_used_up}
 use Rattle.roam_update.specs.ChangeText.{runs_read, may_begin}
 use Rattle.roam_update.specs.Put.{cells_put, runs_put}
@@ -28,9 +28,10 @@ third_none (suc zero) text first second style h e f g = absurd (omega arith)
 third_none (suc (suc zero)) text first second style h e f g = absurd (omega arith)
 third_none (suc (suc (suc n))) text first second style h e f g = rw (e, f, drop-drop 4 4 text, g) refl
 
-pub three : (n : ℕ) (text : List ℕ) (first second third : ℕ) (style : Style) → n ≡ 3 → point_read text ≡ Some first → point_read (drop 4 text) ≡ Some second
-    → point_read (drop 8 text) ≡ Some third → glyph_of (first ∷ second ∷ third ∷ []) style ≡ made style (points_read n text)
-three n text first second third style h e f g = rw (h, e, f, drop-drop 4 4 text, g) refl
+pub three : (n : ℕ) (text : List ℕ) (first second third : ℕ) (style : Style) → is_style style ≡ true → n ≡ 3 → point_read text ≡ Some first → point_read (drop 4 text) ≡ Some second
+    → point_read (drop 8 text) ≡ Some third → cond (is_text (first ∷ second ∷ third ∷ [])) (Some (record { points = first ∷ second ∷ third ∷ []; style = style; guarded = false })) None
+        ≡ made style (points_read n text)
+three n text first second third style is h e f g = rw (h, e, f, drop-drop 4 4 text, g, is) refl
 
 point_long : (text : List ℕ) (c : ℕ) → point_read text ≡ Some c → 4 ≤ length text
 point_long text c e =

@@ -13,7 +13,7 @@ use Rattle.roam_screens.specs.Narrow.{IsOldScreenshot, is_plain_colour, is_plain
 use Rattle.roam_cells.specs.Place.{cell_at}
 use Rattle.roam_screens.specs.Screenshot.{Screenshot}
 use Rattle.roam_cells.proofs.Places.{get_or-table, place_of, place_below}
-use Rattle.roam_update.specs.CellText.{Front, points_read, colour_read, style_of, whole_style, glyph_of, glyph_read, cell_size, cell_read, cells_read}
+use Rattle.roam_update.specs.CellText.{Front, points_read, colour_read, style_of, whole_style, is_style, glyph_of, glyph_read, cell_size, cell_read, cells_read}
 use Rattle.roam_update.specs.ChangeText.{may_begin, runs_read}
 use Rattle.roam_update.specs.Put.{runs_put}
 use Rattle.roam_update.specs.Runs.{Run, placed, patched}
@@ -50,7 +50,7 @@ style_short text s e =
 
 glyph_of_style : (ps : List ℕ) (style : Style) (g : Glyph) → is_plain_style style ≡ true → glyph_of ps style ≡ Some g → IsShort g
 glyph_of_style ps style g h e =
-    let a = cond_some (is_text ps) (record { points = ps; style = style; guarded = false }) g e in
+    let a = cond_some (is_style style && is_text ps) (record { points = ps; style = style; guarded = false }) g e in
     subst IsShort a.1 h
 
 glyph_short : (text : List ℕ) (g : Glyph) → glyph_read Whole text ≡ Some g → IsShort g

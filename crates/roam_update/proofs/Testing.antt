@@ -7,13 +7,16 @@ use Rattle.std.proofs.lemmas.Bool.{and_parts, and_from, cases_lt, eqb-true, eq-e
 use Rattle.std.proofs.lemmas.Bool.Decides.{nat_tests}
 use Rattle.std.proofs.lemmas.List.Elements.{All-head, All-tail, All-cons, All-nil, All-get_or, All-from_get_or}
 use Rattle.std.proofs.Math.Utf8.{scalar_cases}
-use Rattle.roam_cells.specs.Glyph.{Glyph, is_wide, is_right_half, is_wide_text, is_empty_text, right_of, is_text, blank}
+use Rattle.roam_cells.specs.Glyph.{Glyph, is_wide, is_right_half, is_wide_text, is_empty_text, right_of, is_text, IsColour, IsStyle, blank}
+use Rattle.roam_cells.specs.declared.styles.Style.{Style}
+use Rattle.roam_cells.specs.declared.styles.Colour.{Colour}
+use Rattle.roam_cells.specs.declared.styles.Colour.TheVariants.{Default, Index, Rgb}
 use Rattle.roam_cells.specs.Limits.{IsSize}
 use Rattle.roam_screens.specs.Narrow.{IsOldScreenshot, is_plain_style}
 use Rattle.roam_cells.specs.Place.{cell_at, IsWholeAt, AreWhole, AreShown, AreUnguarded}
 use Rattle.roam_screens.specs.Screenshot.{Screenshot, IsScreenshot, IsPlace}
 use Rattle.roam_update.specs.Same.{same}
-use Rattle.roam_update.specs.CellText.{IsPlain, is_scalar}
+use Rattle.roam_update.specs.CellText.{IsPlain, is_scalar, is_colour, is_style}
 use Rattle.roam_update.specs.Tested.{all_below, is_size, is_place, is_whole_at, are_whole, is_plain, is_screenshot, is_old_screenshot}
 use Rattle.roam_update.proofs.Sameness.{glyph_same, same_glyph}
 
@@ -59,6 +62,30 @@ is_scalar_of c h =
 
 -- ---- a cell
 
+colour_is : (c : Colour) → is_colour c ≡ true → IsColour c
+colour_is Default e = tt
+colour_is (Index n) e = leb-true n 255 e
+colour_is (Rgb r g b) e =
+    let more = and_parts (leb r 255) (leb g 255 && leb b 255) e in
+    let last = and_parts (leb g 255) (leb b 255) more.1 in
+    (leb-true r 255 more.0, leb-true g 255 last.0, leb-true b 255 last.1)
+
+is_colour_of : (c : Colour) → IsColour c → is_colour c ≡ true
+is_colour_of Default h = refl
+is_colour_of (Index n) h = le-leb n 255 h
+is_colour_of (Rgb r g b) h =
+    and_from (leb r 255) (leb g 255 && leb b 255) (le-leb r 255 h.0)
+    (and_from (leb g 255) (leb b 255) (le-leb g 255 h.1) (le-leb b 255 h.2))
+
+pub style_is : (s : Style) → is_style s ≡ true → IsStyle s
+style_is s e =
+    let both = and_parts (is_colour s.foreground) (is_colour s.background) e in
+    record { foreground = colour_is s.foreground both.0; background = colour_is s.background both.1 }
+
+pub is_style_of : (s : Style) → IsStyle s → is_style s ≡ true
+is_style_of s h =
+    and_from (is_colour s.foreground) (is_colour s.background) (is_colour_of s.foreground h.foreground) (is_colour_of s.background h.background)
+
 not_guarded : (b : Bool) → not b ≡ true → b ≡ false
 not_guarded false e = refl
 not_guarded true e = absurd (false≢true e)
@@ -66,16 +93,18 @@ not_guarded true e = absurd (false≢true e)
 pub plain_is : (g : Glyph) → is_plain g ≡ true → IsPlain g
 plain_is g e =
     let a = and_parts (is_text g.points) _ e in
-    let b = and_parts (list_all is_scalar g.points) (not g.guarded) a.1 in
+    let b = and_parts (list_all is_scalar g.points) _ a.1 in
+    let c = and_parts (is_style g.style) (not g.guarded) b.1 in
     record {
-      shown = record { text = a.0; scalars = list_each is_scalar IsScalar scalar_is g.points b.0 };
-      unguarded = not_guarded g.guarded b.1;
+      shown = record { text = a.0; scalars = list_each is_scalar IsScalar scalar_is g.points b.0; style = style_is g.style c.0 };
+      unguarded = not_guarded g.guarded c.1;
     }
 
 pub is_plain_of : (g : Glyph) → IsPlain g → is_plain g ≡ true
 is_plain_of g h =
     and_from (is_text g.points) _ h.shown.text
-    (and_from (list_all is_scalar g.points) (not g.guarded) (each_list is_scalar IsScalar is_scalar_of g.points h.shown.scalars) (ap not h.unguarded))
+    (and_from (list_all is_scalar g.points) _ (each_list is_scalar IsScalar is_scalar_of g.points h.shown.scalars)
+    (and_from (is_style g.style) (not g.guarded) (is_style_of g.style h.shown.style) (ap not h.unguarded)))
 
 -- ---- a size, a place
 

@@ -1,5 +1,5 @@
 -- The text of a cell, by how it says its style (this project's profile). Numbers are big-endian; a text is a list of bytes.
-use Rattle.std.specs.Prelude.{◌≡◌, ℕ, zero, suc, ◌+◌, ◌*◌, ◌/◌, ◌%◌, Bool, false, ◌&&◌, ◌||◌, ◌==◌, nat_le, nat_lt, List, [], ◌∷◌, ◌++◌, length, drop, slice_index, Option, Some, None, option_and_then, if◌then◌else◌}
+use Rattle.std.specs.Prelude.{◌≡◌, ℕ, zero, suc, ◌+◌, ◌*◌, ◌/◌, ◌%◌, Bool, true, false, ◌&&◌, ◌||◌, ◌==◌, nat_le, nat_lt, List, [], ◌∷◌, ◌++◌, length, drop, slice_index, Option, Some, None, option_and_then, if◌then◌else◌}
 use Rattle.std.specs.List.{flat_map}
 use Rattle.byteorder.specs.Endian.{big_bytes, big_number}
 use Rattle.roam_cells.specs.Glyph.{Glyph, IsShown, is_text}
@@ -9,9 +9,9 @@ use Rattle.roam_cells.specs.declared.styles.Colour.{Colour}
 use Rattle.roam_cells.specs.declared.styles.Colour.TheVariants.{Default, Index, Rgb}
 use Rattle.roam_update.specs.Styles.{Form, Whole, Numbered, number_in, used_after, style_in}
 
--- a cell that a screen may show: it has the code points of some cell, and no guard
+-- a cell that a screen may show: it is what some cell shows, and has no guard
 pub record IsPlain (g : Glyph) : Type 0 where
-  pub shown : IsShown g.points
+  pub shown : IsShown g
   pub unguarded : g.guarded ≡ false
 
 -- a yes or no as a number, 1 or 0
@@ -128,9 +128,19 @@ abbrev pub head_size : Form → ℕ
 head_size Whole = 6
 head_size (Numbered table used) = 4
 
--- the unguarded cell of some code points
+-- whether a colour is one that there is: bytes say no other
+abbrev pub is_colour : Colour → Bool
+is_colour Default = true
+is_colour (Index n) = nat_le n 255
+is_colour (Rgb r g b) = nat_le r 255 && (nat_le g 255 && nat_le b 255)
+
+-- whether a style is in such colours
+abbrev pub is_style : Style → Bool
+is_style s = is_colour s.foreground && is_colour s.background
+
+-- the unguarded cell of some code points in a style
 abbrev pub glyph_of : List ℕ → Style → Option Glyph
-glyph_of points style = if is_text points then Some (record { points = points; style = style; guarded = false }) else None
+glyph_of points style = if is_style style && is_text points then Some (record { points = points; style = style; guarded = false }) else None
 
 -- the cell at the front of a text
 abbrev pub glyph_read : Form → List ℕ → Option Glyph

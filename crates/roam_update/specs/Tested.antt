@@ -5,7 +5,7 @@ use Rattle.roam_cells.specs.Glyph.{Glyph, is_wide, is_right_half, right_of, is_t
 use Rattle.roam_screens.specs.Narrow.{is_plain_style}
 use Rattle.roam_cells.specs.Place.{cell_at}
 use Rattle.roam_screens.specs.Screenshot.{Screenshot}
-use Rattle.roam_update.specs.CellText.{is_scalar}
+use Rattle.roam_update.specs.CellText.{is_scalar, is_style}
 use Rattle.roam_update.specs.Same.{same}
 
 -- whether a test answers yes for each number below n
@@ -32,9 +32,9 @@ is_whole_at cols at c =
 abbrev pub are_whole : ℕ → ℕ → List Glyph → Bool
 are_whole rows cols cells = all_below rows (λ r. all_below cols (λ c. is_whole_at cols (cell_at cols cells r) c))
 
--- whether a cell has the code points of some cell, and no guard
+-- whether it is what some cell shows, and has no guard
 abbrev pub is_plain : Glyph → Bool
-is_plain g = is_text g.points && (list_all is_scalar g.points && not g.guarded)
+is_plain g = is_text g.points && (list_all is_scalar g.points && (is_style g.style && not g.guarded))
 
 -- whether it is true of a value what is true of each screen that is shown
 abbrev pub is_screenshot : Screenshot → Bool

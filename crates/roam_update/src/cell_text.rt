@@ -1,10 +1,10 @@
 //! The text of a cell, written and read.
 
-ghost use Rattle.std.specs.Prelude.{◌≡◌, ◌≤◌, ◌+◌, ◌*◌, ◌<◌, ◌++◌, length, option_and_then, IfSome, OnOk};
+ghost use Rattle.std.specs.Prelude.{◌≡◌, ◌≤◌, ◌+◌, ◌*◌, ◌<◌, ◌++◌, true, length, option_and_then, IfSome, OnOk};
 ghost use Rattle.byteorder.specs.Endian.{big_bytes};
 ghost use Rattle.roam_update.specs.CellText.{bit, flags, colour_kind, colour_index, points_text, cell_text};
 ghost use Rattle.roam_update.specs.Styles.{Whole};
-ghost use Rattle.roam_update.specs.CellText.{point_read, points_read, colour_read, style_of, whole_style, number_read, glyph_of, glyph_read, cell_size};
+ghost use Rattle.roam_update.specs.CellText.{point_read, points_read, colour_read, style_of, whole_style, number_read, is_style, glyph_of, glyph_read, cell_size};
 
 use crate::spelling::Spelling;
 use byteorder::{BigEndian, ByteOrder};
@@ -141,9 +141,15 @@ pub fn style_of(flags: u8, foreground: Colour, background: Colour) -> Style
     }
 }
 
+// The colours of a style are ones that there are.
+fn style_facts(style: Style)
+    ensures style { is_style style ≡ true }
+{}
+
 #[tactic(auto, using(crate::proofs::Putting::points_long))]
 fn read_points(text: &[u8], count: u8, style: Style) -> Option<Cell>
     requires few { count ≤ 3 }
+    requires style { is_style style ≡ true }
     ensures cell { result ≡ option_and_then (λ points. glyph_of points style) (points_read count text.now) }
     ensures long { IfSome result (λ _. 4 * count ≤ length text.now) }
 {
@@ -172,5 +178,6 @@ pub fn read_cell(form: &Spelling, text: &[u8]) -> Option<Cell>
         return None;
     }
     let style = form.read_style(text)?;
+    style_facts(style);
     read_points(&text[head..], text[0], style)
 }

@@ -259,9 +259,10 @@ fn measure(rt: &HostRuntime, what: What, times: u32) -> anyhow::Result<()> {
     Ok(())
 }
 
-// Idle ports are asked for the moment and for a datagram, those of a server for what pane 1 wrote too.
+// Idle ports are asked for the moment and for a datagram; those of a server are told of the lives of nine panes too, and asked for what
+// pane 1 wrote.
 fn once(rt: &HostRuntime) -> anyhow::Result<()> {
-    for (what, calls) in [(What::Serve, 3), (What::Attach, 2)] {
+    for (what, calls) in [(What::Serve, 12), (What::Attach, 2)] {
         if taken_of(rt, what, 1)?.work != calls {
             bail!("other calls were made");
         }

@@ -1,7 +1,7 @@
 use Rattle.std.proofs.Common.{◌≡◌, ◌∙◌, ◌++◌, ◌+◌, ◌-◌, ap, sym, arith, length, take, drop}
+use Rattle.roam_cells.specs.Glyph.{inked_bytes}
 use Rattle.roam_grid.specs.Marks.{marks_put_all}
 use Rattle.roam_grid.specs.Writing.{put_all}
-use Rattle.roam_rows.proofs.Inking.{inked_bytes}
 use Rattle.roam_grid.proofs.MarkedRuns.{marks_put_all-append}
 use Rattle.roam_grid.proofs.Runs.{put_all-append, bytes_split, bytes_none}
 use Rattle.roam_history.specs.Histories.{Scrollback}

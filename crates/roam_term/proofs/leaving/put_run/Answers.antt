@@ -1,7 +1,8 @@
 use Rattle.std.proofs.Common.{◌≤◌, ◌+◌, length, refl, sym, ap, subst, ◌∙◌, arith}
+use Rattle.roam_cells.specs.Glyph.{inked_bytes}
 use Rattle.roam_grid.specs.Screen.{Screen}
 use Rattle.roam_grid.proofs.Puts.{settled_same}
-use Rattle.roam_rows.proofs.Inking.{inked_bytes, bytes_narrow, length-bytes}
+use Rattle.roam_rows.proofs.Inking.{bytes_narrow, length-bytes}
 use Rattle.roam_term.specs.Terminal.{on_main, with_rows}
 use Rattle.roam_term.proofs.Scrollback.{main_stays, none_by_puts}
 use Rattle.roam_term.proofs.leaving.put_run.Goals as goal

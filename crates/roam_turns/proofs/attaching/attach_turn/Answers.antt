@@ -1,7 +1,6 @@
 use Rattle.std.proofs.Common.{◌++◌, ap, sym, subst, [], ◌∷◌}
 use Rattle.std.specs.Option.{option_copied}
-use Rattle.roam_screens.specs.Screenshot.{Screenshot, IsScreenshot}
-use Rattle.roam_paint.specs.Colours.{AreIndexed}
+use Rattle.roam_screens.specs.Screenshot.{IsScreenshot}
 use Rattle.roam_turns.specs.Calls.PortCall.{Now}
 use Rattle.roam_turns.specs.Painting.{IsBehind}
 use Rattle.roam_turns.specs.Parts.{Then, ReceivesUpTo}
@@ -45,7 +44,6 @@ pub returns-clause-leads : goal.returns-clause-leads
 returns-clause-leads g c calls turn =
     turn_leads c.painted_leads_over.ensures.leads c.opened_begins_blank.ensures.begins _ _ _ _ _ _ _ calls
     (subst IsScreenshot (sym c.tick_and_send.ensures.screen) c.paint_screen.ensures.screen)
-    (subst (λ (x : Screenshot). AreIndexed x.cells) (sym c.tick_and_send.ensures.screen) c.paint_screen.ensures.indexed)
     turn
 
 pub returns-clause-behind : goal.returns-clause-behind

@@ -27,7 +27,7 @@ returns-clause-cell c =
     let e : point_read text ≡ Some c.in_ok-first.first = sym c.read_point.ensures.point ∙ c.in_ok-first.was in
     let f : point_read (drop 4 text) ≡ Some c.in_ok-second.second = ap point_read (sym (take_rest text 4)) ∙ sym c.read_point-2.ensures.point ∙ c.in_ok-second.was in
     let g : point_read (drop 8 text) ≡ Some c.in_ok-third.third = ap point_read (sym (take_rest text 8)) ∙ sym c.read_point-3.ensures.point ∙ c.in_ok-third.was in
-    c.of-2.ensures.cell ∙ three c.args.count text c.in_ok-first.first c.in_ok-second.second c.in_ok-third.third c.args.style (omega arith) e f g
+    c.of-2.ensures.cell ∙ three c.args.count text c.in_ok-first.first c.in_ok-second.second c.in_ok-third.third c.args.style c.requires.style (omega arith) e f g
 
 pub returns-clause-long : goal.returns-clause-long
 returns-clause-long c =

@@ -1,9 +1,8 @@
 use Rattle.std.proofs.Common.{◌≡◌, ◌∙◌, ◌∷◌, ◌+◌, drop, get_or, sym, ap, arith}
 use Rattle.std.proofs.lemmas.List.{drop_more}
-use Rattle.roam_cells.specs.Glyph.{ascii_in}
+use Rattle.roam_cells.specs.Glyph.{ascii_in, inked_bytes}
 use Rattle.roam_grid.specs.Marks.{marks_put, marks_put_all}
 use Rattle.roam_grid.specs.Writing.{put_on, first_put, put_all, first_put_all}
-use Rattle.roam_rows.proofs.Inking.{inked_bytes}
 use Rattle.roam_grid.proofs.Runs.{bytes_none}
 use Rattle.roam_grid.proofs.grids.Grid.put_each.Goals as goal
 

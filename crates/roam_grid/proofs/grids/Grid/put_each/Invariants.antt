@@ -1,8 +1,8 @@
 use Rattle.std.proofs.Common.{◌≡◌, drop}
+use Rattle.roam_cells.specs.Glyph.{inked_bytes}
 use Rattle.roam_grid.specs.Screen.{IsSameSize}
 use Rattle.roam_grid.specs.Marks.{marks_put_all}
 use Rattle.roam_grid.specs.Writing.{put_all, first_put_all}
-use Rattle.roam_rows.proofs.Inking.{inked_bytes}
 use Rattle.roam_grid.proofs.grids.Grid.put_each.Given as goal
 
 abbrev pub invariant-loop-i : goal.invariant-loop-i

@@ -1,9 +1,10 @@
 use Rattle.std.proofs.Common.{◌≡◌, ◌∙◌, sym, ap, arith, length}
+use Rattle.roam_cells.specs.Glyph.{inked_bytes}
 use Rattle.roam_rows.specs.Writing.{written_run}
 use Rattle.roam_rows.specs.Places.{in_row}
 use Rattle.roam_grid.specs.Screen.{mapped}
 use Rattle.roam_grid.specs.Writing.{advanced}
-use Rattle.roam_rows.proofs.Inking.{inked_bytes, bytes_narrow, length-bytes}
+use Rattle.roam_rows.proofs.Inking.{bytes_narrow, length-bytes}
 use Rattle.roam_grid.proofs.MarkedRuns.{marks_some}
 use Rattle.roam_grid.proofs.Runs.{put_some_is}
 use Rattle.roam_grid.proofs.grids.Grid.put_segment.Goals as goal

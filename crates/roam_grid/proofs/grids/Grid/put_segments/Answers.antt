@@ -1,8 +1,9 @@
 use Rattle.std.proofs.Common.{◌≡◌, ◌∙◌, ◌++◌, ◌+◌, ◌-◌, ◌<◌, ◌≤◌, ap, sym, arith, length, take, drop, List, ℕ}
+use Rattle.roam_cells.specs.Glyph.{inked_bytes}
 use Rattle.roam_grid.specs.Marks.{marks_put_all}
 use Rattle.roam_grid.proofs.MarkedRuns.{marks_put_all-append, marks_put_all_settled}
 use Rattle.roam_grid.specs.Writing.{settled, put_all, first_put_all}
-use Rattle.roam_rows.proofs.Inking.{inked_bytes, length-bytes}
+use Rattle.roam_rows.proofs.Inking.{length-bytes}
 use Rattle.roam_grid.proofs.Runs.{put_all-append, first_put_all-append, put_all_settled, first_put_all_settled, bytes_split, bytes_some, bytes_none}
 use Rattle.roam_grid.proofs.grids.Grid.put_segments.Goals as goal
 

@@ -1,8 +1,8 @@
 use Rattle.std.proofs.Common.{◌≡◌, ◌-◌, ◌≤◌, length, drop}
+use Rattle.roam_cells.specs.Glyph.{inked_bytes}
 use Rattle.roam_grid.specs.Screen.{IsSameSize}
 use Rattle.roam_grid.specs.Marks.{marks_put_all}
 use Rattle.roam_grid.specs.Writing.{put_all, first_put_all}
-use Rattle.roam_rows.proofs.Inking.{inked_bytes}
 use Rattle.roam_grid.proofs.grids.Grid.put_segments.Given as goal
 
 abbrev pub invariant-loop-at : goal.invariant-loop-at

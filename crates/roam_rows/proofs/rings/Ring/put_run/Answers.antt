@@ -2,7 +2,7 @@ use Rattle.std.proofs.Common.{◌≡◌, ◌∙◌, ◌+◌, ◌-◌, ◌<◌, �
 use Rattle.std.proofs.lemmas.List.{with_items_is}
 use Rattle.std.specs.Vec.{with_items}
 use borrow.Rule.Slice.PartMut.{put_mid}
-use Rattle.roam_cells.specs.Glyph.{Glyph}
+use Rattle.roam_cells.specs.Glyph.{Glyph, inked_bytes}
 use Rattle.roam_cells.specs.Place.{glyph_at}
 use Rattle.roam_rows.specs.Places.{moved, in_row}
 use Rattle.roam_rows.specs.Turned.{IsTurned, in_order}
@@ -10,7 +10,7 @@ use Rattle.roam_rows.specs.Rows.{Rows}
 use Rattle.roam_rows.specs.Writing.{written_run}
 use Rattle.roam_rows.specs.Kept.{AreLengths}
 use Rattle.roam_rows.proofs.Lifting.{slice_whole, in_row_or}
-use Rattle.roam_rows.proofs.Inking.{inked_bytes, length-bytes}
+use Rattle.roam_rows.proofs.Inking.{length-bytes}
 use Rattle.roam_rows.proofs.Written.{read_length}
 use Rattle.roam_rows.proofs.Edits.{a_turned, edited_by, put_long, rows_by, run_past, still_column}
 use Rattle.roam_rows.proofs.rings.Ring.put_run.Goals as goal
