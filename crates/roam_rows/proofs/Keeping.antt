@@ -1,14 +1,12 @@
 -- Maps of places keep cells: as many as there are places, whole characters, each what some cell shows.
 use Rattle.std.proofs.Common.{◌≡◌, ℕ, ◌+◌, ◌-◌, ◌*◌, ◌/◌, ◌%◌, ◌<◌, inl, inr, Bool, true, false, not, ◌&&◌, cond, eqb, ltb, leb, List, [], ◌∷◌, ◌++◌, map, set, length, get_or, replicate, refl, sym, ap, ◌∙◌, subst, arith, length-set, get_or-set_same, get_or-set_other}
 use Rattle.std.specs.Char.{IsScalar}
-use Rattle.std.specs.Prelude.{All}
 use Rattle.std.specs.List.{range_with_len}
 use Rattle.std.proofs.lemmas.Bool.{false≢true, cases_lt, cases_eq, leb-true, ltb-true, eqb-true}
 use Rattle.std.proofs.lemmas.Grind.{common_steps}
 use Rattle.std.proofs.lemmas.List.{get_or_past, get_or-replicate, length-replicate}
-use Rattle.std.proofs.lemmas.List.Elements.{All-nil, All-append, All-from_get_or}
+use Rattle.std.proofs.lemmas.List.Elements.{All-append}
 use Rattle.std.proofs.lemmas.Nat.{same_from_place}
-use Rattle.roam_cells.specs.Width.{width-space}
 use Rattle.roam_cells.specs.Glyph.{Glyph, IsShown, is_wide, is_right_half, is_text, is_cell_text, right_of, space_in, with_point, blank}
 use Rattle.roam_cells.specs.Place.{cell_at, glyph_at, table, AreWhole, IsWholeLine}
 use Rattle.roam_cells.proofs.CellLists.{one_scalar, space_in_shown, blank_shown, half_shown}

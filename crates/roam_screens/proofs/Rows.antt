@@ -1,7 +1,6 @@
 -- Worked rows: a right half gives no code point; what version 1 shows of mixtures, rows and cursors.
-use Rattle.std.proofs.Common.{◌≡◌, ℕ, Bool, true, false, ◌||◌, List, [], ◌∷◌, map, refl}
+use Rattle.std.proofs.Common.{◌≡◌, true, false, [], ◌∷◌, map, refl}
 use Rattle.roam_cells.specs.Glyph.{Glyph, blank, right_of, default_style}
-use Rattle.roam_cells.specs.declared.styles.Colour.{Colour}
 use Rattle.roam_cells.specs.declared.styles.Colour.TheVariants.{Default, Index, Rgb}
 use Rattle.roam_screens.specs.Narrow.{narrow_colour, narrow_row, row_shown, is_row_out, is_col_out}
 use Rattle.roam_screens.specs.Screenshot.{row_text}

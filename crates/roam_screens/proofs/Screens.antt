@@ -1,5 +1,5 @@
 -- Blank screens.
-use Rattle.std.proofs.Common.{◌≡◌, ℕ, ◌*◌, true, false, refl, subst, length, replicate, sym, ap, ◌∙◌, arith}
+use Rattle.std.proofs.Common.{ℕ, ◌*◌, subst, replicate, sym, ap, ◌∙◌, arith}
 use Rattle.std.proofs.lemmas.Bool.{false≢true}
 use Rattle.std.proofs.lemmas.List.{get_or-replicate, length-replicate}
 use Rattle.roam_cells.specs.Glyph.{Glyph, IsShown, is_wide, is_right_half, blank}

@@ -1,11 +1,11 @@
 -- SGR leaves a style in colours that there are, whatever its parameters are.
-use Rattle.std.proofs.Common.{◌≡◌, ℕ, ◌+◌, ◌-◌, ◌≤◌, Bool, true, false, ◌&&◌, cond, eqb, leb, List, [], ◌∷◌, arith}
+use Rattle.std.proofs.Common.{◌≡◌, ℕ, ◌+◌, ◌≤◌, true, ◌&&◌, eqb, leb, List, [], ◌∷◌, arith}
 use Rattle.std.specs.List.{fold}
 use Rattle.std.proofs.lemmas.Bool.{leb-true}
-use Rattle.roam_cells.specs.Glyph.{IsColour, IsStyle, default_style}
+use Rattle.roam_cells.specs.Glyph.{IsColour, IsStyle}
 use Rattle.roam_cells.specs.declared.styles.Style.{Style}
 use Rattle.roam_cells.specs.declared.styles.Colour.{Colour}
-use Rattle.roam_cells.specs.declared.styles.Colour.TheVariants.{Default, Index, Rgb}
+use Rattle.roam_cells.specs.declared.styles.Colour.TheVariants.{Index, Rgb}
 use Rattle.roam_rows.proofs.Keeping.{either}
 use Rattle.roam_rows.proofs.Mending.{and_left, and_right}
 use Rattle.roam_controls.specs.declared.renditions.Layer.{Layer}
@@ -63,9 +63,11 @@ mixed_has layer r g b s has =
     either HasColours (leb r 255 && (leb g 255 && leb b 255)) _ _
     (λ e.
     let more = and_right (leb r 255) (leb g 255 && leb b 255) e in
-    coloured_has layer (Rgb r g b) s
-    (leb-true r 255 (and_left (leb r 255) (leb g 255 && leb b 255) e), leb-true g 255 (and_left (leb g 255) (leb b 255) more),
-        leb-true b 255 (and_right (leb g 255) (leb b 255) more)) has)
+    coloured_has layer (Rgb r g b) s (
+      leb-true r 255 (and_left (leb r 255) (leb g 255 && leb b 255) e),
+      leb-true g 255 (and_left (leb g 255) (leb b 255) more),
+      leb-true b 255 (and_right (leb g 255) (leb b 255) more),
+    ) has)
     (λ e. has)
 
 -- what is read so far has colours that there are

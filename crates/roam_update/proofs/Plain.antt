@@ -1,5 +1,5 @@
 -- Cells that are read, brought to a size or put into places are ones that a screen may show.
-use Rattle.std.proofs.Common.{◌≡◌, ℕ, zero, suc, ◌+◌, ◌*◌, ◌/◌, ◌%◌, ◌<◌, Bool, true, false, not, cond, eqb, ltb, leb, ◌&&◌, List, [], ◌∷◌, length, get_or, drop, set, Option, Some, None, refl, sym, ap, subst, ◌∙◌, arith, length-set}
+use Rattle.std.proofs.Common.{◌≡◌, ℕ, zero, suc, ◌+◌, ◌*◌, ◌/◌, ◌%◌, ◌<◌, Bool, true, false, cond, eqb, ltb, leb, ◌&&◌, List, [], ◌∷◌, length, get_or, drop, set, Option, Some, None, refl, sym, ap, subst, ◌∙◌, arith, length-set}
 use Rattle.std.specs.Prelude.{All, option_and_then, slice_index}
 use Rattle.std.specs.Char.{IsScalar}
 use Rattle.std.proofs.lemmas.Bool.{and_parts, ltb-true}
@@ -7,10 +7,9 @@ use Rattle.std.proofs.lemmas.Option.{cond_some, option_and_then_some}
 use Rattle.std.proofs.lemmas.List.Elements.{All-nil, All-cons, All-head, All-tail, All-set, All-from_get_or}
 use Rattle.byteorder.specs.Endian.{big_number}
 use Rattle.roam_cells.specs.declared.styles.Style.{Style}
-use Rattle.roam_cells.specs.Glyph.{Glyph, IsShown, is_text, is_wide, space_in, blank}
+use Rattle.roam_cells.specs.Glyph.{Glyph, is_text, is_wide, space_in, blank}
 use Rattle.roam_cells.specs.Place.{cell_at}
 use Rattle.roam_screens.specs.Screenshot.{Screenshot, IsScreenshot}
-use Rattle.roam_cells.specs.Width.{width-space}
 use Rattle.roam_cells.proofs.CellLists.{space_in_shown, blank_shown}
 use Rattle.roam_cells.proofs.Places.{get_or-table, place_of, place_below}
 use Rattle.roam_update.specs.CellText.{Front, IsPlain, is_scalar, is_style, point_read, points_read, style_read, form_after, head_size, glyph_of, glyph_read, cell_size, cell_read, cells_read}

@@ -30,7 +30,7 @@ third_none (suc (suc (suc n))) text first second style h e f g = rw (e, f, drop-
 
 pub three : (n : ℕ) (text : List ℕ) (first second third : ℕ) (style : Style) → is_style style ≡ true → n ≡ 3 → point_read text ≡ Some first → point_read (drop 4 text) ≡ Some second
     → point_read (drop 8 text) ≡ Some third → cond (is_text (first ∷ second ∷ third ∷ [])) (Some (record { points = first ∷ second ∷ third ∷ []; style = style; guarded = false })) None
-        ≡ made style (points_read n text)
+    ≡ made style (points_read n text)
 three n text first second third style is h e f g = rw (h, e, f, drop-drop 4 4 text, g, is) refl
 
 point_long : (text : List ℕ) (c : ℕ) → point_read text ≡ Some c → 4 ≤ length text
