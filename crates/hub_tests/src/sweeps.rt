@@ -2,34 +2,30 @@
 //! each kind of start: a reply or a named refusal, and after a refusal all goes on as if nothing had come.
 use crate::refused::is_same;
 use crate::roaming::at;
+use crate::versions::{Kind, first_of, start};
 use roam_cells::Fault;
 use roam_hub::{Addr, Client, Heard, Server};
 use roam_screens::RowShot;
 use std::alloc::Global;
 use std::test::*;
 
-/// The kinds of starts, each with an id of its own.
+/// The kinds of starts.
 static STARTS: [Kind; 3] = [Kind::Old, Kind::New, Kind::Watching];
 
-#[derive(Clone, Copy)]
-enum Kind {
-    Old,
-    New,
-    Watching,
-}
-
+// A start of a kind, each with an id of its own.
 fn start_of(alloc: Global, kind: Kind) -> Result<Client, Fault> {
-    match kind {
-        Kind::Old => Client::old(alloc, 1, 0xA1),
-        Kind::New => Client::new(alloc, 1, 0xA2),
-        Kind::Watching => Client::watching(alloc, 1, 0xA3),
-    }
+    let id = match kind {
+        Kind::Old => 0xA1,
+        Kind::New => 0xA2,
+        Kind::Watching => 0xA3,
+    };
+    start(alloc, kind, id)
 }
 
-/// The first datagram of a start.
-fn first_of(alloc: Global, kind: Kind) -> Result<Vec<u8>, Fault> {
-    let mut texts = start_of(alloc, kind)?.tick(alloc, 0)?;
-    texts.pop().ok_or(Fault::Spent)
+// The first datagram of a start of a kind.
+fn first_from(alloc: Global, kind: Kind) -> Result<Vec<u8>, Fault> {
+    let mut client = start_of(alloc, kind)?;
+    first_of(alloc, &mut client)
 }
 
 /// A server of 4 by 8 that heard a start of each kind.
@@ -46,7 +42,7 @@ fn server_of(alloc: Global, firsts: &[Vec<u8>]) -> Result<Server, Fault> {
 fn firsts_of(alloc: Global) -> Result<Vec<Vec<u8>>, Fault> {
     let mut firsts = Vec::new(alloc);
     for kind in STARTS {
-        firsts.push(first_of(alloc, kind)?)?;
+        firsts.push(first_from(alloc, kind)?)?;
     }
     Ok(firsts)
 }
@@ -105,7 +101,7 @@ struct Followed {
 impl Followed {
     fn new(alloc: Global, kind: Kind) -> Result<Followed, Fault> {
         let mut server = Server::new(alloc, 1, 4, 8)?;
-        let first = first_of(alloc, kind)?;
+        let first = first_from(alloc, kind)?;
         if let Err(stop) = server.datagram(alloc, at(5001), &first, 0) {
             return Err(stop.fault);
         }
@@ -162,7 +158,7 @@ fn first_fall<S: Stands>(alloc: Global, end: &S, datagram: &[u8]) -> Result<Opti
 
 // Whether a server stands all changes of the first datagram of a kind of start.
 fn server_stands(alloc: Global, kind: Kind) -> Result<bool, Fault> {
-    let first = first_of(alloc, kind)?;
+    let first = first_from(alloc, kind)?;
     let served = Served::new(alloc)?;
     Ok(first_fall(alloc, &served, &first)? == None)
 }

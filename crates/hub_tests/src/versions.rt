@@ -3,14 +3,34 @@ use crate::refused::is_same;
 use crate::roaming::at;
 use roam_acts::{Act, Key};
 use roam_cells::{Fault, Reason};
-use roam_hub::{Client, Heard, Server, Stop};
+use roam_hub::{Addr, Client, Heard, Server, Stop};
 use roam_screens::Seen;
 use std::alloc::Global;
 use std::test::*;
 
-/// The only datagram that a start sends at a moment; `Spent` where it sends none.
-fn first_of(alloc: Global, client: &mut Client, now: u64) -> Result<Vec<u8>, Fault> {
-    let mut texts = client.tick(alloc, now)?;
+/// The kinds of client starts.
+#[derive(Clone, Copy)]
+pub enum Kind {
+    /// Of version 1.
+    Old,
+    /// Of version 2.
+    New,
+    /// Of version 2, which only watches.
+    Watching,
+}
+
+/// A start of session 1, of a kind.
+pub fn start(alloc: Global, kind: Kind, id: u64) -> Result<Client, Fault> {
+    match kind {
+        Kind::Old => Client::old(alloc, 1, id),
+        Kind::New => Client::new(alloc, 1, id),
+        Kind::Watching => Client::watching(alloc, 1, id),
+    }
+}
+
+/// The only datagram that a start sends at its beginning; `Spent` where it sends none.
+pub fn first_of(alloc: Global, client: &mut Client) -> Result<Vec<u8>, Fault> {
+    let mut texts = client.tick(alloc, 0)?;
     texts.pop().ok_or(Fault::Spent)
 }
 
@@ -23,145 +43,272 @@ fn answers(alloc: Global, server: &mut Server, bytes: &[u8], wanted: Result<usiz
     }
 }
 
+/// A start of a kind, and how its first datagram is answered.
+#[derive(Clone, Copy)]
+struct Coming {
+    kind: Kind,
+    id: u64,
+    answer: Result<usize, Fault>,
+}
+
+/// Whether the first datagram of a start is answered so.
+fn comes(alloc: Global, server: &mut Server, coming: Coming) -> Result<bool, Fault> {
+    let mut client = start(alloc, coming.kind, coming.id)?;
+    let first = first_of(alloc, &mut client)?;
+    Ok(answers(alloc, server, &first, coming.answer))
+}
+
+/// Whether they come one after the other.
+fn all_come(alloc: Global, comings: &[Coming]) -> Result<bool, Fault> {
+    let mut server = Server::new(alloc, 1, 4, 8)?;
+    for coming in comings {
+        if !comes(alloc, &mut server, *coming)? {
+            return Ok(false);
+        }
+    }
+    Ok(true)
+}
+
 /// What a watcher of session 1, the start a1, sends first.
 static WATCHER: [u8; 60] = [
     0x52, 0x4D, 2, 3, 0, 0, 0, 0, 0, 0, 0, 1, 0, 0, 0, 0, 0, 0, 0, 0xA1, 0, 0, 0, 0, 0, 0, 0, 1, 0,
     0, 0, 0, 0, 0, 0, 1, 0, 0, 0, 1, 0, 18, 0, 0, 0, 0, 0, 0, 0, 0, 0, 0, 0, 0, 0, 0, 0, 1, 0, 0,
 ];
 
-#[test]
-fn a_watcher_is_shown_screens_and_types_nothing(rt: HostRuntime) -> Result<(), Fail> {
-    let alloc = rt.alloc();
-    let mut server = Server::new(alloc, 1, 4, 8)?;
-    let mut client = Client::watching(alloc, 1, 0xA1)?;
-    assert!(rt; client.typed(Act::Key(Key::Char('a'))) == Err(Fault::Watching));
-    let first = first_of(alloc, &mut client, 0)?;
-    assert!(rt; first.as_slice() == WATCHER.as_slice());
-    assert!(rt; answers(alloc, &mut server, &first, Ok(0)));
-    for (_, bytes) in server.tick(alloc, 0)? {
-        assert!(rt; client.datagram(alloc, &bytes, 0) == Ok(Heard::New));
+/// The same with an act, a split to the right.
+static WATCHER_WITH_AN_ACT: [u8; 61] = [
+    0x52, 0x4D, 2, 3, 0, 0, 0, 0, 0, 0, 0, 1, 0, 0, 0, 0, 0, 0, 0, 0xA1, 0, 0, 0, 0, 0, 0, 0, 1, 0,
+    0, 0, 0, 0, 0, 0, 1, 0, 0, 0, 1, 0, 19, 0, 0, 0, 0, 0, 0, 0, 0, 0, 0, 0, 0, 0, 0, 0, 1, 0, 1,
+    0x10,
+];
+
+/// Whether each of these datagrams brings a start a newer screen.
+fn hears_all(alloc: Global, client: &mut Client, sent: &[(Addr, Vec<u8>)]) -> bool {
+    for (_, bytes) in sent {
+        if client.datagram(alloc, bytes, 0) != Ok(Heard::New) {
+            return false;
+        }
     }
-    assert!(rt; client.shown().0 == 1);
-    assert!(rt; is_same(&client.shown().1, &server.face(alloc)?));
-    Ok(())
+    true
+}
+
+/// Whether a start shows the face of a session under the number 1.
+fn is_shown(alloc: Global, server: &Server, client: &Client) -> Result<bool, Fault> {
+    let face = server.face(alloc)?;
+    let (number, shot) = client.shown();
+    Ok(number == 1 && is_same(&shot, &face))
+}
+
+/// Whether what a server sends brings a start the face.
+fn follows(alloc: Global, server: &mut Server, client: &mut Client) -> Result<bool, Fault> {
+    let sent = server.tick(alloc, 0)?;
+    Ok(hears_all(alloc, client, &sent) && is_shown(alloc, server, client)?)
+}
+
+/// Whether a watcher sends what it should, types nothing and is shown screens.
+fn only_watches(alloc: Global) -> Result<bool, Fault> {
+    let mut server = Server::new(alloc, 1, 4, 8)?;
+    let mut client = start(alloc, Kind::Watching, 0xA1)?;
+    let types_nothing = client.typed(Act::Key(Key::Char('a'))) == Err(Fault::Watching);
+    let first = first_of(alloc, &mut client)?;
+    let is_right = first.as_slice() == WATCHER.as_slice();
+    let is_taken = answers(alloc, &mut server, &first, Ok(0));
+    Ok(types_nothing && is_right && is_taken && follows(alloc, &mut server, &mut client)?)
 }
 
 #[test]
-fn a_record_keeps_its_version_and_its_kind(rt: HostRuntime) -> Result<(), Fail> {
-    let alloc = rt.alloc();
-    let mut server = Server::new(alloc, 1, 4, 8)?;
-    let old = first_of(alloc, &mut Client::old(alloc, 1, 0xA1)?, 0)?;
-    let new = first_of(alloc, &mut Client::new(alloc, 1, 0xA1)?, 0)?;
-    let watcher = first_of(alloc, &mut Client::watching(alloc, 1, 0xA1)?, 0)?;
-    assert!(rt; answers(alloc, &mut server, &old, Ok(0)));
-    assert!(rt;
-        answers(
-            alloc,
-            &mut server,
-            &new,
-            Err(Fault::BadDatagram(Reason::Version))
-        )
-    );
-    assert!(rt;
-        answers(
-            alloc,
-            &mut server,
-            &watcher,
-            Err(Fault::BadDatagram(Reason::Version))
-        )
-    );
-    let new = first_of(alloc, &mut Client::new(alloc, 1, 0xB1)?, 0)?;
-    let watcher = first_of(alloc, &mut Client::watching(alloc, 1, 0xB1)?, 0)?;
-    assert!(rt; answers(alloc, &mut server, &new, Ok(0)));
-    assert!(rt;
-        answers(
-            alloc,
-            &mut server,
-            &watcher,
-            Err(Fault::BadDatagram(Reason::Kind))
-        )
-    );
+fn a_watcher_is_shown_screens_and_types_nothing(rt: HostRuntime) -> Result<(), Fail> {
+    assert!(rt; only_watches(rt.alloc())?);
     Ok(())
+}
+
+/// Starts of one id: the version and the kind of the first stay.
+static OF_ONE_ID: [Coming; 6] = [
+    Coming {
+        kind: Kind::Old,
+        id: 0xA1,
+        answer: Ok(0),
+    },
+    Coming {
+        kind: Kind::New,
+        id: 0xA1,
+        answer: Err(Fault::BadDatagram(Reason::Version)),
+    },
+    Coming {
+        kind: Kind::Watching,
+        id: 0xA1,
+        answer: Err(Fault::BadDatagram(Reason::Version)),
+    },
+    Coming {
+        kind: Kind::New,
+        id: 0xB1,
+        answer: Ok(0),
+    },
+    Coming {
+        kind: Kind::Watching,
+        id: 0xB1,
+        answer: Err(Fault::BadDatagram(Reason::Kind)),
+    },
+    Coming {
+        kind: Kind::Watching,
+        id: 0xC1,
+        answer: Ok(0),
+    },
+];
+
+#[test]
+fn a_record_keeps_its_version_and_its_kind(rt: HostRuntime) -> Result<(), Fail> {
+    assert!(rt; all_come(rt.alloc(), &OF_ONE_ID)?);
+    Ok(())
+}
+
+/// Whether a start of version 2 refuses a datagram so.
+fn refuses(alloc: Global, id: u64, bytes: &[u8], fault: Fault) -> Result<bool, Fault> {
+    let mut client = start(alloc, Kind::New, id)?;
+    Ok(client.datagram(alloc, bytes, 0) == Err(fault))
+}
+
+/// Whether what goes to the start a1, of version 1, is nobody else's.
+fn is_its_own(alloc: Global, bytes: &[u8]) -> Result<bool, Fault> {
+    Ok(
+        refuses(alloc, 0xA1, bytes, Fault::BadDatagram(Reason::Version))?
+            && refuses(alloc, 0xA2, bytes, Fault::OtherClient)?,
+    )
+}
+
+/// Whether a start of version 1 takes what is sent to it, and no other does.
+fn takes_its_own(alloc: Global) -> Result<bool, Fault> {
+    let mut server = Server::new(alloc, 1, 4, 8)?;
+    let mut client = start(alloc, Kind::Old, 0xA1)?;
+    let first = first_of(alloc, &mut client)?;
+    let mut is_right = answers(alloc, &mut server, &first, Ok(0));
+    for (_, bytes) in server.tick(alloc, 0)? {
+        is_right = is_right && is_its_own(alloc, &bytes)?;
+        is_right = is_right && client.datagram(alloc, &bytes, 0) == Ok(Heard::New);
+    }
+    Ok(is_right && is_shown(alloc, &server, &client)?)
 }
 
 #[test]
 fn a_client_takes_its_own_version(rt: HostRuntime) -> Result<(), Fail> {
-    let alloc = rt.alloc();
-    let mut server = Server::new(alloc, 1, 4, 8)?;
-    let mut client = Client::old(alloc, 1, 0xA1)?;
-    assert!(rt; answers(alloc, &mut server, &first_of(alloc, &mut client, 0)?, Ok(0)));
-    for (_, bytes) in server.tick(alloc, 0)? {
-        let mut same_id = Client::new(alloc, 1, 0xA1)?;
-        let mut other_id = Client::new(alloc, 1, 0xA2)?;
-        let refused = Err(Fault::BadDatagram(Reason::Version));
-        assert!(rt; same_id.datagram(alloc, &bytes, 0) == refused);
-        assert!(rt; other_id.datagram(alloc, &bytes, 0) == Err(Fault::OtherClient));
-        assert!(rt; client.datagram(alloc, &bytes, 0) == Ok(Heard::New));
-    }
-    assert!(rt; is_same(&client.shown().1, &server.face(alloc)?));
+    assert!(rt; takes_its_own(rt.alloc())?);
     Ok(())
 }
 
-/// The first datagram of a watcher, with its last act's count as it is told.
-fn with_acts(alloc: Global, count: u8) -> Result<Vec<u8>, Fault> {
-    let mut bytes = Vec::from_slice(alloc, &WATCHER)?;
-    let last = bytes.len() - 1;
-    bytes[last] = count;
-    for _ in 0..count {
-        bytes.extend_from_slice(&[0x10])?;
-    }
-    bytes[41] = 18 + count;
-    Ok(bytes)
+/// Whether a watcher's datagram with an act is refused, and one without is heard; nothing is split.
+fn takes_no_act(alloc: Global) -> Result<bool, Fault> {
+    let mut server = Server::new(alloc, 1, 24, 80)?;
+    let refused = Err(Fault::BadDatagram(Reason::Length));
+    Ok(
+        answers(alloc, &mut server, &WATCHER_WITH_AN_ACT, refused)
+            && answers(alloc, &mut server, &WATCHER, Ok(0))
+            && server.output_len(2) == None,
+    )
 }
 
 #[test]
 fn acts_of_a_watcher_are_none(rt: HostRuntime) -> Result<(), Fail> {
-    let alloc = rt.alloc();
-    let mut server = Server::new(alloc, 1, 24, 80)?;
-    let refused = Err(Fault::BadDatagram(Reason::Length));
-    assert!(rt; answers(alloc, &mut server, &with_acts(alloc, 1)?, refused));
-    assert!(rt; answers(alloc, &mut server, &with_acts(alloc, 0)?, Ok(0)));
-    assert!(rt; server.output_len(2) == None);
+    assert!(rt; takes_no_act(rt.alloc())?);
     Ok(())
+}
+
+/// Whether so many starts of a kind come, from an id on.
+fn fill(
+    alloc: Global,
+    server: &mut Server,
+    kind: Kind,
+    first: u64,
+    count: u64,
+) -> Result<bool, Fault> {
+    for k in 0..count {
+        let coming = Coming {
+            kind,
+            id: first.wrapping_add(k),
+            answer: Ok(0),
+        };
+        if !comes(alloc, server, coming)? {
+            return Ok(false);
+        }
+    }
+    Ok(true)
+}
+
+/// Whether a start of a kind is one too many.
+fn is_too_many(alloc: Global, server: &mut Server, kind: Kind, id: u64) -> Result<bool, Fault> {
+    let coming = Coming {
+        kind,
+        id,
+        answer: Err(Fault::ClientsFull),
+    };
+    comes(alloc, server, coming)
+}
+
+/// Whether 16 watchers and 64 others come, of which either the next is one too many.
+fn are_counted_apart(alloc: Global) -> Result<bool, Fault> {
+    let mut server = Server::new(alloc, 1, 4, 8)?;
+    let watch = fill(alloc, &mut server, Kind::Watching, 0, 16)?
+        && is_too_many(alloc, &mut server, Kind::Watching, 16)?;
+    let edit = fill(alloc, &mut server, Kind::New, 16, 64)?
+        && is_too_many(alloc, &mut server, Kind::Old, 80)?;
+    Ok(watch && edit)
 }
 
 #[test]
 fn watchers_and_others_are_counted_apart(rt: HostRuntime) -> Result<(), Fail> {
-    let alloc = rt.alloc();
-    let mut server = Server::new(alloc, 1, 4, 8)?;
-    for id in 0..16u64 {
-        let first = first_of(alloc, &mut Client::watching(alloc, 1, id)?, 0)?;
-        assert!(rt; answers(alloc, &mut server, &first, Ok(0)));
-    }
-    let next = first_of(alloc, &mut Client::watching(alloc, 1, 16)?, 0)?;
-    assert!(rt; answers(alloc, &mut server, &next, Err(Fault::ClientsFull)));
-    for id in 16..80u64 {
-        let first = first_of(alloc, &mut Client::new(alloc, 1, id)?, 0)?;
-        assert!(rt; answers(alloc, &mut server, &first, Ok(0)));
-    }
-    let next = first_of(alloc, &mut Client::old(alloc, 1, 80)?, 0)?;
-    assert!(rt; answers(alloc, &mut server, &next, Err(Fault::ClientsFull)));
+    assert!(rt; are_counted_apart(rt.alloc())?);
     Ok(())
+}
+
+/// A start of each version.
+#[derive(Drop)]
+struct Both {
+    old: Client,
+    new: Client,
+}
+
+impl Both {
+    // Both starts, of whom a server heard.
+    fn of(alloc: Global, server: &mut Server) -> Result<Both, Fault> {
+        let mut old = start(alloc, Kind::Old, 0xA1)?;
+        let mut new = start(alloc, Kind::New, 0xB1)?;
+        let one = first_of(alloc, &mut old)?;
+        let other = first_of(alloc, &mut new)?;
+        if answers(alloc, server, &one, Ok(0)) && answers(alloc, server, &other, Ok(0)) {
+            Ok(Both { old, new })
+        } else {
+            Err(Fault::Spent)
+        }
+    }
+
+    // Hands a datagram to the start of its version, which its third byte tells.
+    fn hear(&mut self, alloc: Global, bytes: &[u8]) -> Result<(), Fault> {
+        if bytes.get(2).copied() == Some(1) {
+            self.old.datagram(alloc, bytes, 0)?;
+        } else {
+            self.new.datagram(alloc, bytes, 0)?;
+        }
+        Ok(())
+    }
+
+    // Whether the start of version 1 shows a screen of its largest size.
+    fn is_small(&self) -> bool {
+        let (number, small) = self.old.shown();
+        number == 1 && small.rows() == 100 && small.cols() == 250
+    }
+}
+
+/// Whether a session of 200 by 500 is shown whole in version 2, and its first rows and columns in version 1.
+fn both_are_shown(alloc: Global) -> Result<bool, Fault> {
+    let mut server = Server::new(alloc, 1, 200, 500)?;
+    let mut both = Both::of(alloc, &mut server)?;
+    for (_, bytes) in server.tick(alloc, 0)? {
+        both.hear(alloc, &bytes)?;
+    }
+    Ok(both.is_small() && is_shown(alloc, &server, &both.new)?)
 }
 
 #[test]
 fn version_1_is_shown_the_first_rows_and_the_last(rt: HostRuntime) -> Result<(), Fail> {
-    let alloc = rt.alloc();
-    let mut server = Server::new(alloc, 1, 200, 500)?;
-    let mut old = Client::old(alloc, 1, 0xA1)?;
-    let mut new = Client::new(alloc, 1, 0xB1)?;
-    assert!(rt; answers(alloc, &mut server, &first_of(alloc, &mut old, 0)?, Ok(0)));
-    assert!(rt; answers(alloc, &mut server, &first_of(alloc, &mut new, 0)?, Ok(0)));
-    for (_, bytes) in server.tick(alloc, 0)? {
-        if bytes[2] == 1 {
-            let _part = old.datagram(alloc, &bytes, 0)?;
-        } else {
-            let _part = new.datagram(alloc, &bytes, 0)?;
-        }
-    }
-    let (number, small) = old.shown();
-    assert!(rt; number == 1 && small.rows() == 100 && small.cols() == 250);
-    let (number, large) = new.shown();
-    assert!(rt; number == 1 && is_same(&large, &server.face(alloc)?));
+    assert!(rt; both_are_shown(rt.alloc())?);
     Ok(())
 }
