@@ -691,30 +691,53 @@ fn long_texts_come_backwards(rt: HostRuntime) -> Result<(), Fail> {
     Ok(())
 }
 
-// The instruction of the largest change, with a style a cell at 200 by 500, is cut into so many pieces.
-const LARGEST: (usize, usize) = (2_500_056, 2084);
+// Texts by their lengths, and into how many pieces of version 2 they are cut: the instruction of the largest change, with a style a cell at
+// 200 by 500; the longest; and one that is too long.
+static LENGTHS: [(usize, Option<usize>); 3] = [
+    (2_500_056, Some(2084)),
+    (4_915_200, Some(4096)),
+    (4_915_201, None),
+];
 
-// Version 2 allows four times as many pieces, and a start that only watches.
-#[test]
-fn version_2(rt: HostRuntime) -> Result<(), Fail> {
-    let long = text_of(rt.alloc(), 4_915_201)?;
-    let (most, _) = long.as_slice().split_at(4_915_200);
-    assert!(rt; cut(rt.alloc(), most, Version::Two)?.len() == 4096);
-    let (largest, _) = most.split_at(LARGEST.0);
-    assert!(rt; cut(rt.alloc(), largest, Version::Two)?.len() == LARGEST.1);
-    match cut(rt.alloc(), long.as_slice(), Version::Two) {
-        Err(fault) => assert!(rt; fault == Fault::TooLong),
-        Ok(_) => assert!(rt; false),
+// Into how many pieces of version 2 a text of so many bytes is cut, where it isn't too long.
+fn count_of(alloc: Global, len: usize) -> Result<Option<usize>, Fault> {
+    let text = text_of(alloc, len)?;
+    match cut(alloc, text.as_slice(), Version::Two) {
+        Ok(pieces) => Ok(Some(pieces.len())),
+        Err(Fault::TooLong) => Ok(None),
+        Err(fault) => Err(fault),
     }
-    let mut bytes = changed(36, &[0x0f, 0xff, 0x10, 0x00]);
-    assert!(rt; reads(rt.alloc(), &bytes, Some(Reason::Fragment)));
-    bytes[2] = 2;
-    assert!(rt; reads(rt.alloc(), &bytes, None));
-    bytes[3] = 3;
-    assert!(rt; reads(rt.alloc(), &bytes, None));
-    bytes[39] = 1;
-    assert!(rt; reads(rt.alloc(), &bytes, Some(Reason::Fragment)));
+}
+
+#[test]
+fn texts_are_cut_in_version_2(rt: HostRuntime) -> Result<(), Fail> {
+    for (len, count) in &LENGTHS {
+        assert!(rt; count_of(rt.alloc(), *len)? == *count, "{len}");
+    }
     Ok(())
+}
+
+// The last of 4,096 pieces, or of 4,097, by version and kind: version 2 allows four times as many, and a start that only watches.
+static LAST: [(u8, u8, u8, Option<Reason>); 4] = [
+    (1, 2, 0, Some(Reason::Fragment)),
+    (2, 2, 0, None),
+    (2, 3, 0, None),
+    (2, 3, 1, Some(Reason::Fragment)),
+];
+
+fn last_piece(version: u8, kind: u8, count: u8) -> [u8; 60] {
+    let mut bytes = changed(36, &[0x0f, 0xff, 0x10, count]);
+    bytes[2] = version;
+    bytes[3] = kind;
+    bytes
+}
+
+#[test]
+fn pieces_of_version_2(rt: HostRuntime) {
+    for (version, kind, count, refused) in &LAST {
+        let bytes = last_piece(*version, *kind, *count);
+        assert!(rt; reads(rt.alloc(), &bytes, *refused));
+    }
 }
 
 #[test]
