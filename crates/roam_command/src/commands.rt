@@ -57,7 +57,7 @@ const SHOW: Subcommand = Subcommand {
             help: "Rows of the screen, 2 to 200",
             reads: Reads::Small,
             needed: true,
-            excludes: None,
+            excludes: &[],
         },
         Choice {
             name: "cols",
@@ -65,7 +65,7 @@ const SHOW: Subcommand = Subcommand {
             help: "Columns of the screen, 4 to 500",
             reads: Reads::Small,
             needed: true,
-            excludes: None,
+            excludes: &[],
         },
     ],
 };
@@ -83,7 +83,7 @@ const SESSION: Choice<'static> = Choice {
     help: "The session's id, 1 to 16 hexadecimal digits; each run of serve needs one of its own, as 5e55",
     reads: Reads::Word,
     needed: true,
-    excludes: None,
+    excludes: &[],
 };
 
 const TURNS: Choice<'static> = Choice {
@@ -93,7 +93,7 @@ const TURNS: Choice<'static> = Choice {
            a busy pane takes thousands a second",
     reads: Reads::Large,
     needed: false,
-    excludes: None,
+    excludes: &[],
 };
 
 const SERVE: Subcommand = Subcommand {
@@ -104,10 +104,11 @@ const SERVE: Subcommand = Subcommand {
         Choice {
             name: "dir",
             value: "D",
-            help: "The folder of the panes' sockets p1 to p9, as /tmp/roam; what a killed server left there is made anew",
+            help: "The folder of the panes' sockets p1 to p9 and of panes, which tells what panes there are, as /tmp/roam; \
+                   what a killed server left there is made anew",
             reads: Reads::Word,
             needed: true,
-            excludes: None,
+            excludes: &[],
         },
         Choice {
             name: "port",
@@ -115,7 +116,7 @@ const SERVE: Subcommand = Subcommand {
             help: "The UDP port on 127.0.0.1 at which clients reach it, as 4000; with 0 any that is free, which is told on standard error",
             reads: Reads::Small,
             needed: true,
-            excludes: None,
+            excludes: &[],
         },
         SESSION,
         TURNS,
@@ -133,7 +134,7 @@ const ATTACH: Subcommand = Subcommand {
             help: "The UDP port on 127.0.0.1 of the server, as 4000",
             reads: Reads::Small,
             needed: true,
-            excludes: None,
+            excludes: &[],
         },
         SESSION,
         Choice {
@@ -142,7 +143,7 @@ const ATTACH: Subcommand = Subcommand {
             help: "The id of this start of a client, 1 to 16 hexadecimal digits; each start needs one of its own, as c1",
             reads: Reads::Word,
             needed: true,
-            excludes: None,
+            excludes: &[],
         },
         Choice {
             name: "keys",
@@ -150,7 +151,15 @@ const ATTACH: Subcommand = Subcommand {
             help: "A file with the acts to type, one a line, as `char 61`, `key return` or `split right`; without it none are typed",
             reads: Reads::Word,
             needed: false,
-            excludes: None,
+            excludes: &[],
+        },
+        Choice {
+            name: "acts",
+            value: "SOCKET",
+            help: "A Unix socket from which such lines come as they are typed; the run ends with them, once they are done",
+            reads: Reads::Word,
+            needed: false,
+            excludes: &["keys"],
         },
         Choice {
             name: "wire",
@@ -158,7 +167,7 @@ const ATTACH: Subcommand = Subcommand {
             help: "The version of the protocol, 1 or 2; 2 where it isn't given",
             reads: Reads::Version,
             needed: false,
-            excludes: None,
+            excludes: &[],
         },
         Choice {
             name: "watch",
@@ -166,7 +175,7 @@ const ATTACH: Subcommand = Subcommand {
             help: "Only watches: no act is typed",
             reads: Reads::Nothing,
             needed: false,
-            excludes: Some("wire"),
+            excludes: &["wire", "acts"],
         },
         TURNS,
     ],

@@ -2,7 +2,7 @@
 use clap::{Arg, ArgAction, value_parser};
 use std::alloc::{AllocError, Global};
 
-/// An option: its long name, what its value is called, its help, how the value is read, whether it has to be given, and which other one
+/// An option: its long name, what its value is called, its help, how the value is read, whether it has to be given, and which others
 /// can't be given beside it.
 pub struct Choice<'a> {
     pub name: &'a str,
@@ -10,7 +10,7 @@ pub struct Choice<'a> {
     pub help: &'a str,
     pub reads: Reads,
     pub needed: bool,
-    pub excludes: Option<&'a str>,
+    pub excludes: &'a [&'a str],
 }
 
 /// How the value of an option is read: as a word, as a number up to 65,535 or to 2^64 - 1, as a version, 1 or 2; or it has none.
@@ -30,8 +30,8 @@ impl<'a> Choice<'a> {
             .long(self.name)
             .help(self.help)
             .required(self.needed);
-        if let Some(other) = self.excludes {
-            arg = arg.conflicts_with(other)?;
+        for other in self.excludes {
+            arg = arg.conflicts_with(*other)?;
         }
         Ok(match self.reads {
             Reads::Word => arg.value_name(self.value),

@@ -30,12 +30,13 @@ pub enum Request<'a> {
     },
 
     /// `roam attach`: a client start with this id for so many turns, of the session that is served on this port of loopback, with the
-    /// acts of the file `keys` where there is one; it speaks this version, and may only watch.
+    /// acts of the file `keys` or of the socket `acts` where there is one; it speaks this version, and may only watch.
     Attach {
         port: u16,
         session: u64,
         client: u64,
         keys: Option<&'a str>,
+        acts: Option<&'a str>,
         version: Version,
         watches: bool,
         turns: u64,
@@ -100,6 +101,7 @@ fn attach_of<'a>(matches: &ArgMatches<'a>) -> Result<Request<'a>, Refusal> {
             session,
             client,
             keys: matches.get_str("keys"),
+            acts: matches.get_str("acts"),
             version: version_in(matches),
             watches: matches.get_flag("watch"),
             turns: turns_in(matches),

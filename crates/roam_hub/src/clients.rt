@@ -1,5 +1,5 @@
 //! A client start: what is typed there, what it hears, what it sends.
-ghost use Rattle.std.specs.Prelude.{◌≡◌, ◌⊎◌, true, false, not, map, ℕ, IfOk, IfErr, OnOk, OnErr, IsOkUnless, if◌then◌else◌};
+ghost use Rattle.std.specs.Prelude.{◌≡◌, ◌⊎◌, ◌↔◌, true, false, not, map, ℕ, [], IsTrue, IfOk, IfErr, OnOk, OnErr, IsOkUnless, if◌then◌else◌};
 ghost use Rattle.roam_acts.specs.Acts.{HasKey, IsInRange};
 ghost use Rattle.roam_wire.specs.Datagrams.{datagram_text, datagram_value};
 ghost use Rattle.roam_wire.specs.Cutting.{texts_of};
@@ -384,6 +384,13 @@ impl Client {
         self.datagrams += datagrams.len() as u64;
         self.instructions += 1;
         Ok(datagrams)
+    }
+
+    /// Whether every act that was typed here is acknowledged. It takes no memory.
+    pub fn is_settled(&self) -> bool
+        ensures settled { (session id : ℕ) (c : ClientOf) → Stands self.now session id c → (IsTrue result ↔ (c.acts.acts ≡ [])) }
+    {
+        self.acts.waiting().1.is_empty()
     }
 
     /// The number and the screen that the start shows. It takes no memory.

@@ -4,6 +4,7 @@ ghost use Rattle.std.specs.Option.{option_map};
 ghost use Rattle.roam_layout.specs.Layouts.{IsSessionSize};
 ghost use Rattle.roam_session.specs.Faces.{face};
 ghost use Rattle.roam_session.specs.Lives.{life_of};
+ghost use Rattle.roam_session.specs.Places.{focus_at, rect_at};
 ghost use Rattle.roam_session.specs.Stands.{keeping, waiting_at};
 ghost use Rattle.roam_session.specs.Queues.{IsWithin, IsCopied};
 ghost use Rattle.roam_session.specs.Refusals.{fault_of, none_refused, output_at};
@@ -25,6 +26,7 @@ use crate::taking::Taking;
 use crate::telling::tell_from;
 use indexmap::IndexMap;
 use roam_cells::{Fault, Reason};
+use roam_layout::Rect;
 use roam_screens::{RowShot, Seen};
 use roam_session::Session;
 use roam_wire::{Datagram, Kind, read_datagram};
@@ -232,6 +234,20 @@ impl Server {
         ensures life { (s : ServerOf) → Stands self.now s → result ≡ life_of s.size s.log pane }
     {
         self.session.life(pane)
+    }
+
+    /// Where a pane is, rows and columns from 1; `None` where no pane of this number is there. It takes no memory.
+    pub fn rect(&self, pane: u8) -> Option<Rect>
+        ensures rect { (s : ServerOf) → Stands self.now s → result ≡ rect_at s.size s.log pane }
+    {
+        self.session.rect(pane)
+    }
+
+    /// The number of the pane in focus. It takes no memory.
+    pub fn focus(&self) -> u8
+        ensures focus { (s : ServerOf) → Stands self.now s → result ≡ focus_at s.size s.log }
+    {
+        self.session.focus()
     }
 
     /// The screen that the session shows now. Refuses want of memory.

@@ -8,3 +8,4 @@ pub mod Stands
 pub mod Steps
 pub mod Queues
 pub mod Pictures
+pub mod Places

@@ -9,6 +9,7 @@ ghost use Rattle.roam_session.specs.Refusals.{refuses_bytes, output_at, stops, n
 ghost use Rattle.roam_session.specs.Faces.{face};
 ghost use Rattle.roam_session.specs.Stands.{Stands, Appends, KeptIn, MarksRows, face_now, keeping, life_at, term_at, waiting_at};
 ghost use Rattle.roam_session.specs.Lives.{CountsLives, life_of};
+ghost use Rattle.roam_session.specs.Places.{focus_at, rect_at};
 ghost use Rattle.roam_session.specs.Marks.{is_concerned};
 ghost use Rattle.roam_grid.specs.Marks.{all_on, also_marked};
 ghost use Rattle.roam_session.specs.Steps.{IsGiven};
@@ -23,6 +24,7 @@ use crate::{lives, queues};
 use roam_acts::{Act, Key};
 use roam_cells::Fault;
 use roam_layout::Layout;
+use roam_layout::rects::{Rect, rect_of};
 use roam_screens::RowShot;
 use roam_term::Term;
 use std::alloc::Global;
@@ -218,6 +220,20 @@ impl Session {
             → Stands self.now size log → life_at self.now pane ≡ life_of size log pane }
     {
         lives::life(&self.terms, &self.lives, pane)
+    }
+
+    /// Where a pane is, rows and columns from 1; `None` where no pane of this number is there. It takes no memory.
+    pub fn rect(&self, pane: u8) -> Option<Rect>
+        ensures rect { (size : SessionSize) (log : List Entry) → Stands self.now size log → result ≡ rect_at size log pane }
+    {
+        rect_of(self.layout.rects(), pane)
+    }
+
+    /// The number of the pane in focus. It takes no memory.
+    pub fn focus(&self) -> u8
+        ensures focus { (size : SessionSize) (log : List Entry) → Stands self.now size log → result ≡ focus_at size log }
+    {
+        self.layout.focus()
     }
 
     /// How many bytes wait in a pane that is there.

@@ -1,3 +1,4 @@
+pub mod Following
 pub mod Keys
 pub mod Notices
 pub mod Panes

@@ -25,7 +25,7 @@ life_in (Some making) = Some making.life
 -- the peer that came to the making that is there
 abbrev pub peer_in : Option Making → Option UnixStream
 peer_in None = None
-peer_in (Some making) = making.peer
+peer_in (Some making) = making.peer.stream
 
 -- from now on this making of the pane is there, or none: a peer that came to it stays, and any other goes
 pub record Lives (life : Option ℕ) (p q : Pane) : Type 0 where

@@ -3,6 +3,7 @@
 
 mod attaching;
 mod files;
+mod following;
 mod keys;
 mod links;
 mod moments;

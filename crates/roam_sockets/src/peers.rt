@@ -1,5 +1,5 @@
-//! The peers of the panes' sockets: one at a time, and each for the making of the pane that it came to.
-ghost use Rattle.std.specs.Prelude.{◌≡◌, ◌≢◌, ◌⊎◌, ◌↔◌, ◌<◌, ◌≤◌, length, IsTrue, IsSome, IfSome, None};
+//! The peers of sockets, one at a time; those of the panes' sockets are each for the making of the pane that they came to.
+ghost use Rattle.std.specs.Prelude.{◌≡◌, ◌≢◌, ◌⊎◌, ◌↔◌, ◌<◌, ◌≤◌, length, IsTrue, IsSome, IfSome, is_some, None};
 ghost use Rattle.roam_sockets.specs.Peers.{HasFailed, IsGone, life_in, peer_in};
 
 use mio::net::{UnixListener, UnixStream};
@@ -7,11 +7,17 @@ use mio::{Interest, Registry, Token};
 use std::io;
 use std::io::{ErrorKind, Read, Write};
 
+/// The program that came to a socket, or none.
+#[derive(Drop)]
+pub(crate) struct Peer {
+    stream: Option<UnixStream>,
+}
+
 /// A making of a pane that is there, and the peer that came to it.
 #[derive(Drop)]
 pub(crate) struct Making {
     life: u64,
-    peer: Option<UnixStream>,
+    peer: Peer,
 }
 
 // Whether a peer that answered so has failed.
@@ -47,18 +53,41 @@ pub(crate) fn live(making: &mut Option<Making>, life: Option<u64>)
     if was != life {
         *making = match life {
             None => None,
-            Some(life) => Some(Making { life, peer: None }),
+            Some(life) => Some(Making {
+                life,
+                peer: Peer::none(),
+            }),
         };
     }
 }
 
-impl Making {
-    // Takes the next peer that waits, where there is none.
-    fn accept(&mut self, listener: &UnixListener, registry: &Registry)
-        ensures life { self.new.life ≡ self.old.life }
-        ensures one { IfSome self.old.peer (λ _. self.new ≡ self.old) }
+impl Peer {
+    /// No program came yet.
+    pub(crate) fn none() -> Peer
+        ensures none { result.stream ≡ None }
     {
-        if self.peer.is_some() {
+        Peer { stream: None }
+    }
+
+    /// Whether a program came.
+    pub(crate) fn is_there(&self) -> bool
+        ensures there { result ≡ is_some self.now.stream }
+    {
+        self.stream.is_some()
+    }
+
+    /// Lets the program go.
+    pub(crate) fn let_go(&mut self)
+        ensures none { self.new.stream ≡ None }
+    {
+        self.stream = None;
+    }
+
+    /// Takes the next program that waits, where there is none.
+    pub(crate) fn accept(&mut self, listener: &UnixListener, registry: &Registry)
+        ensures one { IfSome self.old.stream (λ _. self.new ≡ self.old) }
+    {
+        if self.stream.is_some() {
             return;
         }
         let Ok((mut stream, _)) = listener.accept() else {
@@ -70,38 +99,36 @@ impl Making {
             Token(0),
             Interest::READABLE | Interest::WRITABLE,
         );
-        self.peer = Some(stream);
+        self.stream = Some(stream);
     }
 
-    // What the peer wrote, or nothing. One that is gone is let go.
-    fn hear(&mut self, buf: &mut [u8]) -> Option<usize>
+    /// What the program wrote, or nothing. One that is gone is let go.
+    pub(crate) fn hear(&mut self, buf: &mut [u8]) -> Option<usize>
         ensures some { IfSome result (λ n. 0 < n) }
         ensures within { IfSome result (λ n. n ≤ length buf.new) }
-        ensures from { IfSome result (λ _. IsSome self.old.peer × (self.new ≡ self.old)) }
-        ensures life { self.new.life ≡ self.old.life }
-        ensures one { (self.new ≡ self.old) ⊎ (self.new.peer ≡ None) }
+        ensures from { IfSome result (λ _. IsSome self.old.stream × (self.new ≡ self.old)) }
+        ensures one { (self.new ≡ self.old) ⊎ (self.new.stream ≡ None) }
     {
-        let answer = self.peer.as_mut()?.read(buf);
+        let answer = self.stream.as_mut()?.read(buf);
         if is_gone(&answer) {
-            self.peer = None;
+            self.stream = None;
             return None;
         }
         answer.ok()
     }
 
-    // How many of the bytes the peer took, 0 where none is there. One that has failed is let go.
-    fn tell(&mut self, bytes: &[u8]) -> usize
+    /// How many of the bytes the program took, 0 where none is there. One that has failed is let go.
+    pub(crate) fn tell(&mut self, bytes: &[u8]) -> usize
         ensures within { result ≤ length bytes.now }
-        ensures from { 0 < result → IsSome self.old.peer × (self.new ≡ self.old) }
-        ensures life { self.new.life ≡ self.old.life }
-        ensures one { (self.new ≡ self.old) ⊎ (self.new.peer ≡ None) }
+        ensures from { 0 < result → IsSome self.old.stream × (self.new ≡ self.old) }
+        ensures one { (self.new ≡ self.old) ⊎ (self.new.stream ≡ None) }
     {
-        let Some(peer) = self.peer.as_mut() else {
+        let Some(stream) = self.stream.as_mut() else {
             return 0;
         };
-        let answer = peer.write(bytes);
+        let answer = stream.write(bytes);
         if has_failed(&answer) {
-            self.peer = None;
+            self.stream = None;
         }
         answer.unwrap_or(0)
     }
@@ -122,8 +149,8 @@ pub(crate) fn read(
     ensures one { IfSome (peer_in making.old) (λ _. (making.new ≡ making.old) ⊎ (peer_in making.new ≡ None)) }
 {
     let making = making.as_mut()?;
-    making.accept(listener, registry);
-    making.hear(buf)
+    making.peer.accept(listener, registry);
+    making.peer.hear(buf)
 }
 
 /// How many of the bytes the program of a pane took, 0 where none is there.
@@ -141,6 +168,6 @@ pub(crate) fn write(
     let Some(making) = making.as_mut() else {
         return 0;
     };
-    making.accept(listener, registry);
-    making.tell(bytes)
+    making.peer.accept(listener, registry);
+    making.peer.tell(bytes)
 }

@@ -5,7 +5,9 @@ ghost use Rattle.std.specs.Io.KnownBytes.{Appends};
 ghost use Rattle.roam_sockets.specs.Notices.{due_of, is_over, end_of, failing_after, has_given_up, notice_of};
 ghost use Rattle.roam_sockets.specs.Panes.{paths_of};
 ghost use Rattle.roam_sockets.specs.Peers.{Changes, Lives, Asks};
+ghost use Rattle.roam_sockets.specs.Following.{IsFresh, Tells, panes_path};
 
+use crate::following::Follower;
 use crate::links::Link;
 use crate::moments::Moments;
 use crate::panes::Panes;
@@ -13,6 +15,7 @@ use crate::silence::{End, Silence, notice};
 use roam_cells::Fault;
 use roam_faults::RunFault;
 use roam_hub::Addr;
+use roam_places::Places;
 use roam_turns::Ports;
 use std::alloc::Global;
 use std::fs::Files;
@@ -29,11 +32,13 @@ const HALF_SECOND: u64 = 500;
 pub struct ServerPorts<R> {
     link: Link<R>,
     panes: Panes,
+    follower: Follower,
 }
 
 impl<R: Clock + Drop> ServerPorts<R> {
-    /// Binds a port of this machine, any that is free where it is 0, and the sockets `p1` to `p9` in a folder, of panes that aren't there
-    /// yet. `Bind` where one can't be bound, or the folder has no name; `OutOfMemory`; then nothing stays.
+    /// Binds a port of this machine, any that is free where it is 0, and in a folder the sockets `p1` to `p9`, of panes that aren't there
+    /// yet, and `panes`, where a program follows them. `Bind` where one can't be bound, or the folder has no name; `OutOfMemory`; then
+    /// nothing stays.
     pub fn bind<N: Files + Net>(
         rt: &N,
         alloc: Global,
@@ -47,11 +52,22 @@ impl<R: Clock + Drop> ServerPorts<R> {
         ensures none { IfOk result (λ ports. All (λ pane. pane.making ≡ None) ports.panes.all.items) }
         ensures named { IfOk result (λ _. folder.now ≢ []) }
         ensures paths { IfOk result (λ ports. map (λ pane. string_bytes pane.path) ports.panes.all.items ≡ paths_of folder.now 9) }
+        ensures follower { IfOk result (λ ports. IsFresh ports.follower × (string_bytes ports.follower.path ≡ panes_path folder.now)) }
         ensures faults { IfErr result (λ fault. (fault ≡ RunFault.Bind) ⊎ (fault ≡ RunFault.Core Fault.OutOfMemory)) }
     {
         let link = Link::bind(rt, alloc, port, moments)?;
         let panes = Panes::bind(rt, alloc, link.registry(), folder)?;
-        Ok(ServerPorts { link, panes })
+        match Follower::bind(rt, alloc, link.registry(), folder) {
+            Ok(follower) => Ok(ServerPorts {
+                link,
+                panes,
+                follower,
+            }),
+            Err(fault) => {
+                panes.remove(rt);
+                Err(fault)
+            }
+        }
     }
 
     /// The port that it is bound to.
@@ -76,9 +92,18 @@ impl<R: Clock + Drop> ServerPorts<R> {
         self.link.rest();
     }
 
-    /// Removes the files of the panes' sockets.
+    /// Tells the program that follows the session's panes what is new of them; one that comes is told all.
+    pub fn tell_panes(&mut self, alloc: Global, now: &Places)
+        ensures tells { IfSome self.new.follower.peer.stream (λ _. Tells now.now self.old.follower self.new.follower) }
+        ensures panes { self.new.panes ≡ self.old.panes }
+    {
+        self.follower.tell(alloc, self.link.registry(), now);
+    }
+
+    /// Removes the files of the sockets.
     pub fn remove(&self, files: &impl Files) {
         self.panes.remove(files);
+        self.follower.remove(files);
     }
 }
 

@@ -1,11 +1,17 @@
 //! `roam serve`: a server round its sockets.
 ghost use Rattle.std.specs.Prelude.{◌≡◌, ◌⊎◌, IfErr};
+ghost use Rattle.roam_session.specs.Lives.{life_of};
+ghost use Rattle.roam_session.specs.Places.{rect_at};
+ghost use Rattle.roam_world.specs.Servers.{Server as ServerOf};
+ghost use Rattle.roam_hub.specs.Servers.{Stands};
+ghost use Rattle.roam_sockets.specs.Following.{ArePlacesOf, place_of};
 
 use crate::moments::Moments;
 use crate::ports::ServerPorts;
 use roam_cells::Fault;
 use roam_faults::RunFault;
 use roam_hub::Server;
+use roam_places::{Place, Places};
 use roam_turns::serve_turn;
 use std::alloc::Global;
 use std::fs::Files;
@@ -25,7 +31,33 @@ pub struct Serve<'a> {
     pub turns: u64,
 }
 
-// Takes the turns of a server, and waits where one brought nothing.
+// A pane of a server, where it is there.
+fn place_of(server: &Server, pane: u8) -> Option<Place>
+    ensures place { (s : ServerOf) → Stands server.now s → result ≡ place_of (life_of s.size s.log pane) (rect_at s.size s.log pane) }
+{
+    match (server.life(pane), server.rect(pane)) {
+        (Some(life), Some(rect)) => Some(Place {
+            life,
+            rows: rect.rows,
+            cols: rect.cols,
+        }),
+        _ => None,
+    }
+}
+
+// The panes of a server, and the one in focus.
+fn places_of(server: &Server) -> Places
+    ensures places { (s : ServerOf) → Stands server.now s → ArePlacesOf s result }
+{
+    let mut places = Places::unknown();
+    for pane in 1..10u8 {
+        places.set(pane, place_of(server, pane));
+    }
+    places.set_focus(server.focus());
+    places
+}
+
+// Takes the turns of a server, tells after each who follows the panes, and waits where one brought nothing.
 fn serve_turns<C: Clock + Drop>(
     alloc: Global,
     turns: u64,
@@ -34,6 +66,7 @@ fn serve_turns<C: Clock + Drop>(
 ) {
     for _ in 0..turns {
         serve_turn(alloc, server, ports);
+        ports.tell_panes(alloc, &places_of(server));
         ports.rest();
     }
 }
@@ -62,8 +95,8 @@ fn serve_bound<R: Files + Net + Clock + Eprint + AllocGlobal>(
     Ok(())
 }
 
-/// Serves a session of 24 rows and 80 columns: binds the port and the sockets `p1` to `p9` of the folder, takes the turns, waiting where
-/// one brought nothing, and removes the sockets' files. A socket's file to which nobody listens is removed before; the port is told on
+/// Serves a session of 24 rows and 80 columns: binds the port and the sockets `p1` to `p9` and `panes` of the folder, takes the turns,
+/// waiting where one brought nothing, and removes the sockets' files. A socket's file to which nobody listens is removed before; the port is told on
 /// standard error where any that is free was asked for. `Bind` where a name can't be bound, and nothing stays then; `OutOfMemory`.
 pub fn run_serve<R: Files + Net + Clock + Eprint + AllocGlobal>(
     rt: &R,

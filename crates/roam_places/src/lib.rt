@@ -1,0 +1,9 @@
+//! Which panes a session has, how large each is and which is in focus, told in lines to a program that follows it.
+#![tactic(auto)]
+
+pub mod laws;
+mod lines;
+mod places;
+
+pub use lines::lines_between;
+pub use places::{Place, Places};

@@ -1,0 +1,47 @@
+# Completion of roam, mux and attach for bash: source this file, or put it into a folder of bash-completion.
+
+_roam_mux_names() {
+    local mux=$1
+    "$mux" ls 2> /dev/null | while read -r name _; do echo "$name"; done
+}
+
+_roam_mux() {
+    local word=${COMP_WORDS[COMP_CWORD]}
+    case ${COMP_WORDS[COMP_CWORD - 1]} in
+    watch | kill) mapfile -t COMPREPLY < <(compgen -W "$(_roam_mux_names "${COMP_WORDS[0]}")" -- "$word") ;;
+    mux | roam-mux | */mux | */roam-mux)
+        mapfile -t COMPREPLY < <(compgen -W "ls watch kill --help $(_roam_mux_names "${COMP_WORDS[0]}")" -- "$word")
+        ;;
+    esac
+}
+
+_roam_attach() {
+    local word=${COMP_WORDS[COMP_CWORD]}
+    case ${COMP_WORDS[COMP_CWORD - 1]} in
+    --dir) mapfile -t COMPREPLY < <(compgen -d -- "$word") ;;
+    *) mapfile -t COMPREPLY < <(compgen -W "--watch --dir --server --help" -- "$word") ;;
+    esac
+}
+
+_roam() {
+    local word=${COMP_WORDS[COMP_CWORD]} words
+    case ${COMP_WORDS[1]} in
+    serve) words="--dir --port --session --turns --help" ;;
+    attach) words="--port --session --client --keys --acts --wire --watch --turns --help" ;;
+    show) words="--rows --cols --help" ;;
+    world) words="--help" ;;
+    mux) words="ls watch kill --help" ;;
+    *) words="mux serve attach show world --help --version" ;;
+    esac
+    [ "$COMP_CWORD" -gt 1 ] || words="mux serve attach show world --help --version"
+    case ${COMP_WORDS[COMP_CWORD - 1]} in
+    --dir) mapfile -t COMPREPLY < <(compgen -d -- "$word") ;;
+    --keys | --acts) mapfile -t COMPREPLY < <(compgen -f -- "$word") ;;
+    --wire) mapfile -t COMPREPLY < <(compgen -W "1 2" -- "$word") ;;
+    *) mapfile -t COMPREPLY < <(compgen -W "$words" -- "$word") ;;
+    esac
+}
+
+complete -F _roam roam
+complete -F _roam_mux mux roam-mux
+complete -F _roam_attach attach roam-attach

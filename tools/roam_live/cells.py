@@ -1,0 +1,82 @@
+"""The cells that a painter's text shows: it has CUP, SGR, ED 2, DECTCEM, a reset and characters, and nothing else."""
+import re
+import unicodedata
+from typing import NamedTuple
+
+MARKS = re.compile(r"\x1b\[(\d+);(\d+)H|\x1b\[([\d;]*)m|(\x1b\[2J|\x1bc)|\x1b\[\?25([hl])|\x1b\[[0-?]*[@-~]|([^\x1b])")
+
+FLAGS = {1: "bold", 2: "faint", 3: "italic", 4: "underline", 5: "blink", 7: "reverse", 8: "conceal", 9: "strike"}
+
+
+class Style(NamedTuple):
+    """A style: its flags, and its colours as an index, as red, green and blue, or as None for the default."""
+
+    flags: frozenset = frozenset()
+    foreground: object = None
+    background: object = None
+
+
+class Cells:
+    """What a painter's text shows: cells by row and column from 1, each a character and a style, and the cursor."""
+
+    def __init__(self):
+        self.cells = {}
+        self.style = Style()
+        self.row = self.col = 1
+        self.has_cursor = True
+
+    def fed(self, text):
+        """Goes on with a painter's text."""
+        for mark in MARKS.finditer(text):
+            row, col, style, erased, cursor, letter = mark.groups()
+            if row:
+                self.row, self.col = int(row), int(col)
+            elif style is not None:
+                self.style = styled(self.style, [int(word or 0) for word in style.split(";")])
+            elif erased:
+                self.cells.clear()
+            elif cursor:
+                self.has_cursor = cursor == "h"
+            elif letter:
+                self.write(letter)
+
+    def write(self, letter):
+        """Writes a character; one without a width joins the one before."""
+        width = width_of(letter)
+        if width == 0:
+            place = (self.row, self.col - 1 if (self.row, self.col - 1) in self.cells else self.col - 2)
+            before, style = self.cells.get(place, (" ", self.style))
+            self.cells[place] = (before + letter, style)
+            return
+        if width == 2:
+            self.cells.pop((self.row, self.col + 1), None)
+        self.cells[(self.row, self.col)] = (letter, self.style)
+        self.col += width
+
+
+def width_of(letter):
+    """How many columns a character takes."""
+    if unicodedata.category(letter) in ("Mn", "Me", "Cf"):
+        return 0
+    return 2 if unicodedata.east_asian_width(letter) in "WF" else 1
+
+
+def styled(style, numbers):
+    """A style after the numbers of an SGR."""
+    numbers = list(numbers)
+    while numbers:
+        number = numbers.pop(0)
+        if number == 0:
+            style = Style()
+        elif number in FLAGS:
+            style = style._replace(flags=style.flags | {FLAGS[number]})
+        elif number in (38, 48):
+            style = style._replace(**{"foreground" if number == 38 else "background": colour_of(numbers)})
+    return style
+
+
+def colour_of(numbers):
+    """The colour that the numbers behind 38 or 48 name, which are taken off."""
+    kind, *rest = numbers[:4] + [0] * 4
+    del numbers[: 2 if kind == 5 else 4]
+    return rest[0] if kind == 5 else tuple(rest[:3])

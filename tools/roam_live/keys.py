@@ -1,0 +1,82 @@
+"""Bytes of the outer terminal as keys, and keys as acts. The spellings are those of xterm, of the VT220 and of what stands between."""
+import codecs
+import re
+from typing import NamedTuple
+
+
+class Key(NamedTuple):
+    """A key: its name, which of a character is itself, and the text that the terminal sent for it."""
+
+    name: str
+    text: str
+
+
+# The keys that have an act of their own: what a pane's program is sent for them hangs on its modes.
+NUMBERED = {1: "find", 2: "insert", 3: "remove", 4: "select", 5: "prev", 6: "next", 7: "find", 8: "select", 17: "f6", 18: "f7", 19: "f8",
+            20: "f9", 21: "f10", 23: "f11", 24: "f12", 25: "f13", 26: "f14", 28: "f15", 29: "f16", 31: "f17", 32: "f18", 33: "f19",
+            34: "f20", 11: "pf1", 12: "pf2", 13: "pf3", 14: "pf4"}
+CURSOR = {"A": "up", "B": "down", "C": "right", "D": "left", "H": "find", "F": "select"}
+SHIFTED = {**CURSOR, "P": "pf1", "Q": "pf2", "R": "pf3", "S": "pf4", "M": "padenter", "l": "padcomma", "m": "padminus", "n": "padperiod",
+           **{letter: f"pad{digit}" for digit, letter in enumerate("pqrstuvwxy")}}
+LINUX = {"A": "pf1", "B": "pf2", "C": "pf3", "D": "pf4"}
+CONTROLLED = {"A": "C-up", "B": "C-down", "C": "C-right", "D": "C-left"}
+
+SPELLINGS = {
+    **{f"\x1b[{number}~": name for number, name in NUMBERED.items()},
+    **{f"\x1b[{letter}": name for letter, name in CURSOR.items()},
+    **{f"\x1bO{letter}": name for letter, name in SHIFTED.items()},
+    **{f"\x1b[[{letter}": name for letter, name in LINUX.items()},
+    **{f"\x1b[1;5{letter}": name for letter, name in CONTROLLED.items()},
+    **{f"\x1bO{letter.lower()}": name for letter, name in CONTROLLED.items()},
+    "\x1b[200~": "paste",
+    "\x1b[201~": "pasted",
+}
+ACTS = {name for name in SPELLINGS.values() if not name.startswith("C-") and not name.startswith("paste")}
+TYPED = {"\r": "key return", "\x7f": "key backspace"}
+
+# A sequence, or a character; and the beginning of a sequence that more may follow.
+WHOLE = re.compile(r"\x1b\[\[[A-E]|\x1b\[[0-?]*[ -/]*[@-~]|\x1bO[ -~]|.", re.DOTALL)
+BEGUN = re.compile(r"\x1b(\[\[?|\[[0-?]+[ -/]*|O)?")
+
+
+class Keys:
+    """Keys of a stream that comes in any pieces."""
+
+    def __init__(self):
+        self.decoder = codecs.getincrementaldecoder("utf-8")("replace")
+        self.rest = ""
+
+    def fed(self, piece):
+        """The keys that are whole now. An escape that may begin more waits."""
+        text = self.rest + self.decoder.decode(piece)
+        cut = text.rfind("\x1b", max(0, len(text) - 32))
+        is_cut = cut >= 0 and BEGUN.fullmatch(text, cut) is not None
+        self.rest = text[cut:] if is_cut else ""
+        return keys_in(text[:cut] if is_cut else text)
+
+    def waits(self):
+        """Whether an escape waits for more."""
+        return self.rest != ""
+
+    def ended(self):
+        """The keys of what waits, where no more came in time."""
+        text, self.rest = self.rest, ""
+        return [Key(letter, letter) for letter in text]
+
+
+def keys_in(text):
+    """The keys of a text; a sequence that isn't known has the name of none."""
+    return [Key(SPELLINGS.get(found[0], found[0] if len(found[0]) == 1 else "unknown"), found[0]) for found in WHOLE.finditer(text)]
+
+
+def acts_of(key):
+    """The acts of a key that is typed: its own, or a character for each of its text."""
+    if key.name in ACTS:
+        return [f"key {key.name}"]
+    return [TYPED.get(letter) or f"char {ord(letter):x}" for letter in key.text]
+
+
+def acts_of_bytes(text):
+    """The acts of bytes that come at once and nothing after them."""
+    keys = Keys()
+    return [act for key in keys.fed(text) + keys.ended() for act in acts_of(key)]

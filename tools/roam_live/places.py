@@ -1,0 +1,144 @@
+"""Where the panes of a session are, as far as their sizes tell.
+
+D/panes tells sizes alone. A split puts the new pane to the right of the one that had the focus or below it, and a close gives a pane's
+place to the other part of its split: so whoever has followed a session from one pane on knows the tree, and with it each place.
+"""
+import os
+from typing import NamedTuple
+
+BESIDE = {"left": (0, -1), "right": (0, 1), "up": (-1, 0), "down": (1, 0)}
+
+
+class Place(NamedTuple):
+    """A pane's first row and column, from 1, and its rows and columns."""
+
+    row: int
+    col: int
+    rows: int
+    cols: int
+
+
+# So many panes that come at once are looked for in the tree; more ways to split than those of four take too long.
+MOST_NEW = 4
+
+
+class Tree:
+    """The tree of a session's panes: a number, or a way and two trees. It isn't known for sure before sizes fit together."""
+
+    def __init__(self):
+        self.shape = None
+        self.lives = {}
+        self.is_known = False
+
+    def told(self, lives, sizes):
+        """Takes the life and the size of each pane, by number, and brings the tree to them; where they don't fit, the next may."""
+        stayed = {pane for pane in sizes if self.lives.get(pane) == lives[pane]}
+        new = [pane for pane in sizes if pane not in stayed]
+        shape = without(self.shape, stayed) if self.shape else None
+        if shape is None and new:
+            shape, new = new[0], new[1:]
+        found = with_panes(shape, new, sizes) if shape and len(new) <= MOST_NEW else None
+        self.is_known = found is not None
+        if found:
+            self.shape, self.lives = found, dict(lives)
+
+    def places(self, sizes):
+        """Each pane's place, by number; none where the tree isn't known."""
+        return placed(self.shape, 1, 1, sizes) if self.is_known else {}
+
+
+def leaves(shape):
+    """The panes of a tree, in its order."""
+    return [shape] if isinstance(shape, int) else leaves(shape[1]) + leaves(shape[2])
+
+
+def without(shape, kept):
+    """The tree of those of its panes that are still there; None where none is."""
+    if isinstance(shape, int):
+        return shape if shape in kept else None
+    first, second = without(shape[1], kept), without(shape[2], kept)
+    return (shape[0], first, second) if first and second else first or second
+
+
+def extent(shape, sizes):
+    """The rows and columns of a tree, with its borders; None where its sizes don't fit together."""
+    if isinstance(shape, int):
+        return sizes[shape]
+    first, second = extent(shape[1], sizes), extent(shape[2], sizes)
+    if first is None or second is None:
+        return None
+    if shape[0] == "right":
+        return (first[0], first[1] + 1 + second[1]) if first[0] == second[0] else None
+    return (first[0] + 1 + second[0], first[1]) if first[1] == second[1] else None
+
+
+def with_panes(shape, new, sizes):
+    """The tree with new panes, each split off one of those that are there, so that all sizes fit together; None where none does."""
+    if not new:
+        return shape if extent(shape, sizes) else None
+    for pane in leaves(shape):
+        for way in ("right", "down"):
+            found = with_panes(split(shape, pane, way, new[0]), new[1:], sizes)
+            if found:
+                return found
+    return None
+
+
+def split(shape, pane, way, new):
+    """The tree in which a pane has a new one to its right or below it."""
+    if isinstance(shape, int):
+        return (way, shape, new) if shape == pane else shape
+    return (shape[0], split(shape[1], pane, way, new), split(shape[2], pane, way, new))
+
+
+def placed(shape, row, col, sizes):
+    """The places of a tree's panes, by number, from its first row and column on."""
+    if isinstance(shape, int):
+        return {shape: Place(row, col, *sizes[shape])}
+    rows, cols = extent(shape[1], sizes)
+    second = (row, col + cols + 1) if shape[0] == "right" else (row + rows + 1, col)
+    return {**placed(shape[1], row, col, sizes), **placed(shape[2], *second, sizes)}
+
+
+def neighbour(places, focus, way):
+    """The pane that touches the one in focus on that side, nearest to its middle; None where none does."""
+    here = places[focus]
+    down, right = BESIDE[way]
+    middle = (here.row + (here.rows - 1) / 2, here.col + (here.cols - 1) / 2)
+    row = middle[0] if not down else here.row + (here.rows + 1 if down > 0 else -2)
+    col = middle[1] if not right else here.col + (here.cols + 1 if right > 0 else -2)
+    found = [(distance(place, row, col), pane) for pane, place in places.items() if pane != focus and covers(place, row, col, right)]
+    return min(found)[1] if found else None
+
+
+def covers(place, row, col, is_beside):
+    """Whether a pane has the column to a side, or the row above or below."""
+    if is_beside:
+        return place.col <= col < place.col + place.cols
+    return place.row <= row < place.row + place.rows
+
+
+def distance(place, row, col):
+    """How far a pane is from a point, along the side that it may lie off."""
+    below, beside = place.row + place.rows - 1, place.col + place.cols - 1
+    return max(place.row - row, row - below, 0) + max(place.col - col, col - beside, 0)
+
+
+def write_places(path, places, focus):
+    """Writes where the panes are: a line each, in the tree's order, and the focus."""
+    lines = [f"{pane} {place.row} {place.col} {place.rows} {place.cols}\n" for pane, place in places.items()]
+    with open(f"{path}.new", "w", encoding="utf-8") as text:
+        text.write("".join(lines) + f"focus {focus}\n")
+    os.replace(f"{path}.new", path)
+
+
+def read_places(path):
+    """The places by number and the focus; none and 0 where they aren't told."""
+    try:
+        with open(path, encoding="utf-8") as text:
+            *lines, last = [line.split() for line in text]
+        places = {int(words[0]): Place(*map(int, words[1:])) for words in lines}
+        focus = int(last[1])
+    except (OSError, ValueError):
+        return {}, 0
+    return (places, focus) if focus in places else ({}, 0)

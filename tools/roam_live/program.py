@@ -1,0 +1,163 @@
+"""The program, its sockets, its port, ids, and the processes that the tools know of."""
+import os
+import pathlib
+import secrets
+import socket
+import sys
+import tempfile
+import time
+
+TOOLS = pathlib.Path(__file__).resolve().parent.parent
+
+# Where the program is: as make built it, or installed beside the tools.
+PLACES = (TOOLS.parent / "crates/roam/out/roam", TOOLS / "roam", TOOLS.parent / "bin/roam", TOOLS.parent.parent / "bin/roam")
+
+
+class Fault(Exception):
+    """What went wrong, as one line."""
+
+
+def tool_name():
+    """The name under which this tool was started."""
+    return pathlib.Path(sys.argv[0]).name
+
+
+def run_tool(main):
+    """Runs a tool; a fault is one line on standard error and status 1."""
+    try:
+        sys.exit(main())
+    except Fault as fault:
+        sys.exit(f"{tool_name()}: {fault}")
+    except KeyboardInterrupt:
+        sys.exit(130)
+
+
+def program():
+    """The path of the program: the environment's ROAM, else what make built, else what was installed."""
+    named = os.environ.get("ROAM")
+    for path in [pathlib.Path(named)] if named else PLACES:
+        if path.is_file() and os.access(path, os.X_OK):
+            return str(path)
+    raise Fault(f"{named or PLACES[0]} isn't there; make builds it")
+
+
+def random_id():
+    """An id that nobody had: 16 hexadecimal digits, the first no zero."""
+    return f"{secrets.randbits(63) | 1 << 63:x}"
+
+
+def is_id(word):
+    """Whether a word is an id: 1 to 16 hexadecimal digits."""
+    return 1 <= len(word) <= 16 and all(letter in "0123456789abcdefABCDEF" for letter in word)
+
+
+def connected(path, patience=10.0):
+    """A connection to a Unix socket, which may still have to be made."""
+    end = time.monotonic() + patience
+    while True:
+        peer = socket.socket(socket.AF_UNIX, socket.SOCK_STREAM)
+        try:
+            peer.connect(str(path))
+            peer.setblocking(False)
+            return peer
+        except OSError as fault:
+            peer.close()
+            is_early = isinstance(fault, (FileNotFoundError, ConnectionRefusedError, BlockingIOError))
+            if not is_early or time.monotonic() > end:
+                raise Fault(f"{path}: {fault.strerror or fault}") from fault
+        time.sleep(0.02)
+
+
+def is_served(port):
+    """Whether somebody has this UDP port of loopback. One byte goes there, which is no datagram to a server."""
+    with socket.socket(socket.AF_INET, socket.SOCK_DGRAM) as probe:
+        probe.connect(("127.0.0.1", port))
+        probe.settimeout(0.005)
+        try:
+            probe.send(b"\0")
+            probe.recv(1)
+        except ConnectionRefusedError:
+            return False
+        except OSError:
+            pass
+        return True
+
+
+def begun(process):
+    """When a process began, in the system's ticks; None where there is none, or only what is left of one that ended."""
+    try:
+        words = pathlib.Path(f"/proc/{process}/stat").read_text(encoding="utf-8").rpartition(")")[2].split()
+    except OSError:
+        return None
+    return None if words[0] in "ZX" else int(words[19])
+
+
+def is_running(process, moment):
+    """Whether a process runs that began at this moment: a number may have been given anew."""
+    return moment is not None and begun(process) == moment
+
+
+class Listener:
+    """A Unix socket in a folder of its own, to which a client start connects for its acts."""
+
+    def __init__(self):
+        self.folder = tempfile.mkdtemp(prefix="roam-acts-")
+        self.path = os.path.join(self.folder, "acts")
+        self.socket = socket.socket(socket.AF_UNIX, socket.SOCK_STREAM)
+        self.socket.bind(self.path)
+        self.socket.listen(1)
+        self.socket.setblocking(False)
+
+    def accepted(self):
+        """The connection of the client start."""
+        peer = self.socket.accept()[0]
+        peer.setblocking(False)
+        return peer
+
+    def close(self):
+        """Removes the socket and its folder."""
+        self.socket.close()
+        for remove, path in ((os.unlink, self.path), (os.rmdir, self.folder)):
+            try:
+                remove(path)
+            except OSError:
+                pass
+
+
+class Lines:
+    """Lines of a stream that comes in any pieces."""
+
+    def __init__(self):
+        self.rest = b""
+
+    def fed(self, piece):
+        """The lines that are whole now."""
+        *lines, self.rest = (self.rest + piece).split(b"\n")
+        return [line.decode("utf-8", "replace") for line in lines]
+
+
+def attach_words(port, session, more):
+    """The words of a client start under an id of its own."""
+    return [program(), "attach", "--port", str(port), "--session", session, "--client", random_id(), *more]
+
+
+def read(source):
+    """What came, None where nothing did, and nothing where no more will."""
+    try:
+        return os.read(source, 65536)
+    except BlockingIOError:
+        return None
+    except OSError:
+        return b""
+
+
+def write(target, waiting):
+    """Writes what is taken of what waits; tells whether the target is still there."""
+    try:
+        del waiting[: os.write(target, memoryview(waiting)[:65536].tobytes())]
+    except BlockingIOError:
+        pass
+    except OSError:
+        waiting.clear()
+        return False
+    return True

@@ -1,0 +1,122 @@
+"""The outer terminal: raw mode, its size, the other screen, and what of the painter's text may reach it."""
+import fcntl
+import os
+import re
+import struct
+import termios
+
+# The sizes that a session may have.
+LEAST = (4, 8)
+MOST = (200, 500)
+
+RESET = b"\x1bc"
+
+# What a reset does that a person's terminal may be asked for: the modes that change what the painter's functions do, the margins, the
+# sets and the style; then all is erased. A reset itself would erase the user's own screen and what scrolled off it.
+CLEARED = b"\x1b[0m\x1b[r\x1b(B\x0f\x1b[4l\x1b[20l\x1b[?5l\x1b[?6l\x1b[?7h\x1b[?1l\x1b>\x1b[?25h\x1b[2J\x1b[H"
+
+# Pastes come between brackets, so that what is pasted is never taken for a binding.
+ENTERED = b"\x1b[?1049h\x1b[?2004h" + CLEARED
+LEFT = b"\x1b[?2004l\x1b[0m\x1b[r\x1b(B\x0f\x1b[?25h\x1b[?1049l"
+
+
+def without_reset(held, piece):
+    """The painter's text with each reset replaced, and what is held back: an escape at the end, which may begin one."""
+    text = held + piece
+    held = b"\x1b" if text.endswith(b"\x1b") else b""
+    return text[: len(text) - len(held)].replace(RESET, CLEARED), held
+
+
+def size_of(terminal):
+    """A terminal's rows and columns; one that tells none has 24 and 80."""
+    rows, cols = struct.unpack("HHHH", fcntl.ioctl(terminal, termios.TIOCGWINSZ, bytes(8)))[:2]
+    return rows or 24, cols or 80
+
+
+def set_size(terminal, rows, cols):
+    """Gives a terminal a size; its programs are told where it is another."""
+    fcntl.ioctl(terminal, termios.TIOCSWINSZ, struct.pack("HHHH", rows, cols, 0, 0))
+
+
+def is_large_enough(size):
+    """Whether a terminal's size is one that a session may have, or larger."""
+    return size[0] >= LEAST[0] and size[1] >= LEAST[1]
+
+
+def size_act(size):
+    """The act that gives a session a terminal's size, as far as it may have it."""
+    return f"size {min(size[0], MOST[0])} {min(size[1], MOST[1])}"
+
+
+def make_raw(terminal):
+    """Has each byte that is typed come as it is, and tells the modes that were."""
+    before = termios.tcgetattr(terminal)
+    modes = termios.tcgetattr(terminal)
+    modes[0] &= ~(termios.BRKINT | termios.ICRNL | termios.INLCR | termios.IGNCR | termios.INPCK | termios.ISTRIP | termios.IXON)
+    modes[1] &= ~termios.OPOST
+    modes[2] = modes[2] & ~(termios.CSIZE | termios.PARENB) | termios.CS8
+    modes[3] &= ~(termios.ECHO | termios.ICANON | termios.IEXTEN | termios.ISIG)
+    modes[6][termios.VMIN], modes[6][termios.VTIME] = 1, 0
+    termios.tcsetattr(terminal, termios.TCSADRAIN, modes)
+    return before
+
+
+def restore(terminal, modes):
+    """Gives a terminal its modes back; what was typed and not read is no command of the shell that comes back."""
+    try:
+        termios.tcsetattr(terminal, termios.TCSAFLUSH, modes)
+    except (termios.error, OSError):
+        pass
+
+
+def opened_for_writing(terminal):
+    """A terminal opened anew, so that writes to it needn't wait while those of other programs do; itself where it has no name here."""
+    try:
+        return os.open(os.ttyname(terminal), os.O_WRONLY | os.O_NOCTTY | os.O_NONBLOCK)
+    except OSError:
+        return os.dup(terminal)
+
+
+class Extent:
+    """How many rows and columns the painter has reached since all was erased.
+
+    The last row of a session is painted over all of its columns in printable ASCII, so this is the session's size.
+    """
+
+    MARKS = re.compile(rb"\x1b\[(\d+);(\d+)H|\x1b\[2J|\x1bc|\x1b\[[0-?]*[@-~]|([^\x1b]+)")
+
+    def __init__(self):
+        self.rest = b""
+        self.col = 1
+        self.size = (0, 0)
+
+    def fed(self, piece):
+        """Goes on with a piece of the painter's text, and tells whether all was erased in it."""
+        text = self.rest + piece
+        self.rest = b""
+        is_erased = False
+        cut = text.rfind(b"\x1b")
+        if cut >= 0 and not self.MARKS.match(text, cut):
+            text, self.rest = text[:cut], text[cut:]
+        for mark in self.MARKS.finditer(text):
+            if mark[0] in (b"\x1b[2J", RESET):
+                is_erased = True
+                self.size = (0, 0)
+            else:
+                self._reach(mark)
+        return is_erased
+
+    def _reach(self, mark):
+        """Goes on with a place of the cursor, or with characters."""
+        rows, cols = self.size
+        if mark[1]:
+            rows, self.col = max(rows, int(mark[1])), int(mark[2])
+        elif mark[3]:
+            # Behind other characters the column isn't known before the cursor is placed again.
+            self.col = self.col + len(mark[3]) if mark[3].isascii() else -sum(MOST)
+            cols = max(cols, self.col - 1)
+        self.size = (rows, cols)
+
+    def fits(self, size):
+        """Whether what was painted fits into a terminal of this size."""
+        return self.size[0] <= size[0] and self.size[1] <= size[1]
