@@ -23,16 +23,20 @@ MOST_NEW = 4
 
 
 class Tree:
-    """The tree of a session's panes: a number, or a way and two trees. It isn't known for sure before sizes fit together."""
+    """The tree of a session's panes: a number, or a way and two trees. It isn't known for sure before sizes fit together.
 
-    def __init__(self):
-        self.shape = None
+    It begins with the places that another told before, or with none.
+    """
+
+    def __init__(self, places):
+        self.shape = shape_of(places) if places else None
         self.lives = {}
         self.is_known = False
 
     def told(self, lives, sizes):
         """Takes the life and the size of each pane, by number, and brings the tree to them; where they don't fit, the next may."""
-        stayed = {pane for pane in sizes if self.lives.get(pane) == lives[pane]}
+        known = leaves(self.shape) if self.shape else []
+        stayed = {pane for pane in sizes if pane in known and self.lives.get(pane, lives[pane]) == lives[pane]}
         new = [pane for pane in sizes if pane not in stayed]
         shape = without(self.shape, stayed) if self.shape else None
         if shape is None and new:
@@ -45,6 +49,20 @@ class Tree:
     def places(self, sizes):
         """Each pane's place, by number; none where the tree isn't known."""
         return placed(self.shape, 1, 1, sizes) if self.is_known else {}
+
+
+def shape_of(places):
+    """A tree that has these places; None where no border goes through between them."""
+    if len(places) == 1:
+        return next(iter(places))
+    for way, start, length in (("right", 1, 3), ("down", 0, 2)):
+        for end in sorted(place[start] + place[length] for place in places.values()):
+            first = {pane: place for pane, place in places.items() if place[start] + place[length] <= end}
+            rest = {pane: place for pane, place in places.items() if place[start] > end}
+            if rest and len(first) + len(rest) == len(places):
+                parts = shape_of(first), shape_of(rest)
+                return None if None in parts else (way, *parts)
+    return None
 
 
 def leaves(shape):

@@ -26,7 +26,7 @@ def run_tool(main):
     """Runs a tool; a fault is one line on standard error and status 1."""
     try:
         sys.exit(main())
-    except Fault as fault:
+    except (Fault, OSError) as fault:
         sys.exit(f"{tool_name()}: {fault}")
     except KeyboardInterrupt:
         sys.exit(130)
@@ -42,8 +42,8 @@ def program():
 
 
 def random_id():
-    """An id that nobody had: 16 hexadecimal digits, the first no zero."""
-    return f"{secrets.randbits(63) | 1 << 63:x}"
+    """An id that nobody had: 15 hexadecimal digits, the first no zero, so that it is below every bound of an id."""
+    return f"{secrets.randbits(60) | 1 << 59:x}"
 
 
 def is_id(word):
@@ -112,6 +112,8 @@ class Listener:
         """The connection of the client start."""
         peer = self.socket.accept()[0]
         peer.setblocking(False)
+        # A start that is let go has one second for what it was sent: so little of a long paste is on its way at once.
+        peer.setsockopt(socket.SOL_SOCKET, socket.SO_SNDBUF, 4096)
         return peer
 
     def close(self):

@@ -9,7 +9,7 @@ use std::os::unix::fs::symlink;
 use std::test::*;
 
 /// The ports of a server whose panes are in a folder.
-fn ports_in<'a>(
+pub fn ports_in<'a>(
     rt: &'a HostRuntime,
     folder: &str,
 ) -> Result<ServerPorts<&'a HostRuntime>, RunFault> {
