@@ -76,6 +76,7 @@ static TOLD: [Told; 10] = [
              --client <H>   The id of this start of a client, 1 to 16 hexadecimal digits; each start needs one of its own, as c1\n      \
              --keys <PATH>  A file with the acts to type, one a line, as `char 61`, `key return` or `split right`; \
              without it none are typed\n      \
+             --acts <SOCKET>  A Unix socket from which such lines come as they are typed; the run ends with them, once they are done\n      \
              --wire <V>     The version of the protocol, 1 or 2; 2 where it isn't given\n      \
              --watch        Only watches: no act is typed\n      \
              --turns <N>    How many turns the run takes, 18446744073709551615 where it isn't given. \
@@ -163,6 +164,7 @@ fn words_of_attach(rt: HostRuntime) {
                 session,
                 client,
                 keys,
+                acts,
                 version,
                 watches,
                 turns,
@@ -172,6 +174,7 @@ fn words_of_attach(rt: HostRuntime) {
                 && session == 0
                 && client == u64::MAX
                 && keys == Some("k")
+                && acts == None
                 && version == Version::Two
                 && !watches
                 && turns == u64::MAX

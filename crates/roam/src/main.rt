@@ -9,7 +9,7 @@ use roam_command::{Request, asked, words_of};
 use roam_faults::{RunFault, end};
 use roam_play::run_world;
 use roam_show::run_show;
-use roam_sockets::{Attach, Serve, run_attach, run_serve};
+use roam_sockets::{Attach, Serve, Typed, run_attach, run_serve};
 use std::io;
 use std::os::fd::RawFd;
 use std::process::ExitCode;
@@ -25,6 +25,15 @@ fn main(rt: HostRuntime) -> ExitCode {
     match asked(&rt, words.as_slice()) {
         Ok(request) => end(&rt, run(&rt, request)),
         Err(status) => status,
+    }
+}
+
+// Where acts come from: a file or a socket, of which words name one at most.
+fn typed<'a>(keys: Option<&'a str>, acts: Option<&'a str>) -> Typed<'a> {
+    match (keys, acts) {
+        (_, Some(socket)) => Typed::Socket(socket),
+        (Some(path), None) => Typed::File(path),
+        (None, None) => Typed::Nothing,
     }
 }
 
@@ -57,6 +66,7 @@ fn run(rt: &HostRuntime, request: Request<'_>) -> Result<(), RunFault> {
             session,
             client,
             keys,
+            acts,
             version,
             watches,
             turns,
@@ -66,7 +76,7 @@ fn run(rt: &HostRuntime, request: Request<'_>) -> Result<(), RunFault> {
                 port,
                 session,
                 client,
-                keys,
+                typed: typed(keys, acts),
                 version,
                 watches,
                 turns,

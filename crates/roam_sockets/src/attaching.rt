@@ -1,26 +1,48 @@
 //! `roam attach`: a client start round its socket and the outer terminal.
-ghost use Rattle.std.specs.Prelude.{◌≡◌, ◌⊎◌, ◌+◌, ℕ, false, None, All, IfErr, IfOk, IsOkUnless};
+ghost use Rattle.std.specs.Prelude.{◌≡◌, ◌⊎◌, ◌+◌, ◌-◌, ◌<◌, [], ℕ, true, false, None, Some, All, IfErr, IfOk, OnOk, IsOkUnless};
 ghost use Rattle.roam_acts.specs.Acts.{IsInRange};
+ghost use Rattle.roam_turns.specs.Painting.{IsBehind};
 ghost use Rattle.roam_sockets.specs.Notices.{end_of};
+ghost use Rattle.roam_sockets.specs.Runs.{IsHanded, IsOver, IsPending, IsSettled, RunsOn, TakesTurn, Turn, home_of, longest_end, seen_at};
+ghost use Rattle.roam_sockets.specs.Typing.{refused_at};
+ghost use Rattle.roam_sockets.specs.declared.typing.Stream.TheVariants.{Ended};
 
 use crate::keys::acts_of;
 use crate::links::loopback;
 use crate::moments::Moments;
 use crate::ports::ClientPorts;
 use crate::silence::End;
+use crate::typing::Typist;
+use mio::net::UnixStream;
 use roam_acts::Act;
 use roam_cells::Fault;
 use roam_faults::RunFault;
-use roam_hub::Client;
+use roam_hub::{Addr, Client};
 use roam_turns::{Outer, attach_turn};
 use roam_wire::Version;
 use std::alloc::Global;
 use std::fs;
 use std::fs::Files;
-use std::io::{ErrorKind, Write};
+use std::io::{ErrorKind, Read, Write};
 use std::net::Net;
 use std::os::fd::RawFd;
 use std::time::Clock;
+
+/// How many milliseconds a run goes on at most after the end of the stream of its acts was seen.
+const SECOND: u64 = 1000;
+
+/// Where the acts to type come from.
+#[derive(Clone, Copy, Debug, PartialEq, Eq)]
+pub enum Typed<'a> {
+    /// From nowhere: nobody types.
+    Nothing,
+
+    /// From a file, one a line.
+    File(&'a str),
+
+    /// From the Unix socket at this path, to which the start connects at its beginning: one a line, as they come.
+    Socket(&'a str),
+}
 
 /// What `roam attach` is asked for.
 #[derive(Clone, Copy, Debug, PartialEq, Eq)]
@@ -31,11 +53,11 @@ pub struct Attach<'a> {
     pub session: u64,
     /// The id of this client start.
     pub client: u64,
-    /// The file with the acts to type, one a line, where there is one.
-    pub keys: Option<&'a str>,
+    /// Where the acts to type come from.
+    pub typed: Typed<'a>,
     /// The version that this client start speaks.
     pub version: Version,
-    /// Whether it only watches, in version 2: then no act is typed, whatever the file.
+    /// Whether it only watches, in version 2: then no act is typed, whatever `typed` says.
     pub watches: bool,
     /// How many turns the run takes.
     pub turns: u64,
@@ -58,14 +80,14 @@ fn acts_in<R: Files + AllocGlobal>(rt: &R, path: &str) -> Result<Vec<Act>, RunFa
     }
 }
 
-// The acts to type: none where the start only watches, or where there is no file.
+// The acts to type that are there from the beginning: none where the start only watches, or where there is no file.
 fn acts_for<R: Files + AllocGlobal>(rt: &R, attach: &Attach<'_>) -> Result<Vec<Act>, RunFault>
     ensures faults { IfErr result (λ fault. (fault ≡ RunFault.Core Fault.OutOfMemory) ⊎ (fault ≡ RunFault.Read)
         ⊎ ((k : ℕ) × (fault ≡ RunFault.Act (k + 1)))) }
     ensures in_range { IfOk result (λ acts. All IsInRange acts.items) }
 {
-    match attach.keys {
-        Some(path) if !attach.watches => acts_in(rt, path),
+    match attach.typed {
+        Typed::File(path) if !attach.watches => acts_in(rt, path),
         _ => Ok(Vec::new(rt.alloc())),
     }
 }
@@ -81,68 +103,144 @@ fn client_for(alloc: Global, attach: &Attach<'_>) -> Result<Client, Fault>
     }
 }
 
-// Takes the turns of a start, and waits where one brought nothing. `Write` where nobody reads what is painted any more, where showing it
-// has failed for half a second, and where the outer terminal took not all of what was last shown.
-fn follow<C: Clock + Drop, W: Write + Drop>(
+// The act that waits next is handed to a turn of a start, where one waits; where nothing is taken the program rests. `Act` where none waits
+// and the next line is no act, `OutOfMemory`.
+fn type_turn<C: Clock + Drop, W: Write + Drop, T: Read>(
     alloc: Global,
-    attach: &Attach<'_>,
-    acts: &[Act],
+    typist: &mut Typist<T>,
     client: &mut Client,
+    shown: &mut Outer,
     ports: &mut ClientPorts<C, W>,
-) -> Result<End, RunFault>
-    requires in_range { All IsInRange acts.now }
-    ensures fault { IfErr result (λ fault. fault ≡ RunFault.Write) }
-    ensures well { IfOk result (λ _. (ports.new.failing ≡ None) × (ports.new.link.unread ≡ false)) }
-    ensures heard { IfOk result (λ end. end ≡ end_of ports.new.silence) }
+    to: Addr,
+) -> Result<(), RunFault>
+    requires in_range { All IsInRange typist.old.lines.waiting.items }
+    requires behind { IsBehind shown.old client.old.receiver.newest.number client.old.receiver.newest.state }
+    ensures in_range { OnOk result (All IsInRange typist.new.lines.waiting.items) }
+    ensures behind { OnOk result (IsBehind shown.new client.new.receiver.newest.number client.new.receiver.newest.state) }
+    ensures typed { OnOk result (RunsOn to (T.remaining typist.old.reader) (T.remaining typist.new.reader)
+        typist.old.lines typist.new.lines client.old client.new 1) }
+    ensures handed { OnOk result ((turn : Turn) × TakesTurn to turn client.old client.new
+        × IsHanded turn.next turn.took typist.new.lines.waiting.items) }
+    ensures refused { IfErr result (λ fault. (fault ≡ RunFault.Core Fault.OutOfMemory) ⊎ ((k : ℕ) × (fault ≡ RunFault.Act k)
+        × (refused_at typist.new.lines.stream typist.new.lines.waiting.items ≡ Some k)
+        × RunsOn to (T.remaining typist.old.reader) (T.remaining typist.new.reader)
+        typist.old.lines typist.new.lines client.old client.new 0)) }
 {
-    let mut shown = Outer::new();
-    let to = loopback(attach.port);
-    let mut typed = 0usize;
-    for _ in 0..attach.turns {
-        if attach_turn(alloc, client, &mut shown, ports, to, acts.get(typed)) {
-            typed += 1;
-        } else {
-            ports.rest();
-        }
-        if ports.tell_silence(alloc) {
-            shown = Outer::new();
-        }
-        if ports.is_unread() || ports.has_given_up() {
-            return Err(RunFault::Write);
-        }
+    typist.read_more()?;
+    if let Some(number) = typist.refused() {
+        return Err(RunFault::Act(number));
     }
+    if attach_turn(alloc, client, shown, ports, to, typist.next()) {
+        typist.took();
+        return Ok(());
+    }
+    ports.rest();
+    Ok(())
+}
+
+// Whether no act waits, and each that was taken is acknowledged.
+fn is_done<T: Read>(typist: &Typist<T>, client: &Client) -> bool
+    ensures done { result ≡ true → (typist.now.lines.waiting.items ≡ []) × IsSettled client.now }
+    ensures pending { result ≡ false → IsPending typist.now.lines client.now }
+{
+    match typist.next() {
+        Some(_) => false,
+        None => client.is_settled(),
+    }
+}
+
+// Whether a run whose stream is at its end is over; `since` notes when that was seen.
+fn is_over<C: Clock + Drop, W: Write + Drop, T: Read>(
+    typist: &Typist<T>,
+    client: &Client,
+    ports: &ClientPorts<C, W>,
+    since: &mut Option<u64>,
+) -> bool
+    ensures since { since.new ≡ seen_at typist.now.lines.stream since.old ports.now.silence.moment }
+    ensures over { result ≡ true → (moment : ℕ) × (since.new ≡ Some moment)
+        × IsOver typist.now.lines client.now moment ports.now.silence.moment }
+    ensures goes { result ≡ false → typist.now.lines.stream ≡ Ended → (moment : ℕ) × (since.new ≡ Some moment)
+        × (ports.now.silence.moment - moment < longest_end) × IsPending typist.now.lines client.now }
+{
+    if !typist.has_ended() {
+        return false;
+    }
+    let seen = since.unwrap_or(ports.moment());
+    *since = Some(seen);
+    is_done(typist, client) || ports.has_passed(seen, SECOND)
+}
+
+// How a run ends that was not broken off.
+fn ended<C: Clock + Drop, W: Write + Drop>(ports: &ClientPorts<C, W>) -> Result<End, RunFault>
+    ensures fault { IsOkUnless result RunFault.Write }
+    ensures well { IfOk result (λ _. (ports.now.failing ≡ None) × (ports.now.link.unread ≡ false)) }
+    ensures heard { IfOk result (λ end. end ≡ end_of ports.now.silence) }
+{
     if ports.is_unread() || ports.has_failed() {
         return Err(RunFault::Write);
     }
     Ok(ports.end())
 }
 
-// Binds a port for a start, and takes its turns.
-fn follow_from<R: Files + Net + Clock + AllocGlobal, W: Write + Drop>(
-    rt: &R,
+// Takes the turns of a start, and waits where one brought nothing. `Write` where nobody reads what is painted any more, where showing it
+// has failed for half a second, and where the outer terminal took not all of what was last shown; `Act` at a line of the stream that is no
+// act; `OutOfMemory`.
+fn follow<C: Clock + Drop, W: Write + Drop, T: Read>(
+    alloc: Global,
     attach: &Attach<'_>,
-    acts: &[Act],
+    typist: &mut Typist<T>,
     client: &mut Client,
-    outer: W,
+    ports: &mut ClientPorts<C, W>,
 ) -> Result<End, RunFault>
-    requires in_range { All IsInRange acts.now }
-    ensures faults { IfErr result (λ fault. (fault ≡ RunFault.Core Fault.OutOfMemory) ⊎ (fault ≡ RunFault.Bind)
-        ⊎ (fault ≡ RunFault.Write)) }
+    requires in_range { All IsInRange typist.old.lines.waiting.items }
+    ensures well { IfOk result (λ _. (ports.new.failing ≡ None) × (ports.new.link.unread ≡ false)) }
+    ensures heard { IfOk result (λ end. end ≡ end_of ports.new.silence) }
+    // All turns were taken, or the stream's acts are over.
+    ensures typed { IfOk result (λ _. (turns : ℕ) × RunsOn (home_of attach.now.port) (T.remaining typist.old.reader)
+        (T.remaining typist.new.reader) typist.old.lines typist.new.lines client.old client.new turns
+        × ((turns ≡ attach.now.turns) ⊎ ((since : ℕ) × IsOver typist.new.lines client.new since ports.new.silence.moment))) }
+    ensures faults { IfErr result (λ fault. (fault ≡ RunFault.Core Fault.OutOfMemory) ⊎ (fault ≡ RunFault.Write)
+        ⊎ ((k : ℕ) × (fault ≡ RunFault.Act k)
+        × (refused_at typist.new.lines.stream typist.new.lines.waiting.items ≡ Some k))) }
+    ensures broken_off { IfErr result (λ fault. (fault ≡ RunFault.Core Fault.OutOfMemory) ⊎ ((turns : ℕ)
+        × RunsOn (home_of attach.now.port) (T.remaining typist.old.reader) (T.remaining typist.new.reader)
+        typist.old.lines typist.new.lines client.old client.new turns)) }
 {
-    let alloc = rt.alloc();
-    let mut ports = ClientPorts::bind(rt, alloc, Moments::real(rt), outer)?;
+    let mut shown = Outer::new();
+    let mut since = None;
+    let to = loopback(attach.port);
+    for _ in 0..attach.turns {
+        type_turn(alloc, typist, client, &mut shown, ports, to)?;
+        if ports.tell_silence(alloc) {
+            shown = Outer::new();
+        }
+        if ports.is_unread() || ports.has_given_up() {
+            return Err(RunFault::Write);
+        }
+        if is_over(typist, client, ports, &mut since) {
+            return ended(ports);
+        }
+    }
+    ended(ports)
+}
+
+// Binds a port for a start.
+fn ports_for<'r, R: Net + Clock + AllocGlobal, W: Write + Drop>(
+    rt: &'r R,
+    attach: &Attach<'_>,
+    outer: W,
+) -> Result<ClientPorts<&'r R, W>, RunFault>
+    ensures faults { IfErr result (λ fault. (fault ≡ RunFault.Core Fault.OutOfMemory) ⊎ (fault ≡ RunFault.Bind)) }
+{
+    let mut ports = ClientPorts::bind(rt, rt.alloc(), Moments::real(rt), outer)?;
     if let Some(descriptor) = attach.painted_to {
         ports.watch(descriptor);
     }
-    follow(alloc, attach, acts, client, &mut ports)
+    Ok(ports)
 }
 
-/// Follows a session and types the acts of a file, one a turn where it is taken: it takes the turns, waiting where one brought nothing,
-/// paints what the start shows, and tells of a silence of ten seconds and more over the last row of the outer terminal. Answers what was
-/// heard of the server in the end. `Read` where the file can't be read, `Act` where a line of it is no act, `Bind` where no port can be
-/// bound, `Write` where nobody reads what is painted any more, showing it has failed for half a second, or the outer terminal took not all
-/// of what was last shown; `OutOfMemory`.
-pub fn follow_session<R: Files + Net + Clock + AllocGlobal, W: Write + Drop>(
+// Types the acts of a file, or none.
+fn follow_file<R: Files + Net + Clock + AllocGlobal, W: Write + Drop>(
     rt: &R,
     attach: &Attach<'_>,
     outer: W,
@@ -152,10 +250,58 @@ pub fn follow_session<R: Files + Net + Clock + AllocGlobal, W: Write + Drop>(
 {
     let acts = acts_for(rt, attach)?;
     let mut client = client_for(rt.alloc(), attach)?;
-    follow_from(rt, attach, &acts, &mut client, outer)
+    let mut ports = ports_for(rt, attach, outer)?;
+    let mut typist = Typist::holding(rt.alloc(), acts);
+    follow(rt.alloc(), attach, &mut typist, &mut client, &mut ports)
 }
 
-/// Follows a session as `follow_session` does, and tells on standard error how that ended where it took all its turns.
+// Types the acts that come over a Unix socket.
+fn follow_socket<R: Net + Clock + AllocGlobal, W: Write + Drop>(
+    rt: &R,
+    attach: &Attach<'_>,
+    path: &str,
+    outer: W,
+) -> Result<End, RunFault>
+    ensures faults { IfErr result (λ fault. (fault ≡ RunFault.Core Fault.OutOfMemory) ⊎ (fault ≡ RunFault.Read)
+        ⊎ ((k : ℕ) × (fault ≡ RunFault.Act (k + 1))) ⊎ (fault ≡ RunFault.Bind) ⊎ (fault ≡ RunFault.Write)) }
+{
+    let Ok(mut stream) = UnixStream::connect(rt, path) else {
+        return Err(RunFault::Read);
+    };
+    let mut client = client_for(rt.alloc(), attach)?;
+    let mut ports = ports_for(rt, attach, outer)?;
+    ports.watch_stream(&mut stream);
+    let mut typist = Typist::of(rt.alloc(), stream);
+    follow(rt.alloc(), attach, &mut typist, &mut client, &mut ports)
+}
+
+/// Follows a session and types acts, one a turn where it is taken: it takes the turns, waiting where one brought nothing, paints what the
+/// start shows, and tells of a silence of ten seconds and more over the last row of the outer terminal. Answers what was heard of the
+/// server in the end.
+///
+/// The acts of a file are read first: `Read` where it can't be, `Act` where a line of it is no act. To a socket it connects first: `Read`
+/// where it can't. Its lines are read as they come, in any pieces, and no more of them while an act that came waits to be taken; each is
+/// ended by LF but maybe the last. A line that is no act, or has more than 64 bytes, is `Act` once all acts before it were taken. Where the
+/// stream is at its end, or reading it fails, the run ends as soon as all acts were taken and are acknowledged, or after a second.
+///
+/// `Bind` where no port can be bound, `Write` where nobody reads what is painted any more, showing it has failed for half a second, or the
+/// outer terminal took not all of what was last shown; `OutOfMemory`.
+pub fn follow_session<R: Files + Net + Clock + AllocGlobal, W: Write + Drop>(
+    rt: &R,
+    attach: &Attach<'_>,
+    outer: W,
+) -> Result<End, RunFault>
+    ensures faults { IfErr result (λ fault. (fault ≡ RunFault.Core Fault.OutOfMemory) ⊎ (fault ≡ RunFault.Read)
+        ⊎ ((k : ℕ) × (fault ≡ RunFault.Act (k + 1))) ⊎ (fault ≡ RunFault.Bind) ⊎ (fault ≡ RunFault.Write)) }
+{
+    match attach.typed {
+        Typed::Socket(path) if !attach.watches => follow_socket(rt, attach, path, outer),
+        _ => follow_file(rt, attach, outer),
+    }
+}
+
+/// Follows a session as `follow_session` does, and tells on standard error how that ended where it took all its turns, or its stream of
+/// acts was over.
 pub fn run_attach<R: Files + Net + Clock + Eprint + AllocGlobal, W: Write + Drop>(
     rt: &R,
     attach: &Attach<'_>,

@@ -12,11 +12,13 @@ mod peers;
 mod ports;
 mod serving;
 mod silence;
+mod typing;
 
-pub use attaching::{Attach, follow_session, run_attach};
+pub use attaching::{Attach, Typed, follow_session, run_attach};
 pub use keys::acts_of;
 pub use links::loopback;
 pub use moments::Moments;
 pub use ports::{ClientPorts, ServerPorts};
 pub use serving::{Serve, run_serve};
 pub use silence::End;
+pub use typing::Typist;

@@ -4,7 +4,7 @@ ghost use Rattle.mio.specs.Events.{items};
 ghost use Rattle.roam_sockets.specs.Waits.{tell_of_no_reader};
 
 use crate::moments::Moments;
-use mio::net::UdpSocket;
+use mio::net::{UdpSocket, UnixStream};
 use mio::unix::SourceFd;
 use mio::{Events, Interest, Poll, Registry, Token};
 use roam_cells::Fault;
@@ -121,6 +121,17 @@ impl<R: Clock + Drop> Link<R> {
             .poll
             .registry()
             .register(&mut SourceFd(&descriptor), WATCHED, Interest::PRIORITY);
+    }
+
+    /// Lets a wait end where something comes over a stream.
+    pub(crate) fn watch_stream(&self, stream: &mut UnixStream)
+        ensures same { stream.new ≡ stream.old }
+    {
+        // Where it isn't reported, a wait ends by its time alone.
+        let _ = self
+            .poll
+            .registry()
+            .register(stream, Token(0), Interest::READABLE);
     }
 
     /// Whether nobody reads the descriptor any more that is watched.

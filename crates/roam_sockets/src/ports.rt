@@ -1,5 +1,5 @@
 //! The ports of a server and of a client start over sockets. What they carried isn't told.
-ghost use Rattle.std.specs.Prelude.{◌≡◌, ◌≢◌, ◌⊎◌, ◌-◌, ◌<◌, ◌≤◌, [], ℕ, true, false, not, length, map, string_bytes, is_some, nat_lt, None, Some, IfOk, IfSome, IfErr};
+ghost use Rattle.std.specs.Prelude.{◌≡◌, ◌≢◌, ◌⊎◌, ◌↔◌, IsTrue, ◌-◌, ◌<◌, ◌≤◌, [], ℕ, true, false, not, length, map, string_bytes, is_some, nat_lt, None, Some, IfOk, IfSome, IfErr};
 ghost use Rattle.std.specs.List.{All};
 ghost use Rattle.std.specs.Io.KnownBytes.{Appends};
 ghost use Rattle.roam_sockets.specs.Notices.{due_of, is_over, end_of, failing_after, has_given_up, notice_of};
@@ -12,6 +12,7 @@ use crate::links::Link;
 use crate::moments::Moments;
 use crate::panes::Panes;
 use crate::silence::{End, Silence, notice};
+use mio::net::UnixStream;
 use roam_cells::Fault;
 use roam_faults::RunFault;
 use roam_hub::Addr;
@@ -231,6 +232,27 @@ impl<R: Clock + Drop, W: Write + Drop> ClientPorts<R, W> {
         ensures same { self.new ≡ self.old }
     {
         self.link.watch(descriptor);
+    }
+
+    /// Lets a wait end where something comes over a stream.
+    pub fn watch_stream(&self, stream: &mut UnixStream)
+        ensures same { stream.new ≡ stream.old }
+    {
+        self.link.watch_stream(stream);
+    }
+
+    /// The moment of the last turn, in milliseconds.
+    pub fn moment(&self) -> u64
+        ensures moment { result ≡ self.now.silence.moment }
+    {
+        self.silence.moment()
+    }
+
+    /// Whether so many milliseconds have passed since a moment.
+    pub fn has_passed(&self, since: u64, long: u64) -> bool
+        ensures passed { IsTrue result ↔ long ≤ self.now.silence.moment - since }
+    {
+        self.silence.has_passed(since, long)
     }
 
     /// Whether nobody reads the descriptor any more that is watched.

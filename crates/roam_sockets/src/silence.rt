@@ -16,7 +16,7 @@ const BEFORE: &[u8] = b"\x1b7\x1b[?7l\x1b[999;1H\x1b[0;7m";
 /// What stands after them: the rest of the row is erased, what is printed wraps again, and the cursor is put back.
 const AFTER: &[u8] = b"\x1b[0m\x1b[K\x1b[?7h\x1b8";
 
-/// What a client start that took all its turns heard of its server in the end.
+/// What a client start heard of its server in the end, where it took all its turns or the stream of its acts was over.
 #[derive(Clone, Copy, Debug, PartialEq, Eq)]
 pub enum End {
     /// It heard something within the last ten seconds.

@@ -1,7 +1,7 @@
 //! Runs of `roam serve` and `roam attach`: what ends them, and what stays.
 use roam_faults::RunFault;
 use roam_sockets::{
-    Attach, End, Moments, Serve, ServerPorts, follow_session, run_attach, run_serve,
+    Attach, End, Moments, Serve, ServerPorts, Typed, follow_session, run_attach, run_serve,
 };
 use roam_wire::Version;
 use std::fs::{create_dir, remove_file, write};
@@ -83,7 +83,7 @@ fn attaches<W: Write + Drop>(
         port: 9,
         session: 1,
         client: 0xC1,
-        keys: Some(keys),
+        typed: Typed::File(keys),
         version: Version::Two,
         watches: false,
         turns: 3,
@@ -111,7 +111,7 @@ fn how_a_run_ends(rt: HostRuntime) -> Result<(), Fail> {
         port: 9,
         session: 1,
         client: 0xC1,
-        keys: None,
+        typed: Typed::Nothing,
         version: Version::Two,
         watches: true,
         turns: 3,
