@@ -18,8 +18,9 @@ class Place(NamedTuple):
     cols: int
 
 
-# So many panes that come at once are looked for in the tree; more ways to split than those of four take too long.
-MOST_NEW = 4
+# So many panes that come at once are looked for in the tree, as what was split off and else anywhere; more take too long.
+MOST_SPLITS = 4
+MOST_JOINS = 2
 
 
 class Tree:
@@ -41,7 +42,10 @@ class Tree:
         shape = without(self.shape, stayed) if self.shape else None
         if shape is None and new:
             shape, new = new[0], new[1:]
-        found = with_panes(shape, new, sizes) if shape and len(new) <= MOST_NEW else None
+        found = None
+        for steps, most in ((splits, MOST_SPLITS), (joins, MOST_JOINS)):
+            if shape and not found and len(new) <= most:
+                found = with_panes(shape, new, sizes, steps)
         self.is_known = found is not None
         if found:
             self.shape, self.lives = found, dict(lives)
@@ -90,23 +94,35 @@ def extent(shape, sizes):
     return (first[0] + 1 + second[0], first[1]) if first[1] == second[1] else None
 
 
-def with_panes(shape, new, sizes):
-    """The tree with new panes, each split off one of those that are there, so that all sizes fit together; None where none does."""
+def with_panes(shape, new, sizes, steps):
+    """The tree with new panes, each put in by a step, so that all sizes fit together; None where none does."""
     if not new:
         return shape if extent(shape, sizes) else None
-    for pane in leaves(shape):
-        for way in ("right", "down"):
-            found = with_panes(split(shape, pane, way, new[0]), new[1:], sizes)
-            if found:
-                return found
+    for step in steps(shape, new[0]):
+        found = with_panes(step, new[1:], sizes, steps)
+        if found:
+            return found
     return None
 
 
-def split(shape, pane, way, new):
-    """The tree in which a pane has a new one to its right or below it."""
+def splits(shape, new):
+    """The trees in which one pane has a new one to its right or below it."""
     if isinstance(shape, int):
-        return (way, shape, new) if shape == pane else shape
-    return (shape[0], split(shape[1], pane, way, new), split(shape[2], pane, way, new))
+        return [("right", shape, new), ("down", shape, new)]
+    way, first, second = shape
+    return [(way, tree, second) for tree in splits(first, new)] + [(way, first, tree) for tree in splits(second, new)]
+
+
+def joins(shape, new):
+    """The trees in which a new pane stands on any side of a pane, or of several that stand together.
+
+    So it comes out where the pane that was split was closed before anything was told.
+    """
+    beside = [(way, *pair) for way in ("right", "down") for pair in ((shape, new), (new, shape))]
+    if isinstance(shape, int):
+        return beside
+    way, first, second = shape
+    return beside + [(way, tree, second) for tree in joins(first, new)] + [(way, first, tree) for tree in joins(second, new)]
 
 
 def placed(shape, row, col, sizes):

@@ -83,7 +83,7 @@ class Extent:
     The last row of a session is painted over all of its columns in printable ASCII, so this is the session's size.
     """
 
-    MARKS = re.compile(rb"\x1b\[(\d+);(\d+)H|\x1b\[2J|\x1bc|\x1b\[[0-?]*[@-~]|([^\x1b]+)")
+    MARKS = re.compile(rb"\x1b\[(\d+);(\d+)H|\x1b\[2J|\x1b[^\[]|\x1b\[[0-?]*[@-~]|([^\x1b]+)")
 
     def __init__(self):
         self.rest = b""
@@ -109,7 +109,10 @@ class Extent:
     def _reach(self, mark):
         """Goes on with a place of the cursor, or with characters."""
         rows, cols = self.size
-        if mark[1]:
+        if mark[1] and int(mark[1]) > MOST[0]:
+            # What tells of a silent server is written to the last row of any terminal.
+            self.col = -sum(MOST)
+        elif mark[1]:
             rows, self.col = max(rows, int(mark[1])), int(mark[2])
         elif mark[3]:
             # Behind other characters the column isn't known before the cursor is placed again.
