@@ -1,5 +1,6 @@
 # `make` proves what the program stands on and builds it; `make show` builds the program that has `roam show` alone; `make test` is the
-# whole gate; `make bench` runs the benchmarks. All need the kit's `rt` on the PATH; the benchmarks a C compiler and Python too.
+# whole gate; `make bench` runs the benchmarks; `make try` tries the built program as processes and as a person would, and `make install
+# PREFIX=/usr/local` puts it, its tools and their pages there. All need the kit's `rt` on the PATH; the benchmarks a C compiler and Python too.
 # What one goal stands on, or all: a word a crate, those below it first, NAME:DEP:DEP.
 goal := $(patsubst crates/%/out/built,%,$(filter crates/%/out/built,$(MAKECMDGOALS)))
 crates := $(shell tools/crates_below $(if $(word 2,$(MAKECMDGOALS)),,$(goal)) | tr ' ' ':')
@@ -9,7 +10,7 @@ files := $(shell find crates/*/src crates/*/specs crates/*/proofs -type f)
 sources = $(filter crates/$(1)/%,$(files))
 built = $(patsubst %,crates/%/out/built,$(1))
 
-.PHONY: all show test bench clean
+.PHONY: all show test bench try install clean
 
 all: program = roam
 show: program = show_program
@@ -45,6 +46,23 @@ bench: all
 	bench/hub.sh
 	bench/turns.sh
 	bench/latency.sh
+
+try: all
+	tools/two_processes
+	tools/try_live
+
+PREFIX ?= /usr/local
+installed = $(DESTDIR)$(PREFIX)
+
+install: all
+	install -d $(installed)/bin $(installed)/lib/roam/roam_live $(installed)/share/man/man1 $(installed)/share/bash-completion/completions
+	install crates/roam/out/roam $(installed)/bin/roam
+	install tools/attach tools/mux tools/pane_shells tools/picture $(installed)/lib/roam
+	install -m 644 tools/roam_live/*.py $(installed)/lib/roam/roam_live
+	ln -sf ../lib/roam/mux $(installed)/bin/roam-mux
+	ln -sf ../lib/roam/attach $(installed)/bin/roam-attach
+	install -m 644 docs/man/*.1 $(installed)/share/man/man1
+	install -m 644 tools/completion.bash $(installed)/share/bash-completion/completions/roam
 
 clean:
 	rm -rf crates/*/out

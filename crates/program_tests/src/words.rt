@@ -71,17 +71,17 @@ static TOLD: [Told; 10] = [
         status: 0,
         text: "Follows a session and paints it on standard output\n\n\
              Usage: roam attach [OPTIONS] --port <P> --session <H> --client <H>\n\nOptions:\n      \
-             --port <P>     The UDP port on 127.0.0.1 of the server, as 4000\n      \
-             --session <H>  The session's id, 1 to 16 hexadecimal digits; each run of serve needs one of its own, as 5e55\n      \
-             --client <H>   The id of this start of a client, 1 to 16 hexadecimal digits; each start needs one of its own, as c1\n      \
-             --keys <PATH>  A file with the acts to type, one a line, as `char 61`, `key return` or `split right`; \
+             --port <P>       The UDP port on 127.0.0.1 of the server, as 4000\n      \
+             --session <H>    The session's id, 1 to 16 hexadecimal digits; each run of serve needs one of its own, as 5e55\n      \
+             --client <H>     The id of this start of a client, 1 to 16 hexadecimal digits; each start needs one of its own, as c1\n      \
+             --keys <PATH>    A file with the acts to type, one a line, as `char 61`, `key return` or `split right`; \
              without it none are typed\n      \
              --acts <SOCKET>  A Unix socket from which such lines come as they are typed; the run ends with them, once they are done\n      \
-             --wire <V>     The version of the protocol, 1 or 2; 2 where it isn't given\n      \
-             --watch        Only watches: no act is typed\n      \
-             --turns <N>    How many turns the run takes, 18446744073709551615 where it isn't given. \
+             --wire <V>       The version of the protocol, 1 or 2; 2 where it isn't given\n      \
+             --watch          Only watches: no act is typed\n      \
+             --turns <N>      How many turns the run takes, 18446744073709551615 where it isn't given. \
              One that brings nothing waits up to 10 milliseconds; a busy pane takes thousands a second\n  \
-             -h, --help         Print help\n\n\
+             -h, --help           Print help\n\n\
              Example: roam attach --port 4000 --session 5e55 --client c1 --keys keys\n",
     },
 ];
@@ -207,6 +207,21 @@ fn attaches(
     })
 }
 
+/// Words that can't be given beside one another.
+static EXCLUDED: [&[&str]; 3] = [
+    &["--watch", "--wire", "2"],
+    &["--acts", "s", "--keys", "k"],
+    &["--watch", "--acts", "s"],
+];
+
+#[test]
+fn words_that_exclude_one_another(rt: HostRuntime) -> Result<(), Fail> {
+    for more in &EXCLUDED {
+        assert!(rt; attaches(rt.alloc(), more)? == None);
+    }
+    Ok(())
+}
+
 #[test]
 fn words_that_may_be_left_out(rt: HostRuntime) -> Result<(), Fail> {
     let most = u64::MAX;
@@ -219,7 +234,6 @@ fn words_that_may_be_left_out(rt: HostRuntime) -> Result<(), Fail> {
         attaches(rt.alloc(), &["--watch", "--keys", "k", "--turns", "7"])?
             == Some((Version::Two, true, 7, true))
     );
-    assert!(rt; attaches(rt.alloc(), &["--watch", "--wire", "2"])? == None);
     assert!(rt; attaches(rt.alloc(), &["--wire", "0"])? == None);
     let served = read_words(rt.alloc(), &SERVE[..8]);
     assert!(rt;
