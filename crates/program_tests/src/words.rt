@@ -76,7 +76,8 @@ static TOLD: [Told; 10] = [
              --client <H>     The id of this start of a client, 1 to 16 hexadecimal digits; each start needs one of its own, as c1\n      \
              --keys <PATH>    A file with the acts to type, one a line, as `char 61`, `key return` or `split right`; \
              without it none are typed\n      \
-             --acts <SOCKET>  A Unix socket from which such lines come as they are typed; the run ends with them, once they are done\n      \
+             --acts <SOCKET>  A Unix socket from which such lines come as they are typed; \
+             the run ends with them, once they are done\n      \
              --wire <V>       The version of the protocol, 1 or 2; 2 where it isn't given\n      \
              --watch          Only watches: no act is typed\n      \
              --turns <N>      How many turns the run takes, 18446744073709551615 where it isn't given. \

@@ -139,7 +139,8 @@ impl Grid {
         ensures first { self.new.first ≡ first_indexed self.old.screen self.old.first }
         ensures marks { self.new.marks ≡ marks_indexed self.old.screen self.old.marks }
         ensures size { IsSameSize self.old.screen self.new.screen }
-        ensures place { (self.new.screen.col ≡ 0) × (self.new.screen.pending ≡ false) × (self.new.screen.cols ≡ self.old.screen.cols) }
+        ensures place { (self.new.screen.col ≡ 0) × (self.new.screen.pending ≡ false)
+            × (self.new.screen.cols ≡ self.old.screen.cols) }
     {
         self.carriage_return();
         self.index();

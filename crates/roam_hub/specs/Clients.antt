@@ -106,8 +106,8 @@ pub data Types (session id : ℕ) (c : ClientOf) (act : Act) (result : Result (U
   watching : c.watches ≡ true → result ≡ Err Watching → Stands new session id c → Types session id c act result new
   full : c.watches ≡ false → IsFull c.acts → result ≡ Err Busy → Stands new session id c → Types session id c act result new
   spent : c.watches ≡ false → IsSpent c.acts → result ≡ Err Spent → Stands new session id c → Types session id c act result new
-  typed : c.watches ≡ false → (IsFull c.acts → ⊥) → (IsSpent c.acts → ⊥) → result ≡ Ok tt → Stands new session id (after_typed c act)
-      → Types session id c act result new
+  typed : c.watches ≡ false → (IsFull c.acts → ⊥) → (IsSpent c.acts → ⊥) → result ≡ Ok tt
+      → Stands new session id (after_typed c act) → Types session id c act result new
   no_memory : result ≡ Err OutOfMemory → Stands new session id c → Types session id c act result new
 
 -- an instruction's text was read and told to a receiver of a version: what it made of it, whether its new number is above its old one, and
@@ -125,7 +125,8 @@ pub record Told (version : Version) (text : List ℕ) (old : Typing) (r : Receiv
 pub data NotTold (version : Version) (text : List ℕ) (r : Receiving Screenshot) (fault : Fault) : Type 0 where
   unread : (why : Reason) → SaysNoDown text why → fault ≡ BadDatagram why → NotTold version text r fault
   bad_change : (v : DownValue) (base : Screenshot) → SaysDown text v → step_for r v.old v.new v.floor ≡ step.New
-      → state_at v.old (pairs r) ≡ Some base → applied_by version base v.change ≡ None → fault ≡ BadChange → NotTold version text r fault
+      → state_at v.old (pairs r) ≡ Some base → applied_by version base v.change ≡ None
+      → fault ≡ BadChange → NotTold version text r fault
   no_memory : fault ≡ OutOfMemory → NotTold version text r fault
 
 -- bytes are no datagram, and why
@@ -140,7 +141,8 @@ pub record IsTextOf (bytes : List ℕ) (d : DatagramValue) : Type 0 where
 
 -- Bytes come: they are no datagram; it is refused; it makes no instruction whole; its instruction can't be read; its change is bad; the
 -- receiver hears its update; or memory is wanting.
-pub data Hears (session id : ℕ) (c : ClientOf) (bytes : List ℕ) (now : ℕ) (result : Result Heard Fault) (new : ClientView) : Type 0 where
+pub data Hears (session id : ℕ) (c : ClientOf) (bytes : List ℕ) (now : ℕ) (result : Result Heard Fault) (new : ClientView)
+    : Type 0 where
   no_datagram : (why : Reason) → IsNoDatagram bytes why → result ≡ Err (BadDatagram why) → Stands new session id c
       → Hears session id c bytes now result new
   refused : (d : DatagramValue) (fault : Fault) → IsTextOf bytes d → arriving session id c d ≡ sent_back fault
@@ -165,7 +167,8 @@ pub data Hears (session id : ℕ) (c : ClientOf) (bytes : List ℕ) (now : ℕ) 
 -- A tick: nothing is due; numbers are spent; the datagrams are answered in their order; or memory is wanting.
 pub data Sends (session id : ℕ) (c : ClientOf) (now : ℕ) (result : Result (Vec (Vec ℕ Global) Global) Fault) (new : ClientView)
     : Type 0 where
-  quiet : (none : Vec (Vec ℕ Global) Global) → is_client_due c (moment_of c now) ≡ false → result ≡ Ok none → texts_of none.items ≡ []
+  quiet : (none : Vec (Vec ℕ Global) Global) → is_client_due c (moment_of c now) ≡ false
+      → result ≡ Ok none → texts_of none.items ≡ []
       → Stands new session id (after_quiet c (moment_of c now)) → Sends session id c now result new
   spent : is_client_due c (moment_of c now) ≡ true → is_client_spent c ≡ true
       → result ≡ Err Spent → Stands new session id c → Sends session id c now result new

@@ -14,7 +14,8 @@ pub data Line : Type 0 where
 -- a line as it is written, ended by LF
 abbrev pub line_text : Line → List ℕ
 line_text (Here p place) =
-    decimal p ++ (codes " " ++ (decimal place.rows ++ (codes " " ++ (decimal place.cols ++ (codes " " ++ (decimal place.life ++ codes "\n"))))))
+    decimal p ++ (codes " " ++ (decimal place.rows ++ (codes " " ++ (decimal place.cols
+    ++ (codes " " ++ (decimal place.life ++ codes "\n"))))))
 line_text (Gone p) = decimal p ++ codes " gone\n"
 line_text (Focus p) = codes "focus " ++ (decimal p ++ codes "\n")
 

@@ -6,7 +6,8 @@ pub fn lines_arrive()
     ensures arrive { LinesArrive }
 {}
 
-/// Each line says what wasn't known before it: a pane that isn't there is never gone, none is told twice the same, and neither is the focus.
+/// Each line says what wasn't known before it: a pane that isn't there is never gone, and neither a pane nor the focus is told twice the
+/// same.
 pub fn lines_are_news()
     ensures news { LinesAreNews }
 {}

@@ -96,8 +96,9 @@ fn serve_bound<R: Files + Net + Clock + Eprint + AllocGlobal>(
 }
 
 /// Serves a session of 24 rows and 80 columns: binds the port and the sockets `p1` to `p9` and `panes` of the folder, takes the turns,
-/// waiting where one brought nothing, and removes the sockets' files. A socket's file to which nobody listens is removed before; the port is told on
-/// standard error where any that is free was asked for. `Bind` where a name can't be bound, and nothing stays then; `OutOfMemory`.
+/// waiting where one brought nothing, and removes the sockets' files. A socket's file to which nobody listens is removed before; the port
+/// is told on standard error where any that is free was asked for. `Bind` where a name can't be bound, and nothing stays then;
+/// `OutOfMemory`.
 pub fn run_serve<R: Files + Net + Clock + Eprint + AllocGlobal>(
     rt: &R,
     serve: &Serve<'_>,

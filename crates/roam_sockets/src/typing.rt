@@ -165,7 +165,7 @@ impl ActLines {
         Ok(())
     }
 
-    // A read of the stream answered so: with a piece, with nothing for now, or with its end.
+    // A read of the stream answered so: with a piece, with nothing at this moment, or with its end.
     fn hear(&mut self, answer: &io::Result<usize>, buf: &[u8]) -> Result<(), Fault>
         requires open { self.old.stream ≡ Stream.Open }
         requires within { IfOk answer.now (λ n. n ≤ length buf.now) }
@@ -238,8 +238,8 @@ impl<R: Read> Typist<R> {
     }
 
     /// Reads one piece of the stream, at most 1,024 bytes, where no act waits; else, and where the stream is at its end or a line of it is
-    /// no act, nothing. A reader that fails is at its end, but where it is `WouldBlock` or `Interrupted`. `OutOfMemory`; then what stands of
-    /// the stream isn't told.
+    /// no act, nothing. A reader that fails is at its end, but where it is `WouldBlock` or `Interrupted`. `OutOfMemory`; then what stands
+    /// of the stream isn't told.
     pub fn read_more(&mut self) -> Result<(), Fault>
         ensures reads { OnOk result ((bytes : List ℕ) × (length bytes ≤ longest_piece)
             × Consumes (R.remaining self.old.reader) (R.remaining self.new.reader) bytes × Reads self.old.lines bytes self.new.lines) }
