@@ -9,3 +9,4 @@ pub mod Sameness
 pub mod CellLists
 pub mod Colours
 pub mod Words
+pub mod SameCells

@@ -5,3 +5,4 @@ pub mod Kept
 pub mod Limits
 pub mod Place
 pub mod WellFormed
+pub mod Same

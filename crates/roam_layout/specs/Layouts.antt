@@ -25,10 +25,11 @@ pub data Outcome : Type 0 where
 
 -- a session's size
 abbrev pub IsSessionSize : ℕ → ℕ → Type 0
-IsSessionSize rows cols = (4 ≤ rows) × (rows ≤ 200) × (8 ≤ cols) × (cols ≤ 500)
+IsSessionSize rows cols = (fewest_session_rows ≤ rows) × (rows ≤ most_rows) × (fewest_session_columns ≤ cols) × (cols ≤ most_columns)
 
 abbrev pub is_session_size : ℕ → ℕ → Bool
-is_session_size rows cols = nat_le 4 rows && nat_le rows 200 && nat_le 8 cols && nat_le cols 500
+is_session_size rows cols =
+    nat_le fewest_session_rows rows && nat_le rows most_rows && nat_le fewest_session_columns cols && nat_le cols most_columns
 
 -- all rows but the last, which has the status text
 abbrev pub area : ℕ → ℕ → Rect

@@ -1,4 +1,3 @@
-pub mod Sames
 pub mod Places
 pub mod Spellings
 pub mod Loops

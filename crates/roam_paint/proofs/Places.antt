@@ -8,10 +8,10 @@ use Rattle.roam_cells.specs.Place.{cell_at, row_of}
 use Rattle.roam_screens.specs.Screenshot.{Screenshot}
 use Rattle.roam_cells.proofs.Places.{row_from}
 use Rattle.roam_rows.proofs.Lifting.{part_at}
-use Rattle.roam_paint.specs.Same.{same}
+use Rattle.roam_cells.specs.Same.{same}
 use Rattle.roam_term.specs.Ground.{shown_at}
 use Rattle.roam_paint.specs.Painting.{same_size, painted_over, differs}
-use Rattle.roam_paint.proofs.Sames.{same-true, same-same}
+use Rattle.roam_cells.proofs.SameCells.{glyph_same, glyph_again}
 
 -- ---- what a screen shows inside it and outside it
 
@@ -56,7 +56,7 @@ module _ (old new : Screenshot) where
       ap (λ x. not (same x (shown_at new r c))) (over_right r c a (same_size old new) refl) ∙ ap (λ x. not (same blank x)) (shown_right new r c a)
 
   pub same_cell : (r c : ℕ) → differs old new r c ≡ false → painted_over old new r c ≡ shown_at new r c
-  same_cell r c e = same-true (painted_over old new r c) (shown_at new r c) (not-false (same (painted_over old new r c) (shown_at new r c)) e)
+  same_cell r c e = glyph_same (painted_over old new r c) (shown_at new r c) (not-false (same (painted_over old new r c) (shown_at new r c)) e)
 
   -- a row that shows the same differs nowhere
   pub same_row : same_size old new ≡ true → (r : ℕ) → r < new.rows
@@ -70,7 +70,7 @@ module _ (old new : Screenshot) where
             let shows : painted_over old new r c ≡ shown_at new r c =
             ap (λ b. if b then shown_at old r c else blank) e ∙ shown_inside old r c (omega (arith, r_in, rows)) (omega (arith, a, cols))
             ∙ each c a ∙ sym (shown_inside new r c r_in a) in
-            ap (λ x. not (same x (shown_at new r c))) shows ∙ ap not (same-same (shown_at new r c))
+            ap (λ x. not (same x (shown_at new r c))) shows ∙ ap not (glyph_again (shown_at new r c))
       ]
 
   -- and so does one whose cells are the same

@@ -9,7 +9,7 @@ use Rattle.roam_cells.specs.declared.styles.Colour.{Colour}
 use Rattle.roam_cells.specs.declared.styles.Colour.TheVariants.{Default, Index, Rgb}
 use Rattle.roam_text.specs.declared.functions.Function.{Function}
 use Rattle.roam_text.specs.declared.functions.Function.TheVariants.{Print, Csi}
-use Rattle.roam_paint.specs.Same.{same_style}
+use Rattle.roam_cells.specs.Same.{same_style}
 use Rattle.roam_term.specs.ControlFunctions.{place_cursor, set_mixture, restyle}
 use Rattle.roam_paint.specs.Painting.{Places, differs, is_drawn, goes_on, placing, styling, drawn_cell, style_in, drawn_row, style_at, drawn_rows}
 use Rattle.roam_term.specs.Ground.{shown_at}

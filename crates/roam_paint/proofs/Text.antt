@@ -25,7 +25,7 @@ use Rattle.roam_term.specs.ControlFunctions.{flag_code, colour_codes, set_style,
 use Rattle.roam_term.specs.Ground.{IsGround, ShowsScreen, shown_at}
 use Rattle.roam_text.specs.Resting.{AtRest}
 use Rattle.roam_paint.specs.Ground.{PaintedLeadsOver}
-use Rattle.roam_paint.specs.Same.{same_style}
+use Rattle.roam_cells.specs.Same.{same_style}
 use Rattle.roam_paint.specs.Sequences.{spelled}
 use Rattle.roam_paint.specs.Painting.{Places, is_drawn, goes_on, placing, styling, drawn_cell, style_in, drawn_row, style_at, drawn_rows, same_size, differs, opening, closing, drawn, painted}
 use Rattle.roam_text.proofs.Encoded.{signs-encoded, bytes-encoded}

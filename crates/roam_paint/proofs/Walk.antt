@@ -13,9 +13,9 @@ use Rattle.roam_grid.specs.Writing.{columns}
 use Rattle.roam_text.specs.declared.functions.Function.TheVariants.{Print}
 use Rattle.roam_term.specs.Terminal.{Live, changed}
 use Rattle.roam_term.specs.ControlFunctions.{place_cursor, restyle}
-use Rattle.roam_paint.specs.Same.{same_style}
+use Rattle.roam_cells.specs.Same.{same_style}
 use Rattle.roam_paint.specs.Painting.{Places, is_drawn, goes_on, placing, styling, drawn_cell, style_after, style_in, drawn_row, style_at, drawn_rows}
-use Rattle.roam_paint.proofs.Sames.{same_style-true}
+use Rattle.roam_cells.proofs.SameCells.{style_same}
 use Rattle.roam_term.proofs.Cells.{first_of, first_wide, by, written_half, written_other}
 use Rattle.roam_term.proofs.Steps.{acted, acted-append, Constants, at_work, goes, restyled, Printed, stands, prints_all}
 
@@ -255,7 +255,7 @@ module _ (still : Constants) (prows pcols : ℕ) (d : ℕ → ℕ → Bool) (new
         elim (cases_Bool (same_style (new r k).style g)) [
           | inl h ↦
               ap (λ b. acted (if b then [] else restyle (new r k).style) (ready g last_placed)) h
-              ∙ ap (λ s. ready s last_placed) (sym (same_style-true (new r k).style g h))
+              ∙ ap (λ s. ready s last_placed) (sym (style_same (new r k).style g h))
               ∙ sym (ap (λ b. ready (new r k).style (if b then last_placed else None)) h)
           | inr h ↦
               ap (λ b. acted (if b then [] else restyle (new r k).style) (ready g last_placed)) h

@@ -1,4 +1,3 @@
-pub mod Same
 pub mod Sequences
 pub mod Painting
 pub mod Texts

@@ -7,7 +7,7 @@ use Rattle.roam_screens.specs.Screenshot.{Screenshot}
 use Rattle.roam_cells.specs.declared.styles.Style.{Style}
 use Rattle.roam_text.specs.declared.functions.Function.{Function}
 use Rattle.roam_text.specs.declared.functions.Function.TheVariants.{Print}
-use Rattle.roam_paint.specs.Same.{same, same_style}
+use Rattle.roam_cells.specs.Same.{same, same_style}
 use Rattle.roam_term.specs.Ground.{shown_at}
 use Rattle.roam_term.specs.ControlFunctions.{hide_cursor, show_cursor, erase_all, place_cursor, reset_all, set_style, restyle}
 use Rattle.roam_paint.specs.Sequences.{spelled}

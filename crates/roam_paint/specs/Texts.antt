@@ -7,7 +7,7 @@ use Rattle.roam_screens.specs.Screenshot.{Screenshot}
 use Rattle.roam_cells.specs.declared.styles.Style.{Style}
 use Rattle.roam_cells.specs.declared.styles.Colour.{Colour}
 use Rattle.roam_cells.specs.declared.styles.Colour.TheVariants.{Default, Index, Rgb}
-use Rattle.roam_paint.specs.Same.{same_style}
+use Rattle.roam_cells.specs.Same.{same_style}
 use Rattle.roam_term.specs.ControlFunctions.{place_cursor, set_style, restyle, hide_cursor, show_cursor, erase_all}
 use Rattle.roam_paint.specs.Sequences.{spelled}
 use Rattle.roam_term.specs.Ground.{shown_at}

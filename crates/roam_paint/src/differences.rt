@@ -1,7 +1,7 @@
 //! Where two screens differ.
 ghost use Rattle.std.specs.Prelude.{◌≡◌, ℕ, ◌<◌, ◌+◌, ◌*◌, true, false, not};
 ghost use Rattle.roam_term.specs.Ground.{shown_at};
-ghost use Rattle.roam_paint.specs.Same.{same};
+ghost use Rattle.roam_cells.specs.Same.{same};
 ghost use Rattle.roam_paint.specs.Painting.{same_size, differs};
 
 use roam_cells::{Cell, are_same_cells};

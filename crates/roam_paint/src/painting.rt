@@ -5,7 +5,7 @@ ghost use Rattle.roam_cells.specs.Glyph.{is_right_half, is_wide};
 ghost use Rattle.roam_text.specs.Log.{Item};
 ghost use Rattle.roam_term.specs.Terminal.{term};
 ghost use Rattle.roam_paint.specs.Ground.{Displays, LeadsOver, IsOpened};
-ghost use Rattle.roam_paint.specs.Same.{same_style};
+ghost use Rattle.roam_cells.specs.Same.{same_style};
 ghost use Rattle.roam_paint.specs.Sequences.{spelled};
 ghost use Rattle.roam_term.specs.ControlFunctions.{place_cursor, restyle};
 ghost use Rattle.roam_term.specs.Ground.{shown_at};

@@ -1,6 +1,7 @@
 -- What of a screen is shown by one of version 1: at most 100 rows of 250 columns, and no mixtures (this project's profile).
 use Rattle.std.specs.Prelude.{◌≡◌, ℕ, ◌+◌, ◌-◌, ◌*◌, ◌/◌, ◌≤◌, min, Bool, true, false, not, ◌&&◌, ◌||◌, ◌==◌, nat_lt, EachIndex, slice_index_or, if◌then◌else◌}
 use Rattle.roam_cells.specs.Glyph.{Glyph, is_wide, space_in, blank}
+use Rattle.roam_cells.specs.Limits.{most_old_rows, most_old_columns}
 use Rattle.roam_cells.specs.Place.{cell_at, table}
 use Rattle.roam_screens.specs.Screenshot.{Screenshot, IsScreenshot}
 use Rattle.roam_cells.specs.declared.styles.Style.{Style}
@@ -20,8 +21,8 @@ is_plain_style s = is_plain_colour s.foreground && is_plain_colour s.background
 -- a screen of version 1
 pub record IsOldScreenshot (s : Screenshot) : Type 0 where
   pub screenshot : IsScreenshot s
-  pub rows : s.rows ≤ 100
-  pub cols : s.cols ≤ 250
+  pub rows : s.rows ≤ most_old_rows
+  pub cols : s.cols ≤ most_old_columns
   pub plain : EachIndex s.cells (λ k. is_plain_style (slice_index_or s.cells k blank).style ≡ true)
 
 -- one of six steps of red, green or blue
@@ -44,10 +45,10 @@ narrow_glyph last g =
 
 -- how many rows and columns are shown
 abbrev pub narrow_rows : ℕ → ℕ
-narrow_rows rows = min rows 100
+narrow_rows rows = min rows most_old_rows
 
 abbrev pub narrow_cols : ℕ → ℕ
-narrow_cols cols = min cols 250
+narrow_cols cols = min cols most_old_columns
 
 -- the row, from 0, that a row shows: the last one shows the last, each other one itself
 abbrev pub row_shown : ℕ → ℕ → ℕ
@@ -59,15 +60,15 @@ narrow_at s r c = narrow_glyph (c + 1 == narrow_cols s.cols) (cell_at s.cols s.c
 
 -- whether the cursor's row, from 1, is left out: it is neither one of the first 99 nor the last
 abbrev pub is_row_out : ℕ → ℕ → Bool
-is_row_out rows row = nat_lt 99 row && not (row == rows)
+is_row_out rows row = nat_lt (most_old_rows - 1) row && not (row == rows)
 
 -- whether the cursor's column, from 1, is left out
 abbrev pub is_col_out : ℕ → Bool
-is_col_out col = nat_lt 250 col
+is_col_out col = nat_lt most_old_columns col
 
 -- the cursor's row: the last one stays the last, one that is left out goes to 99
 abbrev pub narrow_row : ℕ → ℕ → ℕ
-narrow_row rows row = if row == rows then narrow_rows rows else min row 99
+narrow_row rows row = if row == rows then narrow_rows rows else min row (most_old_rows - 1)
 
 -- a screen as one of version 1; the cursor is hidden where its row or its column is left out
 abbrev pub narrow : Screenshot → Screenshot
@@ -77,6 +78,6 @@ narrow s =
       cols = narrow_cols s.cols;
       cells = table (narrow_rows s.rows) (narrow_cols s.cols) (narrow_at s);
       cursor_row = narrow_row s.rows s.cursor_row;
-      cursor_col = min s.cursor_col 250;
+      cursor_col = min s.cursor_col most_old_columns;
       visible = s.visible && not (is_row_out s.rows s.cursor_row || is_col_out s.cursor_col);
     }

@@ -5,7 +5,7 @@ use Rattle.std.proofs.lemmas.Bool.{cases_Bool}
 use Rattle.std.proofs.lemmas.List.Elements.{All-head, All-tail}
 use Rattle.roam_cells.specs.Glyph.{Glyph}
 use Rattle.roam_screens.specs.Screenshot.{Screenshot, IsScreenshot}
-use Rattle.roam_update.specs.Same.{same}
+use Rattle.roam_cells.specs.Same.{same}
 use Rattle.roam_update.specs.CellText.{IsPlain, cell_text, cells_text}
 use Rattle.roam_update.specs.ChangeText.{run_text, runs_text}
 use Rattle.roam_update.specs.Runs.{Run, lead, runs_from}

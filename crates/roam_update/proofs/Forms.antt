@@ -8,9 +8,9 @@ use Rattle.roam_cells.specs.declared.styles.Style.{Style}
 use Rattle.roam_update.specs.CellText.{is_short_style, cells_text}
 use Rattle.roam_update.specs.ChangeText.{AreShort, runs_text}
 use Rattle.roam_update.specs.Runs.{Run}
-use Rattle.roam_update.specs.Same.{same_style}
+use Rattle.roam_cells.specs.Same.{same_style}
 use Rattle.roam_update.specs.Styles.{Form, Whole, Numbered, number_in, used_after, is_used_up}
-use Rattle.roam_update.proofs.Sameness.{style_same}
+use Rattle.roam_cells.proofs.SameCells.{style_same}
 
 -- how cells say their styles behind one of a style
 abbrev pub past : Form → Style → Form

@@ -1,4 +1,3 @@
-pub mod Sameness
 pub mod Stretches
 pub mod Forms
 pub mod UsedUp

@@ -5,10 +5,10 @@ use Rattle.std.proofs.lemmas.Bool.{cases_eq, eq-eqb, ne_eqb, false_from_ne_true,
 use Rattle.std.proofs.lemmas.List.{append-nil}
 use Rattle.roam_cells.specs.Inks.{style_numbered, style_number, style_number_back}
 use Rattle.roam_cells.specs.declared.styles.Style.{Style}
-use Rattle.roam_update.specs.Same.{same_style}
+use Rattle.roam_cells.specs.Same.{same_style}
 use Rattle.roam_update.specs.Styles.{has_style, number_in, with_style}
 use Rattle.roam_update.specs.TableText.{entry_text, table_text}
-use Rattle.roam_update.proofs.Sameness.{style_same, style_again}
+use Rattle.roam_cells.proofs.SameCells.{style_same, style_again}
 use Rattle.roam_update.proofs.UsedUp.{grows, number_last, number_none}
 
 -- two numbers are one where their styles are

@@ -4,14 +4,14 @@ use Rattle.std.specs.Prelude.{◌⊎◌, ◌↔◌}
 use Rattle.std.proofs.lemmas.Bool.{cases_Bool, false≢true}
 use Rattle.roam_cells.specs.Glyph.{Glyph}
 use Rattle.roam_cells.specs.Place.{glyph_at}
-use Rattle.roam_update.specs.Same.{same}
+use Rattle.roam_cells.specs.Same.{same}
 use Rattle.roam_update.specs.Runs.{Run, IsNamed, IsNamedBy, AreApart, lead, runs_from, runs_between}
 use Rattle.roam_screens.specs.Screenshot.{Screenshot, IsScreenshot}
 use Rattle.roam_update.specs.Shots.{change_to}
 use Rattle.roam_update.specs.Sizes.{sized}
 use Rattle.roam_update.proofs.ChangeAgain.{is_change_to}
 use Rattle.roam_update.proofs.Parting.{apart}
-use Rattle.roam_update.proofs.Sameness.{glyph_same, same_glyph}
+use Rattle.roam_cells.proofs.SameCells.{glyph_same, same_glyph}
 use Rattle.roam_update.proofs.Sizing.{length_sized}
 use Rattle.roam_update.proofs.Stretches.{lead_same, lead_more, runs_same, runs_inside, runs_begin}
 

@@ -8,7 +8,7 @@ use Rattle.roam_cells.specs.Glyph.{Glyph}
 use Rattle.roam_screens.specs.Narrow.{IsOldScreenshot}
 use Rattle.roam_screens.specs.Screenshot.{Screenshot}
 use Rattle.roam_update.specs.Styles.{Whole}
-use Rattle.roam_update.specs.Same.{same}
+use Rattle.roam_cells.specs.Same.{same}
 use Rattle.roam_update.specs.CellText.{IsPlain, cell_text, cells_text}
 use Rattle.roam_update.specs.ChangeText.{run_text, runs_text}
 use Rattle.roam_update.specs.Runs.{Run, lead, runs_from}

@@ -9,7 +9,7 @@ use Rattle.roam_screens.specs.Narrow.{IsOldScreenshot}
 use Rattle.roam_screens.specs.Screenshot.{Screenshot}
 use Rattle.roam_update.specs.ChangeText.{Change, AreShort, change_read}
 use Rattle.roam_update.specs.Runs.{Run, lead, runs_from}
-use Rattle.roam_update.specs.Same.{same}
+use Rattle.roam_cells.specs.Same.{same}
 use Rattle.roam_update.specs.Shots.{MakesOld, applied_one, change_to, difference_one, if_old_screenshot, screen_by}
 use Rattle.roam_update.specs.Sizes.{sized}
 use Rattle.roam_update.specs.Tested.{is_old_screenshot}

@@ -4,7 +4,7 @@ use Rattle.std.specs.Prelude.{All}
 use Rattle.std.proofs.lemmas.Bool.{cases_Bool}
 use Rattle.std.proofs.lemmas.List.Elements.{All-nil, All-cons, All-head, All-tail}
 use Rattle.roam_cells.specs.Glyph.{Glyph}
-use Rattle.roam_update.specs.Same.{same}
+use Rattle.roam_cells.specs.Same.{same}
 use Rattle.roam_update.specs.CellText.{IsPlain}
 use Rattle.roam_update.specs.Runs.{Run, AreApart, lead, runs_from, runs_between}
 use Rattle.roam_update.proofs.Plain.{ArePlain}

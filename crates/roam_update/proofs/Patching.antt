@@ -3,9 +3,9 @@ use Rattle.std.proofs.Common.{◌≡◌, ℕ, ◌+◌, Bool, true, false, List, 
 use Rattle.std.proofs.lemmas.Bool.{cases_Bool}
 use Rattle.std.proofs.Math.Seq.{set-append_seam}
 use Rattle.roam_cells.specs.Glyph.{Glyph}
-use Rattle.roam_update.specs.Same.{same}
+use Rattle.roam_cells.specs.Same.{same}
 use Rattle.roam_update.specs.Runs.{lead, runs_from, placed, patched}
-use Rattle.roam_update.proofs.Sameness.{glyph_same}
+use Rattle.roam_cells.proofs.SameCells.{glyph_same}
 
 -- the base once the run that has begun is put in
 abbrev begun : Bool → List Glyph → ℕ → List Glyph → List Glyph → List Glyph

@@ -5,9 +5,9 @@ use Rattle.std.proofs.lemmas.Bool.{cases_lt}
 use Rattle.std.proofs.lemmas.List.{drop_more, drop_all}
 use Rattle.roam_cells.specs.Glyph.{Glyph, blank}
 use Rattle.roam_cells.specs.Place.{glyph_at}
-use Rattle.roam_update.specs.Same.{same}
+use Rattle.roam_cells.specs.Same.{same}
 use Rattle.roam_update.specs.Runs.{Run, lead, runs_from}
-use Rattle.roam_update.proofs.Sameness.{same_glyph, other_glyph}
+use Rattle.roam_cells.proofs.SameCells.{same_glyph, other_glyph}
 
 -- ---- where both lists go on
 

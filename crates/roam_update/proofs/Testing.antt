@@ -15,10 +15,10 @@ use Rattle.roam_cells.specs.Limits.{IsSize}
 use Rattle.roam_screens.specs.Narrow.{IsOldScreenshot, is_plain_style}
 use Rattle.roam_cells.specs.Place.{cell_at, IsWholeAt, AreWhole, AreShown, AreUnguarded}
 use Rattle.roam_screens.specs.Screenshot.{Screenshot, IsScreenshot, IsPlace}
-use Rattle.roam_update.specs.Same.{same}
+use Rattle.roam_cells.specs.Same.{same}
 use Rattle.roam_update.specs.CellText.{IsPlain, is_scalar, is_colour, is_style}
 use Rattle.roam_update.specs.Tested.{all_below, is_size, is_place, is_whole_at, are_whole, is_plain, is_screenshot, is_old_screenshot}
-use Rattle.roam_update.proofs.Sameness.{glyph_same, same_glyph}
+use Rattle.roam_cells.proofs.SameCells.{glyph_same, same_glyph}
 
 -- ---- each number below n, each element
 

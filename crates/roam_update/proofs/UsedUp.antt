@@ -6,10 +6,10 @@ use Rattle.std.proofs.lemmas.List.{append-nil, take_all}
 use Rattle.roam_cells.specs.Glyph.{Glyph}
 use Rattle.roam_cells.specs.declared.styles.Style.{Style}
 use Rattle.roam_update.specs.Runs.{Run, AreApart}
-use Rattle.roam_update.specs.Same.{same_style}
+use Rattle.roam_cells.specs.Same.{same_style}
 use Rattle.roam_update.specs.Styles.{Form, Whole, Numbered, has_style, number_in, with_style, styles_after, styles_used, used_after}
 use Rattle.roam_update.proofs.Forms.{past_all, Fits, TakesCells, TakesRuns, stands}
-use Rattle.roam_update.proofs.Sameness.{style_again}
+use Rattle.roam_cells.proofs.SameCells.{style_again}
 
 -- ---- one style
 

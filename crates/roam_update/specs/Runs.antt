@@ -2,7 +2,7 @@
 -- Nothing here knows how a cell is spelled or how rows are kept.
 use Rattle.std.specs.Prelude.{ℕ, ◌+◌, ◌≤◌, ◌<◌, Bool, true, false, ◌⊎◌, List, [], ◌∷◌, length, slice_set, if◌then◌else◌}
 use Rattle.roam_cells.specs.Glyph.{Glyph}
-use Rattle.roam_update.specs.Same.{same}
+use Rattle.roam_cells.specs.Same.{same}
 
 -- cells that stand one after the other, in reading order, from a place on; places count from 0
 pub record Run : Type 0 where

@@ -3,7 +3,7 @@ use Rattle.std.specs.Prelude.{ℕ, suc, ◌+◌, Bool, true, false, ◌||◌, �
 use Rattle.roam_cells.specs.Glyph.{Glyph}
 use Rattle.roam_cells.specs.declared.styles.Style.{Style}
 use Rattle.roam_update.specs.Runs.{Run}
-use Rattle.roam_update.specs.Same.{same_style}
+use Rattle.roam_cells.specs.Same.{same_style}
 
 -- whether a style is in a table
 abbrev pub has_style : List Style → Style → Bool

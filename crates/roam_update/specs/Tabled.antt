@@ -1,6 +1,7 @@
 -- What a text with a table says behind its head.
 use Rattle.std.specs.Prelude.{ℕ, ◌≤◌, nat_le, List, length, drop, Option, Some, None, option_and_then, if◌then◌else◌}
 use Rattle.byteorder.specs.Endian.{big_number}
+use Rattle.roam_cells.specs.Limits.{most_old_rows, most_old_columns}
 use Rattle.roam_cells.specs.Glyph.{Glyph}
 use Rattle.roam_screens.specs.Screenshot.{Screenshot, IsPlace}
 use Rattle.roam_update.specs.ChangeText.{has_head, head_at}
@@ -34,7 +35,7 @@ old_head_of_text text = if has_head text then Some (head_at text) else None
 -- there is a head of a screen of version 1, and its cursor is on it
 abbrev pub HasOldHead : Option Head → Type 0
 HasOldHead None = ⊥
-HasOldHead (Some h) = IsPlace h.rows h.cols h.cursor_row h.cursor_col × (h.rows ≤ 100) × (h.cols ≤ 250)
+HasOldHead (Some h) = IsPlace h.rows h.cols h.cursor_row h.cursor_col × (h.rows ≤ most_old_rows) × (h.cols ≤ most_old_columns)
 
 -- the cells of a base brought to a head's size, after the runs behind the head of a text of version 1 replace what they name
 abbrev pub old_cells_in : Screenshot → Head → List ℕ → Option (List Glyph)

@@ -2,11 +2,12 @@
 use Rattle.std.specs.Prelude.{ℕ, zero, suc, ◌+◌, ◌-◌, ◌*◌, Bool, true, ◌&&◌, ◌==◌, nat_le, nat_lt, not, length, List, if◌then◌else◌}
 use Rattle.std.specs.List.{list_all}
 use Rattle.roam_cells.specs.Glyph.{Glyph, is_wide, is_right_half, right_of, is_text}
+use Rattle.roam_cells.specs.Limits.{fewest_rows, most_rows, fewest_columns, most_columns, most_old_rows, most_old_columns}
 use Rattle.roam_screens.specs.Narrow.{is_plain_style}
 use Rattle.roam_cells.specs.Place.{cell_at}
 use Rattle.roam_screens.specs.Screenshot.{Screenshot}
 use Rattle.roam_update.specs.CellText.{is_scalar, is_style}
-use Rattle.roam_update.specs.Same.{same}
+use Rattle.roam_cells.specs.Same.{same}
 
 -- whether a test answers yes for each number below n
 unfoldable pub all_below : ℕ → (ℕ → Bool) → Bool
@@ -15,7 +16,7 @@ all_below (suc n) test = all_below n test && test n
 
 -- whether a screen may have this size
 abbrev pub is_size : ℕ → ℕ → Bool
-is_size rows cols = nat_le 2 rows && (nat_le rows 200 && (nat_le 4 cols && nat_le cols 500))
+is_size rows cols = nat_le fewest_rows rows && (nat_le rows most_rows && (nat_le fewest_columns cols && nat_le cols most_columns))
 
 -- whether a screen of this size has the row and the column, both from 1
 abbrev pub is_place : ℕ → ℕ → ℕ → ℕ → Bool
@@ -46,4 +47,4 @@ is_screenshot s =
 -- whether it is a screen of version 1
 abbrev pub is_old_screenshot : Screenshot → Bool
 is_old_screenshot s =
-    is_screenshot s && (nat_le s.rows 100 && (nat_le s.cols 250 && list_all (λ (g : Glyph). is_plain_style g.style) s.cells))
+    is_screenshot s && (nat_le s.rows most_old_rows && (nat_le s.cols most_old_columns && list_all (λ (g : Glyph). is_plain_style g.style) s.cells))

@@ -3,9 +3,10 @@
 ghost use Rattle.std.specs.Prelude.{◌≡◌, ℕ, ◌≤◌, ◌<◌, length};
 ghost use Rattle.roam_cells.specs.Place.{glyph_at};
 
-use roam_cells::Cell;
+use roam_cells::{Cell, are_same_cells};
 
-/// The first place from one on at which the cells differ, or their number where none does.
+/// The first place from one on at which the cells differ, or their number where none does. From the first place on they are compared as a
+/// whole before they are one by one: most rows of a screen are as they were.
 pub fn next_difference(base: &[Cell], cells: &[Cell], from: usize) -> usize
     requires same { length base.now ≡ length cells.now }
     requires inside { from ≤ length cells.now }
@@ -13,6 +14,9 @@ pub fn next_difference(base: &[Cell], cells: &[Cell], from: usize) -> usize
     ensures skipped { (k : ℕ) → from ≤ k → k < result → glyph_at base.now k ≡ glyph_at cells.now k }
     ensures differs { result < length cells.now → ¬ (glyph_at base.now result ≡ glyph_at cells.now result) }
 {
+    if from == 0 && are_same_cells(base, cells) {
+        return cells.len();
+    }
     let mut place = from;
     while place < cells.len() {
         if !base[place].is_same(&cells[place]) {

@@ -4,4 +4,9 @@ use Rattle.roam_cells.proofs.shapes.are_same_cells.Goals as goal
 
 pub returns : goal.returns
 returns c =
-    record { same = (λ _. same_cells c.args.cells.now c.args.others.now (omega arith) (λ k h. c.loop-k.invariant k (omega arith)), λ _. refl) }
+    record {
+      same = (
+        λ t. same_cells c.args.cells.now c.args.others.now (omega arith) (λ k h. c.loop-k.invariant.0 t k (omega arith)),
+        c.loop-k.invariant.1,
+      );
+    }

@@ -1,12 +1,13 @@
 -- The test on two cells answers yes exactly where they are one.
 use Rattle.std.proofs.Common.{◌≡◌, ℕ, Bool, true, false, eqb, ◌&&◌, List, [], ◌∷◌, refl, sym, ap, ◌∙◌}
 use Rattle.std.proofs.lemmas.Bool.{and_parts, eqb-true, eq-eqb, false≢true, false_from_ne_true}
+use Rattle.std.specs.Prelude.{IsTrue, ◌↔◌}
 use mathlib.Core.Bool.{beq}
 use Rattle.roam_cells.specs.declared.styles.Style.{Style}
 use Rattle.roam_cells.specs.declared.styles.Colour.{Colour}
 use Rattle.roam_cells.specs.declared.styles.Colour.TheVariants.{Default, Index, Rgb}
 use Rattle.roam_cells.specs.Glyph.{Glyph}
-use Rattle.roam_update.specs.Same.{same, same_points, same_style, same_colour}
+use Rattle.roam_cells.specs.Same.{same, same_points, same_style, same_colour}
 
 bools : (a b : Bool) → beq a b ≡ true → a ≡ b
 bools true true e = refl
@@ -83,7 +84,7 @@ pub style_again : (s : Style) → same_style s s ≡ true
 style_again s =
     rw (bool_again s.bold, bool_again s.faint, bool_again s.italic, bool_again s.underline, bool_again s.blink, bool_again s.reverse, bool_again s.conceal, bool_again s.strike, colour_again s.foreground, colour_again s.background) refl
 
-glyph_again : (g : Glyph) → same g g ≡ true
+pub glyph_again : (g : Glyph) → same g g ≡ true
 glyph_again g = rw (points_again g.points, style_again g.style, bool_again g.guarded) refl
 
 pub same_glyph : (a b : Glyph) → a ≡ b → same a b ≡ true
@@ -91,3 +92,8 @@ same_glyph a b e = ap (same a) (sym e) ∙ glyph_again a
 
 pub other_glyph : (a b : Glyph) → ¬ (a ≡ b) → same a b ≡ false
 other_glyph a b h = false_from_ne_true (same a b) (λ e. h (glyph_same a b e))
+
+-- what answers yes exactly where two are one is such a test
+pub tells : {X : Type 0} (f : X → X → Bool) → ((x y : X) → f x y ≡ true → x ≡ y) → ((x : X) → f x x ≡ true) → (b : Bool) (x y : X) → IsTrue b ↔ (x ≡ y) → b ≡ f x y
+tells f to from true x y h = sym (ap (λ z. f x z) (sym (h.0 refl)) ∙ from x)
+tells f to from false x y h = sym (false_from_ne_true (f x y) (λ e. false≢true (h.1 (to x y e))))
