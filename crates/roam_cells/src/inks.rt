@@ -183,6 +183,86 @@ impl Ink {
         }
     }
 
+    /// The same ink, bold or not (each flag is set in its digit, without the others being read).
+    #[inline]
+    pub fn with_bold(self, on: bool) -> Self
+        ensures ink { result ≡ record self { style = record self.style { bold = on } } }
+    {
+        Ink {
+            number: self.number - 2 * (self.number / 2 % 2) + 2 * digit(on),
+        }
+    }
+
+    /// The same ink, faint or not.
+    #[inline]
+    pub fn with_faint(self, on: bool) -> Self
+        ensures ink { result ≡ record self { style = record self.style { faint = on } } }
+    {
+        Ink {
+            number: self.number - 4 * (self.number / 4 % 2) + 4 * digit(on),
+        }
+    }
+
+    /// The same ink, italic or not.
+    #[inline]
+    pub fn with_italic(self, on: bool) -> Self
+        ensures ink { result ≡ record self { style = record self.style { italic = on } } }
+    {
+        Ink {
+            number: self.number - 8 * (self.number / 8 % 2) + 8 * digit(on),
+        }
+    }
+
+    /// The same ink, underline or not.
+    #[inline]
+    pub fn with_underline(self, on: bool) -> Self
+        ensures ink { result ≡ record self { style = record self.style { underline = on } } }
+    {
+        Ink {
+            number: self.number - 16 * (self.number / 16 % 2) + 16 * digit(on),
+        }
+    }
+
+    /// The same ink, blink or not.
+    #[inline]
+    pub fn with_blink(self, on: bool) -> Self
+        ensures ink { result ≡ record self { style = record self.style { blink = on } } }
+    {
+        Ink {
+            number: self.number - 32 * (self.number / 32 % 2) + 32 * digit(on),
+        }
+    }
+
+    /// The same ink, reverse or not.
+    #[inline]
+    pub fn with_reverse(self, on: bool) -> Self
+        ensures ink { result ≡ record self { style = record self.style { reverse = on } } }
+    {
+        Ink {
+            number: self.number - 64 * (self.number / 64 % 2) + 64 * digit(on),
+        }
+    }
+
+    /// The same ink, conceal or not.
+    #[inline]
+    pub fn with_conceal(self, on: bool) -> Self
+        ensures ink { result ≡ record self { style = record self.style { conceal = on } } }
+    {
+        Ink {
+            number: self.number - 128 * (self.number / 128 % 2) + 128 * digit(on),
+        }
+    }
+
+    /// The same ink, strike or not.
+    #[inline]
+    pub fn with_strike(self, on: bool) -> Self
+        ensures ink { result ≡ record self { style = record self.style { strike = on } } }
+    {
+        Ink {
+            number: self.number - 256 * (self.number / 256 % 2) + 256 * digit(on),
+        }
+    }
+
     /// Whether two inks are one: in style and guard.
     #[inline]
     pub fn is_same(&self, other: &Self) -> bool

@@ -71,52 +71,41 @@ fn with_colour(ink: Ink, param: u16) -> Ink
     }
 }
 
-fn end_aspect(style: &mut Style, param: u16)
+// 21 to 29, what ends a flag, but for 21: in an ink a flag is set without the others or the colours being read.
+fn without_flag(ink: Ink, param: u16) -> Ink
     requires below { param < 30 }
-    ensures ended { style.new ≡ ended param style.old }
+    ensures ended { result ≡ record ink { style = ended param ink.style } }
 {
     match param {
-        21 => style.underline = true,
-        22 => {
-            style.bold = false;
-            style.faint = false;
-        }
-        23 => style.italic = false,
-        24 => style.underline = false,
-        25 => style.blink = false,
-        27 => style.reverse = false,
-        28 => style.conceal = false,
-        29 => style.strike = false,
-        _ => {}
-    }
-}
-
-fn set_aspect(style: &mut Style, param: u16)
-    requires below { param < 30 }
-    ensures set { style.new ≡ with_aspect param style.old }
-{
-    match param {
-        0 => *style = Style::default(),
-        1 => style.bold = true,
-        2 => style.faint = true,
-        3 => style.italic = true,
-        4 => style.underline = true,
-        5 => style.blink = true,
-        7 => style.reverse = true,
-        8 => style.conceal = true,
-        9 => style.strike = true,
-        _ => end_aspect(style, param),
+        21 => ink.with_underline(true),
+        22 => ink.with_bold(false).with_faint(false),
+        23 => ink.with_italic(false),
+        24 => ink.with_underline(false),
+        25 => ink.with_blink(false),
+        27 => ink.with_reverse(false),
+        28 => ink.with_conceal(false),
+        29 => ink.with_strike(false),
+        _ => ink,
     }
 }
 
 // 1 to 29, the flags.
 fn with_flag(ink: Ink, param: u16) -> Ink
+    requires some { 0 < param }
     requires below { param < 30 }
     ensures set { result ≡ record ink { style = with_aspect param ink.style } }
 {
-    let mut style = ink.style();
-    set_aspect(&mut style, param);
-    Ink::new(style, ink.guard())
+    match param {
+        1 => ink.with_bold(true),
+        2 => ink.with_faint(true),
+        3 => ink.with_italic(true),
+        4 => ink.with_underline(true),
+        5 => ink.with_blink(true),
+        7 => ink.with_reverse(true),
+        8 => ink.with_conceal(true),
+        9 => ink.with_strike(true),
+        _ => without_flag(ink, param),
+    }
 }
 
 #[inline]
