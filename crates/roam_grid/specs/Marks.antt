@@ -2,6 +2,7 @@
 -- whatever the number of rows; a call marks the rows that have a place which doesn't take itself (this project's profile).
 use Rattle.std.specs.Prelude.{ℕ, ◌+◌, ◌-◌, Bool, true, false, not, ◌&&◌, ◌||◌, ◌==◌, nat_lt, nat_le, List, [], ◌∷◌, ◌++◌, map, replicate, slice_index_or, slice_range, if◌then◌else◌}
 use Rattle.std.specs.List.{range_with_len, list_any}
+use Rattle.roam_cells.specs.Limits.{most_rows}
 use Rattle.roam_cells.specs.Glyph.{Glyph, is_cell_text}
 use Rattle.roam_cells.specs.Place.{cell_at, row_of}
 use Rattle.roam_rows.specs.Writing.{base_column}
@@ -18,15 +19,15 @@ is_marked marks r = slice_index_or marks r false
 
 -- every mark is on
 unfoldable pub all_on : List Bool
-all_on = replicate 200 true
+all_on = replicate most_rows true
 
 -- every mark is off
 unfoldable pub all_off : List Bool
-all_off = replicate 200 false
+all_off = replicate most_rows false
 
 -- the rows that a test names are marked too
 unfoldable pub also_marked : (ℕ → Bool) → List Bool → List Bool
-also_marked names marks = map (λ r. is_marked marks r || names r) (range_with_len 0 200)
+also_marked names marks = map (λ r. is_marked marks r || names r) (range_with_len 0 most_rows)
 
 -- one row is marked too
 abbrev pub row_marked : ℕ → List Bool → List Bool

@@ -1,5 +1,6 @@
 -- One screen: its size, its cells, its cursor, margins and tab stops.
 use Rattle.std.specs.Prelude.{◌≡◌, ℕ, ◌+◌, ◌-◌, ◌*◌, ◌<◌, Bool, true, false, ◌&&◌, ◌==◌, replicate, List, length}
+use Rattle.roam_cells.specs.Limits.{most_columns}
 use Rattle.roam_cells.specs.Glyph.{Glyph, blank}
 use Rattle.roam_cells.specs.Limits.{IsSize}
 use Rattle.roam_cells.specs.Place.{AreWhole}
@@ -38,7 +39,7 @@ pub record IsFrame (s : Screen) : Type 0 where
   pub col_in : s.col < s.cols
   pub pends : s.pending ≡ true → s.col + 1 ≡ s.cols
   pub margins : (s.top < s.bottom) × (s.bottom < s.rows)
-  pub stops : length s.stops ≡ 500
+  pub stops : length s.stops ≡ most_columns
 
 -- a frame round whole characters
 pub record IsScreen (s : Screen) : Type 0 where

@@ -1,5 +1,6 @@
 -- What tabs make of a screen.
 use Rattle.std.specs.Prelude.{ℕ, ◌-◌, true, false, replicate, slice_set}
+use Rattle.roam_cells.specs.Limits.{most_columns}
 use Rattle.roam_grid.specs.Screen.{Screen}
 use Rattle.roam_grid.specs.Tabs.{stops_on, stops_back}
 
@@ -21,4 +22,4 @@ stop_cleared s = record s { stops = slice_set s.stops s.col false }
 
 -- none at all (TBC)
 unfoldable pub stops_cleared : Screen → Screen
-stops_cleared s = record s { stops = replicate 500 false }
+stops_cleared s = record s { stops = replicate most_columns false }

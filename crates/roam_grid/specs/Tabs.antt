@@ -1,5 +1,6 @@
 -- Tab stops, and moves to them. Stops are kept for columns 1 to 500, from 0 here, whatever the width of the screen.
 use Rattle.std.specs.Prelude.{ℕ, zero, suc, ◌+◌, ◌-◌, ◌%◌, Bool, false, ◌&&◌, ◌==◌, nat_lt, List, map, slice_index_or, if◌then◌else◌}
+use Rattle.roam_cells.specs.Limits.{most_columns}
 use Rattle.std.specs.List.{range_with_len}
 
 -- whether a column, from 0, has a tab stop at the start: columns 9, 17, 25 and so on, counted from 1 (VT220 Programmer Reference, tab
@@ -9,7 +10,7 @@ is_start_stop c = nat_lt 0 c && (c % 8 == 0)
 
 -- the tab stops at the start, of 500 columns whatever the width of the screen
 unfoldable pub start_stops : List Bool
-start_stops = map is_start_stop (range_with_len 0 500)
+start_stops = map is_start_stop (range_with_len 0 most_columns)
 
 -- the first column from c on that has a stop, among n columns; else the one after them
 unfoldable pub stop_from : ℕ → ℕ → List Bool → ℕ

@@ -5,6 +5,7 @@ ghost use Rattle.roam_grid.specs.Frames.{aligned, all_blank, restarted, framed_a
 ghost use Rattle.roam_grid.specs.Marks.{all_on};
 ghost use Rattle.roam_grid.specs.Screen.{IsSameSize};
 
+use roam_cells::limits::MOST_ROWS;
 use crate::grids::{Grid, is_size};
 use crate::tabs::stops_at_start;
 use roam_cells::{Cell, Fault, Style};
@@ -29,7 +30,7 @@ impl Grid {
         self.pending = false;
         self.top = 0;
         self.bottom = self.ring.rows() - 1;
-        self.marks = [true; 200];
+        self.marks = [true; MOST_ROWS as usize];
     }
 
     /// Blanks every cell; all else stays.
@@ -42,7 +43,7 @@ impl Grid {
     {
         let rows = self.ring.rows();
         self.ring.blank_rows(0, rows);
-        self.marks = [true; 200];
+        self.marks = [true; MOST_ROWS as usize];
     }
 
     /// Blanks every cell, and puts the cursor, the margins and the tab stops where they are at the start (RIS, ECMA-48 8.3.105).
@@ -79,7 +80,7 @@ impl Grid {
         self.top = other.top;
         self.bottom = other.bottom;
         self.stops = other.stops;
-        self.marks = [true; 200];
+        self.marks = [true; MOST_ROWS as usize];
     }
 
     /// How many rows leave at the top where the screen gets this number of rows, so that the cursor's row stays.
@@ -121,7 +122,7 @@ impl Grid {
         self.pending = false;
         self.top = 0;
         self.bottom = rows - 1;
-        self.marks = [true; 200];
+        self.marks = [true; MOST_ROWS as usize];
     }
 
     /// Brings the screen to another size, as `fit` and `adopt` do, after as many rows have left at the top that the cursor's stays. Refuses

@@ -23,9 +23,9 @@ pub struct Grid {
     pub(crate) pending: bool,
     pub(crate) top: usize,
     pub(crate) bottom: usize,
-    pub(crate) stops: [bool; 500],
+    pub(crate) stops: [bool; MOST_COLUMNS as usize],
     // of rows of the screen, not of the buffer
-    pub(crate) marks: [bool; 200],
+    pub(crate) marks: [bool; MOST_ROWS as usize],
 }
 
 impl Model for Grid {
@@ -62,7 +62,7 @@ impl Grid {
             top: 0,
             bottom: rows - 1,
             stops: stops_at_start(),
-            marks: [true; 200],
+            marks: [true; MOST_ROWS as usize],
         })
     }
 

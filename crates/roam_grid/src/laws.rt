@@ -18,6 +18,7 @@ ghost use Rattle.roam_grid.specs.Scrolling.{scrolled_up, scrolled_down, first_sc
 ghost use Rattle.roam_grid.specs.Writing.{columns, leaves_row, put_on, put_all, joined_on};
 ghost use Rattle.roam_grid.specs.declared.erasing.Extent.{Extent};
 ghost use Rattle.roam_grid.specs.declared.writing.Writing.{Writing};
+ghost use Rattle.roam_cells.specs.Limits.{most_rows};
 
 /// A mark goes on only in a row that has a place which doesn't take itself, and every row that has one is marked: by the map of places of
 /// each operation. A cell is written in the row that `put` leaves the cursor in, after the rows have gone up where one leaves. `all` is
@@ -54,7 +55,7 @@ pub fn marks_go_on_in_named_rows()
         ≡ row_marked (put_on x w s).row (if leaves_row (columns x) w s then marks_scrolled 1 s m else m) }
     ensures joined { (c : ℕ) (s : Screen) (m : List Bool) (r : ℕ) → IsScreen s → r < s.rows → is_marked m r ≡ false
         → is_marked (marks_joined c s m) r ≡ true → IsChanged s (joined_on c s) r }
-    ensures all { (r : ℕ) → r < 200 → is_marked all_on r ≡ true }
+    ensures all { (r : ℕ) → r < most_rows → is_marked all_on r ≡ true }
 {}
 
 /// A row without a mark shows what it showed, and no mark goes off: whatever was marked before, by each call that changes cells. The calls

@@ -2,7 +2,9 @@
 ghost use Rattle.std.specs.Prelude.{◌≡◌, ◌<◌, ◌≤◌, ◌&&◌, ◌==◌, take, length};
 ghost use Rattle.roam_grid.specs.Marks.{all_on, all_off, also_marked, row_marked, rows_marked, moved_marked, is_some_unguarded, unguarded_marked};
 ghost use Rattle.roam_grid.specs.Screen.{IsSameSize};
+ghost use Rattle.roam_cells.specs.Limits.{most_rows};
 
+use roam_cells::limits::MOST_ROWS;
 use crate::grids::Grid;
 use roam_cells::Cell;
 use roam_rows::Ring;
@@ -25,7 +27,7 @@ impl Grid {
         ensures marks { self.new.marks ≡ all_off }
         ensures size { IsSameSize self.old.screen self.new.screen }
     {
-        self.marks = [false; 200];
+        self.marks = [false; MOST_ROWS as usize];
     }
 
     /// Puts all marks on: for a change of how every row is shown.
@@ -36,14 +38,14 @@ impl Grid {
         ensures marks { self.new.marks ≡ all_on }
         ensures size { IsSameSize self.old.screen self.new.screen }
     {
-        self.marks = [true; 200];
+        self.marks = [true; MOST_ROWS as usize];
     }
 }
 
 /// Marks a row.
 #[inline]
-pub fn mark_row(marks: &mut [bool; 200], row: usize)
-    requires row_in { row < 200 }
+pub fn mark_row(marks: &mut [bool; MOST_ROWS as usize], row: usize)
+    requires row_in { row < most_rows }
     ensures marks { marks.new ≡ row_marked row marks.old }
 {
     marks[row] = true;
@@ -51,8 +53,8 @@ pub fn mark_row(marks: &mut [bool; 200], row: usize)
 
 /// Marks the rows from one on and before another.
 #[inline]
-pub fn mark_rows(marks: &mut [bool; 200], from: usize, to: usize)
-    requires range { (from ≤ to) × (to ≤ 200) }
+pub fn mark_rows(marks: &mut [bool; MOST_ROWS as usize], from: usize, to: usize)
+    requires range { (from ≤ to) × (to ≤ most_rows) }
     ensures marks { marks.new ≡ rows_marked from to marks.old }
 {
     marks[from..to].fill(true);
@@ -60,8 +62,8 @@ pub fn mark_rows(marks: &mut [bool; 200], from: usize, to: usize)
 
 /// Marks them where they move by n: not at all where n is 0.
 #[inline]
-pub fn mark_moved(marks: &mut [bool; 200], n: usize, from: usize, to: usize)
-    requires range { (from ≤ to) × (to ≤ 200) }
+pub fn mark_moved(marks: &mut [bool; MOST_ROWS as usize], n: usize, from: usize, to: usize)
+    requires range { (from ≤ to) × (to ≤ most_rows) }
     ensures marks { marks.new ≡ moved_marked n from to marks.old }
 {
     if n != 0 {
@@ -71,8 +73,8 @@ pub fn mark_moved(marks: &mut [bool; 200], n: usize, from: usize, to: usize)
 
 /// Marks a row under a condition.
 #[inline]
-pub fn mark_where(marks: &mut [bool; 200], row: usize, on: bool)
-    requires row_in { row < 200 }
+pub fn mark_where(marks: &mut [bool; MOST_ROWS as usize], row: usize, on: bool)
+    requires row_in { row < most_rows }
     ensures marks { marks.new ≡ also_marked (λ r. (r == row) && on) marks.old }
 {
     if on {
@@ -82,7 +84,7 @@ pub fn mark_where(marks: &mut [bool; 200], row: usize, on: bool)
 
 /// Marks those of the rows from one on and before another that have an unguarded cell in the columns from one on and before another.
 pub fn mark_unguarded(
-    marks: &mut [bool; 200],
+    marks: &mut [bool; MOST_ROWS as usize],
     ring: &Ring,
     rows: (usize, usize),
     columns: (usize, usize),

@@ -3,6 +3,7 @@ ghost use Rattle.std.specs.Prelude.{◌≡◌};
 ghost use Rattle.roam_grid.specs.Tabbing.{tabbed, back_tabbed, stop_set, stop_cleared, stops_cleared};
 ghost use Rattle.roam_grid.specs.Screen.{IsSameSize};
 
+use roam_cells::limits::MOST_COLUMNS;
 use crate::grids::Grid;
 use crate::tabs::{stops_back, stops_on};
 
@@ -66,6 +67,6 @@ impl Grid {
         ensures marks { self.new.marks ≡ self.old.marks }
         ensures size { IsSameSize self.old.screen self.new.screen }
     {
-        self.stops = [false; 500];
+        self.stops = [false; MOST_COLUMNS as usize];
     }
 }

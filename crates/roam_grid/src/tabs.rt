@@ -1,13 +1,16 @@
 //! Tab stops as a list of flags, a flag a column from 0.
 ghost use Rattle.std.specs.Prelude.{◌≡◌, ◌+◌, ◌-◌, ◌<◌, ◌≤◌};
 ghost use Rattle.roam_grid.specs.Tabs.{start_stops, is_start_stop, next_stop, stop_before, stops_on, stops_back};
+ghost use Rattle.roam_cells.specs.Limits.{most_columns};
+
+use roam_cells::limits::MOST_COLUMNS;
 
 /// The tab stops at the start.
-pub fn stops_at_start() -> [bool; 500]
+pub fn stops_at_start() -> [bool; MOST_COLUMNS as usize]
     ensures stops { result ≡ start_stops }
 {
-    let mut stops = [false; 500];
-    for c in 0..500 {
+    let mut stops = [false; MOST_COLUMNS as usize];
+    for c in 0..MOST_COLUMNS as usize {
         stops[c] = is_start_stop(c);
     }
     stops
@@ -21,8 +24,8 @@ fn is_start_stop(c: usize) -> bool
 }
 
 // The next stop after a column, at most the last column.
-fn next_stop(stops: &[bool; 500], last: usize, col: usize) -> usize
-    requires inside { (col ≤ last) × (last < 500) }
+fn next_stop(stops: &[bool; MOST_COLUMNS as usize], last: usize, col: usize) -> usize
+    requires inside { (col ≤ last) × (last < most_columns) }
     ensures stop { result ≡ next_stop last stops.now col }
     ensures inside { result ≤ last }
 {
@@ -40,8 +43,8 @@ fn next_stop(stops: &[bool; 500], last: usize, col: usize) -> usize
 }
 
 // The last stop before a column, else the first column.
-fn stop_before(stops: &[bool; 500], col: usize) -> usize
-    requires inside { col < 500 }
+fn stop_before(stops: &[bool; MOST_COLUMNS as usize], col: usize) -> usize
+    requires inside { col < most_columns }
     ensures stop { result ≡ stop_before col stops.now }
     ensures inside { result ≤ col }
 {
@@ -56,8 +59,8 @@ fn stop_before(stops: &[bool; 500], col: usize) -> usize
 }
 
 /// The nth stop after a column, at most the last column. It looks at no more columns than there are, whatever n is.
-pub fn stops_on(stops: &[bool; 500], n: usize, last: usize, col: usize) -> usize
-    requires inside { (col ≤ last) × (last < 500) }
+pub fn stops_on(stops: &[bool; MOST_COLUMNS as usize], n: usize, last: usize, col: usize) -> usize
+    requires inside { (col ≤ last) × (last < most_columns) }
     ensures stop { result ≡ stops_on n last stops.now col }
     ensures inside { result ≤ last }
 {
@@ -71,8 +74,8 @@ pub fn stops_on(stops: &[bool; 500], n: usize, last: usize, col: usize) -> usize
 }
 
 /// The nth stop before a column, else the first column. It looks at no more columns than there are, whatever n is.
-pub fn stops_back(stops: &[bool; 500], n: usize, col: usize) -> usize
-    requires inside { col < 500 }
+pub fn stops_back(stops: &[bool; MOST_COLUMNS as usize], n: usize, col: usize) -> usize
+    requires inside { col < most_columns }
     ensures stop { result ≡ stops_back n stops.now col }
     ensures inside { result ≤ col }
 {

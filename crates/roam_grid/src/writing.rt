@@ -2,6 +2,7 @@
 ghost use Rattle.std.specs.Prelude.{◌≡◌, ◌+◌, ◌<◌, ◌≤◌, false, IsTrue};
 ghost use Rattle.roam_cells.specs.Glyph.{is_right_half};
 ghost use Rattle.roam_grid.specs.Writing.{columns};
+ghost use Rattle.roam_cells.specs.Limits.{most_columns};
 
 use crate::grids::Grid;
 use crate::marks::{mark_row, mark_where};
@@ -212,7 +213,7 @@ impl Grid {
     #[inline]
     #[tactic(auto, unfolding(crate::specs::Writing::advanced))]
     pub(crate) fn advance(&mut self, columns: usize, writing: Writing)
-        requires few { columns ≤ 500 }
+        requires few { columns ≤ most_columns }
         ensures screen { self.new.screen ≡ advanced columns writing self.old.screen }
         ensures first { self.new.first ≡ self.old.first }
         ensures marks { self.new.marks ≡ self.old.marks }

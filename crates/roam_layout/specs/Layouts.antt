@@ -4,6 +4,8 @@ use Rattle.roam_acts.specs.declared.acts.Act.{Act}
 use Rattle.roam_acts.specs.declared.acts.Act.TheVariants.{Key, SplitRight, SplitDown, Close, Focus, Next, Grow, Size, View}
 use Rattle.roam_cells.specs.declared.faults.Fault.{Fault}
 use Rattle.roam_cells.specs.declared.faults.Fault.TheVariants.{OutOfMemory, BadSize, TooSmall, NoPane, PanesFull, LastPane}
+use Rattle.roam_cells.specs.Limits.{most_rows, most_columns}
+use Rattle.roam_layout.specs.Limits.{fewest_session_rows, fewest_session_columns, most_view}
 use Rattle.roam_layout.specs.Trees.{Shape, One, leaves, has, is_one, first_leaf, forked, closed, heir, free, AreDistinct, AreNumbers, AreModest}
 use Rattle.roam_layout.specs.Rects.{placed, borders, spot, Fits, fits_in, is_roomy, grown}
 use Rattle.roam_layout.specs.declared.rects.Way.{Way}
@@ -115,9 +117,9 @@ resize r c s =
     if is_session_size r c then (if fits_in s.tree (area r c) then Laid (record s { rows = r; cols = c }) else Refused TooSmall)
     else Refused BadSize
 
--- a whole number pushed into 0 to 500
+-- a whole number pushed into the range of views
 abbrev pub viewed : ℤ → ℕ
-viewed (pos n) = min n 500
+viewed (pos n) = min n most_view
 viewed (negsuc n) = 0
 
 -- the view of the pane in focus moves

@@ -1,3 +1,4 @@
+pub mod Limits
 pub mod Trees
 pub mod Rects
 pub mod Layouts

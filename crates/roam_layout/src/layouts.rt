@@ -10,6 +10,7 @@ ghost use Rattle.roam_layout.specs.Faces.{focus_rect};
 ghost use Rattle.roam_layout.specs.Layouts.{Plan, IsPlan, IsSessionSize, Answers, area, panes, edges, start, split, close, focus_on, next, grow, laid, after, resize, scroll, viewed, IsLaid, Laid, Refused};
 
 use crate::changes::Changes;
+use crate::limits::{MOST_VIEW, is_session_size};
 use crate::rects::{Rect, Way};
 use crate::status::{fit, push_labels, push_view};
 use crate::trees::Tree;
@@ -66,8 +67,8 @@ fn moved_view(view: u16, by: i16) -> u16
     let moved = view as i32 + by as i32;
     if moved < 0 {
         0
-    } else if moved > 500 {
-        500
+    } else if moved > i32::from(MOST_VIEW) {
+        MOST_VIEW
     } else {
         moved as u16
     }
@@ -120,7 +121,7 @@ impl Layout {
         ensures bad_size { IsErrOf result Fault.BadSize ↔ (¬ IsSessionSize rows cols) }
         ensures faults { IfErr result (λ fault. (fault ≡ Fault.BadSize) ⊎ (fault ≡ Fault.OutOfMemory)) }
     {
-        if rows < 4 || rows > 200 || cols < 8 || cols > 500 {
+        if !is_session_size(rows, cols) {
             return Err(Fault::BadSize);
         }
         Ok(Layout::of(alloc, rows, cols, Tree::Leaf(1), 1, [0; 10])?)
@@ -244,7 +245,7 @@ impl Layout {
     fn resize(&self, alloc: Global, rows: u16, cols: u16) -> Result<Layout, Fault>
         ensures answer { Answers (resize rows cols self.now) result }
     {
-        if rows < 4 || rows > 200 || cols < 8 || cols > 500 {
+        if !is_session_size(rows, cols) {
             return Err(Fault::BadSize);
         }
         if self.tree.least_rows() > rows - 1 || self.tree.least_cols() > cols {

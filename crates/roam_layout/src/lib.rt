@@ -12,6 +12,7 @@ pub mod faces;
 mod kept;
 pub mod laws;
 pub mod layouts;
+mod limits;
 pub mod rects;
 mod status;
 mod trees;
