@@ -1,5 +1,6 @@
 -- An act sender: the acts that were typed and aren't known to have arrived (this project's profile).
 use Rattle.std.specs.Prelude.{◌≡◌, ℕ, ◌+◌, ◌-◌, ◌^◌, ◌<◌, ◌≤◌, List, [], ◌∷◌, ◌++◌, length, take, drop, nat_lt, nat_le, if◌then◌else◌}
+use Rattle.roam_acts.specs.Limits.{number_limit, most_unacknowledged}
 use Rattle.roam_acts.specs.declared.acts.Act.{Act}
 
 -- the number of the last act that is acknowledged, and the acts after it
@@ -21,11 +22,11 @@ typed s act = record s { acts = s.acts ++ act ∷ [] }
 
 -- 1,024 acts are unacknowledged
 abbrev pub IsFull : Typing → Type 0
-IsFull s = length s.acts ≡ 1024
+IsFull s = length s.acts ≡ most_unacknowledged
 
 -- there is room for an act, and its number would be 2^62
 abbrev pub IsSpent : Typing → Type 0
-IsSpent s = (length s.acts < 1024) × (last_number s + 1 ≡ 2 ^ 62)
+IsSpent s = (length s.acts < most_unacknowledged) × (last_number s + 1 ≡ number_limit)
 
 -- the acts up to a number are dropped, where that number was typed and isn't acknowledged
 abbrev pub acked_to : Typing → ℕ → Typing

@@ -2,19 +2,8 @@
 ghost use Rattle.std.specs.Prelude.{◌≡◌, ◌↔◌, IsTrue};
 ghost use Rattle.roam_acts.specs.Acts.{is_in_range, IsInRange};
 
+use crate::limits::{MOST_GROWTH, MOST_LENGTH, MOST_PANES, MOST_VIEW};
 use roam_keys::Key;
-
-// The greatest number of a pane; the first is 1.
-pub(crate) const PANES: u8 = 9;
-
-// By how many rows or columns a pane may grow or shrink at once.
-const GROWTH: i16 = 99;
-
-// The greatest number of rows or columns that a size may ask for.
-const LENGTH: u16 = 9999;
-
-// By how many rows a view may move at once.
-const VIEW: i16 = 500;
 
 /// What a client asks of a session: a key for the pane in focus, or a layout command.
 #[derive(Clone, Copy, Debug, PartialEq, Eq)]
@@ -55,10 +44,10 @@ impl Act {
         ensures in_range { IsTrue result ↔ IsInRange self.now }
     {
         match *self {
-            Act::Focus(pane) => 1 <= pane && pane <= PANES,
-            Act::Grow(by) => -GROWTH <= by && by <= GROWTH,
-            Act::Size(rows, cols) => rows <= LENGTH && cols <= LENGTH,
-            Act::View(by) => -VIEW <= by && by <= VIEW,
+            Act::Focus(pane) => 1 <= pane && pane <= MOST_PANES,
+            Act::Grow(by) => -MOST_GROWTH <= by && by <= MOST_GROWTH,
+            Act::Size(rows, cols) => rows <= MOST_LENGTH && cols <= MOST_LENGTH,
+            Act::View(by) => -MOST_VIEW <= by && by <= MOST_VIEW,
             Act::Key(_) | Act::SplitRight | Act::SplitDown | Act::Close | Act::Next => true,
         }
     }

@@ -6,6 +6,7 @@ pub mod bytes;
 mod keys;
 mod kinds;
 pub mod laws;
+pub mod limits;
 pub mod lines;
 pub mod senders;
 pub mod takers;

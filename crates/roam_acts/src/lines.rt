@@ -7,9 +7,10 @@ ghost use Rattle.roam_acts.specs.Acts.{IsAct, IsInRange};
 ghost use Rattle.roam_acts.specs.Lines.{key_argument, line_of, Spells};
 ghost use Rattle.roam_acts.specs.Reading.{act_in, act_of_argument, bare, focus_of, natural, number_in, scalar_in, size_at, size_of};
 
-use crate::acts::{Act, PANES};
+use crate::acts::Act;
 use crate::keys::{entry, named};
 use crate::kinds::Kind;
+use crate::limits::MOST_PANES;
 use itoa::Buffer;
 use roam_cells::Fault;
 use roam_keys::Key;
@@ -87,7 +88,7 @@ fn focus(text: &[u8]) -> Option<Act>
     ensures act { result ≡ focus_of (natural (number_in text.now)) }
 {
     let pane = natural(text)?;
-    if pane <= PANES as u16 {
+    if pane <= MOST_PANES as u16 {
         Some(Act::Focus(pane as u8))
     } else {
         None

@@ -1,20 +1,13 @@
 //! The sending end of acts: what was typed and isn't known to have arrived.
 ghost use Rattle.std.specs.Prelude.{◌≡◌, ◌+◌, ◌≤◌, ◌↔◌, ◌⊎◌, ◌^◌, List, [], ◌∷◌, ◌++◌, length, take, drop, OnOk, OnErr, IfErr, IsErrOf};
 ghost use Rattle.roam_acts.specs.Senders.{acked_to, last_number, start, typed, HasTyped, IsFull, IsSpent, IsStretch};
+ghost use Rattle.roam_acts.specs.Limits.{number_limit, most_acts};
 
 use crate::acts::Act;
+use crate::limits::{MOST_ACTS, MOST_UNACKNOWLEDGED, NUMBER_LIMIT};
 use roam_cells::Fault;
 use std::alloc::Global;
 use std::marker::Model;
-
-/// How many acts may be unacknowledged.
-const UNACKNOWLEDGED: usize = 1024;
-
-/// How many acts one instruction carries.
-const AT_ONCE: usize = 64;
-
-/// Every number is below this one.
-const NUMBERS: u64 = 1 << 62;
 
 /// The sending end of a client's acts, numbered from 1: the acts after the last acknowledged one.
 #[derive(Drop)]
@@ -24,6 +17,7 @@ pub struct ActSender {
 }
 
 impl Model for ActSender {
+    ghost use Rattle.roam_acts.specs.Limits.{number_limit, most_unacknowledged};
     ghost use Rattle.std.specs.Prelude.{◌+◌, ◌^◌, ◌<◌, ◌≤◌, length};
     ghost use Rattle.roam_acts.specs.Senders.{Typing};
 
@@ -31,7 +25,7 @@ impl Model for ActSender {
 
     ghost view = { λ s. record { acked = s.acked; acts = s.acts.items } };
 
-    ghost invariant = { λ s. (length s.acts.items ≤ 1024) × (s.acked + length s.acts.items < 2 ^ 62) };
+    ghost invariant = { λ s. (length s.acts.items ≤ most_unacknowledged) × (s.acked + length s.acts.items < number_limit) };
 }
 
 impl ActSender {
@@ -56,10 +50,10 @@ impl ActSender {
         ensures err { OnErr result (self.new ≡ self.old) }
         ensures fault { IfErr result (λ e. (e ≡ Fault.OutOfMemory) ⊎ (e ≡ Fault.Busy) ⊎ (e ≡ Fault.Spent)) }
     {
-        if self.acts.len() == UNACKNOWLEDGED {
+        if self.acts.len() == MOST_UNACKNOWLEDGED {
             return Err(Fault::Busy);
         }
-        if self.acked + self.acts.len() as u64 + 1 == NUMBERS {
+        if self.acked + self.acts.len() as u64 + 1 == NUMBER_LIMIT {
             return Err(Fault::Spent);
         }
         self.acts.push(act)?;
@@ -86,12 +80,12 @@ impl ActSender {
     #[tactic(auto, using(std::proofs::lemmas::List::take_min))]
     pub fn waiting(&self) -> (u64, &[Act])
         ensures first { result.0 ≡ self.now.acked + 1 }
-        ensures acts { result.1.now ≡ take 64 self.now.acts }
+        ensures acts { result.1.now ≡ take most_acts self.now.acts }
         ensures stretch { (all : List Act) → HasTyped self.now all → IsStretch all result.0 result.1.now }
-        ensures most { length result.1.now ≤ 64 }
-        ensures below { result.0 ≤ 2 ^ 62 }
+        ensures most { length result.1.now ≤ most_acts }
+        ensures below { result.0 ≤ number_limit }
     {
-        let count = AT_ONCE.min(self.acts.len());
+        let count = MOST_ACTS.min(self.acts.len());
         (self.acked + 1, self.acts.as_slice().split_at(count).0)
     }
 }

@@ -2,6 +2,7 @@
 use Rattle.std.specs.Prelude.{◌≡◌, ℕ, Result, Ok, Err, ◌+◌, ◌<◌, ◌≤◌, max, nat_lt, nat_eq, ◌==◌, ◌&&◌, ◌||◌, List, [], ◌∷◌, ◌++◌, length, take, map, is_some, Option, Some, None, Bool, true, if◌then◌else◌, ◌^◌, filter, false}
 use Rattle.std.specs.List.{flat_map, list_any}
 use Rattle.std.specs.Map.{lookup, set_value}
+use Rattle.roam_acts.specs.Limits.{number_limit}
 use Rattle.roam_cells.specs.declared.faults.Fault.{Fault}
 use Rattle.roam_cells.specs.declared.faults.Fault.TheVariants.{OutOfMemory, Busy, BadDatagram, ClientsFull}
 use Rattle.roam_cells.specs.declared.faults.Reason.{Reason}
@@ -19,7 +20,7 @@ use Rattle.roam_wire.specs.Instructions.{UpValue, down_text}
 use Rattle.roam_wire.specs.Cutting.{pieces_of}
 use Rattle.roam_session.specs.Sessions.{SessionSize, Entry, Did}
 use Rattle.roam_session.specs.Stands.{SessionView, Stands as SessionStands}
-use Rattle.roam_world.specs.Moments.{has_passed, is_overdue, owed_from, is_spent}
+use Rattle.roam_world.specs.Moments.{has_passed, is_overdue, owed_from, is_spent, frame_interval}
 use Rattle.roam_world.specs.Texts.{Address, is_watching, SaysUp, SaysNoUp, datagrams_of}
 use Rattle.roam_world.specs.Versions.{is_same_version, seen_by}
 use Rattle.roam_world.specs.Servers.{Record, no_record}
@@ -205,7 +206,7 @@ settled_with v (Some k) now =
 -- there are numbers for so many more datagrams
 abbrev pub HasNumbersFor : RecordView → Option ℕ → Type 0
 HasNumbersFor v None = Unit {0}
-HasNumbersFor v (Some k) = (v.datagrams + k < 2 ^ 62) × (v.instructions + 1 < 2 ^ 62)
+HasNumbersFor v (Some k) = (v.datagrams + k < number_limit) × (v.instructions + 1 < number_limit)
 
 -- what is kept of it where an offer is taken back
 abbrev pub back_from : RecordView → Bool → RecordView
@@ -234,7 +235,7 @@ settled_entry n s now e = (e.0, settled_with (held e.1 n s now) (pieces_told (he
 
 -- whether a number is made at a moment
 abbrev pub makes_at : ServerView → ℕ → Bool
-makes_at v now = v.made == 0 || (v.input && has_passed 20 v.made_at now)
+makes_at v now = v.made == 0 || (v.input && has_passed frame_interval v.made_at now)
 
 -- all that goes to client starts
 abbrev pub told_by : ServerView → ℕ → Screenshot → ℕ → List (Address × List ℕ)

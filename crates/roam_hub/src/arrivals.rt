@@ -8,6 +8,7 @@ ghost use Rattle.roam_hub.specs.Servers.{address_of};
 ghost use Rattle.roam_hub.specs.Records.{alike_entries, NotesIn, NotNotedIn};
 
 use crate::addresses::Addr;
+use crate::limits::{MOST_EDITING, MOST_WATCHING};
 use crate::records::{Record, is_same, is_watching};
 use crate::taking::Taking;
 use indexmap::IndexMap;
@@ -16,17 +17,15 @@ use roam_session::Session;
 use roam_wire::Datagram;
 use std::alloc::Global;
 
-/// The most client starts of a session that don't only watch.
-const MOST: usize = 64;
-
-/// The most client starts of a session that only watch.
-const MOST_WATCHING: usize = 16;
-
 // How many starts that only watch may be known, or how many others.
 fn most(watches: bool) -> usize
     ensures most { result ≡ most_of watches }
 {
-    if watches { MOST_WATCHING } else { MOST }
+    if watches {
+        MOST_WATCHING
+    } else {
+        MOST_EDITING
+    }
 }
 
 // So many, and one more where it is one of those that are counted.

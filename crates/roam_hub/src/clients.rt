@@ -6,7 +6,6 @@ ghost use Rattle.roam_wire.specs.Cutting.{texts_of};
 ghost use Rattle.roam_screens.specs.Shown.{shown_by};
 ghost use Rattle.roam_wire.specs.Gatherers.{gather, piece_of};
 ghost use Rattle.roam_wire.specs.declared.versions.Version.TheVariants.{One, Two};
-ghost use Rattle.roam_world.specs.Moments.{has_passed, is_overdue, owed_from};
 ghost use Rattle.roam_world.specs.Sendings.{is_client_due, last_waiting};
 ghost use Rattle.roam_world.specs.Clients.{Client as ClientOf, new_client, shown_number, shown_screen};
 ghost use Rattle.roam_world.specs.Texts.{kind_from, is_to_server};
@@ -15,8 +14,10 @@ ghost use Rattle.roam_hub.specs.Ends.{version_in, receiving_in};
 ghost use Rattle.roam_hub.specs.Clients.{Stands, Types, Told, NotTold, Hears, Sends, bare, datagrams_by, hearing_in, is_view_spent};
 
 use crate::ends::AnyReceiver;
-use crate::packing::{Heading, NUMBERS, packed};
+use crate::moments::{HEARTBEAT, RESEND_AFTER, has_passed, is_overdue, owed_after};
+use crate::packing::{Heading, packed};
 use crate::records::is_same_version;
+use roam_acts::limits::NUMBER_LIMIT;
 use roam_acts::{Act, ActSender, Key};
 use roam_cells::{Fault, Reason};
 use roam_screens::Shown;
@@ -61,6 +62,7 @@ pub struct Client {
 }
 
 impl Model for Client {
+    ghost use Rattle.roam_acts.specs.Limits.{number_limit};
     ghost use Rattle.std.specs.Prelude.{◌≡◌, ◌<◌, ◌^◌, true};
     ghost use Rattle.std.specs.List.{All};
     ghost use Rattle.roam_acts.specs.Acts.{IsAct};
@@ -86,8 +88,8 @@ impl Model for Client {
       instructions = c.instructions;
     } };
 
-    ghost invariant = { λ c. All IsAct c.acts.acts × (c.datagrams < 2 ^ 62) × (c.instructions < 2 ^ 62)
-        × ((receiving_in c.receiver).newest.number < 2 ^ 62) × (c.session < 2 ^ 64) × (c.id < 2 ^ 64)
+    ghost invariant = { λ c. All IsAct c.acts.acts × (c.datagrams < number_limit) × (c.instructions < number_limit)
+        × ((receiving_in c.receiver).newest.number < number_limit) × (c.session < 2 ^ 64) × (c.id < 2 ^ 64)
         × (c.watches ≡ true → version_in c.receiver ≡ Two) };
 }
 
@@ -111,16 +113,6 @@ fn heard_of(step: Step) -> Heard
         Step::Old => Heard::Old,
         Step::Gap => Heard::Gap,
         Step::New => Heard::New,
-    }
-}
-
-// Since when an answer is owed, where one may be owed from now on.
-pub(crate) fn owed_after(owed: Option<u64>, owes: bool, now: u64) -> Option<u64>
-    ensures owed { result ≡ (if owes then owed_from owed now else owed) }
-{
-    match owed {
-        None if owes => Some(now),
-        _ => owed,
     }
 }
 
@@ -180,23 +172,6 @@ fn tell(
     )?;
     acts.acked(down.acked);
     Ok((step, down.old < down.new))
-}
-
-// Whether so many milliseconds have passed since a moment.
-pub(crate) fn has_passed(long: u64, since: u64, now: u64) -> bool
-    ensures passed { result ≡ has_passed long since now }
-{
-    since <= now && now - since >= long
-}
-
-// Whether an answer has been owed for 100 ms.
-pub(crate) fn is_overdue(owed: Option<u64>, now: u64) -> bool
-    ensures overdue { result ≡ is_overdue owed now }
-{
-    match owed {
-        None => false,
-        Some(since) => has_passed(100, since, now),
-    }
 }
 
 // The kind of the datagrams that a start sends.
@@ -332,9 +307,9 @@ impl Client {
         };
         let unacknowledged = !self.acts.waiting().1.is_empty();
         (unacknowledged && self.sent_act < self.last_waiting())
-            || (unacknowledged && has_passed(250, since, now))
+            || (unacknowledged && has_passed(RESEND_AFTER, since, now))
             || is_overdue(self.owed, now)
-            || has_passed(3000, since, now)
+            || has_passed(HEARTBEAT, since, now)
     }
 
     // The texts of the datagrams of the instruction that would be sent.
@@ -345,7 +320,7 @@ impl Client {
             ⊎ ((fault ≡ Fault.Spent) × (is_view_spent self.now ≡ true))) }
     {
         let (first, acts) = self.acts.waiting();
-        if first >= NUMBERS {
+        if first >= NUMBER_LIMIT {
             return Err(Fault::Spent);
         }
         let up = Up {

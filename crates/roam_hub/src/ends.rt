@@ -7,6 +7,7 @@ ghost use Rattle.roam_sync.specs.Senders.{newest, count, offered, withdrawn, ack
 ghost use Rattle.roam_sync.specs.Receivers.{pairs, state_at, step_for, Takes, start as receives};
 ghost use Rattle.roam_world.specs.Versions.{seen_by, difference_by, applied_by};
 ghost use Rattle.roam_hub.specs.Ends.{version_of, sending_of, version_in, receiving_in};
+ghost use Rattle.roam_sync.specs.Limits.{most_held};
 
 use roam_cells::Fault;
 use roam_screens::{RowShot, RowShot1, Shown};
@@ -41,7 +42,7 @@ fn first_old(alloc: Global) -> Result<RowShot1, Fault>
 // Holds one more state, where fewer than eight are held. Refuses want of memory.
 fn offered<S: Synced>(sender: &mut Sender<S>, number: u64, state: S) -> Result<(), Fault>
     requires newer { (newest sender.old).number < number }
-    requires room { count sender.old < 8 }
+    requires room { count sender.old < most_held }
     ensures ok { OnOk result (sender.new ≡ offered sender.old number state) }
     ensures top { OnOk result ((newest sender.new).number ≡ number) }
     ensures several { OnOk result (2 ≤ count sender.new) }
@@ -100,7 +101,7 @@ impl AnySender {
     /// How many states are held.
     pub fn len(&self) -> usize
         ensures value { result ≡ count (sending_of self.now) }
-        ensures most { result ≤ 8 }
+        ensures most { result ≤ most_held }
     {
         match self {
             AnySender::One(sender) => sender.len(),
@@ -128,7 +129,7 @@ impl AnySender {
         kept: &mut Option<RowShot1>,
     ) -> Result<(), Fault>
         requires newer { (newest (sending_of self.old)).number < number }
-        requires room { count (sending_of self.old) < 8 }
+        requires room { count (sending_of self.old) < most_held }
         requires kept { IfSome kept.old (λ old. old ≡ narrow screen.now) }
         ensures ok { OnOk result (sending_of self.new
             ≡ offered (sending_of self.old) number (seen_by (version_of self.old) screen.now)) }

@@ -5,6 +5,8 @@ pub mod addresses;
 mod arrivals;
 pub mod clients;
 mod ends;
+mod limits;
+mod moments;
 mod packing;
 mod records;
 pub mod servers;

@@ -7,13 +7,12 @@ ghost use Rattle.roam_wire.specs.declared.datagrams.Kind.TheVariants.{FromWatche
 ghost use Rattle.roam_wire.specs.declared.versions.Version.TheVariants.{Two};
 ghost use Rattle.roam_world.specs.Moments.{is_spent};
 ghost use Rattle.roam_world.specs.Texts.{datagram_with, datagrams_of};
+ghost use Rattle.roam_acts.specs.Limits.{number_limit};
 
+use roam_acts::limits::NUMBER_LIMIT;
 use roam_cells::Fault;
 use roam_wire::{Datagram, Kind, Version, cut, write_datagram};
 use std::alloc::Global;
-
-/// Every number is below this one.
-pub(crate) const NUMBERS: u64 = 1 << 62;
 
 /// Where the datagrams of an instruction go, and what they count from.
 #[derive(Clone, Copy)]
@@ -63,8 +62,8 @@ fn datagrams(alloc: Global, heading: Heading, pieces: Vec<Vec<u8>>) -> Result<Ve
     requires session { heading.session < 2 ^ 64 }
     requires client { heading.client < 2 ^ 64 }
     requires low { 1 ≤ heading.id }
-    requires high { heading.id < 2 ^ 62 }
-    requires numbers { heading.before + length pieces.items < 2 ^ 62 }
+    requires high { heading.id < number_limit }
+    requires numbers { heading.before + length pieces.items < number_limit }
     ensures written { IfOk result (λ all. texts_of all.items ≡ map datagram_text (datagrams_of heading.version heading.kind
         heading.session heading.client heading.before heading.id (texts_of pieces.items))) }
     ensures fault { IsOkUnless result Fault.OutOfMemory }
@@ -86,7 +85,7 @@ pub(crate) fn packed(alloc: Global, heading: Heading, text: &[u8]) -> Result<Vec
     requires session { heading.session < 2 ^ 64 }
     requires client { heading.client < 2 ^ 64 }
     requires low { 1 ≤ heading.id }
-    requires before { heading.before < 2 ^ 62 }
+    requires before { heading.before < number_limit }
     ensures written { IfOk result (λ all. texts_of all.items ≡ map datagram_text (datagrams_of heading.version heading.kind
         heading.session heading.client heading.before heading.id (pieces_of text.now))) }
     ensures fit { IfOk result (λ _. (is_spent heading.id || is_spent (heading.before + length (pieces_of text.now))) ≡ false) }
@@ -94,7 +93,7 @@ pub(crate) fn packed(alloc: Global, heading: Heading, text: &[u8]) -> Result<Vec
         × ((is_spent heading.id || is_spent (heading.before + length (pieces_of text.now))) ≡ true))) }
 {
     let pieces = cut(alloc, text, heading.version)?;
-    if heading.id >= NUMBERS || heading.before + pieces.len() as u64 >= NUMBERS {
+    if heading.id >= NUMBER_LIMIT || heading.before + pieces.len() as u64 >= NUMBER_LIMIT {
         return Err(Fault::Spent);
     }
     Ok(datagrams(alloc, heading, pieces)?)

@@ -5,19 +5,23 @@ ghost use Rattle.roam_sync.specs.Senders.{newest, count, is_due};
 ghost use Rattle.roam_wire.specs.Cutting.{texts_of};
 ghost use Rattle.roam_wire.specs.Datagrams.{datagram_text, datagram_value};
 ghost use Rattle.roam_wire.specs.Gatherers.{untaken};
-ghost use Rattle.roam_world.specs.Moments.{is_overdue, owed_from};
+ghost use Rattle.roam_world.specs.Moments.{is_overdue, owed_from, forget_after};
 ghost use Rattle.roam_world.specs.Texts.{is_watching as is_watching_kind};
 ghost use Rattle.roam_world.specs.Comings.{is_same as are_same};
 ghost use Rattle.roam_world.specs.Versions.{is_same_version as are_same_version};
 ghost use Rattle.roam_hub.specs.Ends.{version_of, sending_of};
 ghost use Rattle.roam_hub.specs.Servers.{address_of, parcels_of};
 ghost use Rattle.roam_hub.specs.Records.{first_record, Fits, IsOther, Notes, NotHeard, is_letter_spent, is_told, pieces_told, datagrams_for, letters_for, settled_with, HasNumbersFor, back_from, held, is_entry_spent};
+ghost use Rattle.roam_acts.specs.Limits.{number_limit};
+ghost use Rattle.roam_sync.specs.Limits.{most_held};
 
 use crate::addresses::Addr;
-use crate::clients::{is_overdue, owed_after};
 use crate::ends::AnySender;
-use crate::packing::{Heading, NUMBERS, packed};
+use crate::limits::MOST_HELD;
+use crate::moments::{is_heard, is_overdue, owed_after};
+use crate::packing::{Heading, packed};
 use crate::taking::{Taking, take_acts};
+use roam_acts::limits::NUMBER_LIMIT;
 use roam_acts::{Act, ActTaker};
 use roam_cells::{Fault, Reason};
 use roam_screens::{RowShot, RowShot1};
@@ -25,12 +29,6 @@ use roam_session::Session;
 use roam_wire::{Datagram, Down, Gathered, Gatherer, Kind, Version, read_up, write_down};
 use std::alloc::Global;
 use std::marker::Model;
-
-/// The most states that a sender holds.
-const MOST_HELD: usize = 8;
-
-/// Milliseconds after which a start that wasn't heard is sent nothing.
-const SILENCE: u64 = 60_000;
 
 /// What a server keeps of a client start.
 #[derive(Drop)]
@@ -63,6 +61,7 @@ pub struct Prepared {
 }
 
 impl Model for Record {
+    ghost use Rattle.roam_acts.specs.Limits.{number_limit, most_acts};
     ghost use Rattle.std.specs.Prelude.{◌+◌, ◌<◌, ◌^◌};
     ghost use Rattle.roam_sync.specs.Senders.{newest};
     ghost use Rattle.roam_hub.specs.Ends.{version_of, sending_of};
@@ -84,8 +83,8 @@ impl Model for Record {
       instructions = r.instructions;
     } };
 
-    ghost invariant = { λ r. (r.taker < 2 ^ 62 + 64) × ((newest (sending_of r.sender)).number < 2 ^ 62) × (r.datagrams < 2 ^ 62)
-        × (r.instructions < 2 ^ 62) };
+    ghost invariant = { λ r. (r.taker < number_limit + most_acts) × ((newest (sending_of r.sender)).number < number_limit)
+        × (r.datagrams < number_limit) × (r.instructions < number_limit) };
 }
 
 // Where the greatest-numbered datagram came from, where one of this number came from there.
@@ -104,24 +103,17 @@ fn keep_unless(gatherer: &mut Gatherer, stopped: bool)
     }
 }
 
-// Whether a start was heard less than 60,000 ms ago.
-fn is_heard(heard_at: u64, now: u64) -> bool
-    ensures heard { result ≡ nat_lt now (heard_at + 60000) }
-{
-    now < heard_at || now - heard_at < SILENCE
-}
-
 // Whether a number is offered to a start: it was heard of late, the number is new to its sender, and fewer than eight are held.
 fn may_be_offered(sender: &AnySender, heard_at: u64, number: u64, now: u64) -> bool
-    ensures offered { result ≡ (nat_lt now (heard_at + 60000) && nat_lt (newest (sending_of sender.now)).number number
-        && nat_lt (count (sending_of sender.now)) 8) }
+    ensures offered { result ≡ (nat_lt now (heard_at + forget_after) && nat_lt (newest (sending_of sender.now)).number number
+        && nat_lt (count (sending_of sender.now)) most_held) }
 {
     is_heard(heard_at, now) && sender.newest_number() < number && sender.len() < MOST_HELD
 }
 
 // Whether a start is sent to: it was heard of late, and its sender is due or an answer is overdue.
 fn is_told(sender: &AnySender, heard_at: u64, owed: Option<u64>, now: u64) -> bool
-    ensures told { result ≡ (nat_lt now (heard_at + 60000) && (is_due (sending_of sender.now) now || is_overdue owed now)) }
+    ensures told { result ≡ (nat_lt now (heard_at + forget_after) && (is_due (sending_of sender.now) now || is_overdue owed now)) }
 {
     is_heard(heard_at, now) && (sender.due(now) || is_overdue(owed, now))
 }
@@ -285,7 +277,7 @@ impl Record {
         kept: &mut Option<RowShot1>,
         now: u64,
     ) -> Result<bool, Fault>
-        requires number { number < 2 ^ 62 }
+        requires number { number < number_limit }
         requires kept { IfSome kept.old (λ old. old ≡ narrow screen.now) }
         ensures held { OnOk result (self.new ≡ held self.old number screen.now now) }
         ensures several { IfOk result (λ offered. IsTrue offered → 2 ≤ count self.new.sender) }
@@ -304,7 +296,7 @@ impl Record {
     // Takes an offer back, where there was one.
     fn take_back(&mut self, offered: bool)
         requires several { IsTrue offered → 2 ≤ count self.old.sender }
-        requires low { (newest (back_from self.old offered).sender).number < 2 ^ 62 }
+        requires low { (newest (back_from self.old offered).sender).number < number_limit }
         ensures back { self.new ≡ back_from self.old offered }
     {
         if offered {
@@ -322,7 +314,7 @@ impl Record {
             ⊎ ((fault ≡ Fault.Spent) × (is_letter_spent self.now ≡ true))) }
     {
         let acked = self.taker.taken();
-        if acked >= NUMBERS {
+        if acked >= NUMBER_LIMIT {
             return Err(Fault::Spent);
         }
         let told = self.sender.instruction(alloc)?;
@@ -383,7 +375,7 @@ impl Record {
         kept: &mut Option<RowShot1>,
         parcels: &mut Vec<(Addr, Vec<u8>)>,
     ) -> Result<Prepared, Fault>
-        requires number { news.number < 2 ^ 62 }
+        requires number { news.number < number_limit }
         requires session { news.session < 2 ^ 64 }
         requires client { client < 2 ^ 64 }
         requires kept { IfSome kept.old (λ old. old ≡ narrow screen.now) }
@@ -393,7 +385,7 @@ impl Record {
             ++ letters_for news.session news.now (client, self.new)) }
         ensures several { IfOk result (λ p. IsTrue p.offered → 2 ≤ count self.new.sender) }
         ensures back { IfOk result (λ p. back_from self.new p.offered ≡ self.old) }
-        ensures low { (newest self.old.sender).number < 2 ^ 62 }
+        ensures low { (newest self.old.sender).number < number_limit }
         ensures fit { OnOk result (is_entry_spent news.number screen.now news.now (client, self.old) ≡ false) }
         ensures fault { IfErr result (λ fault. (fault ≡ Fault.OutOfMemory)
             ⊎ ((fault ≡ Fault.Spent) × (is_entry_spent news.number screen.now news.now (client, self.old) ≡ true))) }
@@ -414,7 +406,7 @@ impl Record {
     /// Undoes what `prepare` did.
     pub fn undo(&mut self, prepared: Prepared)
         requires several { IsTrue prepared.offered → 2 ≤ count self.old.sender }
-        requires low { (newest (back_from self.old prepared.offered).sender).number < 2 ^ 62 }
+        requires low { (newest (back_from self.old prepared.offered).sender).number < number_limit }
         ensures back { self.new ≡ back_from self.old prepared.offered }
     {
         self.take_back(prepared.offered);

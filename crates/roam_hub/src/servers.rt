@@ -19,12 +19,12 @@ ghost use Rattle.roam_hub.specs.Records.{answered, makes_at, told_by, ticked_by,
 
 use crate::addresses::{Addr, Stop};
 use crate::arrivals::hear_in;
-use crate::clients::has_passed;
-use crate::packing::NUMBERS;
+use crate::moments::{FRAME_INTERVAL, has_passed};
 use crate::records::{News, Record};
 use crate::taking::Taking;
 use crate::telling::tell_from;
 use indexmap::IndexMap;
+use roam_acts::limits::NUMBER_LIMIT;
 use roam_cells::{Fault, Reason};
 use roam_layout::Rect;
 use roam_screens::{RowShot, Seen};
@@ -47,6 +47,7 @@ pub struct Server {
 }
 
 impl Model for Server {
+    ghost use Rattle.roam_acts.specs.Limits.{number_limit};
     ghost use Rattle.std.specs.Prelude.{◌<◌, ◌^◌};
     ghost use Rattle.std.specs.Coded.{codes};
     ghost use Rattle.roam_layout.specs.Coding.{plan_code};
@@ -67,7 +68,7 @@ impl Model for Server {
       records = s.records.entries;
     } };
 
-    ghost invariant = { λ s. (s.made < 2 ^ 62) × (s.id < 2 ^ 64) };
+    ghost invariant = { λ s. (s.made < number_limit) × (s.id < 2 ^ 64) };
 }
 
 // Whether a datagram goes to a server.
@@ -262,7 +263,7 @@ impl Server {
     fn makes(&self, now: u64) -> bool
         ensures makes { result ≡ makes_at self.now now }
     {
-        self.made == 0 || (self.input && has_passed(20, self.made_at, now))
+        self.made == 0 || (self.input && has_passed(FRAME_INTERVAL, self.made_at, now))
     }
 
     // A tick that makes no number.
@@ -313,7 +314,7 @@ impl Server {
         ensures err { OnErr result (self.new ≡ self.old) }
     {
         let number = self.made + 1;
-        if number >= NUMBERS {
+        if number >= NUMBER_LIMIT {
             return Err(Fault::Spent);
         }
         let screen = self.session.face(alloc)?;

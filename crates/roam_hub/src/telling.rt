@@ -4,6 +4,7 @@ ghost use Rattle.std.specs.List.{flat_map, list_any};
 ghost use Rattle.roam_screens.specs.Narrow.{narrow};
 ghost use Rattle.roam_hub.specs.Servers.{parcels_of};
 ghost use Rattle.roam_hub.specs.Records.{texts_for, is_entry_spent, settled_entry};
+ghost use Rattle.roam_acts.specs.Limits.{number_limit};
 
 use crate::addresses::Addr;
 use crate::records::{News, Record};
@@ -26,7 +27,7 @@ pub fn tell_from(
     parcels: &mut Vec<(Addr, Vec<u8>)>,
 ) -> Result<(), Fault>
     requires within { at ≤ length records.old.entries }
-    requires number { news.number < 2 ^ 62 }
+    requires number { news.number < number_limit }
     requires session { news.session < 2 ^ 64 }
     requires kept { IfSome kept.old (λ old. old ≡ narrow screen.now) }
     ensures settled { OnOk result (records.new.entries ≡ take at records.old.entries

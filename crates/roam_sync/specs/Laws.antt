@@ -1,5 +1,6 @@
 -- What may happen to one line, and what holds after every list of it.
 use Rattle.std.specs.Prelude.{◌≡◌, ◌≢◌, ◌⊎◌, ℕ, ◌<◌, ◌≤◌, List, [], ◌∷◌, ◌++◌, length, Contains, Option, Some}
+use Rattle.roam_sync.specs.Limits.{most_held}
 use Rattle.roam_sync.specs.declared.receivers.Step.TheVariants as step
 use Rattle.roam_sync.specs.Senders.{Sending, newest, count, offered, acked, sent_at, start as sender_start}
 use Rattle.roam_sync.specs.Receivers.{Receiving, pairs, state_at, step_for, start as receiver_start}
@@ -34,7 +35,7 @@ pub data Event : Type 0 where
 -- what an event makes of a line, where `states` are the true states of the numbers
 abbrev pub Follows : {S : Type 0} → (S → List ℕ → Option S) → (ℕ → S) → Line S → Event → Line S → Type 0
 Follows applied states line (Offer n) after =
-    ((newest line.sender).number < n) × (count line.sender < 8) × (after ≡ record line { sender = offered line.sender n (states n) })
+    ((newest line.sender).number < n) × (count line.sender < most_held) × (after ≡ record line { sender = offered line.sender n (states n) })
 Follows applied states line (Send now change) after =
     IsChange applied line.sender change
     × (after ≡ record line { sender = sent_at line.sender now; updates = line.updates ++ update_of line.sender change ∷ [] })
@@ -104,7 +105,7 @@ NoChangeIsBad {S} applied = (states : ℕ → S) (events : List Event) (line : L
 -- neither end ever has nine pairs
 abbrev pub NoNinthPair : {S : Type 0} → (S → List ℕ → Option S) → Type 0
 NoNinthPair {S} applied = (states : ℕ → S) (events : List Event) (line : Line S) → Runs applied states events line
-    → (count line.sender ≤ 8) × (length (pairs line.receiver) ≤ 8)
+    → (count line.sender ≤ most_held) × (length (pairs line.receiver) ≤ most_held)
 
 -- After any list of events, the newest is sent, and its update comes. Then the receiver has the newest number that was offered, with its
 -- state; and where it acknowledges that, the sender holds nothing older.

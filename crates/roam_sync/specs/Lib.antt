@@ -1,3 +1,5 @@
+pub mod Moments
+pub mod Limits
 pub mod Senders
 pub mod Receivers
 pub mod Lines

@@ -1,6 +1,7 @@
 -- The two ends of a line keep in step, whatever is lost, late, repeated or reordered. `WasSent u` says that the update u was ever sent,
 -- `WasAnswered n` that the receiver ever acknowledged the number n. A state in a comment names the numbers alone that each end has.
 use Rattle.std.specs.Prelude.{◌≡◌, ◌⊎◌, ℕ, ◌<◌, ◌≤◌, List, length}
+use Rattle.roam_sync.specs.Limits.{most_held}
 use Rattle.roam_sync.specs.Senders.{Sending, newest, count, AreAbove}
 use Rattle.roam_sync.specs.Receivers.{Receiving, AreBelow}
 use Rattle.roam_sync.specs.Lines.{Update, IsAmong, IsRising, numbers_held, numbers_had}
@@ -30,7 +31,7 @@ pub record Window {S : Type 0} (r : Receiving S) (WasSent : Update → Type 0) (
 -- what holds of a line after each step
 pub record Link {S : Type 0} (s : Sending S) (r : Receiving S) (WasSent : Update → Type 0) (WasAnswered : ℕ → Type 0) : Type 0 where
   pub sender_rises : AreAbove s.base.number s.later
-  pub sender_few : count s ≤ 8
+  pub sender_few : count s ≤ most_held
   pub receiver_rises : AreBelow r.earlier r.newest.number
   pub receiver_few : length r.earlier ≤ 7
   pub base_there : IsAmong s.base.number (numbers_had r)

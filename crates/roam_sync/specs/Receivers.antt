@@ -1,5 +1,6 @@
 -- What a receiver holds, and how an instruction changes it (this project's profile of Mosh's State Synchronization Protocol).
 use Rattle.std.specs.Prelude.{◌≡◌, ℕ, ◌<◌, List, [], ◌∷◌, ◌++◌, length, filter, Option, Some, None, is_none, nat_le, ◌==◌, if◌then◌else◌}
+use Rattle.roam_sync.specs.Limits.{most_held}
 use Rattle.roam_sync.specs.declared.receivers.Pair.{Pair}
 use Rattle.roam_sync.specs.declared.receivers.Step.{Step}
 use Rattle.roam_sync.specs.declared.receivers.Step.TheVariants as step
@@ -41,7 +42,7 @@ abbrev pub step_for : {S : Type 0} → Receiving S → ℕ → ℕ → ℕ → S
 step_for r old new floor =
     if nat_le new r.newest.number then step.Old
     else if is_none (state_at old (pairs r)) then step.Gap
-    else if nat_le 8 (length (from_floor floor (pairs r))) then step.Gap
+    else if nat_le most_held (length (from_floor floor (pairs r))) then step.Gap
     else step.New
 
 -- A new state is taken: the change is applied to the state with the number old, and pairs below floor are dropped.

@@ -1,5 +1,6 @@
 -- What a sender holds, and how its calls change it (this project's profile of Mosh's State Synchronization Protocol).
 use Rattle.std.specs.Prelude.{ℕ, ◌+◌, ◌-◌, ◌<◌, Bool, true, false, not, ◌||◌, ◌&&◌, List, [], ◌∷◌, ◌++◌, length, take, nat_lt, nat_le, ◌==◌, if◌then◌else◌}
+use Rattle.roam_sync.specs.Moments.{resend_after, heartbeat}
 use Rattle.roam_sync.specs.declared.senders.Held.{Held}
 
 -- The base, which the other end is known to have, the states after it, and the moment of the last
@@ -72,4 +73,4 @@ sent_at s now = record { base = mark_base s.base s.later; later = mark_last s.la
 
 -- The newest was never sent, or several are held and 250 ms passed since the last sending, or 3,000 ms did.
 abbrev pub is_due : {S : Type 0} → Sending S → ℕ → Bool
-is_due s now = not (newest s).sent || (nat_lt 0 (length s.later) && nat_le 250 (now - s.last)) || nat_le 3000 (now - s.last)
+is_due s now = not (newest s).sent || (nat_lt 0 (length s.later) && nat_le resend_after (now - s.last)) || nat_le heartbeat (now - s.last)

@@ -1,6 +1,7 @@
 -- Datagrams: the one text of each (this project's profile). Numbers are big-endian.
 use Rattle.std.specs.Prelude.{◌≡◌, ℕ, ◌+◌, ◌^◌, ◌<◌, ◌≤◌, List, ◌∷◌, ◌++◌, length}
 use Rattle.byteorder.specs.Endian.{big_bytes}
+use Rattle.roam_acts.specs.Limits.{number_limit}
 use Rattle.roam_wire.specs.declared.datagrams.Datagram.{Datagram}
 use Rattle.roam_wire.specs.declared.datagrams.Kind.{Kind}
 use Rattle.roam_wire.specs.declared.datagrams.Kind.TheVariants.{ToClient, ToServer, FromWatcher}
@@ -73,8 +74,8 @@ pub record IsDatagram (d : DatagramValue) : Type 0 where
   pub kind : d.kind ≡ FromWatcher → d.version ≡ Two
   pub session : d.session < 2 ^ 64
   pub client : d.client < 2 ^ 64
-  pub number : (1 ≤ d.number) × (d.number < 2 ^ 62)
-  pub id : (1 ≤ d.id) × (d.id < 2 ^ 62)
+  pub number : (1 ≤ d.number) × (d.number < number_limit)
+  pub id : (1 ≤ d.id) × (d.id < number_limit)
   pub count : (1 ≤ d.count) × (d.count ≤ most_pieces d.version)
   pub index : d.index < d.count
   pub len : (1 ≤ length d.payload) × (length d.payload ≤ 1200)

@@ -1,6 +1,7 @@
 -- What bytes say as a datagram, or their first fault (this project's profile).
 use Rattle.std.specs.Prelude.{ℕ, ◌+◌, ◌^◌, Bool, not, ◌||◌, ◌&&◌, List, length, drop, slice_index, Option, Some, None, Result, Ok, Err, IsOk, nat_lt, nat_le, ◌==◌, if◌then◌else◌, ◌≡◌}
 use Rattle.byteorder.specs.Endian.{big_number}
+use Rattle.roam_acts.specs.Limits.{number_limit}
 use Rattle.roam_cells.specs.declared.faults.Fault.{Fault}
 use Rattle.roam_cells.specs.declared.faults.Fault.TheVariants.{OutOfMemory, BadDatagram}
 use Rattle.roam_cells.specs.declared.faults.Reason.{Reason}
@@ -47,7 +48,7 @@ is_bad_length h rest = h.len == 0 || nat_lt 1200 h.len || not (h.len == rest)
 abbrev pub is_bad_fragment : Version → Header → Bool
 is_bad_fragment v h =
     h.count == 0 || nat_lt (most_pieces v) h.count || nat_le h.count h.index || (nat_lt (h.index + 1) h.count && not (h.len == 1200))
-    || h.number == 0 || nat_le (2 ^ 62) h.number || h.id == 0 || nat_le (2 ^ 62) h.id
+    || h.number == 0 || nat_le number_limit h.number || h.id == 0 || nat_le number_limit h.id
 
 -- the first fault after the direction
 abbrev pub piece_fault : Version → Header → ℕ → Option Reason

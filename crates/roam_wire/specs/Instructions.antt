@@ -2,6 +2,7 @@
 use Rattle.std.specs.Prelude.{◌≡◌, ℕ, ◌^◌, ◌<◌, ◌≤◌, Bool, true, false, List, [], ◌++◌, length, drop, nat_lt, if◌then◌else◌}
 use Rattle.std.specs.List.{All}
 use Rattle.byteorder.specs.Endian.{big_bytes, big_number}
+use Rattle.roam_acts.specs.Limits.{number_limit, most_acts}
 use Rattle.roam_acts.specs.declared.acts.Act.{Act}
 use Rattle.roam_acts.specs.Acts.{IsAct}
 use Rattle.roam_acts.specs.Bytes.{acts_text}
@@ -29,8 +30,8 @@ down_text d = big_bytes 8 d.old ++ (big_bytes 8 d.new ++ (big_bytes 8 d.floor ++
 pub record IsDown (d : DownValue) : Type 0 where
   pub floor : d.floor ≤ d.old
   pub old : d.old ≤ d.new
-  pub new : d.new < 2 ^ 62
-  pub acked : d.acked < 2 ^ 62
+  pub new : d.new < number_limit
+  pub acked : d.acked < number_limit
 
 -- bytes are the text of one
 abbrev pub IsDownText : List ℕ → Type 0
@@ -51,9 +52,9 @@ up_text u = big_bytes 8 u.acked ++ (big_bytes 8 u.first ++ (big_bytes 2 (length 
 
 -- what has a text: both numbers below 2^62, acts numbered from 1, at most 64 of them, each in its ranges
 pub record IsUp (u : UpValue) : Type 0 where
-  pub acked : u.acked < 2 ^ 62
-  pub first : (1 ≤ u.first) × (u.first < 2 ^ 62)
-  pub count : length u.acts ≤ 64
+  pub acked : u.acked < number_limit
+  pub first : (1 ≤ u.first) × (u.first < number_limit)
+  pub count : length u.acts ≤ most_acts
   pub acts : All IsAct u.acts
 
 -- what has a text that comes from a start that only watches, which has no acts, or from another one
@@ -64,9 +65,9 @@ pub record IsUpOf (watches : Bool) (u : UpValue) : Type 0 where
 -- the numbers before the acts are within their limits, and acts are to follow
 pub record HasActs (watches : Bool) (bytes : List ℕ) : Type 0 where
   pub long : 18 ≤ length bytes
-  pub acked : big_number 8 bytes < 2 ^ 62
-  pub first : (1 ≤ big_number 8 (drop 8 bytes)) × (big_number 8 (drop 8 bytes) < 2 ^ 62)
-  pub count : (1 ≤ big_number 2 (drop 16 bytes)) × (big_number 2 (drop 16 bytes) ≤ 64)
+  pub acked : big_number 8 bytes < number_limit
+  pub first : (1 ≤ big_number 8 (drop 8 bytes)) × (big_number 8 (drop 8 bytes) < number_limit)
+  pub count : (1 ≤ big_number 2 (drop 16 bytes)) × (big_number 2 (drop 16 bytes) ≤ most_acts)
   pub typed : watches ≡ false
 
 -- the reason for which bytes are no instruction that has so many before its change or its acts

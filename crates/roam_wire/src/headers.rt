@@ -4,9 +4,9 @@ ghost use Rattle.roam_wire.specs.Headers.{header_at, is_bad_length, is_bad_fragm
 
 use crate::cutting::PIECE;
 use crate::datagrams::Kind;
-use crate::instructions::NUMBERS;
 use crate::versions::Version;
 use byteorder::{BigEndian, ByteOrder};
+use roam_acts::limits::NUMBER_LIMIT;
 use roam_cells::Reason;
 
 // The two letters that stand first, RM.
@@ -69,7 +69,7 @@ impl Header {
         if self.index + 1 < self.count && self.len as usize != PIECE {
             return true;
         }
-        self.number == 0 || self.number >= NUMBERS || self.id == 0 || self.id >= NUMBERS
+        self.number == 0 || self.number >= NUMBER_LIMIT || self.id == 0 || self.id >= NUMBER_LIMIT
     }
 
     // The first fault after the direction, before this many bytes.

@@ -5,21 +5,16 @@ ghost use Rattle.roam_acts.specs.Acts.{IsInRange};
 ghost use Rattle.roam_wire.specs.Instructions.{DownValue, down_value, down_text, IsDown, IsDownText, UpValue, up_value, up_text, IsUp, IsUpOf, HasActs, reason_for};
 
 use byteorder::{BigEndian, ByteOrder};
+use roam_acts::limits::{MOST_ACTS, NUMBER_LIMIT};
 use roam_acts::{Act, read_acts, write_acts};
 use roam_cells::{Fault, Reason};
 use std::alloc::Global;
-
-// States, datagrams, instructions and acts have numbers below this.
-pub(crate) const NUMBERS: u64 = 1 << 62;
 
 // How many bytes stand before a change.
 const DOWN: usize = 32;
 
 // How many bytes stand before the acts.
 const UP: usize = 18;
-
-// How many acts an instruction may have.
-const ACTS: usize = 64;
 
 /// An instruction to a client: how its screen changes, and which of its acts were taken. Each number is below 2^62.
 #[derive(Debug, Drop)]
@@ -71,7 +66,7 @@ pub fn read_down(alloc: Global, bytes: &[u8]) -> Result<Down, Fault>
     let new = BigEndian::read_u64(bytes.split_at(8).1);
     let floor = BigEndian::read_u64(bytes.split_at(16).1);
     let acked = BigEndian::read_u64(bytes.split_at(24).1);
-    if floor > old || old > new || new >= NUMBERS || acked >= NUMBERS {
+    if floor > old || old > new || new >= NUMBER_LIMIT || acked >= NUMBER_LIMIT {
         return Err(Fault::BadDatagram(Reason::Length));
     }
     let change = Vec::from_slice(alloc, bytes.split_at(DOWN).1)?;
@@ -118,7 +113,7 @@ pub fn read_up(alloc: Global, bytes: &[u8], watches: bool) -> Result<Up, Fault>
     let acked = BigEndian::read_u64(bytes);
     let first = BigEndian::read_u64(bytes.split_at(8).1);
     let count = BigEndian::read_u16(bytes.split_at(16).1) as usize;
-    if acked >= NUMBERS || first == 0 || first >= NUMBERS || count > ACTS {
+    if acked >= NUMBER_LIMIT || first == 0 || first >= NUMBER_LIMIT || count > MOST_ACTS {
         return Err(Fault::BadDatagram(Reason::Length));
     }
     if watches && count != 0 {

@@ -1,5 +1,6 @@
 -- What holds of every world that can be reached, and with every step again.
 use Rattle.std.specs.Prelude.{◌≡◌, ℕ, zero, suc, ◌<◌, ◌≤◌, ◌^◌, All, List, [], length, take, slice_index, slice_get, Option, Some, None, Bool, true, false}
+use Rattle.roam_acts.specs.Limits.{number_limit, most_unacknowledged}
 use Rattle.roam_acts.specs.declared.acts.Act.{Act}
 use Rattle.roam_acts.specs.Acts.{IsAct}
 use Rattle.roam_acts.specs.Senders.{HasTyped, IsStretch}
@@ -57,8 +58,8 @@ pub record ActsOf (taken : List Act) (r : Record) (c : Client) : Type 0 where
   pub front : taken ≡ take r.taken c.typed
   pub low : r.taken ≤ length c.typed
   pub typed : HasTyped c.acts c.typed
-  pub few : length c.acts.acts ≤ 1024
-  pub below : length c.typed < 2 ^ 62
+  pub few : length c.acts.acts ≤ most_unacknowledged
+  pub below : length c.typed < number_limit
   pub are : All IsAct c.typed
   pub told : (u : UpValue) → IsIn u c.instructions → IsStretch c.typed u.first u.acts
 
@@ -105,7 +106,7 @@ AreScreens size log cuts = (v : Version) (n : ℕ) → n ≤ length cuts → IsS
 
 pub record Holds (w : World) : Type 0 where
   pub size : IsSessionSize w.server.size.rows w.server.size.cols
-  pub numbers : length w.server.cuts < 2 ^ 62
+  pub numbers : length w.server.cuts < number_limit
   pub cuts : AreCuts w.server.log w.server.cuts
   pub screens : AreScreens w.server.size w.server.log w.server.cuts
   pub lines : (id : ℕ) → LineOf w.server.size w.server.log w.server.cuts (acts_of id w.server.log) (w.server.records id) (w.clients id)

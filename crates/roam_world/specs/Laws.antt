@@ -1,5 +1,6 @@
 -- What is promised of every world that can be reached.
 use Rattle.std.specs.Prelude.{◌≡◌, ◌⊎◌, ℕ, ◌<◌, ◌≤◌, ◌^◌, List, [], ◌∷◌, length, map, Some, nat_lt, if◌then◌else◌, true}
+use Rattle.roam_sync.specs.Limits.{most_held}
 use Rattle.roam_cells.specs.declared.faults.Fault.TheVariants.{OutOfMemory, BadChange}
 use Rattle.roam_acts.specs.Acts.{IsAct}
 use Rattle.roam_sync.specs.Senders.{newest, count}
@@ -66,8 +67,8 @@ pub record HoldTrueScreens (w : World) : Type 0 where
 
 -- no client start and no sender ever has a ninth pair
 pub record HoldAtMostEight (w : World) : Type 0 where
-  pub receivers : (id : ℕ) → length (pairs (w.clients id).receiver) ≤ 8
-  pub senders : (id : ℕ) → count (w.server.records id).sender ≤ 8
+  pub receivers : (id : ℕ) → length (pairs (w.clients id).receiver) ≤ most_held
+  pub senders : (id : ℕ) → count (w.server.records id).sender ≤ most_held
 
 -- no datagram that comes to a client start leaves a gap or has a bad change, whatever was lost, late or repeated
 abbrev pub LeavesNoGap : World → Type 0
@@ -198,7 +199,7 @@ OneRoundSuffices w = (slot id now : ℕ) (ks : List (ℕ × ℕ)) (reply : Reply
 -- newest is that number then.
 abbrev pub OffersNewest : World → Type 0
 OffersNewest w = (id now : ℕ) → is_live (w.server.records id) (moment w.server now) ≡ true
-    → (count (w.server.records id).sender < 8) ⊎ ((newest (w.server.records id).sender).number ≡ number_after w.server
+    → (count (w.server.records id).sender < most_held) ⊎ ((newest (w.server.records id).sender).number ≡ number_after w.server
     (moment w.server now))
     → (newest ((after_tick w.server (moment w.server now)).records id).sender).number ≡ number_after w.server (moment w.server now)
 

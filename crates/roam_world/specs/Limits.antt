@@ -1,5 +1,6 @@
 -- All that is sent is within the limits of its text, so that it is read as it was written; and what is kept is bounded.
 use Rattle.std.specs.Prelude.{ℕ, ◌<◌, ◌≤◌, ◌^◌, Bool, length}
+use Rattle.roam_acts.specs.Limits.{number_limit, most_unacknowledged}
 use Rattle.roam_wire.specs.Instructions.{DownValue, IsDown, UpValue, IsUp}
 use Rattle.roam_world.specs.Lists.{IsIn}
 use Rattle.roam_world.specs.Comings.{most_of, alike}
@@ -8,10 +9,10 @@ use Rattle.roam_wire.specs.Datagrams.{DatagramValue, IsDatagram}
 
 pub record Limits (w : World) : Type 0 where
   -- numbers of states and of acts are below 2^62
-  pub numbers : length w.server.cuts < 2 ^ 62
-  pub typed : (id : ℕ) → length (w.clients id).typed < 2 ^ 62
+  pub numbers : length w.server.cuts < number_limit
+  pub typed : (id : ℕ) → length (w.clients id).typed < number_limit
   -- at most 1,024 acts of a start are unacknowledged
-  pub unacknowledged : (id : ℕ) → length (w.clients id).acts.acts ≤ 1024
+  pub unacknowledged : (id : ℕ) → length (w.clients id).acts.acts ≤ most_unacknowledged
   -- at most 16 starts that only watch, and 64 others, are known to the server
   pub known : (watches : Bool) → length (alike w.server watches) ≤ most_of watches
   -- each instruction and each datagram that was ever sent has a text

@@ -1,5 +1,7 @@
 -- A tick of a client start.
 use Rattle.std.specs.Prelude.{ℕ, ◌+◌, max, List, [], ◌∷◌, ◌++◌, length, take, Option, Some, None, Bool, true, ◌&&◌, ◌||◌, nat_lt}
+use Rattle.roam_sync.specs.Moments.{resend_after, heartbeat}
+use Rattle.roam_acts.specs.Limits.{most_acts}
 use Rattle.roam_acts.specs.declared.acts.Act.{Act}
 use Rattle.roam_wire.specs.Cutting.{pieces_of}
 use Rattle.roam_wire.specs.Instructions.{UpValue, up_text}
@@ -10,7 +12,7 @@ use Rattle.roam_wire.specs.Datagrams.{DatagramValue}
 
 -- the acts to send: those that aren't acknowledged, at most 64
 abbrev pub waiting : Client → List Act
-waiting c = take 64 c.acts.acts
+waiting c = take most_acts c.acts.acts
 
 -- the number of the last of them
 abbrev pub last_waiting : Client → ℕ
@@ -20,15 +22,15 @@ last_waiting c = c.acts.acked + length (waiting c)
 abbrev pub is_unacknowledged : Client → Bool
 is_unacknowledged c = nat_lt 0 (length c.acts.acts)
 
--- Nothing was ever sent; or one of the acts to send never was; or an act isn't acknowledged and 250 ms passed since the last sending; or an
--- answer is overdue; or 3,000 ms passed.
+-- Nothing was ever sent; or one of the acts to send never was; or an act isn't acknowledged and it is time to send it again; or an answer is
+-- overdue; or a heartbeat is.
 abbrev pub is_due_since : Client → Option ℕ → ℕ → Bool
 is_due_since c None now = true
 is_due_since c (Some since) now =
     (is_unacknowledged c && nat_lt c.sent_act (last_waiting c))
-    || (is_unacknowledged c && has_passed 250 since now)
+    || (is_unacknowledged c && has_passed resend_after since now)
     || is_overdue c.owed now
-    || has_passed 3000 since now
+    || has_passed heartbeat since now
 
 abbrev pub is_client_due : Client → ℕ → Bool
 is_client_due c now = is_due_since c c.sent_at now

@@ -1,13 +1,14 @@
 -- A tick of the server.
 use Rattle.std.specs.Prelude.{ℕ, ◌+◌, List, [], ◌∷◌, ◌++◌, length, map, None, Bool, false, ◌&&◌, ◌||◌, nat_lt, ◌==◌, if◌then◌else◌}
 use Rattle.std.specs.List.{flat_map, list_any}
+use Rattle.roam_sync.specs.Limits.{most_held}
 use Rattle.roam_screens.specs.Screenshot.{Screenshot}
 use Rattle.roam_sync.specs.Senders.{Sending, newest, count, offered, sent_at, is_due}
 use Rattle.roam_wire.specs.Cutting.{pieces_of}
 use Rattle.roam_wire.specs.Instructions.{DownValue, down_text}
 use Rattle.roam_world.specs.Versions.{difference_by}
 use Rattle.roam_world.specs.Numbers.{screen}
-use Rattle.roam_world.specs.Moments.{has_passed, is_overdue, is_spent}
+use Rattle.roam_world.specs.Moments.{has_passed, is_overdue, is_spent, frame_interval, forget_after}
 use Rattle.roam_world.specs.Texts.{Address, datagrams_of}
 use Rattle.roam_world.specs.Servers.{Record, Server}
 use Rattle.roam_wire.specs.declared.datagrams.Kind.TheVariants.{ToClient}
@@ -18,7 +19,7 @@ use Rattle.roam_wire.specs.declared.versions.Version.{Version}
 
 -- a number is made where none was made yet, or where an input came since the last was made and 20 ms passed
 abbrev pub makes : Server → ℕ → Bool
-makes s now = length s.cuts == 0 || (s.input && has_passed 20 s.made_at now)
+makes s now = length s.cuts == 0 || (s.input && has_passed frame_interval s.made_at now)
 
 abbrev pub cuts_after : Server → ℕ → List ℕ
 cuts_after s now = if makes s now then s.cuts ++ length s.log ∷ [] else s.cuts
@@ -34,11 +35,11 @@ screen_after s v now = screen v s.size s.log (cuts_after s now) (number_after s 
 
 -- it was heard less than 60,000 ms ago
 abbrev pub is_live : Record → ℕ → Bool
-is_live r now = r.known && nat_lt now (r.heard_at + 60000)
+is_live r now = r.known && nat_lt now (r.heard_at + forget_after)
 
 -- the newest number is offered to it: it is above the sender's newest, and fewer than eight are held
 abbrev pub is_offered : Record → ℕ → ℕ → Bool
-is_offered r n now = is_live r now && nat_lt (newest r.sender).number n && nat_lt (count r.sender) 8
+is_offered r n now = is_live r now && nat_lt (newest r.sender).number n && nat_lt (count r.sender) most_held
 
 -- what its sender holds then
 unfoldable pub holds_after : Record → ℕ → Screenshot → ℕ → Sending Screenshot
