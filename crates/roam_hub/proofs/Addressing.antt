@@ -28,7 +28,7 @@ use Rattle.roam_world.specs.Texts.{Address, datagram_with}
 use Rattle.roam_world.specs.Ticks.{holds_after, down_from}
 use Rattle.roam_hub.specs.declared.addresses.Addr.{Addr}
 use Rattle.roam_hub.specs.Servers.{RecordView, address_of, parcels_of}
-use Rattle.roam_hub.specs.Records.{held, letter, is_told, pieces_told, datagrams_for, letters_for}
+use Rattle.roam_hub.specs.Records.{held, fragments_due, is_sent_to, fragments_sent, datagrams_for, parcels_for}
 
 -- ---- texts with an address
 
@@ -97,11 +97,11 @@ down_short v d base s e leads =
     let same = ap (λ (xs : List ℕ). length xs) e in
     omega (arith, long, few, same)
 
-pub letter_is : (v : Version) (s : Sending Screenshot) (taken : ℕ) (d : DownValue) (text : List ℕ) → d.old ≡ s.base.number
+pub instruction_is : (v : Version) (s : Sending Screenshot) (taken : ℕ) (d : DownValue) (text : List ℕ) → d.old ≡ s.base.number
     → d.new ≡ (newest s).number
     → d.floor ≡ s.base.number → d.acked ≡ taken → d.change ≡ difference_by v s.base.state (newest s).state → text ≡ down_text d
     → text ≡ down_text (down_from v s taken)
-letter_is v s taken d text o n f a c e =
+instruction_is v s taken d text o n f a c e =
     e ∙ (λ i. down_text (record { old = o i; new = n i; floor = f i; acked = a i; change = c i }))
 
 pub last_fits : (a b : Bool) → b ≡ false → (a || b) ≡ a
@@ -131,28 +131,28 @@ held_now v n s now b version sender same e f g =
 -- ---- what goes to a start
 
 as_many : (session client : ℕ) (v : RecordView) (texts : List (Vec ℕ Global))
-    → texts_of texts ≡ map datagram_text (datagrams_for session (client, v)) → length texts ≡ length (letter v)
+    → texts_of texts ≡ map datagram_text (datagrams_for session (client, v)) → length texts ≡ length (fragments_due v)
 as_many session client v texts e =
     sym (length-map texts (λ (x : Vec ℕ Global). x.items)) ∙ ap (λ (xs : List (List ℕ)). length xs) e
     ∙ length-map (datagrams_for session (client, v)) datagram_text
-    ∙ length-map (enumerate_from 0 (letter v))
-    (datagram_with v.version ToClient session client v.datagrams (v.instructions + 1) (length (letter v)))
-    ∙ length-enumerate_from 0 (letter v)
+    ∙ length-map (enumerate_from 0 (fragments_due v))
+    (datagram_with v.version ToClient session client v.datagrams (v.instructions + 1) (length (fragments_due v)))
+    ∙ length-enumerate_from 0 (fragments_due v)
 
-pub told_pieces : (session client : ℕ) (v : RecordView) (now k : ℕ) (texts : List (Vec ℕ Global))
-    → texts_of texts ≡ map datagram_text (datagrams_for session (client, v)) → k ≡ length texts → is_told v now ≡ true
-    → Some k ≡ pieces_told v now
-told_pieces session client v now k texts e len told =
-    ap Some (len ∙ as_many session client v texts e) ∙ sym (ap (λ b. cond b (Some (length (letter v))) None) told)
+pub sent_fragments : (session client : ℕ) (v : RecordView) (now k : ℕ) (texts : List (Vec ℕ Global))
+    → texts_of texts ≡ map datagram_text (datagrams_for session (client, v)) → k ≡ length texts → is_sent_to v now ≡ true
+    → Some k ≡ fragments_sent v now
+sent_fragments session client v now k texts e len told =
+    ap Some (len ∙ as_many session client v texts e) ∙ sym (ap (λ b. cond b (Some (length (fragments_due v))) None) told)
 
 map_text : (to : Address) (ds : List DatagramValue) → map (addressed to) (map datagram_text ds) ≡ map (λ d. (to, datagram_text d)) ds
 map_text to [] = refl
 map_text to (d ∷ ds) = ap (λ (xs : List (Address × List ℕ)). (to, datagram_text d) ∷ xs) (map_text to ds)
 
-pub told_letters : (session client : ℕ) (v : RecordView) (now : ℕ) (texts : List (Vec ℕ Global)) (before after : List (Address × List ℕ))
-    → texts_of texts ≡ map datagram_text (datagrams_for session (client, v)) → is_told v now ≡ true
-    → after ≡ before ++ map (addressed v.address) (texts_of texts) → after ≡ before ++ letters_for session now (client, v)
-told_letters session client v now texts before after e told more =
+pub sent_parcels : (session client : ℕ) (v : RecordView) (now : ℕ) (texts : List (Vec ℕ Global)) (before after : List (Address × List ℕ))
+    → texts_of texts ≡ map datagram_text (datagrams_for session (client, v)) → is_sent_to v now ≡ true
+    → after ≡ before ++ map (addressed v.address) (texts_of texts) → after ≡ before ++ parcels_for session now (client, v)
+sent_parcels session client v now texts before after e told more =
     more ∙ ap (λ (xs : List (List ℕ)). before ++ map (addressed v.address) xs) e
     ∙ ap (λ (xs : List (Address × List ℕ)). before ++ xs) (map_text v.address (datagrams_for session (client, v)))
     ∙ sym (ap (λ b. before ++ cond b (map (λ d. (v.address, datagram_text d)) (datagrams_for session (client, v))) []) told)

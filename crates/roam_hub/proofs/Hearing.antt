@@ -15,22 +15,22 @@ use Rattle.roam_sync.specs.Receivers.{Receiving, pairs, state_at, from_floor, st
 use Rattle.roam_sync.specs.Lines.{Delivers}
 use Rattle.roam_wire.specs.declared.versions.Version.{Version}
 use Rattle.roam_wire.specs.Datagrams.{DatagramValue, IsDatagram, datagram_text}
-use Rattle.roam_wire.specs.Gatherers.{Gathering, Answer, Whole, gather, piece_of}
+use Rattle.roam_wire.specs.Gatherers.{Gathering, Answer, Whole, gather, fragment_of}
 use Rattle.roam_wire.specs.Headers.{datagram_at, Refuses}
 use Rattle.roam_wire.specs.Instructions.{DownValue, IsDown, down_text, reason_for}
 use Rattle.roam_world.specs.Moments.{owed_from}
 use Rattle.roam_world.specs.Versions.{applied_by}
 use Rattle.roam_world.specs.Texts.{SaysDown, update_in}
 use Rattle.roam_world.specs.Clients.{Client as ClientOf, moment_of}
-use Rattle.roam_world.specs.Arrivals.{sent_back, kept, arriving, arriving_gathered, hearing_of}
+use Rattle.roam_world.specs.ClientArrivals.{sent_back, kept, arriving, arriving_gathered, hearing_of}
 use Rattle.roam_hub.specs.declared.clients.Heard.{Heard}
-use Rattle.roam_hub.specs.Clients.{ClientView, Stands, hearing_in, Told, NotTold, unread as not_read, bad_change as bad_change_of, no_memory as wants_memory, IsTextOf, Hears, no_datagram, refused, piece, unread, bad_change, whole, no_memory}
+use Rattle.roam_hub.specs.Clients.{ClientView, Stands, hearing_in, Delivered, NotDelivered, unread as not_read, bad_change as bad_change_of, no_memory as wants_memory, IsTextOf, Hears, no_datagram, refused, fragment, unread, bad_change, whole, no_memory}
 
 -- ---- an instruction's text
 
 pub text_unread : (version : Version) (text : List ℕ) (r : Receiving Screenshot) (fault : Fault)
     → (fault ≡ OutOfMemory) ⊎ (fault ≡ BadDatagram (reason_for 32 text))
-    → ((v : DownValue) → IsDown v → text ≡ down_text v → fault ≡ OutOfMemory) → NotTold version text r fault
+    → ((v : DownValue) → IsDown v → text ≡ down_text v → fault ≡ OutOfMemory) → NotDelivered version text r fault
 text_unread version text r fault (inl e) only = wants_memory e
 text_unread version text r fault (inr e) only =
     not_read (reason_for 32 text)
@@ -55,7 +55,7 @@ base_held r old new floor =
 pub text_refused : (version : Version) (text : List ℕ) (r : Receiving Screenshot) (v : DownValue) (fault : Fault) → SaysDown text v
     → step_for r v.old v.new v.floor ≡ step.New → (fault ≡ OutOfMemory) ⊎ (fault ≡ BadChange)
     → (fault ≡ BadChange → (base : Screenshot) → state_at v.old (pairs r) ≡ Some base → applied_by version base v.change ≡ None)
-    → NotTold version text r fault
+    → NotDelivered version text r fault
 text_refused version text r v fault says new (inl e) bad = wants_memory e
 text_refused version text r v fault says new (inr e) bad =
     let b = base_held r v.old v.new v.floor new in
@@ -73,9 +73,9 @@ acts_acked old new n e all =
     go false false = All-drop IsAct (n - old.acked) old.acts all
 
 -- the newest number stays below 2^62
-pub told_number : (version : Version) (text : List ℕ) (old : Typing) (r : Receiving Screenshot) (answer : Step) (owes : Bool)
-    (new : Typing) (r' : Receiving Screenshot) → Told version text old r answer owes new r' → r.newest.number < 2 ^ 62 → r'.newest.number < 2 ^ 62
-told_number version text old r answer owes new r' t low = go (step_for r t.value.old t.value.new t.value.floor) refl
+pub delivered_number : (version : Version) (text : List ℕ) (old : Typing) (r : Receiving Screenshot) (answer : Step) (owes : Bool)
+    (new : Typing) (r' : Receiving Screenshot) → Delivered version text old r answer owes new r' → r.newest.number < 2 ^ 62 → r'.newest.number < 2 ^ 62
+delivered_number version text old r answer owes new r' t low = go (step_for r t.value.old t.value.new t.value.floor) refl
   where
     other : (s : Step) → step_for r t.value.old t.value.new t.value.floor ≡ s → (s ≡ step.New → ⊥) → r'.newest.number < 2 ^ 62
     other s e not =
@@ -117,7 +117,7 @@ not_datagram session id c bytes now Watching new st why only = absurd why
 -- a datagram of this start: what it is there is decided by what was gathered
 abbrev pub Admits : ClientView → DatagramValue → Type 0
 Admits v d = (c : ClientOf) → c.version ≡ v.version
-    → arriving v.session v.id c d ≡ arriving_gathered (gather c.gathering (piece_of d))
+    → arriving v.session v.id c d ≡ arriving_gathered (gather c.gathering (fragment_of d))
 
 pub not_admitted : (session id : ℕ) (c : ClientOf) (bytes : List ℕ) (now : ℕ) (before : ClientView) (d : DatagramValue) (fault : Fault)
     → Stands before session id c → IsTextOf bytes d
@@ -129,12 +129,12 @@ not_admitted session id c bytes now before d fault st is back =
     refl st
 
 arrives : (session id : ℕ) (c : ClientOf) (before : ClientView) (d : DatagramValue) (x : Option (Answer × Gathering))
-    → Stands before session id c → Admits before d → gather before.gathering (piece_of d) ≡ x
+    → Stands before session id c → Admits before d → gather before.gathering (fragment_of d) ≡ x
     → arriving session id c d ≡ arriving_gathered x
 arrives session id c before d x st ok e =
-    subst (λ (v : ClientView). arriving v.session v.id c d ≡ arriving_gathered (gather c.gathering (piece_of d))) st
+    subst (λ (v : ClientView). arriving v.session v.id c d ≡ arriving_gathered (gather c.gathering (fragment_of d))) st
     (ok c (sym (ap (λ (v : ClientView). v.version) st)))
-    ∙ ap arriving_gathered (sym (ap (λ (v : ClientView). gather v.gathering (piece_of d)) st) ∙ e)
+    ∙ ap arriving_gathered (sym (ap (λ (v : ClientView). gather v.gathering (fragment_of d)) st) ∙ e)
 
 gathers_as : (session id : ℕ) (c : ClientOf) (before : ClientView) (g : Gathering) → Stands before session id c → g ≡ before.gathering
     → Stands (record before { gathering = g }) session id c
@@ -143,7 +143,7 @@ gathers_as session id c before g st e = (λ i. record before { gathering = e i }
 pub not_gathered : (session id : ℕ) (c : ClientOf) (bytes : List ℕ) (now : ℕ) (before : ClientView) (d : DatagramValue) (fault : Fault)
     (g : Gathering)
     → Stands before session id c → IsTextOf bytes d → Admits before d → (fault ≡ OutOfMemory) ⊎ (fault ≡ BadDatagram Fragment)
-    → (fault ≡ BadDatagram Fragment → gather before.gathering (piece_of d) ≡ None) → g ≡ before.gathering
+    → (fault ≡ BadDatagram Fragment → gather before.gathering (fragment_of d) ≡ None) → g ≡ before.gathering
     → Hears session id c bytes now (Err fault) (record before { gathering = g })
 not_gathered session id c bytes now before d fault g st is ok (inl e) bad same =
     no_memory (ap (λ f. Err f) e) (gathers_as session id c before g st same)
@@ -151,27 +151,27 @@ not_gathered session id c bytes now before d fault g st is ok (inr e) bad same =
     refused d fault is
     (arrives session id c before d None st ok (bad e) ∙ ap sent_back (sym e)) refl (gathers_as session id c before g st same)
 
-pub piece_heard : (session id : ℕ) (c : ClientOf) (bytes : List ℕ) (now : ℕ) (before : ClientView) (d : DatagramValue) (h : Heard)
+pub fragment_heard : (session id : ℕ) (c : ClientOf) (bytes : List ℕ) (now : ℕ) (before : ClientView) (d : DatagramValue) (h : Heard)
     (a : Answer) (g : Gathering) (moment : ℕ)
-    → Stands before session id c → IsTextOf bytes d → Admits before d → gather before.gathering (piece_of d) ≡ Some (a, g)
+    → Stands before session id c → IsTextOf bytes d → Admits before d → gather before.gathering (fragment_of d) ≡ Some (a, g)
     → arriving_gathered (Some (a, g)) ≡ kept (hearing_in h) g → moment ≡ max now before.clock
     → Hears session id c bytes now (Ok h) (record before { gathering = g; clock = moment })
-piece_heard session id c bytes now before d h a g moment st is ok e k m =
-    piece d h g is (arrives session id c before d (Some (a, g)) st ok e ∙ k) refl
+fragment_heard session id c bytes now before d h a g moment st is ok e k m =
+    fragment d h g is (arrives session id c before d (Some (a, g)) st ok e ∙ k) refl
     (λ i. record (st i) { gathering = g; clock = (m ∙ ap (λ (v : ClientView). max now v.clock) st) i })
 
-pub not_told : (session id : ℕ) (c : ClientOf) (bytes : List ℕ) (now : ℕ) (before : ClientView) (d : DatagramValue) (fault : Fault)
+pub not_delivered : (session id : ℕ) (c : ClientOf) (bytes : List ℕ) (now : ℕ) (before : ClientView) (d : DatagramValue) (fault : Fault)
     (text : List ℕ) (g g' : Gathering) (version : Version) (acts : Typing) (r : Receiving Screenshot)
-    → Stands before session id c → IsTextOf bytes d → Admits before d → gather before.gathering (piece_of d) ≡ Some (Whole text, g)
-    → NotTold before.version text before.receiver fault → g' ≡ before.gathering → version ≡ before.version → acts ≡ before.acts
+    → Stands before session id c → IsTextOf bytes d → Admits before d → gather before.gathering (fragment_of d) ≡ Some (Whole text, g)
+    → NotDelivered before.version text before.receiver fault → g' ≡ before.gathering → version ≡ before.version → acts ≡ before.acts
     → r ≡ before.receiver
     → Hears session id c bytes now (Err fault) (record before { version = version; acts = acts; gathering = g'; receiver = r })
-not_told session id c bytes now before d fault text g g' version acts r st is ok e why same_g same_v same_a same_r = go why
+not_delivered session id c bytes now before d fault text g g' version acts r st is ok e why same_g same_v same_a same_r = go why
   where
     stays : Stands (record before { version = version; acts = acts; gathering = g'; receiver = r }) session id c
     stays = (λ i. record before { version = same_v i; acts = same_a i; gathering = same_g i; receiver = same_r i }) ∙ st
 
-    go : NotTold before.version text before.receiver fault
+    go : NotDelivered before.version text before.receiver fault
         → Hears session id c bytes now (Err fault) (record before { version = version; acts = acts; gathering = g'; receiver = r })
     go (not_read w says f) =
         unread d g text w is (arrives session id c before d (Some (Whole text, g)) st ok e) says (ap (λ x. Err x) f) stays
@@ -182,16 +182,16 @@ not_told session id c bytes now before d fault text g g' version acts r st is ok
         (subst (λ (x : ClientView). applied_by x.version base v.change ≡ None) st none) (ap (λ x. Err x) f) stays
     go (wants_memory f) = no_memory (ap (λ x. Err x) f) stays
 
-pub is_told : (session id : ℕ) (c : ClientOf) (bytes : List ℕ) (now : ℕ) (before : ClientView) (d : DatagramValue) (h : Heard)
+pub is_sent_to : (session id : ℕ) (c : ClientOf) (bytes : List ℕ) (now : ℕ) (before : ClientView) (d : DatagramValue) (h : Heard)
     (text : List ℕ) (g : Gathering) (answer : Step) (newer : Bool) (version : Version) (acts : Typing) (r : Receiving Screenshot)
     (owed : Option ℕ) (moment : ℕ)
-    → Stands before session id c → IsTextOf bytes d → Admits before d → gather before.gathering (piece_of d) ≡ Some (Whole text, g)
-    → Told before.version text before.acts before.receiver answer newer acts r → hearing_in h ≡ hearing_of answer
+    → Stands before session id c → IsTextOf bytes d → Admits before d → gather before.gathering (fragment_of d) ≡ Some (Whole text, g)
+    → Delivered before.version text before.acts before.receiver answer newer acts r → hearing_in h ≡ hearing_of answer
     → version ≡ before.version
     → owed ≡ cond newer (owed_from before.owed moment) before.owed → moment ≡ max now before.clock
     → Hears session id c bytes now (Ok h)
     (record before { version = version; acts = acts; gathering = g; receiver = r; owed = owed; clock = moment })
-is_told session id c bytes now before d h text g answer newer version acts r owed moment st is ok e t how same_v owes m =
+is_sent_to session id c bytes now before d h text g answer newer version acts r owed moment st is ok e t how same_v owes m =
     whole d h g text t.value r is (arrives session id c before d (Some (Whole text, g)) st ok e) t.says
     (subst (λ (v : ClientView). Delivers (applied_by v.version) v.receiver (update_in t.value) r) st t.delivers) refl
     (how ∙ ap hearing_of (t.step ∙ ap (λ (v : ClientView). step_for v.receiver t.value.old t.value.new t.value.floor) st))

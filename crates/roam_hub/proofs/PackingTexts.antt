@@ -6,12 +6,12 @@ use Rattle.roam_wire.specs.declared.datagrams.Kind.{Kind}
 use Rattle.roam_wire.specs.declared.datagrams.Kind.TheVariants.{FromWatcher}
 use Rattle.roam_wire.specs.declared.versions.Version.{Version}
 use Rattle.roam_wire.specs.declared.versions.Version.TheVariants.{One, Two}
-use Rattle.roam_wire.specs.Versions.{most_pieces}
+use Rattle.roam_wire.specs.Versions.{most_fragments}
 use Rattle.roam_wire.specs.Cutting.{AreSendable}
 use Rattle.roam_wire.specs.Datagrams.{DatagramValue, IsDatagram, datagram_text}
 use Rattle.roam_world.specs.Texts.{datagram_with}
 
--- some pieces are written, the others are left
+-- some fragments are written, the others are left
 pub record IsPacking (g : ℕ × List ℕ → DatagramValue) (ps done rest : List (List ℕ)) : Type 0 where
   pub left : rest ≡ drop (length done) ps
   pub low : length done ≤ length ps
@@ -32,7 +32,7 @@ pack_end g ps done rest p none =
     append-nil [] = refl
     append-nil (x ∷ xs) = ap (λ (ys : List (List ℕ)). x ∷ ys) (append-nil xs)
 
--- the first piece that is left
+-- the first fragment that is left
 pub record IsNext (ps : List (List ℕ)) (k : ℕ) (x : List ℕ) : Type 0 where
   pub within : k < length ps
   pub here : get_or ps k [] ≡ x
@@ -78,12 +78,12 @@ pack_more g ps done rest x y more p e is =
     n : IsNext ps (length done) x
     n = pack_next g ps done rest x more p e
 
--- a datagram with one of the pieces of a text has a text
-pub piece_sendable : (v : Version) (kind : Kind) (session client before id count index : ℕ) (ps : List (List ℕ)) (payload : List ℕ)
+-- a datagram with one of the fragments of a text has a text
+pub fragment_sendable : (v : Version) (kind : Kind) (session client before id count index : ℕ) (ps : List (List ℕ)) (payload : List ℕ)
     → (kind ≡ FromWatcher → v ≡ Two) → session < 2 ^ 64
     → client < 2 ^ 64 → 1 ≤ id → id < 2 ^ 62 → before + length ps < 2 ^ 62 → AreSendable v ps → count ≡ length ps → IsNext ps index payload
     → IsDatagram (datagram_with v kind session client before id count (index, payload))
-piece_sendable v kind session client before id count index ps payload fit s c low high numbers can all n =
+fragment_sendable v kind session client before id count index ps payload fit s c low high numbers can all n =
     let w = n.within in
     let len = can.lengths index n.within in
     let few = can.few in
@@ -99,8 +99,8 @@ piece_sendable v kind session client before id count index ps payload fit s c lo
       whole = (λ more. subst (λ (xs : List ℕ). length xs ≡ 1200) n.here (len.whole (omega (arith, all, more))));
     }
 
--- no version allows more pieces than two bytes can tell
-pub at_most : (v : Version) → most_pieces v ≤ 4096
+-- no version allows more fragments than two bytes can tell
+pub at_most : (v : Version) → most_fragments v ≤ 4096
 at_most One = omega arith
 at_most Two = omega arith
 

@@ -19,7 +19,7 @@ use Rattle.roam_sync.specs.Senders.{Sending, start, newest, last_of, acked, afte
 use Rattle.roam_wire.specs.declared.gatherers.Gathered.{Gathered}
 use Rattle.roam_wire.specs.declared.gatherers.Gathered.TheVariants as gathered
 use Rattle.roam_wire.specs.Datagrams.{DatagramValue}
-use Rattle.roam_wire.specs.Gatherers.{Gathering, GathererValue, untaken, Whole, nothing, answer_of, gather, piece_of}
+use Rattle.roam_wire.specs.Gatherers.{Gathering, GathererValue, untaken, Whole, nothing, answer_of, gather, fragment_of}
 use Rattle.roam_wire.specs.declared.versions.Version.{Version}
 use Rattle.roam_wire.specs.Instructions.{UpValue, IsUp, IsUpOf, up_text, reason_for}
 use Rattle.roam_session.specs.Sessions.{SessionSize, Entry}
@@ -29,11 +29,11 @@ use Rattle.roam_world.specs.Numbers.{first_screen}
 use Rattle.roam_world.specs.Texts.{Address, is_watching, SaysUp}
 use Rattle.roam_world.specs.Versions.{is_same_version}
 use Rattle.roam_world.specs.Servers.{no_record}
-use Rattle.roam_world.specs.Comings.{coming_gathered, is_same, most_of}
+use Rattle.roam_world.specs.ServerArrivals.{coming_gathered, is_same, most_of}
 use Rattle.roam_world.proofs.Versions as versions
 use Rattle.roam_hub.specs.declared.taking.Taking.{Taking}
 use Rattle.roam_hub.specs.Servers.{RecordView, kept_of}
-use Rattle.roam_hub.specs.Records.{taking, TakesActs, heard_by, informed_by, Notes, piece, told, NotNoted, no_piece, unread, no_memory, known, added, NotesIn, NotNotedIn, room, differs, entry_of, first_record, Fits, IsOther, another_version, another_kind, NotHeard, other, fitting, fitted, alike_entries}
+use Rattle.roam_hub.specs.Records.{taking, TakesActs, heard_by, informed_by, Notes, fragment, instruction, NotNoted, no_fragment, unread, no_memory, known, added, NotesIn, NotNotedIn, room, differs, entry_of, first_record, Fits, IsOther, another_version, another_kind, NotHeard, other, fitting, fitted, alike_entries}
 
 pub new_record : (version v : Version) (watches : Bool) (g : Gathering) (taken : ℕ) (sender : Sending Screenshot) → v ≡ version
     → g ≡ nothing → taken ≡ 0 → sender ≡ start first_screen
@@ -68,16 +68,16 @@ new_record version v watches g taken sender same e f h =
 
 -- ---- a datagram
 
-pub piece_noted : (old : RecordView) (state : SessionView) (d : DatagramValue) (from : Address) (now : ℕ) (x : Gathered) (g : Gathering)
-    (new : RecordView) → gather old.gathering (piece_of d) ≡ Some (answer_of x, g)
+pub fragment_noted : (old : RecordView) (state : SessionView) (d : DatagramValue) (from : Address) (now : ℕ) (x : Gathered) (g : Gathering)
+    (new : RecordView) → gather old.gathering (fragment_of d) ≡ Some (answer_of x, g)
     → ((text : Vec ℕ Global) → x ≡ gathered.Whole text → ⊥) → new ≡ heard_by old d from now g
     → Notes old state d from now (taking 0 None) new state
-piece_noted old state d from now gathered.Part g new e not is = piece g (ap coming_gathered e) refl is refl
-piece_noted old state d from now gathered.Old g new e not is = piece g (ap coming_gathered e) refl is refl
-piece_noted old state d from now (gathered.Whole text) g new e not is = absurd (not text refl)
+fragment_noted old state d from now gathered.Part g new e not is = fragment g (ap coming_gathered e) refl is refl
+fragment_noted old state d from now gathered.Old g new e not is = fragment g (ap coming_gathered e) refl is refl
+fragment_noted old state d from now (gathered.Whole text) g new e not is = absurd (not text refl)
 
 pub up_unread : (old : RecordView) (d : DatagramValue) (text : List ℕ) (g : Gathering) (fault : Fault)
-    → gather old.gathering (piece_of d) ≡ Some (Whole text, g)
+    → gather old.gathering (fragment_of d) ≡ Some (Whole text, g)
     → (fault ≡ OutOfMemory) ⊎ (fault ≡ BadDatagram (reason_for 18 text))
     → ((u : UpValue) → IsUpOf (is_watching d.kind) u → text ≡ up_text u → fault ≡ OutOfMemory) → NotNoted old d fault
 up_unread old d text g fault at (inl e) only = no_memory e
@@ -89,9 +89,9 @@ up_unread old d text g fault at (inr e) only =
     }) e
 
 pub not_gathered : (old : RecordView) (d : DatagramValue) (fault : Fault) → (fault ≡ OutOfMemory) ⊎ (fault ≡ BadDatagram Fragment)
-    → (fault ≡ BadDatagram Fragment → gather old.gathering (piece_of d) ≡ None) → NotNoted old d fault
+    → (fault ≡ BadDatagram Fragment → gather old.gathering (fragment_of d) ≡ None) → NotNoted old d fault
 not_gathered old d fault (inl e) bad = no_memory e
-not_gathered old d fault (inr e) bad = no_piece (bad e) e
+not_gathered old d fault (inr e) bad = no_fragment (bad e) e
 
 pub fresh_in_range : (taken first : ℕ) (acts : List Act) → All IsInRange acts → All IsInRange (fresh_of taken first acts)
 fresh_in_range taken first acts all = go (nat_lt (taken + 1) first)
@@ -137,14 +137,14 @@ newest_acked s k = acked_last (s.base, s.later) s.base s.later k refl
 
 pub acts_noted : (old : RecordView) (before after : SessionView) (d : DatagramValue) (from : Address) (now : ℕ) (text : List ℕ)
     (u : UpValue)
-    (g kept : Gathering) (t : Taking) (new : RecordView) → gather old.gathering (piece_of d) ≡ Some (Whole text, g)
+    (g kept : Gathering) (t : Taking) (new : RecordView) → gather old.gathering (fragment_of d) ≡ Some (Whole text, g)
     → SaysUp (is_watching d.kind) text u
     → kept ≡ (if is_some t.stopped then old.gathering else g)
     → new ≡ informed_by old d from now kept u t.taken
     → ((size : SessionSize) (log : List Entry) → SessionStands before size log
     → TakesActs size log d.client (fresh_of old.taken u.first u.acts) t after) → Notes old before d from now t new after
 acts_noted old before after d from now text u g kept t new at says is new_is done =
-    told g text u (ap coming_gathered at) says (new_is ∙ ap (λ (x : Gathering). informed_by old d from now x u t.taken) is) done
+    instruction g text u (ap coming_gathered at) says (new_is ∙ ap (λ (x : Gathering). informed_by old d from now x u t.taken) is) done
 
 -- what is gathered once the acts are done
 pub kept_as : (old : Gathering) (g : GathererValue) (kept : Gathering) (stopped : Bool) (stop : Option Fault)
@@ -276,7 +276,7 @@ known_not_noted id old was d fault same at none = go none
 -- what isn't noted in a record of a new start isn't in none
 unfitted : (d : DatagramValue) (fault : Fault) → NotNoted (first_record d.version (is_watching d.kind)) d fault
     → NotNoted (kept_of no_record) d fault
-unfitted d fault (no_piece e f) = no_piece e f
+unfitted d fault (no_fragment e f) = no_fragment e f
 unfitted d fault (unread g text why e says f) = unread g text why e says f
 unfitted d fault (no_memory f) = no_memory f
 

@@ -19,7 +19,7 @@ use Rattle.roam_wire.specs.Datagrams.{datagram_text}
 use Rattle.roam_wire.specs.Instructions.{UpValue, up_text}
 use Rattle.roam_world.specs.Texts.{kind_from, datagram_with}
 use Rattle.roam_world.specs.Clients.{Client as ClientOf, moment_of}
-use Rattle.roam_world.specs.Sendings.{is_due_since, is_client_due, last_waiting, up_from, pieces_from}
+use Rattle.roam_world.specs.Sendings.{is_due_since, is_client_due, last_waiting, up_from, fragments_from}
 use Rattle.roam_hub.specs.Clients.{ClientView, view_of, Stands, bare, datagrams_by, is_view_spent, Sends, quiet, spent, sent, no_memory}
 
 pub text_sent : (number : ℕ) (t : Typing) (u : UpValue) (text : List ℕ) → u.acked ≡ number → u.first ≡ t.acked + 1
@@ -70,15 +70,15 @@ not_sent session id c now before moment due fault st m e f (inl memory) = no_mem
 not_sent session id c now before moment due fault st m e f (inr s) =
     spent (due_is session id c now before moment due st m e ∙ f) (sym (ap is_view_spent st) ∙ s.1) (ap (λ x. Err x) s.0) st
 
--- as many datagrams as pieces
+-- as many datagrams as fragments
 pub as_many : (v : ClientView) (all : Vec (Vec ℕ Global) Global) → texts_of all.items ≡ map datagram_text (datagrams_by v)
-    → length all.items ≡ length (pieces_from (bare v))
+    → length all.items ≡ length (fragments_from (bare v))
 as_many v all e =
     sym (length-map all.items (λ (x : Vec ℕ Global). x.items)) ∙ ap (λ (xs : List (List ℕ)). length xs) e
     ∙ length-map (datagrams_by v) datagram_text
-    ∙ length-map (enumerate_from 0 (pieces_from (bare v)))
-    (datagram_with v.version (kind_from v.watches) v.session v.id v.datagrams (v.instructions + 1) (length (pieces_from (bare v))))
-    ∙ length-enumerate_from 0 (pieces_from (bare v))
+    ∙ length-map (enumerate_from 0 (fragments_from (bare v)))
+    (datagram_with v.version (kind_from v.watches) v.session v.id v.datagrams (v.instructions + 1) (length (fragments_from (bare v))))
+    ∙ length-enumerate_from 0 (fragments_from (bare v))
 
 pub all_sent : (session id : ℕ) (c : ClientOf) (now : ℕ) (before : ClientView) (moment : ℕ) (due : Bool)
     (all : Vec (Vec ℕ Global) Global) (act n : ℕ) → Stands before session id c
@@ -103,7 +103,7 @@ all_sent session id c now before moment due all act n st m e f fit texts a len =
       owed = None;
       clock = at i;
       datagrams = (ap (λ (k : ℕ). before.datagrams + k) (len ∙ as_many before all texts)
-          ∙ ap (λ (v : ClientView). v.datagrams + length (pieces_from (bare v))) st) i;
+          ∙ ap (λ (v : ClientView). v.datagrams + length (fragments_from (bare v))) st) i;
       instructions = (ap (λ (v : ClientView). v.instructions + 1) st ∙ sym (length-append c.instructions (up_from c ∷ []))) i;
     })
   where
@@ -112,12 +112,12 @@ all_sent session id c now before moment due all act n st m e f fit texts a len =
 
 -- where no number would be past the last
 pub fits_on : (v : ClientView) → is_view_spent v ≡ false
-    → (v.instructions + 1 < 2 ^ 62) × (v.datagrams + length (pieces_from (bare v)) < 2 ^ 62)
+    → (v.instructions + 1 < 2 ^ 62) × (v.datagrams + length (fragments_from (bare v)) < 2 ^ 62)
 fits_on v e =
     let left = or_left (is_spent (v.acts.acked + 1) || is_spent (v.instructions + 1))
-    (is_spent (v.datagrams + length (pieces_from (bare v)))) e in (
+    (is_spent (v.datagrams + length (fragments_from (bare v)))) e in (
       not_past (v.instructions + 1) (or_right (is_spent (v.acts.acked + 1)) (is_spent (v.instructions + 1)) left),
-      not_past (v.datagrams + length (pieces_from (bare v)))
-          (or_right (is_spent (v.acts.acked + 1) || is_spent (v.instructions + 1)) (is_spent (v.datagrams + length (pieces_from
+      not_past (v.datagrams + length (fragments_from (bare v)))
+          (or_right (is_spent (v.acts.acked + 1) || is_spent (v.instructions + 1)) (is_spent (v.datagrams + length (fragments_from
           (bare v)))) e),
     )

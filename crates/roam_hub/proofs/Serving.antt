@@ -11,7 +11,7 @@ use Rattle.roam_screens.specs.Screenshot.{Screenshot}
 use Rattle.roam_acts.specs.declared.acts.Act.{Act}
 use Rattle.roam_wire.specs.Datagrams.{DatagramValue, IsDatagram, datagram_text}
 use Rattle.roam_wire.specs.Headers.{datagram_at, Refuses}
-use Rattle.roam_wire.specs.Gatherers.{Gathering, gather, piece_of}
+use Rattle.roam_wire.specs.Gatherers.{Gathering, gather, fragment_of}
 use Rattle.roam_wire.specs.Instructions.{UpValue}
 use Rattle.roam_session.specs.Sessions.{SessionSize, Entry, Did, Given, Drained}
 use Rattle.roam_session.specs.Refusals.{refuses_bytes, output_at, none_refused}
@@ -26,11 +26,11 @@ use Rattle.roam_world.specs.Texts.{Address, is_to_server, is_watching}
 use Rattle.roam_world.specs.Versions.{is_same_version}
 use Rattle.roam_world.specs.Lists.{put}
 use Rattle.roam_world.specs.Servers.{Record, Server, new_server, moment, after_input}
-use Rattle.roam_world.specs.Comings.{turned_away, coming, coming_gathered, is_same, is_full_for, is_of_other, is_else, most_of, arrival_with, heard_from, told_by, new_acts, after_acts, room_for}
+use Rattle.roam_world.specs.ServerArrivals.{turned_away, coming, coming_gathered, is_same, is_full_for, is_of_other, is_else, most_of, arrival_with, heard_from, sent_by_tick, new_acts, after_acts, room_for}
 use Rattle.roam_hub.specs.Clients.{IsTextOf}
 use Rattle.roam_hub.specs.declared.taking.Taking.{Taking}
-use Rattle.roam_hub.specs.Servers.{RecordView, ServerView, kept_of, IsKept, Stands, Feeds, refused, taken, Drains, no_pane, gone, stopped, Comes, no_datagram, piece, unread, all_taken, no_room, no_memory_at_act, no_memory}
-use Rattle.roam_hub.specs.Records.{answered, taking, TakesActs, all, full, no_memory as wants_memory, heard_by, informed_by, Notes, piece as noted_piece, told, NotNoted, no_piece, unread as not_read, NotesIn, NotNotedIn, room, differs, IsOther, another_version, another_kind, alike_entries, fitted, entry_of}
+use Rattle.roam_hub.specs.Servers.{RecordView, ServerView, kept_of, IsKept, Stands, Feeds, refused, taken, Drains, no_pane, gone, stopped, Comes, no_datagram, fragment, unread, all_taken, no_room, no_memory_at_act, no_memory}
+use Rattle.roam_hub.specs.Records.{answered, taking, TakesActs, all, full, no_memory as wants_memory, heard_by, informed_by, Notes, fragment as noted_fragment, instruction, NotNoted, no_fragment, unread as not_read, NotesIn, NotNotedIn, room, differs, IsOther, another_version, another_kind, alike_entries, fitted, entry_of}
 use Rattle.roam_hub.proofs.Entries.{PutsWell, puts_well, was_kept, has_room, entry_is, found_at, room_is, is_full, Suits, suits, suits_put, Differs, there_is}
 
 -- ---- a new server
@@ -158,14 +158,14 @@ here_is v s d st a = subst (λ (n : ℕ). nat_eq d.session n ≡ true) st.sessio
 coming_by : (s : Server) (d : DatagramValue) (a b c : Bool) → is_to_server d.kind ≡ true → nat_eq d.session s.session ≡ true
     → is_full_for s d ≡ a → is_of_other s d ≡ b → is_else s d ≡ c
     → coming s d ≡ cond a (turned_away ClientsFull) (cond b (turned_away (BadDatagram reason.Version))
-    (cond c (turned_away (BadDatagram reason.Kind)) (coming_gathered (gather (s.records d.client).gathering (piece_of d)))))
+    (cond c (turned_away (BadDatagram reason.Kind)) (coming_gathered (gather (s.records d.client).gathering (fragment_of d)))))
 coming_by s d a b c k e f o x =
     λ i. cond (not (k i)) (turned_away (BadDatagram reason.Kind)) (cond (not (e i)) (turned_away OtherSession)
     (cond (f i) (turned_away ClientsFull) (cond (o i) (turned_away (BadDatagram reason.Version))
-    (cond (x i) (turned_away (BadDatagram reason.Kind)) (coming_gathered (gather (s.records d.client).gathering (piece_of d)))))))
+    (cond (x i) (turned_away (BadDatagram reason.Kind)) (coming_gathered (gather (s.records d.client).gathering (fragment_of d)))))))
 
 coming_at : (v : ServerView) (s : Server) (d : DatagramValue) → Stands v s → Admits v d → is_full_for s d ≡ false → Suits s d
-    → coming s d ≡ coming_gathered (gather (s.records d.client).gathering (piece_of d))
+    → coming s d ≡ coming_gathered (gather (s.records d.client).gathering (fragment_of d))
 coming_at v s d st a r f = coming_by s d false false false a.kind (here_is v s d st a) r f.version f.kind
 
 turned_full : (v : ServerView) (s : Server) (d : DatagramValue) → Stands v s → Admits v d → lookup (nat_eq d.client) v.records ≡ None
@@ -234,10 +234,10 @@ after_noted v s from bytes d now moment t new state st text admits m unique n = 
     was : n.was ≡ kept_of (s.records d.client)
     was = was_kept v s d new n.was n.is st n.puts
 
-    comes : coming s d ≡ coming_gathered (gather n.was.gathering (piece_of d))
+    comes : coming s d ≡ coming_gathered (gather n.was.gathering (fragment_of d))
     comes =
         coming_at v s d st admits (has_room v s d new n.was n.is st n.puts) (suits_put v s d new n.was n.is st n.puts)
-        ∙ sym (ap (λ (x : RecordView). coming_gathered (gather x.gathering (piece_of d))) was)
+        ∙ sym (ap (λ (x : RecordView). coming_gathered (gather x.gathering (fragment_of d))) was)
 
     at : moment ≡ max now s.clock
     at = m ∙ ap (λ (c : ℕ). max now c) st.clock
@@ -246,7 +246,7 @@ after_noted v s from bytes d now moment t new state st text admits m unique n = 
     heard g = record { known = refl; kept = λ i. heard_by (fitted (was i) d) d from (at i) g }
 
     informed : (g g' : Gathering) (u : UpValue) (k : ℕ) → g ≡ g'
-        → IsKept (informed_by (fitted n.was d) d from moment g u k) (told_by (s.records d.client) d from (max now s.clock) g' u k)
+        → IsKept (informed_by (fitted n.was d) d from moment g u k) (sent_by_tick (s.records d.client) d from (max now s.clock) g' u k)
     informed g g' u k e = record { known = refl; kept = λ i. informed_by (fitted (was i) d) d from (at i) (e i) u k }
 
     -- where acts are done
@@ -256,23 +256,23 @@ after_noted v s from bytes d now moment t new state st text admits m unique n = 
           log = s.log ++ log;
           input = s.input || nat_lt 0 k;
           clock = max now s.clock;
-          records = put s.records d.client (told_by (s.records d.client) d from (max now s.clock) g' u k);
+          records = put s.records d.client (sent_by_tick (s.records d.client) d from (max now s.clock) g' u k);
           arrival = arrival_with s d.client;
         })
     acts g g' u k log e is stands =
-        stands_noted v s d.client moment k log new (told_by (s.records d.client) d from (max now s.clock) g' u k) state now st
+        stands_noted v s d.client moment k log new (sent_by_tick (s.records d.client) d from (max now s.clock) g' u k) state now st
         (puts_well v s d new n.was n.is _ st unique n.puts
-        (subst (λ (x : RecordView). IsKept x (told_by (s.records d.client) d from (max now s.clock) g' u k)) (sym is)
+        (subst (λ (x : RecordView). IsKept x (sent_by_tick (s.records d.client) d from (max now s.clock) g' u k)) (sym is)
         (informed g g' u k e)))
         stands m
 
     go : Notes (fitted n.was d) v.state d from moment t n.is state
         → Comes s from bytes now (answered (Ok t))
         (record v { state = state; input = v.input || nat_lt 0 t.taken; clock = moment; records = new })
-    go (noted_piece g e none is same) =
+    go (noted_fragment g e none is same) =
         subst (λ (x : Taking). Comes s from bytes now (answered (Ok x))
         (record v { state = state; input = v.input || nat_lt 0 x.taken; clock = moment; records = new })) (sym none)
-        (piece d g text (comes ∙ e) refl (record {
+        (fragment d g text (comes ∙ e) refl (record {
           session = st.session;
           log = subst (λ (x : SessionView). SessionStands x s.size s.log) (sym same) st.log;
           made = st.made;
@@ -290,7 +290,7 @@ after_noted v s from bytes d now moment t new state st text admits m unique n = 
         put_well =
             puts_well v s d new n.was n.is _ st unique n.puts
             (subst (λ (x : RecordView). IsKept x (heard_from (s.records d.client) d from (max now s.clock) g)) (sym is) (heard g))
-    go (told g whole u e says is done) =
+    go (instruction g whole u e says is done) =
         acts_told (subst (λ (x : RecordView). TakesActs s.size s.log d.client (fresh_of x.taken u.first u.acts) t state) was
         (done s.size s.log st.log))
       where
@@ -357,13 +357,13 @@ none_noted v s from bytes d now fault st text admits (room free fits none) = go 
     was : entry_of (lookup (nat_eq d.client) v.records) ≡ kept_of (s.records d.client)
     was = entry_is v s d.client st
 
-    comes : coming s d ≡ coming_gathered (gather (entry_of (lookup (nat_eq d.client) v.records)).gathering (piece_of d))
+    comes : coming s d ≡ coming_gathered (gather (entry_of (lookup (nat_eq d.client) v.records)).gathering (fragment_of d))
     comes =
         coming_at v s d st admits (room_is v s d st free) (suits v s d st fits)
-        ∙ sym (ap (λ (x : RecordView). coming_gathered (gather x.gathering (piece_of d))) was)
+        ∙ sym (ap (λ (x : RecordView). coming_gathered (gather x.gathering (fragment_of d))) was)
 
     go : NotNoted (entry_of (lookup (nat_eq d.client) v.records)) d fault → Comes s from bytes now (answered (Err fault)) v
-    go (no_piece e why) =
+    go (no_fragment e why) =
         refused d fault text (comes ∙ ap coming_gathered e ∙ ap turned_away (sym why)) refl st
     go (not_read g whole why e says f) =
         unread d g whole why text (comes ∙ e) says (ap (λ x. stopped x 0) f) st

@@ -1,4 +1,4 @@
--- A tick goes through the records: each is prepared, then those after it are told, then it is settled.
+-- A tick goes through the records: each is prepared, then those after it are sent to, then it is settled.
 use Rattle.std.proofs.Common.{◌≡◌, ℕ, zero, suc, ◌+◌, ◌<◌, List, [], ◌∷◌, ◌++◌, length, map, take, drop, Option, Some, None, Bool, true, false, refl, sym, ap, ◌∙◌, cond, arith}
 use Rattle.std.specs.Prelude.{slice_get, ◌&&◌, ◌||◌}
 use Rattle.std.specs.List.{flat_map, list_any}
@@ -9,7 +9,7 @@ use Rattle.roam_world.specs.Moments.{is_spent}
 use Rattle.roam_world.specs.Texts.{Address}
 use Rattle.roam_world.proofs.Keeps.{not_past, or_left, or_right}
 use Rattle.roam_hub.specs.Servers.{RecordView}
-use Rattle.roam_hub.specs.Records.{letter, is_letter_spent, is_told, pieces_told, letters_for, settled_with, HasNumbersFor, held, texts_for, is_entry_spent, settled_entry}
+use Rattle.roam_hub.specs.Records.{fragments_due, is_instruction_spent, is_sent_to, fragments_sent, parcels_for, settled_with, HasNumbersFor, held, texts_for, is_entry_spent, settled_entry}
 
 -- ---- places
 
@@ -74,7 +74,7 @@ pub record IsAt (es : List (ℕ × RecordView)) (k x : ℕ) (v w : RecordView) (
   pub held : w ≡ held v n s now
 
 module _ (es : List (ℕ × RecordView)) (k x : ℕ) (v w : RecordView) (n : ℕ) (s : Screenshot) (now : ℕ) (at : IsAt es k x v w n s now) where
-  -- the records after the others were told
+  -- the records after the others were sent to
   rest_settled : (es2 : List (ℕ × RecordView)) → es2 ≡ take (k + 1) (set_value_at es k w)
       ++ map (settled_entry n s now) (drop (k + 1) (set_value_at es k w))
       → es2 ≡ take k es ++ (x, w) ∷ map (settled_entry n s now) (drop (suc k) es)
@@ -92,23 +92,23 @@ module _ (es : List (ℕ × RecordView)) (k x : ℕ) (v w : RecordView) (n : ℕ
       ap (λ (xs : List (ℕ × RecordView)). slice_get xs k) (rest_settled es2 e)
       ∙ get_seam es k (x, w) (x, v) (map (settled_entry n s now) (drop (suc k) es)) at.here
 
-  pub all_settled : (es2 : List (ℕ × RecordView)) (u : RecordView) (pieces : Option ℕ) → es2 ≡ take (k + 1) (set_value_at es k w)
+  pub all_settled : (es2 : List (ℕ × RecordView)) (u : RecordView) (fragments : Option ℕ) → es2 ≡ take (k + 1) (set_value_at es k w)
       ++ map (settled_entry n s now) (drop (k + 1) (set_value_at es k w))
-      → pieces ≡ pieces_told w now → u ≡ settled_with w pieces now
+      → fragments ≡ fragments_sent w now → u ≡ settled_with w fragments now
       → set_value_at es2 k u ≡ take k es ++ map (settled_entry n s now) (drop k es)
-  all_settled es2 u pieces e p f =
+  all_settled es2 u fragments e p f =
       ap (λ (xs : List (ℕ × RecordView)). set_value_at xs k u) (rest_settled es2 e)
       ∙ set_seam es k (x, w) (x, v) u (map (settled_entry n s now) (drop (suc k) es)) at.here
       ∙ ap (λ (y : RecordView). take k es ++ (x, y) ∷ map (settled_entry n s now) (drop (suc k) es))
-      (f ∙ (λ i. settled_with (at.held i) ((p ∙ ap (λ (z : RecordView). pieces_told z now) at.held) i) now))
+      (f ∙ (λ i. settled_with (at.held i) ((p ∙ ap (λ (z : RecordView). fragments_sent z now) at.held) i) now))
       ∙ sym (ap (λ (xs : List (ℕ × RecordView)). take k es ++ map (settled_entry n s now) xs) (drop_next es k (x, v) at.here))
 
-  pub all_told : (session : ℕ) (old between new : List (Address × List ℕ)) → between ≡ old ++ letters_for session now (x, w)
+  pub all_sent : (session : ℕ) (old between new : List (Address × List ℕ)) → between ≡ old ++ parcels_for session now (x, w)
       → new ≡ between ++ flat_map (texts_for session n s now) (drop (k + 1) (set_value_at es k w))
       → new ≡ old ++ flat_map (texts_for session n s now) (drop k es)
-  all_told session old between new e f =
+  all_sent session old between new e f =
       f ∙ ap (λ (ts : List (Address × List ℕ)). ts ++ flat_map (texts_for session n s now) (drop (k + 1) (set_value_at es k w))) e
-      ∙ ap (λ (y : RecordView). (old ++ letters_for session now (x, y)) ++ flat_map (texts_for session n s now)
+      ∙ ap (λ (y : RecordView). (old ++ parcels_for session now (x, y)) ++ flat_map (texts_for session n s now)
       (drop (k + 1) (set_value_at es k w))) at.held
       ∙ ap (λ (j : ℕ). (old ++ texts_for session n s now (x, v)) ++ flat_map (texts_for session n s now) (drop j (set_value_at es k w)))
       (next_is k)
@@ -142,16 +142,16 @@ set_nothing (e ∷ es) zero x v w at same =
 set_nothing (e ∷ es) (suc k) x v w at same = ap (λ (ys : List (ℕ × RecordView)). e ∷ ys) (set_nothing es k x v w at same)
 
 -- there are numbers for what goes to it
-pub has_numbers : (w : RecordView) (now : ℕ) → (is_told w now && is_letter_spent w) ≡ false → HasNumbersFor w (pieces_told w now)
-has_numbers w now e = go (is_told w now) e
+pub has_numbers : (w : RecordView) (now : ℕ) → (is_sent_to w now && is_instruction_spent w) ≡ false → HasNumbersFor w (fragments_sent w now)
+has_numbers w now e = go (is_sent_to w now) e
   where
-    go : (b : Bool) → (b && is_letter_spent w) ≡ false → HasNumbersFor w (cond b (Some (length (letter w))) None)
+    go : (b : Bool) → (b && is_instruction_spent w) ≡ false → HasNumbersFor w (cond b (Some (length (fragments_due w))) None)
     go false f = tt
     go true f =
-        let left = or_left (is_spent (w.instructions + 1) || is_spent (w.datagrams + length (letter w))) (is_spent w.taken) f in (
-          not_past (w.datagrams + length (letter w))
-              (or_right (is_spent (w.instructions + 1)) (is_spent (w.datagrams + length (letter w))) left),
-          not_past (w.instructions + 1) (or_left (is_spent (w.instructions + 1)) (is_spent (w.datagrams + length (letter w))) left),
+        let left = or_left (is_spent (w.instructions + 1) || is_spent (w.datagrams + length (fragments_due w))) (is_spent w.taken) f in (
+          not_past (w.datagrams + length (fragments_due w))
+              (or_right (is_spent (w.instructions + 1)) (is_spent (w.datagrams + length (fragments_due w))) left),
+          not_past (w.instructions + 1) (or_left (is_spent (w.instructions + 1)) (is_spent (w.datagrams + length (fragments_due w))) left),
         )
 
 -- ---- a record is as it was

@@ -11,7 +11,7 @@ use Rattle.roam_cells.specs.declared.faults.Fault.TheVariants.{OutOfMemory, Spen
 use Rattle.roam_screens.specs.Screenshot.{Screenshot, IsScreenshot}
 use Rattle.roam_sync.specs.Senders.{Sending, sent_at}
 use Rattle.roam_wire.specs.declared.datagrams.Kind.TheVariants.{ToClient}
-use Rattle.roam_wire.specs.Cutting.{pieces_of}
+use Rattle.roam_wire.specs.Cutting.{fragments_of}
 use Rattle.roam_wire.specs.Datagrams.{DatagramValue, datagram_text}
 use Rattle.roam_wire.specs.Instructions.{down_text}
 use Rattle.roam_session.specs.Faces.{face}
@@ -24,10 +24,10 @@ use Rattle.roam_world.proofs.Keeps.{or_left}
 use Rattle.roam_world.specs.Numbers.{cut, screen, first_screen}
 use Rattle.roam_world.specs.Texts.{Address, datagrams_of}
 use Rattle.roam_world.specs.Servers.{Record, no_record, Server, moment}
-use Rattle.roam_world.specs.Ticks.{makes, cuts_after, number_after, screen_after, screen_to, holds_after, sends, down_from, down_to, pieces_to, after_sent, ticked, datagrams_to, is_record_spent, Parcel, parcel, parcels_to, sent_by, after_tick}
+use Rattle.roam_world.specs.Ticks.{makes, cuts_after, number_after, screen_after, screen_to, holds_after, sends, down_from, down_to, fragments_to, after_sent, ticked, datagrams_to, is_record_spent, Parcel, parcel, parcels_to, sent_by, after_tick}
 use Rattle.roam_hub.specs.declared.addresses.Addr.{Addr}
 use Rattle.roam_hub.specs.Servers.{RecordView, ServerView, kept_of, IsKept, AreKept, Stands, parcels_of, parcel_text, is_ack_spent, is_number_spent, Ticks, spent, ticked as did_tick, no_memory}
-use Rattle.roam_hub.specs.Records.{bare, is_told, pieces_told, settled_with, held, texts_for, is_entry_spent, settled_entry, makes_at, told_by, ticked_by, is_any_spent}
+use Rattle.roam_hub.specs.Records.{bare, is_sent_to, fragments_sent, settled_with, held, texts_for, is_entry_spent, settled_entry, makes_at, sent_by_tick, ticked_by, is_any_spent}
 
 -- ---- one record
 
@@ -36,7 +36,7 @@ unfolding holds_after
 holds_is r n s now known = ap (λ b. holds_after (record (bare (kept_of r)) { known = b }) n s now) (sym known)
 
 sends_is : (r : Record) (n : ℕ) (s : Screenshot) (now : ℕ) → r.known ≡ true
-    → is_told (held (kept_of r) n s now) now ≡ sends r n (seen_by r.version s) now
+    → is_sent_to (held (kept_of r) n s now) now ≡ sends r n (seen_by r.version s) now
 unfolding sends
 sends_is r n s now known =
     (λ i. (sym known i && nat_lt now (r.heard_at + 60000))
@@ -52,12 +52,12 @@ texts_are : (session id : ℕ) (r : Record) (n : ℕ) (s : Screenshot) (now : �
     ≡ map parcel_text (map (parcel r.address) (datagrams_to session id r n (seen_by r.version s) now))
 texts_are session id r n s now known =
     (λ i. cond (sends_is r n s now known i) (map (λ d. (r.address, datagram_text d)) (datagrams_of r.version ToClient session id r.datagrams
-    (length r.instructions + 1) (pieces_of (down_text (down_from r.version (holds_is r n (seen_by r.version s) now known i) r.taken))))) [])
+    (length r.instructions + 1) (fragments_of (down_text (down_from r.version (holds_is r n (seen_by r.version s) now known i) r.taken))))) [])
     ∙ go (sends r n (seen_by r.version s) now)
   where
     ds : List DatagramValue
     ds =
-        datagrams_of r.version ToClient session id r.datagrams (length r.instructions + 1) (pieces_to r n (seen_by r.version s) now)
+        datagrams_of r.version ToClient session id r.datagrams (length r.instructions + 1) (fragments_to r n (seen_by r.version s) now)
 
     go : (b : Bool) → cond b (map (λ d. (r.address, datagram_text d)) ds) [] ≡ map parcel_text (map (parcel r.address) (cond b ds []))
     go true = map_parcel r.address ds
@@ -69,10 +69,10 @@ spent_is : (id : ℕ) (r : Record) (n : ℕ) (s : Screenshot) (now : ℕ) → r.
     ≡ (is_record_spent r n (seen_by r.version s) now || (sends r n (seen_by r.version s) now && is_spent r.taken))
 spent_is id r n s now known =
     (λ i. sends_is r n s now known i && (is_spent (length r.instructions + 1)
-    || is_spent (r.datagrams + length (pieces_of (down_text (down_from r.version (holds_is r n (seen_by r.version s) now known i) r.taken))))
+    || is_spent (r.datagrams + length (fragments_of (down_text (down_from r.version (holds_is r n (seen_by r.version s) now known i) r.taken))))
     || is_spent r.taken))
     ∙ split (sends r n (seen_by r.version s) now)
-    (is_spent (length r.instructions + 1) || is_spent (r.datagrams + length (pieces_to r n (seen_by r.version s) now)))
+    (is_spent (length r.instructions + 1) || is_spent (r.datagrams + length (fragments_to r n (seen_by r.version s) now)))
     (is_spent r.taken)
   where
     split : (a b c : Bool) → (a && (b || c)) ≡ ((a && b) || (a && c))
@@ -81,7 +81,7 @@ spent_is id r n s now known =
 
 -- what is kept of it
 kept_ticked : (r : Record) (n : ℕ) (s : Screenshot) (now : ℕ) → r.known ≡ true
-    → IsKept (settled_with (held (kept_of r) n s now) (pieces_told (held (kept_of r) n s now) now) now)
+    → IsKept (settled_with (held (kept_of r) n s now) (fragments_sent (held (kept_of r) n s now) now) now)
     (ticked r n (seen_by r.version s) now)
 kept_ticked r n s now known =
     subst (λ (v : RecordView). IsKept v (ticked r n seen now)) (sym same) (go (sends r n seen now))
@@ -89,16 +89,16 @@ kept_ticked r n s now known =
     seen : Screenshot
     seen = seen_by r.version s
 
-    same : settled_with (held (kept_of r) n s now) (pieces_told (held (kept_of r) n s now) now) now
+    same : settled_with (held (kept_of r) n s now) (fragments_sent (held (kept_of r) n s now) now) now
         ≡ settled_with (record (kept_of r) { sender = holds_after r n seen now })
-        (cond (sends r n seen now) (Some (length (pieces_to r n seen now))) None) now
+        (cond (sends r n seen now) (Some (length (fragments_to r n seen now))) None) now
     same =
         λ i. settled_with (record (kept_of r) { sender = holds_is r n seen now known i })
-        (cond (sends_is r n s now known i) (Some (length (pieces_of (down_text (down_from r.version
+        (cond (sends_is r n s now known i) (Some (length (fragments_of (down_text (down_from r.version
         (holds_is r n seen now known i) r.taken))))) None) now
 
     go : (b : Bool) → IsKept (settled_with (record (kept_of r) { sender = holds_after r n seen now })
-        (cond b (Some (length (pieces_to r n seen now))) None) now)
+        (cond b (Some (length (fragments_to r n seen now))) None) now)
         (cond b (after_sent r n seen now) (record r { sender = holds_after r n seen now }))
     go true =
         record {
@@ -107,7 +107,7 @@ kept_ticked r n s now known =
               (λ i. record (kept_of r) {
                 sender = sent_at (holds_after r n seen now) now;
                 owed = None;
-                datagrams = r.datagrams + length (pieces_to r n seen now);
+                datagrams = r.datagrams + length (fragments_to r n seen now);
                 instructions = sym (length-append r.instructions (down_to r n seen now ∷ [])) i;
               });
         }
@@ -139,7 +139,7 @@ kept_settled : (n : ℕ) (s : Screenshot) (now : ℕ) (es : List (ℕ × RecordV
     → AreKept (map (settled_entry n s now) es) (λ id. ticked (records id) n (seen_by (records id).version s) now)
 kept_settled n s now [] records k = tt
 kept_settled n s now (e ∷ es) records k = (
-  subst (λ (v : RecordView). IsKept (settled_with (held v n s now) (pieces_told (held v n s now) now) now)
+  subst (λ (v : RecordView). IsKept (settled_with (held v n s now) (fragments_sent (held v n s now) now) now)
       (ticked (records e.0) n (seen_by (records e.0).version s) now))
       (sym k.0.kept) (kept_ticked (records e.0) n s now k.0.known),
   kept_settled n s now es records k.1,
@@ -225,7 +225,7 @@ module _ (v : ServerView) (s : Server) (n : ℕ) (sc : Screenshot) (m : ℕ) (st
       ∙ ap (λ b. seen_by w (cond b first_screen (face s.size (take (cut (cuts_after s m) (number_after s m)) s.log)))) some
       ∙ sym (ap (λ b. cond b first_screen (seen_by w (face s.size (take (cut (cuts_after s m) (number_after s m)) s.log)))) some)
 
-  parcels_are : told_by v n sc m ≡ map parcel_text (sent_by s m)
+  parcels_are : sent_by_tick v n sc m ≡ map parcel_text (sent_by s m)
   parcels_are =
       (λ i. flat_map (texts_for (st.session i) (e i) sc m) v.records)
       ∙ all_texts s.session (number_after s m) sc m v.records s.records st.records
@@ -349,18 +349,18 @@ module _ (v : ServerView) (s : Server) (now m : ℕ) (st : Stands v s) (at : m �
         || list_any (is_ack_spent s m) s.arrival) none_made
         ∙ sym (spent_are v s v.made v.screen m st number_told screen_told some_told)
 
-    pub ticks_told : (r : Result (Vec (Addr × Vec ℕ Global) Global) Fault) (new : ServerView)
-        → IfOk r (λ all. parcels_of all.items ≡ told_by v v.made v.screen m)
+    pub ticks_sent : (r : Result (Vec (Addr × Vec ℕ Global) Global) Fault) (new : ServerView)
+        → IfOk r (λ all. parcels_of all.items ≡ sent_by_tick v v.made v.screen m)
         → OnOk r (new ≡ record (ticked_by v v.made v.screen m) { clock = m })
         → OnOk r (is_any_spent v v.made v.screen m ≡ false)
         → IfErr r (λ fault. (fault ≡ OutOfMemory) ⊎ ((fault ≡ Spent) × (is_any_spent v v.made v.screen m ≡ true)))
         → OnErr r (new ≡ v) → Ticks s now r new
-    ticks_told (Ok all) new texts is free fault err =
+    ticks_sent (Ok all) new texts is free fault err =
         ticks_at s now m all new at_moment (spent_told ∙ free)
         (texts ∙ parcels_are v s v.made v.screen m st number_told screen_told some_told)
         (subst (λ (x : ServerView). Stands x (after_tick s m)) (sym is)
         (stands_told v s v.made v.screen m st number_told screen_told some_told none_made refl refl))
-    ticks_told (Err why) new texts is free fault err =
+    ticks_sent (Err why) new texts is free fault err =
         elim fault [
           | inl memory ↦ no_memory (ap (λ x. Err x) memory) (subst (λ (x : ServerView). Stands x s) (sym err) st)
           | inr full ↦
@@ -401,7 +401,7 @@ module _ (v : ServerView) (s : Server) (now m : ℕ) (st : Stands v s) (at : m �
         || spent_are v s (v.made + 1) (face s.size s.log) m st number_made face_made some_made i)
 
     pub ticks_made : (r : Result (Vec (Addr × Vec ℕ Global) Global) Fault) (new : ServerView)
-        → IfOk r (λ all. (parcels_of all.items ≡ told_by v (v.made + 1) (face s.size s.log) m)
+        → IfOk r (λ all. (parcels_of all.items ≡ sent_by_tick v (v.made + 1) (face s.size s.log) m)
         × (new ≡ record (ticked_by v (v.made + 1) (face s.size s.log) m) {
           state = keeping (face s.size s.log) v.state;
           made = v.made + 1;

@@ -11,13 +11,13 @@ use Rattle.roam_wire.specs.declared.versions.Version.{Version}
 use Rattle.roam_wire.specs.declared.versions.Version.TheVariants.{One, Two}
 use Rattle.roam_wire.specs.Versions.{version_numbered}
 use Rattle.roam_wire.specs.Datagrams.{DatagramValue, datagram_text}
-use Rattle.roam_wire.specs.Headers.{header_at, kind_tagged, piece_fault, kind_unless, version_unless, checked, datagram_with, datagram_if, datagram_at}
+use Rattle.roam_wire.specs.Headers.{header_at, kind_tagged, fragment_fault, kind_unless, version_unless, checked, datagram_with, datagram_if, datagram_at}
 use Rattle.roam_wire.specs.Gatherers.{Gathering}
 use Rattle.roam_wire.specs.Instructions.{UpValue}
 use Rattle.roam_wire.proofs.Heads.{again}
 use Rattle.roam_world.specs.Texts.{Address, is_watching, SaysUp}
 use Rattle.roam_world.specs.Servers.{Server, moment}
-use Rattle.roam_world.specs.Comings.{new_acts, after_acts, after_note, room_for}
+use Rattle.roam_world.specs.ServerArrivals.{new_acts, after_acts, after_note, room_for}
 use Rattle.roam_world.specs.Laws.{IsSameBut}
 use Rattle.roam_world.proofs.Follows.{fresh_none, same_acts}
 use Rattle.roam_world.proofs.Members.{put_other}
@@ -25,7 +25,7 @@ use Rattle.roam_world.proofs.Runs.{reach_low}
 use Rattle.roam_hub.specs.Clients.{IsTextOf}
 use Rattle.roam_hub.specs.declared.addresses.Stop.{Stop}
 use Rattle.roam_hub.specs.declared.taking.Taking.{Taking}
-use Rattle.roam_hub.specs.Servers.{ServerView, Stands, stopped, Comes, no_datagram, refused, piece, unread, all_taken, no_room, no_memory_at_act, no_memory, ComesFromWatcher, taken_in, TakesNothing, IsStopAtAct}
+use Rattle.roam_hub.specs.Servers.{ServerView, Stands, stopped, Comes, no_datagram, refused, fragment, unread, all_taken, no_room, no_memory_at_act, no_memory, ComesFromWatcher, taken_in, TakesNothing, IsStopAtAct}
 use Rattle.roam_hub.specs.Records.{answered}
 
 -- ---- bytes
@@ -51,7 +51,7 @@ tagged bytes rest p e = go (nat_eq (header_at bytes).magic 0x524D) (version_numb
     go false o f = absurd (cc)
     go true None f = absurd (cc)
     go true (Some v) f =
-        kind_told (header_at bytes).kind v (piece_fault v (header_at bytes) rest) (kind_tagged v (header_at bytes).kind) p refl f
+        kind_told (header_at bytes).kind v (fragment_fault v (header_at bytes) rest) (kind_tagged v (header_at bytes).kind) p refl f
 
 tells : (bytes : List ℕ) (d : DatagramValue) → datagram_at bytes ≡ Ok d → Tells bytes d
 tells bytes d e = go (nat_lt (length bytes) 42) (checked (header_at bytes) (length (drop 42 bytes))) refl e
@@ -114,7 +114,7 @@ module _ (s : Server) (from : Address) (bytes : List ℕ) (now : ℕ) (result : 
   pub takes_nothing : Comes s from bytes now result new → TakesNothing s bytes result new
   takes_nothing (no_datagram why is r st) = as_it_was (ap taken_in r) st
   takes_nothing (refused d fault is e r st) = as_it_was (ap taken_in r) st
-  takes_nothing (piece d g is e r st) =
+  takes_nothing (fragment d g is e r st) =
       record {
         none = ap taken_in r;
         left = after_note s d from (moment s now) g;

@@ -21,8 +21,8 @@ use Rattle.roam_world.specs.Moments.{is_spent}
 use Rattle.roam_wire.specs.declared.versions.Version.{Version}
 use Rattle.roam_world.specs.Versions.{applied_by}
 use Rattle.roam_world.specs.Clients.{Client as ClientOf, moment_of, after_typed}
-use Rattle.roam_world.specs.Arrivals.{Hearing, IsPart, IsOld, IsGap, IsNew, sent_back, kept, fulfilled, arriving, after_piece, step_of, hearing_of, after_whole}
-use Rattle.roam_world.specs.Sendings.{is_client_due, is_client_spent, pieces_from, datagrams_from, after_sending, after_quiet}
+use Rattle.roam_world.specs.ClientArrivals.{Hearing, IsPart, IsOld, IsGap, IsNew, sent_back, kept, fulfilled, arriving, after_fragment, step_of, hearing_of, after_whole}
+use Rattle.roam_world.specs.Sendings.{is_client_due, is_client_spent, fragments_from, datagrams_from, after_sending, after_quiet}
 use Rattle.roam_hub.specs.declared.clients.Heard.{Heard}
 use Rattle.roam_hub.specs.declared.clients.Heard.TheVariants as heard
 
@@ -87,12 +87,12 @@ bare v =
 -- the datagrams of the instruction that it would send
 abbrev pub datagrams_by : ClientView → List DatagramValue
 datagrams_by v =
-    datagrams_of v.version (kind_from v.watches) v.session v.id v.datagrams (v.instructions + 1) (pieces_from (bare v))
+    datagrams_of v.version (kind_from v.watches) v.session v.id v.datagrams (v.instructions + 1) (fragments_from (bare v))
 
 -- a number that sending needs would be past the last
 abbrev pub is_view_spent : ClientView → Bool
 is_view_spent v =
-    is_spent (v.acts.acked + 1) || is_spent (v.instructions + 1) || is_spent (v.datagrams + length (pieces_from (bare v)))
+    is_spent (v.acts.acked + 1) || is_spent (v.instructions + 1) || is_spent (v.datagrams + length (fragments_from (bare v)))
 
 -- what is answered to a datagram, as the definitions name it
 abbrev pub hearing_in : Heard → Hearing
@@ -110,9 +110,9 @@ pub data Types (session id : ℕ) (c : ClientOf) (act : Act) (result : Result (U
       → Stands new session id (after_typed c act) → Types session id c act result new
   no_memory : result ≡ Err OutOfMemory → Stands new session id c → Types session id c act result new
 
--- an instruction's text was read and told to a receiver of a version: what it made of it, whether its new number is above its old one, and
+-- an instruction's text was read and delivered to a receiver of a version: what it made of it, whether its new number is above its old one, and
 -- the acts then
-pub record Told (version : Version) (text : List ℕ) (old : Typing) (r : Receiving Screenshot) (answer : Step) (owes : Bool) (new : Typing)
+pub record Delivered (version : Version) (text : List ℕ) (old : Typing) (r : Receiving Screenshot) (answer : Step) (owes : Bool) (new : Typing)
     (r' : Receiving Screenshot) : Type 0 where
   pub value : DownValue
   pub says : SaysDown text value
@@ -121,13 +121,13 @@ pub record Told (version : Version) (text : List ℕ) (old : Typing) (r : Receiv
   pub newer : owes ≡ nat_lt value.old value.new
   pub acts : new ≡ acked_to old value.acked
 
--- why a text can't be told: it is none; its change is bad; or memory is wanting
-pub data NotTold (version : Version) (text : List ℕ) (r : Receiving Screenshot) (fault : Fault) : Type 0 where
-  unread : (why : Reason) → SaysNoDown text why → fault ≡ BadDatagram why → NotTold version text r fault
+-- why a text can't be delivered: it is none; its change is bad; or memory is wanting
+pub data NotDelivered (version : Version) (text : List ℕ) (r : Receiving Screenshot) (fault : Fault) : Type 0 where
+  unread : (why : Reason) → SaysNoDown text why → fault ≡ BadDatagram why → NotDelivered version text r fault
   bad_change : (v : DownValue) (base : Screenshot) → SaysDown text v → step_for r v.old v.new v.floor ≡ step.New
       → state_at v.old (pairs r) ≡ Some base → applied_by version base v.change ≡ None
-      → fault ≡ BadChange → NotTold version text r fault
-  no_memory : fault ≡ OutOfMemory → NotTold version text r fault
+      → fault ≡ BadChange → NotDelivered version text r fault
+  no_memory : fault ≡ OutOfMemory → NotDelivered version text r fault
 
 -- bytes are no datagram, and why
 pub record IsNoDatagram (bytes : List ℕ) (why : Reason) : Type 0 where
@@ -147,8 +147,8 @@ pub data Hears (session id : ℕ) (c : ClientOf) (bytes : List ℕ) (now : ℕ) 
       → Hears session id c bytes now result new
   refused : (d : DatagramValue) (fault : Fault) → IsTextOf bytes d → arriving session id c d ≡ sent_back fault
       → result ≡ Err fault → Stands new session id c → Hears session id c bytes now result new
-  piece : (d : DatagramValue) (h : Heard) (g : Gathering) → IsTextOf bytes d → arriving session id c d ≡ kept (hearing_in h) g
-      → result ≡ Ok h → Stands new session id (after_piece c (moment_of c now) g) → Hears session id c bytes now result new
+  fragment : (d : DatagramValue) (h : Heard) (g : Gathering) → IsTextOf bytes d → arriving session id c d ≡ kept (hearing_in h) g
+      → result ≡ Ok h → Stands new session id (after_fragment c (moment_of c now) g) → Hears session id c bytes now result new
   unread : (d : DatagramValue) (g : Gathering) (text : List ℕ) (why : Reason) → IsTextOf bytes d
       → arriving session id c d ≡ fulfilled g text → SaysNoDown text why
       → result ≡ Err (BadDatagram why) → Stands new session id c → Hears session id c bytes now result new

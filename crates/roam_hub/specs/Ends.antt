@@ -1,4 +1,4 @@
--- The two ends of a line of screens, in the version of their start: what they hold is told alike.
+-- The two ends of a link of screens, in the version of their start: what they hold is said alike.
 use Rattle.roam_screens.specs.Screenshot.{Screenshot}
 use Rattle.roam_sync.specs.Senders.{Sending}
 use Rattle.roam_sync.specs.Receivers.{Receiving}

@@ -15,16 +15,16 @@ use Rattle.roam_sync.specs.Senders.{acked, sent_at, is_due, withdrawn}
 use Rattle.roam_wire.specs.declared.datagrams.Kind.TheVariants.{ToClient}
 use Rattle.roam_wire.specs.declared.versions.Version.{Version}
 use Rattle.roam_wire.specs.Datagrams.{DatagramValue, datagram_text}
-use Rattle.roam_wire.specs.Gatherers.{Gathering, gather, piece_of}
+use Rattle.roam_wire.specs.Gatherers.{Gathering, gather, fragment_of}
 use Rattle.roam_wire.specs.Instructions.{UpValue, down_text}
-use Rattle.roam_wire.specs.Cutting.{pieces_of}
+use Rattle.roam_wire.specs.Cutting.{fragments_of}
 use Rattle.roam_session.specs.Sessions.{SessionSize, Entry, Did}
 use Rattle.roam_session.specs.Stands.{SessionView, Stands as SessionStands}
 use Rattle.roam_world.specs.Moments.{has_passed, is_overdue, owed_from, is_spent, frame_interval}
 use Rattle.roam_world.specs.Texts.{Address, is_watching, SaysUp, SaysNoUp, datagrams_of}
 use Rattle.roam_world.specs.Versions.{is_same_version, seen_by}
 use Rattle.roam_world.specs.Servers.{Record, no_record}
-use Rattle.roam_world.specs.Comings.{noted, completed, coming_gathered, reach, is_same, most_of}
+use Rattle.roam_world.specs.ServerArrivals.{noted, completed, coming_gathered, reach, is_same, most_of}
 use Rattle.roam_world.specs.Ticks.{is_live, holds_after, down_from}
 use Rattle.roam_hub.specs.Servers.{RecordView, ServerView, kept_of, stopped}
 use Rattle.roam_hub.specs.declared.addresses.Stop.{Stop}
@@ -113,17 +113,17 @@ informed_by v d from now g u n =
 -- before.
 pub data Notes (old : RecordView) (before : SessionView) (d : DatagramValue) (from : Address) (now : ℕ) (t : Taking) (new : RecordView)
     (after : SessionView) : Type 0 where
-  piece : (g : Gathering) → coming_gathered (gather old.gathering (piece_of d)) ≡ noted g → t ≡ taking 0 None
+  fragment : (g : Gathering) → coming_gathered (gather old.gathering (fragment_of d)) ≡ noted g → t ≡ taking 0 None
       → new ≡ heard_by old d from now g → after ≡ before → Notes old before d from now t new after
-  told : (g : Gathering) (text : List ℕ) (u : UpValue) → coming_gathered (gather old.gathering (piece_of d)) ≡ completed g text
+  instruction : (g : Gathering) (text : List ℕ) (u : UpValue) → coming_gathered (gather old.gathering (fragment_of d)) ≡ completed g text
       → SaysUp (is_watching d.kind) text u → new ≡ informed_by old d from now (if is_some t.stopped then old.gathering else g) u t.taken
       → ((size : SessionSize) (log : List Entry) → SessionStands before size log
       → TakesActs size log d.client (fresh_of old.taken u.first u.acts) t after) → Notes old before d from now t new after
 
--- why nothing is noted: it is no piece of what is gathered; its instruction can't be read; or memory is wanting
+-- why nothing is noted: it is no fragment of what is gathered; its instruction can't be read; or memory is wanting
 pub data NotNoted (old : RecordView) (d : DatagramValue) (fault : Fault) : Type 0 where
-  no_piece : gather old.gathering (piece_of d) ≡ None → fault ≡ BadDatagram Fragment → NotNoted old d fault
-  unread : (g : Gathering) (text : List ℕ) (why : Reason) → coming_gathered (gather old.gathering (piece_of d)) ≡ completed g text
+  no_fragment : gather old.gathering (fragment_of d) ≡ None → fault ≡ BadDatagram Fragment → NotNoted old d fault
+  unread : (g : Gathering) (text : List ℕ) (why : Reason) → coming_gathered (gather old.gathering (fragment_of d)) ≡ completed g text
       → SaysNoUp (is_watching d.kind) text why → fault ≡ BadDatagram why → NotNoted old d fault
   no_memory : fault ≡ OutOfMemory → NotNoted old d fault
 
@@ -173,29 +173,29 @@ pub data NotNotedIn (old : List (ℕ × RecordView)) (d : DatagramValue) (fault 
 
 -- ---- a tick
 
--- the pieces of the instruction that its sender would tell
-abbrev pub letter : RecordView → List (List ℕ)
-letter v = pieces_of (down_text (down_from v.version v.sender v.taken))
+-- the fragments of the instruction that its sender would send
+abbrev pub fragments_due : RecordView → List (List ℕ)
+fragments_due v = fragments_of (down_text (down_from v.version v.sender v.taken))
 
 -- a number that sending it needs would be past the last
-abbrev pub is_letter_spent : RecordView → Bool
-is_letter_spent v = is_spent (v.instructions + 1) || is_spent (v.datagrams + length (letter v)) || is_spent v.taken
+abbrev pub is_instruction_spent : RecordView → Bool
+is_instruction_spent v = is_spent (v.instructions + 1) || is_spent (v.datagrams + length (fragments_due v)) || is_spent v.taken
 
 -- it is sent to: it was heard of late, and its sender is due or an answer is overdue
-abbrev pub is_told : RecordView → ℕ → Bool
-is_told v now = is_live (bare v) now && (is_due v.sender now || is_overdue v.owed now)
+abbrev pub is_sent_to : RecordView → ℕ → Bool
+is_sent_to v now = is_live (bare v) now && (is_due v.sender now || is_overdue v.owed now)
 
 -- how many datagrams go to it
-abbrev pub pieces_told : RecordView → ℕ → Option ℕ
-pieces_told v now = if is_told v now then Some (length (letter v)) else None
+abbrev pub fragments_sent : RecordView → ℕ → Option ℕ
+fragments_sent v now = if is_sent_to v now then Some (length (fragments_due v)) else None
 
 -- the datagrams of that instruction, for the start of an id
 abbrev pub datagrams_for : ℕ → ℕ × RecordView → List DatagramValue
-datagrams_for session e = datagrams_of e.1.version ToClient session e.0 e.1.datagrams (e.1.instructions + 1) (letter e.1)
+datagrams_for session e = datagrams_of e.1.version ToClient session e.0 e.1.datagrams (e.1.instructions + 1) (fragments_due e.1)
 
 -- their texts, each with where it goes
-abbrev pub letters_for : ℕ → ℕ → ℕ × RecordView → List (Address × List ℕ)
-letters_for session now e = if is_told e.1 now then map (λ d. (e.1.address, datagram_text d)) (datagrams_for session e) else []
+abbrev pub parcels_for : ℕ → ℕ → ℕ × RecordView → List (Address × List ℕ)
+parcels_for session now e = if is_sent_to e.1 now then map (λ d. (e.1.address, datagram_text d)) (datagrams_for session e) else []
 
 -- what is kept of it once so many datagrams were sent, or none
 abbrev pub settled_with : RecordView → Option ℕ → ℕ → RecordView
@@ -223,23 +223,23 @@ held_entry n s now e = (e.0, held e.1 n s now)
 
 -- what goes to its client start
 abbrev pub texts_for : ℕ → ℕ → Screenshot → ℕ → ℕ × RecordView → List (Address × List ℕ)
-texts_for session n s now e = letters_for session now (held_entry n s now e)
+texts_for session n s now e = parcels_for session now (held_entry n s now e)
 
 -- a number that this needs would be past the last
 abbrev pub is_entry_spent : ℕ → Screenshot → ℕ → ℕ × RecordView → Bool
-is_entry_spent n s now e = is_told (held e.1 n s now) now && is_letter_spent (held e.1 n s now)
+is_entry_spent n s now e = is_sent_to (held e.1 n s now) now && is_instruction_spent (held e.1 n s now)
 
 -- what is kept of it after the tick
 abbrev pub settled_entry : ℕ → Screenshot → ℕ → ℕ × RecordView → ℕ × RecordView
-settled_entry n s now e = (e.0, settled_with (held e.1 n s now) (pieces_told (held e.1 n s now) now) now)
+settled_entry n s now e = (e.0, settled_with (held e.1 n s now) (fragments_sent (held e.1 n s now) now) now)
 
 -- whether a number is made at a moment
 abbrev pub makes_at : ServerView → ℕ → Bool
 makes_at v now = v.made == 0 || (v.input && has_passed frame_interval v.made_at now)
 
 -- all that goes to client starts
-abbrev pub told_by : ServerView → ℕ → Screenshot → ℕ → List (Address × List ℕ)
-told_by v n s now = flat_map (texts_for v.session n s now) v.records
+abbrev pub sent_by_tick : ServerView → ℕ → Screenshot → ℕ → List (Address × List ℕ)
+sent_by_tick v n s now = flat_map (texts_for v.session n s now) v.records
 
 -- the server with what is kept of its records then
 abbrev pub ticked_by : ServerView → ℕ → Screenshot → ℕ → ServerView

@@ -4,14 +4,14 @@ ghost use Rattle.roam_acts.specs.Acts.{HasKey, IsInRange};
 ghost use Rattle.roam_wire.specs.Datagrams.{datagram_text, datagram_value};
 ghost use Rattle.roam_wire.specs.Cutting.{texts_of};
 ghost use Rattle.roam_screens.specs.Shown.{shown_by};
-ghost use Rattle.roam_wire.specs.Gatherers.{gather, piece_of};
+ghost use Rattle.roam_wire.specs.Gatherers.{gather, fragment_of};
 ghost use Rattle.roam_wire.specs.declared.versions.Version.TheVariants.{One, Two};
 ghost use Rattle.roam_world.specs.Sendings.{is_client_due, last_waiting};
 ghost use Rattle.roam_world.specs.Clients.{Client as ClientOf, new_client, shown_number, shown_screen};
 ghost use Rattle.roam_world.specs.Texts.{kind_from, is_to_server};
-ghost use Rattle.roam_world.specs.Arrivals.{sent_back, arriving, arriving_gathered, hearing_of};
+ghost use Rattle.roam_world.specs.ClientArrivals.{sent_back, arriving, arriving_gathered, hearing_of};
 ghost use Rattle.roam_hub.specs.Ends.{version_in, receiving_in};
-ghost use Rattle.roam_hub.specs.Clients.{Stands, Types, Told, NotTold, Hears, Sends, bare, datagrams_by, hearing_in, is_view_spent};
+ghost use Rattle.roam_hub.specs.Clients.{Stands, Types, Delivered, NotDelivered, Hears, Sends, bare, datagrams_by, hearing_in, is_view_spent};
 
 use crate::ends::AnyReceiver;
 use crate::moments::{HEARTBEAT, RESEND_AFTER, has_passed, is_overdue, owed_after};
@@ -31,10 +31,10 @@ use std::marker::Model;
 /// What a datagram was to a client start.
 #[derive(Clone, Copy, Debug, PartialEq, Eq)]
 pub enum Heard {
-    /// A piece of an instruction of which others are missing.
+    /// A fragment of an instruction of which others are missing.
     Part,
 
-    /// Nothing that isn't known: the piece was there, or a higher instruction has come since, or the screen isn't newer.
+    /// Nothing that isn't known: the fragment was there, or a higher instruction has come since, or the screen isn't newer.
     Old,
 
     /// Its change starts at a screen that isn't here.
@@ -129,7 +129,7 @@ fn is_to_client(kind: Kind) -> bool
 // Whether a datagram is for a start of this id in this session, and of its version.
 fn admit(session: u64, id: u64, version: Version, datagram: &Datagram) -> Result<(), Fault>
     ensures ok { OnOk result ((c : ClientOf) → c.version ≡ version → arriving session id c (datagram_value datagram.now)
-        ≡ arriving_gathered (gather c.gathering (piece_of (datagram_value datagram.now)))) }
+        ≡ arriving_gathered (gather c.gathering (fragment_of (datagram_value datagram.now)))) }
     ensures err { IfErr result (λ fault. (c : ClientOf) → c.version ≡ version
         → arriving session id c (datagram_value datagram.now) ≡ sent_back fault) }
 {
@@ -149,16 +149,16 @@ fn admit(session: u64, id: u64, version: Version, datagram: &Datagram) -> Result
 }
 
 // What the receiver makes of an instruction's text, and whether its new number is above its old one; what it acknowledges goes to the acts.
-fn tell(
+fn deliver(
     alloc: Global,
     acts: &mut ActSender,
     receiver: &mut AnyReceiver,
     text: &[u8],
 ) -> Result<(Step, bool), Fault>
-    ensures told { IfOk result (λ t. Told (version_in receiver.old) text.now acts.old (receiving_in receiver.old) t.0 t.1 acts.new
+    ensures delivered { IfOk result (λ t. Delivered (version_in receiver.old) text.now acts.old (receiving_in receiver.old) t.0 t.1 acts.new
         (receiving_in receiver.new)) }
     ensures version { version_in receiver.new ≡ version_in receiver.old }
-    ensures fault { IfErr result (λ fault. NotTold (version_in receiver.old) text.now (receiving_in receiver.old) fault) }
+    ensures fault { IfErr result (λ fault. NotDelivered (version_in receiver.old) text.now (receiving_in receiver.old) fault) }
     ensures acts { OnErr result (acts.new ≡ acts.old) }
     ensures receiver { OnErr result (receiver.new ≡ receiver.old) }
 {
@@ -255,7 +255,7 @@ impl Client {
     }
 
     /// Takes the bytes of a datagram that came at a moment. Refuses `BadDatagram` for bytes that are no datagram to a client; then
-    /// `OtherSession`; `OtherClient`; `BadDatagram` for one of the other version, and for a piece or an instruction that is none;
+    /// `OtherSession`; `OtherClient`; `BadDatagram` for one of the other version, and for a fragment or an instruction that is none;
     /// `BadChange`; `OutOfMemory`. A refusal leaves the start as it was.
     pub fn datagram(&mut self, alloc: Global, bytes: &[u8], now: u64) -> Result<Heard, Fault>
         ensures heard { (session id : ℕ) (c : ClientOf) → Stands self.old session id c
@@ -275,7 +275,7 @@ impl Client {
                 Ok(Heard::Old)
             }
             Gathered::Whole(text) => {
-                match tell(alloc, &mut self.acts, &mut self.receiver, text.as_slice()) {
+                match deliver(alloc, &mut self.acts, &mut self.receiver, text.as_slice()) {
                     Err(fault) => {
                         self.gatherer.untake();
                         Err(fault)

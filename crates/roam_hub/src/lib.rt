@@ -2,16 +2,16 @@
 #![tactic(auto)]
 
 pub mod addresses;
-mod arrivals;
 pub mod clients;
 mod ends;
+mod known;
 mod limits;
 mod moments;
 mod packing;
 mod records;
+mod sending;
 pub mod servers;
 mod taking;
-mod telling;
 
 pub use addresses::{Addr, Stop};
 pub use clients::{Client, Heard};

@@ -1,6 +1,6 @@
 //! The datagrams of an instruction.
 ghost use Rattle.std.specs.Prelude.{◌≡◌, ◌+◌, ◌≤◌, ◌<◌, ◌^◌, ◌⊎◌, length, map, true, false, ◌||◌, IfOk, IfErr, IsOkUnless};
-ghost use Rattle.roam_wire.specs.Cutting.{AreSendable, pieces_of, texts_of};
+ghost use Rattle.roam_wire.specs.Cutting.{AreSendable, fragments_of, texts_of};
 ghost use Rattle.roam_wire.specs.Datagrams.{IsDatagram, datagram_text};
 ghost use Rattle.roam_wire.specs.Versions.{most_bytes};
 ghost use Rattle.roam_wire.specs.declared.datagrams.Kind.TheVariants.{FromWatcher};
@@ -27,7 +27,7 @@ pub(crate) struct Heading {
     pub id: u64,
 }
 
-// The text of the datagram with the piece of an index.
+// The text of the datagram with the fragment of an index.
 fn datagram(
     alloc: Global,
     heading: Heading,
@@ -55,24 +55,24 @@ fn datagram(
     write_datagram(alloc, &datagram)
 }
 
-// The texts of the datagrams with these pieces, in their order.
-fn datagrams(alloc: Global, heading: Heading, pieces: Vec<Vec<u8>>) -> Result<Vec<Vec<u8>>, Fault>
-    requires sendable { AreSendable heading.version (texts_of pieces.items) }
+// The texts of the datagrams with these fragments, in their order.
+fn datagrams(alloc: Global, heading: Heading, fragments: Vec<Vec<u8>>) -> Result<Vec<Vec<u8>>, Fault>
+    requires sendable { AreSendable heading.version (texts_of fragments.items) }
     requires kind { heading.kind ≡ FromWatcher → heading.version ≡ Two }
     requires session { heading.session < 2 ^ 64 }
     requires client { heading.client < 2 ^ 64 }
     requires low { 1 ≤ heading.id }
     requires high { heading.id < number_limit }
-    requires numbers { heading.before + length pieces.items < number_limit }
+    requires numbers { heading.before + length fragments.items < number_limit }
     ensures written { IfOk result (λ all. texts_of all.items ≡ map datagram_text (datagrams_of heading.version heading.kind
-        heading.session heading.client heading.before heading.id (texts_of pieces.items))) }
+        heading.session heading.client heading.before heading.id (texts_of fragments.items))) }
     ensures fault { IsOkUnless result Fault.OutOfMemory }
 {
-    let count = pieces.len() as u16;
-    let mut all = Vec::with_capacity(alloc, pieces.len())?;
-    for piece in pieces {
+    let count = fragments.len() as u16;
+    let mut all = Vec::with_capacity(alloc, fragments.len())?;
+    for fragment in fragments {
         let index = all.len() as u16;
-        all.push(datagram(alloc, heading, index, count, piece)?)?;
+        all.push(datagram(alloc, heading, index, count, fragment)?)?;
     }
     Ok(all)
 }
@@ -87,14 +87,14 @@ pub(crate) fn packed(alloc: Global, heading: Heading, text: &[u8]) -> Result<Vec
     requires low { 1 ≤ heading.id }
     requires before { heading.before < number_limit }
     ensures written { IfOk result (λ all. texts_of all.items ≡ map datagram_text (datagrams_of heading.version heading.kind
-        heading.session heading.client heading.before heading.id (pieces_of text.now))) }
-    ensures fit { IfOk result (λ _. (is_spent heading.id || is_spent (heading.before + length (pieces_of text.now))) ≡ false) }
+        heading.session heading.client heading.before heading.id (fragments_of text.now))) }
+    ensures fit { IfOk result (λ _. (is_spent heading.id || is_spent (heading.before + length (fragments_of text.now))) ≡ false) }
     ensures fault { IfErr result (λ fault. (fault ≡ Fault.OutOfMemory) ⊎ ((fault ≡ Fault.Spent)
-        × ((is_spent heading.id || is_spent (heading.before + length (pieces_of text.now))) ≡ true))) }
+        × ((is_spent heading.id || is_spent (heading.before + length (fragments_of text.now))) ≡ true))) }
 {
-    let pieces = cut(alloc, text, heading.version)?;
-    if heading.id >= NUMBER_LIMIT || heading.before + pieces.len() as u64 >= NUMBER_LIMIT {
+    let fragments = cut(alloc, text, heading.version)?;
+    if heading.id >= NUMBER_LIMIT || heading.before + fragments.len() as u64 >= NUMBER_LIMIT {
         return Err(Fault::Spent);
     }
-    Ok(datagrams(alloc, heading, pieces)?)
+    Ok(datagrams(alloc, heading, fragments)?)
 }

@@ -7,11 +7,11 @@ ghost use Rattle.roam_wire.specs.Datagrams.{datagram_text, datagram_value};
 ghost use Rattle.roam_wire.specs.Gatherers.{untaken};
 ghost use Rattle.roam_world.specs.Moments.{is_overdue, owed_from, forget_after};
 ghost use Rattle.roam_world.specs.Texts.{is_watching as is_watching_kind};
-ghost use Rattle.roam_world.specs.Comings.{is_same as are_same};
+ghost use Rattle.roam_world.specs.ServerArrivals.{is_same as are_same};
 ghost use Rattle.roam_world.specs.Versions.{is_same_version as are_same_version};
 ghost use Rattle.roam_hub.specs.Ends.{version_of, sending_of};
 ghost use Rattle.roam_hub.specs.Servers.{address_of, parcels_of};
-ghost use Rattle.roam_hub.specs.Records.{first_record, Fits, IsOther, Notes, NotHeard, is_letter_spent, is_told, pieces_told, datagrams_for, letters_for, settled_with, HasNumbersFor, back_from, held, is_entry_spent};
+ghost use Rattle.roam_hub.specs.Records.{first_record, Fits, IsOther, Notes, NotHeard, is_instruction_spent, is_sent_to, fragments_sent, datagrams_for, parcels_for, settled_with, HasNumbersFor, back_from, held, is_entry_spent};
 ghost use Rattle.roam_acts.specs.Limits.{number_limit};
 ghost use Rattle.roam_sync.specs.Limits.{most_held};
 
@@ -45,7 +45,7 @@ pub struct Record {
     instructions: u64,
 }
 
-/// What a tick tells: the session's id, the newest number, and the moment.
+/// What a tick sends: the session's id, the newest number, and the moment.
 #[derive(Clone, Copy)]
 pub struct News {
     pub session: u64,
@@ -57,7 +57,7 @@ pub struct News {
 #[derive(Clone, Copy)]
 pub struct Prepared {
     offered: bool,
-    pieces: Option<u64>,
+    fragments: Option<u64>,
 }
 
 impl Model for Record {
@@ -94,7 +94,7 @@ fn source(latest: u64, address: Addr, number: u64, from: Addr) -> Addr
     if latest < number { from } else { address }
 }
 
-// Takes the last piece back, where its instruction's acts stopped.
+// Takes the last fragment back, where its instruction's acts stopped.
 fn keep_unless(gatherer: &mut Gatherer, stopped: bool)
     ensures kept { gatherer.new.current ≡ (if stopped then (untaken gatherer.old).current else gatherer.old.current) }
 {
@@ -112,8 +112,8 @@ fn may_be_offered(sender: &AnySender, heard_at: u64, number: u64, now: u64) -> b
 }
 
 // Whether a start is sent to: it was heard of late, and its sender is due or an answer is overdue.
-fn is_told(sender: &AnySender, heard_at: u64, owed: Option<u64>, now: u64) -> bool
-    ensures told { result ≡ (nat_lt now (heard_at + forget_after) && (is_due (sending_of sender.now) now || is_overdue owed now)) }
+fn is_sent_to(sender: &AnySender, heard_at: u64, owed: Option<u64>, now: u64) -> bool
+    ensures sent_to { result ≡ (nat_lt now (heard_at + forget_after) && (is_due (sending_of sender.now) now || is_overdue owed now)) }
 {
     is_heard(heard_at, now) && (sender.due(now) || is_overdue(owed, now))
 }
@@ -226,7 +226,7 @@ impl Record {
     }
 
     /// Takes a datagram that came from an address at a moment, and does the new acts of an instruction that it makes whole. Refuses one of
-    /// another version, then one of another kind, then a piece or an instruction that is none, and want of memory before an act; then the
+    /// another version, then one of another kind, then a fragment or an instruction that is none, and want of memory before an act; then the
     /// record and the session are as before.
     pub fn hear(
         &mut self,
@@ -309,21 +309,21 @@ impl Record {
         requires session { session < 2 ^ 64 }
         requires client { client < 2 ^ 64 }
         ensures written { IfOk result (λ all. texts_of all.items ≡ map datagram_text (datagrams_for session (client, self.now))) }
-        ensures fit { OnOk result (is_letter_spent self.now ≡ false) }
+        ensures fit { OnOk result (is_instruction_spent self.now ≡ false) }
         ensures fault { IfErr result (λ fault. (fault ≡ Fault.OutOfMemory)
-            ⊎ ((fault ≡ Fault.Spent) × (is_letter_spent self.now ≡ true))) }
+            ⊎ ((fault ≡ Fault.Spent) × (is_instruction_spent self.now ≡ true))) }
     {
         let acked = self.taker.taken();
         if acked >= NUMBER_LIMIT {
             return Err(Fault::Spent);
         }
-        let told = self.sender.instruction(alloc)?;
+        let update = self.sender.instruction(alloc)?;
         let down = Down {
-            old: told.old,
-            new: told.new,
-            floor: told.floor,
+            old: update.old,
+            new: update.new,
+            floor: update.floor,
             acked,
-            change: told.change,
+            change: update.change,
         };
         let text = write_down(alloc, &down)?;
         let heading = Heading {
@@ -338,7 +338,7 @@ impl Record {
     }
 
     // Adds the texts of the datagrams to it, each with its address, where it is sent to, and tells how many.
-    fn tell(
+    fn send(
         &self,
         alloc: Global,
         news: News,
@@ -347,20 +347,20 @@ impl Record {
     ) -> Result<Option<u64>, Fault>
         requires session { news.session < 2 ^ 64 }
         requires client { client < 2 ^ 64 }
-        ensures pieces { IfOk result (λ pieces. pieces ≡ pieces_told self.now news.now) }
+        ensures fragments { IfOk result (λ fragments. fragments ≡ fragments_sent self.now news.now) }
         ensures parcels { OnOk result (parcels_of parcels.new.items ≡ parcels_of parcels.old.items
-            ++ letters_for news.session news.now (client, self.now)) }
-        ensures fit { OnOk result ((is_told self.now news.now && is_letter_spent self.now) ≡ false) }
+            ++ parcels_for news.session news.now (client, self.now)) }
+        ensures fit { OnOk result ((is_sent_to self.now news.now && is_instruction_spent self.now) ≡ false) }
         ensures fault { IfErr result (λ fault. (fault ≡ Fault.OutOfMemory)
-            ⊎ ((fault ≡ Fault.Spent) × ((is_told self.now news.now && is_letter_spent self.now) ≡ true))) }
+            ⊎ ((fault ≡ Fault.Spent) × ((is_sent_to self.now news.now && is_instruction_spent self.now) ≡ true))) }
     {
-        if !is_told(&self.sender, self.heard_at, self.owed, news.now) {
+        if !is_sent_to(&self.sender, self.heard_at, self.owed, news.now) {
             return Ok(None);
         }
         let texts = self.instruction(alloc, news.session, client)?;
-        let pieces = texts.len() as u64;
+        let fragments = texts.len() as u64;
         address(self.address, texts, parcels)?;
-        Ok(Some(pieces))
+        Ok(Some(fragments))
     }
 
     /// Offers the newest number with its screen where it may be needed, and adds the texts of the datagrams to the client start, each
@@ -380,9 +380,9 @@ impl Record {
         requires client { client < 2 ^ 64 }
         requires kept { IfSome kept.old (λ old. old ≡ narrow screen.now) }
         ensures held { OnOk result (self.new ≡ held self.old news.number screen.now news.now) }
-        ensures pieces { IfOk result (λ p. p.pieces ≡ pieces_told self.new news.now) }
+        ensures fragments { IfOk result (λ p. p.fragments ≡ fragments_sent self.new news.now) }
         ensures parcels { OnOk result (parcels_of parcels.new.items ≡ parcels_of parcels.old.items
-            ++ letters_for news.session news.now (client, self.new)) }
+            ++ parcels_for news.session news.now (client, self.new)) }
         ensures several { IfOk result (λ p. IsTrue p.offered → 2 ≤ count self.new.sender) }
         ensures back { IfOk result (λ p. back_from self.new p.offered ≡ self.old) }
         ensures low { (newest self.old.sender).number < number_limit }
@@ -394,8 +394,8 @@ impl Record {
     {
         let _invariant = &self.heard_at;
         let offered = self.offer(alloc, news.number, screen, kept, news.now)?;
-        match self.tell(alloc, news, client, parcels) {
-            Ok(pieces) => Ok(Prepared { offered, pieces }),
+        match self.send(alloc, news, client, parcels) {
+            Ok(fragments) => Ok(Prepared { offered, fragments }),
             Err(fault) => {
                 self.take_back(offered);
                 Err(fault)
@@ -414,15 +414,15 @@ impl Record {
 
     /// Notes that what `prepare` added is sent at a moment.
     pub fn settle(&mut self, prepared: Prepared, now: u64)
-        requires numbers { HasNumbersFor self.old prepared.pieces }
-        ensures settled { self.new ≡ settled_with self.old prepared.pieces now }
+        requires numbers { HasNumbersFor self.old prepared.fragments }
+        ensures settled { self.new ≡ settled_with self.old prepared.fragments now }
     {
-        let Some(pieces) = prepared.pieces else {
+        let Some(fragments) = prepared.fragments else {
             return;
         };
         self.sender.sent(now);
         self.owed = None;
-        self.datagrams += pieces;
+        self.datagrams += fragments;
         self.instructions += 1;
     }
 }

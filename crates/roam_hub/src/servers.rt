@@ -13,16 +13,16 @@ ghost use Rattle.roam_world.specs.Moments.{is_spent};
 ghost use Rattle.roam_world.specs.Servers.{Server as ServerOf, new_server};
 ghost use Rattle.roam_wire.specs.Datagrams.{datagram_value};
 ghost use Rattle.roam_world.specs.Texts.{is_to_server as is_to_server_kind};
-ghost use Rattle.roam_world.specs.Comings.{coming, turned_away};
+ghost use Rattle.roam_world.specs.ServerArrivals.{coming, turned_away};
 ghost use Rattle.roam_hub.specs.Servers.{Stands, Feeds, Drains, Comes, Ticks, ComesFromWatcher, TakesNothing, IsStopAtAct, address_of, parcels_of};
-ghost use Rattle.roam_hub.specs.Records.{answered, makes_at, told_by, ticked_by, is_any_spent};
+ghost use Rattle.roam_hub.specs.Records.{answered, makes_at, sent_by_tick, ticked_by, is_any_spent};
 
 use crate::addresses::{Addr, Stop};
-use crate::arrivals::hear_in;
+use crate::known::hear_in;
 use crate::moments::{FRAME_INTERVAL, has_passed};
 use crate::records::{News, Record};
 use crate::taking::Taking;
-use crate::telling::tell_from;
+use crate::sending::send_from;
 use indexmap::IndexMap;
 use roam_acts::limits::NUMBER_LIMIT;
 use roam_cells::{Fault, Reason};
@@ -172,7 +172,7 @@ impl Server {
     /// Takes the bytes of a datagram that came from an address at a moment, does the new acts of an instruction that it makes whole, in
     /// their order, and answers how many. Refuses `BadDatagram` for bytes that are no datagram to a server; `OtherSession`; of a client
     /// start that isn't known `ClientsFull` where 64 are known, or 16 where it only watches; of one that is known `BadDatagram` for
-    /// another version or another kind than its first datagram had; then `BadDatagram` for a piece or an instruction that is none;
+    /// another version or another kind than its first datagram had; then `BadDatagram` for a fragment or an instruction that is none;
     /// `OutOfMemory`; then nothing is changed. An act that finds its queue full (`Busy`) or no memory (`OutOfMemory`) stops there: this
     /// act and later ones aren't taken, all before stands, and the same datagram can bring the rest. Whatever its bytes, a datagram of a
     /// start that only watches takes no act, and leaves the session and what is kept of every other start as they were.
@@ -267,8 +267,8 @@ impl Server {
     }
 
     // A tick that makes no number.
-    fn tell(&mut self, alloc: Global, now: u64) -> Result<Vec<(Addr, Vec<u8>)>, Fault>
-        ensures told { IfOk result (λ all. parcels_of all.items ≡ told_by self.old self.old.made self.old.screen now) }
+    fn send_newest(&mut self, alloc: Global, now: u64) -> Result<Vec<(Addr, Vec<u8>)>, Fault>
+        ensures sent { IfOk result (λ all. parcels_of all.items ≡ sent_by_tick self.old self.old.made self.old.screen now) }
         ensures ticked { OnOk result (self.new ≡ record (ticked_by self.old self.old.made self.old.screen now) { clock = now }) }
         ensures fit { OnOk result (is_any_spent self.old self.old.made self.old.screen now ≡ false) }
         ensures fault { IfErr result (λ fault. (fault ≡ Fault.OutOfMemory) ⊎ ((fault ≡ Fault.Spent)
@@ -282,7 +282,7 @@ impl Server {
         };
         let mut parcels = Vec::new(alloc);
         let mut kept = None;
-        tell_from(
+        send_from(
             alloc,
             news,
             &self.screen,
@@ -296,9 +296,9 @@ impl Server {
     }
 
     // A tick that makes a number of the session's face.
-    fn make(&mut self, alloc: Global, now: u64) -> Result<Vec<(Addr, Vec<u8>)>, Fault>
+    fn number_face(&mut self, alloc: Global, now: u64) -> Result<Vec<(Addr, Vec<u8>)>, Fault>
         ensures made { IfOk result (λ all. (s : ServerOf) → Stands self.old s
-            → (parcels_of all.items ≡ told_by self.old (self.old.made + 1) (face s.size s.log) now)
+            → (parcels_of all.items ≡ sent_by_tick self.old (self.old.made + 1) (face s.size s.log) now)
             × (self.new ≡ record (ticked_by self.old (self.old.made + 1) (face s.size s.log) now) {
               state = keeping (face s.size s.log) self.old.state;
               made = self.old.made + 1;
@@ -327,7 +327,7 @@ impl Server {
         };
         let mut parcels = Vec::new(alloc);
         let mut kept = None;
-        tell_from(
+        send_from(
             alloc,
             news,
             &screen,
@@ -355,9 +355,9 @@ impl Server {
     {
         let moment = now.max(self.clock);
         if self.makes(moment) {
-            self.make(alloc, moment)
+            self.number_face(alloc, moment)
         } else {
-            self.tell(alloc, moment)
+            self.send_newest(alloc, moment)
         }
     }
 }

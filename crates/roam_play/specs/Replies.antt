@@ -2,7 +2,7 @@
 use Rattle.std.specs.Prelude.{ℕ, zero, suc, ◌+◌, List, ◌++◌, codes, decimal}
 use Rattle.roam_cells.specs.declared.faults.Fault.{Fault}
 use Rattle.roam_cells.specs.declared.faults.Fault.TheVariants.{OutOfMemory, BadSize, TooSmall, NoPane, PanesFull, LastPane, Busy, TooLong, BadDatagram, OtherSession, OtherClient, ClientsFull, BadChange, SendFull, Spent, BadAct, Watching}
-use Rattle.roam_world.specs.Arrivals.{Hearing, IsPart, IsOld, IsGap, IsNew}
+use Rattle.roam_world.specs.ClientArrivals.{Hearing, IsPart, IsOld, IsGap, IsNew}
 use Rattle.roam_world.specs.Worlds.{Reply, Done, Sent, Taken, Heard, Refused, Failed, Stopped}
 
 -- the numbers of the refusals

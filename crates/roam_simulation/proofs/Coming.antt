@@ -7,12 +7,12 @@ use Rattle.roam_cells.specs.declared.faults.Fault.{Fault}
 use Rattle.roam_wire.specs.Datagrams.{DatagramValue, IsDatagram, datagram_text}
 use Rattle.roam_world.specs.Texts.{Address}
 use Rattle.roam_world.specs.Servers.{moment}
-use Rattle.roam_world.specs.Comings.{after_note, after_acts, new_acts, room_for}
+use Rattle.roam_world.specs.ServerArrivals.{after_note, after_acts, new_acts, room_for}
 use Rattle.roam_world.specs.Clients.{Client, moment_of}
-use Rattle.roam_world.specs.Arrivals.{Hearing, after_piece, after_whole}
+use Rattle.roam_world.specs.ClientArrivals.{Hearing, after_fragment, after_whole}
 use Rattle.roam_world.specs.Limits.{Limits}
 use Rattle.roam_world.specs.Worlds.{World, ToServer, ToClient, Reply, Taken, Heard, Failed, Stopped, datagram_at, with_server, with_client}
-use Rattle.roam_world.specs.Steps.{refused, piece, unread, all_taken, no_room, no_memory_at_act, no_memory, bad_change, whole}
+use Rattle.roam_world.specs.Steps.{refused, fragment, unread, all_taken, no_room, no_memory_at_act, no_memory, bad_change, whole}
 use Rattle.roam_world.proofs.Runs.{was_sent}
 use Rattle.roam_hub.specs.declared.addresses.Stop.{Stop}
 use Rattle.roam_hub.specs.declared.clients.Heard.{Heard as HeardAs}
@@ -88,10 +88,10 @@ steps_come v w n from now bytes result view st l one known comes = go comes
     go (server.no_datagram why none e stands) = absurd (readable w n bytes why l s none)
     go (server.refused d fault text c e stands) =
         record { left = w; step = refused d fault (read d text) c (ap taken_by e) refl; stands = stands_serving v w view st stands }
-    go (server.piece d g text c e stands) =
+    go (server.fragment d g text c e stands) =
         record {
           left = with_server w (after_note w.server d from (moment w.server now) g);
-          step = piece d g (read d text) c (ap taken_by e) refl;
+          step = fragment d g (read d text) c (ap taken_by e) refl;
           stands = stands_served v w view (after_note w.server d from (moment w.server now) g) st refl stands;
         }
     go (server.unread d g said why text c says e stands) =
@@ -158,11 +158,11 @@ steps_heard v w slot n now bytes result c c' st l one known lt at hears = go (he
           step = refused i.id d fault i.at (read d text) a (ap heard_by e) refl;
           stands = stands_kept v w slot c c' st lt i stands;
         }
-    go (client.piece d h g text a e stands) =
+    go (client.fragment d h g text a e stands) =
         record {
-          left = with_client w i.id (after_piece (w.clients i.id) (moment_of (w.clients i.id) now) g);
-          step = piece i.id d (hearing_in h) g i.at (read d text) a (ap heard_by e) refl;
-          stands = stands_put v w slot c c' (after_piece (w.clients i.id) (moment_of (w.clients i.id) now) g) st lt i i.made stands;
+          left = with_client w i.id (after_fragment (w.clients i.id) (moment_of (w.clients i.id) now) g);
+          step = fragment i.id d (hearing_in h) g i.at (read d text) a (ap heard_by e) refl;
+          stands = stands_put v w slot c c' (after_fragment (w.clients i.id) (moment_of (w.clients i.id) now) g) st lt i i.made stands;
         }
     go (client.unread d g said why text a says e stands) =
         record {

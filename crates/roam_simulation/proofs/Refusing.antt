@@ -5,7 +5,7 @@ use Rattle.roam_acts.specs.declared.acts.Act.{Act}
 use Rattle.roam_session.specs.Sessions.{SessionSize}
 use Rattle.roam_world.specs.Texts.{Address}
 use Rattle.roam_world.specs.Worlds.{World, Event, PaneBytes, Typed, ServerTick, ClientTick, ToServer, ToClient, Start, Drain, Reply}
-use Rattle.roam_world.specs.Steps.{PaneBytesStep, DrainStep, TypedStep, ServerTickStep, ClientTickStep, ToServerStep, ToClientStep, StartStep, refused, taken, no_pane, too_many, gone, empty_slot, full, spent, typed, no_memory, ticked, quiet, sent, not_sent, piece, unread, all_taken, no_room, no_memory_at_act, bad_change, whole, used, started, watching, unfit, wstep}
+use Rattle.roam_world.specs.Steps.{PaneBytesStep, DrainStep, TypedStep, ServerTickStep, ClientTickStep, ToServerStep, ToClientStep, StartStep, refused, taken, no_pane, too_many, gone, empty_slot, full, spent, typed, no_memory, ticked, quiet, sent, not_sent, fragment, unread, all_taken, no_room, no_memory_at_act, bad_change, whole, used, started, watching, unfit, wstep}
 use Rattle.roam_simulation.specs.Worlds.{WorldView, IsRefusal, Stands, StandsFor, Steps}
 
 stays-pane_bytes : (w : World) (p : ℕ) (bytes : List ℕ) (r : Reply) (w' : World) → PaneBytesStep w p bytes r w' → IsRefusal r → w' ≡ w
@@ -41,7 +41,7 @@ stays-to_server : (w : World) (k : ℕ) (from : Address) (now : ℕ) (r : Reply)
     → w' ≡ w
 stays-to_server w k from now r w' (not_sent x e is) i = is
 stays-to_server w k from now r w' (refused d f x y e is) i = is
-stays-to_server w k from now r w' (piece d g x y e is) i = absurd (subst IsRefusal e i)
+stays-to_server w k from now r w' (fragment d g x y e is) i = absurd (subst IsRefusal e i)
 stays-to_server w k from now r w' (unread d g text why x y z e is) i = is
 stays-to_server w k from now r w' (all_taken d g text u x y z a e is) i = absurd (subst IsRefusal e i)
 stays-to_server w k from now r w' (no_room d g text u x y z a e is) i = absurd (subst IsRefusal e i)
@@ -52,7 +52,7 @@ stays-to_client : (w : World) (slot k now : ℕ) (r : Reply) (w' : World) → To
 stays-to_client w slot k now r w' (empty_slot x e is) i = is
 stays-to_client w slot k now r w' (not_sent x e is) i = is
 stays-to_client w slot k now r w' (refused id d f x y z e is) i = is
-stays-to_client w slot k now r w' (piece id d how g x y z e is) i = absurd (subst IsRefusal e i)
+stays-to_client w slot k now r w' (fragment id d how g x y z e is) i = absurd (subst IsRefusal e i)
 stays-to_client w slot k now r w' (unread id d g text why x y z a e is) i = is
 stays-to_client w slot k now r w' (bad_change id d g text v base x y z a b c d' e is) i = is
 stays-to_client w slot k now r w' (whole id d g text v q x y z a b e is) i = absurd (subst IsRefusal e i)

@@ -5,7 +5,7 @@ use Rattle.roam_wire.specs.Datagrams.{datagram_text}
 use Rattle.roam_session.specs.Sessions.{SessionSize}
 use Rattle.roam_world.specs.Lists.{IsIn}
 use Rattle.roam_world.specs.Clients.{Client}
-use Rattle.roam_world.specs.Arrivals.{IsGap}
+use Rattle.roam_world.specs.ClientArrivals.{IsGap}
 use Rattle.roam_world.specs.Worlds.{World, Event, ToClient, Reply, Done, Sent, Taken, Heard, Refused, Failed, Stopped}
 use Rattle.roam_world.specs.Steps.{wstep}
 use Rattle.roam_world.specs.Laws.{Reaches, TakesActsInOrder}

@@ -10,15 +10,15 @@ use Rattle.roam_sync.specs.declared.receivers.Step.TheVariants as step
 use Rattle.roam_sync.specs.Receivers.{Receiving, pairs, state_at, from_floor, step_for}
 use Rattle.roam_sync.specs.Lines.{Delivers}
 use Rattle.roam_sync.proofs.Ends.{meets_old}
-use Rattle.roam_wire.specs.Cutting.{pieces_of, joined}
+use Rattle.roam_wire.specs.Cutting.{fragments_of, joined}
 use Rattle.roam_wire.specs.Datagrams.{DatagramValue, IsDatagram, datagram_text}
-use Rattle.roam_wire.specs.Gatherers.{Piece, Gathering, Answer, Part, Old, Whole, gather, piece_of}
-use Rattle.roam_wire.specs.Pieces.{all_there}
-use Rattle.roam_wire.specs.Arrivals.{IsPieceOf, GathersOf, GathersWell, after}
+use Rattle.roam_wire.specs.Gatherers.{FragmentValue, Gathering, Answer, Part, Old, Whole, gather, fragment_of}
+use Rattle.roam_wire.specs.Fragments.{all_there}
+use Rattle.roam_wire.specs.AnyOrder.{IsFragmentOf, GathersOf, GathersWell, after}
 use Rattle.roam_wire.specs.Instructions.{DownValue, IsDown, down_text}
 use Rattle.roam_wire.specs.declared.versions.Version.{Version}
 use Rattle.roam_wire.proofs.Arrive.{well}
-use Rattle.roam_wire.proofs.Cuts.{joined-pieces}
+use Rattle.roam_wire.proofs.Cuts.{joined-fragments}
 use Rattle.roam_wire.proofs.Heads.{one_datagram}
 use Rattle.roam_wire.proofs.Texts.{one_down}
 use Rattle.roam_world.specs.Versions.{is_same_version, IsSeenBy, applied_by}
@@ -26,12 +26,12 @@ use Rattle.roam_world.specs.Lists.{IsIn}
 use Rattle.roam_world.specs.Texts.{SaysDown, update_in, is_to_server}
 use Rattle.roam_world.specs.Servers.{Record}
 use Rattle.roam_world.specs.Clients.{Client, moment_of}
-use Rattle.roam_world.specs.Arrivals.{Arriving, sent_back, kept, fulfilled, arriving, arriving_gathered, after_piece, after_whole}
+use Rattle.roam_world.specs.ClientArrivals.{Arriving, sent_back, kept, fulfilled, arriving, arriving_gathered, after_fragment, after_whole}
 use Rattle.roam_world.proofs.Versions.{is_same-refl, difference_leads}
 use Rattle.roam_world.proofs.Gathered.{gathered_all, AllOf, Comes, all_gathered_anew, IsPart, IsSame, is_part}
 use Rattle.roam_hub.specs.declared.clients.Heard.{Heard}
 use Rattle.roam_hub.specs.Clients.{ClientView, Stands, IsTextOf, hearing_in, Hears}
-use Rattle.roam_hub.specs.Clients.Hears.{no_datagram, refused, piece, unread, bad_change, whole, no_memory}
+use Rattle.roam_hub.specs.Clients.Hears.{no_datagram, refused, fragment, unread, bad_change, whole, no_memory}
 use Rattle.roam_turns.specs.Calls.{ClientCall, RunOf}
 use Rattle.roam_turns.specs.Calls.ClientCall.{Typed, ToClient, ClientTick}
 use Rattle.roam_turns.specs.Cores.{client_step}
@@ -40,7 +40,7 @@ use Rattle.roam_turns.proofs.HopTick.{told, IsOf}
 
 -- ---- whatever was gathered before was cut somehow
 
--- a piece for each place, an empty one where none came
+-- a fragment for each place, an empty one where none came
 abbrev pub filled : List (Option (List ℕ)) → List (List ℕ)
 filled [] = []
 filled (None ∷ ps) = [] ∷ filled ps
@@ -66,12 +66,12 @@ and_false false b e = refl
 some_is : {X : Type 0} (x y : X) → Some x ≡ Some y → x ≡ y
 some_is x y e = cc
 
-after_gathers : (cuts : ℕ → List (List ℕ)) (g : Gathering) (p : Piece) (x : Option (Answer × Gathering)) → GathersWell cuts g p x
+after_gathers : (cuts : ℕ → List (List ℕ)) (g : Gathering) (p : FragmentValue) (x : Option (Answer × Gathering)) → GathersWell cuts g p x
     → GathersOf cuts g → GathersOf cuts (after g x)
 after_gathers cuts g p None w is = is
 after_gathers cuts g p (Some (a, h)) w is = w.0
 
-finish : (cuts : ℕ → List (List ℕ)) (n : ℕ) (g : Gathering) (ps : List Piece) → AllOf cuts n ps → GathersOf cuts g → g.id < n
+finish : (cuts : ℕ → List (List ℕ)) (n : ℕ) (g : Gathering) (ps : List FragmentValue) → AllOf cuts n ps → GathersOf cuts g → g.id < n
     → ((i : ℕ) × Comes i ps) → ((i : ℕ) → i < length (cuts n) → Comes i ps)
     → (all_there (gathered_all g ps).pieces ≡ true) × ((gathered_all g ps).id ≡ n)
 finish cuts n g [] all of lt some each = absurd some.1
@@ -86,10 +86,10 @@ module _ (session id n : ℕ) (c : Client) (r : Record) (shot : Screenshot) (rea
   number = length r.instructions + 1
 
   abbrev pub pieces : List (List ℕ)
-  pieces = pieces_of (down_text (told r n shot))
+  pieces = fragments_of (down_text (told r n shot))
 
   abbrev pub cuts : ℕ → List (List ℕ)
-  cuts k = cond (nat_eq k (length r.instructions + 1)) (pieces_of (down_text (told r n shot))) (filled c.gathering.pieces)
+  cuts k = cond (nat_eq k (length r.instructions + 1)) (fragments_of (down_text (told r n shot))) (filled c.gathering.pieces)
 
   cuts_here : cuts number ≡ pieces
   cuts_here =
@@ -108,9 +108,9 @@ module _ (session id n : ℕ) (c : Client) (r : Record) (shot : Screenshot) (rea
 
   -- a datagram of it
   abbrev pub IsMine : DatagramValue → Type 0
-  IsMine d = IsOf r.version session id (length r.instructions + 1) (pieces_of (down_text (told r n shot))) d
+  IsMine d = IsOf r.version session id (length r.instructions + 1) (fragments_of (down_text (told r n shot))) d
 
-  piece_of_it : (d : DatagramValue) → IsMine d → IsPieceOf cuts (piece_of d)
+  piece_of_it : (d : DatagramValue) → IsMine d → IsFragmentOf cuts (fragment_of d)
   piece_of_it d o =
       let at : cuts d.id ≡ pieces = ap cuts o.number_is ∙ cuts_here in
       record { count = o.count_is ∙ ap length (sym at); there = ap (λ (xs : List (List ℕ)). slice_get xs d.index) at ∙ o.there }
@@ -133,23 +133,23 @@ module _ (session id n : ℕ) (c : Client) (r : Record) (shot : Screenshot) (rea
     of : GathersOf cuts x.gathering
     shows : Early x ⊎ Late x
 
-  -- what a piece leaves: the gatherer h, and where it came whole the instruction's text
+  -- what a fragment leaves: the gatherer h, and where it came whole the instruction's text
   abbrev Leaves : Gathering → Gathering → Arriving → Type 0
   Leaves old h (sent_back f) = ⊥
   Leaves old h (kept how g) = (g ≡ h) × (is_whole old ≡ false → is_whole g ≡ false)
   Leaves old h (fulfilled g text) = (g ≡ h) × (text ≡ down_text (told r n shot))
 
   gathered_leaves : (old : Gathering) (d : DatagramValue) → d.id ≡ length r.instructions + 1 → (x : Option (Answer × Gathering))
-      → GathersWell cuts old (piece_of d) x → IsPart x → IsSame old x → Leaves old (after old x) (arriving_gathered x)
+      → GathersWell cuts old (fragment_of d) x → IsPart x → IsSame old x → Leaves old (after old x) (arriving_gathered x)
   gathered_leaves old d at None g p s = absurd g
   gathered_leaves old d at (Some (Part, h)) g p s =
       (refl, (λ e. and_false (nat_eq h.id (length r.instructions + 1)) (all_there h.pieces) p))
   gathered_leaves old d at (Some (Old, h)) g p s = (refl, (λ e. ap is_whole s ∙ e))
   gathered_leaves old d at (Some (Whole text, h)) g p s =
-      (refl, g.2 ∙ (ap (λ (k : ℕ). joined (cuts k)) at ∙ (ap joined cuts_here ∙ joined-pieces (down_text (told r n shot)))))
+      (refl, g.2 ∙ (ap (λ (k : ℕ). joined (cuts k)) at ∙ (ap joined cuts_here ∙ joined-fragments (down_text (told r n shot)))))
 
   arriving_leaves : (x : Client) (d : DatagramValue) → Keeps x → IsMine d
-      → Leaves x.gathering (after x.gathering (gather x.gathering (piece_of d))) (arriving session id x d)
+      → Leaves x.gathering (after x.gathering (gather x.gathering (fragment_of d))) (arriving session id x d)
   arriving_leaves x d k is =
       go (is_to_server d.kind) (ap is_to_server is.kind_is) (nat_eq d.session session) (same d.session session is.session_is)
       (nat_eq d.client id) (same d.client id is.client_is) (is_same_version x.version d.version) fits
@@ -161,18 +161,18 @@ module _ (session id n : ℕ) (c : Client) (r : Record) (shot : Screenshot) (rea
       fits = ap (is_same_version x.version) (is.version_is ∙ (sym ready.version ∙ sym k.version)) ∙ is_same-refl x.version
 
       go : (a : Bool) → a ≡ false → (b : Bool) → b ≡ true → (e : Bool) → e ≡ true → (f : Bool) → f ≡ true
-          → Leaves x.gathering (after x.gathering (gather x.gathering (piece_of d)))
+          → Leaves x.gathering (after x.gathering (gather x.gathering (fragment_of d)))
           (cond a (sent_back (BadDatagram reason.Kind))
           (cond (not b) (sent_back OtherSession) (cond (not e) (sent_back OtherClient)
-          (cond (not f) (sent_back (BadDatagram reason.Version)) (arriving_gathered (gather x.gathering (piece_of d)))))))
+          (cond (not f) (sent_back (BadDatagram reason.Version)) (arriving_gathered (gather x.gathering (fragment_of d)))))))
       go true z b y e w f q = absurd (cc)
       go false z false y e w f q = absurd (cc)
       go false z true y false w f q = absurd (cc)
       go false z true y true w false q = absurd (cc)
       go false z true y true w true q =
-          let part = is_part x.gathering (piece_of d) in
-          gathered_leaves x.gathering d is.number_is (gather x.gathering (piece_of d))
-          (well cuts x.gathering (piece_of d) k.of (piece_of_it d is)) part.0 part.1
+          let part = is_part x.gathering (fragment_of d) in
+          gathered_leaves x.gathering d is.number_is (gather x.gathering (fragment_of d))
+          (well cuts x.gathering (fragment_of d) k.of (piece_of_it d is)) part.0 part.1
 
   -- ---- the update is taken
 
@@ -215,22 +215,22 @@ module _ (session id n : ℕ) (c : Client) (r : Record) (shot : Screenshot) (rea
     start : Client
     stands : Stands view session id start
     keeps : Keeps start
-    gathering : start.gathering ≡ after x.gathering (gather x.gathering (piece_of d))
+    gathering : start.gathering ≡ after x.gathering (gather x.gathering (fragment_of d))
 
   deliver : (x : Client) (d : DatagramValue) (bytes : List ℕ) (now : ℕ) (answer : Result Heard Fault) (new : ClientView) → Keeps x
       → IsDatagram d → IsMine d → bytes ≡ datagram_text d → ((answer ≡ Err OutOfMemory) → ⊥) → Hears session id x bytes now answer new
       → Delivered x d new
   deliver x d bytes now answer new k is mine spelled fine heard = go heard
     where
-      then_of : GathersOf cuts (after x.gathering (gather x.gathering (piece_of d)))
-      then_of = after_gathers cuts x.gathering (piece_of d) (gather x.gathering (piece_of d))
-          (well cuts x.gathering (piece_of d) k.of (piece_of_it d mine)) k.of
+      then_of : GathersOf cuts (after x.gathering (gather x.gathering (fragment_of d)))
+      then_of = after_gathers cuts x.gathering (fragment_of d) (gather x.gathering (fragment_of d))
+          (well cuts x.gathering (fragment_of d) k.of (piece_of_it d mine)) k.of
 
       leaves : (d' : DatagramValue) (a : Arriving) → IsTextOf bytes d' → arriving session id x d' ≡ a
-          → Leaves x.gathering (after x.gathering (gather x.gathering (piece_of d))) a
+          → Leaves x.gathering (after x.gathering (gather x.gathering (fragment_of d))) a
       leaves d' a t e =
           let same : d ≡ d' = one_datagram d d' is t.is (sym spelled ∙ t.spelled) in
-          subst (Leaves x.gathering (after x.gathering (gather x.gathering (piece_of d)))) (ap (arriving session id x) same ∙ e)
+          subst (Leaves x.gathering (after x.gathering (gather x.gathering (fragment_of d)))) (ap (arriving session id x) same ∙ e)
           (arriving_leaves x d k mine)
 
       says_it : (text : List ℕ) (u : DownValue) → text ≡ down_text (told r n shot) → SaysDown text u → u ≡ told r n shot
@@ -239,10 +239,10 @@ module _ (session id n : ℕ) (c : Client) (r : Record) (shot : Screenshot) (rea
       go : Hears session id x bytes now answer new → Delivered x d new
       go (no_datagram why none e st) = absurd (none.none d is spelled)
       go (refused d' f t a e st) = absurd (leaves d' (sent_back f) t a)
-      go (piece d' how g t a e st) =
+      go (fragment d' how g t a e st) =
           let p = leaves d' (kept (hearing_in how) g) t a in
           record {
-            start = after_piece x (moment_of x now) g;
+            start = after_fragment x (moment_of x now) g;
             stands = st;
             keeps = record {
               version = k.version;
@@ -321,7 +321,7 @@ module _ (session id n : ℕ) (c : Client) (r : Record) (shot : Screenshot) (rea
     start : Client
     stands : Stands view session id start
     keeps : Keeps start
-    ps : List Piece
+    ps : List FragmentValue
     all : AllOf cuts number ps
     gathering : start.gathering ≡ gathered_all x.gathering ps
     comes : (bytes : List ℕ) (now : ℕ) (answer : Result Heard Fault) (d : DatagramValue) → IsIn (ToClient bytes now answer) calls
@@ -354,7 +354,7 @@ module _ (session id n : ℕ) (c : Client) (r : Record) (shot : Screenshot) (rea
         start = rest.start;
         stands = rest.stands;
         keeps = rest.keeps;
-        ps = piece_of d ∷ rest.ps;
+        ps = fragment_of d ∷ rest.ps;
         all = (good.2.number_is, piece_of_it d good.2, rest.all);
         gathering = rest.gathering ∙ ap (λ (g : Gathering). gathered_all g rest.ps) one.gathering;
         comes = λ bytes' now' answer' d' i is e. elim i [
@@ -367,7 +367,7 @@ module _ (session id n : ℕ) (c : Client) (r : Record) (shot : Screenshot) (rea
         ];
       }
 
-  -- each piece comes: the start shows the number and the screen
+  -- each fragment comes: the start shows the number and the screen
   pub all_come : (old : ClientView) (calls : List ClientCall) (view : ClientView) → Stands old session id c
       → ((call : ClientCall) → IsIn call calls → IsGood call) → RunOf client_step old calls view → 0 < length pieces
       → ((i : ℕ) → i < length pieces → (d : DatagramValue) × IsDatagram d × (d.index ≡ i)

@@ -14,7 +14,7 @@ use Rattle.roam_screens.specs.Screenshot.{Screenshot}
 use Rattle.roam_sync.specs.declared.senders.Held.{Held}
 use Rattle.roam_sync.specs.Senders.{Sending, newest, offered, is_due}
 use Rattle.roam_sync.proofs.Sending.{newest_of_more}
-use Rattle.roam_wire.specs.Cutting.{pieces_of}
+use Rattle.roam_wire.specs.Cutting.{fragments_of}
 use Rattle.roam_wire.specs.Datagrams.{DatagramValue, IsDatagram, datagram_text}
 use Rattle.roam_wire.specs.Headers.{header_at, checked, datagram_if}
 use Rattle.roam_wire.specs.Instructions.{DownValue, IsDown, down_text}
@@ -33,7 +33,7 @@ use Rattle.roam_world.specs.Moments.{is_spent, is_overdue}
 use Rattle.roam_world.specs.Numbers.{screen}
 use Rattle.roam_world.specs.Texts.{Address, datagram_with, datagrams_of}
 use Rattle.roam_world.specs.Servers.{Record, no_record, Server, moment}
-use Rattle.roam_world.specs.Ticks.{makes, cuts_after, number_after, screen_to, is_live, is_offered, holds_after, sends, down_from, down_to, pieces_to, datagrams_to, is_record_spent, Parcel, parcel, parcels_to, sent_by, is_tick_spent}
+use Rattle.roam_world.specs.Ticks.{makes, cuts_after, number_after, screen_to, is_live, is_offered, holds_after, sends, down_from, down_to, fragments_to, datagrams_to, is_record_spent, Parcel, parcel, parcels_to, sent_by, is_tick_spent}
 use Rattle.roam_world.proofs.Versions.{change_short}
 use Rattle.roam_world.proofs.Members.{IsIn-map, IsIn-flat_map, IsIn-enumerate, slice_get-within}
 use Rattle.roam_world.proofs.Places.{map_here, flat_here}
@@ -231,12 +231,12 @@ module _ (r : Record) (n : ℕ) (shot : Screenshot) (now : ℕ) (e : is_offered 
 
   -- its datagrams are those of what it is told
   pub datagrams_then : (session id : ℕ) → datagrams_to session id r n shot now
-      ≡ datagrams_of r.version ToClient session id r.datagrams (length r.instructions + 1) (pieces_of (down_text (told r n shot)))
+      ≡ datagrams_of r.version ToClient session id r.datagrams (length r.instructions + 1) (fragments_of (down_text (told r n shot)))
   datagrams_then session id =
       ap (λ (b : Bool). cond b
-      (datagrams_of r.version ToClient session id r.datagrams (length r.instructions + 1) (pieces_to r n shot now)) [])
+      (datagrams_of r.version ToClient session id r.datagrams (length r.instructions + 1) (fragments_to r n shot now)) [])
       sends_then
-      ∙ ap (λ (v : DownValue). datagrams_of r.version ToClient session id r.datagrams (length r.instructions + 1) (pieces_of (down_text v)))
+      ∙ ap (λ (v : DownValue). datagrams_of r.version ToClient session id r.datagrams (length r.instructions + 1) (fragments_of (down_text v)))
       tells_then
 
 -- ---- the datagrams of an instruction
@@ -269,15 +269,15 @@ is_of version session id before number pieces d i =
 
 -- each has a text, where the numbers are within their limits
 pub are_datagrams : (v : Version) (session id before number : ℕ) (text : List ℕ) (d : DatagramValue) → session < 2 ^ 64 → id < 2 ^ 64
-    → 1 ≤ number → number < 2 ^ 62 → before + length (pieces_of text) < 2 ^ 62 → length text ≤ most_bytes v
-    → IsIn d (datagrams_of v ToClient session id before number (pieces_of text)) → IsDatagram d
+    → 1 ≤ number → number < 2 ^ 62 → before + length (fragments_of text) < 2 ^ 62 → length text ≤ most_bytes v
+    → IsIn d (datagrams_of v ToClient session id before number (fragments_of text)) → IsDatagram d
 are_datagrams v session id before number text d s c low high numbers short i =
-    let m = IsIn-map (datagram_with v ToClient session id before number (length (pieces_of text))) d
-    (enumerate_from 0 (pieces_of text)) i in
-    let n = IsIn-enumerate 0 (pieces_of text) m.0 m.1 in
+    let m = IsIn-map (datagram_with v ToClient session id before number (length (fragments_of text))) d
+    (enumerate_from 0 (fragments_of text)) i in
+    let n = IsIn-enumerate 0 (fragments_of text) m.0 m.1 in
     let at : m.0.0 ≡ n.0 = n.1 ∙ (let z : 0 + n.0 ≡ n.0 = omega arith in z) in
-    let lt : n.0 < length (pieces_of text) = slice_get-within (pieces_of text) n.0 m.0.1 n.2 in
-    let here : get_or (pieces_of text) n.0 [] ≡ m.0.1 = get_at (pieces_of text) n.0 m.0.1 n.2 in
+    let lt : n.0 < length (fragments_of text) = slice_get-within (fragments_of text) n.0 m.0.1 n.2 in
+    let here : get_or (fragments_of text) n.0 [] ≡ m.0.1 = get_at (fragments_of text) n.0 m.0.1 n.2 in
     let can = sendable_in v text short in
     let len = can.lengths n.0 lt in
     subst IsDatagram m.2 (record {
@@ -313,21 +313,21 @@ module _ (s : Server) (m id : ℕ) (makes_it : makes s m ≡ true) (unspent : is
       (sends_then (s.records id) (number_after s m) (screen_to s m id) m e)) ∙ none)
 
   record_unspent : (is_spent (length (s.records id).instructions + 1)
-      || is_spent ((s.records id).datagrams + length (pieces_to (s.records id) (number_after s m) (screen_to s m id) m))) ≡ false
+      || is_spent ((s.records id).datagrams + length (fragments_to (s.records id) (number_after s m) (screen_to s m id) m))) ≡ false
   record_unspent =
       let none = none_of (λ k. is_record_spent (s.records k) (number_after s m) (screen_to s m k) m) s.arrival id
       (or_right (makes s m && is_spent (number_after s m)) _ tick_unspent) there in
       sym (ap (λ (b : Bool). b && (is_spent (length (s.records id).instructions + 1)
-      || is_spent ((s.records id).datagrams + length (pieces_to (s.records id) (number_after s m) (screen_to s m id) m))))
+      || is_spent ((s.records id).datagrams + length (fragments_to (s.records id) (number_after s m) (screen_to s m id) m))))
       (sends_then (s.records id) (number_after s m) (screen_to s m id) m e)) ∙ none
 
   pub instruction_low : length (s.records id).instructions + 1 < 2 ^ 62
   instruction_low = not_past _ (or_left (is_spent (length (s.records id).instructions + 1)) _ record_unspent)
 
   pub datagrams_low : (s.records id).datagrams
-      + length (pieces_of (down_text (told (s.records id) (number_after s m) (screen_to s m id)))) < 2 ^ 62
+      + length (fragments_of (down_text (told (s.records id) (number_after s m) (screen_to s m id)))) < 2 ^ 62
   datagrams_low =
-      subst (λ (v : DownValue). (s.records id).datagrams + length (pieces_of (down_text v)) < 2 ^ 62)
+      subst (λ (v : DownValue). (s.records id).datagrams + length (fragments_of (down_text v)) < 2 ^ 62)
       (tells_then (s.records id) (number_after s m) (screen_to s m id) m e)
       (not_past _ (or_right (is_spent (length (s.records id).instructions + 1)) _ record_unspent))
 

@@ -5,13 +5,13 @@ use Rattle.std.specs.List.{enumerate_from}
 use Rattle.roam_cells.specs.declared.faults.Fault.{Fault}
 use Rattle.roam_screens.specs.Screenshot.{Screenshot, IsScreenshot}
 use Rattle.roam_paint.specs.Ground.{PaintedLeadsOver}
-use Rattle.roam_wire.specs.Cutting.{pieces_of}
+use Rattle.roam_wire.specs.Cutting.{fragments_of}
 use Rattle.roam_wire.specs.Datagrams.{DatagramValue, IsDatagram, datagram_text}
 use Rattle.roam_wire.specs.Instructions.{IsDown, down_text}
 use Rattle.roam_wire.specs.declared.datagrams.Kind.TheVariants.{ToClient as ToClientKind}
 use Rattle.roam_wire.specs.declared.versions.Version.{Version}
 use Rattle.roam_wire.specs.declared.versions.Version.TheVariants.{One, Two}
-use Rattle.roam_wire.proofs.Cuts.{pieces_of-step}
+use Rattle.roam_wire.proofs.Cuts.{fragments_of-step}
 use Rattle.roam_layout.specs.Layouts.{IsSessionSize}
 use Rattle.roam_session.specs.Sessions.{SessionSize, Entry}
 use Rattle.roam_session.specs.Faces.{face}
@@ -79,7 +79,7 @@ module _ (faces : (size : SessionSize) (log : List Entry) → IsSessionSize size
   -- the datagrams to the start
   abbrev mine : List DatagramValue
   mine = datagrams_of (s.records id).version ToClientKind s.session id (s.records id).datagrams (length (s.records id).instructions + 1)
-      (pieces_of (down_text (told (s.records id) (number_after s (moment s now)) (screen_to s (moment s now) id))))
+      (fragments_of (down_text (told (s.records id) (number_after s (moment s now)) (screen_to s (moment s now) id))))
 
   is_datagram : (d : DatagramValue) → IsIn d mine → IsDatagram d
   is_datagram d i =
@@ -101,7 +101,7 @@ module _ (faces : (size : SessionSize) (log : List Entry) → IsSessionSize size
             d.0,
             is_datagram d.0 i,
             is_of r.version s.session id r.datagrams (length r.instructions + 1)
-                (pieces_of (down_text (told r (number_after s m) shot))) d.0 i,
+                (fragments_of (down_text (told r (number_after s m) shot))) d.0 i,
             sym d.2,
             given.2,
           )
@@ -111,17 +111,17 @@ module _ (faces : (size : SessionSize) (log : List Entry) → IsSessionSize size
       → (at : ℕ) × (answer : Result Heard Fault) × IsIn (ToClient (datagram_text d) at answer) h.calls
   handed d i =
       let is = is_of r.version s.session id r.datagrams (length r.instructions + 1)
-      (pieces_of (down_text (told r (number_after s m) shot))) d i in
+      (fragments_of (down_text (told r (number_after s m) shot))) d i in
       let sent = is_sent s m id d there (subst (λ (ds : List DatagramValue). IsIn d ds)
       (sym (datagrams_then r (number_after s m) shot m h.offered s.session id)) i) in
       h.hands_over.all (datagram_text d) (subst (λ (xs : List (List ℕ)). IsIn (datagram_text d) xs) (sym texts.1) sent)
       (is_to d id is.client_is id_low)
 
-  each : (i : ℕ) → i < length (pieces_of (down_text (told r (number_after s m) shot)))
+  each : (i : ℕ) → i < length (fragments_of (down_text (told r (number_after s m) shot)))
       → (d : DatagramValue) × IsDatagram d × (d.index ≡ i)
       × (at : ℕ) × (answer : Result Heard Fault) × IsIn (ToClient (datagram_text d) at answer) h.calls
   each i lt =
-      let ps = pieces_of (down_text (told r (number_after s m) shot)) in
+      let ps = fragments_of (down_text (told r (number_after s m) shot)) in
       let x = some_at ps i lt in
       let z : 0 + i ≡ i = omega arith in
       let make = datagram_with r.version ToClientKind s.session id r.datagrams (length r.instructions + 1) (length ps) in
@@ -130,10 +130,10 @@ module _ (faces : (size : SessionSize) (log : List Entry) → IsSessionSize size
       let given = handed (make (i, x.0)) in_there in
       (make (i, x.0), is_datagram (make (i, x.0)) in_there, refl, given.0, given.1, given.2)
 
-  some : 0 < length (pieces_of (down_text (told r (number_after s m) shot)))
+  some : 0 < length (fragments_of (down_text (told r (number_after s m) shot)))
   some =
       let text = down_text (told r (number_after s m) shot) in
-      let step : pieces_of text ≡ take 1200 text ∷ pieces_of (drop 1200 text) = pieces_of-step text (omega arith) in
+      let step : fragments_of text ≡ take 1200 text ∷ fragments_of (drop 1200 text) = fragments_of-step text (omega arith) in
       subst (λ (ps : List (List ℕ)). 0 < length ps) (sym step) (omega arith)
 
   shows : (view.receiver.newest.number ≡ number_after s m) × (view.receiver.newest.state ≡ shot)

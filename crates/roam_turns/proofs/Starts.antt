@@ -20,7 +20,7 @@ use Rattle.roam_world.specs.Clients.{Client as ClientOf}
 use Rattle.roam_hub.specs.declared.clients.Heard.{Heard}
 use Rattle.roam_hub.specs.Clients.{ClientView, Stands, bare, Types, Hears, Sends}
 use Rattle.roam_hub.specs.Clients.Types.{watching, full, spent as typed_spent, typed, no_memory as typed_no_memory}
-use Rattle.roam_hub.specs.Clients.Hears.{no_datagram, refused, piece, unread, bad_change, whole, no_memory as heard_no_memory}
+use Rattle.roam_hub.specs.Clients.Hears.{no_datagram, refused, fragment, unread, bad_change, whole, no_memory as heard_no_memory}
 use Rattle.roam_hub.specs.Clients.Sends.{quiet, spent, sent, no_memory}
 use Rattle.roam_turns.specs.Painting.{Follows}
 
@@ -101,7 +101,7 @@ pub hears_follow : (session id : ℕ) (c : ClientOf) (bytes : List ℕ) (now : �
     new.receiver.newest.state
 hears_follow session id c bytes now result new (no_datagram why a b st) = same_follows c.receiver new.receiver (ap receiver_of st)
 hears_follow session id c bytes now result new (refused d f a b e st) = same_follows c.receiver new.receiver (ap receiver_of st)
-hears_follow session id c bytes now result new (piece d h g a b e st) = same_follows c.receiver new.receiver (ap receiver_of st)
+hears_follow session id c bytes now result new (fragment d h g a b e st) = same_follows c.receiver new.receiver (ap receiver_of st)
 hears_follow session id c bytes now result new (unread d g t w a b e f st) = same_follows c.receiver new.receiver (ap receiver_of st)
 hears_follow session id c bytes now result new (bad_change d g t v x a b e f h k l st) =
     same_follows c.receiver new.receiver (ap receiver_of st)

@@ -1,12 +1,12 @@
--- What a gatherer makes of pieces that were sent: it holds those of the highest id that arrived, and its answers follow.
+-- What a gatherer makes of fragments that were sent: it holds those of the highest id that arrived, and its answers follow.
 use Rattle.std.proofs.Common.{◌≡◌, ℕ, zero, suc, ◌+◌, ◌<◌, ◌≤◌, max, Bool, true, false, ◌||◌, ◌&&◌, cond, eqb, leb, ltb, List, [], ◌∷◌, ◌++◌, length, get_or, set, replicate, Option, Some, None, refl, sym, ap, subst, ◌∙◌, arith, inl, inr, ◌⊎◌}
 use Rattle.std.specs.Prelude.{is_some, slice_get}
 use Rattle.std.proofs.lemmas.Bool.{cases_Bool, eq-eqb, ne_eqb, eqb-true}
 use Rattle.std.proofs.lemmas.Bool.Decides.{nat_tests}
 use Rattle.roam_wire.specs.Cutting.{joined}
-use Rattle.roam_wire.specs.Pieces.{all_there, text_of}
-use Rattle.roam_wire.specs.Gatherers.{Piece, Gathering, nothing, Answer, Part, Old, Whole, gather, with_piece, answer_in}
-use Rattle.roam_wire.specs.Arrivals.{IsPieceOf, ArePiecesOf, after, gathered_of, highest, has_arrived, each_from, answer_to, GathersOf, GathersWell, IsCutText}
+use Rattle.roam_wire.specs.Fragments.{all_there, text_of}
+use Rattle.roam_wire.specs.Gatherers.{FragmentValue, Gathering, nothing, Answer, Part, Old, Whole, gather, with_fragment, answer_in}
+use Rattle.roam_wire.specs.AnyOrder.{IsFragmentOf, AreFragmentsOf, after, gathered_of, highest, has_arrived, each_from, answer_to, GathersOf, GathersWell, IsCutText}
 
 -- ---- those of some texts, numbered from k on, that came
 
@@ -85,27 +85,27 @@ within (y ∷ xs) (suc i) x e = let lt = within xs i x e in omega arith
 abbrev Cuts : Type 0
 Cuts = ℕ → List (List ℕ)
 
--- of the pieces that were cut under this id, those that came
+-- of the fragments that were cut under this id, those that came
 abbrev holds : Cuts → ℕ → (ℕ → Bool) → Gathering
-holds cuts id f = record { id = id; pieces = came_from 0 f (cuts id) }
+holds cuts id f = record { id = id; fragments = came_from 0 f (cuts id) }
 
 abbrev answered : Answer → Gathering → Option (Answer × Gathering)
 answered a g = Some (a, g)
 
-low_index : (cuts : Cuts) (p : Piece) → IsPieceOf cuts p → leb p.count p.index ≡ false
+low_index : (cuts : Cuts) (p : FragmentValue) → IsFragmentOf cuts p → leb p.count p.index ≡ false
 low_index cuts p of =
     let lt = within (cuts p.id) p.index p.payload of.there in
     let count = of.count in
     let less : p.index < p.count = omega (arith, lt, count) in
     grind (arith, nat_tests)
 
-step_lower : (cuts : Cuts) (m : ℕ) (f : ℕ → Bool) (p : Piece) → IsPieceOf cuts p → p.id < m → gather (holds cuts m f) p ≡ answered Old (holds cuts m f)
+step_lower : (cuts : Cuts) (m : ℕ) (f : ℕ → Bool) (p : FragmentValue) → IsFragmentOf cuts p → p.id < m → gather (holds cuts m f) p ≡ answered Old (holds cuts m f)
 step_lower cuts m f p of lt =
     let low : ltb p.id m ≡ true = grind (arith, nat_tests) in
     rw (low_index cuts p of, low) refl
 
--- what a new piece makes
-abbrev one_more : Cuts → Piece → (ℕ → Bool) → Option (Answer × Gathering)
+-- what a new fragment makes
+abbrev one_more : Cuts → FragmentValue → (ℕ → Bool) → Option (Answer × Gathering)
 one_more cuts p f = answered (cond (each_from 0 (length (cuts p.id)) f) (Whole (joined (cuts p.id))) Part) (holds cuts p.id f)
 
 answer_in-came : (f : ℕ → Bool) (ts : List (List ℕ)) → answer_in (came_from 0 f ts) ≡ cond (each_from 0 (length ts) f) (Whole (joined ts)) Part
@@ -116,24 +116,24 @@ answer_in-came f ts =
       | inr e ↦ rw (same, e) refl
     ]
 
-with_came : (cuts : Cuts) (f : ℕ → Bool) (p : Piece) → IsPieceOf cuts p → Some (with_piece (came_from 0 f (cuts p.id)) p) ≡ one_more cuts p (λ j. eqb (0 + p.index) j || f j)
+with_came : (cuts : Cuts) (f : ℕ → Bool) (p : FragmentValue) → IsFragmentOf cuts p → Some (with_fragment (came_from 0 f (cuts p.id)) p) ≡ one_more cuts p (λ j. eqb (0 + p.index) j || f j)
 with_came cuts f p of =
     let ts = cuts p.id in
     let g : ℕ → Bool = λ j. eqb (0 + p.index) j || f j in
     let put : set (came_from 0 f ts) p.index (Some p.payload) ≡ came_from 0 g ts = set_came 0 p.index f ts p.payload of.there in
-    ap (λ (ps : List (Option (List ℕ))). answered (answer_in ps) (record { id = p.id; pieces = ps })) put
+    ap (λ (ps : List (Option (List ℕ))). answered (answer_in ps) (record { id = p.id; fragments = ps })) put
     ∙ ap (λ (a : Answer). answered a (holds cuts p.id g)) (answer_in-came g ts)
 
-step_higher : (cuts : Cuts) (m : ℕ) (f : ℕ → Bool) (p : Piece) → IsPieceOf cuts p → m < p.id → gather (holds cuts m f) p ≡ one_more cuts p (λ j. eqb (0 + p.index) j || false)
+step_higher : (cuts : Cuts) (m : ℕ) (f : ℕ → Bool) (p : FragmentValue) → IsFragmentOf cuts p → m < p.id → gather (holds cuts m f) p ≡ one_more cuts p (λ j. eqb (0 + p.index) j || false)
 step_higher cuts m f p of lt =
     let low : ltb p.id m ≡ false = grind (arith, nat_tests) in
     let other : eqb p.id m ≡ false = grind (arith, nat_tests) in
     let high : ltb m p.id ≡ true = grind (arith, nat_tests) in
     let empty : replicate p.count None ≡ came_from 0 (λ j. false) (cuts p.id) = ap (λ n. replicate n None) of.count ∙ blank 0 (cuts p.id) in
     rw (low_index cuts p of, low, other, high)
-    (ap (λ (ps : List (Option (List ℕ))). Some (with_piece ps p)) empty ∙ with_came cuts (λ j. false) p of)
+    (ap (λ (ps : List (Option (List ℕ))). Some (with_fragment ps p)) empty ∙ with_came cuts (λ j. false) p of)
 
-step_there : (cuts : Cuts) (f : ℕ → Bool) (p : Piece) → IsPieceOf cuts p → f p.index ≡ true → gather (holds cuts p.id f) p ≡ answered Old (holds cuts p.id f)
+step_there : (cuts : Cuts) (f : ℕ → Bool) (p : FragmentValue) → IsFragmentOf cuts p → f p.index ≡ true → gather (holds cuts p.id f) p ≡ answered Old (holds cuts p.id f)
 step_there cuts f p of there =
     let ts = cuts p.id in
     let low : ltb p.id p.id ≡ false = grind (arith, nat_tests) in
@@ -146,7 +146,7 @@ step_there cuts f p of there =
       | inr e ↦ rw (low_index cuts p of, low, same, e, long, here) refl
     ]
 
-step_new : (cuts : Cuts) (f : ℕ → Bool) (p : Piece) → IsPieceOf cuts p → f p.index ≡ false → gather (holds cuts p.id f) p ≡ one_more cuts p (λ j. eqb (0 + p.index) j || f j)
+step_new : (cuts : Cuts) (f : ℕ → Bool) (p : FragmentValue) → IsFragmentOf cuts p → f p.index ≡ false → gather (holds cuts p.id f) p ≡ one_more cuts p (λ j. eqb (0 + p.index) j || f j)
 step_new cuts f p of gone =
     let ts = cuts p.id in
     let lt = within ts p.index p.payload of.there in
@@ -164,27 +164,27 @@ step_new cuts f p of gone =
 
 same_holds : (cuts : Cuts) (m n : ℕ) (f g : ℕ → Bool) → m ≡ n → ((j : ℕ) → f j ≡ g j) → holds cuts m f ≡ holds cuts n g
 same_holds cuts m n f g id same =
-    ap (λ k. holds cuts k f) id ∙ ap (λ (ps : List (Option (List ℕ))). record { id = n; pieces = ps }) (same_from 0 f g (cuts n) (λ j le. same j))
+    ap (λ k. holds cuts k f) id ∙ ap (λ (ps : List (Option (List ℕ))). record { id = n; fragments = ps }) (same_from 0 f g (cuts n) (λ j le. same j))
 
 same_each : (k n : ℕ) (f g : ℕ → Bool) → ((j : ℕ) → f j ≡ g j) → each_from k n f ≡ each_from k n g
 same_each k zero f g same = refl
 same_each k (suc n) f g same = λ i. same k i && same_each (k + 1) n f g same i
 
 -- nothing of an id above the highest arrived
-none_above : (id : ℕ) (ps : List Piece) (index : ℕ) → highest ps < id → has_arrived id ps index ≡ false
+none_above : (id : ℕ) (ps : List FragmentValue) (index : ℕ) → highest ps < id → has_arrived id ps index ≡ false
 none_above id [] index lt = refl
 none_above id (p ∷ ps) index lt =
     let other : eqb p.id id ≡ false = let gone : p.id ≡ id → ⊥ = λ e. omega (arith, e, lt) in ne_eqb p.id id gone in
     rw (other, none_above id ps index (omega arith)) refl
 
--- what arrived of an id, with one more piece
-arrived_other : (id : ℕ) (p : Piece) (ps : List Piece) (index : ℕ) → eqb p.id id ≡ false → has_arrived id (p ∷ ps) index ≡ has_arrived id ps index
+-- what arrived of an id, with one more fragment
+arrived_other : (id : ℕ) (p : FragmentValue) (ps : List FragmentValue) (index : ℕ) → eqb p.id id ≡ false → has_arrived id (p ∷ ps) index ≡ has_arrived id ps index
 arrived_other id p ps index e = rw e refl
 
-arrived_more : (p : Piece) (ps : List Piece) (index : ℕ) → has_arrived p.id (p ∷ ps) index ≡ (eqb p.index index || has_arrived p.id ps index)
+arrived_more : (p : FragmentValue) (ps : List FragmentValue) (index : ℕ) → has_arrived p.id (p ∷ ps) index ≡ (eqb p.index index || has_arrived p.id ps index)
 arrived_more p ps index = let same : eqb p.id p.id ≡ true = grind (arith, nat_tests) in rw same refl
 
-arrived_again : (p : Piece) (ps : List Piece) (index : ℕ) → has_arrived p.id ps p.index ≡ true → has_arrived p.id (p ∷ ps) index ≡ has_arrived p.id ps index
+arrived_again : (p : FragmentValue) (ps : List FragmentValue) (index : ℕ) → has_arrived p.id ps p.index ≡ true → has_arrived p.id (p ∷ ps) index ≡ has_arrived p.id ps index
 arrived_again p ps index there =
     arrived_more p ps index
     ∙ elim (cases_Bool (eqb p.index index)) [
@@ -192,11 +192,11 @@ arrived_again p ps index there =
       | inr e ↦ rw e refl
     ]
 
--- what is held and answered after one more piece
-abbrev next : Cuts → List Piece → Piece → Option (Answer × Gathering)
+-- what is held and answered after one more fragment
+abbrev next : Cuts → List FragmentValue → FragmentValue → Option (Answer × Gathering)
 next cuts ps p = answered (answer_to cuts ps p) (holds cuts (highest (p ∷ ps)) (has_arrived (highest (p ∷ ps)) (p ∷ ps)))
 
-next_lower : (cuts : Cuts) (ps : List Piece) (p : Piece) → IsPieceOf cuts p → p.id < highest ps → gather (holds cuts (highest ps) (has_arrived (highest ps) ps)) p ≡ next cuts ps p
+next_lower : (cuts : Cuts) (ps : List FragmentValue) (p : FragmentValue) → IsFragmentOf cuts p → p.id < highest ps → gather (holds cuts (highest ps) (has_arrived (highest ps) ps)) p ≡ next cuts ps p
 next_lower cuts ps p of lt =
     let m = highest ps in
     let top : m ≡ max p.id m = omega arith in
@@ -208,8 +208,8 @@ next_lower cuts ps p of lt =
     ∙ ap (answered Old) (same_holds cuts m (max p.id m) (has_arrived m ps) (has_arrived (max p.id m) (p ∷ ps)) top same)
     ∙ rw low refl
 
--- a piece after which its id is the highest, by whether it arrived before
-next_old : (cuts : Cuts) (ps : List Piece) (p : Piece) → IsPieceOf cuts p → highest ps ≡ p.id → has_arrived p.id ps p.index ≡ true → gather (holds cuts p.id (has_arrived p.id ps)) p ≡ next cuts ps p
+-- a fragment after which its id is the highest, by whether it arrived before
+next_old : (cuts : Cuts) (ps : List FragmentValue) (p : FragmentValue) → IsFragmentOf cuts p → highest ps ≡ p.id → has_arrived p.id ps p.index ≡ true → gather (holds cuts p.id (has_arrived p.id ps)) p ≡ next cuts ps p
 next_old cuts ps p of here there =
     let top : p.id ≡ max p.id (highest ps) = omega (arith, here) in
     let low : ltb p.id (highest ps) ≡ false = grind (arith, nat_tests, here) in
@@ -219,8 +219,8 @@ next_old cuts ps p of here there =
     ∙ ap (answered Old) (same_holds cuts p.id (max p.id (highest ps)) (has_arrived p.id ps) (has_arrived (max p.id (highest ps)) (p ∷ ps)) top same)
     ∙ rw (low, there) refl
 
--- what a new piece makes is what follows
-made : (cuts : Cuts) (ps : List Piece) (p : Piece) (g : ℕ → Bool) → highest ps ≤ p.id → has_arrived p.id ps p.index ≡ false → ((j : ℕ) → g j ≡ has_arrived p.id (p ∷ ps) j) → one_more cuts p g ≡ next cuts ps p
+-- what a new fragment makes is what follows
+made : (cuts : Cuts) (ps : List FragmentValue) (p : FragmentValue) (g : ℕ → Bool) → highest ps ≤ p.id → has_arrived p.id ps p.index ≡ false → ((j : ℕ) → g j ≡ has_arrived p.id (p ∷ ps) j) → one_more cuts p g ≡ next cuts ps p
 made cuts ps p g le gone same =
     let top : p.id ≡ max p.id (highest ps) = omega arith in
     let low : ltb p.id (highest ps) ≡ false = grind (arith, nat_tests) in
@@ -228,25 +228,25 @@ made cuts ps p g le gone same =
     let held = same_holds cuts p.id (max p.id (highest ps)) g (has_arrived (max p.id (highest ps)) (p ∷ ps)) top (λ j. same j ∙ ap (λ k. has_arrived k (p ∷ ps) j) top) in
     (λ i. answered (cond (all i) (Whole (joined (cuts p.id))) Part) (held i)) ∙ rw (low, gone) refl
 
-next_new : (cuts : Cuts) (ps : List Piece) (p : Piece) → IsPieceOf cuts p → highest ps ≡ p.id → has_arrived p.id ps p.index ≡ false → gather (holds cuts p.id (has_arrived p.id ps)) p ≡ next cuts ps p
+next_new : (cuts : Cuts) (ps : List FragmentValue) (p : FragmentValue) → IsFragmentOf cuts p → highest ps ≡ p.id → has_arrived p.id ps p.index ≡ false → gather (holds cuts p.id (has_arrived p.id ps)) p ≡ next cuts ps p
 next_new cuts ps p of here gone =
     step_new cuts (has_arrived p.id ps) p of gone
     ∙ made cuts ps p (λ j. eqb (0 + p.index) j || has_arrived p.id ps j) (omega (arith, here)) gone
     (λ j. ap (λ k. eqb k j || has_arrived p.id ps j) (omega arith) ∙ sym (arrived_more p ps j))
 
-next_higher : (cuts : Cuts) (ps : List Piece) (p : Piece) → IsPieceOf cuts p → highest ps < p.id → gather (holds cuts (highest ps) (has_arrived (highest ps) ps)) p ≡ next cuts ps p
+next_higher : (cuts : Cuts) (ps : List FragmentValue) (p : FragmentValue) → IsFragmentOf cuts p → highest ps < p.id → gather (holds cuts (highest ps) (has_arrived (highest ps) ps)) p ≡ next cuts ps p
 next_higher cuts ps p of lt =
     let none = λ (j : ℕ). none_above p.id ps j lt in
     step_higher cuts (highest ps) (has_arrived (highest ps) ps) p of lt
     ∙ made cuts ps p (λ j. eqb (0 + p.index) j || false) (omega arith) (none p.index)
     (λ j. ap (λ k. eqb k j || false) (omega arith) ∙ ap (λ b. eqb p.index j || b) (sym (none j)) ∙ sym (arrived_more p ps j))
 
-next_same : (cuts : Cuts) (ps : List Piece) (p : Piece) → IsPieceOf cuts p → highest ps ≡ p.id → gather (holds cuts (highest ps) (has_arrived (highest ps) ps)) p ≡ next cuts ps p
+next_same : (cuts : Cuts) (ps : List FragmentValue) (p : FragmentValue) → IsFragmentOf cuts p → highest ps ≡ p.id → gather (holds cuts (highest ps) (has_arrived (highest ps) ps)) p ≡ next cuts ps p
 next_same cuts ps p of here =
     ap (λ k. gather (holds cuts k (has_arrived k ps)) p) here
     ∙ elim (cases_Bool (has_arrived p.id ps p.index)) [ inl e ↦ next_old cuts ps p of here e | inr e ↦ next_new cuts ps p of here e ]
 
-next_is : (cuts : Cuts) (ps : List Piece) (p : Piece) → IsPieceOf cuts p → gather (holds cuts (highest ps) (has_arrived (highest ps) ps)) p ≡ next cuts ps p
+next_is : (cuts : Cuts) (ps : List FragmentValue) (p : FragmentValue) → IsFragmentOf cuts p → gather (holds cuts (highest ps) (has_arrived (highest ps) ps)) p ≡ next cuts ps p
 next_is cuts ps p of =
     elim (cases p.id (highest ps)) [
       | inl lower ↦ next_lower cuts ps p of lower
@@ -256,14 +256,14 @@ next_is cuts ps p of =
     cases : (a b : ℕ) → (a < b) ⊎ ((b ≡ a) ⊎ (b < a))
     cases a b = grind arith
 
--- what a new gatherer holds after pieces that were cut
-pub held : (cuts : Cuts) → cuts 0 ≡ [] → (ps : List Piece) → ArePiecesOf cuts ps → gathered_of ps ≡ holds cuts (highest ps) (has_arrived (highest ps) ps)
-held cuts none [] all = ap (λ (ts : List (List ℕ)). record { id = 0; pieces = came_from 0 (has_arrived 0 []) ts }) (sym none)
+-- what a new gatherer holds after fragments that were cut
+pub held : (cuts : Cuts) → cuts 0 ≡ [] → (ps : List FragmentValue) → AreFragmentsOf cuts ps → gathered_of ps ≡ holds cuts (highest ps) (has_arrived (highest ps) ps)
+held cuts none [] all = ap (λ (ts : List (List ℕ)). record { id = 0; fragments = came_from 0 (has_arrived 0 []) ts }) (sym none)
 held cuts none (p ∷ ps) all =
     ap (λ (g : Gathering). after g (gather g p)) (held cuts none ps all.1)
     ∙ ap (after (holds cuts (highest ps) (has_arrived (highest ps) ps))) (next_is cuts ps p all.0)
 
-pub answers : (cuts : Cuts) → cuts 0 ≡ [] → (p : Piece) (ps : List Piece) → ArePiecesOf cuts (p ∷ ps) → gather (gathered_of ps) p ≡ Some (answer_to cuts ps p, gathered_of (p ∷ ps))
+pub answers : (cuts : Cuts) → cuts 0 ≡ [] → (p : FragmentValue) (ps : List FragmentValue) → AreFragmentsOf cuts (p ∷ ps) → gather (gathered_of ps) p ≡ Some (answer_to cuts ps p, gathered_of (p ∷ ps))
 answers cuts none p ps all =
     ap (λ (g : Gathering). gather g p) (held cuts none ps all.1)
     ∙ next_is cuts ps p all.0
@@ -298,23 +298,23 @@ there_came k (p ∷ ps) (t ∷ ts) long there f at =
 of_holds : (cuts : Cuts) (id : ℕ) (f : ℕ → Bool) → GathersOf cuts (holds cuts id f)
 of_holds cuts id f = record { count = length-came 0 f (cuts id); there = λ i x e. came_there 0 f (cuts id) i x e }
 
-pub holds_of : (cuts : Cuts) (g : Gathering) → GathersOf cuts g → g ≡ holds cuts g.id (λ j. is_some (get_or g.pieces j None))
+pub holds_of : (cuts : Cuts) (g : Gathering) → GathersOf cuts g → g ≡ holds cuts g.id (λ j. is_some (get_or g.fragments j None))
 holds_of cuts g of =
-    let f : ℕ → Bool = λ j. is_some (get_or g.pieces j None) in
-    let same : g.pieces ≡ came_from 0 f (cuts g.id) = there_came 0 g.pieces (cuts g.id) of.count of.there f (λ i. ap f (omega arith)) in
-    ap (λ (ps : List (Option (List ℕ))). record { id = g.id; pieces = ps }) same
+    let f : ℕ → Bool = λ j. is_some (get_or g.fragments j None) in
+    let same : g.fragments ≡ came_from 0 f (cuts g.id) = there_came 0 g.fragments (cuts g.id) of.count of.there f (λ i. ap f (omega arith)) in
+    ap (λ (ps : List (Option (List ℕ))). record { id = g.id; fragments = ps }) same
 
 pub of_nothing : (cuts : Cuts) → cuts 0 ≡ [] → GathersOf cuts nothing
 of_nothing cuts none = record { count = sym (ap length none); there = λ i x e. absurd cc }
 
-well_more : (cuts : Cuts) (g : Gathering) (p : Piece) (f : ℕ → Bool) → g.id ≤ p.id → GathersWell cuts g p (one_more cuts p f)
+well_more : (cuts : Cuts) (g : Gathering) (p : FragmentValue) (f : ℕ → Bool) → g.id ≤ p.id → GathersWell cuts g p (one_more cuts p f)
 well_more cuts g p f le = (of_holds cuts p.id f, omega arith, by (each_from 0 (length (cuts p.id)) f))
   where
     by : (b : Bool) → IsCutText (cuts p.id) (cond b (Whole (joined (cuts p.id))) Part)
     by true = refl
     by false = tt
 
-well_held : (cuts : Cuts) (id : ℕ) (f : ℕ → Bool) (p : Piece) → IsPieceOf cuts p → GathersWell cuts (holds cuts id f) p (gather (holds cuts id f) p)
+well_held : (cuts : Cuts) (id : ℕ) (f : ℕ → Bool) (p : FragmentValue) → IsFragmentOf cuts p → GathersWell cuts (holds cuts id f) p (gather (holds cuts id f) p)
 well_held cuts id f p of =
     elim (cases p.id id) [
       | inl lower ↦ subst (GathersWell cuts (holds cuts id f) p) (sym (step_lower cuts id f p of lower)) (of_holds cuts id f, omega arith, tt)
@@ -331,6 +331,6 @@ well_held cuts id f p of =
     at_id true e = subst (GathersWell cuts (holds cuts p.id f) p) (sym (step_there cuts f p of e)) (of_holds cuts p.id f, omega arith, tt)
     at_id false e = subst (GathersWell cuts (holds cuts p.id f) p) (sym (step_new cuts f p of e)) (well_more cuts (holds cuts p.id f) p _ (omega arith))
 
-pub well : (cuts : Cuts) (g : Gathering) (p : Piece) → GathersOf cuts g → IsPieceOf cuts p → GathersWell cuts g p (gather g p)
+pub well : (cuts : Cuts) (g : Gathering) (p : FragmentValue) → GathersOf cuts g → IsFragmentOf cuts p → GathersWell cuts g p (gather g p)
 well cuts g p is of =
-    subst (λ (h : Gathering). GathersWell cuts h p (gather h p)) (sym (holds_of cuts g is)) (well_held cuts g.id (λ j. is_some (get_or g.pieces j None)) p of)
+    subst (λ (h : Gathering). GathersWell cuts h p (gather h p)) (sym (holds_of cuts g is)) (well_held cuts g.id (λ j. is_some (get_or g.fragments j None)) p of)

@@ -1,9 +1,9 @@
--- Cutting: the pieces of a text join to it, are few, and have lengths that datagrams carry.
+-- Cutting: the fragments of a text join to it, are few, and have lengths that datagrams carry.
 use Rattle.std.proofs.Common.{◌≡◌, ℕ, zero, suc, ◌+◌, ◌*◌, ◌<◌, ◌≤◌, List, [], ◌∷◌, ◌++◌, length, take, drop, get_or, min, refl, sym, ap, ◌∙◌, arith, length-take, length-drop, append-nil, Vec}
 use Rattle.std.proofs.lemmas.List.{take-append-drop, take_min, drop_min}
 use Rattle.std.specs.declared.alloc.Global.{Global}
-use Rattle.roam_wire.specs.Cutting.{cut_within, pieces_of, joined, AreSendable, texts_of}
-use Rattle.roam_wire.specs.Versions.{most_bytes, most_pieces}
+use Rattle.roam_wire.specs.Cutting.{cut_within, fragments_of, joined, AreSendable, texts_of}
+use Rattle.roam_wire.specs.Versions.{most_bytes, most_fragments}
 use Rattle.roam_wire.specs.declared.versions.Version.{Version}
 use Rattle.roam_wire.specs.declared.versions.Version.TheVariants.{One, Two}
 
@@ -25,16 +25,16 @@ cut_step size (x ∷ xs) some long =
     let rest = length-drop size (x ∷ xs) in
     ap (λ (ps : List (List ℕ)). take size (x ∷ xs) ∷ ps) (enough size (length xs) (length (drop size (x ∷ xs))) (drop size (x ∷ xs)) some (omega (arith, rest)) (omega arith))
 
--- a text that isn't empty begins with a piece
-pub pieces_of-step : (text : List ℕ) → 0 < length text → pieces_of text ≡ take 1200 text ∷ pieces_of (drop 1200 text)
-unfolding pieces_of
-pieces_of-step text long = cut_step 1200 text (omega arith) long
+-- a text that isn't empty begins with a fragment
+pub fragments_of-step : (text : List ℕ) → 0 < length text → fragments_of text ≡ take 1200 text ∷ fragments_of (drop 1200 text)
+unfolding fragments_of
+fragments_of-step text long = cut_step 1200 text (omega arith) long
 
-pub pieces_of-empty : pieces_of [] ≡ []
-unfolding pieces_of
-pieces_of-empty = refl
+pub fragments_of-empty : fragments_of [] ≡ []
+unfolding fragments_of
+fragments_of-empty = refl
 
--- ---- what the pieces are
+-- ---- what the fragments are
 
 joined-cut : (size n : ℕ) (text : List ℕ) → 0 < size → length text ≤ n → joined (cut_within size n text) ≡ text
 joined-cut size zero [] some le = refl
@@ -44,9 +44,9 @@ joined-cut size (suc n) (x ∷ xs) some le =
     let rest = length-drop size (x ∷ xs) in
     ap (λ z. take size (x ∷ xs) ++ z) (joined-cut size n (drop size (x ∷ xs)) some (omega (arith, rest))) ∙ take-append-drop size (x ∷ xs)
 
-pub joined-pieces : (text : List ℕ) → joined (pieces_of text) ≡ text
-unfolding pieces_of
-joined-pieces text = joined-cut 1200 (length text) text (omega arith) (omega arith)
+pub joined-fragments : (text : List ℕ) → joined (fragments_of text) ≡ text
+unfolding fragments_of
+joined-fragments text = joined-cut 1200 (length text) text (omega arith) (omega arith)
 
 few : (n m : ℕ) (text : List ℕ) → length text ≤ 1200 * m → length (cut_within 1200 n text) ≤ m
 few zero m text le = omega arith
@@ -82,16 +82,16 @@ sized size (suc n) (x ∷ xs) some le (suc i) lt =
     let is = sized size n (drop size (x ∷ xs)) some (omega (arith, rest)) i (omega (arith, lt)) in
     record { low = is.low; high = is.high; whole = λ more. is.whole (omega (arith, more)) }
 
--- the pieces of a text that isn't too long for a version are as datagrams of the version may carry them
-pub sendable_in : (v : Version) (text : List ℕ) → length text ≤ most_bytes v → AreSendable v (pieces_of text)
-unfolding pieces_of
+-- the fragments of a text that isn't too long for a version are as datagrams of the version may carry them
+pub sendable_in : (v : Version) (text : List ℕ) → length text ≤ most_bytes v → AreSendable v (fragments_of text)
+unfolding fragments_of
 sendable_in v text le =
     record {
       few = go v le;
       lengths = λ i lt. let is = sized 1200 (length text) text (omega arith) (omega arith) i lt in record { low = is.low; high = is.high; whole = is.whole };
     }
   where
-    go : (v : Version) → length text ≤ most_bytes v → length (cut_within 1200 (length text) text) ≤ most_pieces v
+    go : (v : Version) → length text ≤ most_bytes v → length (cut_within 1200 (length text) text) ≤ most_fragments v
     go One le = few (length text) 1024 text (omega arith)
     go Two le = few (length text) 4096 text (omega arith)
 
@@ -101,18 +101,18 @@ texts_more : (vs : List (Vec ℕ Global)) (v : Vec ℕ Global) (ps : List (List 
 texts_more [] v ps = refl
 texts_more (w ∷ vs) v ps = ap (λ (xs : List (List ℕ)). w.items ∷ xs) (texts_more vs v ps)
 
--- one more piece
-pub piece_more : (vs : List (Vec ℕ Global)) (v : Vec ℕ Global) (rest more text : List ℕ) (n : ℕ) → 0 < length rest → n ≡ min 1200 (length rest) → v.items ≡ take n rest → more ≡ drop n rest
-    → texts_of vs ++ pieces_of rest ≡ pieces_of text → texts_of (vs ++ v ∷ []) ++ pieces_of more ≡ pieces_of text
-piece_more vs v rest more text n long is front back so =
-    let piece : v.items ≡ take 1200 rest = front ∙ ap (λ (k : ℕ). take k rest) is ∙ take_min 1200 rest in
+-- one more fragment
+pub fragment_more : (vs : List (Vec ℕ Global)) (v : Vec ℕ Global) (rest more text : List ℕ) (n : ℕ) → 0 < length rest → n ≡ min 1200 (length rest) → v.items ≡ take n rest → more ≡ drop n rest
+    → texts_of vs ++ fragments_of rest ≡ fragments_of text → texts_of (vs ++ v ∷ []) ++ fragments_of more ≡ fragments_of text
+fragment_more vs v rest more text n long is front back so =
+    let fragment : v.items ≡ take 1200 rest = front ∙ ap (λ (k : ℕ). take k rest) is ∙ take_min 1200 rest in
     let left : more ≡ drop 1200 rest = back ∙ ap (λ (k : ℕ). drop k rest) is ∙ drop_min 1200 rest in
-    texts_more vs v (pieces_of more)
-    ∙ (λ i. texts_of vs ++ (piece i ∷ pieces_of (left i)))
-    ∙ ap (λ (ps : List (List ℕ)). texts_of vs ++ ps) (sym (pieces_of-step rest long))
+    texts_more vs v (fragments_of more)
+    ∙ (λ i. texts_of vs ++ (fragment i ∷ fragments_of (left i)))
+    ∙ ap (λ (ps : List (List ℕ)). texts_of vs ++ ps) (sym (fragments_of-step rest long))
     ∙ so
 
 -- nothing is left
-pub no_more : (ps : List (List ℕ)) (rest text : List ℕ) → length rest ≡ 0 → ps ++ pieces_of rest ≡ pieces_of text → ps ≡ pieces_of text
-no_more ps [] text e so = sym (append-nil ps) ∙ ap (λ (xs : List (List ℕ)). ps ++ xs) (sym pieces_of-empty) ∙ so
+pub no_more : (ps : List (List ℕ)) (rest text : List ℕ) → length rest ≡ 0 → ps ++ fragments_of rest ≡ fragments_of text → ps ≡ fragments_of text
+no_more ps [] text e so = sym (append-nil ps) ∙ ap (λ (xs : List (List ℕ)). ps ++ xs) (sym fragments_of-empty) ∙ so
 no_more ps (x ∷ rest) text e so = absurd (omega (arith, e))

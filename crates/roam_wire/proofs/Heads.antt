@@ -14,9 +14,9 @@ use Rattle.roam_wire.specs.declared.datagrams.Kind.TheVariants.{ToClient, ToServ
 use Rattle.roam_wire.specs.declared.headers.Header.{Header}
 use Rattle.roam_wire.specs.declared.versions.Version.{Version}
 use Rattle.roam_wire.specs.declared.versions.Version.TheVariants.{One, Two}
-use Rattle.roam_wire.specs.Versions.{most_pieces, number_of_version, version_numbered}
+use Rattle.roam_wire.specs.Versions.{most_fragments, number_of_version, version_numbered}
 use Rattle.roam_wire.specs.Datagrams.{DatagramValue, IsDatagram, datagram_text, header_of, header_text, tag_of}
-use Rattle.roam_wire.specs.Headers.{header_at, watcher_in, kind_tagged, is_bad_length, is_bad_fragment, piece_fault, kind_unless, version_unless, checked, datagram_with, datagram_if, datagram_at}
+use Rattle.roam_wire.specs.Headers.{header_at, watcher_in, kind_tagged, is_bad_length, is_bad_fragment, fragment_fault, kind_unless, version_unless, checked, datagram_with, datagram_if, datagram_at}
 use Rattle.roam_wire.proofs.Numbers.{number, byte, back_8, back_2}
 
 -- ---- the header's text
@@ -69,10 +69,10 @@ record Passes (h : Header) (rest : ℕ) (v : Version) (kind : Kind) : Type 0 whe
   tag : tag_of kind ≡ h.kind
   watches : kind ≡ FromWatcher → v ≡ Two
   len : h.len ≡ rest
-  piece : (1 ≤ h.len) × (h.len ≤ 1200)
+  fragment : (1 ≤ h.len) × (h.len ≤ 1200)
   number : (1 ≤ h.number) × (h.number < 2 ^ 62)
   id : (1 ≤ h.id) × (h.id < 2 ^ 62)
-  count : (1 ≤ h.count) × (h.count ≤ most_pieces v)
+  count : (1 ≤ h.count) × (h.count ≤ most_fragments v)
   index : h.index < h.count
   whole : h.index + 1 < h.count → h.len ≡ 1200
 
@@ -93,7 +93,7 @@ some_or false r x e = (refl, e)
 -- what is true of a version and a direction that were read
 record Reads (h : Header) (rest : ℕ) (v : Version) (kind : Kind) : Type 0 where
   version : version_numbered h.version ≡ Some v
-  fault : piece_fault v h rest ≡ None
+  fault : fragment_fault v h rest ≡ None
   tag : kind_tagged v h.kind ≡ Some kind
 
 unless : (w : Version) (fault : Option Reason) (o : Option Kind) (v : Version) (kind : Kind) → kind_unless w fault o ≡ both_ends v kind → (fault ≡ None) × (o ≡ Some kind) × (w ≡ v)
@@ -107,8 +107,8 @@ unless w None (Some k) v kind e =
 reads : (h : Header) (rest : ℕ) (o : Option Version) (v : Version) (kind : Kind) → version_numbered h.version ≡ o → version_unless h rest o ≡ both_ends v kind → Reads h rest v kind
 reads h rest None v kind is e = absurd cc
 reads h rest (Some w) v kind is e =
-    let all = unless w (piece_fault w h rest) (kind_tagged w h.kind) v kind e in
-    subst (λ (x : Version). (version_numbered h.version ≡ Some x) → piece_fault x h rest ≡ None → kind_tagged x h.kind ≡ Some kind → Reads h rest v kind) (sym all.2)
+    let all = unless w (fragment_fault w h rest) (kind_tagged w h.kind) v kind e in
+    subst (λ (x : Version). (version_numbered h.version ≡ Some x) → fragment_fault x h rest ≡ None → kind_tagged x h.kind ≡ Some kind → Reads h rest v kind) (sym all.2)
     (λ a b c. record { version = a; fault = b; tag = c }) is all.0 all.1
 
 numbered : (n : ℕ) (v : Version) → version_numbered n ≡ Some v → number_of_version v ≡ n
@@ -162,7 +162,7 @@ passes h rest v kind e =
       tag = tag.0;
       watches = tag.1;
       len = eqb-true h.len rest (not-false _ parts.1);
-      piece = (omega arith, high);
+      fragment = (omega arith, high);
       number = grind (arith, nat_tests, fragment.0);
       id = grind (arith, nat_tests, fragment.0);
       count = grind (arith, nat_tests, fragment.0);
@@ -170,7 +170,7 @@ passes h rest v kind e =
       whole = grind (arith, nat_tests, fragment.0);
     }
 
-no_fault : (h : Header) (rest : ℕ) (v : Version) (kind : Kind) → Passes h rest v kind → piece_fault v h rest ≡ None
+no_fault : (h : Header) (rest : ℕ) (v : Version) (kind : Kind) → Passes h rest v kind → fragment_fault v h rest ≡ None
 no_fault h rest v kind p = grind (arith, nat_tests)
 
 pass_again : (h : Header) (rest : ℕ) (v : Version) (kind : Kind) → Passes h rest v kind → checked h rest ≡ both_ends v kind
@@ -197,7 +197,7 @@ found bytes v kind long fits e =
         id = p.id;
         count = p.count;
         index = p.index;
-        len = (omega (arith, p.piece, len), omega (arith, p.piece, len));
+        len = (omega (arith, p.fragment, len), omega (arith, p.fragment, len));
         whole = λ lt. sym p.len ∙ p.whole lt;
       },
       header_takes bytes long fits ∙ ap (λ (x : Header). header_text x ++ drop 42 bytes) same,
@@ -229,7 +229,7 @@ again d is =
       tag = refl;
       watches = is.kind;
       len = refl;
-      piece = is.len;
+      fragment = is.len;
       number = is.number;
       id = is.id;
       count = is.count;
@@ -241,7 +241,7 @@ again d is =
     let whole : ltb (length bytes) 42 ≡ false = le-ltb _ _ (omega (arith, length-append (header_text h) d.payload)) in
     rw whole (ap (datagram_if (header_at bytes) d.payload) clean ∙ ap (λ (x : Header). a_datagram (datagram_with x d.payload d.version d.kind)) there)
   where
-    at_most : (v : Version) → most_pieces v ≤ 4096
+    at_most : (v : Version) → most_fragments v ≤ 4096
     at_most One = omega arith
     at_most Two = omega arith
 

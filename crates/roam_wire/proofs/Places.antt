@@ -1,42 +1,42 @@
--- Pieces are seen one by one, and counted.
+-- Fragments are seen one by one, and counted.
 use Rattle.std.proofs.Common.{◌≡◌, ℕ, zero, suc, ◌+◌, ◌<◌, ◌≤◌, true, false, eqb, List, [], ◌∷◌, ◌++◌, length, get_or, set, replicate, Option, Some, None, Vec, refl, sym, ap, arith}
 use Rattle.std.proofs.lemmas.Bool.{ne_eqb}
 use Rattle.std.specs.declared.alloc.Global.{Global}
 use Rattle.std.specs.Prelude.{is_some}
-use Rattle.roam_wire.specs.Pieces.{seen, seen_piece, count_missing, all_there}
+use Rattle.roam_wire.specs.Fragments.{seen, seen_fragment, count_missing, all_there}
 
-pub seen-set : (ps : List (Option (Vec ℕ Global))) (i : ℕ) (p : Option (Vec ℕ Global)) → seen (set ps i p) ≡ set (seen ps) i (seen_piece p)
+pub seen-set : (ps : List (Option (Vec ℕ Global))) (i : ℕ) (p : Option (Vec ℕ Global)) → seen (set ps i p) ≡ set (seen ps) i (seen_fragment p)
 seen-set [] zero p = refl
 seen-set [] (suc i) p = refl
 seen-set (q ∷ ps) zero p = refl
-seen-set (q ∷ ps) (suc i) p = ap (λ (xs : List (Option (List ℕ))). seen_piece q ∷ xs) (seen-set ps i p)
+seen-set (q ∷ ps) (suc i) p = ap (λ (xs : List (Option (List ℕ))). seen_fragment q ∷ xs) (seen-set ps i p)
 
 pub seen-append : (ps qs : List (Option (Vec ℕ Global))) → seen (ps ++ qs) ≡ seen ps ++ seen qs
 seen-append [] qs = refl
-seen-append (p ∷ ps) qs = ap (λ (xs : List (Option (List ℕ))). seen_piece p ∷ xs) (seen-append ps qs)
+seen-append (p ∷ ps) qs = ap (λ (xs : List (Option (List ℕ))). seen_fragment p ∷ xs) (seen-append ps qs)
 
 pub length-seen : (ps : List (Option (Vec ℕ Global))) → length (seen ps) ≡ length ps
 length-seen [] = refl
 length-seen (p ∷ ps) = ap (λ n. suc n) (length-seen ps)
 
 -- a place is seen as what it has
-pub get_seen : (ps : List (Option (Vec ℕ Global))) (i : ℕ) (d : Option (Vec ℕ Global)) → i < length ps → get_or (seen ps) i None ≡ seen_piece (get_or ps i d)
+pub get_seen : (ps : List (Option (Vec ℕ Global))) (i : ℕ) (d : Option (Vec ℕ Global)) → i < length ps → get_or (seen ps) i None ≡ seen_fragment (get_or ps i d)
 get_seen [] i d h = absurd (omega arith)
 get_seen (p ∷ ps) zero d h = refl
 get_seen (p ∷ ps) (suc i) d h = get_seen ps i d (omega arith)
 
-pub is_some-seen : (o : Option (Vec ℕ Global)) → is_some (seen_piece o) ≡ is_some o
+pub is_some-seen : (o : Option (Vec ℕ Global)) → is_some (seen_fragment o) ≡ is_some o
 is_some-seen None = refl
 is_some-seen (Some v) = refl
 
--- a piece that is put in and taken out again leaves the pieces as they were
+-- a fragment that is put in and taken out again leaves the fragments as they were
 pub put_back : (ps : List (Option (List ℕ))) (i : ℕ) (a : Option (List ℕ)) → get_or ps i None ≡ None → set (set ps i a) i None ≡ ps
 put_back [] zero a h = refl
 put_back [] (suc i) a h = refl
 put_back (p ∷ ps) zero a h = ap (λ (x : Option (List ℕ)). x ∷ ps) (sym h)
 put_back (p ∷ ps) (suc i) a h = ap (λ (xs : List (Option (List ℕ))). p ∷ xs) (put_back ps i a h)
 
--- a piece that is there has a place
+-- a fragment that is there has a place
 pub there_below : (ps : List (Option (List ℕ))) (i : ℕ) → is_some (get_or ps i None) ≡ true → i < length ps
 there_below [] zero h = absurd cc
 there_below [] (suc i) h = absurd cc

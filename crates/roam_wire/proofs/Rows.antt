@@ -7,10 +7,10 @@ use Rattle.roam_wire.specs.declared.datagrams.Kind.TheVariants.{ToServer, FromWa
 use Rattle.roam_wire.specs.declared.versions.Version.TheVariants.{One, Two}
 use Rattle.roam_wire.specs.Cutting.{cut_within}
 use Rattle.roam_wire.specs.Datagrams.{DatagramValue, datagram_text}
-use Rattle.roam_wire.specs.Gatherers.{Gathering, Old, Part, Piece, Whole, gather, nothing}
+use Rattle.roam_wire.specs.Gatherers.{Gathering, Old, Part, FragmentValue, Whole, gather, nothing}
 use Rattle.roam_wire.specs.Headers.{datagram_at}
 use Rattle.roam_wire.specs.Instructions.{down_text, up_text}
-use Rattle.roam_wire.specs.Arrivals.{answer_to, gathered_of}
+use Rattle.roam_wire.specs.AnyOrder.{answer_to, gathered_of}
 
 -- the first datagram of a client: a state of number 0, the first act numbered 1, no acts
 abbrev first : DatagramValue
@@ -74,33 +74,33 @@ up = refl
 cut_in_threes : cut_within 3 7 (1 ∷ 2 ∷ 3 ∷ 4 ∷ 5 ∷ 6 ∷ 7 ∷ []) ≡ (1 ∷ 2 ∷ 3 ∷ []) ∷ (4 ∷ 5 ∷ 6 ∷ []) ∷ (7 ∷ []) ∷ []
 cut_in_threes = refl
 
--- two pieces, the second first
-abbrev piece : ℕ → ℕ → ℕ → List ℕ → Piece
-piece id index count payload = record { id = id; index = index; count = count; payload = payload }
+-- two fragments, the second first
+abbrev fragment : ℕ → ℕ → ℕ → List ℕ → FragmentValue
+fragment id index count payload = record { id = id; index = index; count = count; payload = payload }
 
 abbrev half : Gathering
-half = record { id = 1; pieces = None ∷ Some (3 ∷ []) ∷ [] }
+half = record { id = 1; fragments = None ∷ Some (3 ∷ []) ∷ [] }
 
-second_first : gather nothing (piece 1 1 2 (3 ∷ [])) ≡ Some (Part, half)
+second_first : gather nothing (fragment 1 1 2 (3 ∷ [])) ≡ Some (Part, half)
 second_first = refl
 
-then_whole : gather half (piece 1 0 2 (1 ∷ 2 ∷ [])) ≡ Some (Whole (1 ∷ 2 ∷ 3 ∷ []), record { id = 1; pieces = Some (1 ∷ 2 ∷ []) ∷ Some (3 ∷ []) ∷ [] })
+then_whole : gather half (fragment 1 0 2 (1 ∷ 2 ∷ [])) ≡ Some (Whole (1 ∷ 2 ∷ 3 ∷ []), record { id = 1; fragments = Some (1 ∷ 2 ∷ []) ∷ Some (3 ∷ []) ∷ [] })
 then_whole = refl
 
-again : gather half (piece 1 1 2 (3 ∷ [])) ≡ Some (Old, half)
+again : gather half (fragment 1 1 2 (3 ∷ [])) ≡ Some (Old, half)
 again = refl
 
 -- an old id is told before a bad index
-old_first : gather half (piece 0 7 2 (3 ∷ [])) ≡ Some (Old, half)
+old_first : gather half (fragment 0 7 2 (3 ∷ [])) ≡ Some (Old, half)
 old_first = refl
 
-bad_index : gather half (piece 2 7 2 (3 ∷ [])) ≡ None
+bad_index : gather half (fragment 2 7 2 (3 ∷ [])) ≡ None
 bad_index = refl
 
-other_count : gather half (piece 1 0 3 (1 ∷ [])) ≡ None
+other_count : gather half (fragment 1 0 3 (1 ∷ [])) ≡ None
 other_count = refl
 
-anew : gather half (piece 2 0 1 (9 ∷ [])) ≡ Some (Whole (9 ∷ []), record { id = 2; pieces = Some (9 ∷ []) ∷ [] })
+anew : gather half (fragment 2 0 1 (9 ∷ [])) ≡ Some (Whole (9 ∷ []), record { id = 2; fragments = Some (9 ∷ []) ∷ [] })
 anew = refl
 
 -- what a new gatherer answers after others arrived, the latest first
@@ -109,14 +109,14 @@ cuts zero = []
 cuts (suc zero) = (1 ∷ 2 ∷ []) ∷ (3 ∷ []) ∷ []
 cuts (suc (suc n)) = (9 ∷ []) ∷ []
 
-abbrev arrived : List Piece
-arrived = piece 1 1 2 (3 ∷ []) ∷ piece 1 1 2 (3 ∷ []) ∷ []
+abbrev arrived : List FragmentValue
+arrived = fragment 1 1 2 (3 ∷ []) ∷ fragment 1 1 2 (3 ∷ []) ∷ []
 
 held : gathered_of arrived ≡ half
 held = refl
 
-last_missing : answer_to cuts arrived (piece 1 0 2 (1 ∷ 2 ∷ [])) ≡ Whole (1 ∷ 2 ∷ 3 ∷ [])
+last_missing : answer_to cuts arrived (fragment 1 0 2 (1 ∷ 2 ∷ [])) ≡ Whole (1 ∷ 2 ∷ 3 ∷ [])
 last_missing = refl
 
-too_late : answer_to cuts (piece 2 0 1 (9 ∷ []) ∷ arrived) (piece 1 0 2 (1 ∷ 2 ∷ [])) ≡ Old
+too_late : answer_to cuts (fragment 2 0 1 (9 ∷ []) ∷ arrived) (fragment 1 0 2 (1 ∷ 2 ∷ [])) ≡ Old
 too_late = refl

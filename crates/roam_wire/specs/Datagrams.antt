@@ -8,7 +8,7 @@ use Rattle.roam_wire.specs.declared.datagrams.Kind.TheVariants.{ToClient, ToServ
 use Rattle.roam_wire.specs.declared.headers.Header.{Header}
 use Rattle.roam_wire.specs.declared.versions.Version.{Version}
 use Rattle.roam_wire.specs.declared.versions.Version.TheVariants.{Two}
-use Rattle.roam_wire.specs.Versions.{most_pieces, number_of_version}
+use Rattle.roam_wire.specs.Versions.{most_fragments, number_of_version}
 
 -- what a datagram says, wherever its payload lies in memory
 pub record DatagramValue : Type 0 where
@@ -68,7 +68,7 @@ header_text h =
 abbrev pub datagram_text : DatagramValue → List ℕ
 datagram_text d = header_text (header_of d) ++ d.payload
 
--- what has a text: a watcher's in version 2 alone, numbers from 1 and below 2^62, no more pieces than its version allows, each of 1,200
+-- what has a text: a watcher's in version 2 alone, numbers from 1 and below 2^62, no more fragments than its version allows, each of 1,200
 -- bytes but for the last, none of them empty
 pub record IsDatagram (d : DatagramValue) : Type 0 where
   pub kind : d.kind ≡ FromWatcher → d.version ≡ Two
@@ -76,7 +76,7 @@ pub record IsDatagram (d : DatagramValue) : Type 0 where
   pub client : d.client < 2 ^ 64
   pub number : (1 ≤ d.number) × (d.number < number_limit)
   pub id : (1 ≤ d.id) × (d.id < number_limit)
-  pub count : (1 ≤ d.count) × (d.count ≤ most_pieces d.version)
+  pub count : (1 ≤ d.count) × (d.count ≤ most_fragments d.version)
   pub index : d.index < d.count
   pub len : (1 ≤ length d.payload) × (length d.payload ≤ 1200)
   pub whole : d.index + 1 < d.count → length d.payload ≡ 1200

@@ -1,38 +1,38 @@
--- Gathering: what a gatherer holds, and how a piece changes it (this project's profile).
+-- Gathering: what a gatherer holds, and how a fragment changes it (this project's profile).
 use Rattle.std.specs.Prelude.{◌≡◌, ℕ, true, not, ◌||◌, ◌&&◌, List, [], length, replicate, is_some, slice_set, get_or, unwrap_or, Option, Some, None, nat_lt, nat_le, ◌==◌, if◌then◌else◌}
 use Rattle.roam_wire.specs.Datagrams.{DatagramValue}
-use Rattle.roam_wire.specs.Pieces.{all_there, text_of}
+use Rattle.roam_wire.specs.Fragments.{all_there, text_of}
 use Rattle.roam_wire.specs.declared.gatherers.Gathered.{Gathered}
 use Rattle.roam_wire.specs.declared.gatherers.Gathered.TheVariants as gathered
 use Rattle.roam_wire.specs.declared.gatherers.Undo.{Undo}
 use Rattle.roam_wire.specs.declared.gatherers.Undo.TheVariants as undo
 
--- a piece of the instruction with this id
-pub record Piece : Type 0 where
+-- a fragment of the instruction with this id
+pub record FragmentValue : Type 0 where
   pub id : ℕ
   pub index : ℕ
   pub count : ℕ
   pub payload : List ℕ
 
--- the piece that a datagram carries
-abbrev pub piece_of : DatagramValue → Piece
-piece_of d = record { id = d.id; index = d.index; count = d.count; payload = d.payload }
+-- the fragment that a datagram carries
+abbrev pub fragment_of : DatagramValue → FragmentValue
+fragment_of d = record { id = d.id; index = d.index; count = d.count; payload = d.payload }
 
--- the id of the instruction that is gathered, and its pieces by their index
+-- the id of the instruction that is gathered, and its fragments by their index
 pub record Gathering : Type 0 where
   pub id : ℕ
-  pub pieces : List (Option (List ℕ))
+  pub fragments : List (Option (List ℕ))
 
 -- nothing was gathered yet; ids begin at 1
 abbrev pub nothing : Gathering
-nothing = record { id = 0; pieces = [] }
+nothing = record { id = 0; fragments = [] }
 
--- what is gathered, and what was before the last piece, where that can be had back
+-- what is gathered, and what was before the last fragment, where that can be had back
 pub record GathererValue : Type 0 where
   pub current : Gathering
   pub before : Option Gathering
 
--- what a gatherer says to a piece
+-- what a gatherer says to a fragment
 pub data Answer : Type 0 where
   Part : Answer
   Old : Answer
@@ -43,40 +43,40 @@ answer_of gathered.Part = Part
 answer_of gathered.Old = Old
 answer_of (gathered.Whole text) = Whole text.items
 
--- to a new piece: whole, with the payloads joined in the order of their index, where none is missing now
+-- to a new fragment: whole, with the payloads joined in the order of their index, where none is missing now
 abbrev pub answer_in : List (Option (List ℕ)) → Answer
 answer_in ps = if all_there ps then Whole (text_of ps) else Part
 
--- these pieces and a new one
-abbrev pub with_piece : List (Option (List ℕ)) → Piece → Answer × Gathering
-with_piece ps p =
-    let pieces = slice_set ps p.index (Some p.payload) in
-    (answer_in pieces, record { id = p.id; pieces = pieces })
+-- these fragments and a new one
+abbrev pub with_fragment : List (Option (List ℕ)) → FragmentValue → Answer × Gathering
+with_fragment ps p =
+    let fragments = slice_set ps p.index (Some p.payload) in
+    (answer_in fragments, record { id = p.id; fragments = fragments })
 
--- what is said to a piece, and what is gathered then; none where it is no piece of what is gathered. In this order: an id below the
+-- what is said to a fragment, and what is gathered then; none where it is no fragment of what is gathered. In this order: an id below the
 -- current one is old, and so is the current one where it is whole; an index that isn't below its count is none; a higher id begins anew;
--- another count under the current id is none; a piece that is there is old.
-abbrev pub gather : Gathering → Piece → Option (Answer × Gathering)
+-- another count under the current id is none; a fragment that is there is old.
+abbrev pub gather : Gathering → FragmentValue → Option (Answer × Gathering)
 gather g p =
-    if nat_lt p.id g.id || (p.id == g.id && all_there g.pieces) then Some (Old, g)
+    if nat_lt p.id g.id || (p.id == g.id && all_there g.fragments) then Some (Old, g)
     else if nat_le p.count p.index then None
-    else if nat_lt g.id p.id then Some (with_piece (replicate p.count None) p)
-    else if not (length g.pieces == p.count) then None
-    else if is_some (get_or g.pieces p.index None) then Some (Old, g)
-    else Some (with_piece g.pieces p)
+    else if nat_lt g.id p.id then Some (with_fragment (replicate p.count None) p)
+    else if not (length g.fragments == p.count) then None
+    else if is_some (get_or g.fragments p.index None) then Some (Old, g)
+    else Some (with_fragment g.fragments p)
 
--- what is gathered once the last piece is taken back
+-- what is gathered once the last fragment is taken back
 abbrev pub untaken : GathererValue → GathererValue
 untaken g = record { current = unwrap_or g.before g.current; before = None }
 
--- what was gathered before the last piece, by what undoes it
+-- what was gathered before the last fragment, by what undoes it
 abbrev pub before_of : Gathering → Undo → Option Gathering
 before_of g undo.Nothing = None
 before_of g undo.Same = Some g
-before_of g (undo.Piece index) = Some (record g { pieces = slice_set g.pieces index None })
-before_of g (undo.Start id pieces) = Some (record { id = id; pieces = pieces })
+before_of g (undo.Fragment index) = Some (record g { fragments = slice_set g.fragments index None })
+before_of g (undo.Start id fragments) = Some (record { id = id; fragments = fragments })
 
--- the piece that would be taken out is there
+-- the fragment that would be taken out is there
 abbrev pub IsSound : List (Option (List ℕ)) → Undo → Type 0
-IsSound pieces (undo.Piece index) = is_some (get_or pieces index None) ≡ true
-IsSound pieces _ = Unit {0}
+IsSound fragments (undo.Fragment index) = is_some (get_or fragments index None) ≡ true
+IsSound fragments _ = Unit {0}

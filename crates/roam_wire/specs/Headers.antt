@@ -12,7 +12,7 @@ use Rattle.roam_wire.specs.declared.datagrams.Kind.TheVariants.{ToClient, ToServ
 use Rattle.roam_wire.specs.declared.headers.Header.{Header}
 use Rattle.roam_wire.specs.declared.versions.Version.{Version}
 use Rattle.roam_wire.specs.declared.versions.Version.TheVariants.{One, Two}
-use Rattle.roam_wire.specs.Versions.{most_pieces, version_numbered}
+use Rattle.roam_wire.specs.Versions.{most_fragments, version_numbered}
 use Rattle.roam_wire.specs.Datagrams.{DatagramValue}
 
 -- the numbers at their places
@@ -44,15 +44,15 @@ kind_tagged v tag = if tag == 1 then Some ToClient else if tag == 2 then Some To
 abbrev pub is_bad_length : Header → ℕ → Bool
 is_bad_length h rest = h.len == 0 || nat_lt 1200 h.len || not (h.len == rest)
 
--- no count, too great a count, an index beyond it, a short piece before the last, a number or an id of 0 or from 2^62 on
+-- no count, too great a count, an index beyond it, a short fragment before the last, a number or an id of 0 or from 2^62 on
 abbrev pub is_bad_fragment : Version → Header → Bool
 is_bad_fragment v h =
-    h.count == 0 || nat_lt (most_pieces v) h.count || nat_le h.count h.index || (nat_lt (h.index + 1) h.count && not (h.len == 1200))
+    h.count == 0 || nat_lt (most_fragments v) h.count || nat_le h.count h.index || (nat_lt (h.index + 1) h.count && not (h.len == 1200))
     || h.number == 0 || nat_le number_limit h.number || h.id == 0 || nat_le number_limit h.id
 
 -- the first fault after the direction
-abbrev pub piece_fault : Version → Header → ℕ → Option Reason
-piece_fault v h rest =
+abbrev pub fragment_fault : Version → Header → ℕ → Option Reason
+fragment_fault v h rest =
     if is_bad_length h rest then Some Length
     else if is_bad_fragment v h then Some Fragment
     else None
@@ -66,7 +66,7 @@ kind_unless v (Some fault) (Some kind) = Err fault
 -- the same, unless there is no version
 abbrev pub version_unless : Header → ℕ → Option Version → Result (Version × Kind) Reason
 version_unless h rest None = Err reason.Version
-version_unless h rest (Some v) = kind_unless v (piece_fault v h rest) (kind_tagged v h.kind)
+version_unless h rest (Some v) = kind_unless v (fragment_fault v h rest) (kind_tagged v h.kind)
 
 -- the version and the direction that a header tells before so many bytes, or the first fault
 abbrev pub checked : Header → ℕ → Result (Version × Kind) Reason
@@ -94,7 +94,7 @@ abbrev pub datagram_if : Header → List ℕ → Result (Version × Kind) Reason
 datagram_if h payload (Ok p) = Ok (datagram_with h payload p.0 p.1)
 datagram_if h payload (Err fault) = Err fault
 
--- what bytes say, or the first fault: too few of them, then the letters, the version, the direction, the length, the piece
+-- what bytes say, or the first fault: too few of them, then the letters, the version, the direction, the length, the fragment
 abbrev pub datagram_at : List ℕ → Result DatagramValue Reason
 datagram_at bytes =
     if nat_lt (length bytes) 42 then Err Short

@@ -3,6 +3,6 @@ pub mod Datagrams
 pub mod Headers
 pub mod Instructions
 pub mod Cutting
-pub mod Pieces
+pub mod Fragments
 pub mod Gatherers
-pub mod Arrivals
+pub mod AnyOrder

@@ -12,12 +12,12 @@ number_of_version Two = 2
 abbrev pub version_numbered : ℕ → Option Version
 version_numbered n = if n == 1 then Some One else if n == 2 then Some Two else None
 
--- so many pieces a datagram's instruction has at most
-abbrev pub most_pieces : Version → ℕ
-most_pieces One = 1024
-most_pieces Two = 4096
+-- so many fragments a datagram's instruction has at most
+abbrev pub most_fragments : Version → ℕ
+most_fragments One = 1024
+most_fragments Two = 4096
 
--- so many bytes a text has at most that is cut: 1,200 a piece
+-- so many bytes a text has at most that is cut: 1,200 a fragment
 abbrev pub most_bytes : Version → ℕ
 most_bytes One = 1228800
 most_bytes Two = 4915200

@@ -1,4 +1,4 @@
-//! Datagrams in both directions: a header of 42 bytes and one piece of an instruction.
+//! Datagrams in both directions: a header of 42 bytes and one fragment of an instruction.
 ghost use Rattle.std.specs.Prelude.{◌≡◌, ◌++◌, IfOk, IsOkUnless, MatchResult};
 ghost use Rattle.roam_wire.specs.Datagrams.{DatagramValue, datagram_value, datagram_text, IsDatagram, tag_of};
 ghost use Rattle.roam_wire.specs.Headers.{datagram_at, Gives, kind_tagged};
@@ -47,7 +47,7 @@ impl Kind {
     }
 }
 
-/// One piece of an instruction, and whom it is for.
+/// One fragment of an instruction, and whom it is for.
 #[derive(Debug, Drop)]
 pub struct Datagram {
     /// The version of the format.
@@ -65,16 +65,16 @@ pub struct Datagram {
     /// The number of the datagram among those of the start in this direction, from 1 and below 2^62.
     pub number: u64,
 
-    /// The id of the instruction that this is a piece of, from 1 and below 2^62.
+    /// The id of the instruction that this is a fragment of, from 1 and below 2^62.
     pub id: u64,
 
-    /// The piece's place among the pieces of the instruction, from 0.
+    /// The fragment's place among the fragments of the instruction, from 0.
     pub index: u16,
 
-    /// How many pieces the instruction has, 1 to 1,024, in version 2 to 4,096.
+    /// How many fragments the instruction has, 1 to 1,024, in version 2 to 4,096.
     pub count: u16,
 
-    /// The piece, 1 to 1,200 bytes; each piece before the last has 1,200.
+    /// The fragment, 1 to 1,200 bytes; each fragment before the last has 1,200.
     pub payload: Vec<u8>,
 }
 

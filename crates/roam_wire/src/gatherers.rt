@@ -1,15 +1,15 @@
-//! The gatherer of an instruction's pieces.
+//! The gatherer of an instruction's fragments.
 ghost use Rattle.std.specs.Prelude.{◌≡◌, ◌<◌, length, replicate, Some, None, IfOk, OnOk, OnErr, get_or, slice_set};
 ghost use Rattle.roam_wire.specs.Gatherers.{answer_of, answer_in};
 
 use crate::datagrams::Datagram;
-use crate::pieces::Pieces;
+use crate::fragments::Fragments;
 use roam_cells::{Fault, Reason};
 use std::alloc::{AllocError, Global};
 use std::marker::Model;
 use std::mem;
 
-/// What a piece made of the instruction that is gathered.
+/// What a fragment made of the instruction that is gathered.
 #[derive(Debug, Drop)]
 pub enum Gathered {
     /// It is there now, and others are missing.
@@ -22,20 +22,20 @@ pub enum Gathered {
     Whole(Vec<u8>),
 }
 
-// What undoes the last piece: a piece is taken out again, or another instruction comes back.
+// What undoes the last fragment: a fragment is taken out again, or another instruction comes back.
 #[derive(Drop)]
 pub(crate) enum Undo {
     Nothing,
     Same,
-    Piece(usize),
-    Start(u64, Pieces),
+    Fragment(usize),
+    Start(u64, Fragments),
 }
 
-/// The pieces of one instruction at a time, that of the highest id.
+/// The fragments of one instruction at a time, that of the highest id.
 #[derive(Drop)]
 pub struct Gatherer {
     id: u64,
-    pieces: Pieces,
+    fragments: Fragments,
     undo: Undo,
 }
 
@@ -44,68 +44,68 @@ impl Model for Gatherer {
 
     ghost Value = { GathererValue };
 
-    ghost view = { λ g. let current : Gathering = record { id = g.id; pieces = g.pieces }
+    ghost view = { λ g. let current : Gathering = record { id = g.id; fragments = g.fragments }
         in record { current = current; before = before_of current g.undo } };
 
-    ghost invariant = { λ g. IsSound g.pieces g.undo };
+    ghost invariant = { λ g. IsSound g.fragments g.undo };
 }
 
-// What these pieces make.
-fn answer(alloc: Global, pieces: &Pieces) -> Result<Gathered, AllocError>
-    ensures answer { IfOk result (λ a. answer_of a ≡ answer_in pieces.now) }
+// What these fragments make.
+fn answer(alloc: Global, fragments: &Fragments) -> Result<Gathered, AllocError>
+    ensures answer { IfOk result (λ a. answer_of a ≡ answer_in fragments.now) }
 {
-    if pieces.is_whole() {
-        Ok(Gathered::Whole(pieces.text(alloc)?))
+    if fragments.is_whole() {
+        Ok(Gathered::Whole(fragments.text(alloc)?))
     } else {
         Ok(Gathered::Part)
     }
 }
 
-// Adds a piece that is missing, and answers what the pieces make then; where memory runs out, they are as before.
+// Adds a fragment that is missing, and answers what the fragments make then; where memory runs out, they are as before.
 fn added(
     alloc: Global,
-    pieces: &mut Pieces,
+    fragments: &mut Fragments,
     index: usize,
     payload: &[u8],
 ) -> Result<Gathered, AllocError>
-    requires place { index < length pieces.old }
-    requires missing { get_or pieces.old index None ≡ None }
-    ensures answer { IfOk result (λ a. answer_of a ≡ answer_in pieces.new) }
-    ensures ok { OnOk result (pieces.new ≡ slice_set pieces.old index (Some payload.now)) }
-    ensures err { OnErr result (pieces.new ≡ pieces.old) }
+    requires place { index < length fragments.old }
+    requires missing { get_or fragments.old index None ≡ None }
+    ensures answer { IfOk result (λ a. answer_of a ≡ answer_in fragments.new) }
+    ensures ok { OnOk result (fragments.new ≡ slice_set fragments.old index (Some payload.now)) }
+    ensures err { OnErr result (fragments.new ≡ fragments.old) }
 {
-    let piece = Vec::from_slice(alloc, payload)?;
-    pieces.put(index, piece);
-    match answer(alloc, pieces) {
+    let fragment = Vec::from_slice(alloc, payload)?;
+    fragments.put(index, fragment);
+    match answer(alloc, fragments) {
         Ok(answer) => Ok(answer),
         Err(fault) => {
-            pieces.take_out(index);
+            fragments.take_out(index);
             Err(fault)
         }
     }
 }
 
-// The pieces of a new instruction, of which one is there, and what they make.
+// The fragments of a new instruction, of which one is there, and what they make.
 fn begun(
     alloc: Global,
     count: usize,
     index: usize,
     payload: &[u8],
-) -> Result<(Pieces, Gathered), AllocError>
+) -> Result<(Fragments, Gathered), AllocError>
     requires place { index < count }
-    ensures pieces { IfOk result (λ p. p.0 ≡ slice_set (replicate count None) index (Some payload.now)) }
+    ensures fragments { IfOk result (λ p. p.0 ≡ slice_set (replicate count None) index (Some payload.now)) }
     ensures answer { IfOk result (λ p. answer_of p.1 ≡ answer_in p.0) }
 {
-    let mut pieces = Pieces::all_missing(alloc, count)?;
-    let answer = added(alloc, &mut pieces, index, payload)?;
-    Ok((pieces, answer))
+    let mut fragments = Fragments::all_missing(alloc, count)?;
+    let answer = added(alloc, &mut fragments, index, payload)?;
+    Ok((fragments, answer))
 }
 
 impl Gatherer {
     ghost use Rattle.std.specs.Prelude.{◌≡◌, ◌⊎◌, ◌↔◌, Some, None, IfOk, IfErr, OnOk, OnErr, IsErrOf};
     ghost use Rattle.roam_cells.specs.declared.faults.Reason.TheVariants.{Fragment};
     ghost use Rattle.roam_wire.specs.Datagrams.{datagram_value};
-    ghost use Rattle.roam_wire.specs.Gatherers.{gather, answer_of, nothing, piece_of, untaken};
+    ghost use Rattle.roam_wire.specs.Gatherers.{gather, answer_of, nothing, fragment_of, untaken};
 
     /// A gatherer to which nothing has come. It takes no memory.
     pub fn new(alloc: Global) -> Gatherer
@@ -113,25 +113,25 @@ impl Gatherer {
     {
         Gatherer {
             id: 0,
-            pieces: Pieces::new(alloc),
+            fragments: Fragments::new(alloc),
             undo: Undo::Nothing,
         }
     }
 
-    /// Takes the piece that a datagram carries. In this order: `Old` for an id below the current one and for a current one that is whole;
+    /// Takes the fragment that a datagram carries. In this order: `Old` for an id below the current one and for a current one that is whole;
     /// `BadDatagram(Fragment)` for an index that isn't below its count; a higher id begins anew; `BadDatagram(Fragment)` for another count
-    /// under the current id; `Old` for a piece that is there. `OutOfMemory` comes after these. A refusal leaves the gatherer as it was.
+    /// under the current id; `Old` for a fragment that is there. `OutOfMemory` comes after these. A refusal leaves the gatherer as it was.
     pub fn take(&mut self, alloc: Global, datagram: &Datagram) -> Result<Gathered, Fault>
-        ensures answer { IfOk result (λ a. gather self.old.current (piece_of (datagram_value datagram.now))
+        ensures answer { IfOk result (λ a. gather self.old.current (fragment_of (datagram_value datagram.now))
             ≡ Some (answer_of a, self.new.current)) }
         // What `untake` gives back.
         ensures before { OnOk result (self.new.before ≡ Some self.old.current) }
         ensures bad { IsErrOf result (Fault.BadDatagram Fragment)
-            ↔ (gather self.old.current (piece_of (datagram_value datagram.now)) ≡ None) }
+            ↔ (gather self.old.current (fragment_of (datagram_value datagram.now)) ≡ None) }
         ensures err { OnErr result (self.new ≡ self.old) }
         ensures fault { IfErr result (λ e. (e ≡ Fault.OutOfMemory) ⊎ (e ≡ Fault.BadDatagram Fragment)) }
     {
-        let whole = self.pieces.is_whole();
+        let whole = self.fragments.is_whole();
         if datagram.id < self.id || (datagram.id == self.id && whole) {
             self.undo = Undo::Same;
             return Ok(Gathered::Old);
@@ -143,21 +143,21 @@ impl Gatherer {
         let count = datagram.count as usize;
         let payload = datagram.payload.as_slice();
         if datagram.id > self.id {
-            let (pieces, answer) = begun(alloc, count, index, payload)?;
-            let before = mem::replace(&mut self.pieces, pieces);
+            let (fragments, answer) = begun(alloc, count, index, payload)?;
+            let before = mem::replace(&mut self.fragments, fragments);
             self.undo = Undo::Start(self.id, before);
             self.id = datagram.id;
             return Ok(answer);
         }
-        if self.pieces.len() != count {
+        if self.fragments.len() != count {
             return Err(Fault::BadDatagram(Reason::Fragment));
         }
-        if self.pieces.has(index) {
+        if self.fragments.has(index) {
             self.undo = Undo::Same;
             return Ok(Gathered::Old);
         }
-        let answer = added(alloc, &mut self.pieces, index, payload)?;
-        self.undo = Undo::Piece(index);
+        let answer = added(alloc, &mut self.fragments, index, payload)?;
+        self.undo = Undo::Fragment(index);
         Ok(answer)
     }
 
@@ -167,10 +167,10 @@ impl Gatherer {
     {
         match mem::replace(&mut self.undo, Undo::Nothing) {
             Undo::Nothing | Undo::Same => {}
-            Undo::Piece(index) => self.pieces.take_out(index),
-            Undo::Start(id, pieces) => {
+            Undo::Fragment(index) => self.fragments.take_out(index),
+            Undo::Start(id, fragments) => {
                 self.id = id;
-                self.pieces = pieces;
+                self.fragments = fragments;
             }
         }
     }

@@ -1,8 +1,8 @@
 //! The header of a datagram as plain numbers, and the tests on them in the order of their reasons.
 ghost use Rattle.std.specs.Prelude.{◌≡◌, ◌≤◌, length};
-ghost use Rattle.roam_wire.specs.Headers.{header_at, is_bad_length, is_bad_fragment, piece_fault, checked};
+ghost use Rattle.roam_wire.specs.Headers.{header_at, is_bad_length, is_bad_fragment, fragment_fault, checked};
 
-use crate::cutting::PIECE;
+use crate::cutting::FRAGMENT;
 use crate::datagrams::Kind;
 use crate::versions::Version;
 use byteorder::{BigEndian, ByteOrder};
@@ -54,27 +54,27 @@ impl Header {
         ensures test { result ≡ is_bad_length self.now rest }
     {
         let len = self.len as usize;
-        len == 0 || len > PIECE || len != rest
+        len == 0 || len > FRAGMENT || len != rest
     }
 
     fn has_bad_fragment(&self, version: Version) -> bool
         ensures test { result ≡ is_bad_fragment version self.now }
     {
         if self.count == 0
-            || self.count as usize > version.most_pieces()
+            || self.count as usize > version.most_fragments()
             || self.index >= self.count
         {
             return true;
         }
-        if self.index + 1 < self.count && self.len as usize != PIECE {
+        if self.index + 1 < self.count && self.len as usize != FRAGMENT {
             return true;
         }
         self.number == 0 || self.number >= NUMBER_LIMIT || self.id == 0 || self.id >= NUMBER_LIMIT
     }
 
     // The first fault after the direction, before this many bytes.
-    fn piece_fault(&self, version: Version, rest: usize) -> Option<Reason>
-        ensures fault { result ≡ piece_fault version self.now rest }
+    fn fragment_fault(&self, version: Version, rest: usize) -> Option<Reason>
+        ensures fault { result ≡ fragment_fault version self.now rest }
     {
         if self.has_bad_length(rest) {
             Some(Reason::Length)
@@ -98,7 +98,7 @@ impl Header {
         let Some(kind) = Kind::tagged(version, self.kind) else {
             return Err(Reason::Kind);
         };
-        match self.piece_fault(version, rest) {
+        match self.fragment_fault(version, rest) {
             Some(fault) => Err(fault),
             None => Ok((version, kind)),
         }

@@ -1,9 +1,9 @@
 //! What holds of the grammars and of gathering alone, whatever calls were made.
 ghost use Rattle.std.specs.Prelude.{◌≡◌, ℕ, List, [], ◌∷◌, Some};
-ghost use Rattle.roam_wire.specs.Arrivals.{answer_to, ArePiecesOf, gathered_of, GathersOf, GathersWell, IsPieceOf};
-ghost use Rattle.roam_wire.specs.Cutting.{joined, pieces_of};
+ghost use Rattle.roam_wire.specs.AnyOrder.{answer_to, AreFragmentsOf, gathered_of, GathersOf, GathersWell, IsFragmentOf};
+ghost use Rattle.roam_wire.specs.Cutting.{joined, fragments_of};
 ghost use Rattle.roam_wire.specs.Datagrams.{DatagramValue, IsDatagram, datagram_text};
-ghost use Rattle.roam_wire.specs.Gatherers.{gather, Gathering, nothing, Piece};
+ghost use Rattle.roam_wire.specs.Gatherers.{gather, Gathering, nothing, FragmentValue};
 ghost use Rattle.roam_wire.specs.Instructions.{DownValue, IsDown, down_text, UpValue, IsUp, up_text};
 
 /// Two datagrams with one text are equal.
@@ -21,23 +21,23 @@ pub fn one_up_a_text()
     ensures one { (u v : UpValue) → IsUp u → IsUp v → up_text u ≡ up_text v → u ≡ v }
 {}
 
-/// The pieces of a text join to it.
-pub fn pieces_join()
-    ensures joined { (text : List ℕ) → joined (pieces_of text) ≡ text }
+/// The fragments of a text join to it.
+pub fn fragments_join()
+    ensures joined { (text : List ℕ) → joined (fragments_of text) ≡ text }
 {}
 
-/// What a gatherer holds was cut under one id, whichever pieces arrive, how often and in which order; no piece that was cut is refused,
-/// and what comes whole under an id is what was cut under it. `cuts` gives the pieces of each id; ids begin at 1.
+/// What a gatherer holds was cut under one id, whichever fragments arrive, how often and in which order; no fragment that was cut is refused,
+/// and what comes whole under an id is what was cut under it. `cuts` gives the fragments of each id; ids begin at 1.
 pub fn whole_is_what_was_cut()
     ensures nothing { (cuts : ℕ → List (List ℕ)) → cuts 0 ≡ [] → GathersOf cuts nothing }
-    ensures whole { (cuts : ℕ → List (List ℕ)) (g : Gathering) (p : Piece) → GathersOf cuts g → IsPieceOf cuts p
+    ensures whole { (cuts : ℕ → List (List ℕ)) (g : Gathering) (p : FragmentValue) → GathersOf cuts g → IsFragmentOf cuts p
         → GathersWell cuts g p (gather g p) }
 {}
 
-/// What a new gatherer answers to any pieces that were cut, in any order with repeats: `Whole` exactly when the last missing piece of
+/// What a new gatherer answers to any fragments that were cut, in any order with repeats: `Whole` exactly when the last missing fragment of
 /// an id comes and no higher id came before, with what was cut under it; `Old` to what changes nothing; else `Part`. `ps` are the
-/// pieces before `p`, the latest first. Pieces of other ids never enter. `cuts` gives the pieces of each id; ids begin at 1.
+/// fragments before `p`, the latest first. Fragments of other ids never enter. `cuts` gives the fragments of each id; ids begin at 1.
 pub fn any_order_gathers()
-    ensures answers { (cuts : ℕ → List (List ℕ)) → cuts 0 ≡ [] → (p : Piece) (ps : List Piece) → ArePiecesOf cuts (p ∷ ps)
+    ensures answers { (cuts : ℕ → List (List ℕ)) → cuts 0 ≡ [] → (p : FragmentValue) (ps : List FragmentValue) → AreFragmentsOf cuts (p ∷ ps)
         → gather (gathered_of ps) p ≡ Some (answer_to cuts ps p, gathered_of (p ∷ ps)) }
 {}

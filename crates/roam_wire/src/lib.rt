@@ -1,4 +1,4 @@
-//! Datagrams and the instructions that they carry in pieces: their texts in both directions, cutting and gathering.
+//! Datagrams and the instructions that they carry in fragments: their texts in both directions, cutting and gathering.
 #![tactic(auto)]
 
 pub mod cutting;
@@ -7,7 +7,7 @@ pub mod gatherers;
 mod headers;
 pub mod instructions;
 pub mod laws;
-mod pieces;
+mod fragments;
 pub mod versions;
 
 pub use cutting::cut;

@@ -1,16 +1,16 @@
 //! The versions of the format, and how much each allows.
 ghost use Rattle.std.specs.Prelude.{◌≡◌};
-ghost use Rattle.roam_wire.specs.Versions.{most_bytes, most_pieces, number_of_version, version_numbered};
+ghost use Rattle.roam_wire.specs.Versions.{most_bytes, most_fragments, number_of_version, version_numbered};
 
-use crate::cutting::PIECE;
+use crate::cutting::FRAGMENT;
 
 /// A version of the format.
 #[derive(Clone, Copy, Debug, PartialEq, Eq)]
 pub enum Version {
-    /// The first: an instruction has at most 1,024 pieces, and nobody only watches.
+    /// The first: an instruction has at most 1,024 fragments, and nobody only watches.
     One,
 
-    /// The second: an instruction has at most 4,096 pieces, and a client's start may only watch.
+    /// The second: an instruction has at most 4,096 fragments, and a client's start may only watch.
     Two,
 }
 
@@ -36,9 +36,9 @@ impl Version {
         }
     }
 
-    // How many pieces an instruction has at most.
-    pub(crate) fn most_pieces(self) -> usize
-        ensures most { result ≡ most_pieces self }
+    // How many fragments an instruction has at most.
+    pub(crate) fn most_fragments(self) -> usize
+        ensures most { result ≡ most_fragments self }
     {
         match self {
             Version::One => 1024,
@@ -50,6 +50,6 @@ impl Version {
     pub(crate) fn most_bytes(self) -> usize
         ensures most { result ≡ most_bytes self }
     {
-        PIECE * self.most_pieces()
+        FRAGMENT * self.most_fragments()
     }
 }

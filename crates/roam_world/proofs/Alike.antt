@@ -2,7 +2,7 @@
 use Rattle.std.proofs.Common.{◌≡◌, ℕ, ◌+◌, ◌<◌, ◌≤◌, List, [], ◌∷◌, ◌++◌, length, Bool, true, false, refl, sym, ap, ◌∙◌, subst, inl, inr, arith, cond}
 use Rattle.roam_world.specs.Lists.{IsIn, put}
 use Rattle.roam_world.specs.Servers.{Record}
-use Rattle.roam_world.specs.Comings.{is_same, most_of, alike_in}
+use Rattle.roam_world.specs.ServerArrivals.{is_same, most_of, alike_in}
 use Rattle.roam_world.proofs.Members.{on_put, put_same}
 
 pub is_same-same : (a b : Bool) → is_same a b ≡ true → a ≡ b

@@ -20,13 +20,13 @@ use Rattle.roam_session.specs.Refusals.{refuses_bytes, output_at}
 use Rattle.roam_world.specs.Versions.{applied_by}
 use Rattle.roam_world.specs.Texts.{Address, SaysDown, SaysNoDown, SaysUp, SaysNoUp, update_in, is_watching}
 use Rattle.roam_world.specs.Servers.{moment, after_input}
-use Rattle.roam_world.specs.Comings.{Coming, turned_away, noted, completed, coming, after_note, new_acts, after_acts, room_for}
+use Rattle.roam_world.specs.ServerArrivals.{Coming, turned_away, noted, completed, coming, after_note, new_acts, after_acts, room_for}
 use Rattle.roam_world.specs.Ticks.{sent_by, is_tick_spent}
 use Rattle.roam_world.specs.Clients.{moment_of, after_typed}
-use Rattle.roam_world.specs.Arrivals.{Arriving, sent_back, kept, fulfilled, arriving, after_piece, step_of, hearing_of, after_whole}
+use Rattle.roam_world.specs.ClientArrivals.{Arriving, sent_back, kept, fulfilled, arriving, after_fragment, step_of, hearing_of, after_whole}
 use Rattle.roam_world.specs.Sendings.{is_client_due, is_client_spent, datagrams_from, after_quiet}
 use Rattle.roam_world.specs.Worlds.{World, PaneBytes, Typed, ServerTick, ClientTick, ToServer, ToClient, Start, Drain, Reply, Done, Sent, Taken, Heard, Refused, Failed, Stopped, datagram_at, with_server, with_client, after_server_tick, after_client_sent, after_start}
-use Rattle.roam_world.specs.Steps.{PaneBytesStep, DrainStep, TypedStep, ServerTickStep, ClientTickStep, ToServerStep, ToClientStep, StartStep, refused, taken, no_pane, too_many, gone, empty_slot, full, spent, typed, no_memory, ticked, quiet, sent, not_sent, piece, unread, all_taken, no_room, no_memory_at_act, bad_change, whole, used, started, watching, unfit, is_unfit}
+use Rattle.roam_world.specs.Steps.{PaneBytesStep, DrainStep, TypedStep, ServerTickStep, ClientTickStep, ToServerStep, ToClientStep, StartStep, refused, taken, no_pane, too_many, gone, empty_slot, full, spent, typed, no_memory, ticked, quiet, sent, not_sent, fragment, unread, all_taken, no_room, no_memory_at_act, bad_change, whole, used, started, watching, unfit, is_unfit}
 use Rattle.roam_world.specs.Laws.{IsAmple, HasOneReply}
 use Rattle.roam_wire.specs.declared.versions.Version.{Version}
 use Rattle.roam_wire.specs.Datagrams.{DatagramValue}
@@ -248,7 +248,7 @@ by_server w k from now r v step m = go step
     go : ToServerStep w k from now r v → ByServer w from (moment w.server now) (datagram_at w.sent k) r v
     go (not_sent x e is) = subst (λ (o : Option DatagramValue). ByServer w from (moment w.server now) o r v) (sym x) (e, is)
     go (refused d f x y e is) = at d (turned_away f) x y (e, is)
-    go (piece d g x y e is) = at d (noted g) x y (e, is)
+    go (fragment d g x y e is) = at d (noted g) x y (e, is)
     go (unread d g text why x y z e is) = at d (completed g text) x y (inl (why, z, (e, is)))
     go (all_taken d g text u x y z a e is) =
         at d (completed g text) x y (inr (
@@ -339,7 +339,7 @@ ByDown w id now g u r v =
 
 abbrev ByArriving : World → ℕ → ℕ → Arriving → Reply → World → Type 0
 ByArriving w id now (sent_back fault) r v = Are r v (Failed fault) w
-ByArriving w id now (kept h g) r v = Are r v (Heard h) (with_client w id (after_piece (w.clients id) now g))
+ByArriving w id now (kept h g) r v = Are r v (Heard h) (with_client w id (after_fragment (w.clients id) now g))
 ByArriving w id now (fulfilled g text) r v =
     ((why : Reason) × SaysNoDown text why × Are r v (Failed (BadDatagram why)) w)
     ⊎ ((u : DownValue) × SaysDown text u × ByDown w id now g u r v)
@@ -370,7 +370,7 @@ by_client w slot k now r v step m = go step
     go (not_sent x e is) = subst (λ (o : Option DatagramValue). ByClient w now (w.slots slot) o r v) (sym x)
         (no_datagram (w.slots slot) (e, is))
     go (refused id d f x y z e is) = at id d (sent_back f) x y z (e, is)
-    go (piece id d h g x y z e is) = at id d (kept h g) x y z (e, is)
+    go (fragment id d h g x y z e is) = at id d (kept h g) x y z (e, is)
     go (unread id d g text why x y z a e is) = at id d (fulfilled g text) x y z (inl (why, a, (e, is)))
     go (bad_change id d g text u base x y z a new there none e is) =
         at id d (fulfilled g text) x y z (inr (u, a, inl (record { new = new; base = base; there = there; none = none }, (e, is))))
@@ -401,7 +401,7 @@ one_down_reply w id now g u r r' v v' x y =
 one_arriving : (w : World) (id now : ℕ) (c : Arriving) (r r' : Reply) (v v' : World) → ByArriving w id now c r v
     → ByArriving w id now c r' v' → (r ≡ r') × (v ≡ v')
 one_arriving w id now (sent_back f) r r' v v' x y = both r r' (Failed f) v v' w x y
-one_arriving w id now (kept h g) r r' v v' x y = both r r' (Heard h) v v' (with_client w id (after_piece (w.clients id) now g)) x y
+one_arriving w id now (kept h g) r r' v v' x y = both r r' (Heard h) v v' (with_client w id (after_fragment (w.clients id) now g)) x y
 one_arriving w id now (fulfilled g text) r r' v v' x y =
     elim x [
       | inl a ↦ elim y [

@@ -1,4 +1,4 @@
--- One delivery of a piece of the newest instruction to a start.
+-- One delivery of a fragment of the newest instruction to a start.
 use Rattle.std.proofs.Common.{◌≡◌, ℕ, List, Option, Some, None, Bool, true, false, refl, sym, ap, ◌∙◌, subst, arith, cond}
 use Rattle.std.specs.Prelude.{nat_eq, not}
 use Rattle.std.proofs.lemmas.Bool.Decides.{nat_tests}
@@ -8,23 +8,23 @@ use Rattle.roam_sync.specs.Senders.{newest}
 use Rattle.roam_sync.specs.Lines.{Delivers}
 use Rattle.roam_sync.proofs.Rounds.{one_round}
 use Rattle.roam_wire.specs.Cutting.{joined}
-use Rattle.roam_wire.specs.Gatherers.{Gathering, Answer, Part, Old, Whole, gather, piece_of}
-use Rattle.roam_wire.specs.Pieces.{all_there}
-use Rattle.roam_wire.specs.Arrivals.{IsPieceOf, GathersWell, after}
+use Rattle.roam_wire.specs.Gatherers.{Gathering, Answer, Part, Old, Whole, gather, fragment_of}
+use Rattle.roam_wire.specs.Fragments.{all_there}
+use Rattle.roam_wire.specs.AnyOrder.{IsFragmentOf, GathersWell, after}
 use Rattle.roam_wire.specs.Instructions.{DownValue, down_text}
 use Rattle.roam_wire.proofs.Arrive.{well}
-use Rattle.roam_wire.proofs.Cuts.{joined-pieces}
+use Rattle.roam_wire.proofs.Cuts.{joined-fragments}
 use Rattle.roam_world.specs.Versions.{is_same_version, applied_by}
 use Rattle.roam_world.proofs.Versions.{is_same-refl}
 use Rattle.roam_world.specs.Lists.{IsIn}
 use Rattle.roam_world.specs.Texts.{update_in, SaysDown, is_to_server}
 use Rattle.roam_world.specs.Clients.{Client, moment_of}
-use Rattle.roam_world.specs.Arrivals.{Arriving, sent_back, kept, fulfilled, arriving, arriving_gathered, after_piece, after_whole}
+use Rattle.roam_world.specs.ClientArrivals.{Arriving, sent_back, kept, fulfilled, arriving, arriving_gathered, after_fragment, after_whole}
 use Rattle.roam_world.specs.Worlds.{World, Reply, Failed, datagram_at, with_client}
-use Rattle.roam_world.specs.Steps.{ToClientStep, empty_slot, not_sent, refused, piece, unread, bad_change, whole, no_memory}
-use Rattle.roam_world.specs.Holds.{numbered, pieces_by, cuts_of, Tells, Acks, Holds}
+use Rattle.roam_world.specs.Steps.{ToClientStep, empty_slot, not_sent, refused, fragment, unread, bad_change, whole, no_memory}
+use Rattle.roam_world.specs.Holds.{numbered, fragments_by, cuts_of, Tells, Acks, Holds}
 use Rattle.roam_world.proofs.Members.{put_same}
-use Rattle.roam_world.proofs.Pieces.{numbered-is_in}
+use Rattle.roam_world.proofs.Fragments.{numbered-is_in}
 use Rattle.roam_world.proofs.Comes.{says_down}
 use Rattle.roam_world.proofs.Follows.{good_change}
 use Rattle.roam_world.proofs.Gathered.{IsPart, IsSame, is_part}
@@ -34,16 +34,16 @@ use Rattle.roam_wire.specs.Datagrams.{DatagramValue}
 
 -- where instruction n came whole, the number that is shown is m
 abbrev pub Shows : ℕ → ℕ → Gathering → ℕ → Type 0
-Shows n m g shown = g.id ≡ n → all_there g.pieces ≡ true → shown ≡ m
+Shows n m g shown = g.id ≡ n → all_there g.fragments ≡ true → shown ≡ m
 
--- a piece of instruction n to this start
+-- a fragment of instruction n to this start
 pub record IsOne (w : World) (id n : ℕ) (d : DatagramValue) : Type 0 where
   pub version_is : d.version ≡ (w.clients id).version
   pub kind_is : d.kind ≡ ToClient
   pub session_is : d.session ≡ w.server.session
   pub client_is : d.client ≡ id
   pub number_is : d.id ≡ n
-  pub piece_of_it : IsPieceOf (cuts_of down_text (w.server.records id).instructions) (piece_of d)
+  pub fragment_of_it : IsFragmentOf (cuts_of down_text (w.server.records id).instructions) (fragment_of d)
 
 -- instruction n to this start is v, which tells of the newest number m
 pub record IsTop (w : World) (id n m : ℕ) (v : DownValue) : Type 0 where
@@ -51,7 +51,7 @@ pub record IsTop (w : World) (id n m : ℕ) (v : DownValue) : Type 0 where
   pub new : v.new ≡ m
   pub top : m ≡ (newest (w.server.records id).sender).number
 
--- what a piece of instruction n leaves: the gatherer h, and where it came whole the text of v
+-- what a fragment of instruction n leaves: the gatherer h, and where it came whole the text of v
 abbrev Leaves : ℕ → ℕ → ℕ → Gathering → Gathering → DownValue → Arriving → Type 0
 Leaves n m shown old h v (sent_back f) = ⊥
 Leaves n m shown old h v (kept how g) = (g ≡ h) × (Shows n m old shown → Shows n m g shown)
@@ -59,7 +59,7 @@ Leaves n m shown old h v (fulfilled g text) = (g ≡ h) × (text ≡ down_text v
 
 gathered_leaves : (w : World) (id n m shown : ℕ) (v : DownValue) (d : DatagramValue) → IsTop w id n m v → IsOne w id n d
     → (x : Option (Answer × Gathering))
-    → GathersWell (cuts_of down_text (w.server.records id).instructions) (w.clients id).gathering (piece_of d) x → IsPart x
+    → GathersWell (cuts_of down_text (w.server.records id).instructions) (w.clients id).gathering (fragment_of d) x → IsPart x
     → IsSame (w.clients id).gathering x
     → Leaves n m shown (w.clients id).gathering (after (w.clients id).gathering x) v (arriving_gathered x)
 gathered_leaves w id n m shown v d t is None g p s = absurd g
@@ -68,10 +68,10 @@ gathered_leaves w id n m shown v d t is (Some (Old, h)) g p s = (refl, (λ o. su
 gathered_leaves w id n m shown v d t is (Some (Whole text, h)) g p s =
     let told : numbered (w.server.records id).instructions d.id ≡ Some v = ap (numbered (w.server.records id).instructions) is.number_is
     ∙ t.told in
-    (refl, g.2 ∙ ap (λ (o : Option DownValue). joined (pieces_by down_text o)) told ∙ joined-pieces (down_text v))
+    (refl, g.2 ∙ ap (λ (o : Option DownValue). joined (fragments_by down_text o)) told ∙ joined-fragments (down_text v))
 
 arriving_leaves : (w : World) (id n m shown : ℕ) (v : DownValue) (d : DatagramValue) → Holds w → IsTop w id n m v → IsOne w id n d
-    → Leaves n m shown (w.clients id).gathering (after (w.clients id).gathering (gather (w.clients id).gathering (piece_of d))) v
+    → Leaves n m shown (w.clients id).gathering (after (w.clients id).gathering (gather (w.clients id).gathering (fragment_of d))) v
     (arriving w.server.session id (w.clients id) d)
 arriving_leaves w id n m shown v d h t is =
     go (is_to_server d.kind) (ap is_to_server is.kind_is) (nat_eq d.session w.server.session)
@@ -83,19 +83,19 @@ arriving_leaves w id n m shown v d h t is =
     same a b e = grind (arith, nat_tests)
 
     go : (a : Bool) → a ≡ false → (b : Bool) → b ≡ true → (e : Bool) → e ≡ true → (f : Bool) → f ≡ true
-        → Leaves n m shown (w.clients id).gathering (after (w.clients id).gathering (gather (w.clients id).gathering (piece_of d))) v
+        → Leaves n m shown (w.clients id).gathering (after (w.clients id).gathering (gather (w.clients id).gathering (fragment_of d))) v
         (cond a (sent_back (BadDatagram reason.Kind))
         (cond (not b) (sent_back OtherSession) (cond (not e) (sent_back OtherClient) (cond (not f) (sent_back (BadDatagram reason.Version))
-        (arriving_gathered (gather (w.clients id).gathering (piece_of d)))))))
+        (arriving_gathered (gather (w.clients id).gathering (fragment_of d)))))))
     go true x b y e z f q = absurd (cc)
     go false x false y e z f q = absurd (cc)
     go false x true y false z f q = absurd (cc)
     go false x true y true z false q = absurd (cc)
     go false x true y true z true q =
-        let part = is_part (w.clients id).gathering (piece_of d) in
-        gathered_leaves w id n m shown v d t is (gather (w.clients id).gathering (piece_of d))
-        (well (cuts_of down_text (w.server.records id).instructions) (w.clients id).gathering (piece_of d) (h.lines id).gathers_down.of
-        is.piece_of_it) part.0 part.1
+        let part = is_part (w.clients id).gathering (fragment_of d) in
+        gathered_leaves w id n m shown v d t is (gather (w.clients id).gathering (fragment_of d))
+        (well (cuts_of down_text (w.server.records id).instructions) (w.clients id).gathering (fragment_of d) (h.lines id).gathers_down.of
+        is.fragment_of_it) part.0 part.1
 
 -- one delivery
 pub record Delivered (w w' : World) (id n m : ℕ) (d : DatagramValue) : Type 0 where
@@ -103,7 +103,7 @@ pub record Delivered (w w' : World) (id n m : ℕ) (d : DatagramValue) : Type 0 
   pub slots : w'.slots ≡ w.slots
   pub sent : w'.sent ≡ w.sent
   pub version : (w'.clients id).version ≡ (w.clients id).version
-  pub gatherer : (w'.clients id).gathering ≡ after (w.clients id).gathering (gather (w.clients id).gathering (piece_of d))
+  pub gatherer : (w'.clients id).gathering ≡ after (w.clients id).gathering (gather (w.clients id).gathering (fragment_of d))
   pub shows : Shows n m (w.clients id).gathering (w.clients id).receiver.newest.number
       → Shows n m (w'.clients id).gathering (w'.clients id).receiver.newest.number
 
@@ -122,16 +122,16 @@ pub deliver : (w w' : World) (slot k now id n m : ℕ) (v : DownValue) (d : Data
 deliver w w' slot k now id n m v d r h s at t is step fine = go step
   where
     l : Leaves n m (w.clients id).receiver.newest.number (w.clients id).gathering
-        (after (w.clients id).gathering (gather (w.clients id).gathering (piece_of d))) v (arriving w.server.session id (w.clients id) d)
+        (after (w.clients id).gathering (gather (w.clients id).gathering (fragment_of d))) v (arriving w.server.session id (w.clients id) d)
     l = arriving_leaves w id n m (w.clients id).receiver.newest.number v d h t is
 
     leaves : (id' : ℕ) (d' : DatagramValue) (a : Arriving) → w.slots slot ≡ Some id' → datagram_at w.sent k ≡ Some d'
         → arriving w.server.session id' (w.clients id') d' ≡ a
         → Leaves n m (w.clients id).receiver.newest.number (w.clients id).gathering
-        (after (w.clients id).gathering (gather (w.clients id).gathering (piece_of d))) v a
+        (after (w.clients id).gathering (gather (w.clients id).gathering (fragment_of d))) v a
     leaves id' d' a x y e =
         subst (Leaves n m (w.clients id).receiver.newest.number (w.clients id).gathering
-        (after (w.clients id).gathering (gather (w.clients id).gathering (piece_of d))) v)
+        (after (w.clients id).gathering (gather (w.clients id).gathering (fragment_of d))) v)
         (same_arrival w id id' d d' a (some_same id id' (w.slots slot) s x) (some_same d d' (datagram_at w.sent k) at y) e) l
 
     sent_one : IsIn v (w.server.records id).instructions
@@ -144,13 +144,13 @@ deliver w w' slot k now id n m v d r h s at t is step fine = go step
     go (empty_slot x e z) = absurd (let f : Some id ≡ None = sym s ∙ x in cc)
     go (not_sent x e z) = absurd (let f : Some d ≡ None = sym at ∙ x in cc)
     go (refused id' d' f x y a e z) = absurd (leaves id' d' (sent_back f) x y a)
-    go (piece id' d' how g x y a e z) =
+    go (fragment id' d' how g x y a e z) =
         let i = some_same id id' (w.slots slot) s x in
         let p = leaves id' d' (kept how g) x y a in
-        let z' : w' ≡ with_client w id (after_piece (w.clients id) (moment_of (w.clients id) now) g) =
-        subst (λ (q : ℕ). w' ≡ with_client w q (after_piece (w.clients q) (moment_of (w.clients q) now) g)) (sym i) z in
-        let here : w'.clients id ≡ after_piece (w.clients id) (moment_of (w.clients id) now) g = ap (λ (q : World). q.clients id) z'
-        ∙ put_same w.clients id (after_piece (w.clients id) (moment_of (w.clients id) now) g) in
+        let z' : w' ≡ with_client w id (after_fragment (w.clients id) (moment_of (w.clients id) now) g) =
+        subst (λ (q : ℕ). w' ≡ with_client w q (after_fragment (w.clients q) (moment_of (w.clients q) now) g)) (sym i) z in
+        let here : w'.clients id ≡ after_fragment (w.clients id) (moment_of (w.clients id) now) g = ap (λ (q : World). q.clients id) z'
+        ∙ put_same w.clients id (after_fragment (w.clients id) (moment_of (w.clients id) now) g) in
         record {
           server = ap (λ (q : World). q.server) z';
           slots = ap (λ (q : World). q.slots) z';

@@ -12,25 +12,25 @@ use Rattle.roam_sync.specs.TrueLines.{HoldsTrueStates}
 use Rattle.roam_sync.proofs.TrueStates.{true_at_first, found_true}
 use Rattle.roam_session.specs.Sessions.{SessionSize, Entry, Did}
 use Rattle.roam_sync.proofs.Rounds.{old_or_new}
-use Rattle.roam_wire.specs.Arrivals.{IsPieceOf}
+use Rattle.roam_wire.specs.AnyOrder.{IsFragmentOf}
 use Rattle.roam_wire.specs.Instructions.{DownValue, down_text, up_text, UpValue}
 use Rattle.roam_acts.specs.declared.acts.Act.{Act}
 use Rattle.roam_acts.specs.Takers.{fresh_of}
-use Rattle.roam_wire.specs.Gatherers.{Gathering, piece_of}
+use Rattle.roam_wire.specs.Gatherers.{Gathering, fragment_of}
 use Rattle.roam_world.proofs.Members.{put_other}
 use Rattle.roam_world.specs.Clients.{shown_number}
-use Rattle.roam_world.specs.Comings.{new_acts, after_acts, room_for}
+use Rattle.roam_world.specs.ServerArrivals.{new_acts, after_acts, room_for}
 use Rattle.roam_world.specs.Versions.{applied_by}
 use Rattle.roam_world.specs.Numbers.{first_screen, IsScreenOf, acts_of, screen}
 use Rattle.roam_world.specs.Texts.{update_in, is_to_server, Address, is_watching, SaysUp}
 use Rattle.roam_world.specs.Servers.{Note, Record, no_record, moment, Server}
 use Rattle.roam_world.specs.Ticks.{makes, is_live, holds_after, sends, after_sent, number_after, screen_to}
-use Rattle.roam_world.specs.Arrivals.{IsGap, hearing_of, step_of}
+use Rattle.roam_world.specs.ClientArrivals.{IsGap, hearing_of, step_of}
 use Rattle.roam_world.specs.Worlds.{World, Heard, Failed, datagram_at, with_server}
-use Rattle.roam_world.specs.Steps.{ToClientStep, refused, empty_slot, no_memory, not_sent, piece, unread, bad_change, whole, ToServerStep, all_taken, no_room, no_memory_at_act}
+use Rattle.roam_world.specs.Steps.{ToClientStep, refused, empty_slot, no_memory, not_sent, fragment, unread, bad_change, whole, ToServerStep, all_taken, no_room, no_memory_at_act}
 use Rattle.roam_world.specs.Limits.{Limits}
 use Rattle.roam_world.specs.Laws.{HoldTrueScreens, HoldAtMostEight, LeavesNoGap, Headline, NamesOneText, RepliesToLatest, OffersNewest, IsSameBut, WatchersTakeNoPart, WatchersDisturbNothing, StartsAgree, RecordsFit, KeepsAll}
-use Rattle.roam_world.specs.Holds.{cuts_of, Tells, Acks, IsPiece, Holds, Counts}
+use Rattle.roam_world.specs.Holds.{cuts_of, Tells, Acks, IsFragment, Holds, Counts}
 use Rattle.roam_world.proofs.Screens.{one_screen, first_is}
 use Rattle.roam_world.proofs.Acting.{front_is}
 use Rattle.roam_world.proofs.Comes.{ArrivesWell}
@@ -109,7 +109,7 @@ no_gap w h slot k now r w' s = go s
     go (refused id d f x y z e is) =
         let c = subst (ArrivesWell (w.server.records id).instructions) z (arrives w id k d y h) in
         ((λ q. cc), (λ q. c (cc)))
-    go (piece id d how g x y z e is) =
+    go (fragment id d how g x y z e is) =
         let c = subst (ArrivesWell (w.server.records id).instructions) z (arrives w id k d y h) in
         ((λ q. c.0 (cc)), (λ q. cc))
     go (unread id d g text why x y z a e is) = ((λ q. cc), (λ q. cc))
@@ -126,7 +126,7 @@ replies_to_latest w h now p i =
     let t = in_tick w.server now p i in
     t.to ∙ ap (λ (b : Note). b.source) (sym (h.lines p.datagram.client).notes)
 
-same_text : (cuts : ℕ → List (List ℕ)) (d e : DatagramValue) → d.id ≡ e.id → IsPieceOf cuts (piece_of d) → IsPieceOf cuts (piece_of e)
+same_text : (cuts : ℕ → List (List ℕ)) (d e : DatagramValue) → d.id ≡ e.id → IsFragmentOf cuts (fragment_of d) → IsFragmentOf cuts (fragment_of e)
     → (d.count ≡ e.count) × (d.index ≡ e.index → d.payload ≡ e.payload)
 same_text cuts d e n a b =
     let same = ap (λ (k : ℕ). cuts k) n in (
@@ -137,11 +137,11 @@ same_text cuts d e n a b =
 
 pub one_text : (w : World) → Holds w → NamesOneText w
 one_text w h d e i j kind client n =
-    go (is_to_server d.kind) (h.pieces d i) (subst (λ (k : ℕ). IsPiece (is_to_server d.kind) e (w.server.records k) (w.clients k)) (sym client)
-    (subst (λ (to : Bool). IsPiece to e (w.server.records e.client) (w.clients e.client)) (sym kind) (h.pieces e j)))
+    go (is_to_server d.kind) (h.fragments d i) (subst (λ (k : ℕ). IsFragment (is_to_server d.kind) e (w.server.records k) (w.clients k)) (sym client)
+    (subst (λ (to : Bool). IsFragment to e (w.server.records e.client) (w.clients e.client)) (sym kind) (h.fragments e j)))
   where
-    go : (to : Bool) → IsPiece to d (w.server.records d.client) (w.clients d.client)
-        → IsPiece to e (w.server.records d.client) (w.clients d.client)
+    go : (to : Bool) → IsFragment to d (w.server.records d.client) (w.clients d.client)
+        → IsFragment to e (w.server.records d.client) (w.clients d.client)
         → (d.count ≡ e.count) × (d.index ≡ e.index → d.payload ≡ e.payload)
     go false a b = same_text (cuts_of down_text (w.server.records d.client).instructions) d e n a b
     go true a b = same_text (cuts_of up_text (w.clients d.client).instructions) d e n a b
@@ -298,7 +298,7 @@ watchers_disturb_nothing w k from now d r w' at watches step = go step
     go : ToServerStep w k from now r w' → IsSameBut d.client w.server w'.server
     go (not_sent x e is) = same_world is
     go (refused q f x y e is) = same_world is
-    go (piece q g x y e is) =
+    go (fragment q g x y e is) =
         subst (λ (v : World). IsSameBut d.client w.server v.server) (sym is)
         (record {
           size = refl;

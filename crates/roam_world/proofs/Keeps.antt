@@ -18,8 +18,8 @@ use Rattle.roam_sync.specs.Links.{Link}
 use Rattle.roam_sync.proofs.TrueStates.{true_at_first, true_still, true_heard}
 use Rattle.roam_sync.proofs.Steps.{link_answered, link_heard}
 use Rattle.roam_sync.proofs.Rounds.{old_or_new}
-use Rattle.roam_wire.specs.Gatherers.{Gathering, piece_of}
-use Rattle.roam_wire.specs.Arrivals.{IsPieceOf}
+use Rattle.roam_wire.specs.Gatherers.{Gathering, fragment_of}
+use Rattle.roam_wire.specs.AnyOrder.{IsFragmentOf}
 use Rattle.roam_wire.specs.Instructions.{DownValue, down_text, UpValue, IsUp, up_text}
 use Rattle.roam_session.specs.Sessions.{SessionSize, Entry}
 use Rattle.roam_world.specs.Steps.{is_unfit}
@@ -30,14 +30,14 @@ use Rattle.roam_world.specs.Numbers.{first_screen, IsScreenOf, acts_of}
 use Rattle.roam_world.specs.Texts.{update_in, is_to_server, is_watching, kind_from}
 use Rattle.roam_world.specs.Servers.{Record, no_record, after_input}
 use Rattle.roam_world.specs.Clients.{Client, nobody, new_client, shown_number, after_typed}
-use Rattle.roam_world.specs.Arrivals.{after_piece, after_whole}
-use Rattle.roam_world.specs.Sendings.{up_from, pieces_from, datagrams_from, is_client_spent, after_sending, after_quiet}
+use Rattle.roam_world.specs.ClientArrivals.{after_fragment, after_whole}
+use Rattle.roam_world.specs.Sendings.{up_from, fragments_from, datagrams_from, is_client_spent, after_sending, after_quiet}
 use Rattle.roam_world.specs.Worlds.{World, with_server, with_client, after_client_sent, after_start}
-use Rattle.roam_world.specs.Holds.{cuts_of, Gathers, Tells, Acks, ActsOf, LineOf, IsPiece, Bears, Fits, AreCuts, Holds, OnlyWatches}
+use Rattle.roam_world.specs.Holds.{cuts_of, Gathers, Tells, Acks, ActsOf, LineOf, IsFragment, Bears, Fits, AreCuts, Holds, OnlyWatches}
 use Rattle.roam_world.proofs.Members.{IsIn-append_cases, IsIn-push_cases, on_put, put_same}
 use Rattle.roam_world.proofs.Screens.{one_screen, first_is, is_more, cuts_more, screens_more, acts_of-append}
 use Rattle.roam_world.proofs.Acting.{has_typed-more, has_typed-acked, acked_few, stretch-waiting, stretch-more}
-use Rattle.roam_world.proofs.Pieces.{piece-more, gathers-more, IsPacked, packed_is}
+use Rattle.roam_world.proofs.Fragments.{fragment-more, gathers-more, IsPacked, packed_is}
 use Rattle.roam_wire.specs.declared.versions.Version.{Version}
 use Rattle.roam_wire.specs.declared.datagrams.Kind.{Kind}
 use Rattle.roam_wire.specs.Datagrams.{DatagramValue}
@@ -76,7 +76,7 @@ keeps-input w entry none h =
           ∙ append-nil (acts_of id w.server.log) in
           line-more w.server.size w.server.log (entry ∷ []) w.server.cuts (acts_of id w.server.log)
           (acts_of id (w.server.log ++ entry ∷ [])) (w.server.records id) (w.clients id) h.cuts same (h.lines id));
-      pieces = h.pieces;
+      fragments = h.fragments;
       bears = h.bears;
       fits = h.fits;
       watchers = h.watchers;
@@ -102,9 +102,9 @@ keeps-client w id c made version watches alone same line h =
       cuts = h.cuts;
       screens = h.screens;
       lines = on_put (λ j x. Line w j (w.server.records j) x) w.clients id c line (λ j e. h.lines j);
-      pieces = (λ d i. on_put (λ j x. IsPiece (is_to_server d.kind) d (w.server.records d.client) (w.clients j)
-          → IsPiece (is_to_server d.kind) d (w.server.records d.client) x) w.clients id c (like (is_to_server d.kind) d) (λ j e p. p)
-          d.client (h.pieces d i));
+      fragments = (λ d i. on_put (λ j x. IsFragment (is_to_server d.kind) d (w.server.records d.client) (w.clients j)
+          → IsFragment (is_to_server d.kind) d (w.server.records d.client) x) w.clients id c (like (is_to_server d.kind) d) (λ j e p. p)
+          d.client (h.fragments d i));
       bears = (λ d i. on_put (λ j x. Bears d (w.clients j) → Bears d x) w.clients id c
           (λ b. record { made = made; version = b.version ∙ sym version; watches = (λ t. b.watches t ∙ sym watches) }) (λ j e b. b) d.client (h.bears d i));
       fits = on_put (λ j x. Fits (w.server.records j) x) w.clients id c (let f = h.fits id in record {
@@ -119,10 +119,10 @@ keeps-client w id c made version watches alone same line h =
       slots = (λ slot j. on_put (λ k x. w.slots slot ≡ Some k → x.made ≡ true) w.clients id c (λ s. made) (λ k e. h.slots slot k) j);
     }
   where
-    like : (to : Bool) (d : DatagramValue) → IsPiece to d (w.server.records d.client) (w.clients id)
-        → IsPiece to d (w.server.records d.client) c
+    like : (to : Bool) (d : DatagramValue) → IsFragment to d (w.server.records d.client) (w.clients id)
+        → IsFragment to d (w.server.records d.client) c
     like false d p = p
-    like true d p = subst (λ (us : List UpValue). IsPieceOf (cuts_of up_text us) (piece_of d)) (sym same) p
+    like true d p = subst (λ (us : List UpValue). IsFragmentOf (cuts_of up_text us) (fragment_of d)) (sym same) p
 
 -- what a start sends goes to the server, and tells whether it watches
 pub kind_goes : (watches : Bool) → is_to_server (kind_from watches) ≡ true
@@ -217,13 +217,13 @@ keeps-quiet w id now made h =
       notes = l.notes;
     }) h
 
-pub keeps-piece : (w : World) (id now : ℕ) (g : Gathering) → (w.clients id).made ≡ true
+pub keeps-fragment : (w : World) (id now : ℕ) (g : Gathering) → (w.clients id).made ≡ true
     → Gathers down_text (w.server.records id).instructions g
-    → Holds w → Holds (with_client w id (after_piece (w.clients id) now g))
-keeps-piece w id now g made of h =
+    → Holds w → Holds (with_client w id (after_fragment (w.clients id) now g))
+keeps-fragment w id now g made of h =
     let l = h.lines id in
     let a = l.acts in
-    keeps-client w id (after_piece (w.clients id) now g) made refl refl (h.watchers id) refl
+    keeps-client w id (after_fragment (w.clients id) now g) made refl refl (h.watchers id) refl
     (record {
       truth = l.truth;
       link = l.link;
@@ -334,7 +334,7 @@ up_is w id e h =
     let made = (newest_true (IsScreenOf c.version w.server.size w.server.log w.server.cuts) c.receiver l.truth.receiver).made in
     let numbers = h.numbers in
     let left = or_left (is_spent (c.acts.acked + 1) || is_spent (length c.instructions + 1))
-    (is_spent (c.datagrams + length (pieces_from c))) e in
+    (is_spent (c.datagrams + length (fragments_from c))) e in
     let first = not_past (c.acts.acked + 1) (or_left (is_spent (c.acts.acked + 1)) (is_spent (length c.instructions + 1)) left) in
     record {
       acked = omega (arith, made, numbers);
@@ -377,10 +377,10 @@ keeps-sending w id now made e h =
         gathers_up = gathers-more up_text c.instructions (up_from c ∷ []) r.gathering l.gathers_up;
         notes = l.notes;
       }) (λ j f. h.lines j);
-      pieces = (λ d i. elim (IsIn-append_cases d w.sent (datagrams_from w.server.session id c) i) [
-        | inl o ↦ on_put (λ j x. IsPiece (is_to_server d.kind) d (w.server.records d.client) (w.clients j)
-            → IsPiece (is_to_server d.kind) d (w.server.records d.client) x) w.clients id c' (like (is_to_server d.kind) d)
-            (λ j f p. p) d.client (h.pieces d o)
+      fragments = (λ d i. elim (IsIn-append_cases d w.sent (datagrams_from w.server.session id c) i) [
+        | inl o ↦ on_put (λ j x. IsFragment (is_to_server d.kind) d (w.server.records d.client) (w.clients j)
+            → IsFragment (is_to_server d.kind) d (w.server.records d.client) x) w.clients id c' (like (is_to_server d.kind) d)
+            (λ j f p. p) d.client (h.fragments d o)
         | inr n ↦ new d n
       ]);
       bears = (λ d i. elim (IsIn-append_cases d w.sent (datagrams_from w.server.session id c) i) [
@@ -426,24 +426,24 @@ keeps-sending w id now made e h =
     packed d i = packed_is up_text (w.clients id).instructions (up_from (w.clients id)) (w.clients id).version (kind_from (w.clients id).watches) w.server.session id
         (w.clients id).datagrams d i
 
-    like : (to : Bool) (d : DatagramValue) → IsPiece to d (w.server.records d.client) (w.clients id)
-        → IsPiece to d (w.server.records d.client) (after_sending (w.clients id) now)
+    like : (to : Bool) (d : DatagramValue) → IsFragment to d (w.server.records d.client) (w.clients id)
+        → IsFragment to d (w.server.records d.client) (after_sending (w.clients id) now)
     like false d p = p
-    like true d p = piece-more up_text (w.clients id).instructions (up_from (w.clients id) ∷ []) (piece_of d) p
+    like true d p = fragment-more up_text (w.clients id).instructions (up_from (w.clients id) ∷ []) (fragment_of d) p
 
     new : (d : DatagramValue) → IsIn d (datagrams_from w.server.session id (w.clients id))
-        → IsPiece (is_to_server d.kind) d (w.server.records d.client) (put w.clients id (after_sending (w.clients id) now) d.client)
+        → IsFragment (is_to_server d.kind) d (w.server.records d.client) (put w.clients id (after_sending (w.clients id) now) d.client)
     new d i =
         let p = packed d i in
-        subst (λ (kind : Kind). IsPiece (is_to_server kind) d (w.server.records d.client)
+        subst (λ (kind : Kind). IsFragment (is_to_server kind) d (w.server.records d.client)
         (put w.clients id (after_sending (w.clients id) now) d.client))
         (sym p.kind_is)
-        (subst (λ (to : Bool). IsPiece to d (w.server.records d.client) (put w.clients id (after_sending (w.clients id) now) d.client))
+        (subst (λ (to : Bool). IsFragment to d (w.server.records d.client) (put w.clients id (after_sending (w.clients id) now) d.client))
         (sym (kind_goes (w.clients id).watches))
-        (subst (λ (k : ℕ). IsPiece true d (w.server.records d.client) (put w.clients id (after_sending (w.clients id) now) k))
+        (subst (λ (k : ℕ). IsFragment true d (w.server.records d.client) (put w.clients id (after_sending (w.clients id) now) k))
         (sym p.client_is)
-        (subst (λ (x : Client). IsPiece true d (w.server.records d.client) x)
-        (sym (put_same w.clients id (after_sending (w.clients id) now))) p.piece)))
+        (subst (λ (x : Client). IsFragment true d (w.server.records d.client) x)
+        (sym (put_same w.clients id (after_sending (w.clients id) now))) p.fragment)))
 
 -- no record is known of a start that isn't made
 unknown : (r : Record) (c : Client) → c.made ≡ false → Fits r c → r ≡ no_record
@@ -501,10 +501,10 @@ keeps-start w slot id v watches made fit h =
         gathers_up = l.gathers_up;
         notes = l.notes;
       }) (λ j e. h.lines j);
-      pieces = (λ d i. on_put (λ j x. IsPiece (is_to_server d.kind) d (w.server.records d.client) (w.clients j)
-          → IsPiece (is_to_server d.kind) d (w.server.records d.client) x) w.clients id (new_client v watches)
-          (λ p. like (is_to_server d.kind) d (subst (λ (x : Client). IsPiece (is_to_server d.kind) d (w.server.records d.client) x) is p))
-          (λ j e p. p) d.client (h.pieces d i));
+      fragments = (λ d i. on_put (λ j x. IsFragment (is_to_server d.kind) d (w.server.records d.client) (w.clients j)
+          → IsFragment (is_to_server d.kind) d (w.server.records d.client) x) w.clients id (new_client v watches)
+          (λ p. like (is_to_server d.kind) d (subst (λ (x : Client). IsFragment (is_to_server d.kind) d (w.server.records d.client) x) is p))
+          (λ j e p. p) d.client (h.fragments d i));
       bears = (λ d i. on_put (λ j x. Bears d (w.clients j) → Bears d x) w.clients id (new_client v watches)
           (λ b. absurd (let z : true ≡ false = sym b.made ∙ made in cc)) (λ j e b. b) d.client (h.bears d i));
       fits = on_put (λ j x. Fits (w.server.records j) x) w.clients id (new_client v watches) (let f = h.fits id in record {
@@ -524,7 +524,7 @@ keeps-start w slot id v watches made fit h =
           place);
     }
   where
-    like : (to : Bool) (d : DatagramValue) → IsPiece to d (w.server.records d.client) nobody
-        → IsPiece to d (w.server.records d.client) (new_client v watches)
+    like : (to : Bool) (d : DatagramValue) → IsFragment to d (w.server.records d.client) nobody
+        → IsFragment to d (w.server.records d.client) (new_client v watches)
     like false d p = p
     like true d p = p

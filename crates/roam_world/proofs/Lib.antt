@@ -2,7 +2,7 @@ pub mod Versions
 pub mod Members
 pub mod Screens
 pub mod Acting
-pub mod Pieces
+pub mod Fragments
 pub mod Comes
 pub mod Keeps
 pub mod ServerKeeps

@@ -6,21 +6,21 @@ use Rattle.roam_cells.specs.declared.faults.Fault.TheVariants.{OutOfMemory}
 use Rattle.roam_screens.specs.Screenshot.{Screenshot}
 use Rattle.roam_sync.specs.Senders.{newest}
 use Rattle.roam_sync.proofs.Ends.{marked_newest}
-use Rattle.roam_wire.specs.Cutting.{pieces_of}
-use Rattle.roam_wire.specs.Gatherers.{Piece, Gathering, piece_of}
-use Rattle.roam_wire.specs.Pieces.{all_there}
-use Rattle.roam_wire.specs.Arrivals.{IsPieceOf, GathersOf}
+use Rattle.roam_wire.specs.Cutting.{fragments_of}
+use Rattle.roam_wire.specs.Gatherers.{FragmentValue, Gathering, fragment_of}
+use Rattle.roam_wire.specs.Fragments.{all_there}
+use Rattle.roam_wire.specs.AnyOrder.{IsFragmentOf, GathersOf}
 use Rattle.roam_wire.specs.Instructions.{DownValue, down_text}
 use Rattle.roam_world.specs.Lists.{IsIn}
 use Rattle.roam_world.specs.Texts.{datagram_with, datagrams_of}
 use Rattle.roam_world.specs.Servers.{Record, Server, moment}
-use Rattle.roam_world.specs.Ticks.{number_after, screen_to, holds_after, sends, down_to, pieces_to, after_sent, ticked, datagrams_to, Parcel, parcel, parcels_to, sent_by, is_tick_spent}
+use Rattle.roam_world.specs.Ticks.{number_after, screen_to, holds_after, sends, down_to, fragments_to, after_sent, ticked, datagrams_to, Parcel, parcel, parcels_to, sent_by, is_tick_spent}
 use Rattle.roam_world.specs.Worlds.{World, ToClient, Reply, Failed, datagram_at, after_server_tick}
 use Rattle.roam_world.specs.Steps.{ServerTickStep, spent, ticked as did_tick, no_memory, Run}
 use Rattle.roam_world.specs.Laws.{deliveries, IsFresh, DeliversAll, OneRoundSuffices}
-use Rattle.roam_world.specs.Holds.{numbered, pieces_by, cuts_of, Holds}
+use Rattle.roam_world.specs.Holds.{numbered, fragments_by, cuts_of, Holds}
 use Rattle.roam_world.proofs.Members.{IsIn-map, IsIn-flat_map}
-use Rattle.roam_world.proofs.Pieces.{numbered-last}
+use Rattle.roam_world.proofs.Fragments.{numbered-last}
 use Rattle.roam_world.proofs.ServerKeeps.{to_record, to_known, keeps-tick}
 use Rattle.roam_world.proofs.Runs.{keeps-step}
 use Rattle.roam_world.proofs.Gathered.{gathered_all, AllOf, Comes, all_gathered_anew}
@@ -34,14 +34,14 @@ use Rattle.roam_wire.specs.Datagrams.{DatagramValue}
 
 -- what a round of deliveries leaves
 record Went (w w'' : World) (cuts : ℕ → List (List ℕ)) (id n m : ℕ) (ks : List (ℕ × ℕ)) : Type 0 where
-  ps : List Piece
+  ps : List FragmentValue
   all : AllOf cuts n ps
   gatherer : (w''.clients id).gathering ≡ gathered_all (w.clients id).gathering ps
   shows : Shows n m (w.clients id).gathering (w.clients id).receiver.newest.number
       → Shows n m (w''.clients id).gathering (w''.clients id).receiver.newest.number
   comes : (k later : ℕ) (d : DatagramValue) → IsIn (k, later) ks → datagram_at w.sent k ≡ Some d → Comes d.index ps
 
--- each of these is a piece of instruction n
+-- each of these is a fragment of instruction n
 abbrev EachIsOne : World → ℕ → ℕ → List (ℕ × ℕ) → Type 0
 EachIsOne w id n ks = (k later : ℕ) → IsIn (k, later) ks → (d : DatagramValue) × (datagram_at w.sent k ≡ Some d) × IsOne w id n d
 
@@ -61,7 +61,7 @@ one_at w' w id n same version d o =
       session_is = subst (λ (q : Server). d.session ≡ q.session) same o.session_is;
       client_is = o.client_is;
       number_is = o.number_is;
-      piece_of_it = subst (λ (q : Server). IsPieceOf (cuts_of down_text (q.records id).instructions) (piece_of d)) same o.piece_of_it;
+      fragment_of_it = subst (λ (q : Server). IsFragmentOf (cuts_of down_text (q.records id).instructions) (fragment_of d)) same o.fragment_of_it;
     }
 
 goes : (w w'' : World) (slot id n m : ℕ) (v : DownValue) (ks : List (ℕ × ℕ)) (rs : List Reply) → Holds w → w.slots slot ≡ Some id
@@ -91,10 +91,10 @@ goes w w'' slot id n m v (k ∷ ks) (r ∷ rs) h s t each run fine =
     (e.0, ap (λ (ds : List DatagramValue). datagram_at ds k) one.sent ∙ e.1, one_at run.0 w id n (sym one.server) (sym one.version) e.0 e.2)) run.2
     (λ i. fine (inr i)) in
     record {
-      ps = piece_of first.0 ∷ rest.ps;
+      ps = fragment_of first.0 ∷ rest.ps;
       all = (
         first.2.number_is,
-        first.2.piece_of_it,
+        first.2.fragment_of_it,
         subst
             (λ (q : Server). AllOf (cuts_of down_text (q.records id).instructions) n rest.ps) one.server rest.all,
       );
@@ -112,10 +112,10 @@ goes w w'' slot id n m v (k ∷ ks) (r ∷ rs) h s t each run fine =
 
 -- ---- the datagrams of a tick to one start
 
-packed_id : (v : Version) (session client before id : ℕ) (pieces : List (List ℕ)) (d : DatagramValue)
-    → IsIn d (datagrams_of v ToClientKind session client before id pieces) → d.id ≡ id
-packed_id v session client before id pieces d i =
-    let m = IsIn-map (datagram_with v ToClientKind session client before id (length pieces)) d (enumerate_from 0 pieces) i in ap
+packed_id : (v : Version) (session client before id : ℕ) (fragments : List (List ℕ)) (d : DatagramValue)
+    → IsIn d (datagrams_of v ToClientKind session client before id fragments) → d.id ≡ id
+packed_id v session client before id fragments d i =
+    let m = IsIn-map (datagram_with v ToClientKind session client before id (length fragments)) d (enumerate_from 0 fragments) i in ap
     (λ (q : DatagramValue). q.id) (sym m.2)
 
 -- a datagram of the tick to this start is one of those to its record
@@ -141,9 +141,9 @@ sends_to : (session id : ℕ) (r : Record) (n : ℕ) (s : Screenshot) (now : ℕ
 sends_to session id r n s now d i = go (sends r n s now) refl i
   where
     go : (b : Bool) → sends r n s now ≡ b → IsIn d
-        (cond b (datagrams_of r.version ToClientKind session id r.datagrams (length r.instructions + 1) (pieces_to r n s now)) [])
+        (cond b (datagrams_of r.version ToClientKind session id r.datagrams (length r.instructions + 1) (fragments_to r n s now)) [])
         → (sends r n s now ≡ true) × (d.id ≡ length r.instructions + 1)
-    go true e i = (e, packed_id r.version session id r.datagrams (length r.instructions + 1) (pieces_to r n s now) d i)
+    go true e i = (e, packed_id r.version session id r.datagrams (length r.instructions + 1) (fragments_to r n s now) d i)
     go false e i = absurd i
 
 -- what a tick leaves, where it sends to this start
@@ -193,19 +193,19 @@ round_of w now id unspent h k0 d0 some =
             client_is = f.2;
             number_is =
                 (sends_to w.server.session id r n s now d t.1).1;
-            piece_of_it = p.piece;
+            fragment_of_it = p.fragment;
           });
       each = (λ i lt.
-          let cuts : cuts_of down_text (ticked r n s now).instructions (length r.instructions + 1) ≡ pieces_of
-          (down_text (down_to r n s now)) = ap (λ (o : Option DownValue). pieces_by down_text o) t.0 in
-          let x = some_at (pieces_of (down_text (down_to r n s now))) i (subst (λ (xs : List (List ℕ)). i < length xs) cuts lt) in
+          let cuts : cuts_of down_text (ticked r n s now).instructions (length r.instructions + 1) ≡ fragments_of
+          (down_text (down_to r n s now)) = ap (λ (o : Option DownValue). fragments_by down_text o) t.0 in
+          let x = some_at (fragments_of (down_text (down_to r n s now))) i (subst (λ (xs : List (List ℕ)). i < length xs) cuts lt) in
           let z : 0 + i ≡ i = omega arith in
-          let a = map_here make (i, x.0) (enumerate_from 0 (pieces_of (down_text (down_to r n s now))))
-          (subst (λ (q : ℕ). IsIn (q, x.0) (enumerate_from 0 (pieces_of (down_text (down_to r n s now))))) z
-          (enumerate_here 0 i x.0 (pieces_of (down_text (down_to r n s now))) x.1)) in
+          let a = map_here make (i, x.0) (enumerate_from 0 (fragments_of (down_text (down_to r n s now))))
+          (subst (λ (q : ℕ). IsIn (q, x.0) (enumerate_from 0 (fragments_of (down_text (down_to r n s now))))) z
+          (enumerate_here 0 i x.0 (fragments_of (down_text (down_to r n s now))) x.1)) in
           let b : IsIn (mine i x.0) (datagrams_to w.server.session id r n s now) =
           subst (λ (b : Bool). IsIn (mine i x.0) (cond b
-          (datagrams_of r.version ToClientKind w.server.session id r.datagrams (length r.instructions + 1) (pieces_to r n s now)) []))
+          (datagrams_of r.version ToClientKind w.server.session id r.datagrams (length r.instructions + 1) (fragments_to r n s now)) []))
           (sym sends'.0) a in
           let c = flat_here (parcels_to w.server now) id (parcel r.address (mine i x.0)) w.server.arrival first.0
           (map_here (parcel r.address) (mine i x.0) (datagrams_to w.server.session id r n s now) b) in
@@ -228,7 +228,7 @@ round_of w now id unspent h k0 d0 some =
 
     make : ℕ × List ℕ → DatagramValue
     make = datagram_with (w.server.records id).version ToClientKind w.server.session id (w.server.records id).datagrams (length (w.server.records id).instructions + 1)
-        (length (pieces_to (w.server.records id) (number_after w.server now) (screen_to w.server now id) now))
+        (length (fragments_to (w.server.records id) (number_after w.server now) (screen_to w.server now id) now))
 
     mine : ℕ → List ℕ → DatagramValue
     mine i x = make (i, x)
@@ -253,11 +253,11 @@ over w w' w'' slot id ks rs s round k0 d0 some all run fine =
     let first = all.all k0 d0 some in
     let whole = finish went.ps went.all of later (d0.index, went.comes k0 first.0 d0 first.1 some.1) comes in
     went.shows (λ e f. absurd (omega (arith, e, later))) (ap (λ (g : Gathering). g.id) went.gatherer ∙ whole.1)
-    (ap (λ (g : Gathering). all_there g.pieces) went.gatherer ∙ whole.0)
+    (ap (λ (g : Gathering). all_there g.fragments) went.gatherer ∙ whole.0)
   where
-    finish : {cuts : ℕ → List (List ℕ)} {n : ℕ} {g : Gathering} (ps : List Piece) → AllOf cuts n ps → GathersOf cuts g → g.id < n
+    finish : {cuts : ℕ → List (List ℕ)} {n : ℕ} {g : Gathering} (ps : List FragmentValue) → AllOf cuts n ps → GathersOf cuts g → g.id < n
         → ((i : ℕ) × Comes i ps) → ((i : ℕ) → i < length (cuts n) → Comes i ps)
-        → (all_there (gathered_all g ps).pieces ≡ true) × ((gathered_all g ps).id ≡ n)
+        → (all_there (gathered_all g ps).fragments ≡ true) × ((gathered_all g ps).id ≡ n)
     finish [] all of lt some each = absurd some.1
     finish {cuts} {n} {g} (p ∷ ps) all of lt some each = all_gathered_anew cuts n g p ps all of lt each
 

@@ -13,7 +13,7 @@ use Rattle.roam_sync.specs.Receivers.{Receiving, pairs, state_at, from_floor}
 use Rattle.roam_sync.specs.Lines.{Delivers}
 use Rattle.roam_sync.specs.TrueLines.{LeadsTruly}
 use Rattle.roam_sync.proofs.TrueStates.{found_true}
-use Rattle.roam_wire.specs.Gatherers.{Gathering, Answer, Part, Old, Whole, gather, piece_of}
+use Rattle.roam_wire.specs.Gatherers.{Gathering, Answer, Part, Old, Whole, gather, fragment_of}
 use Rattle.roam_wire.specs.Instructions.{DownValue, UpValue}
 use Rattle.roam_session.specs.Sessions.{Given, Drained}
 use Rattle.roam_session.specs.Refusals.{refuses_bytes, output_at, bytes_refused}
@@ -22,13 +22,13 @@ use Rattle.roam_world.specs.Lists.{IsIn}
 use Rattle.roam_world.specs.Numbers.{IsScreenOf}
 use Rattle.roam_world.specs.Texts.{Address, SaysUp, update_in, is_to_server, is_watching}
 use Rattle.roam_world.specs.Servers.{Server, moment, after_input}
-use Rattle.roam_world.specs.Comings.{Coming, turned_away, noted, completed, coming, coming_gathered, after_note, new_acts, after_acts, room_for, is_full_for, is_of_other, is_else}
+use Rattle.roam_world.specs.ServerArrivals.{Coming, turned_away, noted, completed, coming, coming_gathered, after_note, new_acts, after_acts, room_for, is_full_for, is_of_other, is_else}
 use Rattle.roam_world.specs.Ticks.{sent_by, is_tick_spent}
 use Rattle.roam_world.specs.Clients.{Client, moment_of, after_typed}
-use Rattle.roam_world.specs.Arrivals.{Hearing, Arriving, sent_back, kept, fulfilled, arriving, arriving_gathered, after_piece, step_of, hearing_of, after_whole}
+use Rattle.roam_world.specs.ClientArrivals.{Hearing, Arriving, sent_back, kept, fulfilled, arriving, arriving_gathered, after_fragment, step_of, hearing_of, after_whole}
 use Rattle.roam_world.specs.Sendings.{is_client_due, is_client_spent, datagrams_from, after_quiet}
 use Rattle.roam_world.specs.Worlds.{World, PaneBytes, Typed, ServerTick, ClientTick, ToServer, ToClient, Start, Drain, Done, Sent, Taken, Heard, Refused, Failed, Stopped, datagram_at, with_server, with_client, after_server_tick, after_client_sent, after_start}
-use Rattle.roam_world.specs.Steps.{refused, taken, no_pane, too_many, gone, empty_slot, full, spent, typed, ticked, quiet, sent, not_sent, piece, all_taken, no_room, whole, used, started, watching, unfit, is_unfit}
+use Rattle.roam_world.specs.Steps.{refused, taken, no_pane, too_many, gone, empty_slot, full, spent, typed, ticked, quiet, sent, not_sent, fragment, all_taken, no_room, whole, used, started, watching, unfit, is_unfit}
 use Rattle.roam_world.specs.Laws.{IsAmple, IsAnswered, HasReply}
 use Rattle.roam_world.specs.Holds.{Holds}
 use Rattle.roam_world.proofs.Screens.{one_screen}
@@ -88,9 +88,9 @@ gathered_other (Some (Whole text, g)) = tt
 coming_other : (s : Server) (d : DatagramValue) → IsOther (coming s d)
 unfolding IsOther
 coming_other s d =
-    go (coming_gathered (gather (s.records d.client).gathering (piece_of d))) (not (is_to_server d.kind))
+    go (coming_gathered (gather (s.records d.client).gathering (fragment_of d))) (not (is_to_server d.kind))
     (not (nat_eq d.session s.session)) (is_full_for s d) (is_of_other s d) (is_else s d)
-    (gathered_other (gather (s.records d.client).gathering (piece_of d)))
+    (gathered_other (gather (s.records d.client).gathering (fragment_of d)))
   where
     go : (x : Coming) (a b c o q : Bool) → IsOther x → IsOther
         (cond a (turned_away (BadDatagram reason.Kind)) (cond b (turned_away OtherSession) (cond c (turned_away ClientsFull)
@@ -121,8 +121,8 @@ gathered_else (Some (Whole text, g)) = tt
 arriving_else : (session id : ℕ) (c : Client) (d : DatagramValue) → IsElse (arriving session id c d)
 unfolding IsElse
 arriving_else session id c d =
-    go (arriving_gathered (gather c.gathering (piece_of d))) (is_to_server d.kind) (not (nat_eq d.session session))
-    (not (nat_eq d.client id)) (not (is_same_version c.version d.version)) (gathered_else (gather c.gathering (piece_of d)))
+    go (arriving_gathered (gather c.gathering (fragment_of d))) (is_to_server d.kind) (not (nat_eq d.session session))
+    (not (nat_eq d.client id)) (not (is_same_version c.version d.version)) (gathered_else (gather c.gathering (fragment_of d)))
   where
     go : (x : Arriving) (a b c o : Bool) → IsElse x
         → IsElse (cond a (sent_back (BadDatagram reason.Kind)) (cond b (sent_back OtherSession) (cond c (sent_back OtherClient)
@@ -302,7 +302,7 @@ server_reply w k from now h (Some d) e = go (coming w.server d) refl (comes w k 
       reply = Taken 0;
       left = with_server w (after_note w.server d from (moment w.server now) g);
       step =
-          piece d g e x refl refl;
+          fragment d g e x refl refl;
       ample = taken_ample 0;
     }
     go (completed g text) x well =
@@ -398,9 +398,9 @@ client_reply w slot k now h (Some id) e (Some d) f = go (arriving w.server.sessi
     go (kept how g) x well =
         record {
           reply = Heard how;
-          left = with_client w id (after_piece (w.clients id) (moment_of (w.clients id) now) g);
+          left = with_client w id (after_fragment (w.clients id) (moment_of (w.clients id) now) g);
           step =
-              piece id d how g e f x refl refl;
+              fragment id d how g e f x refl refl;
           ample = heard_ample how;
         }
     go (fulfilled g text) x well =

@@ -16,18 +16,18 @@ use Rattle.roam_world.specs.Lists.{IsIn}
 use Rattle.roam_world.specs.Numbers.{first_screen, screen, IsScreenOf}
 use Rattle.roam_world.specs.Texts.{Address, SaysDown, SaysUp, is_to_server, is_watching}
 use Rattle.roam_world.specs.Servers.{new_server, no_record, moment}
-use Rattle.roam_world.specs.Comings.{coming, new_acts, room_for, reach}
+use Rattle.roam_world.specs.ServerArrivals.{coming, new_acts, room_for, reach}
 use Rattle.roam_world.specs.Clients.{nobody, moment_of}
-use Rattle.roam_world.specs.Arrivals.{arriving}
+use Rattle.roam_world.specs.ClientArrivals.{arriving}
 use Rattle.roam_world.specs.Worlds.{World, new_world, Event, PaneBytes, Typed, ServerTick, ClientTick, ToServer, ToClient, Start, Drain, Reply, datagram_at}
-use Rattle.roam_world.specs.Steps.{PaneBytesStep, DrainStep, TypedStep, ServerTickStep, ClientTickStep, ToServerStep, ToClientStep, StartStep, refused, taken, no_pane, too_many, gone, empty_slot, full, spent, typed, no_memory, ticked, quiet, sent, not_sent, piece, unread, all_taken, no_room, no_memory_at_act, bad_change, whole, used, started, wstep, Run, watching, unfit}
+use Rattle.roam_world.specs.Steps.{PaneBytesStep, DrainStep, TypedStep, ServerTickStep, ClientTickStep, ToServerStep, ToClientStep, StartStep, refused, taken, no_pane, too_many, gone, empty_slot, full, spent, typed, no_memory, ticked, quiet, sent, not_sent, fragment, unread, all_taken, no_room, no_memory_at_act, bad_change, whole, used, started, wstep, Run, watching, unfit}
 use Rattle.roam_world.specs.Laws.{IsEvent, AreEvents, Always}
-use Rattle.roam_world.specs.Holds.{Tells, Acks, IsPiece, Holds}
+use Rattle.roam_world.specs.Holds.{Tells, Acks, IsFragment, Holds}
 use Rattle.roam_world.proofs.Members.{IsIn-slice_get}
 use Rattle.roam_world.proofs.Screens.{first_is}
-use Rattle.roam_world.proofs.Pieces.{IsTextOf, gathers-nothing}
+use Rattle.roam_world.proofs.Fragments.{IsTextOf, gathers-nothing}
 use Rattle.roam_world.proofs.Comes.{ComesWell, coming_well, says_up, ArrivesWell, arriving_well, says_down, IsTo, to_server}
-use Rattle.roam_world.proofs.Keeps.{keeps-input, keeps-typed, keeps-quiet, keeps-piece, keeps-whole, keeps-sending, keeps-start}
+use Rattle.roam_world.proofs.Keeps.{keeps-input, keeps-typed, keeps-quiet, keeps-fragment, keeps-whole, keeps-sending, keeps-start}
 use Rattle.roam_world.proofs.ServerKeeps.{keeps-note, keeps-acts, keeps-tick}
 use Rattle.roam_wire.specs.declared.versions.Version.{Version}
 use Rattle.roam_wire.specs.declared.versions.Version.TheVariants.{Two}
@@ -46,14 +46,14 @@ was_sent w k d e = go (nat_eq k 0) e
 -- what one of the list is to the server, and to a client start
 pub comes : (w : World) (k : ℕ) (d : DatagramValue) → datagram_at w.sent k ≡ Some d → Holds w
     → ComesWell (w.clients d.client).instructions (coming w.server d)
-comes w k d e h = coming_well w.server (w.server.records d.client) (w.clients d.client) d refl (h.pieces d (was_sent w k d e))
+comes w k d e h = coming_well w.server (w.server.records d.client) (w.clients d.client) d refl (h.fragments d (was_sent w k d e))
     (h.lines d.client).gathers_up
 
 pub arrives : (w : World) (id k : ℕ) (d : DatagramValue) → datagram_at w.sent k ≡ Some d → Holds w
     → ArrivesWell (w.server.records id).instructions (arriving w.server.session id (w.clients id) d)
 arrives w id k d e h =
     arriving_well w.server.session id (w.server.records id) (w.clients id) d
-    (λ same. subst (λ (i : ℕ). IsPiece (is_to_server d.kind) d (w.server.records i) (w.clients i)) same (h.pieces d (was_sent w k d e)))
+    (λ same. subst (λ (i : ℕ). IsFragment (is_to_server d.kind) d (w.server.records i) (w.clients i)) same (h.fragments d (was_sent w k d e)))
     (h.lines id).gathers_down
 
 pub reach_low : (size : SessionSize) (log : List Entry) (id : ℕ) (acts : List Act) → reach size log id acts ≤ length acts
@@ -109,7 +109,7 @@ keeps-to_server : (w : World) (k : ℕ) (from : Address) (now : ℕ) (r : Reply)
     → Holds w'
 keeps-to_server w k from now r w' (not_sent x e is) h = subst Holds (sym is) h
 keeps-to_server w k from now r w' (refused d f x y e is) h = subst Holds (sym is) h
-keeps-to_server w k from now r w' (piece d g x y e is) h =
+keeps-to_server w k from now r w' (fragment d g x y e is) h =
     subst Holds (sym is) (keeps-note w d from (moment w.server now) g (subst (IsTo (is_to_server d.kind)) y (to_server w.server d)) (h.bears d (was_sent w k d x))
     (subst (ComesWell (w.clients d.client).instructions) y (comes w k d x h)) h)
 keeps-to_server w k from now r w' (unread d g text why x y z e is) h = subst Holds (sym is) h
@@ -140,9 +140,9 @@ keeps-to_client : (w : World) (slot k now : ℕ) (r : Reply) (w' : World) → To
 keeps-to_client w slot k now r w' (empty_slot x e is) h = subst Holds (sym is) h
 keeps-to_client w slot k now r w' (not_sent x e is) h = subst Holds (sym is) h
 keeps-to_client w slot k now r w' (refused id d f x y z e is) h = subst Holds (sym is) h
-keeps-to_client w slot k now r w' (piece id d how g x y z e is) h =
+keeps-to_client w slot k now r w' (fragment id d how g x y z e is) h =
     let c = subst (ArrivesWell (w.server.records id).instructions) z (arrives w id k d y h) in
-    subst Holds (sym is) (keeps-piece w id (moment_of (w.clients id) now) g (h.slots slot id x) c.1 h)
+    subst Holds (sym is) (keeps-fragment w id (moment_of (w.clients id) now) g (h.slots slot id x) c.1 h)
 keeps-to_client w slot k now r w' (unread id d g text why x y z a e is) h = subst Holds (sym is) h
 keeps-to_client w slot k now r w' (bad_change id d g text v base x y z a b c' d' e is) h = subst Holds (sym is) h
 keeps-to_client w slot k now r w' (whole id d g text v q x y z a b e is) h =
@@ -195,7 +195,7 @@ holds-new session size limits =
         gathers_up = gathers-nothing up_text [];
         notes = refl;
       });
-      pieces = (λ d i. absurd i);
+      fragments = (λ d i. absurd i);
       bears = (λ d i. absurd i);
       fits = (λ id. record { made = (λ e. absurd (cc)); version = (λ e. refl); watches = (λ e. refl); none = (λ e. refl) });
       watchers = (λ id e. absurd (let z : false ≡ true = e in cc));

@@ -13,8 +13,8 @@ use Rattle.roam_keys.specs.declared.keys.Key.{Key}
 use Rattle.roam_keys.specs.declared.keys.Key.TheVariants.{Char}
 use Rattle.roam_acts.specs.Bytes.{act_text, acts_text, key_fields}
 use Rattle.roam_sync.specs.Senders.{newest}
-use Rattle.roam_wire.specs.Cutting.{pieces_of, HasLength, AreSendable}
-use Rattle.roam_wire.specs.Gatherers.{gather, piece_of}
+use Rattle.roam_wire.specs.Cutting.{fragments_of, HasLength, AreSendable}
+use Rattle.roam_wire.specs.Gatherers.{gather, fragment_of}
 use Rattle.roam_wire.specs.Instructions.{DownValue, down_text, UpValue, up_text}
 use Rattle.roam_session.specs.Sessions.{SessionSize}
 use Rattle.roam_world.proofs.Alike.{is_same-same, alike_same, alike_known, alike_new}
@@ -24,12 +24,12 @@ use Rattle.roam_world.specs.Lists.{IsIn, put}
 use Rattle.roam_world.specs.Moments.{is_spent}
 use Rattle.roam_world.specs.Texts.{datagram_with, datagrams_of, is_to_server, is_watching, kind_from}
 use Rattle.roam_world.specs.Servers.{Record, Server, new_server, no_record, moment}
-use Rattle.roam_world.specs.Comings.{Coming, turned_away, noted, completed, coming, coming_gathered, arrival_with, is_same, most_of, alike_in, alike}
-use Rattle.roam_world.specs.Ticks.{makes, number_after, screen_to, holds_after, sends, down_to, pieces_to, after_sent, ticked, datagrams_to, is_record_spent, Parcel, parcel, parcels_to, sent_by, is_tick_spent}
+use Rattle.roam_world.specs.ServerArrivals.{Coming, turned_away, noted, completed, coming, coming_gathered, arrival_with, is_same, most_of, alike_in, alike}
+use Rattle.roam_world.specs.Ticks.{makes, number_after, screen_to, holds_after, sends, down_to, fragments_to, after_sent, ticked, datagrams_to, is_record_spent, Parcel, parcel, parcels_to, sent_by, is_tick_spent}
 use Rattle.roam_world.specs.Clients.{Client, nobody, new_client, moment_of}
-use Rattle.roam_world.specs.Sendings.{up_from, pieces_from, datagrams_from, is_client_spent, after_sending}
+use Rattle.roam_world.specs.Sendings.{up_from, fragments_from, datagrams_from, is_client_spent, after_sending}
 use Rattle.roam_world.specs.Worlds.{World, new_world, Event, PaneBytes, Typed, ServerTick, ClientTick, ToServer, ToClient, Start, Drain, Reply, with_client}
-use Rattle.roam_world.specs.Steps.{refused, taken, no_pane, too_many, gone, empty_slot, full, spent, typed, no_memory, ticked as did_tick, quiet, sent, not_sent, piece, unread, all_taken, no_room, no_memory_at_act, bad_change, whole, used, started, wstep, Run, watching, unfit}
+use Rattle.roam_world.specs.Steps.{refused, taken, no_pane, too_many, gone, empty_slot, full, spent, typed, no_memory, ticked as did_tick, quiet, sent, not_sent, fragment, unread, all_taken, no_room, no_memory_at_act, bad_change, whole, used, started, wstep, Run, watching, unfit}
 use Rattle.roam_world.specs.Laws.{IsEvent, AreEvents, Always}
 use Rattle.roam_world.specs.Holds.{Holds, Counts}
 use Rattle.roam_world.proofs.Members.{IsIn-append_left, IsIn-append_right, IsIn-append_cases, IsIn-push_cases, IsIn-map, IsIn-flat_map, IsIn-enumerate, slice_get-within, on_put}
@@ -83,8 +83,8 @@ get_at (y ∷ xs) (suc i) x e = get_at xs i x e
 
 packed_sendable : (v : Version) (kind : Kind) (session client before id : ℕ) (text : List ℕ) (d : DatagramValue) → session < 2 ^ 64 → client < 2 ^ 64
     → 1 ≤ id → id < 2 ^ 62
-    → before + length (pieces_of text) < 2 ^ 62 → length text ≤ most_bytes v
-    → (kind ≡ FromWatcher → v ≡ Two) → IsIn d (datagrams_of v kind session client before id (pieces_of text)) → IsDatagram d
+    → before + length (fragments_of text) < 2 ^ 62 → length text ≤ most_bytes v
+    → (kind ≡ FromWatcher → v ≡ Two) → IsIn d (datagrams_of v kind session client before id (fragments_of text)) → IsDatagram d
 packed_sendable v kind session client before id text d s c low high numbers short new i =
     subst IsDatagram m.2 (record {
       kind = new;
@@ -99,28 +99,28 @@ packed_sendable v kind session client before id text d s c low high numbers shor
     })
   where
     make : ℕ × List ℕ → DatagramValue
-    make = datagram_with v kind session client before id (length (pieces_of text))
+    make = datagram_with v kind session client before id (length (fragments_of text))
 
-    m : (x : ℕ × List ℕ) × IsIn x (enumerate_from 0 (pieces_of text))
-        × (datagram_with v kind session client before id (length (pieces_of text)) x ≡ d)
-    m = IsIn-map (datagram_with v kind session client before id (length (pieces_of text))) d (enumerate_from 0 (pieces_of text)) i
+    m : (x : ℕ × List ℕ) × IsIn x (enumerate_from 0 (fragments_of text))
+        × (datagram_with v kind session client before id (length (fragments_of text)) x ≡ d)
+    m = IsIn-map (datagram_with v kind session client before id (length (fragments_of text))) d (enumerate_from 0 (fragments_of text)) i
 
-    n : (k : ℕ) × (m.0.0 ≡ 0 + k) × (slice_get (pieces_of text) k ≡ Some m.0.1)
-    n = IsIn-enumerate 0 (pieces_of text) m.0 m.1
+    n : (k : ℕ) × (m.0.0 ≡ 0 + k) × (slice_get (fragments_of text) k ≡ Some m.0.1)
+    n = IsIn-enumerate 0 (fragments_of text) m.0 m.1
 
     at : m.0.0 ≡ n.0
     at = n.1 ∙ (let z : 0 + n.0 ≡ n.0 = omega arith in z)
 
-    lt : n.0 < length (pieces_of text)
-    lt = slice_get-within (pieces_of text) n.0 m.0.1 n.2
+    lt : n.0 < length (fragments_of text)
+    lt = slice_get-within (fragments_of text) n.0 m.0.1 n.2
 
-    here : get_or (pieces_of text) n.0 [] ≡ m.0.1
-    here = get_at (pieces_of text) n.0 m.0.1 n.2
+    here : get_or (fragments_of text) n.0 [] ≡ m.0.1
+    here = get_at (fragments_of text) n.0 m.0.1 n.2
 
-    can : AreSendable v (pieces_of text)
+    can : AreSendable v (fragments_of text)
     can = sendable_in v text short
 
-    len : HasLength n.0 (length (pieces_of text)) (length (get_or (pieces_of text) n.0 []))
+    len : HasLength n.0 (length (fragments_of text)) (length (get_or (fragments_of text) n.0 []))
     len = can.lengths n.0 lt
 
 -- ---- a client start sends
@@ -135,11 +135,11 @@ from_sendable : (w : World) (id : ℕ) → is_client_spent (w.clients id) ≡ fa
 from_sendable w id e made h k d i =
     let c = w.clients id in
     let left = or_left (is_spent (c.acts.acked + 1) || is_spent (length c.instructions + 1))
-    (is_spent (c.datagrams + length (pieces_from c))) e in
+    (is_spent (c.datagrams + length (fragments_from c))) e in
     let number = not_past (length c.instructions + 1) (or_right (is_spent (c.acts.acked + 1)) (is_spent (length c.instructions + 1)) left)
     in
-    let numbers = not_past (c.datagrams + length (pieces_from c))
-    (or_right (is_spent (c.acts.acked + 1) || is_spent (length c.instructions + 1)) (is_spent (c.datagrams + length (pieces_from c)))
+    let numbers = not_past (c.datagrams + length (fragments_from c))
+    (or_right (is_spent (c.acts.acked + 1) || is_spent (length c.instructions + 1)) (is_spent (c.datagrams + length (fragments_from c)))
     e) in
     let many = up_length (up_from (w.clients id)) in
     let few = acts_length (up_from (w.clients id)).acts in
@@ -200,18 +200,18 @@ to_sendable w now e h k d i =
             subst (λ (k : ℕ). k ≤ most_bytes (w.server.records id).version) (sym long) few
 
         go : (b : Bool) → sends r n (s id) now ≡ b → IsIn x
-            (cond b (datagrams_of r.version ToClientKind w.server.session id r.datagrams (length r.instructions + 1) (pieces_to r n (s id) now))
+            (cond b (datagrams_of r.version ToClientKind w.server.session id r.datagrams (length r.instructions + 1) (fragments_to r n (s id) now))
             [])
-            → (b && (is_spent (length r.instructions + 1) || is_spent (r.datagrams + length (pieces_to r n (s id) now)))) ≡ false
+            → (b && (is_spent (length r.instructions + 1) || is_spent (r.datagrams + length (fragments_to r n (s id) now)))) ≡ false
             → IsDatagram x
         go false f y g = absurd y
         go true f y g =
             packed_sendable r.version ToClientKind w.server.session id r.datagrams (length r.instructions + 1) (down_text (down_to r n (s id) now)) x
             k.session (k.ids id there) (omega arith)
             (not_past (length r.instructions + 1) (or_left (is_spent (length r.instructions + 1))
-            (is_spent (r.datagrams + length (pieces_to r n (s id) now))) g))
-            (not_past (r.datagrams + length (pieces_to r n (s id) now))
-            (or_right (is_spent (length r.instructions + 1)) (is_spent (r.datagrams + length (pieces_to r n (s id) now))) g))
+            (is_spent (r.datagrams + length (fragments_to r n (s id) now))) g))
+            (not_past (r.datagrams + length (fragments_to r n (s id) now))
+            (or_right (is_spent (length r.instructions + 1)) (is_spent (r.datagrams + length (fragments_to r n (s id) now))) g))
             (short (sends_known r n (s id) now f)) (λ z. absurd (cc)) y
 
 known_ticked : (r : Record) (n : ℕ) (s : Screenshot) (now : ℕ) → (ticked r n s now).known ≡ r.known
@@ -248,7 +248,7 @@ all_room s d (completed g text) room = room
 
 room_in : (s : Server) (d : DatagramValue) → IsRoom s d (coming s d)
 unfolding IsRoom
-room_in s d = go (coming_gathered (gather (s.records d.client).gathering (piece_of d))) (not (is_to_server d.kind))
+room_in s d = go (coming_gathered (gather (s.records d.client).gathering (fragment_of d))) (not (is_to_server d.kind))
     (not (nat_eq d.session s.session)) (s.records d.client).known refl
     (nat_le (most_of (is_watching d.kind)) (length (alike s (is_watching d.kind)))) refl
     (is_same_version (s.records d.client).version d.version) (is_same (s.records d.client).watches (is_watching d.kind)) refl
@@ -408,7 +408,7 @@ counts-step w (ClientTick slot now) r w' i (sent id x y z e is) h k =
 counts-step w (ClientTick slot now) r w' i (no_memory e is) h k = subst Counts (sym is) k
 counts-step w (ToServer n from now) r w' i (not_sent x e is) h k = subst Counts (sym is) k
 counts-step w (ToServer n from now) r w' i (refused d f x y e is) h k = subst Counts (sym is) k
-counts-step w (ToServer n from now) r w' i (piece d g x y e is) h k =
+counts-step w (ToServer n from now) r w' i (fragment d g x y e is) h k =
     subst Counts (sym is) (heard_counts w _ d _ refl refl refl refl refl (k.sent d (was_sent w n d x)).client
     (subst (IsRoom w.server d) y (room_in w.server d)) k)
 counts-step w (ToServer n from now) r w' i (unread d g text why x y z e is) h k = subst Counts (sym is) k
@@ -425,7 +425,7 @@ counts-step w (ToServer n from now) r w' i (no_memory e is) h k = subst Counts (
 counts-step w (ToClient slot n now) r w' i (empty_slot x e is) h k = subst Counts (sym is) k
 counts-step w (ToClient slot n now) r w' i (not_sent x e is) h k = subst Counts (sym is) k
 counts-step w (ToClient slot n now) r w' i (refused id d f x y z e is) h k = subst Counts (sym is) k
-counts-step w (ToClient slot n now) r w' i (piece id d how g x y z e is) h k =
+counts-step w (ToClient slot n now) r w' i (fragment id d how g x y z e is) h k =
     subst Counts (sym is) (client_counts w id _ (k.starts id (h.slots slot id x)) k)
 counts-step w (ToClient slot n now) r w' i (unread id d g text why x y z a e is) h k = subst Counts (sym is) k
 counts-step w (ToClient slot n now) r w' i (bad_change id d g text v base x y z a b c' d' e is) h k = subst Counts (sym is) k

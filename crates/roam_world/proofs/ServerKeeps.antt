@@ -14,8 +14,8 @@ use Rattle.roam_sync.specs.Links.{Link}
 use Rattle.roam_sync.proofs.Ends.{base_least, last_among}
 use Rattle.roam_sync.proofs.TrueStates.{true_still, true_offered, true_acked, true_sent}
 use Rattle.roam_sync.proofs.Steps.{link_offered, link_acked, link_sent}
-use Rattle.roam_wire.specs.Gatherers.{Gathering, piece_of}
-use Rattle.roam_wire.specs.Arrivals.{IsPieceOf}
+use Rattle.roam_wire.specs.Gatherers.{Gathering, fragment_of}
+use Rattle.roam_wire.specs.AnyOrder.{IsFragmentOf}
 use Rattle.roam_wire.specs.Instructions.{DownValue, IsDown, down_text, UpValue, up_text}
 use Rattle.roam_session.specs.Sessions.{SessionSize, Entry, Did}
 use Rattle.roam_session.proofs.Screening.{face_is}
@@ -25,17 +25,17 @@ use Rattle.roam_world.specs.Moments.{is_overdue}
 use Rattle.roam_world.specs.Numbers.{screen, IsScreenOf, acts_of}
 use Rattle.roam_world.specs.Texts.{Address, update_in, datagrams_of, is_to_server, is_watching}
 use Rattle.roam_world.specs.Servers.{Note, Record, no_record, Server}
-use Rattle.roam_world.specs.Comings.{heard_from, told_by, after_note, new_acts, after_acts}
-use Rattle.roam_world.specs.Ticks.{makes, cuts_after, number_after, screen_to, is_live, is_offered, holds_after, sends, down_to, pieces_to, after_sent, ticked, datagrams_to, Parcel, parcel, parcels_to, sent_by, is_tick_spent}
+use Rattle.roam_world.specs.ServerArrivals.{heard_from, told_by, after_note, new_acts, after_acts}
+use Rattle.roam_world.specs.Ticks.{makes, cuts_after, number_after, screen_to, is_live, is_offered, holds_after, sends, down_to, fragments_to, after_sent, ticked, datagrams_to, Parcel, parcel, parcels_to, sent_by, is_tick_spent}
 use Rattle.roam_world.specs.Clients.{Client}
 use Rattle.roam_world.specs.Worlds.{World, with_server, after_server_tick}
 use Rattle.roam_world.specs.Laws.{greatest_from, no_note}
-use Rattle.roam_world.specs.Holds.{cuts_of, Gathers, Tells, Acks, ActsOf, LineOf, IsPiece, Bears, Fits, AreCuts, AreScreens, Holds}
+use Rattle.roam_world.specs.Holds.{cuts_of, Gathers, Tells, Acks, ActsOf, LineOf, IsFragment, Bears, Fits, AreCuts, AreScreens, Holds}
 use Rattle.roam_world.proofs.Members.{IsIn-append_cases, IsIn-push_cases, IsIn-map, IsIn-flat_map, on_put}
 use Rattle.roam_world.proofs.Screens.{is_more, is_cut, cuts_more, cuts_cut, screens_more, screens_cut, acts_of-append, acts_of-own, acts_of-other}
 use Rattle.roam_world.proofs.Versions.{difference_leads}
 use Rattle.roam_world.proofs.Acting.{front_more, front_low}
-use Rattle.roam_world.proofs.Pieces.{piece-more, gathers-more, IsPacked, packed_is}
+use Rattle.roam_world.proofs.Fragments.{fragment-more, gathers-more, IsPacked, packed_is}
 use Rattle.roam_world.proofs.Keeps.{line-more, Line, not_past, or_left}
 use Rattle.roam_wire.specs.declared.versions.Version.{Version}
 use Rattle.roam_wire.specs.declared.datagrams.Kind.{Kind}
@@ -68,10 +68,10 @@ latest_noted r number from e =
         omega arith in ap (λ (k : ℕ). noted_at k r.address) m
 
 -- the record of a start changes, and nothing was sent to it
-piece-record : (to : Bool) (d : DatagramValue) (r r' : Record) (c : Client) → r'.instructions ≡ r.instructions → IsPiece to d r c
-    → IsPiece to d r' c
-piece-record false d r r' c same p = subst (λ (vs : List DownValue). IsPieceOf (cuts_of down_text vs) (piece_of d)) (sym same) p
-piece-record true d r r' c same p = p
+fragment-record : (to : Bool) (d : DatagramValue) (r r' : Record) (c : Client) → r'.instructions ≡ r.instructions → IsFragment to d r c
+    → IsFragment to d r' c
+fragment-record false d r r' c same p = subst (λ (vs : List DownValue). IsFragmentOf (cuts_of down_text vs) (fragment_of d)) (sym same) p
+fragment-record true d r r' c same p = p
 
 -- the record of a datagram that was sent is one of its client start's version
 fits-heard : (r r' : Record) (c : Client) (d : DatagramValue) → r'.known ≡ true → r'.version ≡ d.version → r'.watches ≡ is_watching d.kind
@@ -116,9 +116,9 @@ keeps-note w d from now g to bears of h =
         gathers_up = of;
         notes = latest_noted r d.number from l.notes;
       }) (λ j e. h.lines j);
-      pieces = (λ x i. on_put (λ j y. IsPiece (is_to_server x.kind) x (w.server.records j) (w.clients x.client)
-          → IsPiece (is_to_server x.kind) x y (w.clients x.client)) w.server.records d.client (heard_from r d from now g)
-          (piece-record (is_to_server x.kind) x r (heard_from r d from now g) (w.clients x.client) refl) (λ j e p. p) x.client (h.pieces x i));
+      fragments = (λ x i. on_put (λ j y. IsFragment (is_to_server x.kind) x (w.server.records j) (w.clients x.client)
+          → IsFragment (is_to_server x.kind) x y (w.clients x.client)) w.server.records d.client (heard_from r d from now g)
+          (fragment-record (is_to_server x.kind) x r (heard_from r d from now g) (w.clients x.client) refl) (λ j e p. p) x.client (h.fragments x i));
       bears = h.bears;
       fits = on_put (λ j x. Fits x (w.clients j)) w.server.records d.client (heard_from r d from now g)
           (fits-heard r (heard_from r d from now g) (w.clients d.client) d refl refl refl to bears) (λ j e. h.fits j);
@@ -170,9 +170,9 @@ keeps-acts w d from now g u n to bears of sent few h =
           (λ j e. line-more size log more cuts (acts_of j log) (acts_of j (log ++ more)) (w.server.records j) (w.clients j) h.cuts
           (acts_of-append j log more ∙ ap (λ (xs : List Act). acts_of j log ++ xs) (acts_of-other j id (take n new) (flip j e))
           ∙ append-nil (acts_of j log)) (h.lines j));
-      pieces = (λ x i. on_put (λ j y. IsPiece (is_to_server x.kind) x (w.server.records j) (w.clients x.client)
-          → IsPiece (is_to_server x.kind) x y (w.clients x.client)) w.server.records d.client r'
-          (piece-record (is_to_server x.kind) x r r' (w.clients x.client) refl) (λ j e p. p) x.client (h.pieces x i));
+      fragments = (λ x i. on_put (λ j y. IsFragment (is_to_server x.kind) x (w.server.records j) (w.clients x.client)
+          → IsFragment (is_to_server x.kind) x y (w.clients x.client)) w.server.records d.client r'
+          (fragment-record (is_to_server x.kind) x r r' (w.clients x.client) refl) (λ j e p. p) x.client (h.fragments x i));
       bears = h.bears;
       fits = on_put (λ j x. Fits x (w.clients j)) w.server.records d.client r' (fits-heard r r' (w.clients d.client) d refl refl refl to bears)
           (λ j e. h.fits j);
@@ -377,14 +377,14 @@ line-cut size log cuts k taken r c l =
       notes = l.notes;
     }
 
-piece_ticked : (to : Bool) (d : DatagramValue) (r : Record) (c : Client) (n : ℕ) (s : Screenshot) (now : ℕ) → IsPiece to d r c
-    → IsPiece to d (ticked r n s now) c
-piece_ticked true d r c n s now p = p
-piece_ticked false d r c n s now p = go (sends r n s now)
+fragment_ticked : (to : Bool) (d : DatagramValue) (r : Record) (c : Client) (n : ℕ) (s : Screenshot) (now : ℕ) → IsFragment to d r c
+    → IsFragment to d (ticked r n s now) c
+fragment_ticked true d r c n s now p = p
+fragment_ticked false d r c n s now p = go (sends r n s now)
   where
-    go : (b : Bool) → IsPieceOf (cuts_of down_text
-        (cond b (after_sent r n s now) (record r { sender = holds_after r n s now })).instructions) (piece_of d)
-    go true = piece-more down_text r.instructions (down_to r n s now ∷ []) (piece_of d) p
+    go : (b : Bool) → IsFragmentOf (cuts_of down_text
+        (cond b (after_sent r n s now) (record r { sender = holds_after r n s now })).instructions) (fragment_of d)
+    go true = fragment-more down_text r.instructions (down_to r n s now ∷ []) (fragment_of d) p
     go false = p
 
 -- the datagrams of a tick to a record
@@ -393,7 +393,7 @@ pub to_record : (session id : ℕ) (r : Record) (n : ℕ) (s : Screenshot) (now 
     → IsPacked down_text (ticked r n s now).instructions r.version ToClient session id d
 to_record session id r n s now d i = go (sends r n s now) i
   where
-    go : (b : Bool) → IsIn d (cond b (datagrams_of r.version ToClient session id r.datagrams (length r.instructions + 1) (pieces_to r n s now)) [])
+    go : (b : Bool) → IsIn d (cond b (datagrams_of r.version ToClient session id r.datagrams (length r.instructions + 1) (fragments_to r n s now)) [])
         → IsPacked down_text (cond b (after_sent r n s now) (record r { sender = holds_after r n s now })).instructions r.version
         ToClient session id d
     go true i = packed_is down_text r.instructions (down_to r n s now) r.version ToClient session id r.datagrams d i
@@ -405,7 +405,7 @@ pub to_known : (session id : ℕ) (r : Record) (n : ℕ) (s : Screenshot) (now :
 to_known session id r n s now d i = go (sends r n s now) refl i
   where
     go : (b : Bool) → sends r n s now ≡ b
-        → IsIn d (cond b (datagrams_of r.version ToClient session id r.datagrams (length r.instructions + 1) (pieces_to r n s now)) [])
+        → IsIn d (cond b (datagrams_of r.version ToClient session id r.datagrams (length r.instructions + 1) (fragments_to r n s now)) [])
         → r.known ≡ true
     go true e i = sends_known r n s now e
     go false e i = absurd i
@@ -510,9 +510,9 @@ keeps-tick w now spent h =
       lines = (λ id. line_ticked w.server.size w.server.log (cuts_after w.server now) (acts_of id w.server.log) (w.server.records id)
           (w.clients id) (number_after w.server now) (screen_to w.server now id) now
           (screen_for w now id (h.fits id)) (h.fits id) c.screens c.numbers (c.lines id));
-      pieces = (λ d i. elim (IsIn-append_cases d w.sent (map (λ (p : Parcel). p.datagram) (sent_by w.server now)) i) [
-        | inl o ↦ piece_ticked (is_to_server d.kind) d (w.server.records d.client) (w.clients d.client) (number_after w.server now)
-            (screen_to w.server now d.client) now (h.pieces d o)
+      fragments = (λ d i. elim (IsIn-append_cases d w.sent (map (λ (p : Parcel). p.datagram) (sent_by w.server now)) i) [
+        | inl o ↦ fragment_ticked (is_to_server d.kind) d (w.server.records d.client) (w.clients d.client) (number_after w.server now)
+            (screen_to w.server now d.client) now (h.fragments d o)
         | inr n ↦ new d n
       ]);
       bears = (λ d i. elim (IsIn-append_cases d w.sent (map (λ (p : Parcel). p.datagram) (sent_by w.server now)) i) [
@@ -529,16 +529,16 @@ keeps-tick w now spent h =
     c = cuts_hold w now spent h
 
     new : (d : DatagramValue) → IsIn d (map (λ (p : Parcel). p.datagram) (sent_by w.server now))
-        → IsPiece (is_to_server d.kind) d (ticked (w.server.records d.client) (number_after w.server now) (screen_to w.server now d.client)
+        → IsFragment (is_to_server d.kind) d (ticked (w.server.records d.client) (number_after w.server now) (screen_to w.server now d.client)
         now) (w.clients d.client)
     new d i =
         let m = IsIn-map (λ (p : Parcel). p.datagram) d (sent_by w.server now) i in
         let p = (in_tick w.server now m.0 m.1).packed in
-        subst (λ (x : DatagramValue). IsPiece (is_to_server x.kind) x
+        subst (λ (x : DatagramValue). IsFragment (is_to_server x.kind) x
         (ticked (w.server.records x.client) (number_after w.server now) (screen_to w.server now x.client) now) (w.clients x.client)) m.2
-        (subst (λ (kind : Kind). IsPiece (is_to_server kind) m.0.datagram
+        (subst (λ (kind : Kind). IsFragment (is_to_server kind) m.0.datagram
         (ticked (w.server.records m.0.datagram.client) (number_after w.server now) (screen_to w.server now m.0.datagram.client) now)
-        (w.clients m.0.datagram.client)) (sym p.kind_is) p.piece)
+        (w.clients m.0.datagram.client)) (sym p.kind_is) p.fragment)
 
     born : (d : DatagramValue) → IsIn d (map (λ (p : Parcel). p.datagram) (sent_by w.server now)) → Bears d (w.clients d.client)
     born d i =

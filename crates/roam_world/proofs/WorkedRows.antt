@@ -17,10 +17,10 @@ use Rattle.roam_acts.specs.Takers.{fresh_of}
 use Rattle.roam_world.specs.Numbers.{acts_of}
 use Rattle.roam_world.specs.Texts.{Address, datagram_with}
 use Rattle.roam_world.specs.Servers.{Record, Server, no_record, new_server, after_input}
-use Rattle.roam_world.specs.Comings.{turned_away, coming, reach, is_full_for}
+use Rattle.roam_world.specs.ServerArrivals.{turned_away, coming, reach, is_full_for}
 use Rattle.roam_world.specs.Ticks.{makes, cuts_after, is_live, is_offered, down_from}
 use Rattle.roam_world.specs.Clients.{new_client}
-use Rattle.roam_world.specs.Arrivals.{sent_back, arriving}
+use Rattle.roam_world.specs.ClientArrivals.{sent_back, arriving}
 use Rattle.roam_world.specs.Laws.{greatest_from, no_note}
 use Rattle.roam_wire.specs.declared.versions.Version.{Version}
 use Rattle.roam_wire.specs.declared.versions.Version.TheVariants.{One, Two}
@@ -32,7 +32,7 @@ use Rattle.roam_wire.specs.Datagrams.{DatagramValue}
 abbrev size : SessionSize
 size = record { rows = 4; cols = 17 }
 
--- the only piece of the first instruction of a start
+-- the only fragment of the first instruction of a start
 abbrev first_of : Version → Kind → ℕ → DatagramValue
 first_of v kind client = datagram_with v kind 1 client 0 1 1 (0, 7 ∷ [])
 

@@ -8,9 +8,9 @@ use Rattle.roam_world.specs.Versions.{IsSeenBy, applied_by}
 use Rattle.roam_sync.specs.Lines.{Update}
 use Rattle.roam_sync.specs.TrueLines.{TrueLine}
 use Rattle.roam_sync.specs.Links.{Link}
-use Rattle.roam_wire.specs.Cutting.{pieces_of}
-use Rattle.roam_wire.specs.Gatherers.{Gathering, piece_of}
-use Rattle.roam_wire.specs.Arrivals.{IsPieceOf, GathersOf}
+use Rattle.roam_wire.specs.Cutting.{fragments_of}
+use Rattle.roam_wire.specs.Gatherers.{Gathering, fragment_of}
+use Rattle.roam_wire.specs.AnyOrder.{IsFragmentOf, GathersOf}
 use Rattle.roam_wire.specs.Instructions.{DownValue, IsDown, down_text, UpValue, IsUp, up_text}
 use Rattle.roam_layout.specs.Layouts.{IsSessionSize}
 use Rattle.roam_session.specs.Sessions.{SessionSize, Entry}
@@ -18,7 +18,7 @@ use Rattle.roam_world.specs.Lists.{IsIn}
 use Rattle.roam_world.specs.Numbers.{screen, IsScreenOf, acts_of}
 use Rattle.roam_world.specs.Texts.{is_to_server, is_watching, update_in}
 use Rattle.roam_world.specs.Servers.{Record, no_record}
-use Rattle.roam_world.specs.Comings.{most_of, alike}
+use Rattle.roam_world.specs.ServerArrivals.{most_of, alike}
 use Rattle.roam_world.specs.Clients.{Client, nobody}
 use Rattle.roam_world.specs.Worlds.{World}
 use Rattle.roam_world.specs.Laws.{greatest_from, no_note}
@@ -31,15 +31,15 @@ abbrev pub numbered : {V : Type 0} → List V → ℕ → Option V
 numbered vs zero = None
 numbered vs (suc n) = slice_get vs n
 
-abbrev pub pieces_by : {V : Type 0} → (V → List ℕ) → Option V → List (List ℕ)
-pieces_by text_of None = []
-pieces_by text_of (Some v) = pieces_of (text_of v)
+abbrev pub fragments_by : {V : Type 0} → (V → List ℕ) → Option V → List (List ℕ)
+fragments_by text_of None = []
+fragments_by text_of (Some v) = fragments_of (text_of v)
 
--- for each id the pieces of its instruction's text
+-- for each id the fragments of its instruction's text
 abbrev pub cuts_of : {V : Type 0} → (V → List ℕ) → List V → ℕ → List (List ℕ)
-cuts_of text_of vs n = pieces_by text_of (numbered vs n)
+cuts_of text_of vs n = fragments_by text_of (numbered vs n)
 
--- what is gathered are pieces of one of these instructions
+-- what is gathered are fragments of one of these instructions
 pub record Gathers {V : Type 0} (text_of : V → List ℕ) (vs : List V) (g : Gathering) : Type 0 where
   pub of : GathersOf (cuts_of text_of vs) g
   pub low : g.id ≤ length vs
@@ -74,10 +74,10 @@ pub record LineOf (size : SessionSize) (log : List Entry) (cuts : List ℕ) (tak
   pub gathers_up : Gathers up_text c.instructions r.gathering
   pub notes : greatest_from no_note r.notes ≡ record { number = r.latest; source = r.address }
 
--- a datagram is a piece of the instruction that was sent under its id
-abbrev pub IsPiece : Bool → DatagramValue → Record → Client → Type 0
-IsPiece false d r c = IsPieceOf (cuts_of down_text r.instructions) (piece_of d)
-IsPiece true d r c = IsPieceOf (cuts_of up_text c.instructions) (piece_of d)
+-- a datagram is a fragment of the instruction that was sent under its id
+abbrev pub IsFragment : Bool → DatagramValue → Record → Client → Type 0
+IsFragment false d r c = IsFragmentOf (cuts_of down_text r.instructions) (fragment_of d)
+IsFragment true d r c = IsFragmentOf (cuts_of up_text c.instructions) (fragment_of d)
 
 -- its client start was made, it has that one's version, and one to the server tells whether the start watches
 pub record Bears (d : DatagramValue) (c : Client) : Type 0 where
@@ -110,7 +110,7 @@ pub record Holds (w : World) : Type 0 where
   pub cuts : AreCuts w.server.log w.server.cuts
   pub screens : AreScreens w.server.size w.server.log w.server.cuts
   pub lines : (id : ℕ) → LineOf w.server.size w.server.log w.server.cuts (acts_of id w.server.log) (w.server.records id) (w.clients id)
-  pub pieces : (d : DatagramValue) → IsIn d w.sent → IsPiece (is_to_server d.kind) d (w.server.records d.client) (w.clients d.client)
+  pub fragments : (d : DatagramValue) → IsIn d w.sent → IsFragment (is_to_server d.kind) d (w.server.records d.client) (w.clients d.client)
   pub bears : (d : DatagramValue) → IsIn d w.sent → Bears d (w.clients d.client)
   pub fits : (id : ℕ) → Fits (w.server.records id) (w.clients id)
   pub watchers : (id : ℕ) → OnlyWatches (w.clients id)

@@ -17,7 +17,7 @@ use Rattle.roam_world.specs.Texts.{Address, is_to_server, is_watching}
 use Rattle.roam_world.specs.Servers.{Note, Server, nowhere, moment}
 use Rattle.roam_world.specs.Ticks.{Parcel, sent_by, is_live, number_after, after_tick}
 use Rattle.roam_world.specs.Clients.{shown_number, shown_screen}
-use Rattle.roam_world.specs.Arrivals.{IsGap}
+use Rattle.roam_world.specs.ClientArrivals.{IsGap}
 use Rattle.roam_world.specs.Worlds.{World, new_world, Event, PaneBytes, Typed, ServerTick, ClientTick, ToServer, ToClient, Start, Drain, Reply, Heard, Failed, Stopped, datagram_at}
 use Rattle.roam_world.specs.Steps.{wstep, Run}
 use Rattle.roam_wire.specs.Datagrams.{DatagramValue}

@@ -4,10 +4,10 @@ pub mod Versions
 pub mod Numbers
 pub mod Texts
 pub mod Servers
-pub mod Comings
+pub mod ServerArrivals
 pub mod Ticks
 pub mod Clients
-pub mod Arrivals
+pub mod ClientArrivals
 pub mod Sendings
 pub mod Worlds
 pub mod Steps

@@ -3,7 +3,7 @@ use Rattle.std.specs.Prelude.{ℕ, ◌<◌, ◌≤◌, ◌^◌, Bool, length}
 use Rattle.roam_acts.specs.Limits.{number_limit, most_unacknowledged}
 use Rattle.roam_wire.specs.Instructions.{DownValue, IsDown, UpValue, IsUp}
 use Rattle.roam_world.specs.Lists.{IsIn}
-use Rattle.roam_world.specs.Comings.{most_of, alike}
+use Rattle.roam_world.specs.ServerArrivals.{most_of, alike}
 use Rattle.roam_world.specs.Worlds.{World}
 use Rattle.roam_wire.specs.Datagrams.{DatagramValue, IsDatagram}
 

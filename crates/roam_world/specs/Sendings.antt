@@ -3,7 +3,7 @@ use Rattle.std.specs.Prelude.{ℕ, ◌+◌, max, List, [], ◌∷◌, ◌++◌, 
 use Rattle.roam_sync.specs.Moments.{resend_after, heartbeat}
 use Rattle.roam_acts.specs.Limits.{most_acts}
 use Rattle.roam_acts.specs.declared.acts.Act.{Act}
-use Rattle.roam_wire.specs.Cutting.{pieces_of}
+use Rattle.roam_wire.specs.Cutting.{fragments_of}
 use Rattle.roam_wire.specs.Instructions.{UpValue, up_text}
 use Rattle.roam_world.specs.Moments.{has_passed, is_overdue, is_spent}
 use Rattle.roam_world.specs.Texts.{kind_from, datagrams_of}
@@ -35,20 +35,20 @@ is_due_since c (Some since) now =
 abbrev pub is_client_due : Client → ℕ → Bool
 is_client_due c now = is_due_since c c.sent_at now
 
--- the instruction that it sends, and the pieces of its text
+-- the instruction that it sends, and the fragments of its text
 abbrev pub up_from : Client → UpValue
 up_from c = record { acked = shown_number c; first = c.acts.acked + 1; acts = waiting c }
 
-abbrev pub pieces_from : Client → List (List ℕ)
-pieces_from c = pieces_of (up_text (up_from c))
+abbrev pub fragments_from : Client → List (List ℕ)
+fragments_from c = fragments_of (up_text (up_from c))
 
 abbrev pub datagrams_from : ℕ → ℕ → Client → List DatagramValue
 datagrams_from session id c =
-    datagrams_of c.version (kind_from c.watches) session id c.datagrams (length c.instructions + 1) (pieces_from c)
+    datagrams_of c.version (kind_from c.watches) session id c.datagrams (length c.instructions + 1) (fragments_from c)
 
 -- a number that it needs would be past the last: that of its first act, of the instruction, of a datagram
 abbrev pub is_client_spent : Client → Bool
-is_client_spent c = is_spent (c.acts.acked + 1) || is_spent (length c.instructions + 1) || is_spent (c.datagrams + length (pieces_from c))
+is_client_spent c = is_spent (c.acts.acked + 1) || is_spent (length c.instructions + 1) || is_spent (c.datagrams + length (fragments_from c))
 
 -- after a tick that sends
 abbrev pub after_sending : Client → ℕ → Client
@@ -58,7 +58,7 @@ after_sending c now =
       sent_act = max c.sent_act (last_waiting c);
       owed = None;
       clock = now;
-      datagrams = c.datagrams + length (pieces_from c);
+      datagrams = c.datagrams + length (fragments_from c);
       instructions = c.instructions ++ up_from c ∷ [];
     }
 

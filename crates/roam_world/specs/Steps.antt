@@ -17,10 +17,10 @@ use Rattle.roam_session.specs.Sessions.{Given, Drained}
 use Rattle.roam_session.specs.Refusals.{refuses_bytes, output_at}
 use Rattle.roam_world.specs.Texts.{Address, is_watching, SaysDown, SaysNoDown, SaysUp, SaysNoUp, update_in}
 use Rattle.roam_world.specs.Servers.{moment, after_input}
-use Rattle.roam_world.specs.Comings.{turned_away, noted, completed, coming, after_note, new_acts, after_acts, room_for}
+use Rattle.roam_world.specs.ServerArrivals.{turned_away, noted, completed, coming, after_note, new_acts, after_acts, room_for}
 use Rattle.roam_world.specs.Ticks.{sent_by, is_tick_spent}
 use Rattle.roam_world.specs.Clients.{moment_of, after_typed}
-use Rattle.roam_world.specs.Arrivals.{Hearing, sent_back, kept, fulfilled, arriving, after_piece, step_of, hearing_of, after_whole}
+use Rattle.roam_world.specs.ClientArrivals.{Hearing, sent_back, kept, fulfilled, arriving, after_fragment, step_of, hearing_of, after_whole}
 use Rattle.roam_world.specs.Sendings.{is_client_due, is_client_spent, datagrams_from, after_quiet}
 use Rattle.roam_world.specs.Worlds.{World, Event, PaneBytes, Typed, ServerTick, ClientTick, ToServer, ToClient, Start, Drain, Reply, Done, Sent, Taken, Heard, Refused, Failed, Stopped, datagram_at, with_server, with_client, after_server_tick, after_client_sent, after_start}
 use Rattle.roam_wire.specs.declared.versions.Version.{Version}
@@ -91,7 +91,7 @@ pub data ToServerStep (w : World) (k : ℕ) (from : Address) (now : ℕ) (reply 
       → reply ≡ Refused → w' ≡ w → ToServerStep w k from now reply w'
   refused : (d : DatagramValue) (fault : Fault) → datagram_at w.sent k ≡ Some d → coming w.server d ≡ turned_away fault
       → reply ≡ Stopped fault 0 → w' ≡ w → ToServerStep w k from now reply w'
-  piece : (d : DatagramValue) (g : Gathering) → datagram_at w.sent k ≡ Some d → coming w.server d ≡ noted g
+  fragment : (d : DatagramValue) (g : Gathering) → datagram_at w.sent k ≡ Some d → coming w.server d ≡ noted g
       → reply ≡ Taken 0 → w' ≡ with_server w (after_note w.server d from (moment w.server now) g)
       → ToServerStep w k from now reply w'
   unread : (d : DatagramValue) (g : Gathering) (text : List ℕ) (why : Reason) → datagram_at w.sent k ≡ Some d
@@ -125,9 +125,9 @@ pub data ToClientStep (w : World) (slot k now : ℕ) (reply : Reply) (w' : World
   refused : (id : ℕ) (d : DatagramValue) (fault : Fault) → w.slots slot ≡ Some id → datagram_at w.sent k ≡ Some d
       → arriving w.server.session id (w.clients id) d ≡ sent_back fault
       → reply ≡ Failed fault → w' ≡ w → ToClientStep w slot k now reply w'
-  piece : (id : ℕ) (d : DatagramValue) (h : Hearing) (g : Gathering) → w.slots slot ≡ Some id → datagram_at w.sent k ≡ Some d
+  fragment : (id : ℕ) (d : DatagramValue) (h : Hearing) (g : Gathering) → w.slots slot ≡ Some id → datagram_at w.sent k ≡ Some d
       → arriving w.server.session id (w.clients id) d ≡ kept h g
-      → reply ≡ Heard h → w' ≡ with_client w id (after_piece (w.clients id) (moment_of (w.clients id) now) g)
+      → reply ≡ Heard h → w' ≡ with_client w id (after_fragment (w.clients id) (moment_of (w.clients id) now) g)
       → ToClientStep w slot k now reply w'
   unread : (id : ℕ) (d : DatagramValue) (g : Gathering) (text : List ℕ) (why : Reason) → w.slots slot ≡ Some id
       → datagram_at w.sent k ≡ Some d → arriving w.server.session id (w.clients id) d ≡ fulfilled g text → SaysNoDown text why

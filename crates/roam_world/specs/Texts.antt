@@ -1,4 +1,4 @@
--- What goes over the network: datagrams, each with one piece of an instruction's text.
+-- What goes over the network: datagrams, each with one fragment of an instruction's text.
 use Rattle.std.specs.Prelude.{◌≡◌, ℕ, ◌+◌, List, [], length, map, Bool, true, false, if◌then◌else◌}
 use Rattle.std.specs.List.{enumerate_from}
 use Rattle.roam_cells.specs.declared.faults.Reason.{Reason}
@@ -58,22 +58,22 @@ kind_from watches = if watches then FromWatcher else ToServer
 abbrev pub update_in : DownValue → Update
 update_in d = record { old = d.old; new = d.new; floor = d.floor; change = d.change }
 
--- the datagram with the piece of an index; its number follows those before the instruction's first
+-- the datagram with the fragment of an index; its number follows those before the instruction's first
 abbrev pub datagram_with : Version → Kind → ℕ → ℕ → ℕ → ℕ → ℕ → ℕ × List ℕ → DatagramValue
-datagram_with v kind session client before id count piece =
+datagram_with v kind session client before id count fragment =
     record {
       version = v;
       kind = kind;
       session = session;
       client = client;
-      number = before + piece.0 + 1;
+      number = before + fragment.0 + 1;
       id = id;
-      index = piece.0;
+      index = fragment.0;
       count = count;
-      payload = piece.1;
+      payload = fragment.1;
     }
 
--- the datagrams of an instruction: each of its pieces in its order
+-- the datagrams of an instruction: each of its fragments in its order
 abbrev pub datagrams_of : Version → Kind → ℕ → ℕ → ℕ → ℕ → List (List ℕ) → List DatagramValue
-datagrams_of v kind session client before id pieces =
-    map (datagram_with v kind session client before id (length pieces)) (enumerate_from 0 pieces)
+datagrams_of v kind session client before id fragments =
+    map (datagram_with v kind session client before id (length fragments)) (enumerate_from 0 fragments)

@@ -4,7 +4,7 @@ use Rattle.std.specs.List.{flat_map, list_any}
 use Rattle.roam_sync.specs.Limits.{most_held}
 use Rattle.roam_screens.specs.Screenshot.{Screenshot}
 use Rattle.roam_sync.specs.Senders.{Sending, newest, count, offered, sent_at, is_due}
-use Rattle.roam_wire.specs.Cutting.{pieces_of}
+use Rattle.roam_wire.specs.Cutting.{fragments_of}
 use Rattle.roam_wire.specs.Instructions.{DownValue, down_text}
 use Rattle.roam_world.specs.Versions.{difference_by}
 use Rattle.roam_world.specs.Numbers.{screen}
@@ -60,12 +60,12 @@ down_from v s taken =
       change = difference_by v s.base.state (newest s).state;
     }
 
--- the instruction to a record, and the pieces of its text
+-- the instruction to a record, and the fragments of its text
 abbrev pub down_to : Record → ℕ → Screenshot → ℕ → DownValue
 down_to r n s now = down_from r.version (holds_after r n s now) r.taken
 
-abbrev pub pieces_to : Record → ℕ → Screenshot → ℕ → List (List ℕ)
-pieces_to r n s now = pieces_of (down_text (down_to r n s now))
+abbrev pub fragments_to : Record → ℕ → Screenshot → ℕ → List (List ℕ)
+fragments_to r n s now = fragments_of (down_text (down_to r n s now))
 
 -- a record that is sent to
 abbrev pub after_sent : Record → ℕ → Screenshot → ℕ → Record
@@ -73,7 +73,7 @@ after_sent r n s now =
     record r {
       sender = sent_at (holds_after r n s now) now;
       owed = None;
-      datagrams = r.datagrams + length (pieces_to r n s now);
+      datagrams = r.datagrams + length (fragments_to r n s now);
       instructions = r.instructions ++ down_to r n s now ∷ [];
     }
 
@@ -84,12 +84,12 @@ ticked r n s now = if sends r n s now then after_sent r n s now else record r { 
 -- the datagrams to the record of a client start
 abbrev pub datagrams_to : ℕ → ℕ → Record → ℕ → Screenshot → ℕ → List DatagramValue
 datagrams_to session id r n s now =
-    if sends r n s now then datagrams_of r.version ToClient session id r.datagrams (length r.instructions + 1) (pieces_to r n s now) else []
+    if sends r n s now then datagrams_of r.version ToClient session id r.datagrams (length r.instructions + 1) (fragments_to r n s now) else []
 
 -- a number that sending to it needs would be past the last
 abbrev pub is_record_spent : Record → ℕ → Screenshot → ℕ → Bool
 is_record_spent r n s now =
-    sends r n s now && (is_spent (length r.instructions + 1) || is_spent (r.datagrams + length (pieces_to r n s now)))
+    sends r n s now && (is_spent (length r.instructions + 1) || is_spent (r.datagrams + length (fragments_to r n s now)))
 
 -- ---- the whole tick
 

@@ -8,7 +8,7 @@ use Rattle.roam_world.specs.Texts.{Address}
 use Rattle.roam_world.specs.Servers.{Server, new_server}
 use Rattle.roam_world.specs.Ticks.{Parcel, sent_by, after_tick}
 use Rattle.roam_world.specs.Clients.{Client, nobody, new_client}
-use Rattle.roam_world.specs.Arrivals.{Hearing}
+use Rattle.roam_world.specs.ClientArrivals.{Hearing}
 use Rattle.roam_world.specs.Sendings.{datagrams_from, after_sending}
 use Rattle.roam_wire.specs.Datagrams.{DatagramValue}
 use Rattle.roam_wire.specs.declared.versions.Version.{Version}

@@ -4,9 +4,9 @@ use Rattle.std.proofs.lemmas.Result.{err_from_is_err_and}
 use Rattle.roam_wire.specs.Datagrams.{datagram_value}
 use Rattle.roam_wire.specs.Gatherers.{GathererValue, Gathering, Part, Old}
 use Rattle.roam_hub.specs.Ends.{version_in, receiving_in}
-use Rattle.roam_hub.specs.Clients.{ClientView, Told, NotTold, Hears}
+use Rattle.roam_hub.specs.Clients.{ClientView, Delivered, NotDelivered, Hears}
 use Rattle.roam_hub.specs.declared.clients.Heard.TheVariants as heard
-use Rattle.roam_hub.proofs.Hearing.{not_datagram, not_admitted, not_gathered, piece_heard, not_told, is_told, acts_acked, told_number}
+use Rattle.roam_hub.proofs.Hearing.{not_datagram, not_admitted, not_gathered, fragment_heard, not_delivered, is_sent_to, acts_acked, delivered_number}
 use Rattle.roam_hub.proofs.clients.Client.datagram.Goals as goal
 
 pub returns-in_err-datagram-clause-heard : goal.returns-in_err-datagram-clause-heard
@@ -37,7 +37,7 @@ pub returns-in-Part-clause-heard : goal.returns-in-Part-clause-heard
 returns-in-Part-clause-heard c session id k st =
     let found = c.in_ok-datagram.ensures.found in
     let gathers = rw c.in-Part.is at c.in_ok-take.ensures.answer in
-    piece_heard session id k c.args.bytes.now c.args.now _ (datagram_value c.in_ok-datagram.datagram) heard.Part Part
+    fragment_heard session id k c.args.bytes.now c.args.now _ (datagram_value c.in_ok-datagram.datagram) heard.Part Part
     c.take.new.self.current c.max-moment.result (c.self.view_is ∙ st) (record { is = found.0; spelled = found.1 })
     (λ x same. c.in_ok-admit.ensures.ok x (same ∙ sym c.version.ensures.version)) gathers refl c.max-moment.ensures
 
@@ -45,7 +45,7 @@ pub returns-in-Old-clause-heard : goal.returns-in-Old-clause-heard
 returns-in-Old-clause-heard c session id k st =
     let found = c.in_ok-datagram.ensures.found in
     let gathers = rw c.in-Old.is at c.in_ok-take.ensures.answer in
-    piece_heard session id k c.args.bytes.now c.args.now _ (datagram_value c.in_ok-datagram.datagram) heard.Old Old
+    fragment_heard session id k c.args.bytes.now c.args.now _ (datagram_value c.in_ok-datagram.datagram) heard.Old Old
     c.take.new.self.current c.max-moment.result (c.self.view_is ∙ st) (record { is = found.0; spelled = found.1 })
     (λ x same. c.in_ok-admit.ensures.ok x (same ∙ sym c.version.ensures.version)) gathers refl c.max-moment.ensures
 
@@ -55,34 +55,34 @@ returns-in-Err-clause-heard c session id k st =
     let gathers = rw c.in-Whole.is at c.in_ok-take.ensures.answer in
     let back = ap (λ (g : GathererValue). g.current) c.untake.ensures.untaken
     ∙ ap (λ (g : Option Gathering). unwrap_or g c.take.new.self.current) c.in_ok-take.ensures.before in
-    not_told session id k c.args.bytes.now c.args.now _ (datagram_value c.in_ok-datagram.datagram) c.in-Err.fault
-    c.in-Whole.text.items c.take.new.self.current c.untake.new.self.current (version_in c.tell.new.receiver) c.tell.new.acts
-    (receiving_in c.tell.new.receiver)
+    not_delivered session id k c.args.bytes.now c.args.now _ (datagram_value c.in_ok-datagram.datagram) c.in-Err.fault
+    c.in-Whole.text.items c.take.new.self.current c.untake.new.self.current (version_in c.deliver.new.receiver) c.deliver.new.acts
+    (receiving_in c.deliver.new.receiver)
     (c.self.view_is ∙ st) (record { is = found.0; spelled = found.1 }) (λ x same. c.in_ok-admit.ensures.ok x (same ∙ sym c.version.ensures.version)) gathers
-    (subst (λ (text : List ℕ). NotTold (version_in c.self.inside.receiver) text (receiving_in c.self.inside.receiver) c.in-Err.fault)
+    (subst (λ (text : List ℕ). NotDelivered (version_in c.self.inside.receiver) text (receiving_in c.self.inside.receiver) c.in-Err.fault)
     c.as_slice.ensures.value c.in-Err.ensures.fault)
-    back c.tell.ensures.version c.in-Err.ensures.acts (ap receiving_in c.in-Err.ensures.receiver)
+    back c.deliver.ensures.version c.in-Err.ensures.acts (ap receiving_in c.in-Err.ensures.receiver)
 
 pub invariant_of-self-in-Ok : goal.invariant_of-self-in-Ok
 invariant_of-self-in-Ok c =
-    let told = c.in-Ok.ensures.told in (
-      acts_acked c.self.inside.acts c.tell.new.acts told.value.acked told.acts c.self.invariant.0,
+    let delivered = c.in-Ok.ensures.delivered in (
+      acts_acked c.self.inside.acts c.deliver.new.acts delivered.value.acked delivered.acts c.self.invariant.0,
       c.self.invariant.1,
       c.self.invariant.2,
-      told_number _ _ _ _ _ _ _ _ told c.self.invariant.3,
+      delivered_number _ _ _ _ _ _ _ _ delivered c.self.invariant.3,
       c.self.invariant.4,
       c.self.invariant.5,
-      (λ w. c.tell.ensures.version ∙ c.self.invariant.6 w),
+      (λ w. c.deliver.ensures.version ∙ c.self.invariant.6 w),
     )
 
 pub returns-clause-heard : goal.returns-clause-heard
 returns-clause-heard c session id k st =
     let found = c.in_ok-datagram.ensures.found in
     let gathers = rw c.in-Whole.is at c.in_ok-take.ensures.answer in
-    is_told session id k c.args.bytes.now c.args.now _ (datagram_value c.in_ok-datagram.datagram) c.heard_of.result
-    c.in-Whole.text.items c.take.new.self.current c.in-Ok.step c.in-Ok.newer (version_in c.tell.new.receiver) c.tell.new.acts
-    (receiving_in c.tell.new.receiver) c.owed_after-self-inside.result c.max-moment.result
+    is_sent_to session id k c.args.bytes.now c.args.now _ (datagram_value c.in_ok-datagram.datagram) c.heard_of.result
+    c.in-Whole.text.items c.take.new.self.current c.in-Ok.step c.in-Ok.newer (version_in c.deliver.new.receiver) c.deliver.new.acts
+    (receiving_in c.deliver.new.receiver) c.owed_after-self-inside.result c.max-moment.result
     (c.self.view_is ∙ st) (record { is = found.0; spelled = found.1 }) (λ x same. c.in_ok-admit.ensures.ok x (same ∙ sym c.version.ensures.version)) gathers
-    (subst (λ (text : List ℕ). Told (version_in c.self.inside.receiver) text c.self.inside.acts (receiving_in c.self.inside.receiver)
-    c.in-Ok.step c.in-Ok.newer c.tell.new.acts (receiving_in c.tell.new.receiver)) c.as_slice.ensures.value c.in-Ok.ensures.told)
-    c.heard_of.ensures.heard c.tell.ensures.version c.owed_after-self-inside.ensures.owed c.max-moment.ensures
+    (subst (λ (text : List ℕ). Delivered (version_in c.self.inside.receiver) text c.self.inside.acts (receiving_in c.self.inside.receiver)
+    c.in-Ok.step c.in-Ok.newer c.deliver.new.acts (receiving_in c.deliver.new.receiver)) c.as_slice.ensures.value c.in-Ok.ensures.delivered)
+    c.heard_of.ensures.heard c.deliver.ensures.version c.owed_after-self-inside.ensures.owed c.max-moment.ensures

@@ -5,7 +5,7 @@ use Rattle.std.proofs.lemmas.Result.{IfOk-weaker, MatchResult-weaker}
 use Rattle.roam_cells.specs.declared.faults.Fault.TheVariants.{OutOfMemory, Spent}
 use Rattle.roam_wire.specs.declared.datagrams.Kind.{Kind}
 use Rattle.roam_wire.specs.declared.versions.Version.{Version}
-use Rattle.roam_wire.specs.Cutting.{pieces_of, texts_of}
+use Rattle.roam_wire.specs.Cutting.{fragments_of, texts_of}
 use Rattle.roam_wire.specs.Datagrams.{datagram_text}
 use Rattle.roam_wire.specs.Versions.{most_bytes}
 use Rattle.roam_wire.specs.Instructions.{UpValue, up_text}
@@ -41,10 +41,10 @@ returns-clause-written c =
     subst (λ (v : ClientView). IfOk c.packed.result (λ all. texts_of all.items ≡ map datagram_text (datagrams_by v))) c.self.view_is
     (subst (λ (t : List ℕ). IfOk c.packed.result (λ all. texts_of all.items ≡ map datagram_text
     (datagrams_of (version_in c.self.inside.receiver) (kind_from c.self.inside.watches) c.self.inside.session c.self.inside.id
-    c.self.inside.datagrams (c.self.inside.instructions + 1) (pieces_of t))))
+    c.self.inside.datagrams (c.self.inside.instructions + 1) (fragments_of t))))
     text (subst (λ (p : Version × Kind). IfOk c.packed.result (λ all. texts_of all.items ≡ map datagram_text
     (datagrams_of p.0 p.1 c.self.inside.session c.self.inside.id c.self.inside.datagrams (c.self.inside.instructions + 1)
-    (pieces_of c.as_slice.result.now)))) (λ i. (c.version.ensures.version i, c.kind_of.ensures.kind i)) c.packed.ensures.written))
+    (fragments_of c.as_slice.result.now)))) (λ i. (c.version.ensures.version i, c.kind_of.ensures.kind i)) c.packed.ensures.written))
 
 pub returns-clause-fit : goal.returns-clause-fit
 returns-clause-fit c =
@@ -57,7 +57,7 @@ returns-clause-fit c =
     ap is_spent (sym c.waiting-first.ensures.first) ∙ (let f = c.if-first-ge-NUMBERS.false in grind (arith, nat_tests, f)) in
     subst (λ (v : ClientView). OnOk c.packed.result (is_view_spent v ≡ false)) c.self.view_is
     (subst (λ (t : List ℕ). OnOk c.packed.result ((is_spent (c.self.inside.acts.acked + 1) || is_spent (c.self.inside.instructions + 1)
-    || is_spent (c.self.inside.datagrams + length (pieces_of t))) ≡ false)) text
+    || is_spent (c.self.inside.datagrams + length (fragments_of t))) ≡ false)) text
     (IfOk-weaker c.packed.result _ _ (λ _ e. first_fits _ _ _ low ∙ e) c.packed.ensures.fit))
 
 pub returns-clause-fault : goal.returns-clause-fault
@@ -73,6 +73,6 @@ returns-clause-fault c =
     c.self.view_is
     (subst (λ (t : List ℕ). IfErr c.packed.result (λ fault. (fault ≡ OutOfMemory) ⊎ ((fault ≡ Spent)
     × ((is_spent (c.self.inside.acts.acked + 1) || is_spent (c.self.inside.instructions + 1)
-    || is_spent (c.self.inside.datagrams + length (pieces_of t))) ≡ true)))) text
+    || is_spent (c.self.inside.datagrams + length (fragments_of t))) ≡ true)))) text
     (MatchResult-weaker c.packed.result c.packed.ensures.fault (λ _ x. x)
     (λ _ x. elim x [ inl m ↦ inl m | inr s ↦ inr (s.0, first_fits _ _ _ low ∙ s.1) ])))

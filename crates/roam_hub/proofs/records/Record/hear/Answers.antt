@@ -17,7 +17,7 @@ use Rattle.roam_world.specs.Texts.{is_watching}
 use Rattle.roam_hub.specs.Servers.{RecordView, address_of}
 use Rattle.roam_hub.specs.Ends.{version_of, sending_of}
 use Rattle.roam_hub.specs.Records.{Notes, NotNoted, NotHeard, fitting, other, Fits, IsOther, TakesActs}
-use Rattle.roam_hub.proofs.Recording.{same_kind, piece_noted, not_gathered, up_unread, fresh_in_range, fresh_few, taken_low, newest_acked, acts_noted, kept_as, informed_as}
+use Rattle.roam_hub.proofs.Recording.{same_kind, fragment_noted, not_gathered, up_unread, fresh_in_range, fresh_few, taken_low, newest_acked, acts_noted, kept_as, informed_as}
 use Rattle.roam_hub.specs.contracts.records.Record.{the_view}
 use Rattle.roam_hub.proofs.records.Record.hear.Goals as goal
 
@@ -25,7 +25,7 @@ pub returns-in_default-clause-noted : goal.returns-in_default-clause-noted
 returns-in_default-clause-noted c =
     subst (λ (v : RecordView). Notes v c.args.session.now (datagram_value c.args.datagram.now) (address_of c.args.from) c.args.now _
     c.note.new.self c.args.session.now) c.self.view_is
-    (piece_noted _ c.args.session.now (datagram_value c.args.datagram.now) (address_of c.args.from) c.args.now c.in_ok-text.field-0
+    (fragment_noted _ c.args.session.now (datagram_value c.args.datagram.now) (address_of c.args.from) c.args.now c.in_ok-text.field-0
     c.take.new.self.current c.note.new.self c.in_ok-text.ensures.answer c.in_default.not-Whole c.note.ensures.noted)
 
 pub returns-in_err-admit-clause-fault : goal.returns-in_err-admit-clause-fault

@@ -6,68 +6,68 @@ use Rattle.roam_cells.specs.declared.faults.Fault.TheVariants.{OutOfMemory, Spen
 use Rattle.roam_wire.specs.declared.datagrams.Kind.TheVariants.{ToClient}
 use Rattle.roam_wire.specs.declared.versions.Version.{Version}
 use Rattle.roam_wire.specs.Versions.{most_bytes}
-use Rattle.roam_wire.specs.Cutting.{pieces_of, texts_of}
+use Rattle.roam_wire.specs.Cutting.{fragments_of, texts_of}
 use Rattle.roam_wire.specs.Datagrams.{datagram_text}
 use Rattle.roam_world.specs.Moments.{is_spent}
 use Rattle.roam_world.specs.Texts.{datagrams_of}
 use Rattle.roam_sync.specs.Senders.{newest}
 use Rattle.roam_hub.specs.Ends.{version_of, sending_of}
 use Rattle.roam_hub.specs.Servers.{RecordView}
-use Rattle.roam_hub.specs.Records.{datagrams_for, is_letter_spent}
-use Rattle.roam_hub.proofs.Addressing.{the_down, down_short, letter_is, last_fits}
+use Rattle.roam_hub.specs.Records.{datagrams_for, is_instruction_spent}
+use Rattle.roam_hub.proofs.Addressing.{the_down, down_short, instruction_is, last_fits}
 use Rattle.roam_hub.proofs.records.Record.instruction.Goals as goal
 
 pub packed-requires-clause-short : goal.packed-requires-clause-short
 packed-requires-clause-short c =
-    let t = c.in_ok-told.ensures in
+    let t = c.in_ok-update.ensures in
     subst (λ (v : Version). length c.as_slice.result.now ≤ most_bytes v) (sym c.version.ensures.version)
     (subst (λ (text : List ℕ). length text ≤ most_bytes (version_of c.self.inside.sender))
     (sym (c.as_slice.ensures.value ∙ c.in_ok-text.ensures.written))
-    (down_short (version_of c.self.inside.sender) (the_down c.in_ok-told.told c.taken-acked.result)
+    (down_short (version_of c.self.inside.sender) (the_down c.in_ok-update.update c.taken-acked.result)
     (sending_of c.self.inside.sender).base.state (newest (sending_of c.self.inside.sender)).state t.change t.leads))
 
 pub returns-clause-written : goal.returns-clause-written
 returns-clause-written c =
-    let t = c.in_ok-told.ensures in
-    let text = letter_is (version_of c.self.inside.sender) (sending_of c.self.inside.sender) c.self.inside.taker
-    (the_down c.in_ok-told.told c.taken-acked.result) c.as_slice.result.now t.old t.new t.floor c.taken-acked.ensures.count t.change
+    let t = c.in_ok-update.ensures in
+    let text = instruction_is (version_of c.self.inside.sender) (sending_of c.self.inside.sender) c.self.inside.taker
+    (the_down c.in_ok-update.update c.taken-acked.result) c.as_slice.result.now t.old t.new t.floor c.taken-acked.ensures.count t.change
     (c.as_slice.ensures.value ∙ c.in_ok-text.ensures.written) in
     subst (λ (v : RecordView). IfOk c.packed.result (λ all. texts_of all.items
     ≡ map datagram_text (datagrams_for c.args.session (c.args.client, v)))) c.self.view_is
     (subst (λ (x : List ℕ). IfOk c.packed.result (λ all. texts_of all.items ≡ map datagram_text
     (datagrams_of (version_of c.self.inside.sender) ToClient c.args.session c.args.client c.self.inside.datagrams
-    (c.self.inside.instructions + 1) (pieces_of x))))
+    (c.self.inside.instructions + 1) (fragments_of x))))
     text (subst (λ (v : Version). IfOk c.packed.result (λ all. texts_of all.items ≡ map datagram_text
     (datagrams_of v ToClient c.args.session c.args.client c.self.inside.datagrams (c.self.inside.instructions + 1)
-    (pieces_of c.as_slice.result.now)))) c.version.ensures.version c.packed.ensures.written))
+    (fragments_of c.as_slice.result.now)))) c.version.ensures.version c.packed.ensures.written))
 
 pub returns-clause-fit : goal.returns-clause-fit
 returns-clause-fit c =
-    let t = c.in_ok-told.ensures in
-    let text = letter_is (version_of c.self.inside.sender) (sending_of c.self.inside.sender) c.self.inside.taker
-    (the_down c.in_ok-told.told c.taken-acked.result) c.as_slice.result.now t.old t.new t.floor c.taken-acked.ensures.count t.change
+    let t = c.in_ok-update.ensures in
+    let text = instruction_is (version_of c.self.inside.sender) (sending_of c.self.inside.sender) c.self.inside.taker
+    (the_down c.in_ok-update.update c.taken-acked.result) c.as_slice.result.now t.old t.new t.floor c.taken-acked.ensures.count t.change
     (c.as_slice.ensures.value ∙ c.in_ok-text.ensures.written) in
     let low : is_spent c.self.inside.taker ≡ false =
     ap is_spent (sym c.taken-acked.ensures.count) ∙ (let f = c.if-acked-ge-NUMBERS.false in grind (arith, nat_tests, f)) in
-    subst (λ (v : RecordView). OnOk c.packed.result (is_letter_spent v ≡ false)) c.self.view_is
+    subst (λ (v : RecordView). OnOk c.packed.result (is_instruction_spent v ≡ false)) c.self.view_is
     (subst (λ (x : List ℕ). OnOk c.packed.result ((is_spent (c.self.inside.instructions + 1)
-    || is_spent (c.self.inside.datagrams + length (pieces_of x)) || is_spent c.self.inside.taker) ≡ false)) text
+    || is_spent (c.self.inside.datagrams + length (fragments_of x)) || is_spent c.self.inside.taker) ≡ false)) text
     (IfOk-weaker c.packed.result _ _ (λ _ e. last_fits (is_spent (c.self.inside.instructions + 1) || is_spent
-    (c.self.inside.datagrams + length (pieces_of c.as_slice.result.now)))
+    (c.self.inside.datagrams + length (fragments_of c.as_slice.result.now)))
     (is_spent c.self.inside.taker) low ∙ e) c.packed.ensures.fit))
 
 pub returns-clause-fault : goal.returns-clause-fault
 returns-clause-fault c =
-    let t = c.in_ok-told.ensures in
-    let text = letter_is (version_of c.self.inside.sender) (sending_of c.self.inside.sender) c.self.inside.taker
-    (the_down c.in_ok-told.told c.taken-acked.result) c.as_slice.result.now t.old t.new t.floor c.taken-acked.ensures.count t.change
+    let t = c.in_ok-update.ensures in
+    let text = instruction_is (version_of c.self.inside.sender) (sending_of c.self.inside.sender) c.self.inside.taker
+    (the_down c.in_ok-update.update c.taken-acked.result) c.as_slice.result.now t.old t.new t.floor c.taken-acked.ensures.count t.change
     (c.as_slice.ensures.value ∙ c.in_ok-text.ensures.written) in
     let low : is_spent c.self.inside.taker ≡ false =
     ap is_spent (sym c.taken-acked.ensures.count) ∙ (let f = c.if-acked-ge-NUMBERS.false in grind (arith, nat_tests, f)) in
-    subst (λ (v : RecordView). IfErr c.packed.result (λ fault. (fault ≡ OutOfMemory) ⊎ ((fault ≡ Spent) × (is_letter_spent v ≡ true))))
+    subst (λ (v : RecordView). IfErr c.packed.result (λ fault. (fault ≡ OutOfMemory) ⊎ ((fault ≡ Spent) × (is_instruction_spent v ≡ true))))
     c.self.view_is
     (subst (λ (x : List ℕ). IfErr c.packed.result (λ fault. (fault ≡ OutOfMemory) ⊎ ((fault ≡ Spent)
-    × ((is_spent (c.self.inside.instructions + 1) || is_spent (c.self.inside.datagrams + length (pieces_of x))
+    × ((is_spent (c.self.inside.instructions + 1) || is_spent (c.self.inside.datagrams + length (fragments_of x))
     || is_spent c.self.inside.taker) ≡ true)))) text
     (MatchResult-weaker c.packed.result c.packed.ensures.fault (λ _ x. x)
     (λ _ x. elim x [
@@ -75,7 +75,7 @@ returns-clause-fault c =
       | inr s ↦ inr (
         s.0,
         last_fits (is_spent (c.self.inside.instructions + 1) || is_spent (c.self.inside.datagrams + length
-            (pieces_of c.as_slice.result.now)))
+            (fragments_of c.as_slice.result.now)))
             (is_spent c.self.inside.taker) low ∙ s.1,
       )
     ])))

@@ -1,18 +1,18 @@
 use Rattle.std.proofs.Common.{◌≡◌, ◌∙◌, ap, sym, inl, inr, subst, false}
 use Rattle.std.specs.Prelude.{◌&&◌}
 use Rattle.roam_hub.specs.Servers.{RecordView}
-use Rattle.roam_hub.specs.Records.{is_told, is_letter_spent}
+use Rattle.roam_hub.specs.Records.{is_sent_to, is_instruction_spent}
 use Rattle.roam_hub.proofs.records.Record.prepare.Goals as goal
 
 pub returns-in-Err-clause-fault : goal.returns-in-Err-clause-fault
 returns-in-Err-clause-fault c =
     elim c.in-Err.ensures.fault [
       | inl m ↦ inl m
-      | inr s ↦ inr (s.0, sym (ap (λ (v : RecordView). is_told v c.args.news.now && is_letter_spent v) c.in_ok-offered.ensures.held) ∙ s.1)
+      | inr s ↦ inr (s.0, sym (ap (λ (v : RecordView). is_sent_to v c.args.news.now && is_instruction_spent v) c.in_ok-offered.ensures.held) ∙ s.1)
     ]
 
 pub returns-in-Ok-clause-fit : goal.returns-in-Ok-clause-fit
-returns-in-Ok-clause-fit c = subst (λ (v : RecordView). (is_told v c.args.news.now && is_letter_spent v) ≡ false)
+returns-in-Ok-clause-fit c = subst (λ (v : RecordView). (is_sent_to v c.args.news.now && is_instruction_spent v) ≡ false)
     c.in_ok-offered.ensures.held c.in-Ok.ensures.fit
 
 pub returns-in-Err-clause-err : goal.returns-in-Err-clause-err

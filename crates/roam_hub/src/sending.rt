@@ -1,0 +1,60 @@
+//! What a tick does to all records, or to none.
+ghost use Rattle.std.specs.Prelude.{◌≡◌, ◌⊎◌, ◌++◌, ◌≤◌, ◌<◌, ◌^◌, length, map, take, drop, true, false, IfErr, IfSome, OnOk, OnErr};
+ghost use Rattle.std.specs.List.{flat_map, list_any};
+ghost use Rattle.roam_screens.specs.Narrow.{narrow};
+ghost use Rattle.roam_hub.specs.Servers.{parcels_of};
+ghost use Rattle.roam_hub.specs.Records.{texts_for, is_entry_spent, settled_entry};
+ghost use Rattle.roam_acts.specs.Limits.{number_limit};
+
+use crate::addresses::Addr;
+use crate::records::{News, Record};
+use indexmap::IndexMap;
+use roam_cells::Fault;
+use roam_screens::{RowShot, RowShot1};
+use std::alloc::Global;
+
+/// Offers the newest number with its screen to the records from a place on, each where it may be needed and as its version is shown it,
+/// adds the texts of the datagrams to those that are sent to, each with its address, and notes that they are sent. What version 1 shows of
+/// the screen is made once, where it is needed, and kept. `Spent` exactly where a number that one of them needs would be 2^62;
+/// `OutOfMemory`. A refusal leaves all records as they were: each is settled once all after it are prepared.
+pub fn send_from(
+    alloc: Global,
+    news: News,
+    screen: &RowShot,
+    kept: &mut Option<RowShot1>,
+    records: &mut IndexMap<u64, Record>,
+    at: usize,
+    parcels: &mut Vec<(Addr, Vec<u8>)>,
+) -> Result<(), Fault>
+    requires within { at ≤ length records.old.entries }
+    requires number { news.number < number_limit }
+    requires session { news.session < 2 ^ 64 }
+    requires kept { IfSome kept.old (λ old. old ≡ narrow screen.now) }
+    ensures settled { OnOk result (records.new.entries ≡ take at records.old.entries
+        ++ map (settled_entry news.number screen.now news.now) (drop at records.old.entries)) }
+    ensures parcels { OnOk result (parcels_of parcels.new.items ≡ parcels_of parcels.old.items
+        ++ flat_map (texts_for news.session news.number screen.now news.now) (drop at records.old.entries)) }
+    ensures fit { OnOk result (list_any (is_entry_spent news.number screen.now news.now) (drop at records.old.entries) ≡ false) }
+    ensures fault { IfErr result (λ fault. (fault ≡ Fault.OutOfMemory) ⊎ ((fault ≡ Fault.Spent)
+        × (list_any (is_entry_spent news.number screen.now news.now) (drop at records.old.entries) ≡ true))) }
+    ensures err { OnErr result (records.new.entries ≡ records.old.entries) }
+    ensures kept { IfSome kept.new (λ old. old ≡ narrow screen.now) }
+{
+    if at == records.len() {
+        return Ok(());
+    }
+    let (id, record) = records.pair_mut(at);
+    let prepared = record.prepare(alloc, news, *id, screen, kept, parcels)?;
+    match send_from(alloc, news, screen, kept, records, at + 1, parcels) {
+        Ok(()) => {
+            let (_, record) = records.pair_mut(at);
+            record.settle(prepared, news.now);
+            Ok(())
+        }
+        Err(fault) => {
+            let (_, record) = records.pair_mut(at);
+            record.undo(prepared);
+            Err(fault)
+        }
+    }
+}

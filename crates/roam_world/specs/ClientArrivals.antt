@@ -1,0 +1,77 @@
+-- A datagram comes to a client start: what it is there, and what it leaves.
+use Rattle.std.specs.Prelude.{ℕ, List, Option, Some, None, not, nat_lt, ◌==◌, if◌then◌else◌}
+use Rattle.roam_cells.specs.declared.faults.Fault.{Fault}
+use Rattle.roam_cells.specs.declared.faults.Fault.TheVariants.{BadDatagram, OtherSession, OtherClient}
+use Rattle.roam_cells.specs.declared.faults.Reason.TheVariants.{Fragment}
+use Rattle.roam_cells.specs.declared.faults.Reason.TheVariants as reason
+use Rattle.roam_screens.specs.Screenshot.{Screenshot}
+use Rattle.roam_acts.specs.Senders.{acked_to}
+use Rattle.roam_sync.specs.declared.receivers.Step.{Step}
+use Rattle.roam_sync.specs.declared.receivers.Step.TheVariants as step
+use Rattle.roam_sync.specs.Receivers.{Receiving, step_for}
+use Rattle.roam_wire.specs.Gatherers.{Gathering, Answer, Part, Old, Whole, gather, fragment_of}
+use Rattle.roam_wire.specs.Instructions.{DownValue}
+use Rattle.roam_world.specs.Moments.{owed_from}
+use Rattle.roam_world.specs.Versions.{is_same_version}
+use Rattle.roam_world.specs.Texts.{is_to_server}
+use Rattle.roam_world.specs.Clients.{Client}
+use Rattle.roam_wire.specs.Datagrams.{DatagramValue}
+
+-- what a client start answers to a datagram that it takes: the instruction isn't whole, or its update is old, leaves a gap or is new
+pub data Hearing : Type 0 where
+  IsPart : Hearing
+  IsOld : Hearing
+  IsGap : Hearing
+  IsNew : Hearing
+
+-- what a datagram is to a client start
+pub data Arriving : Type 0 where
+  -- refused, and nothing is noted
+  sent_back : Fault → Arriving
+  -- it makes no instruction whole; what is answered, and what is gathered then
+  kept : Hearing → Gathering → Arriving
+  -- the last fragment of an instruction; what is gathered then, and the instruction's text
+  fulfilled : Gathering → List ℕ → Arriving
+
+-- by what the gatherer says
+abbrev pub arriving_gathered : Option (Answer × Gathering) → Arriving
+arriving_gathered None = sent_back (BadDatagram Fragment)
+arriving_gathered (Some (Part, g)) = kept IsPart g
+arriving_gathered (Some (Old, g)) = kept IsOld g
+arriving_gathered (Some (Whole text, g)) = fulfilled g text
+
+-- in this order: its direction, its session, its client start, its version, its fragment
+abbrev pub arriving : ℕ → ℕ → Client → DatagramValue → Arriving
+arriving session id c d =
+    if is_to_server d.kind then sent_back (BadDatagram reason.Kind)
+    else if not (d.session == session) then sent_back OtherSession
+    else if not (d.client == id) then sent_back OtherClient
+    else if not (is_same_version c.version d.version) then sent_back (BadDatagram reason.Version)
+    else arriving_gathered (gather c.gathering (fragment_of d))
+
+-- ---- what it leaves
+
+-- after a datagram that made no instruction whole
+abbrev pub after_fragment : Client → ℕ → Gathering → Client
+after_fragment c now g = record c { gathering = g; clock = now }
+
+-- what the receiver makes of an instruction's update, by its numbers alone
+abbrev pub step_of : Client → DownValue → Step
+step_of c d = step_for c.receiver d.old d.new d.floor
+
+abbrev pub hearing_of : Step → Hearing
+hearing_of step.Old = IsOld
+hearing_of step.Gap = IsGap
+hearing_of step.New = IsNew
+
+-- after a whole instruction, where the receiver holds r then: what it acknowledges goes to the acts, whatever the receiver made of it, and
+-- where its new number is above its old one an answer is owed
+abbrev pub after_whole : Client → ℕ → Gathering → Receiving Screenshot → DownValue → Client
+after_whole c now g r d =
+    record c {
+      acts = acked_to c.acts d.acked;
+      gathering = g;
+      receiver = r;
+      owed = if nat_lt d.old d.new then owed_from c.owed now else c.owed;
+      clock = now;
+    }
