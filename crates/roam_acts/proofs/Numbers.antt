@@ -21,7 +21,7 @@ use Rattle.std.specs.Str.Parse.{AllDigits, IsNumeral, ParsesSigned, digits_value
 use lib.Signed.{mag, le_z}
 use lib.Utf8.{scalar}
 use Rattle.roam_acts.specs.Lines.{IsHexadecimal}
-use Rattle.roam_acts.specs.Reading.{is_hexadecimal, is_number, number_in, scalar_in}
+use Rattle.roam_acts.specs.Reading.{is_hexadecimal, is_integer, integer_in, scalar_in}
 
 -- ---- decimals
 
@@ -43,55 +43,55 @@ value_of (negsuc n) small =
 mag_small : (z : ℤ) → FitsSigned w16 z → mag z < 2 ^ 63
 mag_small z fits = omega (arith, fits.sfits)
 
-is_number-fits : (z : ℤ) → FitsSigned w16 z → (le_z (negsuc 32767) z && le_z z (pos 32767)) ≡ true
-is_number-fits (pos n) fits = let small = fits.sfits in grind (arith, nat_tests, small)
-is_number-fits (negsuc n) fits = let small = fits.sfits in grind (arith, nat_tests, small)
+is_integer-fits : (z : ℤ) → FitsSigned w16 z → (le_z (negsuc 32767) z && le_z z (pos 32767)) ≡ true
+is_integer-fits (pos n) fits = let small = fits.sfits in grind (arith, nat_tests, small)
+is_integer-fits (negsuc n) fits = let small = fits.sfits in grind (arith, nat_tests, small)
 
 fits-is_number : (z : ℤ) → (le_z (negsuc 32767) z && le_z z (pos 32767)) ≡ true → FitsSigned w16 z
 fits-is_number (pos n) e = record { sfits = grind (arith, nat_tests, e) }
 fits-is_number (negsuc n) e = record { sfits = grind (arith, nat_tests, e) }
 
-is_number_true : (z : ℤ) (text : List ℕ) → is_number z text ≡ true → FitsSigned w16 z × (text ≡ signed_decimal z)
+is_number_true : (z : ℤ) (text : List ℕ) → is_integer z text ≡ true → FitsSigned w16 z × (text ≡ signed_decimal z)
 is_number_true z text e =
     let both = and_parts (le_z (negsuc 32767) z && le_z z (pos 32767)) (bytes_eq (signed_decimal z) text) e in
     (fits-is_number z both.0, sym ((bytes_eq-Decides (signed_decimal z) text).0 both.1))
 
-true_is_number : (z : ℤ) → FitsSigned w16 z → is_number z (signed_decimal z) ≡ true
+true_is_number : (z : ℤ) → FitsSigned w16 z → is_integer z (signed_decimal z) ≡ true
 true_is_number z fits =
     let same : bytes_eq (signed_decimal z) (signed_decimal z) ≡ true = (bytes_eq-Decides (signed_decimal z) (signed_decimal z)).1 refl in
-    rw (is_number-fits z fits, same) refl
+    rw (is_integer-fits z fits, same) refl
 
 chosen_some : {X : Type 0} (b : Bool) (x y : X) → cond b (Some x) None ≡ Some y → (b ≡ true) × (x ≡ y)
 chosen_some true x y e = (refl, cc)
 chosen_some false x y e = absurd cc
 
-pub number_again : (z : ℤ) → FitsSigned w16 z → number_in (signed_decimal z) ≡ Some z
+pub number_again : (z : ℤ) → FitsSigned w16 z → integer_in (signed_decimal z) ≡ Some z
 number_again z fits =
     let text = signed_decimal z in
     let value = value_of z (mag_small z fits) in
-    ap (λ (v : ℤ). cond (is_number v text) (Some v) None) value ∙ ap (λ (b : Bool). cond b (Some z) None) (true_is_number z fits)
+    ap (λ (v : ℤ). cond (is_integer v text) (Some v) None) value ∙ ap (λ (b : Bool). cond b (Some z) None) (true_is_number z fits)
 
-pub number_found : (text : List ℕ) (z : ℤ) → number_in text ≡ Some z → FitsSigned w16 z × (text ≡ signed_decimal z)
+pub number_found : (text : List ℕ) (z : ℤ) → integer_in text ≡ Some z → FitsSigned w16 z × (text ≡ signed_decimal z)
 number_found text z e =
     let v = signed_digits_value 10 text in
-    let both = chosen_some (is_number v text) v z e in
+    let both = chosen_some (is_integer v text) v z e in
     subst (λ (x : ℤ). FitsSigned w16 x × (text ≡ signed_decimal x)) both.1 (is_number_true v text both.0)
 
-pub no_number : (text : List ℕ) → ((z : ℤ) → FitsSigned w16 z → text ≡ signed_decimal z → ⊥) → number_in text ≡ None
-no_number text h = by (is_number (signed_digits_value 10 text) text) refl
+pub no_number : (text : List ℕ) → ((z : ℤ) → FitsSigned w16 z → text ≡ signed_decimal z → ⊥) → integer_in text ≡ None
+no_number text h = by (is_integer (signed_digits_value 10 text) text) refl
   where
-    by : (b : Bool) → is_number (signed_digits_value 10 text) text ≡ b → cond b (Some (signed_digits_value 10 text)) None ≡ None
+    by : (b : Bool) → is_integer (signed_digits_value 10 text) text ≡ b → cond b (Some (signed_digits_value 10 text)) None ≡ None
     by true e = let both = is_number_true (signed_digits_value 10 text) text e in absurd (h (signed_digits_value 10 text) both.0 both.1)
     by false e = refl
 
 -- what is no text is no number
-pub no_text : {S E : Type 0} (text : List ℕ) (r : Result S E) (P : S → Type 0) (Q : E → Type 0) → None ≡ result_ok r → MatchResult r P (λ e. (¬ (IsUtf8 text)) × Q e) → number_in text ≡ None
+pub no_text : {S E : Type 0} (text : List ℕ) (r : Result S E) (P : S → Type 0) (Q : E → Type 0) → None ≡ result_ok r → MatchResult r P (λ e. (¬ (IsUtf8 text)) × Q e) → integer_in text ≡ None
 no_text text (Ok s) P Q none h = absurd cc
 no_text text (Err e) P Q none h =
     no_number text (λ z fits is. h.0 (subst IsUtf8 (sym is) (IsUtf8-from_ascii (signed_decimal z) (IsAscii-signed z (mag_small z fits)))))
 
 -- what doesn't parse is no number
-pub no_parse : {E : Type 0} (text : List ℕ) (r : Result ℤ E) → None ≡ result_ok r → ParsesSigned w16 10 text r → number_in text ≡ None
+pub no_parse : {E : Type 0} (text : List ℕ) (r : Result ℤ E) → None ≡ result_ok r → ParsesSigned w16 10 text r → integer_in text ≡ None
 no_parse text r none parses =
     no_number text (λ z fits is. let ok = parse-signed_decimal w16 z text r fits (mag_small z fits) is parses in absurd cc)
 

@@ -28,7 +28,7 @@ use Rattle.roam_acts.specs.Acts.{is_in_range, HasKey, IsAct, IsInRange, IsKey}
 use Rattle.roam_acts.specs.Keys.{named_in, named_keys}
 use Rattle.roam_acts.specs.Kinds.{head_of, headed_in, kind_of, kind_of_key, kinds}
 use Rattle.roam_acts.specs.Lines.{IsArgument, IsKeyArgument, Spells, key_argument, line_of}
-use Rattle.roam_acts.specs.Reading.{act_in, act_of_argument, after_head, bare, focus_of, natural, number_in, only_ranged, scalar_in, size_at, size_of}
+use Rattle.roam_acts.specs.Reading.{act_in, act_of_argument, after_head, bare, focus_of, natural, integer_in, only_ranged, scalar_in, size_at, size_of}
 use Rattle.roam_acts.proofs.Numbers.{digits_short, number_again, number_found, scalar_again, scalar_found}
 use Rattle.roam_acts.proofs.Ranges.{has_range, in_range}
 use Rattle.roam_acts.proofs.Fields.{small_fits}
@@ -39,7 +39,7 @@ use Rattle.roam_acts.proofs.Tables.{head_found, headed_again, name_found}
 natural_fits : (n : ℕ) → n ≤ 9999 → FitsSigned w16 (pos n)
 natural_fits n le = record { sfits = omega (arith, le) }
 
-natural_again : (n : ℕ) → n ≤ 9999 → natural (number_in (decimal n)) ≡ Some n
+natural_again : (n : ℕ) → n ≤ 9999 → natural (integer_in (decimal n)) ≡ Some n
 natural_again n le = ap natural (number_again (pos n) (natural_fits n le))
 
 no_spaces : (ds rest : List ℕ) → AllDigits 10 ds → prefix_len (λ (b : ℕ). not (eqb b 32)) (ds ++ 32 ∷ rest) ≡ length ds
@@ -64,7 +64,7 @@ size_again r c rows cols =
     let front : take (length (decimal r)) text ≡ decimal r = take-append_seam (decimal r) (32 ∷ decimal c) in
     let back : drop (length (decimal r) + 1) text ≡ decimal c = drop-append-add (decimal r) (32 ∷ decimal c) 1 in
     ap (λ (p : Option ℕ). size_at p text) place
-    ∙ (λ i. size_of (natural (number_in (front i))) (natural (number_in (back i))))
+    ∙ (λ i. size_of (natural (integer_in (front i))) (natural (integer_in (back i))))
     ∙ (λ i. size_of (natural_again r rows i) (natural_again c cols i))
 
 focus_again : (p : ℕ) → p ≤ 9 → act_of_argument kind.Focus (decimal p) ≡ Some (Focus p)
@@ -118,10 +118,10 @@ bare_found : (b : Act) (text : List ℕ) (a : Act) → bare b text ≡ Some a �
 bare_found b [] a e = (refl, cc)
 bare_found b (x ∷ text) a e = absurd cc
 
-natural_found : (text : List ℕ) (n : ℕ) → natural (number_in text) ≡ Some n → text ≡ decimal n
-natural_found text n e = by (number_in text) refl e
+natural_found : (text : List ℕ) (n : ℕ) → natural (integer_in text) ≡ Some n → text ≡ decimal n
+natural_found text n e = by (integer_in text) refl e
   where
-    by : (r : Option ℤ) → number_in text ≡ r → natural r ≡ Some n → text ≡ decimal n
+    by : (r : Option ℤ) → integer_in text ≡ r → natural r ≡ Some n → text ≡ decimal n
     by None is e = absurd cc
     by (Some (pos m)) is e = let same : m ≡ n = cc in (number_found text (pos m) is).1 ∙ ap decimal same
     by (Some (negsuc m)) is e = absurd cc
@@ -163,7 +163,7 @@ size_split text p e =
 size_told : (text : List ℕ) (r : Option ℕ) (a : Act) → position (λ (b : ℕ). eqb b 32) text ≡ r → size_at r text ≡ Some a → Told kind.Size text a
 size_told text None a is e = absurd cc
 size_told text (Some p) a is e =
-    let f = size_found (natural (number_in (take p text))) (natural (number_in (drop (p + 1) text))) a e in
+    let f = size_found (natural (integer_in (take p text))) (natural (integer_in (drop (p + 1) text))) a e in
     let rows = natural_found (take p text) f.0 f.2 in
     let cols = natural_found (drop (p + 1) text) f.1 f.3 in
     moved kind.Size text (Size f.0 f.1) a f.4 (record { same_kind = refl; has_key = tt; argument = size_split text p is ∙ (λ i. rows i ++ 32 ∷ cols i) })
@@ -180,15 +180,15 @@ argument_found kind.SplitRight text a e = bare_told kind.SplitRight SplitRight t
 argument_found kind.SplitDown text a e = bare_told kind.SplitDown SplitDown text a e (λ t h. record { same_kind = refl; has_key = tt; argument = h })
 argument_found kind.Close text a e = bare_told kind.Close Close text a e (λ t h. record { same_kind = refl; has_key = tt; argument = h })
 argument_found kind.Focus text a e =
-    let f = focus_found (natural (number_in text)) a e in
+    let f = focus_found (natural (integer_in text)) a e in
     moved kind.Focus text (Focus f.0) a f.2 (record { same_kind = refl; has_key = tt; argument = natural_found text f.0 f.1 })
 argument_found kind.Next text a e = bare_told kind.Next Next text a e (λ t h. record { same_kind = refl; has_key = tt; argument = h })
 argument_found kind.Grow text a e =
-    let m = mapped Grow (number_in text) a e in
+    let m = mapped Grow (integer_in text) a e in
     moved kind.Grow text (Grow m.0) a m.2 (record { same_kind = refl; has_key = tt; argument = (number_found text m.0 m.1).1 })
 argument_found kind.Size text a e = size_told text (position (λ (b : ℕ). eqb b 32) text) a refl e
 argument_found kind.View text a e =
-    let m = mapped View (number_in text) a e in
+    let m = mapped View (integer_in text) a e in
     moved kind.View text (View m.0) a m.2 (record { same_kind = refl; has_key = tt; argument = (number_found text m.0 m.1).1 })
 
 ranged_found : (r : Option Act) (a : Act) → only_ranged r ≡ Some a → (r ≡ Some a) × (is_in_range a ≡ true)

@@ -82,12 +82,12 @@ scalar_in text =
     then Some (digits_value 16 text) else None
 
 -- a number of 16 bits that is written so and not otherwise
-abbrev pub is_number : ℤ → List ℕ → Bool
-is_number z text = int_le (negsuc 32767) z && int_le z (pos 32767) && bytes_eq (signed_decimal z) text
+abbrev pub is_integer : ℤ → List ℕ → Bool
+is_integer z text = int_le (negsuc 32767) z && int_le z (pos 32767) && bytes_eq (signed_decimal z) text
 
 -- the number of 16 bits that a text writes
-abbrev pub number_in : List ℕ → Option ℤ
-number_in text = if is_number (signed_digits_value 10 text) text then Some (signed_digits_value 10 text) else None
+abbrev pub integer_in : List ℕ → Option ℤ
+integer_in text = if is_integer (signed_digits_value 10 text) text then Some (signed_digits_value 10 text) else None
 
 -- a number without a sign
 abbrev pub natural : Option ℤ → Option ℕ
@@ -109,7 +109,7 @@ size_of None _ = None
 -- the act by two numbers, the first as long as told
 abbrev pub size_at : Option ℕ → List ℕ → Option Act
 size_at None text = None
-size_at (Some space) text = size_of (natural (number_in (take space text))) (natural (number_in (drop (space + 1) text)))
+size_at (Some space) text = size_of (natural (integer_in (take space text))) (natural (integer_in (drop (space + 1) text)))
 
 -- an act of which nothing more is to be told
 abbrev pub bare : Act → List ℕ → Option Act
@@ -123,11 +123,11 @@ act_of_argument Named text = option_map act.Key (named_in named_keys text)
 act_of_argument SplitRight text = bare act.SplitRight text
 act_of_argument SplitDown text = bare act.SplitDown text
 act_of_argument Close text = bare act.Close text
-act_of_argument Focus text = focus_of (natural (number_in text))
+act_of_argument Focus text = focus_of (natural (integer_in text))
 act_of_argument Next text = bare act.Next text
-act_of_argument Grow text = option_map act.Grow (number_in text)
+act_of_argument Grow text = option_map act.Grow (integer_in text)
 act_of_argument Size text = size_at (position (λ byte. byte == 0x20) text) text
-act_of_argument View text = option_map act.View (number_in text)
+act_of_argument View text = option_map act.View (integer_in text)
 
 -- an act, where it is in its ranges
 abbrev pub only_ranged : Option Act → Option Act

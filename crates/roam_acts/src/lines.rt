@@ -5,7 +5,7 @@ ghost use Rattle.std.specs.List.{position};
 ghost use Rattle.roam_acts.specs.declared.acts.Act.{Act};
 ghost use Rattle.roam_acts.specs.Acts.{IsAct, IsInRange};
 ghost use Rattle.roam_acts.specs.Lines.{key_argument, line_of, Spells};
-ghost use Rattle.roam_acts.specs.Reading.{act_in, act_of_argument, bare, focus_of, natural, number_in, scalar_in, size_at, size_of};
+ghost use Rattle.roam_acts.specs.Reading.{act_in, act_of_argument, bare, focus_of, natural, integer_in, scalar_in, size_at, size_of};
 
 use crate::acts::Act;
 use crate::keys::{entry, named};
@@ -64,7 +64,7 @@ fn scalar(text: &[u8]) -> Option<char>
 
 // The number that a text writes; a number has one spelling.
 fn number(text: &[u8]) -> Option<i16>
-    ensures number { result ≡ number_in text.now }
+    ensures number { result ≡ integer_in text.now }
 {
     let text = str::from_utf8(text).ok()?;
     let number = text.parse::<i16>().ok()?;
@@ -76,7 +76,7 @@ fn number(text: &[u8]) -> Option<i16>
 }
 
 fn natural(text: &[u8]) -> Option<u16>
-    ensures number { result ≡ natural (number_in text.now) }
+    ensures number { result ≡ natural (integer_in text.now) }
 {
     match number(text) {
         Some(number) if number >= 0 => Some(number as u16),
@@ -85,7 +85,7 @@ fn natural(text: &[u8]) -> Option<u16>
 }
 
 fn focus(text: &[u8]) -> Option<Act>
-    ensures act { result ≡ focus_of (natural (number_in text.now)) }
+    ensures act { result ≡ focus_of (natural (integer_in text.now)) }
 {
     let pane = natural(text)?;
     if pane <= MOST_PANES as u16 {

@@ -183,7 +183,7 @@ const ATTACH: Subcommand = Subcommand {
 
 static SUBCOMMANDS: [Subcommand; 4] = [SHOW, WORLD, SERVE, ATTACH];
 
-fn command_of<'a>(alloc: Global, subcommand: &Subcommand) -> Result<Command<'a>, AllocError> {
+fn subcommand_of<'a>(alloc: Global, subcommand: &Subcommand) -> Result<Command<'a>, AllocError> {
     let mut command = Command::new(alloc, subcommand.name).about(subcommand.about);
     if let Some(text) = subcommand.more {
         command = command.after_help(text);
@@ -199,7 +199,7 @@ fn with_subcommand<'a>(
     program: Command<'a>,
     subcommand: &Subcommand,
 ) -> Result<Command<'a>, AllocError> {
-    let command = command_of(alloc, subcommand)?;
+    let command = subcommand_of(alloc, subcommand)?;
     program.subcommand(command)
 }
 

@@ -16,6 +16,7 @@ ghost use Rattle.roam_world.specs.Texts.{is_to_server as is_to_server_kind};
 ghost use Rattle.roam_world.specs.ServerArrivals.{coming, turned_away};
 ghost use Rattle.roam_hub.specs.Servers.{Stands, Feeds, Drains, Comes, Ticks, ComesFromWatcher, TakesNothing, IsStopAtAct, address_of, parcels_of};
 ghost use Rattle.roam_hub.specs.Records.{answered, makes_at, sent_by_tick, ticked_by, is_any_spent};
+ghost use Rattle.roam_term.specs.Limits.{most_output};
 
 use crate::addresses::{Addr, Stop};
 use crate::known::hear_in;
@@ -225,7 +226,7 @@ impl Server {
     /// How many more of 65,536 bytes may wait for the program of a pane that is there.
     pub fn room(&self, pane: u8) -> Option<usize>
         ensures room { (s : ServerOf) → Stands self.now s
-            → result ≡ option_map (λ (waiting : List ℕ). 65536 - length waiting) (output_at s.size s.log pane) }
+            → result ≡ option_map (λ (waiting : List ℕ). most_output - length waiting) (output_at s.size s.log pane) }
     {
         self.session.room(pane)
     }

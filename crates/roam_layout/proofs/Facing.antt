@@ -13,19 +13,19 @@ use Rattle.roam_layout.specs.Trees.{Shape, One, Two}
 use Rattle.roam_layout.specs.Rects.{placed, borders, within, first_part, border_part, second_part}
 use Rattle.roam_layout.specs.Layouts.{Plan, IsPlan, area, panes, edges}
 use Rattle.roam_layout.specs.Status.{status, status_row, IsPrintable}
-use Rattle.roam_layout.specs.Faces.{character, sign, reverse_style, face_at, face_row, face, border_piece, pieces, ArePictures, Show}
+use Rattle.roam_layout.specs.Faces.{character, sign, reverse_style, face_at, face_row, face, border_segment, segments, ArePictures, Show}
 use Rattle.roam_layout.proofs.Places.{shows_same, shows_row, tree_cell, within_in, within_range}
-use Rattle.roam_layout.proofs.Pieces.{ArePictured, pictured_parts, strip, strip_shows, woven_last}
+use Rattle.roam_layout.proofs.Segments.{ArePictured, pictured_parts, strip, strip_shows, woven_last}
 use Rattle.roam_layout.proofs.Beside.{IsSound, sound_nil, sound_beside, sound_signs, sound_row, sound_text}
 use Rattle.roam_layout.specs.declared.rects.Way.{Way}
 use Rattle.roam_layout.specs.declared.rects.Rect.{Rect}
 use Rattle.roam_layout.proofs.Listed.{pictured_from}
-use Rattle.roam_layout.proofs.Stepping.{pieces_are}
+use Rattle.roam_layout.proofs.Stepping.{segments_are}
 
 -- ---- rows
 
-piece_sound : (r : ℕ) (e : Way × Rect) → IsSound (border_piece r e)
-piece_sound r e = cond_both (within e.1.row e.1.rows r) (replicate e.1.cols (sign e.0)) [] (λ (l : List Glyph). IsSound l)
+segment_sound : (r : ℕ) (e : Way × Rect) → IsSound (border_segment r e)
+segment_sound r e = cond_both (within e.1.row e.1.rows r) (replicate e.1.cols (sign e.0)) [] (λ (l : List Glyph). IsSound l)
     (λ _. sound_signs e.1.cols e.0) (λ _. sound_nil)
 
 strip_sound : (r : ℕ) (picture : ℕ → Screenshot) (t : Shape) (x : Rect) → ArePictured picture (placed t x) → IsSound (strip r picture t x)
@@ -39,15 +39,15 @@ strip_sound r picture (Two w g a b) x are =
     let parts = pictured_parts picture (placed a (first_part w g a b x)) (placed b (second_part w g a b x)) are in
     let edge : Way × Rect = (w, border_part w g a b x) in
     let rest = strip r picture b (second_part w g a b x) in
-    sound_beside (strip r picture a (first_part w g a b x)) (border_piece r edge ++ rest)
+    sound_beside (strip r picture a (first_part w g a b x)) (border_segment r edge ++ rest)
     (strip_sound r picture a (first_part w g a b x) parts.0)
-    (sound_beside (border_piece r edge) rest (piece_sound r edge) (strip_sound r picture b (second_part w g a b x) parts.1))
+    (sound_beside (border_segment r edge) rest (segment_sound r edge) (strip_sound r picture b (second_part w g a b x) parts.1))
 
 module _ (s : Plan) (picture : ℕ → Screenshot) (plan : IsPlan s) (are : ArePictured picture (panes s)) where
   not_last : (r : ℕ) → r < s.rows → eqb r s.rows ≡ false
   not_last r h = ne_eqb r s.rows (λ e. omega (arith, e, h))
 
-  -- above the last row the pieces are the row
+  -- above the last row the segments are the row
   pub area_row : (r : ℕ) → 1 ≤ r → r < s.rows → strip r picture s.tree (area s.rows s.cols) ≡ face_row s picture r
   area_row r low high =
       shows_row (strip r picture s.tree (area s.rows s.cols)) s.cols (face_at s picture r)
@@ -145,11 +145,11 @@ row_text s picture r text old new e et en =
 module _ (s : Plan) (picture : ℕ → Screenshot) (r : ℕ) (ss : List (ℕ × Screenshot)) (plan : IsPlan s)
     (same : ArePictures (panes s) ss) (show : Show picture ss) (are : All (λ (x : ℕ × Screenshot). IsScreenshot x.1) ss) (low : 1 ≤ r)
     (high : r < s.rows) where
-  pub row_pieces : (rects : List (ℕ × Rect)) (borders : List (Way × Rect)) (old new : List Glyph) → rects ≡ panes s → borders ≡ edges s
-      → new ≡ old ++ pieces r rects borders ss → new ≡ old ++ face_row s picture r
-  row_pieces rects borders old new er eb en =
-      en ∙ (λ i. old ++ pieces r (er i) (eb i) ss)
-      ∙ ap (λ l. old ++ l) (pieces_are r picture (panes s) (edges s) ss same show ∙ woven_last r picture s.tree (area s.rows s.cols)
+  pub row_segments : (rects : List (ℕ × Rect)) (borders : List (Way × Rect)) (old new : List Glyph) → rects ≡ panes s → borders ≡ edges s
+      → new ≡ old ++ segments r rects borders ss → new ≡ old ++ face_row s picture r
+  row_segments rects borders old new er eb en =
+      en ∙ (λ i. old ++ segments r (er i) (eb i) ss)
+      ∙ ap (λ l. old ++ l) (segments_are r picture (panes s) (edges s) ss same show ∙ woven_last r picture s.tree (area s.rows s.cols)
       ∙ area_row s picture plan (pictured_from picture (panes s) ss same show are) r low high)
 
   pub row_sound : IsSound (face_row s picture r)

@@ -25,7 +25,7 @@ use Rattle.roam_layout.specs.declared.rects.Way.{Way}
 use Rattle.roam_layout.specs.declared.rects.Way.TheVariants.{Right, Down}
 use Rattle.roam_layout.specs.declared.rects.Rect.{Rect}
 use Rattle.roam_layout.proofs.Keeping.{plan_close, plan_focus, plan_split, plan_grow, next_in, number_of}
-use Rattle.roam_layout.proofs.Pieces.{ArePictured}
+use Rattle.roam_layout.proofs.Segments.{ArePictured}
 use Rattle.roam_layout.proofs.Beside.{IsSound, right_text, down_text}
 use Rattle.roam_layout.proofs.Facing.{area_sound, text_sound, free_sound, length-status_row, face_count, face_whole, face_unguarded}
 use Rattle.roam_layout.proofs.Pointing.{cursor_place}

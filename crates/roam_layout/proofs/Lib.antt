@@ -5,7 +5,7 @@ pub mod Keeping
 pub mod Texts
 pub mod Rows
 pub mod Places
-pub mod Pieces
+pub mod Segments
 pub mod Beside
 pub mod Listed
 pub mod Stepping

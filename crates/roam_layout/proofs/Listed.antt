@@ -10,7 +10,7 @@ use Rattle.roam_layout.specs.Rects.{placed, first_part, second_part}
 use Rattle.roam_layout.specs.Layouts.{Plan, IsPlan, area, panes}
 use Rattle.roam_layout.specs.Changes.{size_of}
 use Rattle.roam_layout.specs.Faces.{picture_size, picture_in, ArePictures, Show}
-use Rattle.roam_layout.proofs.Pieces.{ArePictured}
+use Rattle.roam_layout.proofs.Segments.{ArePictured}
 use Rattle.roam_layout.specs.declared.rects.Rect.{Rect}
 
 -- a list with a picture for each pane gives each pane one of its size

@@ -8,7 +8,7 @@ use Rattle.roam_layout.specs.Rects.{placed, spot, first_length, first_part, seco
 use Rattle.roam_layout.specs.Layouts.{Plan, IsPlan, area, panes}
 use Rattle.roam_layout.specs.Faces.{face, focus_rect, picture_in, ArePictures, Show}
 use Rattle.roam_layout.proofs.Covering.{across_in, down_in}
-use Rattle.roam_layout.proofs.Pieces.{IsPictured, ArePictured, pictured_parts}
+use Rattle.roam_layout.proofs.Segments.{IsPictured, ArePictured, pictured_parts}
 use Rattle.roam_layout.specs.declared.rects.Way.TheVariants.{Right, Down}
 use Rattle.roam_layout.specs.declared.rects.Rect.{Rect}
 use Rattle.roam_layout.proofs.Listed.{pictured_from, right_of_or, shows_by_number, focus_listed}

@@ -95,27 +95,27 @@ picture_in (x ∷ xs) p = if x.0 == p then x.1 else picture_in xs p
 abbrev pub Show : (ℕ → Screenshot) → List (ℕ × Screenshot) → Type 0
 Show picture shots = All (λ (x : ℕ × Screenshot). x.1 ≡ picture x.0) shots
 
--- ---- the pieces of a row
+-- ---- the segments of a row
 
--- a pane's piece of a row: a row of its picture, nothing where its rectangle doesn't have the row
-abbrev pub pane_piece : ℕ → Rect → Screenshot → List Glyph
-pane_piece r x picture = if within x.row x.rows r then row_of picture.cols picture.cells (r - x.row) else []
+-- a pane's segment of a row: a row of its picture, nothing where its rectangle doesn't have the row
+abbrev pub pane_segment : ℕ → Rect → Screenshot → List Glyph
+pane_segment r x picture = if within x.row x.rows r then row_of picture.cols picture.cells (r - x.row) else []
 
--- a border's piece of a row
-abbrev pub border_piece : ℕ → Way × Rect → List Glyph
-border_piece r x = if within x.1.row x.1.rows r then replicate x.1.cols (sign x.0) else []
+-- a border's segment of a row
+abbrev pub border_segment : ℕ → Way × Rect → List Glyph
+border_segment r x = if within x.1.row x.1.rows r then replicate x.1.cols (sign x.0) else []
 
--- the piece of the first of these borders
-abbrev pub first_piece : ℕ → List (Way × Rect) → List Glyph
-first_piece r [] = []
-first_piece r (x ∷ xs) = border_piece r x
+-- the segment of the first of these borders
+abbrev pub first_segment : ℕ → List (Way × Rect) → List Glyph
+first_segment r [] = []
+first_segment r (x ∷ xs) = border_segment r x
 
--- the pieces of a row from left to right: in tree order panes and borders take turns
-abbrev pub pieces : ℕ → List (ℕ × Rect) → List (Way × Rect) → List (ℕ × Screenshot) → List Glyph
-pieces r [] borders shots = []
-pieces r (x ∷ panes) borders [] = []
-pieces r (x ∷ panes) borders (y ∷ shots) =
-    pane_piece r x.1 y.1 ++ (first_piece r borders ++ pieces r panes (drop 1 borders) shots)
+-- the segments of a row from left to right: in tree order panes and borders take turns
+abbrev pub segments : ℕ → List (ℕ × Rect) → List (Way × Rect) → List (ℕ × Screenshot) → List Glyph
+segments r [] borders shots = []
+segments r (x ∷ panes) borders [] = []
+segments r (x ∷ panes) borders (y ∷ shots) =
+    pane_segment r x.1 y.1 ++ (first_segment r borders ++ segments r panes (drop 1 borders) shots)
 
 -- ---- a face that was kept
 

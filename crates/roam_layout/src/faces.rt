@@ -6,7 +6,7 @@ ghost use Rattle.roam_screens.specs.Screenshot.{Screenshot, IsScreenshot, IsPlac
 ghost use Rattle.roam_cells.specs.Glyph.{default_style, is_cell_text};
 ghost use Rattle.roam_layout.specs.Layouts.{panes};
 ghost use Rattle.roam_layout.specs.Status.{IsPrintable};
-ghost use Rattle.roam_layout.specs.Faces.{character, sign, reverse_style, face, face_row, picture_in, ArePictures, Show, pane_piece, border_piece, pieces};
+ghost use Rattle.roam_layout.specs.Faces.{character, sign, reverse_style, face, face_row, picture_in, ArePictures, Show, pane_segment, border_segment, segments};
 
 use crate::layouts::Layout;
 use crate::rects::{Rect, Way};
@@ -85,7 +85,7 @@ pub fn push_row(
         let text = layout.status(alloc)?;
         push_text(cells, &text)?;
     } else {
-        push_pieces(cells, row, layout.rects(), layout.borders(), shots)?;
+        push_segments(cells, row, layout.rects(), layout.borders(), shots)?;
     }
     Ok(())
 }
@@ -114,7 +114,7 @@ fn cursor_of(pane: u8, shots: &[(u8, Shot)]) -> ((u16, u16), bool)
     }
 }
 
-fn push_pieces(
+fn push_segments(
     cells: &mut Vec<Cell>,
     row: u16,
     rects: &[(u8, Rect)],
@@ -123,7 +123,7 @@ fn push_pieces(
 ) -> Result<(), AllocError>
     requires pictures { ArePictures rects.now shots.now }
     requires screenshots { All (λ (x : ℕ × Screenshot). IsScreenshot x.1) shots.now }
-    ensures pieces { IfOk result (λ _. cells.new.items ≡ cells.old.items ++ pieces row rects.now borders.now shots.now) }
+    ensures segments { IfOk result (λ _. cells.new.items ≡ cells.old.items ++ segments row rects.now borders.now shots.now) }
 {
     for k in 0..rects.len() {
         push_pane(cells, row, rects[k].1, &shots[k].1)?;
@@ -136,7 +136,7 @@ fn push_pieces(
 
 fn push_pane(cells: &mut Vec<Cell>, row: u16, rect: Rect, shot: &Shot) -> Result<(), AllocError>
     requires size { (shot.now.rows ≡ rect.rows) × (shot.now.cols ≡ rect.cols) }
-    ensures piece { IfOk result (λ _. cells.new.items ≡ cells.old.items ++ pane_piece row rect shot.now) }
+    ensures segment { IfOk result (λ _. cells.new.items ≡ cells.old.items ++ pane_segment row rect shot.now) }
 {
     if !rect.has_row(row) {
         return Ok(());
@@ -148,7 +148,7 @@ fn push_pane(cells: &mut Vec<Cell>, row: u16, rect: Rect, shot: &Shot) -> Result
 }
 
 fn push_border(cells: &mut Vec<Cell>, row: u16, border: (Way, Rect)) -> Result<(), AllocError>
-    ensures piece { IfOk result (λ _. cells.new.items ≡ cells.old.items ++ border_piece row border) }
+    ensures segment { IfOk result (λ _. cells.new.items ≡ cells.old.items ++ border_segment row border) }
 {
     let (way, rect) = border;
     if !rect.has_row(row) {

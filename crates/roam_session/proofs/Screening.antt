@@ -16,7 +16,7 @@ use Rattle.roam_layout.specs.Rects.{rect_in}
 use Rattle.roam_layout.specs.Layouts.{Outcome, Laid, Refused, IsSessionSize, start, laid, panes}
 use Rattle.roam_layout.specs.declared.rects.Rect.{Rect}
 use Rattle.roam_layout.proofs.Laying.{IsLayout, laid_layout, start_layout, face_screen}
-use Rattle.roam_layout.proofs.Pieces.{ArePictured, IsPictured}
+use Rattle.roam_layout.proofs.Segments.{ArePictured, IsPictured}
 use Rattle.roam_session.specs.Faces.{picture_at, pictures_of, face}
 use Rattle.roam_session.specs.Panes.{Pane, is_same_size, moved, given, fed, keyed, drained}
 use Rattle.roam_session.specs.Sessions.{Entry, Given, Did, Drained, SessionSize, SessionState, at_pane, laid_out, key_in, acted, after_entry, first_state, session}

@@ -1,5 +1,6 @@
 -- The screen that a session shows: the face of its layout and of the pictures of its panes (this project's profile).
 use Rattle.std.specs.Prelude.{ℕ, List, slice_index, Option, Some, None}
+use Rattle.roam_term.specs.Limits.{pane_lines}
 use Rattle.roam_screens.specs.Screenshot.{Screenshot, blank_screenshot}
 use Rattle.roam_term.specs.Picture.{picture}
 use Rattle.roam_layout.specs.Faces.{face as face_of}
@@ -9,7 +10,7 @@ use Rattle.roam_session.specs.Sessions.{Entry, SessionSize, SessionState, sessio
 -- what a pane shows at a view; a number without a pane shows nothing anywhere
 abbrev pub picture_at : ℕ → Option Pane → Screenshot
 picture_at view None = blank_screenshot 2 4
-picture_at view (Some p) = picture p.rows p.cols 500 p.log view
+picture_at view (Some p) = picture p.rows p.cols pane_lines p.log view
 
 -- what stands at a number, at its view in the layout
 abbrev pub pictures_of : SessionState → ℕ → Screenshot

@@ -1,6 +1,7 @@
 -- A pane of a session: what its terminal was given, and the bytes that wait for the pane's program (this project's profile).
 use Rattle.std.specs.Prelude.{ℕ, ◌==◌, ◌&&◌, Bool, List, [], ◌∷◌, ◌++◌, map, drop, length, Option, Some, None, if◌then◌else◌}
 use Rattle.std.specs.Option.{option_map}
+use Rattle.roam_term.specs.Limits.{pane_lines}
 use Rattle.roam_text.specs.Log.{Item, Byte, Resized}
 use Rattle.roam_keys.specs.declared.keys.Key.{Key}
 use Rattle.roam_keys.specs.Sent.{sent}
@@ -23,7 +24,7 @@ begun r = record { rows = r.rows; cols = r.cols; log = []; waiting = [] }
 
 -- what a pane's terminal answers to bytes, after all that it was given before
 abbrev pub answers : Pane → List ℕ → List ℕ
-answers p bytes = drop (length (reports p.rows p.cols 500 p.log)) (reports p.rows p.cols 500 (p.log ++ map Byte bytes))
+answers p bytes = drop (length (reports p.rows p.cols pane_lines p.log)) (reports p.rows p.cols pane_lines (p.log ++ map Byte bytes))
 
 -- bytes of the pane's program go to its terminal, and what this answers waits
 abbrev pub fed : List ℕ → Pane → Pane
@@ -31,7 +32,7 @@ fed bytes p = record { rows = p.rows; cols = p.cols; log = p.log ++ map Byte byt
 
 -- what lives of the pane's terminal
 abbrev pub live_of : Pane → Live
-live_of p = (term p.rows p.cols 500 p.log).live
+live_of p = (term p.rows p.cols pane_lines p.log).live
 
 -- the bytes of a key under the modes of the pane's terminal
 abbrev pub key_bytes : Key → Pane → List ℕ

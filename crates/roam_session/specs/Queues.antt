@@ -1,5 +1,6 @@
 -- What calls make of the terminal of one pane, and of the bytes that wait in it.
 use Rattle.std.specs.Prelude.{◌≡◌, ℕ, ◌+◌, ◌≤◌, ◌++◌, nat_lt, min, Bool, List, take, drop, length, Option, Some, None, if◌then◌else◌}
+use Rattle.roam_term.specs.Limits.{most_output}
 use Rattle.roam_cells.specs.declared.faults.Fault.{Fault}
 use Rattle.roam_cells.specs.declared.faults.Fault.TheVariants.{Busy}
 use Rattle.roam_text.specs.Log.{Item}
@@ -65,4 +66,4 @@ IsCopied n old new (Some waiting) = (n ≡ min (length waiting) (length old)) ×
 abbrev pub key_refused : Key → Option TermView → Option Fault
 key_refused key None = None
 key_refused key (Some t) =
-    if nat_lt 65536 (length t.waiting + length (sent (key_modes t.live.modes) key)) then Some Busy else None
+    if nat_lt most_output (length t.waiting + length (sent (key_modes t.live.modes) key)) then Some Busy else None

@@ -1,6 +1,7 @@
 -- What a session refuses after a log, and the bytes that wait in its panes (this project's profile).
 use Rattle.std.specs.Prelude.{ℕ, ◌+◌, ◌*◌, Bool, false, nat_lt, List, length, Option, Some, None, Result, Ok, Err, if◌then◌else◌}
 use Rattle.std.specs.Option.{option_map}
+use Rattle.roam_term.specs.Limits.{most_output, longest_piece}
 use Rattle.roam_keys.specs.declared.keys.Key.{Key}
 use Rattle.roam_acts.specs.declared.acts.Act.{Act}
 use Rattle.roam_cells.specs.declared.faults.Fault.{Fault}
@@ -21,8 +22,8 @@ output_at size log p = waiting_in ((session size log).pane p)
 abbrev pub bytes_refused : List ℕ → Option (List ℕ) → Option Fault
 bytes_refused bytes None = Some NoPane
 bytes_refused bytes (Some waiting) =
-    if nat_lt 1024 (length bytes) then Some TooLong
-    else if nat_lt 65536 (length waiting + 12 * length bytes) then Some Busy
+    if nat_lt longest_piece (length bytes) then Some TooLong
+    else if nat_lt most_output (length waiting + 12 * length bytes) then Some Busy
     else None
 
 -- why a pane doesn't take bytes of its program
@@ -37,7 +38,7 @@ none_refused (Some waiting) = None
 -- whether a key's bytes find the queue of a pane full
 abbrev pub is_full_for : Key → Option Pane → Bool
 is_full_for key None = false
-is_full_for key (Some p) = nat_lt 65536 (length p.waiting + length (key_bytes key p))
+is_full_for key (Some p) = nat_lt most_output (length p.waiting + length (key_bytes key p))
 
 -- whether an act with the key that it may have finds the queue of the pane in focus full
 abbrev pub is_stopped : Option Key → SessionState → Bool

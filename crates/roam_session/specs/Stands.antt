@@ -1,6 +1,7 @@
 -- What a session of the code stands for.
 use Rattle.std.specs.Prelude.{◌≡◌, ℕ, ◌<◌, ◌∷◌, ◌++◌, [], Bool, false, List, slice_index, slice_index_or, length, Option, Some, None}
 use Rattle.std.specs.Option.{option_map}
+use Rattle.roam_term.specs.Limits.{pane_lines}
 use Rattle.roam_cells.specs.Limits.{IsSize}
 use Rattle.roam_cells.specs.Place.{row_of}
 use Rattle.roam_screens.specs.Screenshot.{Screenshot, blank_screenshot}
@@ -95,7 +96,7 @@ keeping shot s = record s { marks = all_off; kept = shot }
 
 -- a terminal is that of a pane
 pub record IsOf (t : TermView) (p : Pane) : Type 0 where
-  pub shows : Shows t p.rows p.cols 500 p.log
+  pub shows : Shows t p.rows p.cols pane_lines p.log
   pub waiting : t.waiting ≡ p.waiting
 
 -- a terminal stands where a pane stands, and none where none

@@ -1,5 +1,6 @@
 -- What an act makes of the terminals: a step for each number, prepared with all its memory and then done.
 use Rattle.std.specs.Prelude.{◌≡◌, ℕ, [], ◌∷◌, ◌++◌, List, Option, Some, None, slice_index_or, true, false}
+use Rattle.roam_term.specs.Limits.{pane_lines}
 use Rattle.roam_cells.specs.Limits.{IsSize}
 use Rattle.roam_grid.specs.Marks.{all_off}
 use Rattle.roam_text.specs.Log.{Item, Resized}
@@ -14,7 +15,7 @@ use Rattle.roam_session.specs.declared.steps.Step.TheVariants.{Keep, End, Begin,
 
 -- a terminal that begins in a rectangle
 pub record IsFresh (t : TermView) (r : Rect) : Type 0 where
-  pub shows : Shows t r.rows r.cols 500 []
+  pub shows : Shows t r.rows r.cols pane_lines []
   pub waiting : t.waiting ≡ []
   pub marks : t.marks ≡ all_off
   pub size : HasSize t r.rows r.cols

@@ -7,15 +7,13 @@ ghost use Rattle.roam_layout.specs.Rects.{rect_in};
 ghost use Rattle.roam_layout.specs.Layouts.{panes};
 ghost use Rattle.roam_term.specs.Stands.{IsAccepted};
 ghost use Rattle.roam_session.specs.Queues.{ChangesAt, IsFed, IsKeyed, IsDrained, IsWithin, IsCopied, key_refused};
+ghost use Rattle.roam_term.specs.Limits.{most_output, longest_piece};
 
 use crate::marks::touch_pane;
 use roam_acts::Key;
 use roam_cells::Fault;
 use roam_layout::Layout;
-use roam_term::Term;
-
-/// The most bytes that wait in a pane.
-const MOST_OUTPUT: usize = 65536;
+use roam_term::{MOST_OUTPUT, Term};
 
 // Gives bytes to the terminal of a pane, and marks the rows that it changes.
 fn read(
@@ -30,7 +28,7 @@ fn read(
     ensures fed { OnOk result (IsFed piece.now layout.now pane marks.old marks.new term.old term.new) }
     ensures err { OnErr result (term.new ≡ term.old) }
     ensures same { OnErr result (marks.new ≡ marks.old) }
-    ensures too_long { IsErrOf result Fault.TooLong ↔ (1024 < length piece.now) }
+    ensures too_long { IsErrOf result Fault.TooLong ↔ (longest_piece < length piece.now) }
     ensures faults { IfErr result (λ e. (e ≡ Fault.TooLong) ⊎ (e ≡ Fault.Busy)) }
 {
     match term.feed(piece) {
@@ -119,7 +117,7 @@ pub fn output_len(terms: &[Option<Term>], pane: u8) -> Option<usize>
 
 /// How many more bytes may wait in a pane that is there.
 pub fn room(terms: &[Option<Term>], pane: u8) -> Option<usize>
-    ensures room { result ≡ option_map (λ (waiting : List ℕ). 65536 - length waiting) (waiting_at terms.now pane) }
+    ensures room { result ≡ option_map (λ (waiting : List ℕ). most_output - length waiting) (waiting_at terms.now pane) }
 {
     let pane = usize::from(pane);
     if terms.len() <= pane {

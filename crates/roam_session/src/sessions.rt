@@ -14,6 +14,7 @@ ghost use Rattle.roam_session.specs.Marks.{is_concerned};
 ghost use Rattle.roam_grid.specs.Marks.{all_on, also_marked};
 ghost use Rattle.roam_session.specs.Steps.{IsGiven};
 ghost use Rattle.roam_session.specs.Queues.{ChangesAt, IsKeyed, IsWithin, IsCopied, key_refused};
+ghost use Rattle.roam_term.specs.Limits.{most_output};
 
 use crate::faces::{blank_of, face_of};
 use crate::lives::count_lives;
@@ -247,7 +248,7 @@ impl Session {
 
     /// How many more of 65,536 bytes may wait in a pane that is there.
     pub fn room(&self, pane: u8) -> Option<usize>
-        ensures room { result ≡ option_map (λ (waiting : List ℕ). 65536 - length waiting) (waiting_at self.now.terms pane) }
+        ensures room { result ≡ option_map (λ (waiting : List ℕ). most_output - length waiting) (waiting_at self.now.terms pane) }
         ensures stands { (size : SessionSize) (log : List Entry)
             → Stands self.now size log → waiting_at self.now.terms pane ≡ output_at size log pane }
     {

@@ -1,6 +1,7 @@
 -- What `roam show` writes.
 use Rattle.std.specs.Prelude.{ℕ, zero, suc, List, [], ◌∷◌, ◌++◌, map, codes, decimal, encode_utf8_all, if◌then◌else◌}
 use Rattle.hex.specs.Hex.{encode_lower}
+use Rattle.roam_term.specs.Limits.{pane_lines}
 use Rattle.roam_cells.specs.Glyph.{Glyph}
 use Rattle.roam_screens.specs.Screenshot.{Screenshot, row_text}
 use Rattle.roam_text.specs.Log.{Byte}
@@ -31,4 +32,4 @@ output_line (b ∷ bs) = codes "output " ++ encode_lower (b ∷ bs) ++ 10 ∷ []
 
 -- the text for the bytes of a pane, on a terminal of this size with all lines of history, not scrolled back
 unfoldable pub show_text : ℕ → ℕ → List ℕ → List ℕ
-show_text rows cols log = screen_text (picture rows cols 500 (map Byte log) 0) ++ output_line (reports rows cols 500 (map Byte log))
+show_text rows cols log = screen_text (picture rows cols pane_lines (map Byte log) 0) ++ output_line (reports rows cols pane_lines (map Byte log))

@@ -5,6 +5,7 @@ ghost use Rattle.roam_text.specs.Log.{Item, Byte};
 ghost use Rattle.roam_term.specs.Terminal.{reports};
 ghost use Rattle.roam_term.specs.Stands.{Shows, IsTermSize};
 ghost use Rattle.roam_show.specs.ShowText.{row_line, screen_text, output_line, show_text};
+ghost use Rattle.roam_term.specs.Limits.{pane_lines};
 
 use roam_cells::Fault;
 use roam_faults::RunFault;
@@ -101,8 +102,8 @@ fn push_output(alloc: Global, text: &mut String, report: &[u8]) -> Result<(), Al
 
 // The text of a terminal's screen and of what it answered.
 fn text_of(alloc: Global, term: &Term, report: &[u8]) -> Result<String, Fault>
-    ensures text { IfOk result (λ text. (rows cols : ℕ) (log : List ℕ) → Shows term.now rows cols 500 (map Byte log) →
-        report.now ≡ reports rows cols 500 (map Byte log) → string_bytes text ≡ show_text rows cols log) }
+    ensures text { IfOk result (λ text. (rows cols : ℕ) (log : List ℕ) → Shows term.now rows cols pane_lines (map Byte log) →
+        report.now ≡ reports rows cols pane_lines (map Byte log) → string_bytes text ≡ show_text rows cols log) }
     ensures fault { IsOkUnless result Fault.OutOfMemory }
 {
     let shot = term.shot(alloc, 0)?;
@@ -117,7 +118,7 @@ fn text_after<R: Read>(alloc: Global, term: &mut Term, reader: &mut R) -> Result
     requires waiting { term.old.waiting ≡ [] }
     ensures text { IfOk result (λ text. (log : List ℕ) × Consumes (R.remaining reader.old) (R.remaining reader.new) log
         × IsAtEnd (R.remaining reader.new)
-        × ((rows cols : ℕ) → Shows term.old rows cols 500 [] → string_bytes text ≡ show_text rows cols log)) }
+        × ((rows cols : ℕ) → Shows term.old rows cols pane_lines [] → string_bytes text ≡ show_text rows cols log)) }
     ensures err { IfErr result (λ e. (e ≡ RunFault.Read) ⊎ (e ≡ RunFault.Core Fault.OutOfMemory)) }
 {
     nothing_read_answers_nothing();
@@ -135,8 +136,8 @@ fn text_shown<R: Read>(
 ) -> Result<String, RunFault>
     ensures text { IfOk result (λ text. (log : List ℕ) × Consumes (R.remaining reader.old) (R.remaining reader.new) log
         × IsAtEnd (R.remaining reader.new) × (string_bytes text ≡ show_text rows cols log)) }
-    ensures size { OnOk result (IsTermSize rows cols 500) }
-    ensures bad_size { IsErrOf result (RunFault.Core Fault.BadSize) ↔ (¬ IsTermSize rows cols 500) }
+    ensures size { OnOk result (IsTermSize rows cols pane_lines) }
+    ensures bad_size { IsErrOf result (RunFault.Core Fault.BadSize) ↔ (¬ IsTermSize rows cols pane_lines) }
     ensures faults { (fault : Fault) → IsErrOf result (RunFault.Core fault) → (fault ≡ Fault.BadSize) ⊎ (fault ≡ Fault.OutOfMemory) }
 {
     let mut term = Term::new(alloc, rows, cols, MOST_LINES)?;
@@ -157,8 +158,8 @@ pub fn run_show<R: Read, W: Write>(
     ensures shown { OnOk result ((log : List ℕ) × Consumes (R.remaining reader.old) (R.remaining reader.new) log
         × IsAtEnd (R.remaining reader.new)
         × Appends (W.contents writer.old) (W.contents writer.new) (show_text rows cols log)) }
-    ensures size { OnOk result (IsTermSize rows cols 500) }
-    ensures bad_size { IsErrOf result (RunFault.Core Fault.BadSize) ↔ (¬ IsTermSize rows cols 500) }
+    ensures size { OnOk result (IsTermSize rows cols pane_lines) }
+    ensures bad_size { IsErrOf result (RunFault.Core Fault.BadSize) ↔ (¬ IsTermSize rows cols pane_lines) }
     // No other fault of the terminal comes, but want of memory.
     ensures faults { (fault : Fault) → IsErrOf result (RunFault.Core fault) → (fault ≡ Fault.BadSize) ⊎ (fault ≡ Fault.OutOfMemory) }
     ensures unwritten { IfErr result (λ e. e ≢ RunFault.Write → Keeps (W.contents writer.old) (W.contents writer.new)) }

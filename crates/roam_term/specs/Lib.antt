@@ -1,3 +1,4 @@
+pub mod Limits
 pub mod Motions
 pub mod Edits
 pub mod Erasures

@@ -1,5 +1,7 @@
 -- What a terminal stands for.
 use Rattle.std.specs.Prelude.{◌≡◌, ℕ, ◌+◌, ◌*◌, ◌≤◌, Bool, List, [], ◌∷◌, ◌++◌, map, length}
+use Rattle.roam_history.specs.Limits.{most_lines}
+use Rattle.roam_term.specs.Limits.{most_output, longest_piece}
 use Rattle.roam_cells.specs.Limits.{IsSize}
 use Rattle.roam_history.specs.Histories.{Scrollback}
 use Rattle.roam_text.specs.Functions.{functions_of}
@@ -21,7 +23,7 @@ pub record TermView : Type 0 where
 -- the sizes and the numbers of lines that a terminal may have
 pub record IsTermSize (rows cols lines : ℕ) : Type 0 where
   pub screen : IsSize rows cols
-  pub history : lines ≤ 500
+  pub history : lines ≤ most_lines
 
 -- the terminal is what a size, a number of lines and a log make
 pub record Shows (t : TermView) (rows cols lines : ℕ) (log : List Item) : Type 0 where
@@ -35,8 +37,8 @@ HasSize t rows cols = (t.live.screen.rows ≡ rows) × (t.live.screen.cols ≡ c
 
 -- a piece is accepted: it is short, and each of its bytes has 12 free bytes in the queue
 pub record IsAccepted (waiting piece : List ℕ) : Type 0 where
-  pub short : length piece ≤ 1024
-  pub room : length waiting + 12 * length piece ≤ 65536
+  pub short : length piece ≤ longest_piece
+  pub room : length waiting + 12 * length piece ≤ most_output
 
 -- the queue grew by what the answers gained from one log to a later one
 pub record Gains (old new : List ℕ) (rows cols lines : ℕ) (log later : List Item) : Type 0 where

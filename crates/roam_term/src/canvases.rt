@@ -9,16 +9,16 @@ ghost use Rattle.roam_text.specs.Functions.{ArePlain};
 ghost use Rattle.roam_text.specs.declared.functions.Function.{Function};
 ghost use Rattle.roam_term.specs.Terminal.{printed_on, printed_all, mode_set, private_mode_set, kept_of, saved_on, restored_to, soft_reset, reset, repeated, set_by, performed, commanded, answered_by, started_live, writing_under, on_main, with_rows, left_by, left_by_character, left_by_repeat, kept_by};
 ghost use Rattle.roam_term.specs.Marks.{marked_through, marks_printed, marks_private_mode, marks_private_modes, marks_repeated, marks_set_by, marks_performed};
+ghost use Rattle.roam_term.specs.Limits.{most_output};
 
 use crate::alternates::is_alternate_mode;
 use crate::edits::edit_by;
 use crate::erasures::erase_by;
-use crate::leaving::{
-    leave_by_edit, leave_by_motion, put, put_run, put_times, stays, take_top_rows,
-};
+use crate::leaving::{leave_by_edit, leave_by_motion, stays, take_top_rows};
 use crate::motions::move_by;
 use crate::outputs::Output;
 use crate::pens::{Saved, plain_pen};
+use crate::printing::{put, put_run, put_times};
 use crate::reports::answer_to;
 use crate::settings::{follow_private_mode, set_margins};
 use crate::shifts::shift_by;
@@ -432,7 +432,7 @@ impl Canvas {
 
     /// Answers what a command asks for, on the state before it.
     pub fn answer(&self, command: Command, output: &mut Output)
-        requires room { length output.old + 12 ≤ 65536 }
+        requires room { length output.old + 12 ≤ most_output }
         ensures answered { output.new ≡ output.old ++ answered_by command self.now.live }
         ensures short { length output.new ≤ length output.old + 12 }
     {

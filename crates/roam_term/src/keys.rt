@@ -4,8 +4,9 @@ ghost use Rattle.roam_keys.specs.Sent.{sent};
 ghost use Rattle.roam_text.specs.Log.{Item};
 ghost use Rattle.roam_term.specs.Keys.{key_modes};
 ghost use Rattle.roam_term.specs.Stands.{Shows};
+ghost use Rattle.roam_term.specs.Limits.{most_output};
 
-use crate::outputs::MOST_OUTPUT;
+use crate::limits::MOST_OUTPUT;
 use crate::terms::Term;
 use roam_cells::Fault;
 use roam_controls::Modes;
@@ -25,7 +26,7 @@ impl Term {
     /// Puts the bytes that a key sends under the terminal's modes behind what waits. Refuses them as `Busy` where the queue hasn't as
     /// many free bytes, and changes nothing then. It takes no memory.
     pub fn key(&mut self, key: &Key) -> Result<(), Fault>
-        ensures ok { IsOk result ↔ (length self.old.waiting + length (sent (key_modes self.old.live.modes) key.now) ≤ 65536) }
+        ensures ok { IsOk result ↔ (length self.old.waiting + length (sent (key_modes self.old.live.modes) key.now) ≤ most_output) }
         ensures waiting { OnOk result (self.new.waiting ≡ self.old.waiting ++ sent (key_modes self.old.live.modes) key.now) }
         ensures stands { OnOk result ((rows cols lines : ℕ) (log : List Item) → Shows self.old rows cols lines log
             → Shows self.new rows cols lines log) }

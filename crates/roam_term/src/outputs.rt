@@ -1,13 +1,12 @@
 //! The answered bytes that wait to be taken.
 ghost use Rattle.std.specs.Prelude.{◌≡◌, ◌+◌, ◌-◌, ◌<◌, ◌≤◌, ◌++◌, [], length, min, take, drop, IfOk, decimal};
+ghost use Rattle.roam_term.specs.Limits.{most_output};
 
+use crate::limits::MOST_OUTPUT;
 use circular_buffer::HeapCircularBuffer;
 use itoa::Buffer;
 use std::alloc::{AllocError, Global};
 use std::marker::Model;
-
-/// The most answered bytes that wait.
-pub const MOST_OUTPUT: usize = 65536;
 
 /// A queue of answered bytes, whose memory is made with it.
 #[derive(Drop)]
@@ -16,13 +15,14 @@ pub struct Output {
 }
 
 impl Model for Output {
+    ghost use Rattle.roam_term.specs.Limits.{most_output};
     ghost use Rattle.std.specs.Prelude.{◌≡◌, ◌≤◌, List, ℕ, length};
 
     ghost Value = { List ℕ };
 
     ghost view = { λ o. o.bytes.items };
 
-    ghost invariant = { λ o. (o.bytes.capacity ≡ 65536) × (length o.bytes.items ≤ 65536) };
+    ghost invariant = { λ o. (o.bytes.capacity ≡ most_output) × (length o.bytes.items ≤ most_output) };
 }
 
 // Writes bytes from a place on, as many as fit, and tells how many.
@@ -48,14 +48,14 @@ impl Output {
     /// How many bytes wait.
     pub fn len(&self) -> usize
         ensures len { result ≡ length self.now }
-        ensures most { result ≤ 65536 }
+        ensures most { result ≤ most_output }
     {
         self.bytes.len()
     }
 
     /// Appends bytes for which there is room. It takes no memory.
     pub fn push(&mut self, bytes: &[u8])
-        requires room { length self.old + length bytes.now ≤ 65536 }
+        requires room { length self.old + length bytes.now ≤ most_output }
         ensures waiting { self.new ≡ self.old ++ bytes.now }
     {
         self.bytes.fill_from_slice(bytes);
@@ -63,7 +63,7 @@ impl Output {
 
     /// Appends a number in decimal.
     pub fn push_number(&mut self, n: u16)
-        requires room { length self.old + 5 ≤ 65536 }
+        requires room { length self.old + 5 ≤ most_output }
         ensures waiting { self.new ≡ self.old ++ decimal n }
         ensures short { n < 1000 → length self.new ≤ length self.old + 3 }
     {

@@ -1,6 +1,7 @@
 //! Reports: what is answered.
 ghost use Rattle.std.specs.Prelude.{◌≡◌, ◌+◌, ◌≤◌, ◌++◌, length};
 ghost use Rattle.roam_term.specs.Reports.{reported_row, answer_to};
+ghost use Rattle.roam_term.specs.Limits.{most_output};
 
 use crate::outputs::Output;
 use roam_controls::{Modes, Report};
@@ -21,7 +22,7 @@ fn reported_row(grid: &Grid, origin: bool) -> usize
 }
 
 fn answer_position(grid: &Grid, modes: Modes, output: &mut Output)
-    requires room { length output.old + 12 ≤ 65536 }
+    requires room { length output.old + 12 ≤ most_output }
     ensures answered { output.new ≡ output.old ++ answer_to Report.CursorPosition modes grid.now.screen }
     ensures short { length output.new ≤ length output.old + 12 }
 {
@@ -37,7 +38,7 @@ fn answer_position(grid: &Grid, modes: Modes, output: &mut Output)
 
 /// Answers a report.
 pub fn answer_to(report: Report, grid: &Grid, modes: Modes, output: &mut Output)
-    requires room { length output.old + 12 ≤ 65536 }
+    requires room { length output.old + 12 ≤ most_output }
     ensures answered { output.new ≡ output.old ++ answer_to report modes grid.now.screen }
     ensures short { length output.new ≤ length output.old + 12 }
 {

@@ -8,10 +8,12 @@ ghost use Rattle.roam_term.specs.Marks.{marked, marked_through};
 ghost use Rattle.roam_term.specs.Picture.{picture, picture_of};
 ghost use Rattle.roam_term.specs.Terminal.{changed, kept, answer, lived, kept_by, answered};
 ghost use Rattle.roam_term.specs.Stands.{Shows, Fed, HasSize, IsTermSize, IsAccepted};
+ghost use Rattle.roam_term.specs.Limits.{most_output, longest_piece};
 
 use crate::canvases::Canvas;
 use crate::leaving::stays;
-use crate::outputs::{MOST_OUTPUT, Output};
+use crate::limits::{MOST_ANSWER, MOST_LINES, MOST_OUTPUT, MOST_PIECE};
+use crate::outputs::Output;
 use crate::pictures::draw;
 use roam_cells::Fault;
 use roam_cells::limits::is_size;
@@ -21,16 +23,6 @@ use roam_screens::Shot;
 use roam_text::{Dispatch, Dispatched, REPLACEMENT, Reader};
 use std::alloc::Global;
 use std::marker::Model;
-
-/// The longest piece of `Term::feed`, in bytes.
-pub const MOST_PIECE: usize = 1024;
-
-/// The most lines of history.
-pub const MOST_LINES: u16 = 500;
-
-// One byte completes at most two functions. The first of two prints, so one answer comes of a byte at most. The longest have 10 bytes:
-// DA's second answer, and a report of the cursor at row 200 and column 500; 12 leave room for a larger screen.
-const MOST_ANSWER: usize = 12;
 
 // What a dispatched function asks for, with what the reader lends.
 #[inline]
@@ -343,7 +335,7 @@ impl Term {
         ensures fed { OnOk result (Fed self.old self.new piece.now) }
         ensures screen { HasSize self.new self.old.live.screen.rows self.old.live.screen.cols }
         ensures err { OnErr result (self.new ≡ self.old) }
-        ensures too_long { IsErrOf result Fault.TooLong ↔ (1024 < length piece.now) }
+        ensures too_long { IsErrOf result Fault.TooLong ↔ (longest_piece < length piece.now) }
         ensures faults { IfErr result (λ e. (e ≡ Fault.TooLong) ⊎ (e ≡ Fault.Busy)) }
     {
         if MOST_PIECE < piece.len() {
@@ -359,7 +351,7 @@ impl Term {
     /// How many answered bytes wait.
     pub fn output_len(&self) -> usize
         ensures len { result ≡ length self.now.waiting }
-        ensures most { result ≤ 65536 }
+        ensures most { result ≤ most_output }
     {
         self.output.len()
     }

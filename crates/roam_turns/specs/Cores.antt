@@ -2,6 +2,7 @@
 use Rattle.std.specs.Prelude.{◌≡◌, ℕ, ◌-◌, List, length, take, Result, Vec}
 use Rattle.std.specs.Option.{option_map}
 use Rattle.std.specs.declared.alloc.Global.{Global}
+use Rattle.roam_term.specs.Limits.{most_output}
 use Rattle.roam_cells.specs.declared.faults.Fault.{Fault}
 use Rattle.roam_session.specs.Lives.{life_of}
 use Rattle.roam_session.specs.Refusals.{output_at}
@@ -22,7 +23,7 @@ server_step old (Life pane answer) new = (new ≡ old)
     × ((s : ServerOf) → ServerStands old s → answer ≡ life_of s.size s.log pane)
 server_step old (Room pane answer) new = (new ≡ old)
     × ((s : ServerOf) → ServerStands old s
-    → answer ≡ option_map (λ (waiting : List ℕ). 65536 - length waiting) (output_at s.size s.log pane))
+    → answer ≡ option_map (λ (waiting : List ℕ). most_output - length waiting) (output_at s.size s.log pane))
 server_step old (PaneBytes pane bytes answer) new = (s : ServerOf) → ServerStands old s → Feeds s pane bytes answer new
 server_step old (Output pane most answer) new = (new ≡ old)
     × ((s : ServerOf) → ServerStands old s → answer ≡ option_map (take most) (output_at s.size s.log pane))

@@ -1,5 +1,6 @@
 -- What a turn is: the calls that it makes, of its ports and of its core, in their order.
 use Rattle.std.specs.Prelude.{◌≡◌, ℕ, ◌<◌, ◌≤◌, List, [], ◌∷◌, ◌++◌, map, Bool, Option, Some, None, Result, Ok, Err, is_ok, true, false}
+use Rattle.roam_term.specs.Limits.{longest_piece}
 use Rattle.roam_cells.specs.declared.faults.Fault.{Fault}
 use Rattle.roam_screens.specs.Screenshot.{Screenshot}
 use Rattle.roam_acts.specs.declared.acts.Act.{Act}
@@ -47,23 +48,23 @@ TakesPiece (Some room) = 12288 ≤ room
 -- nothing came; nothing but an empty piece; or a piece, which is handed to the server.
 pub data AsksPane (pane : ℕ) (calls : List (Call ServerCall)) : Type 0 where
   full : (room : Option ℕ) → (TakesPiece room → ⊥) → calls ≡ Core (Room pane room) ∷ [] → AsksPane pane calls
-  nothing : (room : Option ℕ) → TakesPiece room → calls ≡ Core (Room pane room) ∷ Port (PaneGaveNothing pane 1024) ∷ []
+  nothing : (room : Option ℕ) → TakesPiece room → calls ≡ Core (Room pane room) ∷ Port (PaneGaveNothing pane longest_piece) ∷ []
       → AsksPane pane calls
-  empty : (room : Option ℕ) → TakesPiece room → calls ≡ Core (Room pane room) ∷ Port (PaneGave pane 1024 []) ∷ []
+  empty : (room : Option ℕ) → TakesPiece room → calls ≡ Core (Room pane room) ∷ Port (PaneGave pane longest_piece []) ∷ []
       → AsksPane pane calls
   piece : (room : Option ℕ) (bytes : List ℕ) (answer : Result (Unit {0}) Fault) → TakesPiece room → (bytes ≡ [] → ⊥)
-      → calls ≡ Core (Room pane room) ∷ Port (PaneGave pane 1024 bytes) ∷ Core (PaneBytes pane bytes answer) ∷ []
+      → calls ≡ Core (Room pane room) ∷ Port (PaneGave pane longest_piece bytes) ∷ Core (PaneBytes pane bytes answer) ∷ []
       → AsksPane pane calls
 
 -- Up to 1,024 bytes that wait for a pane's program are handed to it: the pane isn't there; nothing waits; it takes none; or it takes some,
 -- and just those go.
 pub data FillsPane (pane : ℕ) (calls : List (Call ServerCall)) : Type 0 where
-  no_pane : calls ≡ Core (Output pane 1024 None) ∷ [] → FillsPane pane calls
-  quiet : calls ≡ Core (Output pane 1024 (Some [])) ∷ [] → FillsPane pane calls
+  no_pane : calls ≡ Core (Output pane longest_piece None) ∷ [] → FillsPane pane calls
+  quiet : calls ≡ Core (Output pane longest_piece (Some [])) ∷ [] → FillsPane pane calls
   refused : (bytes : List ℕ) → (bytes ≡ [] → ⊥)
-      → calls ≡ Core (Output pane 1024 (Some bytes)) ∷ Port (PaneTook pane bytes 0) ∷ [] → FillsPane pane calls
+      → calls ≡ Core (Output pane longest_piece (Some bytes)) ∷ Port (PaneTook pane bytes 0) ∷ [] → FillsPane pane calls
   took : (bytes : List ℕ) (n : ℕ) (answer : Result (Unit {0}) Fault) → (bytes ≡ [] → ⊥) → 0 < n
-      → calls ≡ Core (Output pane 1024 (Some bytes)) ∷ Port (PaneTook pane bytes n) ∷ Core (Drain pane n answer) ∷ []
+      → calls ≡ Core (Output pane longest_piece (Some bytes)) ∷ Port (PaneTook pane bytes n) ∷ Core (Drain pane n answer) ∷ []
       → FillsPane pane calls
 
 -- a tick, and each of its letters is sent; a refused tick sends nothing

@@ -1,5 +1,5 @@
 use Rattle.std.proofs.Common.{◌≡◌, None, ◌∙◌, sym, ap, rules}
-use Rattle.roam_acts.specs.Reading.{number_in}
+use Rattle.roam_acts.specs.Reading.{integer_in}
 use Rattle.roam_acts.proofs.Numbers.{no_parse, no_text}
 use Rattle.roam_acts.proofs.lines.number.Goals as goal
 
@@ -11,5 +11,5 @@ returns-in_err-text c = record {
 pub returns-in_err-number : goal.returns-in_err-number
 returns-in_err-number c =
     let same : c.in_ok-text.text.now ≡ c.args.text.now = search rules in
-    let none : number_in c.in_ok-text.text.now ≡ None = no_parse c.in_ok-text.text.now c.parse.result c.in_err-number.ensures.value c.parse.ensures.value.0 in
-    record { number = c.from_residual-in_err-number.ensures ∙ sym none ∙ ap number_in same }
+    let none : integer_in c.in_ok-text.text.now ≡ None = no_parse c.in_ok-text.text.now c.parse.result c.in_err-number.ensures.value c.parse.ensures.value.0 in
+    record { number = c.from_residual-in_err-number.ensures ∙ sym none ∙ ap integer_in same }

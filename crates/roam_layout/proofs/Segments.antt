@@ -1,4 +1,4 @@
--- The pieces of a row, put side by side, are the face's row.
+-- The segments of a row, put side by side, are the face's row.
 use Rattle.std.proofs.Common.{◌≡◌, ℕ, ◌+◌, ◌-◌, ◌*◌, ◌<◌, ◌≤◌, true, false, cond, inl, inr, List, [], ◌∷◌, ◌++◌, drop, replicate, length, get_or, Some, None, refl, sym, ap, ◌∙◌, arith, append_assoc}
 use Rattle.std.proofs.lemmas.Bool.{cases_lt}
 use Rattle.std.proofs.lemmas.List.{append-nil}
@@ -9,7 +9,7 @@ use Rattle.roam_screens.specs.Screenshot.{Screenshot, IsScreenshot}
 use Rattle.roam_cells.proofs.Places.{row_from}
 use Rattle.roam_layout.specs.Trees.{Shape, One, Two}
 use Rattle.roam_layout.specs.Rects.{placed, borders, within, first_length, first_part, border_part, second_part, front, part, Fits}
-use Rattle.roam_layout.specs.Faces.{found, pane_cell, sign, pane_piece, border_piece, first_piece}
+use Rattle.roam_layout.specs.Faces.{found, pane_cell, sign, pane_segment, border_segment, first_segment}
 use Rattle.roam_layout.proofs.Covering.{across_in, down_in}
 use Rattle.roam_layout.proofs.Places.{Shows, shows_same, shows_beside, shows_equal, shows_one, tree_cell, first_cell, border_sign, second_cell, not_row, not_col, both, within_in, within_below, within_above, within_range, within_none}
 use Rattle.roam_layout.specs.declared.rects.Way.{Way}
@@ -33,46 +33,46 @@ pub pictured_parts : (picture : ℕ → Screenshot) (xs ys : List (ℕ × Rect))
 pictured_parts picture [] ys h = (tt, h)
 pictured_parts picture (x ∷ xs) ys h = let rest = pictured_parts picture xs ys h.1 in ((h.0, rest.0), rest.1)
 
--- ---- the pieces by the tree
+-- ---- the segments by the tree
 
 abbrev pub strip : ℕ → (ℕ → Screenshot) → Shape → Rect → List Glyph
-strip r picture (One p) x = pane_piece r x (picture p)
+strip r picture (One p) x = pane_segment r x (picture p)
 strip r picture (Two w g a b) x =
     strip r picture a (first_part w g a b x)
-    ++ (border_piece r (w, border_part w g a b x) ++ strip r picture b (second_part w g a b x))
+    ++ (border_segment r (w, border_part w g a b x) ++ strip r picture b (second_part w g a b x))
 
--- the pieces of panes whose pictures are given by number
-abbrev pub pieces_by : ℕ → (ℕ → Screenshot) → List (ℕ × Rect) → List (Way × Rect) → List Glyph
-pieces_by r picture [] es = []
-pieces_by r picture (x ∷ xs) es = pane_piece r x.1 (picture x.0) ++ (first_piece r es ++ pieces_by r picture xs (drop 1 es))
+-- the segments of panes whose pictures are given by number
+abbrev pub segments_by : ℕ → (ℕ → Screenshot) → List (ℕ × Rect) → List (Way × Rect) → List Glyph
+segments_by r picture [] es = []
+segments_by r picture (x ∷ xs) es = pane_segment r x.1 (picture x.0) ++ (first_segment r es ++ segments_by r picture xs (drop 1 es))
 
 module _ (r : ℕ) (picture : ℕ → Screenshot) where
   -- in tree order panes and borders take turns
   woven : (t : Shape) (x : Rect) (ps : List (ℕ × Rect)) (e : Way × Rect) (es : List (Way × Rect))
-      → pieces_by r picture (placed t x ++ ps) (borders t x ++ e ∷ es) ≡ strip r picture t x ++
-      (border_piece r e ++ pieces_by r picture ps es)
+      → segments_by r picture (placed t x ++ ps) (borders t x ++ e ∷ es) ≡ strip r picture t x ++
+      (border_segment r e ++ segments_by r picture ps es)
   woven (One p) x ps e es = refl
   woven (Two w g a b) x ps e es =
       let xa = first_part w g a b x in
       let xb = second_part w g a b x in
       let edge : Way × Rect = (w, border_part w g a b x) in
-      let rest = border_piece r e ++ pieces_by r picture ps es in
-      (λ i. pieces_by r picture (append_assoc (placed a xa) (placed b xb) ps i)
+      let rest = border_segment r e ++ segments_by r picture ps es in
+      (λ i. segments_by r picture (append_assoc (placed a xa) (placed b xb) ps i)
       (append_assoc (borders a xa) (edge ∷ borders b xb) (e ∷ es) i))
       ∙ woven a xa (placed b xb ++ ps) edge (borders b xb ++ e ∷ es)
-      ∙ ap (λ l. strip r picture a xa ++ (border_piece r edge ++ l)) (woven b xb ps e es)
-      ∙ ap (λ l. strip r picture a xa ++ l) (sym (append_assoc (border_piece r edge) (strip r picture b xb) rest))
-      ∙ sym (append_assoc (strip r picture a xa) (border_piece r edge ++ strip r picture b xb) rest)
+      ∙ ap (λ l. strip r picture a xa ++ (border_segment r edge ++ l)) (woven b xb ps e es)
+      ∙ ap (λ l. strip r picture a xa ++ l) (sym (append_assoc (border_segment r edge) (strip r picture b xb) rest))
+      ∙ sym (append_assoc (strip r picture a xa) (border_segment r edge ++ strip r picture b xb) rest)
 
-  pub woven_last : (t : Shape) (x : Rect) → pieces_by r picture (placed t x) (borders t x) ≡ strip r picture t x
-  woven_last (One p) x = append-nil (pane_piece r x (picture p))
+  pub woven_last : (t : Shape) (x : Rect) → segments_by r picture (placed t x) (borders t x) ≡ strip r picture t x
+  woven_last (One p) x = append-nil (pane_segment r x (picture p))
   woven_last (Two w g a b) x =
       let xa = first_part w g a b x in
       let xb = second_part w g a b x in
       let edge : Way × Rect = (w, border_part w g a b x) in
-      woven a xa (placed b xb) edge (borders b xb) ∙ ap (λ l. strip r picture a xa ++ (border_piece r edge ++ l)) (woven_last b xb)
+      woven a xa (placed b xb) edge (borders b xb) ∙ ap (λ l. strip r picture a xa ++ (border_segment r edge ++ l)) (woven_last b xb)
 
--- ---- what the pieces show
+-- ---- what the segments show
 
 within_less : (first n k m r : ℕ) → k + m ≤ n → within first n r ≡ false → within (first + k) m r ≡ false
 within_less first n k m r le e =
@@ -105,7 +105,7 @@ strip_none r picture (Two Down g a b) x fits e =
 
 -- a pane shows its picture
 pane_shows : (r : ℕ) (picture : ℕ → Screenshot) (p : ℕ) (x : Rect) → IsPictured picture p x → within x.row x.rows r ≡ true
-    → Shows (pane_piece r x (picture p)) x.col x.cols (tree_cell picture (One p) x r)
+    → Shows (pane_segment r x (picture p)) x.col x.cols (tree_cell picture (One p) x r)
 pane_shows r picture p x is e =
     let shot = picture p in
     let i = r - x.row in
@@ -113,7 +113,7 @@ pane_shows r picture p x is e =
     let next = row_from shot.cols (i + 1) shot.rows 0 (omega (arith, low.0, low.1, is.rows)) in
     let inner : (i + 1) * shot.cols ≤ length shot.cells = omega (arith, next, is.shot.count) in
     let one : (i + 1) * shot.cols ≡ i * shot.cols + shot.cols = omega arith in
-    shows_equal (pane_piece r x shot) (row_of shot.cols shot.cells i) x.col x.cols (tree_cell picture (One p) x r)
+    shows_equal (pane_segment r x shot) (row_of shot.cols shot.cells i) x.col x.cols (tree_cell picture (One p) x r)
     (ap (λ v. cond v (row_of shot.cols shot.cells i) []) e)
     (record {
       size = length-between shot.cells (i * shot.cols) ((i + 1) * shot.cols) inner ∙ omega (arith, one, is.cols);
@@ -141,13 +141,13 @@ module _ (r : ℕ) (picture : ℕ → Screenshot) (a b : Shape) (x : Rect) (n : 
       → ((c : ℕ) → f c ≡ pane_cell picture r c (found r c (placed a left ++ placed b right))
       (found r c (borders a left ++ (Right, edge) ∷ borders b right)))
       → Shows xs x.col n (tree_cell picture a left r) → Shows ys (x.col + (n + 1)) (x.cols - n - 1) (tree_cell picture b right r)
-      → Shows (xs ++ (border_piece r (Right, edge) ++ ys)) x.col x.cols f
+      → Shows (xs ++ (border_segment r (Right, edge) ++ ys)) x.col x.cols f
   across_shows xs ys is s t =
       let first = shows_same xs x.col n (tree_cell picture a left r) f s (λ c low high.
       sym (is c ∙ first_cell picture Right a b left edge right fa fb r c
       (not_col r c edge (within_below (x.col + n) 1 c high))
       (not_col r c right (within_below (x.col + (n + 1)) (x.cols - n - 1) c (omega (arith, high)))))) in
-      let middle = shows_equal (border_piece r (Right, edge)) (replicate 1 (sign Right)) (x.col + n) 1 f
+      let middle = shows_equal (border_segment r (Right, edge)) (replicate 1 (sign Right)) (x.col + n) 1 f
       (ap (λ v. cond v (replicate 1 (sign Right)) []) e)
       (shows_same (replicate 1 (sign Right)) (x.col + n) 1 (λ c. sign Right) f (shows_one (x.col + n) 1 (sign Right)) (λ c low high.
       sym (is c ∙ border_sign picture Right a b left edge right fa fb r c
@@ -158,9 +158,9 @@ module _ (r : ℕ) (picture : ℕ → Screenshot) (a b : Shape) (x : Rect) (n : 
       sym (is c ∙ second_cell picture Right a b left edge right fa fb r c
       (not_col r c left (within_above x.col n c (omega (arith, low))))
       (not_col r c edge (within_above (x.col + n) 1 c (omega (arith, low)))))) in
-      shows_beside xs (border_piece r (Right, edge) ++ ys) x.col (x.col + n) n (1 + (x.cols - n - 1)) x.cols f refl
+      shows_beside xs (border_segment r (Right, edge) ++ ys) x.col (x.col + n) n (1 + (x.cols - n - 1)) x.cols f refl
       (omega (arith, le)) first
-      (shows_beside (border_piece r (Right, edge)) ys (x.col + n) (x.col + (n + 1)) 1 (x.cols - n - 1) (1 + (x.cols - n - 1)) f
+      (shows_beside (border_segment r (Right, edge)) ys (x.col + n) (x.col + (n + 1)) 1 (x.cols - n - 1) (1 + (x.cols - n - 1)) f
       (omega arith) refl
       middle second)
 
@@ -180,24 +180,24 @@ module _ (r : ℕ) (picture : ℕ → Screenshot) (a b : Shape) (x : Rect) (n : 
   IsBoth = (c : ℕ) → f c ≡ pane_cell picture r c (found r c (placed a upper ++ placed b lower))
       (found r c (borders a upper ++ (Down, level) ∷ borders b lower))
 
-  no_level : within (x.row + n) 1 r ≡ false → border_piece r (Down, level) ≡ []
+  no_level : within (x.row + n) 1 r ≡ false → border_segment r (Down, level) ≡ []
   no_level e = ap (λ v. cond v (replicate x.cols (sign Down)) []) e
 
   upper_shows : (xs ys : List Glyph) → IsBoth → ys ≡ [] → r < x.row + n → Shows xs x.col x.cols (tree_cell picture a upper r)
-      → Shows (xs ++ (border_piece r (Down, level) ++ ys)) x.col x.cols f
+      → Shows (xs ++ (border_segment r (Down, level) ++ ys)) x.col x.cols f
   upper_shows xs ys is none high s =
       let not_level = within_below (x.row + n) 1 r high in
-      shows_equal (xs ++ (border_piece r (Down, level) ++ ys)) xs x.col x.cols f
+      shows_equal (xs ++ (border_segment r (Down, level) ++ ys)) xs x.col x.cols f
       ((λ i. xs ++ (no_level not_level i ++ none i)) ∙ append-nil xs)
       (shows_same xs x.col x.cols (tree_cell picture a upper r) f s (λ c p q.
       sym (is c ∙ first_cell picture Down a b upper level lower fa fb r c (not_row r c level not_level)
       (not_row r c lower (within_below (x.row + (n + 1)) (x.rows - n - 1) r (omega (arith, high)))))))
 
   level_shows : (xs ys : List Glyph) → IsBoth → xs ≡ [] → ys ≡ [] → r ≡ x.row + n
-      → Shows (xs ++ (border_piece r (Down, level) ++ ys)) x.col x.cols f
+      → Shows (xs ++ (border_segment r (Down, level) ++ ys)) x.col x.cols f
   level_shows xs ys is none more e =
       let on = within_in (x.row + n) 1 r (omega (arith, e)) (omega (arith, e)) in
-      shows_equal (xs ++ (border_piece r (Down, level) ++ ys)) (replicate x.cols (sign Down)) x.col x.cols f
+      shows_equal (xs ++ (border_segment r (Down, level) ++ ys)) (replicate x.cols (sign Down)) x.col x.cols f
       ((λ i. none i ++ (cond (on i) (replicate x.cols (sign Down)) [] ++ more i)) ∙ append-nil (replicate x.cols (sign Down)))
       (shows_same (replicate x.cols (sign Down)) x.col x.cols (λ c. sign Down) f (shows_one x.col x.cols (sign Down)) (λ c p q.
       sym (is c ∙ border_sign picture Down a b upper level lower fa fb r c (not_row r c upper (within_above x.row n r (omega (arith, e))))
@@ -205,16 +205,16 @@ module _ (r : ℕ) (picture : ℕ → Screenshot) (a b : Shape) (x : Rect) (n : 
       (not_row r c lower (within_below (x.row + (n + 1)) (x.rows - n - 1) r (omega (arith, e)))))))
 
   lower_shows : (xs ys : List Glyph) → IsBoth → xs ≡ [] → x.row + n + 1 ≤ r → Shows ys x.col x.cols (tree_cell picture b lower r)
-      → Shows (xs ++ (border_piece r (Down, level) ++ ys)) x.col x.cols f
+      → Shows (xs ++ (border_segment r (Down, level) ++ ys)) x.col x.cols f
   lower_shows xs ys is none low s =
       let not_level = within_above (x.row + n) 1 r low in
-      shows_equal (xs ++ (border_piece r (Down, level) ++ ys)) ys x.col x.cols f
+      shows_equal (xs ++ (border_segment r (Down, level) ++ ys)) ys x.col x.cols f
       (λ i. none i ++ (no_level not_level i ++ ys))
       (shows_same ys x.col x.cols (tree_cell picture b lower r) f s (λ c p q.
       sym (is c ∙ second_cell picture Down a b upper level lower fa fb r c (not_row r c upper (within_above x.row n r (omega (arith, low))))
       (not_row r c level not_level))))
 
--- a row's pieces show what the tree shows there
+-- a row's segments show what the tree shows there
 pub strip_shows : (r : ℕ) (picture : ℕ → Screenshot) (t : Shape) (x : Rect) → Fits t x → ArePictured picture (placed t x)
     → within x.row x.rows r ≡ true → Shows (strip r picture t x) x.col x.cols (tree_cell picture t x r)
 strip_shows r picture (One p) x fits pictured e = pane_shows r picture p x pictured.0 e

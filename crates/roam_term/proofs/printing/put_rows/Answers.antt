@@ -9,7 +9,7 @@ use Rattle.roam_term.specs.Leaving.{left_by_puts}
 use Rattle.roam_term.specs.Terminal.{on_main, with_rows}
 use Rattle.roam_term.proofs.Lists.{all-after}
 use Rattle.roam_term.proofs.Scrollback.{left_run, main_stays}
-use Rattle.roam_term.proofs.leaving.put_rows.Goals as goal
+use Rattle.roam_term.proofs.printing.put_rows.Goals as goal
 
 pub loop-at-preserved : goal.loop-at-preserved
 loop-at-preserved c =

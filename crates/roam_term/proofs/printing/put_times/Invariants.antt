@@ -4,7 +4,7 @@ use Rattle.roam_grid.specs.Screen.{IsSameSize}
 use Rattle.roam_grid.specs.Writing.{put_all}
 use Rattle.roam_term.specs.Leaving.{left_by_puts}
 use Rattle.roam_term.specs.Terminal.{on_main, with_rows}
-use Rattle.roam_term.proofs.leaving.put_times.Given as goal
+use Rattle.roam_term.proofs.printing.put_times.Given as goal
 
 abbrev pub invariant-loop : goal.invariant-loop
 invariant-loop l = record {

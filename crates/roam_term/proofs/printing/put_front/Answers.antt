@@ -2,7 +2,7 @@ use Rattle.std.proofs.Common.{sym, ap, ◌∙◌, arith}
 use Rattle.roam_term.specs.Leaving.{left_by_put}
 use Rattle.roam_term.specs.Terminal.{on_main, with_rows}
 use Rattle.roam_term.proofs.Scrollback.{bytes_alone}
-use Rattle.roam_term.proofs.leaving.put_front.Goals as goal
+use Rattle.roam_term.proofs.printing.put_front.Goals as goal
 
 pub returns-clause-history : goal.returns-clause-history
 returns-clause-history c =

@@ -5,7 +5,7 @@ use Rattle.roam_grid.proofs.Puts.{settled_same}
 use Rattle.roam_rows.proofs.Inking.{bytes_narrow, length-bytes}
 use Rattle.roam_term.specs.Terminal.{on_main, with_rows}
 use Rattle.roam_term.proofs.Scrollback.{main_stays, none_by_puts}
-use Rattle.roam_term.proofs.leaving.put_run.Goals as goal
+use Rattle.roam_term.proofs.printing.put_run.Goals as goal
 
 pub put_row_run-requires-clause-fits : goal.put_row_run-requires-clause-fits
 put_row_run-requires-clause-fits c =

@@ -3,7 +3,7 @@ use Rattle.std.proofs.lemmas.Bool.{false≢true}
 use Rattle.roam_grid.specs.Writing.{settled}
 use Rattle.roam_grid.proofs.Puts.{settled_cols}
 use Rattle.roam_term.proofs.Scrollback.{settled_col}
-use Rattle.roam_term.proofs.leaving.columns_left.Goals as goal
+use Rattle.roam_term.proofs.printing.columns_left.Goals as goal
 
 pub returns-then-pending-clause-left : goal.returns-then-pending-clause-left
 returns-then-pending-clause-left c =

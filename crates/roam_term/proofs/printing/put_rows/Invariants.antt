@@ -5,7 +5,7 @@ use Rattle.roam_grid.specs.Screen.{IsSameSize}
 use Rattle.roam_grid.specs.Writing.{put_all}
 use Rattle.roam_term.specs.Leaving.{left_by_puts}
 use Rattle.roam_term.specs.Terminal.{on_main, with_rows}
-use Rattle.roam_term.proofs.leaving.put_rows.Given as goal
+use Rattle.roam_term.proofs.printing.put_rows.Given as goal
 
 abbrev pub invariant-loop-at : goal.invariant-loop-at
 invariant-loop-at l = record {

@@ -6,7 +6,7 @@ use Rattle.roam_term.specs.Leaving.{left_by_puts}
 use Rattle.roam_term.specs.Terminal.{on_main, with_rows}
 use Rattle.roam_term.proofs.Prints.{put_step, put_none, marks_step, marks_none}
 use Rattle.roam_term.proofs.Scrollback.{left_step, main_stays}
-use Rattle.roam_term.proofs.leaving.put_times.Goals as goal
+use Rattle.roam_term.proofs.printing.put_times.Goals as goal
 
 pub loop-preserved : goal.loop-preserved
 loop-preserved c =

@@ -1,8 +1,8 @@
 use Rattle.std.proofs.Common.{◌<◌, length, ap, ◌∙◌, arith}
 use Rattle.roam_layout.proofs.Listed.{sizes_at, same_count}
 use Rattle.roam_layout.proofs.Stepping.{pane_and_border, last_pane}
-use Rattle.roam_layout.proofs.faces.push_pieces.Goals.{then-k-borders+in_ok-push_border, else-k-borders}
-use Rattle.roam_layout.proofs.faces.push_pieces.Goals as goal
+use Rattle.roam_layout.proofs.faces.push_segments.Goals.{then-k-borders+in_ok-push_border, else-k-borders}
+use Rattle.roam_layout.proofs.faces.push_segments.Goals as goal
 
 pub push_pane-requires : goal.push_pane-requires
 push_pane-requires c =
@@ -18,8 +18,8 @@ loop-k-preserved c =
       | then-k-borders+in_ok-push_border w ↦
           pane_and_border c.args.row ps c.args.borders.now ss k _ c.index-shots-k.result _ _ _ _ c.loop-k-test.true there _
           w.if-k-borders.true
-          c.in_ok-push_pane.ensures.piece (ap (λ v. v.items) w.cells-is ∙ w.in_ok-push_border.ensures.piece) c.loop-k.invariant
+          c.in_ok-push_pane.ensures.segment (ap (λ v. v.items) w.cells-is ∙ w.in_ok-push_border.ensures.segment) c.loop-k.invariant
       | else-k-borders w ↦
           last_pane c.args.row ps c.args.borders.now ss k _ c.index-shots-k.result _ _ _ _ c.loop-k-test.true there w.if-k-borders.false
-          c.in_ok-push_pane.ensures.piece (ap (λ v. v.items) w.cells-is) c.loop-k.invariant
+          c.in_ok-push_pane.ensures.segment (ap (λ v. v.items) w.cells-is) c.loop-k.invariant
     ]

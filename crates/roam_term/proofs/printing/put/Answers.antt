@@ -7,7 +7,7 @@ use Rattle.roam_grid.proofs.Puts.{leaves_inside}
 use Rattle.roam_term.specs.Leaving.{left_by_put, top_rows}
 use Rattle.roam_term.specs.Terminal.{on_main, with_rows}
 use Rattle.roam_term.proofs.Scrollback.{main_stays}
-use Rattle.roam_term.proofs.leaving.put.Goals as goal
+use Rattle.roam_term.proofs.printing.put.Goals as goal
 
 and_nothing : (a b : Bool) → b ≡ false → (a && b) ≡ false
 and_nothing true b e = e
