@@ -10,5 +10,6 @@ for size in "24 80" "100 250" "200 500"; do
   # shellcheck disable=SC2086
   each_round $speed $size "$times" | awk -v size="$size" "$best"'
     { most($1, $2 * $3 / $4) }
-    END { printf "%s: copied %.0f, built %.0f million cells a second: %.2f of it\n", size, high["copy"], high["face"], high["face"] / high["copy"] }'
+    END { printf "%s: copied %.0f, built %.0f million cells a second: %.2f of it\n", size, high["copy"], high["face"],
+                 high["face"] / high["copy"] }'
 done

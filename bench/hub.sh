@@ -20,7 +20,11 @@ for size in "24 80" "100 250" "200 500"; do
           printf "%-12s %8s %8s %8s %8.1f %8.1f %8.1f %8.1f\n", "  of a copy", "", "", "", low["row"] / low["copy"],
                  low["scroll"] / low["copy"], low["redraw"] / low["copy"], low["echo"] / low["copy"] }'
 done | tee "$folder/table"
-awk '/ by / { key[$1] = $10 } END { if (key[24] > 0) printf "a key to 24 by 80: %.1f at 100 by 250, %.1f at 200 by 500   at most 25\n", key[100] / key[24], key[200] / key[24] }' "$folder/table"
+awk '
+  / by / { key[$1] = $10 }
+  END { if (key[24] > 0)
+          printf "a key to 24 by 80: %.1f at 100 by 250, %.1f at 200 by 500   at most 25\n", key[100] / key[24], key[200] / key[24] }' \
+  "$folder/table"
 
 # The KiB of the greatest resident set; the meter is a small program, since a process's set counts from the one that started it.
 # shellcheck disable=SC2086

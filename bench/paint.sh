@@ -28,7 +28,8 @@ for size in "24 80" "100 250" "200 500"; do
       for (k = 1; k <= 4; k++) {
         name = names[k]
         beside = name in peer && peer[name] > 0 ? sprintf("; %.2f of the %d bytes of tmux", bytes[name] / peer[name], peer[name]) : ""
-        printf "%s: %s %d bytes, %.1f microseconds, %.1f times a memcmp%s\n", size, name, bytes[name], low[name], low[name] / low["memcmp"], beside
+        printf "%s: %s %d bytes, %.1f microseconds, %.1f times a memcmp%s\n", size, name, bytes[name], low[name],
+               low[name] / low["memcmp"], beside
       }
     }'
 done

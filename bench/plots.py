@@ -1,8 +1,9 @@
 #!/usr/bin/env python3
 """bench/plots.py: draws docs/speed.svg and docs/cost.svg of the tables bench/figures/speed.tsv and cost.tsv.
 
-It needs Python's standard library alone. A table has lines that begin with # (the first is told under the plot), a line of column names, and
-a line a row; columns are split by tabs. Text and lines are in a grey that stands out on white and on dark; nothing is painted behind them.
+It needs Python's standard library alone. A table has lines that begin with # (the first is told under the plot), a line of column names,
+and a line a row; columns are split by tabs. Text and lines are in a grey that stands out on white and on dark; nothing is painted behind
+them.
 """
 import math
 import pathlib
@@ -37,9 +38,8 @@ class Drawing:
         self.width, self.height, self.shapes = width, height, [f"<title>{escape(title)}</title>"]
 
     def text(self, x, y, text, size=12, anchor="start", colour=GREY, weight="normal"):
-        self.shapes.append(
-            f"<text x='{x:.1f}' y='{y:.1f}' font-size='{size}' text-anchor='{anchor}' fill='{colour}' font-weight='{weight}'>{escape(text)}</text>"
-        )
+        look = f"font-size='{size}' text-anchor='{anchor}' fill='{colour}' font-weight='{weight}'"
+        self.shapes.append(f"<text x='{x:.1f}' y='{y:.1f}' {look}>{escape(text)}</text>")
 
     def line(self, x1, y1, x2, y2, colour=FAINT, width=1.0, dash=""):
         dashed = f" stroke-dasharray='{dash}'" if dash else ""
@@ -58,7 +58,8 @@ class Drawing:
         self.shapes.append(f"<polyline points='{way}' fill='none' stroke='{colour}' stroke-width='2'/>")
 
     def write(self, path):
-        head = f"<svg xmlns='http://www.w3.org/2000/svg' viewBox='0 0 {self.width} {self.height}' width='{self.width}' height='{self.height}' {FONT}>"
+        size = f"viewBox='0 0 {self.width} {self.height}' width='{self.width}' height='{self.height}'"
+        head = f"<svg xmlns='http://www.w3.org/2000/svg' {size} {FONT}>"
         path.write_text("\n".join([head, *self.shapes, "</svg>"]) + "\n", encoding="utf-8")
 
 

@@ -1,6 +1,6 @@
 #!/usr/bin/env bash
-# bench/text.sh [MEGABYTES [TIMES [ROUNDS]]]: MB/s of roam_text's reader, in turn with a C loop with one table look-up a byte, on four seeded
-# inputs. It needs python3.
+# bench/text.sh [MEGABYTES [TIMES [ROUNDS]]]: MB/s of roam_text's reader, in turn with a C loop with one table look-up a byte, on four
+# seeded inputs. It needs python3.
 # shellcheck source-path=SCRIPTDIR source=common.sh
 . "$(dirname "$0")/common.sh"
 megabytes=${1:-1}

@@ -1,7 +1,7 @@
 #!/usr/bin/env bash
 # bench/update.sh [CELLS [ROUNDS]]: what a change of a screen costs in both versions of the text: where nothing, one cell, one row and
-# everything differs (a screen that scrolled by a row), and from blank to 4 styles and to 10,000, each cell in another: the bytes of the text,
-# the microseconds of writing and of applying (a copy of the base included), and the nanoseconds of writing a cell beside memcmp of as many
+# everything differs (a screen that scrolled by a row), and from blank to 4 styles and to 10,000, each cell in another: the bytes of the
+# text, the microseconds of writing and of applying (a copy of the base included), and the nanoseconds of writing a cell beside memcmp of as many
 # cells of 16 bytes. Each is done so often that about CELLS million cells go over.
 # shellcheck source-path=SCRIPTDIR source=common.sh
 . "$(dirname "$0")/common.sh"

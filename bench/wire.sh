@@ -10,4 +10,5 @@ speed=$(built wire_speed)
 # shellcheck disable=SC2086
 each_round $speed "$times" | awk "$best"'
   { most($1, $2 * $3 / $4) }
-  END { printf "copied %.0f MB/s, carried %.0f MB/s: %.3f of it   at least 0.1\n", high["copy"], high["carry"], high["carry"] / high["copy"] }'
+  END { printf "copied %.0f MB/s, carried %.0f MB/s: %.3f of it   at least 0.1\n", high["copy"], high["carry"],
+               high["carry"] / high["copy"] }'
