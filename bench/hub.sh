@@ -1,32 +1,34 @@
 #!/usr/bin/env bash
 # bench/hub.sh [TIMES [ROUNDS]]: the microseconds of an idle tick of a server with one client start and with 64, of a round (a tick and its
 # datagrams at the client start) after one changed row, a scroll, a redraw of all places and one changed cell, beside a copy of the screen;
-# the bytes of the datagrams of such an echoed key; and the KiB of a record and of a client start that hold eight screens of 24 by 80. The
-# best of the rounds counts, since other work on the machine only slows one down. It needs rt and cc.
-set -eu
-here=$(cd "$(dirname "$0")" && pwd)
+# the bytes of the datagrams of such an echoed key; and the KiB of a record and of a client start that hold eight screens of 24 by 80. A
+# round's ratio is to the copy; that of a key to 24 by 80 has the limit 25 at 200 by 500, which has 52 times the cells.
+# shellcheck source-path=SCRIPTDIR source=common.sh
+. "$(dirname "$0")/common.sh"
 times=${1:-500}
 rounds=${2:-5}
-folder=$(mktemp -d)
-trap 'rm -rf "$folder"' EXIT
+speed=$(built hub_speed)
+meter=$(compiled show_meter)
 
-make -s -C "$here/.." crates/hub_speed/out/built >"$folder/build" 2>&1 || { cat "$folder/build" >&2; exit 1; }
-program=$here/../crates/hub_speed/out/hub_speed
 printf '%-12s %8s %8s %8s %8s %8s %8s %8s %12s\n' microseconds copy idle '64 idle' row scroll redraw key 'bytes a key'
 for size in "24 80" "100 250" "200 500"; do
-  for _ in $(seq "$rounds"); do
-    # shellcheck disable=SC2086
-    "$program" $size "$times"
-  done | awk -v size="$size" '
-    { now = $3 / $2 / 1000; if (!($1 in cost) || now < cost[$1]) cost[$1] = now; bytes[$1] = $4 / $2 }
-    END { sub(/ /, " by ", size)
-          printf "%-12s %8.2f %8.3f %8.3f %8.1f %8.1f %8.1f %8.1f %12.1f\n", size, cost["copy"], cost["idle1"], cost["idle64"],
-                 cost["row"], cost["scroll"], cost["redraw"], cost["echo"], bytes["echo"] }'
-done
+  # shellcheck disable=SC2086
+  each_round $speed $size "$times" | awk -v size="$size" "$best"'
+    { least($1, $3 / $2 / 1000); bytes[$1] = $4 / $2 }
+    END { printf "%-12s %8.2f %8.3f %8.3f %8.1f %8.1f %8.1f %8.1f %12.1f\n", by(size), low["copy"], low["idle1"], low["idle64"],
+                 low["row"], low["scroll"], low["redraw"], low["echo"], bytes["echo"]
+          printf "%-12s %8s %8s %8s %8.1f %8.1f %8.1f %8.1f\n", "  of a copy", "", "", "", low["row"] / low["copy"],
+                 low["scroll"] / low["copy"], low["redraw"] / low["copy"], low["echo"] / low["copy"] }'
+done | tee "$folder/table"
+awk '
+  / by / { key[$1] = $10 }
+  END { if (key[24] > 0)
+          printf "a key to 24 by 80: %.1f at 100 by 250, %.1f at 200 by 500   at most 25\n", key[100] / key[24], key[200] / key[24] }' \
+  "$folder/table"
 
 # The KiB of the greatest resident set; the meter is a small program, since a process's set counts from the one that started it.
-cc -O2 -o "$folder/meter" "$here/show_meter.c"
-peak() { "$folder/meter" /dev/null "$program" "$1" "$2" | awk '{ print $2 }'; }
+# shellcheck disable=SC2086
+peak() { "$meter" /dev/null $speed "$1" "$2" | awk '{ print $2 }'; }
 few=$(peak records 1)
 many=$(peak records 61)
 both=$(peak clients 61)

@@ -1,17 +1,14 @@
 #!/usr/bin/env bash
-# bench/wire.sh [TIMES [ROUNDS]]: MB/s of the largest instruction over the network (cut, written as datagrams, read and gathered) beside
-# a plain copy of as many bytes. Both run in turn in one program, and the best of the rounds counts for each, since other work on the
-# machine only slows one down. It needs rt.
-set -eu
-here=$(cd "$(dirname "$0")" && pwd)
+# bench/wire.sh [TIMES [ROUNDS]]: MB/s of the largest instruction of version 1 over the network (cut, written as datagrams, read and
+# gathered) beside a plain copy of as many bytes.
+# shellcheck source-path=SCRIPTDIR source=common.sh
+. "$(dirname "$0")/common.sh"
 times=${1:-200}
 rounds=${2:-5}
-folder=$(mktemp -d)
-trap 'rm -rf "$folder"' EXIT
+speed=$(built wire_speed)
 
-make -s -C "$here/.." crates/wire_speed/out/built >"$folder/build" 2>&1 || { cat "$folder/build" >&2; exit 1; }
-for _ in $(seq "$rounds"); do
-  "$here/../crates/wire_speed/out/wire_speed" "$times"
-done | awk '
-  { now = $2 * $3 / $4; if (now > speed[$1]) speed[$1] = now }
-  END { printf "copied %.0f MB/s, carried %.0f MB/s: %.3f of it   at least 0.1\n", speed["copy"], speed["carry"], speed["carry"] / speed["copy"] }'
+# shellcheck disable=SC2086
+each_round $speed "$times" | awk "$best"'
+  { most($1, $2 * $3 / $4) }
+  END { printf "copied %.0f MB/s, carried %.0f MB/s: %.3f of it   at least 0.1\n", high["copy"], high["carry"],
+               high["carry"] / high["copy"] }'
