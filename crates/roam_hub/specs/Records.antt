@@ -8,7 +8,7 @@ use Rattle.roam_cells.specs.declared.faults.Fault.TheVariants.{OutOfMemory, Busy
 use Rattle.roam_cells.specs.declared.faults.Reason.{Reason}
 use Rattle.roam_cells.specs.declared.faults.Reason.TheVariants.{Fragment}
 use Rattle.roam_cells.specs.declared.faults.Reason.TheVariants as reason
-use Rattle.roam_screens.specs.Screenshot.{Screenshot}
+use Rattle.roam_screens.specs.Screenshot.{Screenshot, IsScreenshot}
 use Rattle.roam_acts.specs.declared.acts.Act.{Act}
 use Rattle.roam_acts.specs.Takers.{fresh_of}
 use Rattle.roam_sync.specs.Senders.{acked, sent_at, is_due, withdrawn}
@@ -19,7 +19,7 @@ use Rattle.roam_wire.specs.Gatherers.{Gathering, gather, fragment_of}
 use Rattle.roam_wire.specs.Instructions.{UpValue, down_text}
 use Rattle.roam_wire.specs.Cutting.{fragments_of}
 use Rattle.roam_session.specs.Sessions.{SessionSize, Entry, Did}
-use Rattle.roam_session.specs.Stands.{SessionView, Stands as SessionStands}
+use Rattle.roam_session.specs.Stands.{SessionView, Stands as SessionStands, keeping}
 use Rattle.roam_world.specs.Moments.{has_passed, is_overdue, owed_from, is_spent, frame_interval}
 use Rattle.roam_world.specs.Texts.{Address, is_watching, SaysUp, SaysNoUp, datagrams_of}
 use Rattle.roam_world.specs.Versions.{is_same_version, seen_by}
@@ -248,3 +248,25 @@ ticked_by v n s now = record v { records = map (settled_entry n s now) v.records
 -- a number that one of its records needs would be past the last
 abbrev pub is_any_spent : ServerView → ℕ → Screenshot → ℕ → Bool
 is_any_spent v n s now = list_any (is_entry_spent n s now) v.records
+
+-- the server once its session's face got the next number and all was sent: the face is kept, and no input came since
+abbrev pub numbered_by : ServerView → Screenshot → ℕ → ServerView
+numbered_by v face now =
+    record (ticked_by v (v.made + 1) face now) {
+      state = keeping face v.state;
+      made = v.made + 1;
+      screen = face;
+      made_at = now;
+      input = false;
+      clock = now;
+    }
+
+-- a number that giving the face the next number needs would be past the last
+abbrev pub is_numbering_spent : ServerView → Screenshot → ℕ → Bool
+is_numbering_spent v face now = is_spent (v.made + 1) || is_any_spent v (v.made + 1) face now
+
+-- the face of a session, a screen, got the next number, and these went to client starts
+abbrev pub Numbers : ServerView → Screenshot → ℕ → List (Address × List ℕ) → ServerView → Type 0
+Numbers v face now sent new =
+    (sent ≡ sent_by_tick v (v.made + 1) face now) × (new ≡ numbered_by v face now) × IsScreenshot face
+    × (is_any_spent v (v.made + 1) face now ≡ false) × (is_spent (v.made + 1) ≡ false)

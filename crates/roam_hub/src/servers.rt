@@ -5,17 +5,15 @@ ghost use Rattle.roam_layout.specs.Layouts.{IsSessionSize};
 ghost use Rattle.roam_session.specs.Faces.{face};
 ghost use Rattle.roam_session.specs.Lives.{life_of};
 ghost use Rattle.roam_session.specs.Places.{focus_at, rect_at};
-ghost use Rattle.roam_session.specs.Stands.{keeping, waiting_at};
+ghost use Rattle.roam_session.specs.Stands.{waiting_at};
 ghost use Rattle.roam_session.specs.Queues.{IsWithin, IsCopied};
 ghost use Rattle.roam_session.specs.Refusals.{fault_of, none_refused, output_at};
-ghost use Rattle.roam_screens.specs.Screenshot.{IsScreenshot};
-ghost use Rattle.roam_world.specs.Moments.{is_spent};
 ghost use Rattle.roam_world.specs.Servers.{Server as ServerOf, new_server};
 ghost use Rattle.roam_wire.specs.Datagrams.{datagram_value};
 ghost use Rattle.roam_world.specs.Texts.{is_to_server as is_to_server_kind};
 ghost use Rattle.roam_world.specs.ServerArrivals.{coming, turned_away};
 ghost use Rattle.roam_hub.specs.Servers.{Stands, Feeds, Drains, Comes, Ticks, ComesFromWatcher, TakesNothing, IsStopAtAct, address_of, parcels_of};
-ghost use Rattle.roam_hub.specs.Records.{answered, makes_at, sent_by_tick, ticked_by, is_any_spent};
+ghost use Rattle.roam_hub.specs.Records.{answered, makes_at, sent_by_tick, ticked_by, is_any_spent, Numbers, is_numbering_spent};
 ghost use Rattle.roam_term.specs.Limits.{most_output};
 
 use crate::addresses::{Addr, Stop};
@@ -299,19 +297,9 @@ impl Server {
     // A tick that makes a number of the session's face.
     fn number_face(&mut self, alloc: Global, now: u64) -> Result<Vec<(Addr, Vec<u8>)>, Fault>
         ensures made { IfOk result (λ all. (s : ServerOf) → Stands self.old s
-            → (parcels_of all.items ≡ sent_by_tick self.old (self.old.made + 1) (face s.size s.log) now)
-            × (self.new ≡ record (ticked_by self.old (self.old.made + 1) (face s.size s.log) now) {
-              state = keeping (face s.size s.log) self.old.state;
-              made = self.old.made + 1;
-              screen = face s.size s.log;
-              made_at = now;
-              input = false;
-              clock = now;
-            }) × IsScreenshot (face s.size s.log) × (is_any_spent self.old (self.old.made + 1) (face s.size s.log) now ≡ false)
-            × (is_spent (self.old.made + 1) ≡ false)) }
+            → Numbers self.old (face s.size s.log) now (parcels_of all.items) self.new) }
         ensures fault { (s : ServerOf) → Stands self.old s → IfErr result (λ fault. (fault ≡ Fault.OutOfMemory)
-            ⊎ ((fault ≡ Fault.Spent) × ((is_spent (self.old.made + 1)
-            || is_any_spent self.old (self.old.made + 1) (face s.size s.log) now) ≡ true))) }
+            ⊎ ((fault ≡ Fault.Spent) × (is_numbering_spent self.old (face s.size s.log) now ≡ true))) }
         ensures err { OnErr result (self.new ≡ self.old) }
     {
         let number = self.made + 1;
