@@ -5,9 +5,9 @@ ghost use Rattle.roam_grid.specs.Frames.{aligned, all_blank, restarted, framed_a
 ghost use Rattle.roam_grid.specs.Marks.{all_on};
 ghost use Rattle.roam_grid.specs.Screen.{IsSameSize};
 
-use roam_cells::limits::MOST_ROWS;
 use crate::grids::{Grid, is_size};
 use crate::tabs::stops_at_start;
+use roam_cells::limits::MOST_ROWS;
 use roam_cells::{Cell, Fault, Style};
 use std::alloc::Global;
 

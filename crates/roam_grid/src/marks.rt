@@ -4,9 +4,9 @@ ghost use Rattle.roam_grid.specs.Marks.{all_on, all_off, also_marked, row_marked
 ghost use Rattle.roam_grid.specs.Screen.{IsSameSize};
 ghost use Rattle.roam_cells.specs.Limits.{most_rows};
 
-use roam_cells::limits::MOST_ROWS;
 use crate::grids::Grid;
 use roam_cells::Cell;
+use roam_cells::limits::MOST_ROWS;
 use roam_rows::Ring;
 
 impl Grid {

@@ -3,9 +3,9 @@ ghost use Rattle.std.specs.Prelude.{◌≡◌};
 ghost use Rattle.roam_grid.specs.Tabbing.{tabbed, back_tabbed, stop_set, stop_cleared, stops_cleared};
 ghost use Rattle.roam_grid.specs.Screen.{IsSameSize};
 
-use roam_cells::limits::MOST_COLUMNS;
 use crate::grids::Grid;
 use crate::tabs::{stops_back, stops_on};
+use roam_cells::limits::MOST_COLUMNS;
 
 impl Grid {
     /// To the nth tab stop after the cursor, else to the last column (HT, ECMA-48 8.3.60; CHT, 8.3.10).

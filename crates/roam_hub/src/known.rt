@@ -21,11 +21,7 @@ use std::alloc::Global;
 fn most(watches: bool) -> usize
     ensures most { result ≡ most_of watches }
 {
-    if watches {
-        MOST_WATCHING
-    } else {
-        MOST_EDITING
-    }
+    if watches { MOST_WATCHING } else { MOST_EDITING }
 }
 
 // So many, and one more where it is one of those that are counted.

@@ -56,7 +56,11 @@ fn datagram(
 }
 
 // The texts of the datagrams with these fragments, in their order.
-fn datagrams(alloc: Global, heading: Heading, fragments: Vec<Vec<u8>>) -> Result<Vec<Vec<u8>>, Fault>
+fn datagrams(
+    alloc: Global,
+    heading: Heading,
+    fragments: Vec<Vec<u8>>,
+) -> Result<Vec<Vec<u8>>, Fault>
     requires sendable { AreSendable heading.version (texts_of fragments.items) }
     requires kind { heading.kind ≡ FromWatcher → heading.version ≡ Two }
     requires session { heading.session < 2 ^ 64 }

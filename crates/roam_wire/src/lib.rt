@@ -3,11 +3,11 @@
 
 pub mod cutting;
 pub mod datagrams;
+mod fragments;
 pub mod gatherers;
 mod headers;
 pub mod instructions;
 pub mod laws;
-mod fragments;
 pub mod versions;
 
 pub use cutting::cut;
