@@ -1,7 +1,7 @@
 pub mod Viewing
 pub mod Hearing
 pub mod PackingTexts
-pub mod Sending
+pub mod StartSending
 pub mod Entries
 pub mod Doing
 pub mod Serving

@@ -14,7 +14,7 @@ use Rattle.roam_world.specs.Texts.{kind_from, datagrams_of}
 use Rattle.roam_world.proofs.Sendable.{up_length, acts_length}
 use Rattle.roam_hub.specs.Ends.{version_in, receiving_in}
 use Rattle.roam_hub.specs.Clients.{ClientView, datagrams_by, is_view_spent}
-use Rattle.roam_hub.proofs.Sending.{text_sent, first_fits, short_in, from_watcher}
+use Rattle.roam_hub.proofs.StartSending.{text_sent, first_fits, short_in, from_watcher}
 use Rattle.roam_hub.proofs.clients.Client.instruction.Goals as goal
 
 pub packed-requires-clause-short : goal.packed-requires-clause-short

@@ -3,7 +3,7 @@ use Rattle.std.proofs.lemmas.Result.{err_from_is_err_and}
 use Rattle.roam_wire.specs.Datagrams.{datagram_text}
 use Rattle.roam_world.specs.Sendings.{is_client_due, last_waiting}
 use Rattle.roam_hub.specs.Clients.{ClientView, bare, is_view_spent, datagrams_by}
-use Rattle.roam_hub.proofs.Sending.{not_due, not_sent, all_sent, as_many, fits_on}
+use Rattle.roam_hub.proofs.StartSending.{not_due, not_sent, all_sent, as_many, fits_on}
 use Rattle.roam_hub.proofs.clients.Client.tick.Goals as goal
 
 pub returns-then-not-is_due-clause-sent : goal.returns-then-not-is_due-clause-sent
