@@ -9,11 +9,11 @@ rounds=${2:-5}
 folder=$(mktemp -d)
 trap 'rm -rf "$folder"' EXIT
 
-make -s -C "$here/.." crates/face_speed/out/built >"$folder/build" 2>&1 || { cat "$folder/build" >&2; exit 1; }
+make -s -C "$here/.." crates/speed_session/out/built >"$folder/build" 2>&1 || { cat "$folder/build" >&2; exit 1; }
 for size in "24 80" "100 250" "200 500"; do
   for _ in $(seq "$rounds"); do
     # shellcheck disable=SC2086
-    "$here/../crates/face_speed/out/face_speed" $size "$times"
+    "$here/../crates/speed_session/out/speed_session" face $size "$times"
   done | awk -v size="$size" '
     { now = $2 * $3 / $4; if (now > speed[$1]) speed[$1] = now }
     END { printf "%s: copied %.0f, built %.0f million cells a second: %.2f of it\n", size, speed["copy"], speed["face"], speed["face"] / speed["copy"] }'

@@ -9,9 +9,9 @@ rounds=${2:-3}
 folder=$(mktemp -d)
 trap 'rm -rf "$folder"' EXIT
 
-make -s -C "$here/.." crates/terminal_speed/out/built >"$folder/build" 2>&1 || { cat "$folder/build" >&2; exit 1; }
+make -s -C "$here/.." crates/speed_pane/out/built >"$folder/build" 2>&1 || { cat "$folder/build" >&2; exit 1; }
 for _ in $(seq "$rounds"); do
-  "$here/../crates/terminal_speed/out/terminal_speed" grid "$millions"
+  "$here/../crates/speed_pane/out/speed_pane" grid "$millions"
 done | awk '
   # nanoseconds for one time of each way
   $1 != "end" { key = $1 " " $2 " by " $3; now = $5 * 1000 / $4; if (!(key in cost) || now < cost[key]) cost[key] = now }

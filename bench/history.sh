@@ -11,14 +11,14 @@ folder=$(mktemp -d)
 trap 'rm -rf "$folder"' EXIT
 
 python3 "$here/inputs.py" "$folder" "$megabytes" prose log
-make -s -C "$here/.." crates/terminal_speed/out/built >"$folder/build" 2>&1 || { cat "$folder/build" >&2; exit 1; }
+make -s -C "$here/.." crates/speed_pane/out/built >"$folder/build" 2>&1 || { cat "$folder/build" >&2; exit 1; }
 printf '%-12s %-6s %10s %10s %8s\n' size input 'no lines' '500 lines' ratio
 for size in "24 80" "100 250"; do
   for input in prose log; do
     for _ in $(seq "$rounds"); do
       for lines in 0 500; do
         # shellcheck disable=SC2086
-        "$here/../crates/terminal_speed/out/terminal_speed" history $size "$lines" "$folder/$input" "$times"
+        "$here/../crates/speed_pane/out/speed_pane" history $size "$lines" "$folder/$input" "$times"
       done
     done | awk -v size="$size" -v input="$input" '
       { now = $2 * $3 / $4; if (now > speed[$1]) speed[$1] = now }

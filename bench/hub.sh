@@ -10,13 +10,13 @@ rounds=${2:-5}
 folder=$(mktemp -d)
 trap 'rm -rf "$folder"' EXIT
 
-make -s -C "$here/.." crates/hub_speed/out/built >"$folder/build" 2>&1 || { cat "$folder/build" >&2; exit 1; }
-program=$here/../crates/hub_speed/out/hub_speed
+make -s -C "$here/.." crates/speed_session/out/built >"$folder/build" 2>&1 || { cat "$folder/build" >&2; exit 1; }
+program=$here/../crates/speed_session/out/speed_session
 printf '%-12s %8s %8s %8s %8s %8s %8s %8s %12s\n' microseconds copy idle '64 idle' row scroll redraw key 'bytes a key'
 for size in "24 80" "100 250" "200 500"; do
   for _ in $(seq "$rounds"); do
     # shellcheck disable=SC2086
-    "$program" $size "$times"
+    "$program" cores $size "$times"
   done | awk -v size="$size" '
     { now = $3 / $2 / 1000; if (!($1 in cost) || now < cost[$1]) cost[$1] = now; bytes[$1] = $4 / $2 }
     END { sub(/ /, " by ", size)

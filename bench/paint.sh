@@ -10,12 +10,12 @@ rounds=${2:-5}
 folder=$(mktemp -d)
 trap 'rm -rf "$folder"' EXIT
 
-make -s -C "$here/.." crates/paint_speed/out/built >"$folder/build" 2>&1 || { cat "$folder/build" >&2; exit 1; }
+make -s -C "$here/.." crates/speed_pane/out/built >"$folder/build" 2>&1 || { cat "$folder/build" >&2; exit 1; }
 cc -O2 -o "$folder/compare" "$here/paint_compare.c"
 for size in "24 80" "100 250"; do
   for _ in $(seq "$rounds"); do
     # shellcheck disable=SC2086
-    "$here/../crates/paint_speed/out/paint_speed" $size "$times"
+    "$here/../crates/speed_pane/out/speed_pane" paint $size "$times"
     # shellcheck disable=SC2086
     "$folder/compare" $size "$times"
   done | awk -v size="$size" '

@@ -9,12 +9,12 @@ rounds=${2:-5}
 folder=$(mktemp -d)
 trap 'rm -rf "$folder"' EXIT
 
-make -s -C "$here/.." crates/session_speed/out/built >"$folder/build" 2>&1 || { cat "$folder/build" >&2; exit 1; }
+make -s -C "$here/.." crates/speed_session/out/built >"$folder/build" 2>&1 || { cat "$folder/build" >&2; exit 1; }
 printf '%-12s %10s %10s %10s %10s %10s\n' microseconds copy byte 'one pane' 'nine panes' split
 for size in "24 80" "100 250" "200 500"; do
   for _ in $(seq "$rounds"); do
     # shellcheck disable=SC2086
-    "$here/../crates/session_speed/out/session_speed" $size "$times"
+    "$here/../crates/speed_session/out/speed_session" session $size "$times"
   done | awk -v size="$size" '
     { now = $3 / $2 / 1000; if (!($1 in cost) || now < cost[$1]) cost[$1] = now }
     END { sub(/ /, " by ", size)

@@ -12,8 +12,8 @@ trap 'rm -rf "$folder"' EXIT
 
 cc -O2 -o "$folder/table" "$here/text_table.c"
 python3 "$here/inputs.py" "$folder" "$megabytes" prose colours cursor mixed
-make -s -C "$here/.." crates/terminal_speed/out/built >"$folder/build" 2>&1 || { cat "$folder/build" >&2; exit 1; }
-program=$here/../crates/terminal_speed/out/terminal_speed
+make -s -C "$here/.." crates/speed_pane/out/built >"$folder/build" 2>&1 || { cat "$folder/build" >&2; exit 1; }
+program=$here/../crates/speed_pane/out/speed_pane
 
 printf '%-8s %10s %10s %10s %15s %11s\n' input table dispatch next dispatch/table next/table
 for input in prose colours cursor mixed; do

@@ -9,10 +9,10 @@ rounds=${2:-5}
 folder=$(mktemp -d)
 trap 'rm -rf "$folder"' EXIT
 
-make -s -C "$here/.." crates/turns_speed/out/built >"$folder/build" 2>&1 || { cat "$folder/build" >&2; exit 1; }
+make -s -C "$here/.." crates/speed_session/out/built >"$folder/build" 2>&1 || { cat "$folder/build" >&2; exit 1; }
 printf '%14s %14s %14s %14s\n' 'idle server' 'idle client' 'nine busy' 'bytes a turn'
 for _ in $(seq "$rounds"); do
-  "$here/../crates/turns_speed/out/turns_speed" "$times"
+  "$here/../crates/speed_session/out/speed_session" turns "$times"
 done | awk '
   { now = $2 * 1000000000 / $3; if (!($1 in best) || now > best[$1]) best[$1] = now; work[$1] = $4 / $2 }
   END { printf "%14.0f %14.0f %14.0f %14.1f\n", best["serve"], best["attach"], best["busy"], work["busy"] }'

@@ -12,8 +12,8 @@ folder=$(mktemp -d)
 trap 'rm -rf "$folder"' EXIT
 
 cc -O2 -o "$folder/cells_compare" "$here/cells_compare.c"
-make -s -C "$here/.." crates/update_speed/out/built >"$folder/build" 2>&1 || { cat "$folder/build" >&2; exit 1; }
-program=$here/../crates/update_speed/out/update_speed
+make -s -C "$here/.." crates/speed_pane/out/built >"$folder/build" 2>&1 || { cat "$folder/build" >&2; exit 1; }
+program=$here/../crates/speed_pane/out/speed_pane
 printf '%-12s %-8s %13s %10s %11s %11s %14s\n' size change styles bytes 'µs written' 'µs applied' 'ns/ns memcmp'
 for size in "24 80" "100 250" "200 500"; do
   # shellcheck disable=SC2086
@@ -21,8 +21,8 @@ for size in "24 80" "100 250" "200 500"; do
   times=$((million * 1000000 / ($1 * $2)))
   for _ in $(seq "$rounds"); do
     "$folder/cells_compare" $(($1 * $2)) "$times"
-    "$program" "$1" "$2" 4 "$times" | sed 's/ styles / 4-styles /'
-    [ "$1" = 24 ] || "$program" "$1" "$2" 10000 "$((times / 4 + 1))" | sed -n 's/ styles / 10000-styles /p'
+    "$program" update "$1" "$2" 4 "$times" | sed 's/ styles / 4-styles /'
+    [ "$1" = 24 ] || "$program" update "$1" "$2" 10000 "$((times / 4 + 1))" | sed -n 's/ styles / 10000-styles /p'
   done | awk -v size="$1 by $2" '
     $1 == "memcmp" { now = $4 * 1000 / ($2 * $3); if (!least || now < least) least = now; next }
     {

@@ -9,9 +9,9 @@ rounds=${2:-5}
 folder=$(mktemp -d)
 trap 'rm -rf "$folder"' EXIT
 
-make -s -C "$here/.." crates/wire_speed/out/built >"$folder/build" 2>&1 || { cat "$folder/build" >&2; exit 1; }
+make -s -C "$here/.." crates/speed_session/out/built >"$folder/build" 2>&1 || { cat "$folder/build" >&2; exit 1; }
 for _ in $(seq "$rounds"); do
-  "$here/../crates/wire_speed/out/wire_speed" "$times"
+  "$here/../crates/speed_session/out/speed_session" wire "$times"
 done | awk '
   { now = $2 * $3 / $4; if (now > speed[$1]) speed[$1] = now }
   END { printf "copied %.0f MB/s, carried %.0f MB/s: %.3f of it   at least 0.1\n", speed["copy"], speed["carry"], speed["carry"] / speed["copy"] }'
