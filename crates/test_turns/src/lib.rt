@@ -7,13 +7,15 @@
 #[cfg(test)]
 mod failing;
 #[cfg(test)]
-mod following;
+mod files;
 #[cfg(test)]
 mod keys;
 #[cfg(test)]
 mod meeting;
 #[cfg(test)]
 mod peers;
+#[cfg(test)]
+mod programs;
 #[cfg(test)]
 mod refusing;
 #[cfg(test)]

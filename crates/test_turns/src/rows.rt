@@ -8,6 +8,7 @@ use roam_hub::Server;
 use roam_turns::memory::Told;
 use roam_turns::{MemoryPorts, serve_turn};
 use std::alloc::{AllocError, Global};
+use std::str::Split;
 use std::test::*;
 
 // A call as a letter; a capital brought or took something.
@@ -38,72 +39,53 @@ pub fn letters(alloc: Global, calls: &[Told]) -> Result<String, AllocError> {
     Ok(text)
 }
 
-/// One turn of a new server: how many datagrams come, what the program of pane 1 writes, which call fails, how many bytes the program
-/// takes; the calls, and how many bytes wait for the program after it.
+/// One turn of a new server, a line each: how many datagrams come, which call fails, how many bytes the program of pane 1 takes, and how
+/// many wait for it after the turn; the calls; and behind a bar what the program writes before it. Of 33 datagrams the last waits for the
+/// next turn. DA (`\x1B[c`) is answered by 8 bytes. A call that fails brings nothing, or takes nothing.
+const TURNS: &str = "\
+0 0 9 0: NrLllllllllg|
+2 0 9 0: NRRrLllllllllg|
+31 0 9 0: NRRRRRRRRRRRRRRRRRRRRRRRRRRRRRRRrLllllllllg|
+33 0 9 0: NRRRRRRRRRRRRRRRRRRRRRRRRRRRRRRRRLllllllllg|
+0 0 9 0: NrLllllllllG|a
+0 0 9 0: NrLllllllllGT|\x1B[c
+0 0 4 4: NrLllllllllGT|\x1B[c
+0 0 0 8: NrLllllllllGt|\x1B[c
+2 2 9 0: NrLllllllllGT|\x1B[c
+2 5 9 0: NRRrLllllllllg|\x1B[c
+2 6 9 8: NRRrLllllllllGt|\x1B[c";
+
+/// What comes to a turn, and what is wanted of it.
 #[derive(Clone, Copy)]
-struct Row {
-    datagrams: usize,
-    piece: &'static str,
+struct Row<'a> {
+    datagrams: u64,
     fails: u64,
     takes: usize,
-    calls: &'static str,
     waits: usize,
+    calls: &'a str,
+    piece: &'a str,
 }
 
-fn turn_of(
-    datagrams: usize,
-    piece: &'static str,
-    fails: u64,
-    takes: usize,
-    calls: &'static str,
-    waits: usize,
-) -> Row {
-    Row {
-        datagrams,
-        piece,
-        fails,
-        takes,
+fn number(words: &mut Split<'_, char>) -> Option<u64> {
+    words.next()?.parse::<u64>().ok()
+}
+
+fn row_of(line: &str) -> Option<Row<'_>> {
+    let (numbers, rest) = line.split_once(": ")?;
+    let (calls, piece) = rest.split_once('|')?;
+    let mut words = numbers.split(' ');
+    Some(Row {
+        datagrams: number(&mut words)?,
+        fails: number(&mut words)?,
+        takes: number(&mut words)? as usize,
+        waits: number(&mut words)? as usize,
         calls,
-        waits,
-    }
+        piece,
+    })
 }
 
-fn rows() -> [Row; 11] {
-    [
-        turn_of(0, "", 0, 9, "NrLllllllllg", 0),
-        turn_of(2, "", 0, 9, "NRRrLllllllllg", 0),
-        turn_of(
-            31,
-            "",
-            0,
-            9,
-            "NRRRRRRRRRRRRRRRRRRRRRRRRRRRRRRRrLllllllllg",
-            0,
-        ),
-        // The 33rd waits for the next turn.
-        turn_of(
-            33,
-            "",
-            0,
-            9,
-            "NRRRRRRRRRRRRRRRRRRRRRRRRRRRRRRRRLllllllllg",
-            0,
-        ),
-        turn_of(0, "a", 0, 9, "NrLllllllllG", 0),
-        // DA is answered by 8 bytes.
-        turn_of(0, "\x1B[c", 0, 9, "NrLllllllllGT", 0),
-        turn_of(0, "\x1B[c", 0, 4, "NrLllllllllGT", 4),
-        turn_of(0, "\x1B[c", 0, 0, "NrLllllllllGt", 8),
-        // A call that fails brings nothing, or takes nothing.
-        turn_of(2, "\x1B[c", 2, 9, "NrLllllllllGT", 0),
-        turn_of(2, "\x1B[c", 5, 9, "NRRrLllllllllg", 0),
-        turn_of(2, "\x1B[c", 6, 9, "NRRrLllllllllGt", 8),
-    ]
-}
-
-fn is_met(alloc: Global, row: &Row) -> Result<bool, Fault> {
-    let mut server = Server::new(alloc, 1, 24, 80)?;
-    let mut ports = MemoryPorts::new(alloc);
+// What comes through ports, and which call of theirs fails.
+fn prepare(ports: &mut MemoryPorts, row: Row<'_>) -> Result<(), Fault> {
     for _ in 0..row.datagrams {
         ports.deliver(SERVER, b"no datagram")?;
     }
@@ -112,15 +94,33 @@ fn is_met(alloc: Global, row: &Row) -> Result<bool, Fault> {
     }
     ports.take_at_most(row.takes);
     ports.fail_at(row.fails);
-    serve_turn(alloc, &mut server, &mut ports);
+    Ok(())
+}
+
+fn is_turned(
+    alloc: Global,
+    server: &mut Server,
+    ports: &mut MemoryPorts,
+    row: Row<'_>,
+) -> Result<bool, Fault> {
+    prepare(ports, row)?;
+    serve_turn(alloc, server, ports);
     let calls = letters(alloc, ports.told())?;
     Ok(calls.as_str() == row.calls && server.output_len(1) == Some(row.waits))
 }
 
+fn is_met(alloc: Global, line: &str) -> Result<bool, Fault> {
+    let Some(row) = row_of(line) else {
+        return Ok(false);
+    };
+    let mut server = Server::new(alloc, 1, 24, 80)?;
+    is_turned(alloc, &mut server, &mut MemoryPorts::new(alloc), row)
+}
+
 #[test]
 fn a_turn_makes_its_calls_in_order(rt: HostRuntime) -> Result<(), Fail> {
-    for row in &rows() {
-        assert!(rt; is_met(rt.alloc(), row)?, "{}", row.calls);
+    for line in TURNS.lines() {
+        assert!(rt; is_met(rt.alloc(), line)?, "{line}");
     }
     Ok(())
 }

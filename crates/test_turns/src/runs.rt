@@ -1,13 +1,12 @@
 //! Runs of `roam serve` and `roam attach`: what ends them, and what stays.
+use crate::files::ports_in;
 use roam_faults::RunFault;
-use roam_sockets::{
-    Attach, End, Moments, Serve, ServerPorts, Typed, follow_session, run_attach, run_serve,
-};
+use roam_sockets::{Attach, End, Serve, Typed, follow_session, run_attach, run_serve};
 use roam_wire::Version;
 use std::fs::{create_dir, remove_file, write};
 use std::io;
 use std::io::{ErrorKind, Write, pipe};
-use std::os::fd::AsRawFd;
+use std::os::fd::{AsRawFd, RawFd};
 use std::test::*;
 
 /// An outer terminal that is closed.
@@ -49,26 +48,23 @@ fn the_sockets_files_are_removed(rt: HostRuntime) -> Result<(), Fail> {
     Ok(())
 }
 
+// Whether a port that is bound is refused to another server, whose files go.
+fn is_bound_once(rt: &HostRuntime, port: u16) -> bool {
+    let serve = Serve {
+        folder: "second",
+        port,
+        session: 1,
+        turns: 3,
+    };
+    run_serve(rt, &serve) == Err(RunFault::Bind) && serves(rt, "second", Ok(()))
+}
+
 #[test]
 fn a_port_is_bound_once(rt: HostRuntime) -> Result<(), Fail> {
     create_dir(&rt, "first")?;
     create_dir(&rt, "second")?;
-    let mut ports: ServerPorts<&HostRuntime> = ServerPorts::bind(
-        &rt,
-        rt.alloc(),
-        "first",
-        0,
-        Moments::Set(0),
-    )?;
-    let serve = Serve {
-        folder: "second",
-        port: ports.port(),
-        session: 1,
-        turns: 3,
-    };
-    assert!(rt; run_serve(&rt, &serve) == Err(RunFault::Bind));
-    assert!(rt; serves(&rt, "second", Ok(())));
-    ports.remove(&rt);
+    let ports = ports_in(&rt, "first")?;
+    assert!(rt; is_bound_once(&rt, ports.port()));
     Ok(())
 }
 
@@ -104,32 +100,39 @@ fn files_of_acts_and_outer_terminals(rt: HostRuntime) -> Result<(), Fail> {
     Ok(())
 }
 
-#[test]
-fn how_a_run_ends(rt: HostRuntime) -> Result<(), Fail> {
-    let alloc = rt.alloc();
-    let short = Attach {
+/// A start that watches and whose turns are few, or would take a quarter of an hour.
+fn watching<'a>(turns: u64, painted_to: Option<RawFd>) -> Attach<'a> {
+    Attach {
         port: 9,
         session: 1,
         client: 0xC1,
         typed: Typed::Nothing,
         version: Version::Two,
         watches: true,
-        turns: 3,
-        painted_to: None,
-    };
-    assert!(rt; follow_session(&rt, &short, Vec::new(alloc)) == Ok(End::Unheard));
-    // It would take a quarter of an hour if it went on to its last turn.
-    let long = Attach {
-        turns: 100_000,
-        ..short
-    };
-    assert!(rt; follow_session(&rt, &long, Closed) == Err(RunFault::Write));
-    let (reader, writer) = pipe(&rt)?;
+        turns,
+        painted_to,
+    }
+}
+
+#[test]
+fn how_a_run_ends(rt: HostRuntime) {
+    let painted = Vec::new(rt.alloc());
+    let end = follow_session(&rt, &watching(3, None), painted);
+    assert!(rt; end == Ok(End::Unheard));
+    let end = follow_session(&rt, &watching(100_000, None), Closed);
+    assert!(rt; end == Err(RunFault::Write));
+}
+
+// How a run ends whose bytes go where nobody reads.
+fn end_unread(rt: &HostRuntime) -> Result<Result<End, RunFault>, Fail> {
+    let (reader, writer) = pipe(rt)?;
     drop(reader);
-    let unread = Attach {
-        painted_to: Some(writer.as_raw_fd()),
-        ..long
-    };
-    assert!(rt; follow_session(&rt, &unread, Vec::new(alloc)) == Err(RunFault::Write));
+    let unread = watching(100_000, Some(writer.as_raw_fd()));
+    Ok(follow_session(rt, &unread, Vec::new(rt.alloc())))
+}
+
+#[test]
+fn a_run_that_nobody_reads_ends(rt: HostRuntime) -> Result<(), Fail> {
+    assert!(rt; end_unread(&rt)? == Err(RunFault::Write));
     Ok(())
 }
