@@ -15,4 +15,6 @@ mod roaming;
 #[cfg(test)]
 mod sweeps;
 #[cfg(test)]
+mod uses;
+#[cfg(test)]
 mod versions;

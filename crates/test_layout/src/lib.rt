@@ -9,3 +9,5 @@ mod acts;
 mod faces;
 #[cfg(test)]
 mod layouts;
+#[cfg(test)]
+mod uses;

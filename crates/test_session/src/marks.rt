@@ -3,8 +3,7 @@
 //! With ample memory nothing is refused here. Where one allocation is refused, all but the last face is asked once more: so as many
 //! refusals make `a_byte_marks_its_row_alone` fail as that face has growths, where one row of a hundred is marked.
 use crate::memory::face_of;
-use crate::requests::Request::{self, Act, Bytes, Drain};
-use crate::requests::{act, ask};
+use crate::requests::are_asked;
 use crate::sessions::{has_row, is_same_screen};
 use roam_cells::Fault;
 use roam_screens::RowShot;
@@ -12,114 +11,106 @@ use roam_session::Session;
 use std::alloc::Global;
 use std::test::*;
 
-/// What is asked of a session of 7 by 17 before its face is kept, what after it, and the rows, from 1, that are marked then.
-struct Row {
-    before: &'static [&'static str],
-    after: &'static [(Request, Option<Fault>)],
-    marked: &'static [usize],
-}
+/// Cases, with an empty line between them: a name, the acts that are done in a session of 7 by 17 before its face is kept, what is asked of
+/// it after that, and the rows, from 1, that are marked then.
+const MARKS: &str = r##"Nothing was asked.
+kept
+marked
 
-static MARKS: [Row; 16] = [
-    Row {
-        before: &[],
-        after: &[],
-        marked: &[],
-    },
-    // A character's row, also where it shows what was there; moves and reports mark nothing.
-    Row {
-        before: &[],
-        after: &[(Bytes(1, b"\x1B[3;4H\x1B[6n"), None)],
-        marked: &[],
-    },
-    Row {
-        before: &[],
-        after: &[(Bytes(1, b"\x1B[3;4H "), None)],
-        marked: &[3],
-    },
-    // The rows between the margins of a pane that stands below another.
-    Row {
-        before: &["split down"],
-        after: &[(Bytes(2, b"\x1B[1;2r\x1B[S"), None)],
-        marked: &[4, 5],
-    },
-    Row {
-        before: &["split down"],
-        after: &[
-            (Bytes(2, b"\x1B[2;2Ha"), None),
-            (Bytes(1, b"\x1B[2;2Ha"), None),
-        ],
-        marked: &[2, 5],
-    },
-    // All rows of a pane whose screen is reversed or switched.
-    Row {
-        before: &["split down"],
-        after: &[(Bytes(1, b"\x1B[?5h"), None)],
-        marked: &[1, 2],
-    },
-    Row {
-        before: &["split down"],
-        after: &[(Bytes(2, b"\x1B[?1049h"), None)],
-        marked: &[4, 5, 6],
-    },
-    // A pane that is scrolled back, and its status.
-    Row {
-        before: &["split down", "view 1"],
-        after: &[(Bytes(2, b""), None)],
-        marked: &[4, 5, 6, 7],
-    },
-    Row {
-        before: &["split down"],
-        after: &[(Act("view 1"), None)],
-        marked: &[4, 5, 6, 7],
-    },
-    // The status alone.
-    Row {
-        before: &["split down"],
-        after: &[(Act("focus 1"), None)],
-        marked: &[7],
-    },
-    Row {
-        before: &["split down"],
-        after: &[(Act("next"), None)],
-        marked: &[7],
-    },
-    // The panes and borders that come, go or change, and the status.
-    Row {
-        before: &["split down"],
-        after: &[(Act("split right"), None)],
-        marked: &[4, 5, 6, 7],
-    },
-    Row {
-        before: &["split down", "split right"],
-        after: &[(Act("close"), None)],
-        marked: &[4, 5, 6, 7],
-    },
-    Row {
-        before: &["split right", "split down"],
-        after: &[
-            (Act("grow 1"), Some(Fault::TooSmall)),
-            (Act("grow -1"), None),
-        ],
-        marked: &[1, 2, 3, 4, 5, 6, 7],
-    },
-    // Another size, also where it is the same.
-    Row {
-        before: &["split down"],
-        after: &[(Act("size 7 17"), None)],
-        marked: &[1, 2, 3, 4, 5, 6, 7],
-    },
-    // Keys, drains and what is refused.
-    Row {
-        before: &[],
-        after: &[
-            (Act("char 61"), None),
-            (Drain(1, 1), None),
-            (Act("close"), Some(Fault::LastPane)),
-            (Bytes(2, b"a"), Some(Fault::NoPane)),
-        ],
-        marked: &[],
-    },
-];
+A character's row, also where it shows what was there; moves and reports mark nothing.
+kept
+bytes 1 ␛[3;4H␛[6n
+marked
+
+A character's row, where it is a space.
+kept
+bytes 1 ␛[3;4H␠
+marked 3
+
+The rows between the margins of a pane that stands below another.
+split down
+kept
+bytes 2 ␛[1;2r␛[S
+marked 4 5
+
+One row of each pane.
+split down
+kept
+bytes 2 ␛[2;2Ha
+bytes 1 ␛[2;2Ha
+marked 2 5
+
+All rows of a pane whose screen is reversed or switched.
+split down
+kept
+bytes 1 ␛[?5h
+marked 1 2
+
+A switch of screens.
+split down
+kept
+bytes 2 ␛[?1049h
+marked 4 5 6
+
+A pane that is scrolled back, and its status.
+split down
+view 1
+kept
+bytes 2 nothing
+marked 4 5 6 7
+
+A view.
+split down
+kept
+view 1
+marked 4 5 6 7
+
+The status alone.
+split down
+kept
+focus 1
+marked 7
+
+The next pane.
+split down
+kept
+next
+marked 7
+
+The panes and borders that come, go or change, and the status.
+split down
+kept
+split right
+marked 4 5 6 7
+
+A close.
+split down
+split right
+kept
+close
+marked 4 5 6 7
+
+A border that moves.
+split right
+split down
+kept
+too small: grow 1
+grow -1
+marked 1 2 3 4 5 6 7
+
+Another size, also where it is the same.
+split down
+kept
+size 7 17
+marked 1 2 3 4 5 6 7
+
+Keys, drains and what is refused.
+kept
+char 61
+drain 1 1
+last pane: close
+no pane: bytes 2 a
+marked"##;
 
 // Keeps the face of a session.
 fn keep(alloc: Global, session: &mut Session) -> Result<(), Fault> {
@@ -128,42 +119,65 @@ fn keep(alloc: Global, session: &mut Session) -> Result<(), Fault> {
     Ok(())
 }
 
-fn are_marked(session: &Session, rows: &[usize]) -> bool {
-    let marks = session.marks();
-    for k in 0..marks.len() {
-        if marks[k] != rows.contains(&(k + 1)) {
+// Whether just the rows of these numbers are marked.
+fn are_marked(session: &Session, rows: &str) -> bool {
+    let mut words = rows.split_whitespace();
+    for (k, on) in session.marks().iter().enumerate() {
+        if *on && words.next().and_then(|word| word.parse::<usize>().ok()) != Some(k + 1) {
             return false;
         }
     }
-    true
+    words.next().is_none()
+}
+
+/// What is asked of a session before its face is kept and after, and the rows that are marked then.
+#[derive(Clone, Copy)]
+struct Case<'a> {
+    before: &'a str,
+    after: &'a str,
+    marked: &'a str,
+}
+
+fn case_of(case: &str) -> Option<Case<'_>> {
+    let (head, rest) = case.split_once("\nkept")?;
+    let (after, marked) = rest.split_once("\nmarked")?;
+    let (_, before) = head.split_once('\n').unwrap_or((head, ""));
+    Some(Case {
+        before,
+        after,
+        marked,
+    })
 }
 
 // A session that was never kept: the rows that it marks, and its face, are those of the whole.
-fn whole(alloc: Global, row: &Row) -> Result<RowShot, Fault> {
+fn whole(alloc: Global, case: Case<'_>) -> Result<RowShot, Fault> {
     let mut session = Session::new(alloc, 7, 17)?;
-    for line in row.before {
-        act(alloc, &mut session, line)?;
-    }
-    let _ = ask(alloc, &mut session, row.after);
+    are_asked(alloc, &mut session, case.before);
+    are_asked(alloc, &mut session, case.after);
     session.face(alloc)
 }
 
-fn holds(alloc: Global, row: &Row) -> Result<bool, Fault> {
-    let mut session = Session::new(alloc, 7, 17)?;
-    for line in row.before {
-        act(alloc, &mut session, line)?;
-    }
+fn is_marked_so(alloc: Global, session: &mut Session, case: Case<'_>) -> Result<bool, Fault> {
+    let are_done = are_asked(alloc, session, case.before);
     let all = session.marks().iter().all(|on| *on);
-    keep(alloc, &mut session)?;
-    let asked = ask(alloc, &mut session, row.after);
-    let same = is_same_screen(&session.face(alloc)?, &whole(alloc, row)?);
-    Ok(all && asked && same && are_marked(&session, row.marked))
+    keep(alloc, session)?;
+    let asked = are_asked(alloc, session, case.after);
+    let same = is_same_screen(&session.face(alloc)?, &whole(alloc, case)?);
+    Ok(are_done && all && asked && same && are_marked(session, case.marked))
+}
+
+fn holds(alloc: Global, case: &str) -> Result<bool, Fault> {
+    let Some(case) = case_of(case) else {
+        return Ok(false);
+    };
+    let mut session = Session::new(alloc, 7, 17)?;
+    is_marked_so(alloc, &mut session, case)
 }
 
 #[test]
 fn named_rows_are_marked(rt: HostRuntime) -> Result<(), Fail> {
-    for k in 0..MARKS.len() {
-        assert!(rt; holds(rt.alloc(), &MARKS[k])?, "at {k}");
+    for case in MARKS.split("\n\n") {
+        assert!(rt; holds(rt.alloc(), case)?, "{case}");
     }
     Ok(())
 }
@@ -182,7 +196,7 @@ fn large(alloc: Global) -> Result<Session, Fault> {
 fn a_byte_marks_its_row_alone(rt: HostRuntime) -> Result<(), Fail> {
     let mut session = large(rt.alloc())?;
     session.pane_bytes(1, b"a")?;
-    assert!(rt; are_marked(&session, &[1]));
+    assert!(rt; are_marked(&session, "1"));
     let _ = session.face(rt.alloc())?;
     Ok(())
 }

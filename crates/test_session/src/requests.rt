@@ -1,20 +1,45 @@
-//! What is asked of sessions, and the bytes that wait in their panes.
-use Request::{Act, Bytes, Drain, Long};
+//! What is asked of sessions, as text, and the bytes that wait in their panes.
+//!
+//! A request is `bytes PANE TEXT` (`nothing` for no byte); `long PANE a`, a piece of 1,025 letters; `drain PANE COUNT`, at most as many as
+//! wait; or an act. One that is to be refused has the refusal before it, as `no pane: drain 2 0`. Control characters and spaces at the end
+//! are written as their pictures (U+2400 to U+2420).
 use roam_acts::read_act;
 use roam_cells::Fault;
 use roam_session::Session;
 use std::alloc::Global;
 
-/// What is asked of a session; a long piece has 1,025 bytes.
-pub enum Request {
-    Bytes(u8, &'static [u8]),
-    Long(u8),
-    Act(&'static str),
-    Drain(u8, usize),
+// The character of a control picture; any other character is itself.
+fn character_of(c: char) -> char {
+    match c {
+        '\u{2400}'..='\u{2420}' => char::from((c as u32 - 0x2400) as u8),
+        _ => c,
+    }
+}
+
+// The bytes of a text with pictures of control characters.
+fn bytes_of(alloc: Global, spelled: &str) -> Result<String, Fault> {
+    let mut bytes = String::new(alloc);
+    for c in spelled.chars() {
+        bytes.push(character_of(c))?;
+    }
+    Ok(bytes)
+}
+
+fn fault_of(name: &str) -> Option<Fault> {
+    match name {
+        "bad size" => Some(Fault::BadSize),
+        "busy" => Some(Fault::Busy),
+        "last pane" => Some(Fault::LastPane),
+        "no pane" => Some(Fault::NoPane),
+        "panes full" => Some(Fault::PanesFull),
+        "too long" => Some(Fault::TooLong),
+        "too small" => Some(Fault::TooSmall),
+        _ => None,
+    }
 }
 
 // Takes bytes that wait, at most all of them.
-pub fn drain(session: &mut Session, pane: u8, n: usize) -> Result<(), Fault> {
+fn drain(session: &mut Session, pane: u8, n: usize) -> Result<(), Fault> {
     match session.output_len(pane) {
         Some(len) => session.drain(pane, n.min(len)),
         None => session.drain(pane, n),
@@ -26,34 +51,63 @@ pub fn act(alloc: Global, session: &mut Session, line: &str) -> Result<(), Fault
     session.act(alloc, 0xA1, &act)
 }
 
-fn answer(alloc: Global, session: &mut Session, request: &Request) -> Result<(), Fault> {
-    match request {
-        Bytes(pane, piece) => session.pane_bytes(*pane, piece),
-        Long(pane) => session.pane_bytes(*pane, &[b'a'; 1025]),
-        Act(line) => act(alloc, session, line),
-        Drain(pane, n) => drain(session, *pane, *n),
+fn drain_count(session: &mut Session, pane: u8, count: &str) -> Result<(), Fault> {
+    match count.parse::<usize>() {
+        Ok(count) => drain(session, pane, count),
+        Err(_) => Err(Fault::BadAct),
     }
 }
 
-pub fn is_refused(answer: Result<(), Fault>, expected: Option<Fault>) -> bool {
-    match (answer, expected) {
-        (Ok(()), None) => true,
-        (Err(fault), Some(expected)) => fault == expected,
-        _ => false,
+fn give_text(alloc: Global, session: &mut Session, pane: u8, spelled: &str) -> Result<(), Fault> {
+    if spelled == "nothing" {
+        return session.pane_bytes(pane, b"");
+    }
+    let piece = bytes_of(alloc, spelled)?;
+    session.pane_bytes(pane, piece.as_bytes())
+}
+
+// A request's pane and what follows it.
+fn pane_of(words: &str) -> Option<(u8, &str)> {
+    let (pane, rest) = words.split_once(' ')?;
+    Some((pane.parse::<u8>().ok()?, rest))
+}
+
+fn answer(alloc: Global, session: &mut Session, words: &str) -> Result<(), Fault> {
+    if let Some((verb, rest)) = words.split_once(' ')
+        && let Some((pane, rest)) = pane_of(rest)
+    {
+        match verb {
+            "bytes" => return give_text(alloc, session, pane, rest),
+            "long" => return session.pane_bytes(pane, &[b'a'; 1025]),
+            "drain" => return drain_count(session, pane, rest),
+            _ => {}
+        }
+    }
+    act(alloc, session, words)
+}
+
+/// Whether a request is done, or refused as it says.
+pub fn is_asked(alloc: Global, session: &mut Session, line: &str) -> bool {
+    match line.split_once(": ") {
+        Some((name, words)) => match fault_of(name) {
+            Some(fault) => answer(alloc, session, words) == Err(fault),
+            None => false,
+        },
+        None => answer(alloc, session, line).is_ok(),
     }
 }
 
-// Asks one after another, and tells whether each was refused as it is said.
-pub fn ask(alloc: Global, session: &mut Session, steps: &[(Request, Option<Fault>)]) -> bool {
-    for (request, expected) in steps {
-        if !is_refused(answer(alloc, session, request), *expected) {
+/// Whether requests, a line each, go so one after another; it ends at the first that doesn't. An empty line is none.
+pub fn are_asked(alloc: Global, session: &mut Session, lines: &str) -> bool {
+    for line in lines.lines() {
+        if !line.is_empty() && !is_asked(alloc, session, line) {
             return false;
         }
     }
     true
 }
 
-pub fn waits(session: &Session, pane: u8, expected: Option<&[u8]>) -> bool {
+fn waits(session: &Session, pane: u8, expected: Option<&[u8]>) -> bool {
     let mut out = [0; 64];
     match (session.output(pane, &mut out), expected) {
         (Ok(n), Some(bytes)) => {
@@ -70,13 +124,20 @@ pub fn waits(session: &Session, pane: u8, expected: Option<&[u8]>) -> bool {
     }
 }
 
-pub fn wait(session: &Session, waiting: &[(u8, Option<&[u8]>)]) -> bool {
-    for (pane, expected) in waiting {
-        if !waits(session, *pane, *expected) {
-            return false;
-        }
-    }
-    true
+/// Whether these bytes wait in a pane.
+pub fn waits_text(
+    alloc: Global,
+    session: &Session,
+    pane: u8,
+    spelled: &str,
+) -> Result<bool, Fault> {
+    let bytes = bytes_of(alloc, spelled)?;
+    Ok(waits(session, pane, Some(bytes.as_bytes())))
+}
+
+/// Whether there is no such pane, in which nothing waits.
+pub fn is_none(session: &Session, pane: u8) -> bool {
+    waits(session, pane, None)
 }
 
 // Eight splits of 24 by 80.

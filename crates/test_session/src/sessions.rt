@@ -1,243 +1,202 @@
 //! Sessions: what acts, bytes and drains make of the face and of the bytes that wait.
-use crate::requests::Request::{self, Act, Bytes, Drain, Long};
-use crate::requests::{NINE, act, ask, is_each_drained, is_refused, wait, with_panes};
+//!
+//! Cases are texts with an empty line between them: a name, the session's size, and what is asked of it; then, behind `shows`, rows of its
+//! face from the first, the cursor, and bytes that wait in some panes or that there is `none` of a number.
+use crate::requests::{
+    NINE, act, are_asked, is_asked, is_each_drained, is_none, waits_text, with_panes,
+};
 use roam_cells::{Cell, Fault, Style, are_same_cells};
 use roam_screens::{RowShot, Seen};
 use roam_session::Session;
 use std::alloc::Global;
 use std::test::*;
 
-/// The session's size, what is asked of it and how that is refused; then the rows of its face, the cursor and whether it is visible, and
-/// the bytes that wait in some panes.
-struct Row {
-    size: (u16, u16),
-    steps: &'static [(Request, Option<Fault>)],
-    rows: &'static [&'static str],
-    cursor: ((u16, u16), bool),
-    waiting: &'static [(u8, Option<&'static [u8]>)],
-}
+const FACES: &str = r##"A new session has one pane.
+4 17
+shows
+|                 |
+|                 |
+|                 |
+|[1]              |
+cursor 1 1 shown
+none 0
+waits 1 ||
+none 2
+none 10
+none 255
 
-static FACES: [Row; 9] = [
-    Row {
-        size: (4, 17),
-        steps: &[],
-        rows: &[
-            "                 ",
-            "                 ",
-            "                 ",
-            "[1]              ",
-        ],
-        cursor: ((1, 1), true),
-        waiting: &[
-            (0, None),
-            (1, Some(b"")),
-            (2, None),
-            (10, None),
-            (255, None),
-        ],
-    },
-    Row {
-        size: (4, 17),
-        steps: &[
-            (Act("split right"), None),
-            (Bytes(1, b"ab"), None),
-            (Bytes(2, b"cd"), None),
-        ],
-        rows: &[
-            "ab      │cd      ",
-            "        │        ",
-            "        │        ",
-            " 1 [2]           ",
-        ],
-        cursor: ((1, 12), true),
-        waiting: &[(1, Some(b"")), (2, Some(b"")), (3, None)],
-    },
-    Row {
-        size: (4, 17),
-        steps: &[
-            (Act("split right"), None),
-            (Bytes(1, b"ab"), None),
-            (Bytes(2, b"cd"), None),
-            (Act("view 1"), None),
-        ],
-        rows: &[
-            "ab      │cd      ",
-            "        │        ",
-            "        │        ",
-            " 1 [2] ^1        ",
-        ],
-        cursor: ((1, 12), true),
-        waiting: &[],
-    },
-    // Acts that the layout refuses are done, with no effect.
-    Row {
-        size: (4, 17),
-        steps: &[
-            (Bytes(1, b"ab"), None),
-            (Act("split right"), None),
-            (Act("split right"), Some(Fault::TooSmall)),
-            (Act("split down"), Some(Fault::TooSmall)),
-            (Act("focus 3"), Some(Fault::NoPane)),
-            (Act("size 3 17"), Some(Fault::BadSize)),
-            (Act("size 4 8"), Some(Fault::TooSmall)),
-            (Act("close"), None),
-            (Act("close"), Some(Fault::LastPane)),
-        ],
-        rows: &[
-            "ab               ",
-            "                 ",
-            "                 ",
-            "[1]              ",
-        ],
-        cursor: ((1, 3), true),
-        waiting: &[(1, Some(b"")), (2, None)],
-    },
-    // A number that is used again has an empty log, no waiting bytes and no view.
-    Row {
-        size: (4, 17),
-        steps: &[
-            (Act("split right"), None),
-            (Bytes(2, b"xyz\x1B[6n"), None),
-            (Act("view 5"), None),
-            (Act("close"), None),
-            (Bytes(2, b"x"), Some(Fault::NoPane)),
-            (Drain(2, 0), Some(Fault::NoPane)),
-            (Act("split right"), None),
-        ],
-        rows: &[
-            "        │        ",
-            "        │        ",
-            "        │        ",
-            " 1 [2]           ",
-        ],
-        cursor: ((1, 10), true),
-        waiting: &[(1, Some(b"")), (2, Some(b""))],
-    },
-    // A view shows rows of the history, and the cursor goes down with the screen.
-    Row {
-        size: (4, 8),
-        steps: &[(Bytes(1, b"1\r\n2\r\n3\r\n4"), None), (Act("view 1"), None)],
-        rows: &["1       ", "2       ", "3       ", "[1] ^1  "],
-        cursor: ((3, 2), false),
-        waiting: &[],
-    },
-    // A pane that gets fewer rows keeps its cursor's row, and its terminal answers by its own size.
-    Row {
-        size: (6, 8),
-        steps: &[
-            (Bytes(1, b"1\r\n2\r\n3\r\n4\r\n5"), None),
-            (Act("split down"), None),
-            (Act("focus 1"), None),
-            (Bytes(1, b"\x1B[99;99H\x1B[6n"), None),
-            (Drain(1, 2), None),
-        ],
-        rows: &[
-            "4       ",
-            "5       ",
-            "────────",
-            "        ",
-            "        ",
-            "[1] 2   ",
-        ],
-        cursor: ((2, 8), true),
-        waiting: &[(1, Some(b"2;8R")), (2, Some(b""))],
-    },
-    // Keys go to the pane that then has the focus, behind what its terminal answered.
-    Row {
-        size: (4, 17),
-        steps: &[
-            (Bytes(1, b"\x1B[6n"), None),
-            (Act("char 61"), None),
-            (Act("split right"), None),
-            (Act("char 62"), None),
-            (Act("next"), None),
-            (Act("char 63"), None),
-            (Drain(1, 1), None),
-        ],
-        rows: &[
-            "        │        ",
-            "        │        ",
-            "        │        ",
-            "[1] 2            ",
-        ],
-        cursor: ((1, 1), true),
-        waiting: &[(1, Some(b"[1;1Rac")), (2, Some(b"b"))],
-    },
-    // Each terminal has its rectangle's size.
-    Row {
-        size: (24, 80),
-        steps: &[
-            (Act("split right"), None),
-            (Act("split down"), None),
-            (Act("grow 3"), None),
-            (Bytes(1, b"\x1B[99;99H\x1B[6n"), None),
-            (Bytes(2, b"\x1B[99;99H\x1B[6n"), None),
-            (Bytes(3, b"\x1B[99;99H\x1B[6n"), None),
-            (Act("close"), None),
-            (Bytes(2, b"\x1B[99;99H\x1B[6n"), None),
-        ],
-        rows: &[],
-        cursor: ((23, 80), true),
-        waiting: &[
-            (1, Some(b"\x1B[23;39R")),
-            (2, Some(b"\x1B[8;40R\x1B[23;40R")),
-            (3, None),
-        ],
-    },
-];
+Two panes beside one another.
+4 17
+split right
+bytes 1 ab
+bytes 2 cd
+shows
+|ab      │cd      |
+|        │        |
+|        │        |
+| 1 [2]           |
+cursor 1 12 shown
+waits 1 ||
+waits 2 ||
+none 3
+
+The same with a view of the second.
+4 17
+split right
+bytes 1 ab
+bytes 2 cd
+view 1
+shows
+|ab      │cd      |
+|        │        |
+|        │        |
+| 1 [2] ^1        |
+cursor 1 12 shown
+
+Acts that the layout refuses are done, with no effect.
+4 17
+bytes 1 ab
+split right
+too small: split right
+too small: split down
+no pane: focus 3
+bad size: size 3 17
+too small: size 4 8
+close
+last pane: close
+shows
+|ab               |
+|                 |
+|                 |
+|[1]              |
+cursor 1 3 shown
+waits 1 ||
+none 2
+
+A number that is used again has an empty log, no waiting bytes and no view.
+4 17
+split right
+bytes 2 xyz␛[6n
+view 5
+close
+no pane: bytes 2 x
+no pane: drain 2 0
+split right
+shows
+|        │        |
+|        │        |
+|        │        |
+| 1 [2]           |
+cursor 1 10 shown
+waits 1 ||
+waits 2 ||
+
+A view shows rows of the history, and the cursor goes down with the screen.
+4 8
+bytes 1 1␍␊2␍␊3␍␊4
+view 1
+shows
+|1       |
+|2       |
+|3       |
+|[1] ^1  |
+cursor 3 2 hidden
+
+A pane that gets fewer rows keeps its cursor's row, and its terminal answers by its own size.
+6 8
+bytes 1 1␍␊2␍␊3␍␊4␍␊5
+split down
+focus 1
+bytes 1 ␛[99;99H␛[6n
+drain 1 2
+shows
+|4       |
+|5       |
+|────────|
+|        |
+|        |
+|[1] 2   |
+cursor 2 8 shown
+waits 1 |2;8R|
+waits 2 ||
+
+Keys go to the pane that then has the focus, behind what its terminal answered.
+4 17
+bytes 1 ␛[6n
+char 61
+split right
+char 62
+next
+char 63
+drain 1 1
+shows
+|        │        |
+|        │        |
+|        │        |
+|[1] 2            |
+cursor 1 1 shown
+waits 1 |[1;1Rac|
+waits 2 |b|
+
+Each terminal has its rectangle's size.
+24 80
+split right
+split down
+grow 3
+bytes 1 ␛[99;99H␛[6n
+bytes 2 ␛[99;99H␛[6n
+bytes 3 ␛[99;99H␛[6n
+close
+bytes 2 ␛[99;99H␛[6n
+shows
+cursor 23 80 shown
+waits 1 |␛[23;39R|
+waits 2 |␛[8;40R␛[23;40R|
+none 3"##;
 
 // What keys send under DECCKM, DECKPAM and LNM of the pane in focus.
-static KEYS: [Row; 4] = [
-    Row {
-        size: (4, 17),
-        steps: &[
-            (Act("split right"), None),
-            (Bytes(1, b"\x1B[?1h\x1B=\x1B[20h"), None),
-            (Act("key up"), None),
-            (Act("key pad5"), None),
-            (Act("key return"), None),
-        ],
-        rows: &[],
-        cursor: ((1, 10), true),
-        waiting: &[(1, Some(b"")), (2, Some(b"\x1B[A5\r"))],
-    },
-    Row {
-        size: (4, 17),
-        steps: &[
-            (Act("split right"), None),
-            (Bytes(2, b"\x1B[?1h"), None),
-            (Act("key up"), None),
-            (Act("key pad5"), None),
-            (Act("key return"), None),
-        ],
-        rows: &[],
-        cursor: ((1, 10), true),
-        waiting: &[(1, Some(b"")), (2, Some(b"\x1BOA5\r"))],
-    },
-    Row {
-        size: (4, 17),
-        steps: &[
-            (Bytes(1, b"\x1B="), None),
-            (Act("key up"), None),
-            (Act("key pad5"), None),
-            (Act("key return"), None),
-        ],
-        rows: &[],
-        cursor: ((1, 1), true),
-        waiting: &[(1, Some(b"\x1B[A\x1BOu\r"))],
-    },
-    Row {
-        size: (4, 17),
-        steps: &[
-            (Bytes(1, b"\x1B[20h"), None),
-            (Act("key f15"), None),
-            (Act("key return"), None),
-        ],
-        rows: &[],
-        cursor: ((1, 1), true),
-        waiting: &[(1, Some(b"\x1B[28~\r\n"))],
-    },
-];
+const KEYS: &str = r##"Modes of the other pane.
+4 17
+split right
+bytes 1 ␛[?1h␛=␛[20h
+key up
+key pad5
+key return
+shows
+cursor 1 10 shown
+waits 1 ||
+waits 2 |␛[A5␍|
+
+DECCKM of the pane in focus.
+4 17
+split right
+bytes 2 ␛[?1h
+key up
+key pad5
+key return
+shows
+cursor 1 10 shown
+waits 1 ||
+waits 2 |␛OA5␍|
+
+DECKPAM.
+4 17
+bytes 1 ␛=
+key up
+key pad5
+key return
+shows
+cursor 1 1 shown
+waits 1 |␛[A␛Ou␍|
+
+LNM.
+4 17
+bytes 1 ␛[20h
+key f15
+key return
+shows
+cursor 1 1 shown
+waits 1 |␛[28~␍␊|"##;
 
 pub fn has_row(alloc: Global, shot: &RowShot, i: u16, text: &str) -> Result<bool, Fault> {
     if shot.rows() <= i {
@@ -245,15 +204,6 @@ pub fn has_row(alloc: Global, shot: &RowShot, i: u16, text: &str) -> Result<bool
     }
     let points = shot.row_text(alloc, i)?;
     Ok(points.iter().copied().eq(text.chars()))
-}
-
-fn has_rows(alloc: Global, shot: &RowShot, rows: &[&str]) -> Result<bool, Fault> {
-    for i in 0..rows.len().min(100) {
-        if !has_row(alloc, shot, i as u16, rows[i])? {
-            return Ok(false);
-        }
-    }
-    Ok(true)
 }
 
 // Whether two faces show the same.
@@ -269,58 +219,149 @@ pub fn is_same_screen(one: &RowShot, other: &RowShot) -> bool {
     one.cursor() == other.cursor() && one.visible() == other.visible()
 }
 
-fn holds(alloc: Global, row: &Row) -> Result<bool, Fault> {
-    let mut session = Session::new(alloc, row.size.0, row.size.1)?;
-    let asked = ask(alloc, &mut session, row.steps);
+fn is_cursor(shot: &RowShot, words: &str) -> bool {
+    if let Some((row, rest)) = words.split_once(' ')
+        && let Some((col, seen)) = rest.split_once(' ')
+        && let Ok(row) = row.parse::<u16>()
+        && let Ok(col) = col.parse::<u16>()
+    {
+        let wanted = if shot.visible() { "shown" } else { "hidden" };
+        return shot.cursor() == (row, col) && seen == wanted;
+    }
+    false
+}
+
+// Whether these bytes wait, `PANE |TEXT|`.
+fn waits(alloc: Global, session: &Session, words: &str) -> Result<bool, Fault> {
+    if let Some((pane, text)) = words.split_once(" |")
+        && let Ok(pane) = pane.parse::<u8>()
+        && let Some(text) = text.strip_suffix('|')
+    {
+        return waits_text(alloc, session, pane, text);
+    }
+    Ok(false)
+}
+
+fn is_so(alloc: Global, session: &Session, shot: &RowShot, line: &str) -> Result<bool, Fault> {
+    match line.split_once(' ') {
+        Some(("cursor", words)) => Ok(is_cursor(shot, words)),
+        Some(("waits", words)) => waits(alloc, session, words),
+        Some(("none", pane)) => Ok(
+            matches!(pane.parse::<u8>(), Ok(pane) if is_none(session, pane)),
+        ),
+        _ => Ok(false),
+    }
+}
+
+// A line of a case, which is the face's row of that number where it is one.
+fn is_shown(
+    alloc: Global,
+    session: &Session,
+    shot: &RowShot,
+    number: usize,
+    line: &str,
+) -> Result<bool, Fault> {
+    if let Some(text) = line.strip_prefix('|') {
+        return match text.strip_suffix('|') {
+            Some(text) => has_row(alloc, shot, number.min(500) as u16, text),
+            None => Ok(false),
+        };
+    }
+    is_so(alloc, session, shot, line)
+}
+
+fn shows(alloc: Global, session: &Session, lines: &str) -> Result<bool, Fault> {
     let shot = session.face(alloc)?;
-    Ok(
-        asked
-            && has_rows(alloc, &shot, row.rows)?
-            && (shot.cursor(), shot.visible()) == row.cursor
-            && wait(&session, row.waiting),
-    )
+    for (number, line) in lines.lines().enumerate() {
+        if !is_shown(alloc, session, &shot, number, line)? {
+            return Ok(false);
+        }
+    }
+    Ok(true)
+}
+
+fn session_of(alloc: Global, size: &str) -> Result<Session, Fault> {
+    if let Some((rows, cols)) = size.split_once(' ')
+        && let Ok(rows) = rows.parse::<u16>()
+        && let Ok(cols) = cols.parse::<u16>()
+    {
+        return Session::new(alloc, rows, cols);
+    }
+    Err(Fault::BadSize)
+}
+
+fn holds(alloc: Global, case: &str) -> Result<bool, Fault> {
+    if let Some((head, wanted)) = case.split_once("\nshows\n")
+        && let Some((_, rest)) = head.split_once('\n')
+    {
+        let (size, lines) = rest.split_once('\n').unwrap_or((rest, ""));
+        let mut session = session_of(alloc, size)?;
+        return Ok(are_asked(alloc, &mut session, lines) && shows(alloc, &session, wanted)?);
+    }
+    Ok(false)
 }
 
 #[test]
 fn faces_show_what_was_asked(rt: HostRuntime) -> Result<(), Fail> {
-    for k in 0..FACES.len() {
-        assert!(rt; holds(rt.alloc(), &FACES[k])?, "at {k}");
+    for case in FACES.split("\n\n") {
+        assert!(rt; holds(rt.alloc(), case)?, "{case}");
     }
     Ok(())
 }
 
 #[test]
 fn keys_under_the_modes_of_the_pane_in_focus(rt: HostRuntime) -> Result<(), Fail> {
-    for k in 0..KEYS.len() {
-        assert!(rt; holds(rt.alloc(), &KEYS[k])?, "at {k}");
+    for case in KEYS.split("\n\n") {
+        assert!(rt; holds(rt.alloc(), case)?, "{case}");
     }
     Ok(())
 }
 
-// Acts, each with the lives of panes 1, 2 and 3 after it.
-static LIVES: [(&str, [Option<u64>; 3]); 10] = [
-    ("close", [Some(1), None, None]),
-    ("split right", [Some(1), Some(1), None]),
-    ("close", [Some(1), None, None]),
-    ("split down", [Some(1), Some(2), None]),
-    ("key up", [Some(1), Some(2), None]),
-    ("focus 1", [Some(1), Some(2), None]),
-    ("close", [None, Some(2), None]),
-    ("split right", [Some(2), Some(2), None]),
-    ("split right", [Some(2), Some(2), Some(1)]),
-    ("size 30 90", [Some(2), Some(2), Some(1)]),
-];
+// Acts, each with the lives of panes 1, 2 and 3 after it, or none.
+const LIVES: &str = "\
+last pane: close: 1 - -
+split right: 1 1 -
+close: 1 - -
+split down: 1 2 -
+key up: 1 2 -
+focus 1: 1 2 -
+close: - 2 -
+split right: 2 2 -
+split right: 2 2 1
+size 30 90: 2 2 1";
+
+fn has_life(session: &Session, pane: u8, word: Option<&str>) -> bool {
+    match word {
+        Some("-") => session.life(pane) == None,
+        Some(word) => matches!(word.parse::<u64>(), Ok(life) if session.life(pane) == Some(life)),
+        None => false,
+    }
+}
+
+fn lives_after(alloc: Global, session: &mut Session, line: &str) -> bool {
+    let Some((asked, lives)) = line.rsplit_once(": ") else {
+        return false;
+    };
+    let mut words = lives.split(' ');
+    is_asked(alloc, session, asked)
+        && has_life(session, 1, words.next())
+        && has_life(session, 2, words.next())
+        && has_life(session, 3, words.next())
+}
+
+fn all_live(alloc: Global, session: &mut Session) -> bool {
+    for line in LIVES.lines() {
+        if !lives_after(alloc, session, line) {
+            return false;
+        }
+    }
+    session.life(0) == None && session.life(255) == None
+}
 
 #[test]
 fn a_number_that_is_used_again_has_another_life(rt: HostRuntime) -> Result<(), Fail> {
     let mut session = Session::new(rt.alloc(), 24, 80)?;
-    for (line, lives) in LIVES {
-        let answer = act(rt.alloc(), &mut session, line);
-        assert!(rt; answer.is_ok() || line == "close", "{line}");
-        assert_eq!(rt; [session.life(1), session.life(2), session.life(3)], lives);
-    }
-    assert_eq!(rt; session.life(0), None);
-    assert_eq!(rt; session.life(255), None);
+    assert!(rt; all_live(rt.alloc(), &mut session));
     Ok(())
 }
 
@@ -345,25 +386,24 @@ fn fill(alloc: Global, session: &mut Session) -> Result<(), Fault> {
     Ok(())
 }
 
-static FULL: [(Request, Option<Fault>); 12] = [
-    (Act("key up"), Some(Fault::Busy)),
-    (Act("char 4e2d"), Some(Fault::Busy)),
-    (Act("char 61"), None),
-    (Act("char 61"), Some(Fault::Busy)),
-    (Bytes(1, b""), None),
-    (Bytes(1, b"a"), Some(Fault::Busy)),
-    (Long(1), Some(Fault::TooLong)),
-    (Long(2), Some(Fault::NoPane)),
-    (Drain(1, 11), None),
-    (Bytes(1, b"a"), Some(Fault::Busy)),
-    (Drain(1, 1), None),
-    (Bytes(1, b"a"), None),
-];
+const FULL: &str = "\
+busy: key up
+busy: char 4e2d
+char 61
+busy: char 61
+bytes 1 nothing
+busy: bytes 1 a
+too long: long 1 a
+no pane: long 2 a
+drain 1 11
+busy: bytes 1 a
+drain 1 1
+bytes 1 a";
 
 // Whether a full queue takes no more, and room for exactly one more byte of its program is enough.
 fn takes_no_more(alloc: Global, session: &mut Session) -> bool {
     session.room(1) == Some(1)
-        && ask(alloc, session, &FULL)
+        && are_asked(alloc, session, FULL)
         && session.output_len(1) == Some(65_524)
 }
 
@@ -395,27 +435,21 @@ fn has_each_digit_once(shot: &RowShot) -> bool {
     true
 }
 
-// Asks for an act, and tells whether each pane shows its number after it.
-fn shows_each_after(
-    alloc: Global,
-    session: &mut Session,
-    line: &str,
-    expected: Option<Fault>,
-) -> Result<bool, Fault> {
-    let answered = is_refused(act(alloc, session, line), expected);
-    Ok(has_each_digit_once(&session.face(alloc)?) && answered)
+// Acts, after each of which each pane shows its number.
+const SIZES: &str = "\
+panes full: split down
+size 200 500
+too small: size 5 8
+size 24 80";
+
+fn shows_each_after(alloc: Global, session: &mut Session, line: &str) -> Result<bool, Fault> {
+    let asked = is_asked(alloc, session, line);
+    Ok(has_each_digit_once(&session.face(alloc)?) && asked)
 }
 
-static SIZES: [(&str, Option<Fault>); 4] = [
-    ("split down", Some(Fault::PanesFull)),
-    ("size 200 500", None),
-    ("size 5 8", Some(Fault::TooSmall)),
-    ("size 24 80", None),
-];
-
 fn shows_each_at_all_sizes(alloc: Global, session: &mut Session) -> Result<bool, Fault> {
-    for k in 0..SIZES.len() {
-        if !shows_each_after(alloc, session, SIZES[k].0, SIZES[k].1)? {
+    for line in SIZES.lines() {
+        if !shows_each_after(alloc, session, line)? {
             return Ok(false);
         }
     }

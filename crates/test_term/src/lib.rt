@@ -17,4 +17,6 @@ mod scrollback;
 #[cfg(test)]
 mod sizes;
 #[cfg(test)]
+mod uses;
+#[cfg(test)]
 mod wraps;

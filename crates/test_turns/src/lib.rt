@@ -26,3 +26,5 @@ mod runs;
 mod silence;
 #[cfg(test)]
 mod stage;
+#[cfg(test)]
+mod uses;
