@@ -60,16 +60,21 @@ fn bytes_after(alloc: Global, header: &str, rest: &str) -> Result<Vec<u8>, Fail>
     Ok(bytes)
 }
 
-#[test]
-fn a_server_refuses_numbers_that_nobody_made(rt: HostRuntime) -> Result<(), Fail> {
-    let alloc = rt.alloc();
-    let mut server = Server::new(alloc, 1, 4, 8)?;
+// Whether each is answered so, and the sender stays: its first screen goes out.
+fn refuses(alloc: Global, server: &mut Server) -> Result<bool, Fail> {
     for (rest, wanted) in TO_SERVER {
         let bytes = bytes_after(alloc, "524d 01 02 0000000000000001 00000000000000a1", rest)?;
-        assert!(rt; answers(alloc, &mut server, &bytes, wanted), "{rest}");
+        if !answers(alloc, server, &bytes, wanted) {
+            return Ok(false);
+        }
     }
-    // The sender stays: its first screen goes out.
-    assert!(rt; server.tick(alloc, 0)?.len() == 1);
+    Ok(server.tick(alloc, 0)?.len() == 1)
+}
+
+#[test]
+fn a_server_refuses_numbers_that_nobody_made(rt: HostRuntime) -> Result<(), Fail> {
+    let mut server = Server::new(rt.alloc(), 1, 4, 8)?;
+    assert!(rt; refuses(rt.alloc(), &mut server)?);
     Ok(())
 }
 
@@ -100,15 +105,21 @@ fn hears(
     client.datagram(alloc, bytes, 0) == wanted && client.shown().0 == shown
 }
 
+fn hears_all(alloc: Global, client: &mut Client) -> Result<bool, Fail> {
+    let header =
+        "524d 01 01 0000000000000001 00000000000000a1 0000000000000001 0000000000000001 0000 0001";
+    for (rest, wanted, shown) in TO_CLIENT {
+        let bytes = bytes_after(alloc, header, rest)?;
+        if !hears(alloc, client, &bytes, wanted, shown) {
+            return Ok(false);
+        }
+    }
+    Ok(true)
+}
+
 #[test]
 fn a_client_start_refuses_half_a_character(rt: HostRuntime) -> Result<(), Fail> {
-    let alloc = rt.alloc();
-    let mut client = Client::old(alloc, 1, 0xA1)?;
-    for (rest, wanted, shown) in TO_CLIENT {
-        let header =
-            "524d 01 01 0000000000000001 00000000000000a1 0000000000000001 0000000000000001 0000 0001";
-        let bytes = bytes_after(alloc, header, rest)?;
-        assert!(rt; hears(alloc, &mut client, &bytes, wanted, shown), "{rest}");
-    }
+    let mut client = Client::old(rt.alloc(), 1, 0xA1)?;
+    assert!(rt; hears_all(rt.alloc(), &mut client)?);
     Ok(())
 }

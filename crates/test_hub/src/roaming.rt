@@ -40,12 +40,22 @@ fn sends_to(alloc: Global, server: &mut Server, port: u16, now: u64) -> Result<b
     Ok(is_there)
 }
 
-#[test]
-fn replies_go_to_the_latest_number(rt: HostRuntime) -> Result<(), Fail> {
-    let alloc = rt.alloc();
+fn roams_and_is_sent_to(
+    alloc: Global,
+    server: &mut Server,
+    client: &mut Client,
+) -> Result<bool, Fault> {
+    Ok(roams(alloc, server, client)? && sends_to(alloc, server, 6001, 3001)?)
+}
+
+fn is_followed(alloc: Global) -> Result<bool, Fault> {
     let mut server = Server::new(alloc, 1, 4, 8)?;
     let mut client = Client::new(alloc, 1, 0xA1)?;
-    assert!(rt; roams(alloc, &mut server, &mut client)?);
-    assert!(rt; sends_to(alloc, &mut server, 6001, 3001)?);
+    roams_and_is_sent_to(alloc, &mut server, &mut client)
+}
+
+#[test]
+fn replies_go_to_the_latest_number(rt: HostRuntime) -> Result<(), Fail> {
+    assert!(rt; is_followed(rt.alloc())?);
     Ok(())
 }

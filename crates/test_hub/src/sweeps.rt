@@ -80,13 +80,20 @@ impl Served {
     }
 }
 
-impl Stands for Served {
-    fn stands(&self, alloc: Global, bytes: &[u8]) -> Result<bool, Fault> {
-        let mut server = server_of(alloc, &self.firsts)?;
+impl Served {
+    // Whether a server answers bytes, or refuses them and sends what it would send without them.
+    fn is_stood_by(&self, alloc: Global, server: &mut Server, bytes: &[u8]) -> Result<bool, Fault> {
         match server.datagram(alloc, at(5009), bytes, 0) {
             Ok(_) => Ok(true),
             Err(stop) => Ok(stop.taken == 0 && are_same(&server.tick(alloc, 0)?, &self.sends)),
         }
+    }
+}
+
+impl Stands for Served {
+    fn stands(&self, alloc: Global, bytes: &[u8]) -> Result<bool, Fault> {
+        let mut server = server_of(alloc, &self.firsts)?;
+        self.is_stood_by(alloc, &mut server, bytes)
     }
 }
 
@@ -98,30 +105,46 @@ struct Followed {
     face: RowShot,
 }
 
+// A server hears a start, and the program of its pane writes.
+fn hear_and_write(alloc: Global, server: &mut Server, first: &[u8]) -> Result<(), Fault> {
+    match server.datagram(alloc, at(5001), first, 0) {
+        Ok(_) => server.pane_bytes(1, b"ab"),
+        Err(stop) => Err(stop.fault),
+    }
+}
+
+// The last datagram that is sent.
+fn last_of(mut sends: Vec<(Addr, Vec<u8>)>) -> Result<Vec<u8>, Fault> {
+    let (_, sound) = sends.pop().ok_or(Fault::Spent)?;
+    Ok(sound)
+}
+
 impl Followed {
     fn new(alloc: Global, kind: Kind) -> Result<Followed, Fault> {
-        let mut server = Server::new(alloc, 1, 4, 8)?;
         let first = first_from(alloc, kind)?;
-        if let Err(stop) = server.datagram(alloc, at(5001), &first, 0) {
-            return Err(stop.fault);
-        }
-        server.pane_bytes(1, b"ab")?;
-        let mut sends = server.tick(alloc, 0)?;
-        let (_, sound) = sends.pop().ok_or(Fault::Spent)?;
-        let face = server.face(alloc)?;
-        Ok(Followed { kind, sound, face })
+        let mut server = Server::new(alloc, 1, 4, 8)?;
+        hear_and_write(alloc, &mut server, &first)?;
+        Ok(Followed {
+            kind,
+            sound: last_of(server.tick(alloc, 0)?)?,
+            face: server.face(alloc)?,
+        })
+    }
+}
+
+impl Followed {
+    // Whether a start shows nothing yet, and what is sent to it then.
+    fn goes_on(&self, alloc: Global, client: &mut Client) -> bool {
+        let is_kept = client.shown().0 == 0;
+        let is_new = client.datagram(alloc, &self.sound, 0) == Ok(Heard::New);
+        is_kept && is_new && is_same(&client.shown().1, &self.face)
     }
 }
 
 impl Stands for Followed {
     fn stands(&self, alloc: Global, bytes: &[u8]) -> Result<bool, Fault> {
         let mut client = start_of(alloc, self.kind)?;
-        if client.datagram(alloc, bytes, 0).is_ok() {
-            return Ok(true);
-        }
-        let is_kept = client.shown().0 == 0;
-        let is_new = client.datagram(alloc, &self.sound, 0) == Ok(Heard::New);
-        Ok(is_kept && is_new && is_same(&client.shown().1, &self.face))
+        Ok(client.datagram(alloc, bytes, 0).is_ok() || self.goes_on(alloc, &mut client))
     }
 }
 

@@ -51,22 +51,36 @@ struct Coming {
     answer: Result<usize, Fault>,
 }
 
+/// Whether the only datagram that a start sends at its beginning is answered so.
+fn is_answered(
+    alloc: Global,
+    server: &mut Server,
+    client: &mut Client,
+    wanted: Result<usize, Fault>,
+) -> Result<bool, Fault> {
+    let first = first_of(alloc, client)?;
+    Ok(answers(alloc, server, &first, wanted))
+}
+
 /// Whether the first datagram of a start is answered so.
 fn comes(alloc: Global, server: &mut Server, coming: Coming) -> Result<bool, Fault> {
     let mut client = start(alloc, coming.kind, coming.id)?;
-    let first = first_of(alloc, &mut client)?;
-    Ok(answers(alloc, server, &first, coming.answer))
+    is_answered(alloc, server, &mut client, coming.answer)
 }
 
 /// Whether they come one after the other.
-fn all_come(alloc: Global, comings: &[Coming]) -> Result<bool, Fault> {
-    let mut server = Server::new(alloc, 1, 4, 8)?;
+fn each_comes(alloc: Global, server: &mut Server, comings: &[Coming]) -> Result<bool, Fault> {
     for coming in comings {
-        if !comes(alloc, &mut server, *coming)? {
+        if !comes(alloc, server, *coming)? {
             return Ok(false);
         }
     }
     Ok(true)
+}
+
+fn all_come(alloc: Global, comings: &[Coming]) -> Result<bool, Fault> {
+    let mut server = Server::new(alloc, 1, 4, 8)?;
+    each_comes(alloc, &mut server, comings)
 }
 
 /// What a watcher of session 1, the start a1, sends first.
@@ -105,15 +119,22 @@ fn follows(alloc: Global, server: &mut Server, client: &mut Client) -> Result<bo
     Ok(hears_all(alloc, client, &sent) && is_shown(alloc, server, client)?)
 }
 
+/// Whether what a watcher sends first is as it should be, and is taken.
+fn begins(alloc: Global, server: &mut Server, client: &mut Client) -> Result<bool, Fault> {
+    let first = first_of(alloc, client)?;
+    Ok(first.as_slice() == WATCHER.as_slice() && answers(alloc, server, &first, Ok(0)))
+}
+
+fn watches(alloc: Global, server: &mut Server, client: &mut Client) -> Result<bool, Fault> {
+    let types_nothing = client.typed(Act::Key(Key::Char('a'))) == Err(Fault::Watching);
+    Ok(types_nothing && begins(alloc, server, client)? && follows(alloc, server, client)?)
+}
+
 /// Whether a watcher sends what it should, types nothing and is shown screens.
 fn only_watches(alloc: Global) -> Result<bool, Fault> {
     let mut server = Server::new(alloc, 1, 4, 8)?;
     let mut client = start(alloc, Kind::Watching, 0xA1)?;
-    let types_nothing = client.typed(Act::Key(Key::Char('a'))) == Err(Fault::Watching);
-    let first = first_of(alloc, &mut client)?;
-    let is_right = first.as_slice() == WATCHER.as_slice();
-    let is_taken = answers(alloc, &mut server, &first, Ok(0));
-    Ok(types_nothing && is_right && is_taken && follows(alloc, &mut server, &mut client)?)
+    watches(alloc, &mut server, &mut client)
 }
 
 #[test]
@@ -176,17 +197,34 @@ fn is_its_own(alloc: Global, bytes: &[u8]) -> Result<bool, Fault> {
     )
 }
 
+/// Whether a start takes these datagrams, and no other does.
+fn takes_all(alloc: Global, client: &mut Client, sent: &[(Addr, Vec<u8>)]) -> Result<bool, Fault> {
+    for (_, bytes) in sent {
+        if !is_its_own(alloc, bytes)? || client.datagram(alloc, bytes, 0) != Ok(Heard::New) {
+            return Ok(false);
+        }
+    }
+    Ok(true)
+}
+
+fn is_told(alloc: Global, server: &mut Server, client: &mut Client) -> Result<bool, Fault> {
+    let sent = server.tick(alloc, 0)?;
+    Ok(takes_all(alloc, client, &sent)? && is_shown(alloc, server, client)?)
+}
+
+fn is_heard_and_told(
+    alloc: Global,
+    server: &mut Server,
+    client: &mut Client,
+) -> Result<bool, Fault> {
+    Ok(is_answered(alloc, server, client, Ok(0))? && is_told(alloc, server, client)?)
+}
+
 /// Whether a start of version 1 takes what is sent to it, and no other does.
 fn takes_its_own(alloc: Global) -> Result<bool, Fault> {
     let mut server = Server::new(alloc, 1, 4, 8)?;
     let mut client = start(alloc, Kind::Old, 0xA1)?;
-    let first = first_of(alloc, &mut client)?;
-    let mut is_right = answers(alloc, &mut server, &first, Ok(0));
-    for (_, bytes) in server.tick(alloc, 0)? {
-        is_right = is_right && is_its_own(alloc, &bytes)?;
-        is_right = is_right && client.datagram(alloc, &bytes, 0) == Ok(Heard::New);
-    }
-    Ok(is_right && is_shown(alloc, &server, &client)?)
+    is_heard_and_told(alloc, &mut server, &mut client)
 }
 
 #[test]
@@ -243,14 +281,18 @@ fn is_too_many(alloc: Global, server: &mut Server, kind: Kind, id: u64) -> Resul
     comes(alloc, server, coming)
 }
 
+fn fill_both(alloc: Global, server: &mut Server) -> Result<bool, Fault> {
+    let watch = fill(alloc, server, Kind::Watching, 0, 16)?
+        && is_too_many(alloc, server, Kind::Watching, 16)?;
+    let edit = fill(alloc, server, Kind::New, 16, 64)?
+        && is_too_many(alloc, server, Kind::Old, 80)?;
+    Ok(watch && edit)
+}
+
 /// Whether 16 watchers and 64 others come, of which either the next is one too many.
 fn are_counted_apart(alloc: Global) -> Result<bool, Fault> {
     let mut server = Server::new(alloc, 1, 4, 8)?;
-    let watch = fill(alloc, &mut server, Kind::Watching, 0, 16)?
-        && is_too_many(alloc, &mut server, Kind::Watching, 16)?;
-    let edit = fill(alloc, &mut server, Kind::New, 16, 64)?
-        && is_too_many(alloc, &mut server, Kind::Old, 80)?;
-    Ok(watch && edit)
+    fill_both(alloc, &mut server)
 }
 
 #[test]
@@ -267,25 +309,32 @@ struct Both {
 }
 
 impl Both {
-    // Both starts, of whom a server heard.
-    fn of(alloc: Global, server: &mut Server) -> Result<Both, Fault> {
-        let mut old = start(alloc, Kind::Old, 0xA1)?;
-        let mut new = start(alloc, Kind::New, 0xB1)?;
-        let one = first_of(alloc, &mut old)?;
-        let other = first_of(alloc, &mut new)?;
-        if answers(alloc, server, &one, Ok(0)) && answers(alloc, server, &other, Ok(0)) {
-            Ok(Both { old, new })
-        } else {
-            Err(Fault::Spent)
-        }
+    fn new(alloc: Global) -> Result<Both, Fault> {
+        Ok(Both {
+            old: start(alloc, Kind::Old, 0xA1)?,
+            new: start(alloc, Kind::New, 0xB1)?,
+        })
+    }
+
+    fn are_heard(&mut self, alloc: Global, server: &mut Server) -> Result<bool, Fault> {
+        Ok(
+            is_answered(alloc, server, &mut self.old, Ok(0))?
+                && is_answered(alloc, server, &mut self.new, Ok(0))?,
+        )
     }
 
     // Hands a datagram to the start of its version, which its third byte tells.
-    fn hear(&mut self, alloc: Global, bytes: &[u8]) -> Result<(), Fault> {
+    fn hear(&mut self, alloc: Global, bytes: &[u8]) -> Result<Heard, Fault> {
         if bytes.get(2).copied() == Some(1) {
-            self.old.datagram(alloc, bytes, 0)?;
+            self.old.datagram(alloc, bytes, 0)
         } else {
-            self.new.datagram(alloc, bytes, 0)?;
+            self.new.datagram(alloc, bytes, 0)
+        }
+    }
+
+    fn hear_all(&mut self, alloc: Global, sent: &[(Addr, Vec<u8>)]) -> Result<(), Fault> {
+        for (_, bytes) in sent {
+            self.hear(alloc, bytes)?;
         }
         Ok(())
     }
@@ -295,16 +344,23 @@ impl Both {
         let (number, small) = self.old.shown();
         number == 1 && small.rows() == 100 && small.cols() == 250
     }
+
+    fn are_told(&mut self, alloc: Global, server: &mut Server) -> Result<bool, Fault> {
+        let sent = server.tick(alloc, 0)?;
+        self.hear_all(alloc, &sent)?;
+        Ok(self.is_small() && is_shown(alloc, server, &self.new)?)
+    }
+
+    fn are_shown(&mut self, alloc: Global, server: &mut Server) -> Result<bool, Fault> {
+        Ok(self.are_heard(alloc, server)? && self.are_told(alloc, server)?)
+    }
 }
 
 /// Whether a session of 200 by 500 is shown whole in version 2, and its first rows and columns in version 1.
 fn both_are_shown(alloc: Global) -> Result<bool, Fault> {
     let mut server = Server::new(alloc, 1, 200, 500)?;
-    let mut both = Both::of(alloc, &mut server)?;
-    for (_, bytes) in server.tick(alloc, 0)? {
-        both.hear(alloc, &bytes)?;
-    }
-    Ok(both.is_small() && is_shown(alloc, &server, &both.new)?)
+    let mut both = Both::new(alloc)?;
+    both.are_shown(alloc, &mut server)
 }
 
 #[test]

@@ -20,7 +20,7 @@ pub fn two_panes(alloc: Global, rows: u16, cols: u16) -> Result<Layout, Fault>
 
 /// Whether pane 2 has the right half of 24 by 80: between the panes stands a border, below them the status.
 pub fn has_the_right_half(layout: &Layout) -> bool {
-    match layout.rects().as_slice().last() {
+    match layout.rects().last() {
         Some((pane, rect)) => *pane == 2
             && layout.focus() == 2
             && (rect.row, rect.col) == (1, 41)

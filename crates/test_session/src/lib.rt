@@ -1,8 +1,10 @@
-//! Tests of the session, and of a world of server and client starts round it, by their public calls alone.
+//! Tests of the session, and of a world of server and client starts round it, by their public calls alone; and of calls that take no memory.
 //!
 //! They lie here and not beside the code, since a crate with tests is proved twice by the gate.
 #![tactic(auto)]
 
+#[cfg(test)]
+mod counted;
 #[cfg(test)]
 mod marks;
 #[cfg(test)]
