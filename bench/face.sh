@@ -4,7 +4,7 @@
 . "$(dirname "$0")/common.sh"
 times=${1:-4000}
 rounds=${2:-5}
-speed=$(built face_speed)
+speed="$(built speed_session) face"
 
 for size in "24 80" "100 250" "200 500"; do
   # shellcheck disable=SC2086

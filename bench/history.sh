@@ -6,7 +6,7 @@
 megabytes=${1:-1}
 times=${2:-10}
 rounds=${3:-7}
-speed=$(built terminal_speed)
+speed=$(built speed_pane)
 python3 "$here/inputs.py" "$folder" "$megabytes" prose log
 
 # A size, and an input.

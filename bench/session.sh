@@ -5,7 +5,7 @@
 . "$(dirname "$0")/common.sh"
 times=${1:-500}
 rounds=${2:-5}
-speed=$(built session_speed)
+speed="$(built speed_session) session"
 
 printf '%-12s %10s %10s %10s %10s %10s\n' microseconds copy byte 'one pane' 'nine panes' split
 for size in "24 80" "100 250" "200 500"; do

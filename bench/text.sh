@@ -7,7 +7,7 @@ megabytes=${1:-1}
 times=${2:-50}
 rounds=${3:-5}
 table=$(compiled text_table)
-speed=$(built terminal_speed)
+speed=$(built speed_pane)
 python3 "$here/inputs.py" "$folder" "$megabytes" prose colours cursor mixed
 
 both() {

@@ -6,7 +6,7 @@
 . "$(dirname "$0")/common.sh"
 times=${1:-10000}
 rounds=${2:-5}
-speed=$(built turns_speed)
+speed="$(built speed_session) turns"
 
 printf '%14s %14s %14s %14s %14s\n' 'idle server' 'idle client' 'nine busy' 'bytes a turn' 'of a core'
 # shellcheck disable=SC2086

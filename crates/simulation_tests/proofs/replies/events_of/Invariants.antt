@@ -1,7 +1,0 @@
-use Rattle.std.specs.List.{All}
-use Rattle.roam_simulation.specs.Events.{IsHandedIn}
-use Rattle.simulation_tests.proofs.replies.events_of.Given as goal
-
--- the events so far are handed in
-abbrev pub invariant-loop-step : goal.invariant-loop-step
-invariant-loop-step l = All IsHandedIn l.events.items

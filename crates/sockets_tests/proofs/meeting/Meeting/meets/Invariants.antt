@@ -1,5 +1,0 @@
-use Rattle.roam_turns.specs.Painting.{IsBehind}
-use Rattle.sockets_tests.proofs.meeting.Meeting.meets.Given as goal
-
-abbrev pub invariant-loop-turn : goal.invariant-loop-turn
-invariant-loop-turn l = IsBehind l.self.outer l.self.client.receiver.newest.number l.self.client.receiver.newest.state

@@ -1,0 +1,249 @@
+//! How fast the two cores work, and how much memory they keep.
+use crate::words;
+use anyhow::bail;
+use roam_cells::Fault;
+use roam_hub::{Addr, Client, Server};
+use roam_screens::{RowShot, Seen};
+use std::alloc::Global;
+use std::env::Args;
+use std::time::Instant;
+
+const SESSION: u64 = 0x5E55;
+
+/// Where all client starts are.
+const THERE: Addr = Addr {
+    host: [127, 0, 0, 1],
+    port: 5001,
+};
+
+/// What a pane's program writes at first, so many times.
+static TEXT: &[u8] = b"the quick brown fox jumps over the lazy dog and comes back again";
+
+const PIECES: u16 = 500;
+
+/// What it writes for a changed row: the cursor home, and 64 characters.
+static ROWS: [&[u8]; 2] = [
+    b"\x1B[Habcdefghijklmnopqrstuvwxyzabcdefghijklmnopqrstuvwxyzabcdefghijkl",
+    b"\x1B[Hzyxwvutsrqponmlkjihgfedcbazyxwvutsrqponmlkjihgfedcbazyxwvutsrqpo",
+];
+
+/// What it writes for a key: the cursor home, and a character.
+static KEYS: [&[u8]; 2] = [b"\x1B[Ha", b"\x1B[Hb"];
+
+/// What it writes for a scroll: a line feed in the last row, and another line.
+static SCROLLS: [&[u8]; 2] = [
+    b"\x1B[999;1H\r\n$ cargo build",
+    b"\x1B[999;1H\r\n   Compiling roam",
+];
+
+/// What it writes for a redraw: all places at once (DECALN), and none.
+static REDRAWS: [&[u8]; 2] = [b"\x1B#8", b"\x1B[2J"];
+
+/// A server and one client start, at a moment.
+#[derive(Drop)]
+struct Pair {
+    server: Server,
+    client: Client,
+    now: u64,
+}
+
+fn heard(alloc: Global, server: &mut Server, texts: &[Vec<u8>], now: u64) -> Result<(), Fault> {
+    for text in texts {
+        if let Err(stop) = server.datagram(alloc, THERE, text, now) {
+            return Err(stop.fault);
+        }
+    }
+    Ok(())
+}
+
+// A server whose pane was written all over, and that knows so many client starts.
+fn server_of(alloc: Global, rows: u16, cols: u16, starts: u64) -> Result<Server, Fault> {
+    let mut server = Server::new(alloc, SESSION, rows, cols)?;
+    for id in 0..starts {
+        let mut client = Client::new(alloc, SESSION, id)?;
+        heard(alloc, &mut server, &client.tick(alloc, 0)?, 0)?;
+    }
+    for _ in 0..PIECES {
+        server.pane_bytes(1, TEXT)?;
+    }
+    server.tick(alloc, 0)?;
+    Ok(server)
+}
+
+fn pair_of(alloc: Global, rows: u16, cols: u16) -> Result<Pair, Fault> {
+    let mut server = server_of(alloc, rows, cols, 0)?;
+    let mut client = Client::new(alloc, SESSION, 1)?;
+    heard(alloc, &mut server, &client.tick(alloc, 0)?, 0)?;
+    Ok(Pair {
+        server,
+        client,
+        now: 0,
+    })
+}
+
+// Ticks so often at one moment; no input comes.
+fn idle_ticks(alloc: Global, server: &mut Server, times: u32) -> Result<u64, Fault> {
+    let mut sum: u64 = 0;
+    for _ in 0..times {
+        sum = sum.wrapping_add(server.tick(alloc, 20)?.len() as u64);
+    }
+    Ok(sum)
+}
+
+fn copies(alloc: Global, shot: &RowShot, times: u32) -> Result<u64, Fault> {
+    let mut sum: u64 = 0;
+    for _ in 0..times {
+        sum = sum.wrapping_add(u64::from(shot.copy(alloc)?.rows()));
+    }
+    Ok(sum)
+}
+
+// The nanoseconds of a tick after these bytes and of its datagrams at the client start, and the datagrams' bytes. The answer that is owed
+// goes back unmeasured.
+fn round(rt: &HostRuntime, pair: &mut Pair, piece: &[u8]) -> anyhow::Result<(u128, u64)> {
+    let alloc = rt.alloc();
+    pair.server.pane_bytes(1, piece)?;
+    pair.now = pair.now.wrapping_add(120);
+    let mut bytes: u64 = 0;
+    let start = Instant::now(rt)?;
+    for (_, text) in pair.server.tick(alloc, pair.now)?.iter() {
+        pair.client.datagram(alloc, text, pair.now)?;
+        bytes = bytes.wrapping_add(text.len() as u64);
+    }
+    let passed = start.elapsed(rt)?.as_nanos();
+    let later = pair.now.wrapping_add(100);
+    let answers = pair.client.tick(alloc, later)?;
+    heard(alloc, &mut pair.server, &answers, later)?;
+    Ok((passed, bytes))
+}
+
+// So many rounds, with these pieces by turns.
+fn rounds(
+    rt: &HostRuntime,
+    pair: &mut Pair,
+    pieces: &[&[u8]; 2],
+    times: u32,
+) -> anyhow::Result<(u128, u64)> {
+    let mut passed: u128 = 0;
+    let mut bytes: u64 = 0;
+    for k in 0..times {
+        let one = round(rt, pair, pieces[(k % 2) as usize])?;
+        passed = passed.wrapping_add(one.0);
+        bytes = bytes.wrapping_add(one.1);
+    }
+    Ok((passed, bytes))
+}
+
+fn report(rt: &HostRuntime, name: &str, times: u32, passed: u128, sum: u64) -> anyhow::Result<()> {
+    println!(rt; "{name} {times} {passed} {sum}")?;
+    Ok(())
+}
+
+fn measure_idle(
+    rt: &HostRuntime,
+    name: &str,
+    rows: u16,
+    cols: u16,
+    starts: u64,
+    times: u32,
+) -> anyhow::Result<()> {
+    let mut server = server_of(rt.alloc(), rows, cols, starts)?;
+    let start = Instant::now(rt)?;
+    let sum = idle_ticks(rt.alloc(), &mut server, times)?;
+    report(rt, name, times, start.elapsed(rt)?.as_nanos(), sum)
+}
+
+fn measure_copy(rt: &HostRuntime, rows: u16, cols: u16, times: u32) -> anyhow::Result<()> {
+    let server = server_of(rt.alloc(), rows, cols, 0)?;
+    let shot = server.face(rt.alloc())?;
+    let start = Instant::now(rt)?;
+    let sum = copies(rt.alloc(), &shot, times)?;
+    report(rt, "copy", times, start.elapsed(rt)?.as_nanos(), sum)
+}
+
+fn measure_rounds(
+    rt: &HostRuntime,
+    name: &str,
+    rows: u16,
+    cols: u16,
+    pieces: &[&[u8]; 2],
+    times: u32,
+) -> anyhow::Result<()> {
+    let mut pair = pair_of(rt.alloc(), rows, cols)?;
+    // The first round brings the whole screen.
+    rounds(rt, &mut pair, pieces, 2)?;
+    let (passed, bytes) = rounds(rt, &mut pair, pieces, times)?;
+    report(rt, name, times, passed, bytes)
+}
+
+fn measure_all(rt: &HostRuntime, rows: u16, cols: u16, times: u32) -> anyhow::Result<()> {
+    measure_copy(rt, rows, cols, times)?;
+    measure_idle(rt, "idle1", rows, cols, 1, times)?;
+    measure_idle(rt, "idle64", rows, cols, 64, times)?;
+    measure_rounds(rt, "row", rows, cols, &ROWS, times)?;
+    measure_rounds(rt, "scroll", rows, cols, &SCROLLS, times)?;
+    measure_rounds(rt, "redraw", rows, cols, &REDRAWS, times)?;
+    measure_rounds(rt, "echo", rows, cols, &KEYS, times)
+}
+
+// So many client starts, from each of which a datagram came to the server.
+fn starts_of(alloc: Global, server: &mut Server, starts: u64) -> Result<Vec<Client>, Fault> {
+    let mut clients = Vec::new(alloc);
+    for id in 0..starts {
+        let mut client = Client::new(alloc, SESSION, id)?;
+        heard(alloc, server, &client.tick(alloc, 0)?, 0)?;
+        clients.push(client)?;
+    }
+    Ok(clients)
+}
+
+// One more screen is offered; each client start takes what is its own. None is acknowledged.
+fn offer(alloc: Global, server: &mut Server, clients: &mut [Client], k: u64) -> Result<u64, Fault> {
+    server.pane_bytes(1, ROWS[(k % 2) as usize])?;
+    let mut sum: u64 = 0;
+    for (_, text) in server.tick(alloc, k.wrapping_mul(20))?.iter() {
+        for client in clients.iter_mut() {
+            sum = sum.wrapping_add(u64::from(client.datagram(alloc, text, 0).is_ok()));
+        }
+    }
+    Ok(sum)
+}
+
+// Eight screens are kept for each of so many starts, and where these are kept too, each has its eight.
+fn keep(alloc: Global, starts: u64, with_starts: bool) -> Result<u64, Fault> {
+    let mut server = server_of(alloc, 24, 80, 0)?;
+    let mut clients = starts_of(alloc, &mut server, starts)?;
+    if !with_starts {
+        clients.clear();
+    }
+    let mut sum: u64 = 0;
+    for k in 1..8u64 {
+        sum = sum.wrapping_add(offer(alloc, &mut server, &mut clients, k)?);
+    }
+    Ok(sum)
+}
+
+/// Does a round, and keeps some screens.
+pub fn try_once(rt: &HostRuntime) -> anyhow::Result<()> {
+    let mut pair = pair_of(rt.alloc(), 24, 80)?;
+    rounds(rt, &mut pair, &KEYS, 2)?;
+    if keep(rt.alloc(), 2, true)? == 0 {
+        bail!("no screen came");
+    }
+    Ok(())
+}
+
+/// Ticks, and takes rounds, at the size that the words say, so often.
+pub fn measure(rt: &HostRuntime, words: &mut Args) -> anyhow::Result<()> {
+    let rows = words::size(words, "ROWS")?;
+    let cols = words::size(words, "COLS")?;
+    let times = words::number(words, "TIMES")?;
+    measure_all(rt, rows, cols, times)
+}
+
+/// Keeps eight screens for each of so many client starts, which are kept too or not.
+pub fn measure_kept(rt: &HostRuntime, words: &mut Args, with_starts: bool) -> anyhow::Result<()> {
+    let starts = words::number(words, "N")?;
+    keep(rt.alloc(), u64::from(starts), with_starts)?;
+    Ok(())
+}

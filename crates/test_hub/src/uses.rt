@@ -1,0 +1,51 @@
+//! A caller of both cores, as the README of `roam_hub` shows it (`tools/worked_callers`).
+
+// README: begin
+use roam_cells::Fault;
+use roam_hub::{Addr, Client, Server};
+use roam_screens::Seen;
+use std::alloc::Global;
+
+/// What a client start has to send comes to the server, and what the server then has to send comes to the start.
+pub fn exchange(
+    alloc: Global,
+    server: &mut Server,
+    client: &mut Client,
+    now: u64,
+) -> Result<(), Fault> {
+    let from = Addr {
+        host: [127, 0, 0, 1],
+        port: 5001,
+    };
+    for bytes in client.tick(alloc, now)?.iter() {
+        server
+            .datagram(alloc, from, bytes, now)
+            .map_err(|stop| stop.fault)?;
+    }
+    for (_, bytes) in server.tick(alloc, now)?.iter() {
+        client.datagram(alloc, bytes, now)?;
+    }
+    Ok(())
+}
+
+/// Whether a client start shows a letter that a pane's program wrote, as the first screen.
+pub fn is_followed(alloc: Global, server: &mut Server, client: &mut Client) -> Result<bool, Fault> {
+    server.pane_bytes(1, b"a")?;
+    exchange(alloc, server, client, 0)?;
+    let (number, shot) = client.shown();
+    Ok(
+        number == 1
+            && matches!(shot.at(1, 1), Some(cell) if cell.chars().as_slice() == ['a'].as_slice()),
+    )
+}
+// README: end
+
+use std::test::*;
+
+#[test]
+fn a_start_follows_a_server(rt: HostRuntime) -> Result<(), Fail> {
+    let mut server = Server::new(rt.alloc(), 1, 24, 80)?;
+    let mut client = Client::new(rt.alloc(), 1, 0xA1)?;
+    assert!(rt; is_followed(rt.alloc(), &mut server, &mut client)?);
+    Ok(())
+}

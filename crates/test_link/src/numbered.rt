@@ -1,0 +1,71 @@
+//! A state for each number: numbers themselves, and screens of other sizes.
+use crate::counters::Counter;
+use roam_cells::Fault;
+use roam_screens::{RowShot, Seen};
+use roam_sync::Sender;
+use roam_update::Synced;
+use std::alloc::Global;
+use std::test::Fail;
+
+/// A state for each number.
+pub trait Numbered: Synced {
+    fn of(alloc: Global, number: u64) -> Result<Self, Fault>;
+
+    fn is(&self, number: u64) -> bool;
+}
+
+impl Numbered for Counter {
+    fn of(_alloc: Global, number: u64) -> Result<Counter, Fault> {
+        Ok(Counter { value: number })
+    }
+
+    fn is(&self, number: u64) -> bool {
+        self.value == number
+    }
+}
+
+impl Numbered for RowShot {
+    fn of(alloc: Global, number: u64) -> Result<RowShot, Fault> {
+        RowShot::blank(alloc, 2 + (number % 64) as u16, 8)
+    }
+
+    fn is(&self, number: u64) -> bool {
+        u64::from(self.rows()) == 2 + number % 64
+    }
+}
+
+/// A state is offered under its number; no answer but that it wasn't, where the number isn't above all others.
+pub fn offer<S: Numbered>(
+    alloc: Global,
+    sender: &mut Sender<S>,
+    number: u64,
+) -> Result<bool, Fault> {
+    let state = S::of(alloc, number)?;
+    if sender.newest_number() >= number {
+        return Ok(false);
+    }
+    sender.offer(number, state)?;
+    Ok(true)
+}
+
+// What follows a state by changes, whatever state it is.
+fn followed<S: Synced>(alloc: Global, base: &S, state: &S) -> Result<S, Fault> {
+    let mut text = Vec::new(alloc);
+    state.write_change(alloc, base, &mut text)?;
+    let mut copy = base.copy(alloc)?;
+    copy.apply(alloc, &text)?;
+    Ok(copy)
+}
+
+// Whether the state of one number is followed to that of another.
+fn is_followed<S: Numbered>(alloc: Global, low: u64, high: u64) -> Result<bool, Fault> {
+    let copy = followed(alloc, &S::of(alloc, low)?, &S::of(alloc, high)?)?;
+    Ok(copy.is(high))
+}
+
+#[test]
+fn two_kinds_of_states_are_followed(rt: HostRuntime) -> Result<(), Fail> {
+    assert!(rt; is_followed::<Counter>(rt.alloc(), 7, 0xFFFF_FFFF_0000_0001)?);
+    assert!(rt; is_followed::<RowShot>(rt.alloc(), 7, 0xFFFF_FFFF_0000_0001)?);
+    Ok(())
+}

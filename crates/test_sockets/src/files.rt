@@ -1,0 +1,89 @@
+//! What stands in a folder, as text.
+//!
+//! `folder PATH` and `file PATH` make one, `link PATH` one to a socket `p2` beside it, `remove PATH` removes a file; `there PATH` and
+//! `gone PATH` see whether there is one; `bound FOLDER` binds the sockets of a server there, and leaves their files; `refused FOLDER` may
+//! not bind them.
+use roam_faults::RunFault;
+use roam_sockets::{Moments, ServerPorts};
+use std::fs::{create_dir, exists, remove_file, write};
+use std::os::unix::fs::symlink;
+use std::test::*;
+
+/// The ports of a server whose panes are in a folder.
+pub fn ports_in<'a>(
+    rt: &'a HostRuntime,
+    folder: &str,
+) -> Result<ServerPorts<&'a HostRuntime>, RunFault> {
+    ServerPorts::bind(rt, rt.alloc(), folder, 0, Moments::Set(0))
+}
+
+fn is_refused(rt: &HostRuntime, folder: &str) -> bool {
+    match ports_in(rt, folder) {
+        Ok(_) => false,
+        Err(fault) => fault == RunFault::Bind,
+    }
+}
+
+fn is_made(rt: &HostRuntime, what: &str, path: &str) -> Result<bool, Fail> {
+    match what {
+        "folder" => create_dir(rt, path)?,
+        "file" => write(rt, path, b"kept")?,
+        "link" => symlink(rt, "p2", path)?,
+        "remove" => remove_file(rt, path)?,
+        _ => return Ok(false),
+    }
+    Ok(true)
+}
+
+/// Whether files are made, removed or seen so.
+pub fn is_so(rt: &HostRuntime, words: &str) -> Result<bool, Fail> {
+    let Some((what, path)) = words.split_once(' ') else {
+        return Ok(false);
+    };
+    match what {
+        "there" => Ok(exists(rt, path)?),
+        "gone" => Ok(!exists(rt, path)?),
+        "bound" => Ok(ports_in(rt, path).is_ok()),
+        "refused" => Ok(is_refused(rt, path)),
+        _ => is_made(rt, what, path),
+    }
+}
+
+/// The first line of which files aren't made, removed or seen so.
+pub fn first_untrue<'a>(rt: &HostRuntime, lines: &'a str) -> Result<Option<&'a str>, Fail> {
+    for line in lines.lines() {
+        if !is_so(rt, line)? {
+            return Ok(Some(line));
+        }
+    }
+    Ok(None)
+}
+
+/// A plain file, a folder and a link to a socket to which nobody listens: none is removed.
+const OTHERS: &str = "\
+folder others
+file others/p5
+refused others
+there others/p5
+gone others/p1
+remove others/p5
+folder others/p6
+refused others
+folder linked
+bound linked
+remove linked/p1
+link linked/p1
+refused linked
+there linked/p1";
+
+#[test]
+fn no_folder_is_bound(rt: HostRuntime) {
+    assert!(rt; is_refused(&rt, ""));
+}
+
+#[test]
+fn files_that_are_no_sockets_stay(rt: HostRuntime) -> Result<(), Fail> {
+    let wrong = first_untrue(&rt, OTHERS)?;
+    assert!(rt; wrong.is_none(), "{wrong:?}");
+    Ok(())
+}

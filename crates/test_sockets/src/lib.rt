@@ -1,0 +1,19 @@
+//! Tests of the ports over real sockets, of `roam serve` and of `roam attach`, on one machine.
+//!
+//! They lie here and not beside the code, since a crate with tests is proved twice by the gate.
+#![tactic(auto)]
+
+#[cfg(test)]
+mod files;
+#[cfg(test)]
+mod keys;
+#[cfg(test)]
+mod meeting;
+#[cfg(test)]
+mod peers;
+#[cfg(test)]
+mod programs;
+#[cfg(test)]
+mod runs;
+#[cfg(test)]
+mod silence;

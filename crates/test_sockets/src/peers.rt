@@ -1,0 +1,271 @@
+//! The sockets of a server, as text: what its ports and two programs do, and what stands in its folder.
+//!
+//! A line begins with `first` or `second`, one of the programs, with what it does; with `files`, with what is seen of them; with `pane` and
+//! its number: `lives N` or `goes`, `gives TEXT` or `gives nothing`, `takes TEXT` or `takes nothing of TEXT`; with `told`, panes 1 and 2,
+//! each with its life and its rows or `none`, of which a program that follows them is told (pane 2 is in focus where it is there). `files
+//! are removed` by the ports.
+use crate::files::{first_untrue, is_so, ports_in};
+use crate::programs::Programs;
+use roam_places::{Place, Places};
+use roam_sockets::ServerPorts;
+use roam_turns::Ports;
+use std::alloc::Global;
+use std::test::*;
+
+fn lives(ports: &mut ServerPorts<&HostRuntime>, pane: u8, life: &str) -> bool {
+    match life.parse::<u64>() {
+        Ok(life) => {
+            ports.pane_lives(pane, Some(life));
+            true
+        }
+        Err(_) => false,
+    }
+}
+
+fn gives(ports: &mut ServerPorts<&HostRuntime>, pane: u8, text: &str) -> bool {
+    let mut buf = [0u8; 16];
+    match ports.pane_in(pane, &mut buf) {
+        None => text == "nothing",
+        Some(count) => &buf[..count] == text.as_bytes(),
+    }
+}
+
+fn takes(ports: &mut ServerPorts<&HostRuntime>, pane: u8, text: &str) -> bool {
+    match text.strip_prefix("nothing of ") {
+        Some(text) => ports.pane_out(pane, text.as_bytes()) == 0,
+        None => ports.pane_out(pane, text.as_bytes()) == text.len(),
+    }
+}
+
+fn is_pane(ports: &mut ServerPorts<&HostRuntime>, pane: u8, words: &str) -> bool {
+    let (verb, rest) = words.split_once(' ').unwrap_or((words, ""));
+    match verb {
+        "goes" => {
+            ports.pane_lives(pane, None);
+            true
+        }
+        "lives" => lives(ports, pane, rest),
+        "gives" => gives(ports, pane, rest),
+        "takes" => takes(ports, pane, rest),
+        _ => false,
+    }
+}
+
+// A pane by its number.
+fn is_numbered(ports: &mut ServerPorts<&HostRuntime>, words: &str) -> bool {
+    if let Some((number, rest)) = words.split_once(' ')
+        && let Ok(pane) = number.parse::<u8>()
+    {
+        return is_pane(ports, pane, rest);
+    }
+    false
+}
+
+fn place_of(words: &str) -> Option<Option<Place>> {
+    if words == "none" {
+        return Some(None);
+    }
+    let (life, rows) = words.split_once(' ')?;
+    Some(Some(Place {
+        life: life.parse::<u64>().ok()?,
+        rows: rows.parse::<u16>().ok()?,
+        cols: 80,
+    }))
+}
+
+/// Pane 1, and pane 2 where it is there, which is in focus then.
+fn places(first: Option<Place>, second: Option<Place>) -> Places {
+    let mut places = Places::unknown();
+    places.set(1, first);
+    places.set(2, second);
+    places.set_focus(if second.is_some() { 2 } else { 1 });
+    places
+}
+
+fn is_told(alloc: Global, ports: &mut ServerPorts<&HostRuntime>, words: &str) -> bool {
+    if let Some((first, second)) = words.split_once(", ")
+        && let Some(first) = place_of(first)
+        && let Some(second) = place_of(second)
+    {
+        ports.tell_panes(alloc, &places(first, second));
+        return true;
+    }
+    false
+}
+
+fn are_files(
+    rt: &HostRuntime,
+    ports: &mut ServerPorts<&HostRuntime>,
+    words: &str,
+) -> Result<bool, Fail> {
+    if words == "are removed" {
+        ports.remove(rt);
+        return Ok(true);
+    }
+    is_so(rt, words)
+}
+
+fn is_done(
+    rt: &HostRuntime,
+    ports: &mut ServerPorts<&HostRuntime>,
+    programs: &mut Programs,
+    line: &str,
+) -> Result<bool, Fail> {
+    let Some((who, words)) = line.split_once(' ') else {
+        return Ok(false);
+    };
+    match who {
+        "pane" => Ok(is_numbered(ports, words)),
+        "told" => Ok(is_told(rt.alloc(), ports, words)),
+        "files" => are_files(rt, ports, words),
+        _ => programs.does(rt, who, words),
+    }
+}
+
+// The first line that isn't so.
+fn first_undone<'a>(
+    rt: &HostRuntime,
+    ports: &mut ServerPorts<&HostRuntime>,
+    programs: &mut Programs,
+    lines: &'a str,
+) -> Result<Option<&'a str>, Fail> {
+    for line in lines.lines() {
+        if !is_done(rt, ports, programs, line)? {
+            return Ok(Some(line));
+        }
+    }
+    Ok(None)
+}
+
+// The first line that isn't so of the sockets in a folder, which is made ready by the first lines.
+fn first_wrong<'a>(
+    rt: &HostRuntime,
+    folder: &str,
+    ready: &'a str,
+    lines: &'a str,
+) -> Result<Option<&'a str>, Fail> {
+    if let Some(line) = first_untrue(rt, ready)? {
+        return Ok(Some(line));
+    }
+    let mut ports = ports_in(rt, folder)?;
+    let mut programs = Programs::new();
+    first_undone(rt, &mut ports, &mut programs, lines)
+}
+
+/// The program of pane 2: the pane isn't there, and the program is handed nothing; it is there as it was; another of its number is there,
+/// and what the first program wrote is never read.
+const LIVES: &str = "\
+first connects lives/p2
+first writes early
+pane 2 gives nothing
+pane 2 takes nothing of lost
+pane 2 lives 7
+pane 2 gives early
+first writes late
+pane 2 lives 7
+first waits
+pane 2 lives 8
+pane 2 gives nothing
+first is let go
+second connects lives/p2
+second writes anew
+pane 2 gives anew
+pane 2 goes
+second is let go
+files are removed";
+
+#[test]
+fn a_peer_goes_with_its_pane(rt: HostRuntime) -> Result<(), Fail> {
+    let wrong = first_wrong(&rt, "lives", "folder lives", LIVES)?;
+    assert!(rt; wrong.is_none(), "{wrong:?}");
+    Ok(())
+}
+
+/// That the first program left is read before what the second wrote.
+const ONE: &str = "\
+pane 1 lives 1
+first connects one/p1
+second connects one/p1
+second writes second
+pane 1 gives nothing
+first writes first
+pane 1 gives first
+pane 1 takes key
+first reads key
+second waits
+first leaves
+pane 1 gives nothing
+pane 1 gives second
+files are removed";
+
+#[test]
+fn one_peer_at_a_time(rt: HostRuntime) -> Result<(), Fail> {
+    let wrong = first_wrong(&rt, "one", "folder one", ONE)?;
+    assert!(rt; wrong.is_none(), "{wrong:?}");
+    Ok(())
+}
+
+/// Files of a server that is gone, before they are bound again.
+const LEFT: &str = "\
+folder left
+bound left
+there left/p9";
+
+/// These are in use: nothing of theirs is removed.
+const USED: &str = "\
+files refused left
+first connects left/p9
+first waits
+files are removed
+files gone left/p1";
+
+#[test]
+fn files_that_stayed_behind(rt: HostRuntime) -> Result<(), Fail> {
+    let wrong = first_wrong(&rt, "left", LEFT, USED)?;
+    assert!(rt; wrong.is_none(), "{wrong:?}");
+    Ok(())
+}
+
+/// One pane, two, one of them sized, closed and made anew in one turn, closed.
+const FOLLOWED: &str = "\
+first connects follows/panes
+told 1 23, none
+first reads 1 23 80 1/focus 1/
+told 1 23, none
+first waits
+told 1 11, 1 11
+first reads 1 11 80 1/2 11 80 1/focus 2/
+told 1 12, 1 10
+first reads 1 12 80 1/2 10 80 1/
+told 1 12, 2 10
+first reads 2 gone/2 10 80 2/
+told 1 23, none
+first reads 1 23 80 1/2 gone/focus 1/
+files are removed
+files gone follows/panes";
+
+#[test]
+fn a_program_follows_the_panes(rt: HostRuntime) -> Result<(), Fail> {
+    let wrong = first_wrong(&rt, "follows", "folder follows", FOLLOWED)?;
+    assert!(rt; wrong.is_none(), "{wrong:?}");
+    Ok(())
+}
+
+/// A second program waits until the first is gone.
+const FOLLOWERS: &str = "\
+told 1 23, none
+first connects followers/panes
+second connects followers/panes
+told 1 23, none
+first reads 1 23 80 1/focus 1/
+second waits
+first leaves
+told 1 23, none
+second reads 1 23 80 1/focus 1/";
+
+#[test]
+fn one_program_follows_at_a_time(rt: HostRuntime) -> Result<(), Fail> {
+    let wrong = first_wrong(&rt, "followers", "folder followers", FOLLOWERS)?;
+    assert!(rt; wrong.is_none(), "{wrong:?}");
+    Ok(())
+}

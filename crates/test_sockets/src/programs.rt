@@ -1,0 +1,124 @@
+//! What a program does at a socket, as text.
+//!
+//! `connects PATH` and `leaves`; `writes TEXT`; `reads TEXT`, just that, where `/` stands for the end of a line; `waits`: it is neither let
+//! go nor told anything; `is let go`: there is nothing more for it to read, or what it wrote last was never read; `is let go unread`: what
+//! it wrote last was never read.
+use mio::net::UnixStream;
+use std::io::{ErrorKind, Read, Write};
+use std::test::*;
+
+/// Two programs, where they are connected.
+#[derive(Drop)]
+pub struct Programs {
+    first: Option<UnixStream>,
+    second: Option<UnixStream>,
+}
+
+// Whether bytes are this text.
+fn are(bytes: &[u8], text: &str) -> bool {
+    let ends = bytes
+        .iter()
+        .map(|byte| if *byte == b'\n' { b'/' } else { *byte });
+    ends.eq(text.as_bytes().iter().copied())
+}
+
+fn reads(program: &mut UnixStream, text: &str) -> bool {
+    let mut buf = [0u8; 256];
+    match program.read(&mut buf) {
+        Ok(count) => are(&buf[..count], text),
+        Err(_) => false,
+    }
+}
+
+fn waits(program: &mut UnixStream) -> bool {
+    match program.read(&mut [0u8; 16]) {
+        Ok(_) => false,
+        Err(error) => error.kind() == ErrorKind::WouldBlock,
+    }
+}
+
+// A program was let go; where all that it wrote was read, it reads the end.
+fn is_let_go(program: &mut UnixStream, may_be_read: bool) -> bool {
+    match program.read(&mut [0u8; 16]) {
+        Ok(count) => may_be_read && count == 0,
+        Err(error) => error.kind() == ErrorKind::ConnectionReset,
+    }
+}
+
+fn writes(program: &mut UnixStream, text: &str) -> bool {
+    match program.write(text.as_bytes()) {
+        Ok(count) => count == text.len(),
+        Err(_) => false,
+    }
+}
+
+fn writes_or_reads(program: &mut UnixStream, words: &str) -> bool {
+    match words.split_once(' ') {
+        Some((verb, text)) => match verb {
+            "writes" => writes(program, text),
+            "reads" => reads(program, text),
+            _ => false,
+        },
+        None => false,
+    }
+}
+
+// Whether a program that is connected does this.
+fn is_done(program: &mut UnixStream, words: &str) -> bool {
+    match words {
+        "waits" => waits(program),
+        "is let go" => is_let_go(program, true),
+        "is let go unread" => is_let_go(program, false),
+        _ => writes_or_reads(program, words),
+    }
+}
+
+// Whether a program does this.
+fn is_done_by(
+    rt: &HostRuntime,
+    program: &mut Option<UnixStream>,
+    words: &str,
+) -> Result<bool, Fail> {
+    if words == "leaves" {
+        *program = None;
+        return Ok(true);
+    }
+    if let Some(path) = words.strip_prefix("connects ") {
+        *program = Some(UnixStream::connect(rt, path)?);
+        return Ok(true);
+    }
+    match program {
+        Some(program) => Ok(is_done(program, words)),
+        None => Ok(false),
+    }
+}
+
+impl Programs {
+    pub fn new() -> Programs {
+        Programs {
+            first: None,
+            second: None,
+        }
+    }
+
+    /// Whether the first or the second program does this; what neither is named by is not done.
+    pub fn does(&mut self, rt: &HostRuntime, who: &str, words: &str) -> Result<bool, Fail> {
+        match who {
+            "first" => is_done_by(rt, &mut self.first, words),
+            "second" => is_done_by(rt, &mut self.second, words),
+            _ => Ok(false),
+        }
+    }
+
+    /// Whether the first program reads this byte alone.
+    pub fn first_reads(&mut self, byte: u8) -> bool {
+        let mut buf = [0u8; 16];
+        match &mut self.first {
+            Some(program) => match program.read(&mut buf) {
+                Ok(count) => count == 1 && buf[0] == byte,
+                Err(_) => false,
+            },
+            None => false,
+        }
+    }
+}

@@ -1,0 +1,15 @@
+//! Tests of the turns, over ports in memory and the program's own server and client starts.
+//!
+//! They lie here and not beside the code, since a crate with tests is proved twice by the gate.
+#![tactic(auto)]
+
+#[cfg(test)]
+mod failing;
+#[cfg(test)]
+mod refusing;
+#[cfg(test)]
+mod rows;
+#[cfg(test)]
+mod stage;
+#[cfg(test)]
+mod uses;
