@@ -118,7 +118,15 @@ class Stream:
         self.session = None
         self.coming, self.going = bytearray(), bytearray(greeting(session))
         self.sent = self.acknowledged = self.had = self.told = 0
-        self.heard = self.spoke = time.monotonic()
+        self.heard = self.spoke = self.moved = time.monotonic()
+
+    def is_silent(self, seconds):
+        """Whether for so long nothing has come, or nothing of what was sent has arrived: a stream may be stuck in one direction alone."""
+        return time.monotonic() > self.silent_at(seconds)
+
+    def silent_at(self, seconds):
+        """The moment at which it is silent, where nothing changes before."""
+        return seconds + (min(self.heard, self.moved) if self.sent > self.acknowledged else self.heard)
 
     def tell(self, peer, text):
         """Sends a frame."""
@@ -132,6 +140,8 @@ class Stream:
             self.tell(0, COUNT.pack(HAD, self.had))
         while waiting.datagrams and self.session and len(self.going) < TOLD_AFTER and self.sent - self.acknowledged < WINDOW:
             peer, datagram = waiting.take()
+            if self.sent == self.acknowledged:
+                self.moved = time.monotonic()
             self.sent += len(datagram)
             self.tell(peer, datagram)
 
@@ -148,6 +158,11 @@ class Stream:
             self.heard = time.monotonic()
             self.coming += piece
         return list(self._frames()) if self.session or self._greeted() else []
+
+    def _acknowledge(self, count):
+        """So many bytes have arrived."""
+        if count > self.acknowledged:
+            self.acknowledged, self.moved = count, time.monotonic()
 
     def _greeted(self):
         """Whether the greeting has come; what a shell said before it is dropped."""
@@ -173,7 +188,7 @@ class Stream:
                 self.had += length
                 yield peer, text
             elif text[:1] == HAD and len(text) == COUNT.size:
-                self.acknowledged = COUNT.unpack(text)[1]
+                self._acknowledge(COUNT.unpack(text)[1])
             else:
                 yield peer, text
         del self.coming[:begin]
