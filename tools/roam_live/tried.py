@@ -1,6 +1,7 @@
 """What the tools that try other tools share: checks that print a line each, and a pseudo-terminal with a tool on it."""
 import fcntl
 import os
+import pathlib
 import pty
 import subprocess
 import termios
@@ -38,6 +39,11 @@ def comes(test, seconds=WAIT):
 def tool(name, *words):
     """The words of a tool."""
     return [str(TOOLS / name), *words]
+
+
+def children(process):
+    """The processes that a process started."""
+    return [int(word) for word in pathlib.Path(f"/proc/{process}/task/{process}/children").read_text(encoding="utf-8").split()]
 
 
 class Outer:
