@@ -9,6 +9,7 @@ import threading
 import time
 
 from roam_live import terminal
+from roam_live.cells import Cells
 from roam_live.program import TOOLS, program
 
 # So many seconds something has for coming.
@@ -87,6 +88,13 @@ class Outer:
     def rows(self):
         """The rows alone, without their frame."""
         return [line[1:-1] for line in self.screen()[: self.size[0]]]
+
+    def cells(self):
+        """The cells that are shown, with their styles, and the cursor; of a tool that paints as roam does."""
+        begin = self.written.rfind(terminal.CLEARED)
+        shown = Cells()
+        shown.fed(bytes(self.written[max(0, begin) :]).decode("utf-8", "replace"))
+        return shown
 
     def shows(self, text, seconds=WAIT):
         """Whether a text comes to stand somewhere."""
