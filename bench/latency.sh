@@ -1,6 +1,6 @@
 #!/usr/bin/env bash
-# bench/latency.sh [COUNT]: milliseconds from a byte at a pane's socket to the byte at the client's terminal, of roam, and of tmux and
-# mosh where they are there: the median and the 99th of a hundred of COUNT times. It needs rt and python3.
+# bench/latency.sh [COUNT]: milliseconds from bytes that a pane's program writes, and from a key that is typed, to the bytes at the client's
+# terminal, of roam, and of tmux and mosh where they are: the median and the 99th of a hundred of COUNT times. It needs rt and python3.
 set -eu
 here=$(cd "$(dirname "$0")" && pwd)
 make -s -C "$here/.." >&2
