@@ -118,7 +118,7 @@ class Stream:
         self.session = None
         self.coming, self.going = bytearray(), bytearray(greeting(session))
         self.sent = self.acknowledged = self.had = self.told = 0
-        self.heard = self.spoke = self.moved = time.monotonic()
+        self.heard = self.spoke = self.moved = self.told_at = time.monotonic()
 
     def is_silent(self, seconds):
         """Whether for so long nothing has come, or nothing of what was sent has arrived: a stream may be stuck in one direction alone."""
@@ -128,6 +128,10 @@ class Stream:
         """The moment at which it is silent, where nothing changes before."""
         return seconds + (min(self.heard, self.moved) if self.sent > self.acknowledged else self.heard)
 
+    def due_at(self):
+        """The moment at which this end has to say something: that it is there, or that what came has come."""
+        return HEARTBEAT + (min(self.spoke, self.told_at) if self.had > self.told else self.spoke)
+
     def tell(self, peer, text):
         """Sends a frame."""
         self.going += HEADER.pack(len(text), peer) + text
@@ -135,8 +139,8 @@ class Stream:
 
     def fill(self, waiting):
         """Takes datagrams that wait, as many as may be on their way."""
-        if self.had - self.told >= TOLD_AFTER or time.monotonic() >= self.spoke + HEARTBEAT:
-            self.told = self.had
+        if self.had - self.told >= TOLD_AFTER or time.monotonic() >= self.due_at():
+            self.told, self.told_at = self.had, time.monotonic()
             self.tell(0, COUNT.pack(HAD, self.had))
         while waiting.datagrams and self.session and len(self.going) < TOLD_AFTER and self.sent - self.acknowledged < WINDOW:
             peer, datagram = waiting.take()
