@@ -57,10 +57,12 @@ installed = $(DESTDIR)$(PREFIX)
 install: all
 	install -d $(installed)/bin $(installed)/lib/roam/roam_live $(installed)/share/man/man1 $(installed)/share/bash-completion/completions
 	install crates/roam/out/roam $(installed)/bin/roam
-	install tools/attach tools/mux tools/pane_shells tools/picture $(installed)/lib/roam
+	install tools/attach tools/mux tools/pane_shells tools/picture tools/relay $(installed)/lib/roam
 	install -m 644 tools/roam_live/*.py $(installed)/lib/roam/roam_live
 	ln -sf ../lib/roam/mux $(installed)/bin/roam-mux
 	ln -sf ../lib/roam/attach $(installed)/bin/roam-attach
+	ln -sf ../lib/roam/pane_shells $(installed)/bin/roam-pane-shells
+	ln -sf ../lib/roam/relay $(installed)/bin/roam-relay
 	install -m 644 docs/man/*.1 $(installed)/share/man/man1
 	install -m 644 tools/completion.bash $(installed)/share/bash-completion/completions/roam
 

@@ -7,13 +7,13 @@
 . "$(dirname "$0")/common.sh"
 times=${1:-500}
 rounds=${2:-5}
-speed="$(built speed_session) hub"
+speed=$(built speed_session)
 meter=$(compiled show_meter)
 
 printf '%-12s %8s %8s %8s %8s %8s %8s %8s %12s\n' microseconds copy idle '64 idle' row scroll redraw key 'bytes a key'
 for size in "24 80" "100 250" "200 500"; do
   # shellcheck disable=SC2086
-  each_round $speed $size "$times" | awk -v size="$size" "$best"'
+  each_round $speed cores $size "$times" | awk -v size="$size" "$best"'
     { least($1, $3 / $2 / 1000); bytes[$1] = $4 / $2 }
     END { printf "%-12s %8.2f %8.3f %8.3f %8.1f %8.1f %8.1f %8.1f %12.1f\n", by(size), low["copy"], low["idle1"], low["idle64"],
                  low["row"], low["scroll"], low["redraw"], low["echo"], bytes["echo"]

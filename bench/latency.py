@@ -1,28 +1,37 @@
 #!/usr/bin/env python3
-"""bench/latency.py ROAM [COUNT]: milliseconds from bytes that a pane's program writes to the bytes that a client's terminal gets.
+"""bench/latency.py ROAM [COUNT]: milliseconds until a client's terminal gets what it should show, of roam, tmux and mosh.
 
-Each program is measured alone, on this machine: roam with `serve` and `attach` over UDP on loopback and a Unix socket as pane 1, and tmux
-with one client on a pseudo-terminal and a pane that copies a pipe; mosh's server runs the same copy, and its client has such a terminal. COUNT
-times a letter is written in the first place of the screen, after a pause that is drawn between 25 and 60 ms; the median and the 99th of a
-hundred are printed. It needs python3, and tmux and mosh for their rows.
+Two ways are measured, each COUNT times: from bytes that a pane's program writes, and from a key that is typed at the client's terminal,
+through the echo of a shell. roam is `serve` and `attach` over UDP on loopback with a Unix socket as pane 1, and for the keys what tools/mux
+starts; tmux and mosh run a copy of a pipe, and for the keys a shell, and mosh predicts nothing. All run at once and are tried in turn, so
+that what else the machine does meets each alike; a pause between 25 and 60 ms is before each letter. It needs python3, and tmux and mosh
+for their rows; it prints the median, the 99th of a hundred, and both as multiples of tmux's.
 """
+import fcntl
 import os
+import pathlib
 import pty
 import random
 import re
 import select
 import shutil
 import signal
-import socket
 import struct
 import subprocess
 import sys
 import tempfile
 import termios
-import fcntl
+import socket
 import time
+from contextlib import ExitStack, contextmanager
 
 WAIT = 5.0
+TOOLS = pathlib.Path(__file__).resolve().parent.parent / "tools"
+
+# Letters that stand in no control function that is painted, nor in a prompt; after so many the line is erased.
+LETTERS = b"QVWYNOU"
+LINE = 28
+ERASE = b"\x15"
 
 
 def until(source, wanted):
@@ -45,105 +54,151 @@ def drained(source):
         pass
 
 
-def measured(write, source, count):
-    """The times in milliseconds, by rising length."""
+def measured(sides, count, before):
+    """The times of each side in milliseconds, by rising length. Before each letter its side is given some bytes, which a number chooses."""
     random.seed(1)
-    times = []
+    times = {name: [] for name in sides}
     for k in range(count):
-        letter = b"QVWYNOU"[k % 7 : k % 7 + 1]
-        time.sleep(random.uniform(0.025, 0.060))
-        begun = time.perf_counter()
-        write(b"\r" + letter)
-        if not until(source, letter):
-            sys.exit("latency: a letter didn't come")
-        times.append((time.perf_counter() - begun) * 1000)
-    return sorted(times)
+        letter = LETTERS[k % len(LETTERS) : k % len(LETTERS) + 1]
+        for name, (write, source) in sides.items():
+            if k % LINE == 0 and before == ERASE:
+                write(ERASE)
+                drained(source)
+            time.sleep(random.uniform(0.025, 0.060))
+            begun = time.perf_counter()
+            write(letter if before == ERASE else before + letter)
+            if not until(source, letter):
+                sys.exit(f"latency: a letter didn't come: {name}")
+            times[name].append((time.perf_counter() - begun) * 1000)
+    return {name: sorted(found) for name, found in times.items()}
 
 
-def report(name, times):
-    print(f"{name:<6} {times[len(times) // 2]:8.2f} {times[len(times) * 99 // 100]:8.2f}")
+def report(title, times):
+    """Prints the times of all sides."""
+    print(f"{title:<40} {'median':>8} {'99th':>8}   of tmux's")
+    marks = {name: (found[len(found) // 2], found[len(found) * 99 // 100]) for name, found in times.items()}
+    for name, found in marks.items():
+        ratios = "".join(f"{one / other:7.1f}" for one, other in zip(found, marks["tmux"])) if "tmux" in marks else ""
+        print(f"  {name:<38} {found[0]:8.2f} {found[1]:8.2f} {ratios}", flush=True)
 
 
-def roam(program, count):
-    with tempfile.TemporaryDirectory() as folder:
-        port = str(random.Random(os.getpid()).randrange(20000, 60000))
-        keys = os.path.join(folder, "keys")
-        open(keys, "w").close()
-        turns = ["--turns", "1000000000"]
-        server = subprocess.Popen([program, "serve", "--dir", folder, "--port", port, "--session", "5e55"] + turns)
-        client = None
-        try:
-            while not os.path.exists(os.path.join(folder, "p9")):
-                time.sleep(0.01)
-            pane = socket.socket(socket.AF_UNIX, socket.SOCK_STREAM)
-            pane.connect(os.path.join(folder, "p1"))
-            words = ["attach", "--port", port, "--session", "5e55", "--client", "c1", "--keys", keys]
-            client = subprocess.Popen([program] + words + turns, stdout=subprocess.PIPE)
-            drained(client.stdout.fileno())
-            report("roam", measured(pane.sendall, client.stdout.fileno(), count))
-        finally:
-            for process in (client, server):
-                if process:
-                    process.kill()
-                    process.wait()
+@contextmanager
+def running(words, **options):
+    """A process that is ended."""
+    process = subprocess.Popen(words, **options)
+    try:
+        yield process
+    finally:
+        process.kill()
+        process.wait()
 
 
+@contextmanager
 def on_terminal(words, **environment):
-    """The other end of a pseudo-terminal of 24 by 80 on which a program runs, and the program."""
+    """The other end of a pseudo-terminal of 24 by 80 on which a program runs."""
     master, slave = pty.openpty()
     fcntl.ioctl(slave, termios.TIOCSWINSZ, struct.pack("HHHH", 24, 80, 0, 0))
-    known = dict(os.environ, TERM="xterm-256color", LC_ALL="C.UTF-8", **environment)
-    return master, subprocess.Popen(words, stdin=slave, stdout=slave, stderr=slave, env=known, start_new_session=True)
+    known = dict(os.environ, TERM="xterm-256color", LC_ALL="C.UTF-8", PS1="$ ", SHELL="/bin/sh", **environment)
+    with running(words, stdin=slave, stdout=slave, stderr=slave, env=known, start_new_session=True):
+        yield master
 
 
-def copier(folder):
+def piped(folder, name):
     """A pipe, and a shell command that copies it to its terminal."""
-    pipe = os.path.join(folder, "pipe")
+    pipe = os.path.join(folder, name)
     os.mkfifo(pipe)
     return pipe, f"stty raw -echo; exec cat {pipe}"
 
 
-def tmux(count):
-    with tempfile.TemporaryDirectory() as folder:
-        pipe, shell = copier(folder)
-        words = ["tmux", "-S", os.path.join(folder, "socket"), "-f", "/dev/null"]
-        master, process = on_terminal(words + ["new-session", shell])
-        try:
-            writer = os.open(pipe, os.O_WRONLY)
-            drained(master)
-            report("tmux", measured(lambda piece: os.write(writer, piece), master, count))
-        finally:
-            subprocess.run(words + ["kill-server"], stderr=subprocess.DEVNULL)
-            process.wait()
+def writer_of(pipe):
+    """What writes to a pipe."""
+    end = os.open(pipe, os.O_WRONLY)
+    return lambda piece: os.write(end, piece)
 
 
-def mosh(count):
-    with tempfile.TemporaryDirectory() as folder:
-        pipe, shell = copier(folder)
-        port = str(random.Random(os.getpid()).randrange(60001, 60999))
-        words = ["mosh-server", "new", "-i", "127.0.0.1", "-p", port, "--", "sh", "-c", shell]
-        said = subprocess.run(words, env=dict(os.environ, LC_ALL="C.UTF-8"), capture_output=True, text=True)
-        bound, key = re.search(r"MOSH CONNECT (\d+) (\S+)", said.stdout).groups()
-        server = int(re.search(r"pid = (\d+)", said.stderr + said.stdout).group(1))
-        master, process = on_terminal(["mosh-client", "127.0.0.1", bound], MOSH_KEY=key, MOSH_PREDICTION_DISPLAY="never")
-        try:
-            writer = os.open(pipe, os.O_WRONLY)
-            drained(master)
-            report("mosh", measured(lambda piece: os.write(writer, piece), master, count))
-        finally:
-            process.kill()
-            process.wait()
-            os.kill(server, signal.SIGTERM)
+@contextmanager
+def roam_pane(program, folder):
+    """A server with a pane whose program this is, and a client."""
+    port = str(random.Random(os.getpid()).randrange(20000, 60000))
+    keys = os.path.join(folder, "keys")
+    open(keys, "w").close()
+    with running([program, "serve", "--dir", folder, "--port", port, "--session", "5e55"]):
+        while not os.path.exists(os.path.join(folder, "p9")):
+            time.sleep(0.01)
+        pane = socket.socket(socket.AF_UNIX, socket.SOCK_STREAM)
+        pane.connect(os.path.join(folder, "p1"))
+        words = [program, "attach", "--port", port, "--session", "5e55", "--client", "c1", "--keys", keys]
+        with running(words, stdout=subprocess.PIPE) as client:
+            yield pane.sendall, client.stdout.fileno()
+
+
+@contextmanager
+def tmux(folder, shell, socket_name):
+    """The terminal of a client of tmux that runs a shell command."""
+    words = ["tmux", "-S", os.path.join(folder, socket_name), "-f", "/dev/null"]
+    with on_terminal([*words, "new-session", shell]) as master:
+        yield master
+        subprocess.run([*words, "kill-server"], stderr=subprocess.DEVNULL, check=False)
+
+
+@contextmanager
+def mosh(shell, port):
+    """The terminal of a client of mosh whose server runs a shell command."""
+    words = ["mosh-server", "new", "-i", "127.0.0.1", "-p", str(port), "--", "sh", "-c", shell]
+    known = dict(os.environ, LC_ALL="C.UTF-8", PS1="$ ")
+    said = subprocess.run(words, env=known, capture_output=True, text=True, check=True)
+    bound, key = re.search(r"MOSH CONNECT (\d+) (\S+)", said.stdout).groups()
+    server = int(re.search(r"pid = (\d+)", said.stderr + said.stdout).group(1))
+    try:
+        with on_terminal(["mosh-client", "127.0.0.1", bound], MOSH_KEY=key, MOSH_PREDICTION_DISPLAY="never") as master:
+            yield master
+    finally:
+        os.kill(server, signal.SIGTERM)
+
+
+@contextmanager
+def roam_keys(program, folder):
+    """The terminal of a session that tools/mux starts."""
+    known = {"ROAM": program, "XDG_RUNTIME_DIR": folder}
+    with on_terminal([str(TOOLS / "mux"), "measured"], **known) as master:
+        yield master
+        subprocess.run([str(TOOLS / "mux"), "kill", "measured"], env=dict(os.environ, **known), check=False)
+
+
+def pane_sides(stack, program, folder):
+    """How a pane's program writes, and where it is shown."""
+    sides = {"roam": stack.enter_context(roam_pane(program, folder))}
+    if shutil.which("tmux"):
+        pipe, shell = piped(folder, "tmux_pipe")
+        master = stack.enter_context(tmux(folder, shell, "tmux_pane"))
+        sides["tmux"] = (writer_of(pipe), master)
+    if shutil.which("mosh-server"):
+        pipe, shell = piped(folder, "mosh_pipe")
+        master = stack.enter_context(mosh(shell, 60001 + os.getpid() % 400))
+        sides["mosh"] = (writer_of(pipe), master)
+    return sides
+
+
+def key_sides(stack, program, folder):
+    """How a person types, and where it is shown."""
+    masters = {"roam": stack.enter_context(roam_keys(program, folder))}
+    if shutil.which("tmux"):
+        masters["tmux"] = stack.enter_context(tmux(folder, "exec sh", "tmux_keys"))
+    if shutil.which("mosh-server"):
+        masters["mosh"] = stack.enter_context(mosh("exec sh", 60501 + os.getpid() % 400))
+    return {name: (lambda piece, master=master: os.write(master, piece), master) for name, master in masters.items()}
 
 
 def main():
+    program = os.path.abspath(sys.argv[1])
     count = int(sys.argv[2]) if len(sys.argv) > 2 else 1000
-    print(f"{'ms':<6} {'median':>8} {'99th':>8}")
-    roam(os.path.abspath(sys.argv[1]), count)
-    if shutil.which("tmux"):
-        tmux(count)
-    if shutil.which("mosh-server"):
-        mosh(count)
+    for title, sides_of, before in (("ms from a pane's program", pane_sides, b"\r"), ("ms from a key, by a shell's echo", key_sides, ERASE)):
+        with tempfile.TemporaryDirectory() as folder, ExitStack() as stack:
+            sides = sides_of(stack, program, folder)
+            time.sleep(1)
+            for _, source in sides.values():
+                drained(source)
+            report(title, measured(sides, count, before))
 
 
 if __name__ == "__main__":

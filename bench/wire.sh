@@ -7,17 +7,8 @@ times=${1:-200}
 rounds=${2:-5}
 speed="$(built speed_session) wire"
 
-<<<<<<< HEAD
 # shellcheck disable=SC2086
 each_round $speed "$times" | awk "$best"'
   { most($1, $2 * $3 / $4) }
   END { printf "copied %.0f MB/s, carried %.0f MB/s: %.3f of it   at least 0.1\n", high["copy"], high["carry"],
                high["carry"] / high["copy"] }'
-=======
-make -s -C "$here/.." crates/speed_session/out/built >"$folder/build" 2>&1 || { cat "$folder/build" >&2; exit 1; }
-for _ in $(seq "$rounds"); do
-  "$here/../crates/speed_session/out/speed_session" wire "$times"
-done | awk '
-  { now = $2 * $3 / $4; if (now > speed[$1]) speed[$1] = now }
-  END { printf "copied %.0f MB/s, carried %.0f MB/s: %.3f of it   at least 0.1\n", speed["copy"], speed["carry"], speed["carry"] / speed["copy"] }'
->>>>>>> 8b87797870c3cf4edcfa143f60cd134a32fc5b64

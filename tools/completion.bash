@@ -1,4 +1,4 @@
-# Completion of roam, mux and attach for bash: source this file, or put it into a folder of bash-completion.
+# Completion of roam, mux, attach and relay for bash: source this file, or put it into a folder of bash-completion.
 
 _roam_mux_names() {
     local mux=$1
@@ -8,9 +8,10 @@ _roam_mux_names() {
 _roam_mux() {
     local word=${COMP_WORDS[COMP_CWORD]}
     case ${COMP_WORDS[COMP_CWORD - 1]} in
+    ssh) mapfile -t COMPREPLY < <(compgen -A hostname -W "--ssh --far" -- "$word") ;;
     watch | kill) mapfile -t COMPREPLY < <(compgen -W "$(_roam_mux_names "${COMP_WORDS[0]}")" -- "$word") ;;
     mux | roam-mux | */mux | */roam-mux)
-        mapfile -t COMPREPLY < <(compgen -W "ls watch kill --help $(_roam_mux_names "${COMP_WORDS[0]}")" -- "$word")
+        mapfile -t COMPREPLY < <(compgen -W "ls watch kill ssh --help $(_roam_mux_names "${COMP_WORDS[0]}")" -- "$word")
         ;;
     esac
 }
@@ -23,6 +24,15 @@ _roam_attach() {
     esac
 }
 
+_roam_relay() {
+    local word=${COMP_WORDS[COMP_CWORD]}
+    case ${COMP_WORDS[COMP_CWORD - 1]} in
+    --dir) mapfile -t COMPREPLY < <(compgen -d -- "$word") ;;
+    --log) mapfile -t COMPREPLY < <(compgen -f -- "$word") ;;
+    *) mapfile -t COMPREPLY < <(compgen -W "--far --with --log --dir --session --server --help" -- "$word") ;;
+    esac
+}
+
 _roam() {
     local word=${COMP_WORDS[COMP_CWORD]} words
     case ${COMP_WORDS[1]} in
@@ -30,7 +40,7 @@ _roam() {
     attach) words="--port --session --client --keys --acts --wire --watch --turns --help" ;;
     show) words="--rows --cols --help" ;;
     world) words="--help" ;;
-    mux) words="ls watch kill --help" ;;
+    mux) words="ls watch kill ssh --help" ;;
     *) words="mux serve attach show world --help --version" ;;
     esac
     [ "$COMP_CWORD" -gt 1 ] || words="mux serve attach show world --help --version"
@@ -45,3 +55,4 @@ _roam() {
 complete -F _roam roam
 complete -F _roam_mux mux roam-mux
 complete -F _roam_attach attach roam-attach
+complete -F _roam_relay relay roam-relay

@@ -1,11 +1,19 @@
-"""The cells that a painter's text shows: it has CUP, SGR, ED 2, DECTCEM, a reset and characters, and nothing else."""
+"""The cells that a text shows: the painter's, which has CUP, SGR, ED 2, DECTCEM, a reset and characters, or the rows that tmux captures."""
 import re
 import unicodedata
 from typing import NamedTuple
 
 MARKS = re.compile(r"\x1b\[(\d+);(\d+)H|\x1b\[([\d;]*)m|(\x1b\[2J|\x1bc)|\x1b\[\?25([hl])|\x1b\[[0-?]*[@-~]|([^\x1b])")
 
+# The signs for boxes, as a row of tmux has them between these.
+SHIFT_OUT, SHIFT_IN = "\x0e", "\x0f"
+BOXES = dict(zip("jklmnqtuvwxa", "\u2518\u2510\u250c\u2514\u253c\u2500\u251c\u2524\u2534\u252c\u2502\u2592"))
+
 FLAGS = {1: "bold", 2: "faint", 3: "italic", 4: "underline", 5: "blink", 7: "reverse", 8: "conceal", 9: "strike"}
+
+
+# The tens of the numbers that are colours, and the index of the first.
+GROUNDS = {3: ("foreground", 0), 4: ("background", 0), 9: ("foreground", 8), 10: ("background", 8)}
 
 
 class Style(NamedTuple):
@@ -24,6 +32,7 @@ class Cells:
         self.style = Style()
         self.row = self.col = 1
         self.has_cursor = True
+        self.has_boxes = False
 
     def fed(self, text):
         """Goes on with a painter's text."""
@@ -37,8 +46,10 @@ class Cells:
                 self.cells.clear()
             elif cursor:
                 self.has_cursor = cursor == "h"
+            elif letter in (SHIFT_OUT, SHIFT_IN):
+                self.has_boxes = letter == SHIFT_OUT
             elif letter:
-                self.write(letter)
+                self.write(BOXES.get(letter, letter) if self.has_boxes else letter)
 
     def write(self, letter):
         """Writes a character; one without a width joins the one before."""
@@ -52,6 +63,15 @@ class Cells:
             self.cells.pop((self.row, self.col + 1), None)
         self.cells[(self.row, self.col)] = (letter, self.style)
         self.col += width
+
+
+def cells_of_rows(rows):
+    """The cells of rows as tmux captures them, a style of which goes on into the next."""
+    shown = Cells()
+    for row, text in enumerate(rows, 1):
+        shown.row, shown.col = row, 1
+        shown.fed(text)
+    return shown
 
 
 def width_of(letter):
@@ -72,7 +92,20 @@ def styled(style, numbers):
             style = style._replace(flags=style.flags | {FLAGS[number]})
         elif number in (38, 48):
             style = style._replace(**{"foreground" if number == 38 else "background": colour_of(numbers)})
+        else:
+            style = with_short(style, number)
     return style
+
+
+def with_short(style, number):
+    """A style after a number of an SGR that is a colour, the default one or no flag by itself."""
+    tens, digit = divmod(number, 10)
+    if tens in GROUNDS and digit in (*range(8), 9):
+        ground, first = GROUNDS[tens]
+        return style._replace(**{ground: None if digit == 9 else first + digit})
+    if number == 22:
+        return style._replace(flags=style.flags - {"bold", "faint"})
+    return style._replace(flags=style.flags - {FLAGS[digit]}) if tens == 2 and digit in FLAGS else style
 
 
 def colour_of(numbers):

@@ -161,9 +161,15 @@ def distance(place, row, col):
 def write_places(path, places, focus):
     """Writes where the panes are: a line each, in the tree's order, and the focus."""
     lines = [f"{pane} {place.row} {place.col} {place.rows} {place.cols}\n" for pane, place in places.items()]
-    with open(f"{path}.new", "w", encoding="utf-8") as text:
-        text.write("".join(lines) + f"focus {focus}\n")
-    os.replace(f"{path}.new", path)
+    replace_text(path, "".join(lines) + f"focus {focus}\n")
+
+
+def replace_text(path, text):
+    """Gives a file a text; who reads it meanwhile finds the old or the new one whole."""
+    new = f"{path}.{os.getpid()}"
+    with open(new, "w", encoding="utf-8") as file:
+        file.write(text)
+    os.replace(new, path)
 
 
 def read_places(path):

@@ -2,6 +2,7 @@
 import os
 import pathlib
 import secrets
+import signal
 import socket
 import sys
 import tempfile
@@ -95,6 +96,34 @@ def begun(process):
 def is_running(process, moment):
     """Whether a process runs that began at this moment: a number may have been given anew."""
     return moment is not None and begun(process) == moment
+
+
+def opened_process(process):
+    """A process as a file that can be read once it has ended."""
+    try:
+        return os.pidfd_open(process)
+    except OSError as fault:
+        raise Fault("the session has ended") from fault
+
+
+def woken(*signals):
+    """A pipe that tells each of these signals that came, for which nothing else is done."""
+    reader, writer = os.pipe2(os.O_NONBLOCK | os.O_CLOEXEC)
+    for number in signals:
+        signal.signal(number, lambda number, frame: None)
+    signal.set_wakeup_fd(writer, warn_on_full_buffer=False)
+    return reader
+
+
+def noted_client(folder, kind="edits"):
+    """The file by which `tools/mux ls` counts this process as a client; None where no session's folder is named."""
+    if not folder:
+        return None
+    clients = pathlib.Path(folder) / "clients"
+    clients.mkdir(exist_ok=True)
+    path = clients / str(os.getpid())
+    path.write_text(f"{begun(os.getpid())} {kind}\n", encoding="utf-8")
+    return path
 
 
 class Listener:

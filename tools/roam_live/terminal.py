@@ -1,6 +1,7 @@
 """The outer terminal: raw mode, its size, the other screen, and what of the painter's text may reach it."""
 import fcntl
 import os
+import pathlib
 import re
 import struct
 import termios
@@ -18,6 +19,23 @@ CLEARED = b"\x1b[0m\x1b[r\x1b(B\x0f\x1b[4l\x1b[20l\x1b[?5l\x1b[?6l\x1b[?7h\x1b[?
 # Pastes come between brackets, so that what is pasted is never taken for a binding.
 ENTERED = b"\x1b[?1049h\x1b[?2004h" + CLEARED
 LEFT = b"\x1b[?2004l\x1b[0m\x1b[r\x1b(B\x0f\x1b[?25h\x1b[?1049l"
+
+
+# What a pane's terminal is called: its erased cells have the default style, so an entry with `bce` would show wrong colours.
+ENTRIES = ("tmux-256color", "screen-256color", "vt220")
+FOLDERS = ("/etc/terminfo", "/lib/terminfo", "/usr/lib/terminfo", "/usr/share/terminfo", "/usr/local/share/terminfo")
+
+
+def has_entry(name):
+    """Whether this machine's terminfo has an entry."""
+    own = [os.environ[word] for word in ("TERMINFO",) if os.environ.get(word)]
+    folders = [*own, str(pathlib.Path.home() / ".terminfo"), *os.environ.get("TERMINFO_DIRS", "").split(":"), *FOLDERS]
+    return any(os.path.exists(f"{folder}/{part}/{name}") for folder in folders if folder for part in (name[0], f"{ord(name[0]):x}"))
+
+
+def names():
+    """What tells a program which terminal a pane is: the first entry that this machine has."""
+    return {"TERM": next((name for name in ENTRIES if has_entry(name)), ENTRIES[-1]), "COLORTERM": "truecolor"}
 
 
 def without_reset(held, piece):

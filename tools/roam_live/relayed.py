@@ -1,0 +1,198 @@
+"""What the two ends of a relay tell each other over a stream: datagrams, each with the number of the peer that it is from or for.
+
+Each end begins with a greeting, a line that names the session where it is known. Frames follow: the length of what the frame carries, the
+number of the peer, and the datagram. Peer 0 is the other end itself: how many bytes it has had, that the session has ended, or where panes
+are. So many bytes at most are on their way; the rest waits here, where what has grown old can be dropped, and not in the stream.
+"""
+import os
+import re
+import struct
+import time
+from collections import deque
+
+from roam_live.program import Fault, read, write
+
+VERSION = 1
+GREETING = re.compile(rb"(?:^|\n)roam-relay (\d+) ([0-9a-f]{1,16}|-)\r?\n")
+HEADER = struct.Struct(">HH")
+COUNT = struct.Struct(">cQ")
+
+# The kinds of what the ends tell each other.
+HAD, ENDED, PLACES = b"h", b"e", b"p"
+
+# So many bytes at most are on their way, and what came is told after so many.
+WINDOW = 1 << 17
+TOLD_AFTER = 1 << 14
+
+# So many bytes at most wait for the stream: the largest instruction fits.
+WAITING_LIMIT = 1 << 22
+
+# Before its greeting the other end may say so much else: what a shell prints at its start.
+NOISE_LIMIT = 1 << 16
+
+# So many seconds an end says nothing at most.
+HEARTBEAT = 3.0
+
+# A datagram begins with these letters, and names its instruction in these bytes.
+LETTERS = b"RM"
+INSTRUCTION = slice(28, 36)
+
+
+def greeting(session):
+    """The line with which an end begins; the session is `-` where it isn't known."""
+    return f"roam-relay {VERSION} {session}\n".encode()
+
+
+def read_greeting(source):
+    """The session that the other end's greeting names, read byte by byte: what follows is for who reads next."""
+    line = b""
+    while not line.endswith(b"\n") and len(line) < 64:
+        letter = os.read(source, 1)
+        if not letter:
+            raise Fault("the other end has left")
+        line += letter
+    return session_of(GREETING.match(line))
+
+
+def session_of(found):
+    """The session that a greeting names."""
+    if not found:
+        raise Fault("the other end is no relay")
+    if int(found[1]) != VERSION:
+        raise Fault(f"the other end is a relay of version {int(found[1])}, and this one of version {VERSION}")
+    return found[2].decode()
+
+
+def instruction_of(datagram):
+    """What is the same in all fragments of an instruction; nothing for what is no datagram of roam."""
+    return bytes(datagram[INSTRUCTION]) if datagram[:2] == LETTERS else b""
+
+
+class Waiting:
+    """Datagrams that wait for a stream.
+
+    It is as with UDP: some are lost. Of the instructions for one peer the one that has begun to go is kept, and the newest, which tells all
+    that those between told. Where that isn't few enough the oldest datagrams are dropped.
+    """
+
+    def __init__(self):
+        self.datagrams = deque()
+        self.size = 0
+        self.begun, self.newest = {}, {}
+
+    def add(self, peer, datagram):
+        """Adds a datagram at the end."""
+        instruction = instruction_of(datagram)
+        if instruction and instruction != self.newest.get(peer):
+            self.newest[peer] = instruction
+            self._keep(lambda other, one: other != peer or instruction_of(one) in (b"", self.begun.get(peer)))
+        self.datagrams.append((peer, datagram))
+        self.size += len(datagram)
+        while self.size > WAITING_LIMIT:
+            self.size -= len(self.datagrams.popleft()[1])
+
+    def take(self):
+        """The oldest datagram and its peer."""
+        peer, datagram = self.datagrams.popleft()
+        self.size -= len(datagram)
+        self.begun[peer] = instruction_of(datagram)
+        return peer, datagram
+
+    def forget(self, peer):
+        """Drops what waits for a peer."""
+        self._keep(lambda other, _: other != peer)
+        for known in (self.begun, self.newest):
+            known.pop(peer, None)
+
+    def _keep(self, is_kept):
+        """Drops the datagrams for which this doesn't hold."""
+        self.datagrams = deque(entry for entry in self.datagrams if is_kept(*entry))
+        self.size = sum(len(datagram) for _, datagram in self.datagrams)
+
+
+class Stream:
+    """One end of a stream: what came over it, and what goes."""
+
+    def __init__(self, source, target, session):
+        self.source, self.target = source, target
+        self.session = None
+        self.coming, self.going = bytearray(), bytearray(greeting(session))
+        self.sent = self.acknowledged = self.had = self.told = 0
+        self.heard = self.spoke = self.moved = self.told_at = time.monotonic()
+
+    def is_silent(self, seconds):
+        """Whether for so long nothing has come, or nothing of what was sent has arrived: a stream may be stuck in one direction alone."""
+        return time.monotonic() > self.silent_at(seconds)
+
+    def silent_at(self, seconds):
+        """The moment at which it is silent, where nothing changes before."""
+        return seconds + (min(self.heard, self.moved) if self.sent > self.acknowledged else self.heard)
+
+    def due_at(self):
+        """The moment at which this end has to say something: that it is there, or that what came has come."""
+        return HEARTBEAT + (min(self.spoke, self.told_at) if self.had > self.told else self.spoke)
+
+    def tell(self, peer, text):
+        """Sends a frame."""
+        self.going += HEADER.pack(len(text), peer) + text
+        self.spoke = time.monotonic()
+
+    def fill(self, waiting):
+        """Takes datagrams that wait, as many as may be on their way."""
+        if self.had - self.told >= TOLD_AFTER or time.monotonic() >= self.due_at():
+            self.told, self.told_at = self.had, time.monotonic()
+            self.tell(0, COUNT.pack(HAD, self.had))
+        while waiting.datagrams and self.session and len(self.going) < TOLD_AFTER and self.sent - self.acknowledged < WINDOW:
+            peer, datagram = waiting.take()
+            if self.sent == self.acknowledged:
+                self.moved = time.monotonic()
+            self.sent += len(datagram)
+            self.tell(peer, datagram)
+
+    def flush(self):
+        """Writes what is taken; whether the other end is still there."""
+        return write(self.target, self.going)
+
+    def received(self):
+        """The frames that came, each a peer and what it carries; None where the other end is gone."""
+        piece = read(self.source)
+        if piece == b"":
+            return None
+        if piece:
+            self.heard = time.monotonic()
+            self.coming += piece
+        return list(self._frames()) if self.session or self._greeted() else []
+
+    def _acknowledge(self, count):
+        """So many bytes have arrived."""
+        if count > self.acknowledged:
+            self.acknowledged, self.moved = count, time.monotonic()
+
+    def _greeted(self):
+        """Whether the greeting has come; what a shell said before it is dropped."""
+        found = GREETING.search(self.coming)
+        if found:
+            self.session = session_of(found)
+            del self.coming[: found.end()]
+        elif len(self.coming) > NOISE_LIMIT:
+            raise Fault("the other end is no relay")
+        return bool(found)
+
+    def _frames(self):
+        """Takes the whole frames off what came."""
+        begin = 0
+        while begin + HEADER.size <= len(self.coming):
+            length, peer = HEADER.unpack_from(self.coming, begin)
+            end = begin + HEADER.size + length
+            if end > len(self.coming):
+                break
+            text = bytes(self.coming[begin + HEADER.size : end])
+            begin = end
+            if peer:
+                self.had += length
+                yield peer, text
+            elif text[:1] == HAD and len(text) == COUNT.size:
+                self._acknowledge(COUNT.unpack(text)[1])
+            else:
+                yield peer, text
+        del self.coming[:begin]
