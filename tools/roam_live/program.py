@@ -14,6 +14,11 @@ TOOLS = pathlib.Path(__file__).resolve().parent.parent
 PLACES = (TOOLS.parent / "crates/roam/out/roam", TOOLS / "roam", TOOLS.parent / "bin/roam", TOOLS.parent.parent / "bin/roam")
 
 
+# How many seconds a socket that isn't there yet is waited for, and after how many that is said.
+LONGEST_WAIT = 10.0
+SAID_AFTER = 0.5
+
+
 class Fault(Exception):
     """What went wrong, as one line."""
 
@@ -52,9 +57,10 @@ def is_id(word):
     return 1 <= len(word) <= 16 and all(letter in "0123456789abcdefABCDEF" for letter in word)
 
 
-def connected(path, patience=10.0):
+def connected(path):
     """A connection to a Unix socket, which may still have to be made."""
-    end = time.monotonic() + patience
+    begun_at = time.monotonic()
+    has_said = False
     while True:
         peer = socket.socket(socket.AF_UNIX, socket.SOCK_STREAM)
         try:
@@ -64,8 +70,11 @@ def connected(path, patience=10.0):
         except OSError as fault:
             peer.close()
             is_early = isinstance(fault, (FileNotFoundError, ConnectionRefusedError, BlockingIOError))
-            if not is_early or time.monotonic() > end:
+            if not is_early or time.monotonic() > begun_at + LONGEST_WAIT:
                 raise Fault(f"{path}: {fault.strerror or fault}") from fault
+        if not has_said and time.monotonic() > begun_at + SAID_AFTER:
+            has_said = True
+            print(f"{tool_name()}: waiting for {path}", file=sys.stderr)
         time.sleep(0.02)
 
 

@@ -3,6 +3,7 @@ import fcntl
 import os
 import pathlib
 import re
+import signal
 import struct
 import termios
 
@@ -20,6 +21,12 @@ CLEARED = b"\x1b[0m\x1b[r\x1b(B\x0f\x1b[4l\x1b[20l\x1b[?5l\x1b[?6l\x1b[?7h\x1b[?
 ENTERED = b"\x1b[?1049h\x1b[?2004h" + CLEARED
 LEFT = b"\x1b[?2004l\x1b[0m\x1b[r\x1b(B\x0f\x1b[?25h\x1b[?1049l"
 
+
+# The terminal erases characters of UTF-8 and not bytes. Python has no name for it before 3.13.
+IUTF8 = 0o40000
+
+# What a tool may have taken for itself, and a command on its terminal does not inherit.
+SIGNALS = (signal.SIGCHLD, signal.SIGTERM, signal.SIGHUP, signal.SIGINT, signal.SIGPIPE)
 
 # What a pane's terminal is called: its erased cells have the default style, so an entry with `bce` would show wrong colours.
 ENTRIES = ("tmux-256color", "screen-256color", "vt220")
@@ -54,6 +61,21 @@ def size_of(terminal):
 def set_size(terminal, rows, cols):
     """Gives a terminal a size; its programs are told where it is another."""
     fcntl.ioctl(terminal, termios.TIOCSWINSZ, struct.pack("HHHH", rows, cols, 0, 0))
+
+
+def become(command, size, environment):
+    """Becomes a command on standard input, a terminal that has its size before the command asks for it."""
+    set_size(0, *size)
+    modes = termios.tcgetattr(0)
+    modes[0] |= IUTF8
+    termios.tcsetattr(0, termios.TCSANOW, modes)
+    signal.set_wakeup_fd(-1)
+    for number in SIGNALS:
+        signal.signal(number, signal.SIG_DFL)
+    try:
+        os.execvpe(command[0], command, environment)
+    except OSError as fault:
+        os.write(2, f"{command[0]}: {fault.strerror}\n".encode())
 
 
 def is_large_enough(size):
