@@ -26,7 +26,7 @@ use Rattle.roam_world.specs.Texts.{Address, is_to_server, is_watching}
 use Rattle.roam_world.specs.Versions.{is_same_version}
 use Rattle.roam_world.specs.Lists.{put}
 use Rattle.roam_world.specs.Servers.{Record, Server, new_server, moment, after_input}
-use Rattle.roam_world.specs.ServerArrivals.{turned_away, coming, coming_gathered, is_same, is_full_for, is_of_other, is_else, most_of, arrival_with, heard_from, sent_by_tick, new_acts, after_acts, room_for}
+use Rattle.roam_world.specs.ServerArrivals.{turned_away, coming, coming_gathered, is_same, is_full_for, is_of_other, is_else, most_of, arrival_with, heard_from, informed_from, new_acts, after_acts, room_for}
 use Rattle.roam_hub.specs.Clients.{IsTextOf}
 use Rattle.roam_hub.specs.declared.taking.Taking.{Taking}
 use Rattle.roam_hub.specs.Servers.{RecordView, ServerView, kept_of, IsKept, Stands, Feeds, refused, taken, Drains, no_pane, gone, stopped, Comes, no_datagram, fragment, unread, all_taken, no_room, no_memory_at_act, no_memory}
@@ -246,7 +246,7 @@ after_noted v s from bytes d now moment t new state st text admits m unique n = 
     heard g = record { known = refl; kept = λ i. heard_by (fitted (was i) d) d from (at i) g }
 
     informed : (g g' : Gathering) (u : UpValue) (k : ℕ) → g ≡ g'
-        → IsKept (informed_by (fitted n.was d) d from moment g u k) (sent_by_tick (s.records d.client) d from (max now s.clock) g' u k)
+        → IsKept (informed_by (fitted n.was d) d from moment g u k) (informed_from (s.records d.client) d from (max now s.clock) g' u k)
     informed g g' u k e = record { known = refl; kept = λ i. informed_by (fitted (was i) d) d from (at i) (e i) u k }
 
     -- where acts are done
@@ -256,13 +256,13 @@ after_noted v s from bytes d now moment t new state st text admits m unique n = 
           log = s.log ++ log;
           input = s.input || nat_lt 0 k;
           clock = max now s.clock;
-          records = put s.records d.client (sent_by_tick (s.records d.client) d from (max now s.clock) g' u k);
+          records = put s.records d.client (informed_from (s.records d.client) d from (max now s.clock) g' u k);
           arrival = arrival_with s d.client;
         })
     acts g g' u k log e is stands =
-        stands_noted v s d.client moment k log new (sent_by_tick (s.records d.client) d from (max now s.clock) g' u k) state now st
+        stands_noted v s d.client moment k log new (informed_from (s.records d.client) d from (max now s.clock) g' u k) state now st
         (puts_well v s d new n.was n.is _ st unique n.puts
-        (subst (λ (x : RecordView). IsKept x (sent_by_tick (s.records d.client) d from (max now s.clock) g' u k)) (sym is)
+        (subst (λ (x : RecordView). IsKept x (informed_from (s.records d.client) d from (max now s.clock) g' u k)) (sym is)
         (informed g g' u k e)))
         stands m
 

@@ -25,7 +25,7 @@ use Rattle.roam_world.specs.Moments.{is_overdue}
 use Rattle.roam_world.specs.Numbers.{screen, IsScreenOf, acts_of}
 use Rattle.roam_world.specs.Texts.{Address, update_in, datagrams_of, is_to_server, is_watching}
 use Rattle.roam_world.specs.Servers.{Note, Record, no_record, Server}
-use Rattle.roam_world.specs.ServerArrivals.{heard_from, told_by, after_note, new_acts, after_acts}
+use Rattle.roam_world.specs.ServerArrivals.{heard_from, informed_from, after_note, new_acts, after_acts}
 use Rattle.roam_world.specs.Ticks.{makes, cuts_after, number_after, screen_to, is_live, is_offered, holds_after, sends, down_to, fragments_to, after_sent, ticked, datagrams_to, Parcel, parcel, parcels_to, sent_by, is_tick_spent}
 use Rattle.roam_world.specs.Clients.{Client}
 use Rattle.roam_world.specs.Worlds.{World, with_server, after_server_tick}
@@ -206,7 +206,7 @@ keeps-acts w d from now g u n to bears of sent few h =
     more = map (Did d.client) (take n (new_acts w.server d u))
 
     r' : Record
-    r' = told_by (w.server.records d.client) d from now g u n
+    r' = informed_from (w.server.records d.client) d from now g u n
 
     l : Line w d.client (w.server.records d.client) (w.clients d.client)
     l = h.lines d.client

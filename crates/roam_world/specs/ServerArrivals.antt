@@ -90,8 +90,8 @@ heard_from r d from now g =
     }
 
 -- and with an instruction: what it acknowledges goes to the sender, n of its acts are taken, and acts make an answer owed
-abbrev pub told_by : Record → DatagramValue → Address → ℕ → Gathering → UpValue → ℕ → Record
-told_by r d from now g u n =
+abbrev pub informed_from : Record → DatagramValue → Address → ℕ → Gathering → UpValue → ℕ → Record
+informed_from r d from now g u n =
     record (heard_from r d from now g) {
       taken = r.taken + n;
       sender = acked r.sender u.acked;
@@ -130,6 +130,6 @@ after_acts s d from now g u n =
       log = s.log ++ map (Did d.client) (take n (new_acts s d u));
       input = s.input || nat_lt 0 n;
       clock = now;
-      records = put s.records d.client (told_by (s.records d.client) d from now g u n);
+      records = put s.records d.client (informed_from (s.records d.client) d from now g u n);
       arrival = arrival_with s d.client;
     }

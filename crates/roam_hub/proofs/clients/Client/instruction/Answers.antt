@@ -54,7 +54,7 @@ returns-clause-fit c =
     c.waiting-first.ensures.first
     (c.in_ok-from_slice.ensures.items ∙ c.waiting-first.ensures.acts) (c.as_slice.ensures.value ∙ c.in_ok-text.ensures.written) in
     let low : is_spent (c.self.inside.acts.acked + 1) ≡ false =
-    ap is_spent (sym c.waiting-first.ensures.first) ∙ (let f = c.if-first-ge-NUMBERS.false in grind (arith, nat_tests, f)) in
+    ap is_spent (sym c.waiting-first.ensures.first) ∙ (let f = c.if-first-ge-NUMBER_LIMIT.false in grind (arith, nat_tests, f)) in
     subst (λ (v : ClientView). OnOk c.packed.result (is_view_spent v ≡ false)) c.self.view_is
     (subst (λ (t : List ℕ). OnOk c.packed.result ((is_spent (c.self.inside.acts.acked + 1) || is_spent (c.self.inside.instructions + 1)
     || is_spent (c.self.inside.datagrams + length (fragments_of t))) ≡ false)) text
@@ -68,7 +68,7 @@ returns-clause-fault c =
     c.waiting-first.ensures.first
     (c.in_ok-from_slice.ensures.items ∙ c.waiting-first.ensures.acts) (c.as_slice.ensures.value ∙ c.in_ok-text.ensures.written) in
     let low : is_spent (c.self.inside.acts.acked + 1) ≡ false =
-    ap is_spent (sym c.waiting-first.ensures.first) ∙ (let f = c.if-first-ge-NUMBERS.false in grind (arith, nat_tests, f)) in
+    ap is_spent (sym c.waiting-first.ensures.first) ∙ (let f = c.if-first-ge-NUMBER_LIMIT.false in grind (arith, nat_tests, f)) in
     subst (λ (v : ClientView). IfErr c.packed.result (λ fault. (fault ≡ OutOfMemory) ⊎ ((fault ≡ Spent) × (is_view_spent v ≡ true))))
     c.self.view_is
     (subst (λ (t : List ℕ). IfErr c.packed.result (λ fault. (fault ≡ OutOfMemory) ⊎ ((fault ≡ Spent)

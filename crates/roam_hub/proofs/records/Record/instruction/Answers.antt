@@ -48,7 +48,7 @@ returns-clause-fit c =
     (the_down c.in_ok-update.update c.taken-acked.result) c.as_slice.result.now t.old t.new t.floor c.taken-acked.ensures.count t.change
     (c.as_slice.ensures.value ∙ c.in_ok-text.ensures.written) in
     let low : is_spent c.self.inside.taker ≡ false =
-    ap is_spent (sym c.taken-acked.ensures.count) ∙ (let f = c.if-acked-ge-NUMBERS.false in grind (arith, nat_tests, f)) in
+    ap is_spent (sym c.taken-acked.ensures.count) ∙ (let f = c.if-acked-ge-NUMBER_LIMIT.false in grind (arith, nat_tests, f)) in
     subst (λ (v : RecordView). OnOk c.packed.result (is_instruction_spent v ≡ false)) c.self.view_is
     (subst (λ (x : List ℕ). OnOk c.packed.result ((is_spent (c.self.inside.instructions + 1)
     || is_spent (c.self.inside.datagrams + length (fragments_of x)) || is_spent c.self.inside.taker) ≡ false)) text
@@ -63,7 +63,7 @@ returns-clause-fault c =
     (the_down c.in_ok-update.update c.taken-acked.result) c.as_slice.result.now t.old t.new t.floor c.taken-acked.ensures.count t.change
     (c.as_slice.ensures.value ∙ c.in_ok-text.ensures.written) in
     let low : is_spent c.self.inside.taker ≡ false =
-    ap is_spent (sym c.taken-acked.ensures.count) ∙ (let f = c.if-acked-ge-NUMBERS.false in grind (arith, nat_tests, f)) in
+    ap is_spent (sym c.taken-acked.ensures.count) ∙ (let f = c.if-acked-ge-NUMBER_LIMIT.false in grind (arith, nat_tests, f)) in
     subst (λ (v : RecordView). IfErr c.packed.result (λ fault. (fault ≡ OutOfMemory) ⊎ ((fault ≡ Spent) × (is_instruction_spent v ≡ true))))
     c.self.view_is
     (subst (λ (x : List ℕ). IfErr c.packed.result (λ fault. (fault ≡ OutOfMemory) ⊎ ((fault ≡ Spent)
