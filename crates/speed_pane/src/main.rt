@@ -6,9 +6,9 @@
 //! `speed_pane history ROWS COLS LINES FILE TIMES` feeds the file that many times to a terminal of that size that keeps so many lines, and
 //! prints the lines, the bytes of the file, TIMES, the microseconds and the row of the cursor. `speed_pane paint ROWS COLS TIMES` paints a
 //! screen that stays, an echoed key, a scrolled screen and a full one that many times, and compares as many bytes as the cells have; it
-//! prints for each its name, the bytes, TIMES and the microseconds. `speed_pane update ROWS COLS STYLES TIMES` writes and applies changes of
-//! screens in both versions, each that many times, and prints the version, the change, the cells, TIMES, the microseconds of writing and of
-//! applying, and the bytes of the text. Without words it does a moment's work of each, and prints nothing.
+//! prints for each its name, the bytes, TIMES and the microseconds. `speed_pane update ROWS COLS STYLES TIMES` writes and applies changes
+//! of screens in both versions, each that many times, and prints the version, the change, the cells, TIMES, the microseconds of writing and
+//! of applying, and the bytes of the text. Without words it does a moment's work of each, and prints nothing.
 #![tactic(auto)]
 
 mod changes;

@@ -7,10 +7,10 @@
 //! and with 64, and takes as many rounds of a tick and its datagrams at the client start after one changed row, a scroll, a redraw and a
 //! key; `speed_session turns TIMES` takes that many turns of an idle server, of an idle client start and of a server with nine busy panes.
 //! These three print for each its name, TIMES, the nanoseconds that passed and a number that depends on the work: for `echo` and `busy` the
-//! bytes of all datagrams. `speed_session wire TIMES` cuts the largest instruction, writes its datagrams, reads and gathers them, and copies
-//! as many bytes; it prints for each its name, the bytes, TIMES, the microseconds and a number. `speed_session records N` makes a server
-//! that keeps eight screens for each of N client starts, and `speed_session clients N` keeps these starts too, with eight screens each, so
-//! that a caller can see how much memory that takes. Without words it does a moment's work of each, and prints nothing.
+//! bytes of all datagrams. `speed_session wire TIMES` cuts the largest instruction, writes its datagrams, reads and gathers them, and
+//! copies as many bytes; it prints for each its name, the bytes, TIMES, the microseconds and a number. `speed_session records N` makes a
+//! server that keeps eight screens for each of N client starts, and `speed_session clients N` keeps these starts too, with eight screens
+//! each, so that a caller can see how much memory that takes. Without words it does a moment's work of each, and prints nothing.
 #![tactic(auto)]
 
 mod cores;

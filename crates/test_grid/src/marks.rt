@@ -118,8 +118,8 @@ fn holds(alloc: Global, line: &str, turned: usize) -> Result<bool, Fault> {
     Ok(false)
 }
 
-// The first line whose operations mark other rows than it says: on a grid as it is made, and again on ones whose first row is turned, since marks
-// are of rows of the screen.
+// The first line whose operations mark other rows than it says: on a grid as it is made, and again on ones whose first row is turned, since
+// marks are of rows of the screen.
 fn first_wrong<'a>(alloc: Global, lines: &'a str) -> Result<Option<&'a str>, Fault> {
     for line in lines.lines() {
         for turned in 0..3usize {

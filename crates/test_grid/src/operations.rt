@@ -1,7 +1,7 @@
-//! What is done to a grid, as text: operations with `, ` between them, a mnemonic with its numbers behind it (`max` is the largest), rows and
-//! columns from 1. `text` types each character by itself, `run` printable ASCII at once; `bold`, `guard`, `insert` (IRM) and `wraps`
-//! (DECAWM) are `on` or `off`, off but for `wraps` at first; `size` has rows, columns, and how many rows have left at the top; `moves`
-//! are all moves that stay between the margins, `mark` puts all marks on.
+//! What is done to a grid, as text: operations with `, ` between them, a mnemonic with its numbers behind it (`max` is the largest), rows
+//! and columns from 1. `text` types each character by itself, `run` printable ASCII at once; `bold`, `guard`, `insert` (IRM) and `wraps`
+//! (DECAWM) are `on` or `off`, off but for `wraps` at first; `size` has rows, columns, and how many rows have left at the top; `moves` are
+//! all moves that stay between the margins, `mark` puts all marks on.
 //!
 //! It is text, since a table of text is proved at once, whatever its length.
 ghost use Rattle.std.specs.Prelude.{IsTrue};

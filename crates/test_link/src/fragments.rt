@@ -255,8 +255,8 @@ fn long_texts_come_backwards(rt: HostRuntime) -> Result<(), Fail> {
     Ok(())
 }
 
-// Texts by their lengths, and into how many fragments of version 2 they are cut: the instruction of the largest change, with a style a cell at
-// 200 by 500; the longest; and one that is too long.
+// Texts by their lengths, and into how many fragments of version 2 they are cut: the instruction of the largest change, with a style a cell
+// at 200 by 500; the longest; and one that is too long.
 static LENGTHS: [(usize, Option<usize>); 3] = [
     (2_500_056, Some(2084)),
     (4_915_200, Some(4096)),

@@ -1,4 +1,5 @@
-//! Tests of the session, and of a world of server and client starts round it, by their public calls alone; and of calls that take no memory.
+//! Tests of the session, and of a world of server and client starts round it, by their public calls alone; and of calls that take no
+//! memory.
 //!
 //! They lie here and not beside the code, since a crate with tests is proved twice by the gate.
 #![tactic(auto)]
