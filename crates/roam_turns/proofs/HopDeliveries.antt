@@ -73,7 +73,7 @@ after_gathers cuts g p (Some (a, h)) w is = w.0
 
 finish : (cuts : ℕ → List (List ℕ)) (n : ℕ) (g : Gathering) (ps : List FragmentValue) → AllOf cuts n ps → GathersOf cuts g → g.id < n
     → ((i : ℕ) × Comes i ps) → ((i : ℕ) → i < length (cuts n) → Comes i ps)
-    → (all_there (gathered_all g ps).pieces ≡ true) × ((gathered_all g ps).id ≡ n)
+    → (all_there (gathered_all g ps).fragments ≡ true) × ((gathered_all g ps).id ≡ n)
 finish cuts n g [] all of lt some each = absurd some.1
 finish cuts n g (p ∷ ps) all of lt some each = all_gathered_anew cuts n g p ps all of lt each
 
@@ -81,44 +81,44 @@ finish cuts n g (p ∷ ps) all of lt some each = all_gathered_anew cuts n g p ps
 
 module _ (session id n : ℕ) (c : Client) (r : Record) (shot : Screenshot) (ready : IsReady n r c) (is_seen : IsSeenBy r.version shot)
     (down : IsDown (told r n shot)) where
-  -- its number, and its pieces
+  -- its number, and its fragments
   abbrev pub number : ℕ
   number = length r.instructions + 1
 
-  abbrev pub pieces : List (List ℕ)
-  pieces = fragments_of (down_text (told r n shot))
+  abbrev pub fragments : List (List ℕ)
+  fragments = fragments_of (down_text (told r n shot))
 
   abbrev pub cuts : ℕ → List (List ℕ)
-  cuts k = cond (nat_eq k (length r.instructions + 1)) (fragments_of (down_text (told r n shot))) (filled c.gathering.pieces)
+  cuts k = cond (nat_eq k (length r.instructions + 1)) (fragments_of (down_text (told r n shot))) (filled c.gathering.fragments)
 
-  cuts_here : cuts number ≡ pieces
+  cuts_here : cuts number ≡ fragments
   cuts_here =
       let same : nat_eq (length r.instructions + 1) (length r.instructions + 1) ≡ true = grind (arith, nat_tests) in
-      ap (λ (b : Bool). cond b pieces (filled c.gathering.pieces)) same
+      ap (λ (b : Bool). cond b fragments (filled c.gathering.fragments)) same
 
   gathers_first : GathersOf cuts c.gathering
   gathers_first =
       let low = ready.gathered in
       let other : nat_eq c.gathering.id (length r.instructions + 1) ≡ false = grind (arith, nat_tests) in
-      let at : cuts c.gathering.id ≡ filled c.gathering.pieces = ap (λ (b : Bool). cond b pieces (filled c.gathering.pieces)) other in
+      let at : cuts c.gathering.id ≡ filled c.gathering.fragments = ap (λ (b : Bool). cond b fragments (filled c.gathering.fragments)) other in
       record {
-        count = sym (filled_length c.gathering.pieces) ∙ ap length (sym at);
-        there = λ i text e. ap (λ (xs : List (List ℕ)). slice_get xs i) at ∙ filled_there c.gathering.pieces i text e;
+        count = sym (filled_length c.gathering.fragments) ∙ ap length (sym at);
+        there = λ i text e. ap (λ (xs : List (List ℕ)). slice_get xs i) at ∙ filled_there c.gathering.fragments i text e;
       }
 
   -- a datagram of it
   abbrev pub IsMine : DatagramValue → Type 0
   IsMine d = IsOf r.version session id (length r.instructions + 1) (fragments_of (down_text (told r n shot))) d
 
-  piece_of_it : (d : DatagramValue) → IsMine d → IsFragmentOf cuts (fragment_of d)
-  piece_of_it d o =
-      let at : cuts d.id ≡ pieces = ap cuts o.number_is ∙ cuts_here in
+  fragment_of_it : (d : DatagramValue) → IsMine d → IsFragmentOf cuts (fragment_of d)
+  fragment_of_it d o =
+      let at : cuts d.id ≡ fragments = ap cuts o.number_is ∙ cuts_here in
       record { count = o.count_is ∙ ap length (sym at); there = ap (λ (xs : List (List ℕ)). slice_get xs d.index) at ∙ o.there }
 
   -- ---- what a start is before and after it is whole
 
   abbrev is_whole : Gathering → Bool
-  is_whole g = nat_eq g.id (length r.instructions + 1) && all_there g.pieces
+  is_whole g = nat_eq g.id (length r.instructions + 1) && all_there g.fragments
 
   record Early (x : Client) : Type 0 where
     whole : is_whole x.gathering ≡ false
@@ -143,7 +143,7 @@ module _ (session id n : ℕ) (c : Client) (r : Record) (shot : Screenshot) (rea
       → GathersWell cuts old (fragment_of d) x → IsPart x → IsSame old x → Leaves old (after old x) (arriving_gathered x)
   gathered_leaves old d at None g p s = absurd g
   gathered_leaves old d at (Some (Part, h)) g p s =
-      (refl, (λ e. and_false (nat_eq h.id (length r.instructions + 1)) (all_there h.pieces) p))
+      (refl, (λ e. and_false (nat_eq h.id (length r.instructions + 1)) (all_there h.fragments) p))
   gathered_leaves old d at (Some (Old, h)) g p s = (refl, (λ e. ap is_whole s ∙ e))
   gathered_leaves old d at (Some (Whole text, h)) g p s =
       (refl, g.2 ∙ (ap (λ (k : ℕ). joined (cuts k)) at ∙ (ap joined cuts_here ∙ joined-fragments (down_text (told r n shot)))))
@@ -172,7 +172,7 @@ module _ (session id n : ℕ) (c : Client) (r : Record) (shot : Screenshot) (rea
       go false z true y true w true q =
           let part = is_part x.gathering (fragment_of d) in
           gathered_leaves x.gathering d is.number_is (gather x.gathering (fragment_of d))
-          (well cuts x.gathering (fragment_of d) k.of (piece_of_it d is)) part.0 part.1
+          (well cuts x.gathering (fragment_of d) k.of (fragment_of_it d is)) part.0 part.1
 
   -- ---- the update is taken
 
@@ -224,7 +224,7 @@ module _ (session id n : ℕ) (c : Client) (r : Record) (shot : Screenshot) (rea
     where
       then_of : GathersOf cuts (after x.gathering (gather x.gathering (fragment_of d)))
       then_of = after_gathers cuts x.gathering (fragment_of d) (gather x.gathering (fragment_of d))
-          (well cuts x.gathering (fragment_of d) k.of (piece_of_it d mine)) k.of
+          (well cuts x.gathering (fragment_of d) k.of (fragment_of_it d mine)) k.of
 
       leaves : (d' : DatagramValue) (a : Arriving) → IsTextOf bytes d' → arriving session id x d' ≡ a
           → Leaves x.gathering (after x.gathering (gather x.gathering (fragment_of d))) a
@@ -355,7 +355,7 @@ module _ (session id n : ℕ) (c : Client) (r : Record) (shot : Screenshot) (rea
         stands = rest.stands;
         keeps = rest.keeps;
         ps = fragment_of d ∷ rest.ps;
-        all = (good.2.number_is, piece_of_it d good.2, rest.all);
+        all = (good.2.number_is, fragment_of_it d good.2, rest.all);
         gathering = rest.gathering ∙ ap (λ (g : Gathering). gathered_all g rest.ps) one.gathering;
         comes = λ bytes' now' answer' d' i is e. elim i [
           | inl same ↦ (
@@ -369,8 +369,8 @@ module _ (session id n : ℕ) (c : Client) (r : Record) (shot : Screenshot) (rea
 
   -- each fragment comes: the start shows the number and the screen
   pub all_come : (old : ClientView) (calls : List ClientCall) (view : ClientView) → Stands old session id c
-      → ((call : ClientCall) → IsIn call calls → IsGood call) → RunOf client_step old calls view → 0 < length pieces
-      → ((i : ℕ) → i < length pieces → (d : DatagramValue) × IsDatagram d × (d.index ≡ i)
+      → ((call : ClientCall) → IsIn call calls → IsGood call) → RunOf client_step old calls view → 0 < length fragments
+      → ((i : ℕ) → i < length fragments → (d : DatagramValue) × IsDatagram d × (d.index ≡ i)
       × (now : ℕ) × (answer : Result Heard Fault) × IsIn (ToClient (datagram_text d) now answer) calls)
       → (view.receiver.newest.number ≡ n) × (view.receiver.newest.state ≡ shot)
   all_come old calls view st each run some all = go went.keeps.shows
@@ -385,7 +385,7 @@ module _ (session id n : ℕ) (c : Client) (r : Record) (shot : Screenshot) (rea
             of = gathers_first;
             shows = inl (record {
               whole = let other : nat_eq c.gathering.id (length r.instructions + 1) ≡ false = grind (arith, nat_tests, low) in
-                  ap (λ (b : Bool). b && all_there c.gathering.pieces) other;
+                  ap (λ (b : Bool). b && all_there c.gathering.fragments) other;
               receiver = refl;
             });
           }
@@ -393,12 +393,12 @@ module _ (session id n : ℕ) (c : Client) (r : Record) (shot : Screenshot) (rea
       went : Went c calls view
       went = goes old c calls view st first each run
 
-      comes : (i : ℕ) → i < length pieces → Comes i went.ps
+      comes : (i : ℕ) → i < length fragments → Comes i went.ps
       comes i lt =
           let d = all i lt in
           subst (λ (j : ℕ). Comes j went.ps) d.2 (went.comes (datagram_text d.0) d.3 d.4 d.0 d.5 d.1 refl)
 
-      is_all : (all_there (gathered_all c.gathering went.ps).pieces ≡ true) × ((gathered_all c.gathering went.ps).id ≡ number)
+      is_all : (all_there (gathered_all c.gathering went.ps).fragments ≡ true) × ((gathered_all c.gathering went.ps).id ≡ number)
       is_all =
           finish cuts number c.gathering went.ps went.all gathers_first low (0, comes 0 some)
           (λ i lt. comes i (subst (λ (xs : List (List ℕ)). i < length xs) cuts_here lt))
@@ -407,7 +407,7 @@ module _ (session id n : ℕ) (c : Client) (r : Record) (shot : Screenshot) (rea
       whole_then =
           let same : nat_eq (gathered_all c.gathering went.ps).id (length r.instructions + 1) ≡ true =
           let e = is_all.1 in grind (arith, nat_tests) in
-          ap is_whole went.gathering ∙ (ap (λ (b : Bool). b && all_there (gathered_all c.gathering went.ps).pieces) same ∙ is_all.0)
+          ap is_whole went.gathering ∙ (ap (λ (b : Bool). b && all_there (gathered_all c.gathering went.ps).fragments) same ∙ is_all.0)
 
       go : Early went.start ⊎ Late went.start → (view.receiver.newest.number ≡ n) × (view.receiver.newest.state ≡ shot)
       go (inl early) = absurd (let no : true ≡ false = sym whole_then ∙ early.whole in cc)

@@ -242,29 +242,29 @@ module _ (r : Record) (n : ℕ) (shot : Screenshot) (now : ℕ) (e : is_offered 
 -- ---- the datagrams of an instruction
 
 -- one of them
-pub record IsOf (version : Version) (session id number : ℕ) (pieces : List (List ℕ)) (d : DatagramValue) : Type 0 where
+pub record IsOf (version : Version) (session id number : ℕ) (fragments : List (List ℕ)) (d : DatagramValue) : Type 0 where
   pub version_is : d.version ≡ version
   pub kind_is : d.kind ≡ ToClient
   pub session_is : d.session ≡ session
   pub client_is : d.client ≡ id
   pub number_is : d.id ≡ number
-  pub count_is : d.count ≡ length pieces
-  pub there : slice_get pieces d.index ≡ Some d.payload
+  pub count_is : d.count ≡ length fragments
+  pub there : slice_get fragments d.index ≡ Some d.payload
 
-pub is_of : (version : Version) (session id before number : ℕ) (pieces : List (List ℕ)) (d : DatagramValue)
-    → IsIn d (datagrams_of version ToClient session id before number pieces) → IsOf version session id number pieces d
-is_of version session id before number pieces d i =
-    let m = IsIn-map (datagram_with version ToClient session id before number (length pieces)) d (enumerate_from 0 pieces) i in
-    let n = IsIn-enumerate 0 pieces m.0 m.1 in
+pub is_of : (version : Version) (session id before number : ℕ) (fragments : List (List ℕ)) (d : DatagramValue)
+    → IsIn d (datagrams_of version ToClient session id before number fragments) → IsOf version session id number fragments d
+is_of version session id before number fragments d i =
+    let m = IsIn-map (datagram_with version ToClient session id before number (length fragments)) d (enumerate_from 0 fragments) i in
+    let n = IsIn-enumerate 0 fragments m.0 m.1 in
     let at : m.0.0 ≡ n.0 = n.1 ∙ (let z : 0 + n.0 ≡ n.0 = omega arith in z) in
-    subst (IsOf version session id number pieces) m.2 (record {
+    subst (IsOf version session id number fragments) m.2 (record {
       version_is = refl;
       kind_is = refl;
       session_is = refl;
       client_is = refl;
       number_is = refl;
       count_is = refl;
-      there = ap (slice_get pieces) at ∙ n.2;
+      there = ap (slice_get fragments) at ∙ n.2;
     })
 
 -- each has a text, where the numbers are within their limits
