@@ -110,10 +110,10 @@ pub data Types (session id : ℕ) (c : ClientOf) (act : Act) (result : Result (U
       → Stands new session id (after_typed c act) → Types session id c act result new
   no_memory : result ≡ Err OutOfMemory → Stands new session id c → Types session id c act result new
 
--- an instruction's text was read and delivered to a receiver of a version: what it made of it, whether its new number is above its old one, and
--- the acts then
-pub record Delivered (version : Version) (text : List ℕ) (old : Typing) (r : Receiving Screenshot) (answer : Step) (owes : Bool) (new : Typing)
-    (r' : Receiving Screenshot) : Type 0 where
+-- an instruction's text was read and delivered to a receiver of a version: what it made of it, whether its new number is above its old
+-- one, and the acts then
+pub record Delivered (version : Version) (text : List ℕ) (old : Typing) (r : Receiving Screenshot) (answer : Step) (owes : Bool)
+    (new : Typing) (r' : Receiving Screenshot) : Type 0 where
   pub value : DownValue
   pub says : SaysDown text value
   pub delivers : Delivers (applied_by version) r (update_in value) r'

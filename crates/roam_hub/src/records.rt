@@ -226,8 +226,8 @@ impl Record {
     }
 
     /// Takes a datagram that came from an address at a moment, and does the new acts of an instruction that it makes whole. Refuses one of
-    /// another version, then one of another kind, then a fragment or an instruction that is none, and want of memory before an act; then the
-    /// record and the session are as before.
+    /// another version, then one of another kind, then a fragment or an instruction that is none, and want of memory before an act; then
+    /// the record and the session are as before.
     pub fn hear(
         &mut self,
         alloc: Global,

@@ -32,4 +32,5 @@ output_line (b ∷ bs) = codes "output " ++ encode_lower (b ∷ bs) ++ 10 ∷ []
 
 -- the text for the bytes of a pane, on a terminal of this size with all lines of history, not scrolled back
 unfoldable pub show_text : ℕ → ℕ → List ℕ → List ℕ
-show_text rows cols log = screen_text (picture rows cols pane_lines (map Byte log) 0) ++ output_line (reports rows cols pane_lines (map Byte log))
+show_text rows cols log =
+    screen_text (picture rows cols pane_lines (map Byte log) 0) ++ output_line (reports rows cols pane_lines (map Byte log))

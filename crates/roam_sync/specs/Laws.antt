@@ -35,7 +35,8 @@ pub data Event : Type 0 where
 -- what an event makes of a line, where `states` are the true states of the numbers
 abbrev pub Follows : {S : Type 0} → (S → List ℕ → Option S) → (ℕ → S) → Line S → Event → Line S → Type 0
 Follows applied states line (Offer n) after =
-    ((newest line.sender).number < n) × (count line.sender < most_held) × (after ≡ record line { sender = offered line.sender n (states n) })
+    ((newest line.sender).number < n) × (count line.sender < most_held)
+    × (after ≡ record line { sender = offered line.sender n (states n) })
 Follows applied states line (Send now change) after =
     IsChange applied line.sender change
     × (after ≡ record line { sender = sent_at line.sender now; updates = line.updates ++ update_of line.sender change ∷ [] })

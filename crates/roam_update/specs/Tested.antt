@@ -47,4 +47,5 @@ is_screenshot s =
 -- whether it is a screen of version 1
 abbrev pub is_old_screenshot : Screenshot → Bool
 is_old_screenshot s =
-    is_screenshot s && (nat_le s.rows most_old_rows && (nat_le s.cols most_old_columns && list_all (λ (g : Glyph). is_plain_style g.style) s.cells))
+    is_screenshot s
+    && (nat_le s.rows most_old_rows && (nat_le s.cols most_old_columns && list_all (λ (g : Glyph). is_plain_style g.style) s.cells))

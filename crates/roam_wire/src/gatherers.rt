@@ -118,9 +118,10 @@ impl Gatherer {
         }
     }
 
-    /// Takes the fragment that a datagram carries. In this order: `Old` for an id below the current one and for a current one that is whole;
-    /// `BadDatagram(Fragment)` for an index that isn't below its count; a higher id begins anew; `BadDatagram(Fragment)` for another count
-    /// under the current id; `Old` for a fragment that is there. `OutOfMemory` comes after these. A refusal leaves the gatherer as it was.
+    /// Takes the fragment that a datagram carries. In this order: `Old` for an id below the current one, and for a current one that is
+    /// whole; `BadDatagram(Fragment)` for an index that isn't below its count; a higher id begins anew; `BadDatagram(Fragment)` for
+    /// another count under the current id; `Old` for a fragment that is there. `OutOfMemory` comes after these. A refusal leaves the
+    /// gatherer as it was.
     pub fn take(&mut self, alloc: Global, datagram: &Datagram) -> Result<Gathered, Fault>
         ensures answer { IfOk result (λ a. gather self.old.current (fragment_of (datagram_value datagram.now))
             ≡ Some (answer_of a, self.new.current)) }

@@ -26,8 +26,8 @@ pub fn fragments_join()
     ensures joined { (text : List ℕ) → joined (fragments_of text) ≡ text }
 {}
 
-/// What a gatherer holds was cut under one id, whichever fragments arrive, how often and in which order; no fragment that was cut is refused,
-/// and what comes whole under an id is what was cut under it. `cuts` gives the fragments of each id; ids begin at 1.
+/// What a gatherer holds was cut under one id, whichever fragments arrive, how often and in which order; no fragment that was cut is
+/// refused, and what comes whole under an id is what was cut under it. `cuts` gives the fragments of each id; ids begin at 1.
 pub fn whole_is_what_was_cut()
     ensures nothing { (cuts : ℕ → List (List ℕ)) → cuts 0 ≡ [] → GathersOf cuts nothing }
     ensures whole { (cuts : ℕ → List (List ℕ)) (g : Gathering) (p : FragmentValue) → GathersOf cuts g → IsFragmentOf cuts p
@@ -38,6 +38,6 @@ pub fn whole_is_what_was_cut()
 /// an id comes and no higher id came before, with what was cut under it; `Old` to what changes nothing; else `Part`. `ps` are the
 /// fragments before `p`, the latest first. Fragments of other ids never enter. `cuts` gives the fragments of each id; ids begin at 1.
 pub fn any_order_gathers()
-    ensures answers { (cuts : ℕ → List (List ℕ)) → cuts 0 ≡ [] → (p : FragmentValue) (ps : List FragmentValue) → AreFragmentsOf cuts (p ∷ ps)
-        → gather (gathered_of ps) p ≡ Some (answer_to cuts ps p, gathered_of (p ∷ ps)) }
+    ensures answers { (cuts : ℕ → List (List ℕ)) → cuts 0 ≡ [] → (p : FragmentValue) (ps : List FragmentValue)
+        → AreFragmentsOf cuts (p ∷ ps) → gather (gathered_of ps) p ≡ Some (answer_to cuts ps p, gathered_of (p ∷ ps)) }
 {}

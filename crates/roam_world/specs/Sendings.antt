@@ -22,8 +22,8 @@ last_waiting c = c.acts.acked + length (waiting c)
 abbrev pub is_unacknowledged : Client → Bool
 is_unacknowledged c = nat_lt 0 (length c.acts.acts)
 
--- Nothing was ever sent; or one of the acts to send never was; or an act isn't acknowledged and it is time to send it again; or an answer is
--- overdue; or a heartbeat is.
+-- Nothing was ever sent; or one of the acts to send never was; or an act isn't acknowledged and it is time to send it again; or an answer
+-- is overdue; or a heartbeat is.
 abbrev pub is_due_since : Client → Option ℕ → ℕ → Bool
 is_due_since c None now = true
 is_due_since c (Some since) now =
@@ -48,7 +48,8 @@ datagrams_from session id c =
 
 -- a number that it needs would be past the last: that of its first act, of the instruction, of a datagram
 abbrev pub is_client_spent : Client → Bool
-is_client_spent c = is_spent (c.acts.acked + 1) || is_spent (length c.instructions + 1) || is_spent (c.datagrams + length (fragments_from c))
+is_client_spent c =
+    is_spent (c.acts.acked + 1) || is_spent (length c.instructions + 1) || is_spent (c.datagrams + length (fragments_from c))
 
 -- after a tick that sends
 abbrev pub after_sending : Client → ℕ → Client

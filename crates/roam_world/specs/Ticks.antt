@@ -84,7 +84,8 @@ ticked r n s now = if sends r n s now then after_sent r n s now else record r { 
 -- the datagrams to the record of a client start
 abbrev pub datagrams_to : ℕ → ℕ → Record → ℕ → Screenshot → ℕ → List DatagramValue
 datagrams_to session id r n s now =
-    if sends r n s now then datagrams_of r.version ToClient session id r.datagrams (length r.instructions + 1) (fragments_to r n s now) else []
+    if sends r n s now then datagrams_of r.version ToClient session id r.datagrams (length r.instructions + 1) (fragments_to r n s now)
+    else []
 
 -- a number that sending to it needs would be past the last
 abbrev pub is_record_spent : Record → ℕ → Screenshot → ℕ → Bool
