@@ -56,24 +56,41 @@ fn heard(alloc: Global, server: &mut Server, texts: &[Vec<u8>], now: u64) -> Res
     Ok(())
 }
 
-// A server whose pane was written all over, and that knows so many client starts.
-fn server_of(alloc: Global, rows: u16, cols: u16, starts: u64) -> Result<Server, Fault> {
-    let mut server = Server::new(alloc, SESSION, rows, cols)?;
+fn greet(alloc: Global, server: &mut Server, client: &mut Client) -> Result<(), Fault> {
+    let texts = client.tick(alloc, 0)?;
+    heard(alloc, server, &texts, 0)
+}
+
+// A client start whose first datagram came to the server.
+fn greeted(alloc: Global, server: &mut Server, id: u64) -> Result<Client, Fault> {
+    let mut client = Client::new(alloc, SESSION, id)?;
+    greet(alloc, server, &mut client)?;
+    Ok(client)
+}
+
+// So many client starts are known, and the pane is written all over.
+fn fill(alloc: Global, server: &mut Server, starts: u64) -> Result<(), Fault> {
     for id in 0..starts {
-        let mut client = Client::new(alloc, SESSION, id)?;
-        heard(alloc, &mut server, &client.tick(alloc, 0)?, 0)?;
+        greeted(alloc, server, id)?;
     }
     for _ in 0..PIECES {
         server.pane_bytes(1, TEXT)?;
     }
     server.tick(alloc, 0)?;
+    Ok(())
+}
+
+// A server whose pane was written all over, and that knows so many client starts. What owns one does nothing else, since each way out of
+// it is proved with all that is dropped there.
+fn server_of(alloc: Global, rows: u16, cols: u16, starts: u64) -> Result<Server, Fault> {
+    let mut server = Server::new(alloc, SESSION, rows, cols)?;
+    fill(alloc, &mut server, starts)?;
     Ok(server)
 }
 
 fn pair_of(alloc: Global, rows: u16, cols: u16) -> Result<Pair, Fault> {
     let mut server = server_of(alloc, rows, cols, 0)?;
-    let mut client = Client::new(alloc, SESSION, 1)?;
-    heard(alloc, &mut server, &client.tick(alloc, 0)?, 0)?;
+    let client = greeted(alloc, &mut server, 1)?;
     Ok(Pair {
         server,
         client,
@@ -139,6 +156,12 @@ fn report(rt: &HostRuntime, name: &str, times: u32, passed: u128, sum: u64) -> a
     Ok(())
 }
 
+fn time_idle(rt: &HostRuntime, name: &str, server: &mut Server, times: u32) -> anyhow::Result<()> {
+    let start = Instant::now(rt)?;
+    let sum = idle_ticks(rt.alloc(), server, times)?;
+    report(rt, name, times, start.elapsed(rt)?.as_nanos(), sum)
+}
+
 fn measure_idle(
     rt: &HostRuntime,
     name: &str,
@@ -148,17 +171,36 @@ fn measure_idle(
     times: u32,
 ) -> anyhow::Result<()> {
     let mut server = server_of(rt.alloc(), rows, cols, starts)?;
+    time_idle(rt, name, &mut server, times)
+}
+
+fn time_copies(rt: &HostRuntime, shot: &RowShot, times: u32) -> anyhow::Result<()> {
     let start = Instant::now(rt)?;
-    let sum = idle_ticks(rt.alloc(), &mut server, times)?;
-    report(rt, name, times, start.elapsed(rt)?.as_nanos(), sum)
+    let sum = copies(rt.alloc(), shot, times)?;
+    report(rt, "copy", times, start.elapsed(rt)?.as_nanos(), sum)
+}
+
+fn face_of(alloc: Global, rows: u16, cols: u16) -> Result<RowShot, Fault> {
+    let server = server_of(alloc, rows, cols, 0)?;
+    server.face(alloc)
 }
 
 fn measure_copy(rt: &HostRuntime, rows: u16, cols: u16, times: u32) -> anyhow::Result<()> {
-    let server = server_of(rt.alloc(), rows, cols, 0)?;
-    let shot = server.face(rt.alloc())?;
-    let start = Instant::now(rt)?;
-    let sum = copies(rt.alloc(), &shot, times)?;
-    report(rt, "copy", times, start.elapsed(rt)?.as_nanos(), sum)
+    let shot = face_of(rt.alloc(), rows, cols)?;
+    time_copies(rt, &shot, times)
+}
+
+fn time_rounds(
+    rt: &HostRuntime,
+    name: &str,
+    pair: &mut Pair,
+    pieces: &[&[u8]; 2],
+    times: u32,
+) -> anyhow::Result<()> {
+    // The first round brings the whole screen.
+    rounds(rt, pair, pieces, 2)?;
+    let (passed, bytes) = rounds(rt, pair, pieces, times)?;
+    report(rt, name, times, passed, bytes)
 }
 
 fn measure_rounds(
@@ -170,10 +212,7 @@ fn measure_rounds(
     times: u32,
 ) -> anyhow::Result<()> {
     let mut pair = pair_of(rt.alloc(), rows, cols)?;
-    // The first round brings the whole screen.
-    rounds(rt, &mut pair, pieces, 2)?;
-    let (passed, bytes) = rounds(rt, &mut pair, pieces, times)?;
-    report(rt, name, times, passed, bytes)
+    time_rounds(rt, name, &mut pair, pieces, times)
 }
 
 fn measure_all(rt: &HostRuntime, rows: u16, cols: u16, times: u32) -> anyhow::Result<()> {
@@ -190,9 +229,7 @@ fn measure_all(rt: &HostRuntime, rows: u16, cols: u16, times: u32) -> anyhow::Re
 fn starts_of(alloc: Global, server: &mut Server, starts: u64) -> Result<Vec<Client>, Fault> {
     let mut clients = Vec::new(alloc);
     for id in 0..starts {
-        let mut client = Client::new(alloc, SESSION, id)?;
-        heard(alloc, server, &client.tick(alloc, 0)?, 0)?;
-        clients.push(client)?;
+        clients.push(greeted(alloc, server, id)?)?;
     }
     Ok(clients)
 }
@@ -209,18 +246,31 @@ fn offer(alloc: Global, server: &mut Server, clients: &mut [Client], k: u64) -> 
     Ok(sum)
 }
 
-// Eight screens are kept for each of so many starts, and where these are kept too, each has its eight.
-fn keep(alloc: Global, starts: u64, with_starts: bool) -> Result<u64, Fault> {
-    let mut server = server_of(alloc, 24, 80, 0)?;
-    let mut clients = starts_of(alloc, &mut server, starts)?;
+fn offer_seven(alloc: Global, server: &mut Server, clients: &mut [Client]) -> Result<u64, Fault> {
+    let mut sum: u64 = 0;
+    for k in 1..8u64 {
+        sum = sum.wrapping_add(offer(alloc, server, clients, k)?);
+    }
+    Ok(sum)
+}
+
+fn keep_for(
+    alloc: Global,
+    server: &mut Server,
+    starts: u64,
+    with_starts: bool,
+) -> Result<u64, Fault> {
+    let mut clients = starts_of(alloc, server, starts)?;
     if !with_starts {
         clients.clear();
     }
-    let mut sum: u64 = 0;
-    for k in 1..8u64 {
-        sum = sum.wrapping_add(offer(alloc, &mut server, &mut clients, k)?);
-    }
-    Ok(sum)
+    offer_seven(alloc, server, &mut clients)
+}
+
+// Eight screens are kept for each of so many starts, and where these are kept too, each has its eight.
+fn keep(alloc: Global, starts: u64, with_starts: bool) -> Result<u64, Fault> {
+    let mut server = server_of(alloc, 24, 80, 0)?;
+    keep_for(alloc, &mut server, starts, with_starts)
 }
 
 /// Does a round, and keeps some screens.
