@@ -22,7 +22,7 @@ use Rattle.roam_acts.specs.Acts.{is_in_range, IsAct, IsKey, HasKey}
 use Rattle.roam_acts.specs.Keys.{named_keys, numbered_in}
 use Rattle.roam_acts.specs.Kinds.{kinds, kind_of, kind_of_key, tag_of, tagged_in, width_of}
 use Rattle.roam_acts.specs.Bytes.{act_text, fields_of, key_fields}
-use Rattle.roam_acts.specs.Reading.{act_of_fields, after_tag, character, first_act, ranged}
+use Rattle.roam_acts.specs.Reading.{act_of_fields, after_tag, character, first_act, act_in_range}
 use Rattle.roam_acts.proofs.Ranges.{in_range, has_range}
 use Rattle.roam_acts.proofs.Tables.{number_found, tag_found, tagged_again}
 
@@ -186,7 +186,7 @@ passed : Act → List ℕ → Bool → Option (Act × List ℕ)
 passed b rest true = Some (b, rest)
 passed b rest false = None
 
-is_passed : (b : Act) (rest : List ℕ) (t : Bool) → is_in_range b ≡ t → ranged (Some b) rest ≡ passed b rest t
+is_passed : (b : Act) (rest : List ℕ) (t : Bool) → is_in_range b ≡ t → act_in_range (Some b) rest ≡ passed b rest t
 unfolding passed
 is_passed b rest true is = rw is refl
 is_passed b rest false is = rw is refl
@@ -201,7 +201,7 @@ pair_same a b xs ys e =
     let whole : first ≡ second = cc in
     (ap (λ (p : Act × List ℕ). p.0) whole, ap (λ (p : Act × List ℕ). p.1) whole)
 
-ranged_found : (r : Option Act) (rest rest' : List ℕ) (a : Act) → ranged r rest ≡ Some (a, rest') → (r ≡ Some a) × (rest ≡ rest') × (is_in_range a ≡ true)
+ranged_found : (r : Option Act) (rest rest' : List ℕ) (a : Act) → act_in_range r rest ≡ Some (a, rest') → (r ≡ Some a) × (rest ≡ rest') × (is_in_range a ≡ true)
 unfolding passed
 ranged_found None rest rest' a e = absurd cc
 ranged_found (Some b) rest rest' a e = by (is_in_range b) refl (sym (is_passed b rest (is_in_range b) refl) ∙ e)

@@ -9,7 +9,7 @@ use Rattle.roam_acts.specs.Acts.{is_in_range}
 use Rattle.roam_acts.specs.Bytes.{acts_text}
 use Rattle.roam_acts.specs.Keys.{name_of, named_keys, number_of}
 use Rattle.roam_acts.specs.Lines.{line_of}
-use Rattle.roam_acts.specs.Senders.{acked_to, start, typed}
+use Rattle.roam_acts.specs.Senders.{acked_to, start, after_typing}
 use Rattle.roam_acts.specs.Takers.{fresh_of}
 
 -- every number from 1 to 45 is a key's
@@ -42,11 +42,11 @@ ranges = refl
 
 -- ---- the two ends
 
-three_typed : (acked_to (typed (typed (typed start Next) Close) SplitRight) 2).acts ≡ SplitRight ∷ []
+three_typed : (acked_to (after_typing (after_typing (after_typing start Next) Close) SplitRight) 2).acts ≡ SplitRight ∷ []
 three_typed = refl
 
 -- a number that wasn't typed drops nothing
-not_typed : length (acked_to (typed start Next) 2).acts ≡ 1
+not_typed : length (acked_to (after_typing start Next) 2).acts ≡ 1
 not_typed = refl
 
 -- three were taken: of 3, 4 and 5 the last two are fresh, of 5 alone none, of 1 and 2 none

@@ -38,16 +38,16 @@ act_of_fields Size fields = Some (act.Size (big_number 2 fields) (big_number 2 (
 act_of_fields View fields = Some (act.View (cast_signed w16 (big_number 2 fields)))
 
 -- an act and what follows it, where the act is in its ranges
-abbrev pub ranged : Option Act → List ℕ → Option (Act × List ℕ)
-ranged None rest = None
-ranged (Some a) rest = if is_in_range a then Some (a, rest) else None
+abbrev pub act_in_range : Option Act → List ℕ → Option (Act × List ℕ)
+act_in_range None rest = None
+act_in_range (Some a) rest = if is_in_range a then Some (a, rest) else None
 
 -- the act whose tag was read, and what follows it
 abbrev pub after_tag : Option Kind → List ℕ → Option (Act × List ℕ)
 after_tag None rest = None
 after_tag (Some kind) rest =
     if nat_lt (length rest) (width_of kind) then None
-    else ranged (act_of_fields kind (take (width_of kind) rest)) (drop (width_of kind) rest)
+    else act_in_range (act_of_fields kind (take (width_of kind) rest)) (drop (width_of kind) rest)
 
 -- the act that stands first, and what follows it
 abbrev pub first_act : List ℕ → Option (Act × List ℕ)

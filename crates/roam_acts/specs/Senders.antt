@@ -17,8 +17,8 @@ abbrev pub last_number : Typing → ℕ
 last_number s = s.acked + length s.acts
 
 -- one more act was typed
-abbrev pub typed : Typing → Act → Typing
-typed s act = record s { acts = s.acts ++ act ∷ [] }
+abbrev pub after_typing : Typing → Act → Typing
+after_typing s act = record s { acts = s.acts ++ act ∷ [] }
 
 -- 1,024 acts are unacknowledged
 abbrev pub IsFull : Typing → Type 0

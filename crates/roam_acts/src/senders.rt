@@ -1,6 +1,6 @@
 //! The sending end of acts: what was typed and isn't known to have arrived.
 ghost use Rattle.std.specs.Prelude.{◌≡◌, ◌+◌, ◌≤◌, ◌↔◌, ◌⊎◌, ◌^◌, List, [], ◌∷◌, ◌++◌, length, take, drop, OnOk, OnErr, IfErr, IsErrOf};
-ghost use Rattle.roam_acts.specs.Senders.{acked_to, last_number, start, typed, HasTyped, IsFull, IsSpent, IsStretch};
+ghost use Rattle.roam_acts.specs.Senders.{acked_to, last_number, start, after_typing, HasTyped, IsFull, IsSpent, IsStretch};
 ghost use Rattle.roam_acts.specs.Limits.{number_limit, most_acts};
 
 use crate::acts::Act;
@@ -43,7 +43,7 @@ impl ActSender {
     /// Adds an act with the next number. `Busy` where 1,024 acts are unacknowledged, `Spent` where its number would be
     /// 2^62, `OutOfMemory`; a refused act leaves the sender as it was.
     pub fn typed(&mut self, act: Act) -> Result<(), Fault>
-        ensures ok { OnOk result (self.new ≡ typed self.old act) }
+        ensures ok { OnOk result (self.new ≡ after_typing self.old act) }
         ensures stands { OnOk result ((all : List Act) → HasTyped self.old all → HasTyped self.new (all ++ act ∷ [])) }
         ensures busy { IsErrOf result Fault.Busy ↔ IsFull self.old }
         ensures spent { IsErrOf result Fault.Spent ↔ IsSpent self.old }

@@ -7,15 +7,15 @@ use Rattle.roam_charset.specs.declared.sets.Element.TheVariants.{G0, G1, G2, G3}
 use Rattle.roam_charset.specs.declared.sets.Sets.{Sets}
 
 -- ASCII everywhere, G0 invoked (VT220 Programmer Reference, RIS)
-abbrev pub started : Sets
-started = record { g0 = Ascii; g1 = Ascii; g2 = Ascii; g3 = Ascii; locked = G0; single = None }
+abbrev pub started_sets : Sets
+started_sets = record { g0 = Ascii; g1 = Ascii; g2 = Ascii; g3 = Ascii; locked = G0; single = None }
 
 -- a set is designated to an element (ECMA-35, section 14.3)
-abbrev pub designated : Element → Charset → Sets → Sets
-designated G0 set s = record s { g0 = set }
-designated G1 set s = record s { g1 = set }
-designated G2 set s = record s { g2 = set }
-designated G3 set s = record s { g3 = set }
+abbrev pub after_designation : Element → Charset → Sets → Sets
+after_designation G0 set s = record s { g0 = set }
+after_designation G1 set s = record s { g1 = set }
+after_designation G2 set s = record s { g2 = set }
+after_designation G3 set s = record s { g3 = set }
 
 -- the set that is designated to an element
 abbrev pub set_in : Element → Sets → Charset

@@ -1,7 +1,7 @@
 //! The four code elements, and which of them the next character is of.
 ghost use Rattle.std.specs.Prelude.{◌≡◌, ◌↔◌, Some, None, IsTrue};
 ghost use Rattle.roam_charset.specs.Charsets.{mapped_by};
-ghost use Rattle.roam_charset.specs.Sets.{started, designated, set_in, in_use, spent};
+ghost use Rattle.roam_charset.specs.Sets.{started_sets, after_designation, set_in, in_use, spent};
 
 use crate::charsets::Charset;
 
@@ -39,7 +39,7 @@ pub struct Sets {
 impl Sets {
     /// ASCII in each element, G0 invoked, no single shift: how a terminal starts (VT220 Programmer Reference, RIS).
     pub fn new() -> Self
-        ensures started { result ≡ started }
+        ensures started { result ≡ started_sets }
     {
         Sets {
             g0: Charset::Ascii,
@@ -53,7 +53,7 @@ impl Sets {
 
     /// Designates a set to an element (ECMA-35, section 14.3: GZD4 to G3D4).
     pub fn designate(&mut self, element: Element, set: Charset)
-        ensures designated { self.new ≡ designated element set self.old }
+        ensures designated { self.new ≡ after_designation element set self.old }
     {
         match element {
             Element::G0 => self.g0 = set,

@@ -17,9 +17,9 @@ pub record Rendition : Type 0 where
 abbrev pub read_so_far : Style → Awaited → Rendition
 read_so_far style awaited = record { style = style; awaited = awaited }
 
-abbrev pub coloured : Layer → Colour → Style → Style
-coloured Foreground colour g = record g { foreground = colour }
-coloured Background colour g = record g { background = colour }
+abbrev pub coloured_style : Layer → Colour → Style → Style
+coloured_style Foreground colour g = record g { foreground = colour }
+coloured_style Background colour g = record g { background = colour }
 
 -- 30 to 49 and 90 to 107: colours by number, and the defaults; others change nothing
 abbrev pub with_colour : ℕ → Style → Style
@@ -33,8 +33,8 @@ with_colour p g =
     else g
 
 -- 21 to 29: what ends an aspect, but for 21, which underlines twice and is taken as underlining (this project's profile)
-abbrev pub ended : ℕ → Style → Style
-ended p g =
+abbrev pub without_aspect : ℕ → Style → Style
+without_aspect p g =
     if p == 21 then record g { underline = true }
     else if p == 22 then record g { bold = false; faint = false }
     else if p == 23 then record g { italic = false }
@@ -57,11 +57,12 @@ with_aspect p g =
     else if p == 7 then record g { reverse = true }
     else if p == 8 then record g { conceal = true }
     else if p == 9 then record g { strike = true }
-    else ended p g
+    else without_aspect p g
 
 -- a mixture of three numbers; where one is above 255 nothing changes (this project's profile)
-abbrev pub mixed : Layer → ℕ → ℕ → ℕ → Style → Style
-mixed layer red green blue g = if nat_le red 255 && (nat_le green 255 && nat_le blue 255) then coloured layer (Rgb red green blue) g else g
+abbrev pub mixed_style : Layer → ℕ → ℕ → ℕ → Style → Style
+mixed_style layer red green blue g =
+    if nat_le red 255 && (nat_le green 255 && nat_le blue 255) then coloured_style layer (Rgb red green blue) g else g
 
 -- one more parameter: an aspect, or a number that 38 or 48 awaits: 5 and an index up to 255, or 2 and the numbers of red, green and blue;
 -- otherwise the rest of the sequence says nothing (this project's profile)
@@ -75,16 +76,16 @@ read_as (ColourSpace layer) r p =
     else if p == 2 then record r { awaited = Red layer }
     else record r { awaited = Nothing }
 read_as (ColourIndex layer) r p =
-    if nat_le p 255 then record { style = coloured layer (Index p) r.style; awaited = Aspect }
+    if nat_le p 255 then record { style = coloured_style layer (Index p) r.style; awaited = Aspect }
     else record r { awaited = Aspect }
 read_as (Red layer) r p = record r { awaited = Green layer p }
 read_as (Green layer red) r p = record r { awaited = Blue layer red p }
-read_as (Blue layer red green) r p = record { style = mixed layer red green p r.style; awaited = Aspect }
+read_as (Blue layer red green) r p = record { style = mixed_style layer red green p r.style; awaited = Aspect }
 read_as Nothing r p = r
 
 abbrev pub with_parameter : Rendition → ℕ → Rendition
 with_parameter r p = read_as r.awaited r p
 
 -- the style after all parameters, in order
-abbrev pub styled : List ℕ → Style → Style
-styled params g = (fold with_parameter (record { style = g; awaited = Aspect }) params).style
+abbrev pub styled_by : List ℕ → Style → Style
+styled_by params g = (fold with_parameter (record { style = g; awaited = Aspect }) params).style

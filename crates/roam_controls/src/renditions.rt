@@ -1,6 +1,6 @@
 //! SGR: select graphic rendition.
 ghost use Rattle.std.specs.Prelude.{◌≡◌, ◌<◌};
-ghost use Rattle.roam_controls.specs.Renditions.{coloured, mixed, with_colour, ended, with_aspect, read_so_far, with_parameter, styled};
+ghost use Rattle.roam_controls.specs.Renditions.{coloured_style, mixed_style, with_colour, without_aspect, with_aspect, read_so_far, with_parameter, styled_by};
 
 use roam_cells::{Colour, Ink, Style};
 
@@ -36,7 +36,7 @@ pub struct Restyling {
 
 #[inline]
 fn colour(ink: Ink, layer: Layer, colour: Colour) -> Ink
-    ensures coloured { result ≡ record ink { style = coloured layer colour ink.style } }
+    ensures coloured { result ≡ record ink { style = coloured_style layer colour ink.style } }
 {
     match layer {
         Layer::Foreground => ink.with_foreground(colour),
@@ -46,7 +46,7 @@ fn colour(ink: Ink, layer: Layer, colour: Colour) -> Ink
 
 #[inline]
 fn mix(ink: Ink, layer: Layer, red: u16, green: u16, blue: u16) -> Ink
-    ensures mixed { result ≡ record ink { style = mixed layer red green blue ink.style } }
+    ensures mixed { result ≡ record ink { style = mixed_style layer red green blue ink.style } }
 {
     if red <= 255 && green <= 255 && blue <= 255 {
         colour(ink, layer, Colour::Rgb(red as u8, green as u8, blue as u8))
@@ -74,7 +74,7 @@ fn with_colour(ink: Ink, param: u16) -> Ink
 // 21 to 29, what ends a flag, but for 21: in an ink a flag is set without the others or the colours being read.
 fn without_flag(ink: Ink, param: u16) -> Ink
     requires below { param < 30 }
-    ensures ended { result ≡ record ink { style = ended param ink.style } }
+    ensures ended { result ≡ record ink { style = without_aspect param ink.style } }
 {
     match param {
         21 => ink.with_underline(true),
@@ -159,7 +159,7 @@ impl Restyling {
 /// The ink that SGR's parameters make of this one (ECMA-48 8.3.117): they are read from the first on, each after what those before it
 /// left to be read, and change the style; the guard stays.
 pub fn restyled(ink: Ink, params: &[u16]) -> Ink
-    ensures styled { result ≡ record ink { style = styled params.now ink.style } }
+    ensures styled { result ≡ record ink { style = styled_by params.now ink.style } }
 {
     let mut restyling = Restyling {
         ink,

@@ -2,7 +2,7 @@
 use Rattle.std.proofs.Common.{◌≡◌, ℕ, ◌+◌, ◌-◌, true, false, cond, eqb, sym, ap, subst, arith}
 use Rattle.std.proofs.lemmas.Bool.{eqb-true, and_parts}
 use Rattle.roam_rows.specs.Rows.{Rows, AreRows, KeepPlaces}
-use Rattle.roam_rows.specs.Places.{moved}
+use Rattle.roam_rows.specs.Places.{mapped_cells}
 use Rattle.roam_rows.specs.Scrolling.{up, down, turned_up, turned_down, all_up, all_down}
 use Rattle.roam_rows.proofs.Buffers.{kept_by_all_up, kept_by_all_down}
 use Rattle.roam_grid.specs.Laws.{grid_up, grid_down}
@@ -23,7 +23,7 @@ all_go_up n v full =
     λ i. record {
       rows = s.rows;
       cols = s.cols;
-      cells = moved s.rows s.cols s.cells (up (sym at.0 i) (sym at.1 i) n);
+      cells = mapped_cells s.rows s.cols s.cells (up (sym at.0 i) (sym at.1 i) n);
       first = cond (sym full i) (turned_up s.rows n v.first) v.first;
     }
 
@@ -35,7 +35,7 @@ all_go_down n v full =
     λ i. record {
       rows = s.rows;
       cols = s.cols;
-      cells = moved s.rows s.cols s.cells (down (sym at.0 i) (sym at.1 i) n);
+      cells = mapped_cells s.rows s.cols s.cells (down (sym at.0 i) (sym at.1 i) n);
       first = cond (sym full i) (turned_down s.rows n v.first) v.first;
     }
 

@@ -7,8 +7,8 @@ use Rattle.roam_cells.specs.Glyph.{Glyph, blank}
 use Rattle.roam_cells.specs.Place.{cell_at, AreWhole, row_of}
 use Rattle.roam_cells.proofs.Places.{table_is, get_or-table, length-table}
 use Rattle.roam_rows.specs.Row.{RowSource}
-use Rattle.roam_rows.specs.Places.{Source, From, Fresh, moved, moved_at, at_row, in_row}
-use Rattle.roam_rows.specs.Rows.{Rows, AreRows, mapped, with_row}
+use Rattle.roam_rows.specs.Places.{Source, From, Fresh, mapped_cells, moved_at, at_row, in_row}
+use Rattle.roam_rows.specs.Rows.{Rows, AreRows, mapped_rows, with_row}
 use Rattle.roam_rows.specs.Erasing.{unguarded_blanked, rows_unguarded_blanked}
 use Rattle.roam_rows.proofs.Scrolls.{rows_are}
 use Rattle.roam_rows.proofs.Vertical.{row_stays}
@@ -70,7 +70,7 @@ module _ (extent : Extent) (rows cols row col : ℕ) (cells mid : List Glyph) (w
         | inr ne ↦ in_other row r d one ne ∙ sym (ap (λ b. cond (b && not (guard r d)) (Fresh blank) (From r d)) (outside extent rows row col r d p ne out))
       ]
 
-  module _ (mid_is : mid ≡ moved rows cols cells (in_row row one)) where
+  module _ (mid_is : mid ≡ mapped_cells rows cols cells (in_row row one)) where
     mid_at : (r c : ℕ) → r < rows → c < cols → cell_at cols mid r c ≡ moved_at cols cells (in_row row one) r c
     mid_at r c p q = ap (λ l. cell_at cols l r c) mid_is ∙ get_or-table rows cols (moved_at cols cells (in_row row one)) r c blank p q
 
@@ -97,9 +97,9 @@ module _ (extent : Extent) (rows cols row col : ℕ) (cells mid : List Glyph) (w
               (mid_at r c p q ∙ row_stays rows cols cells whole (in_row row one) r c r p q (λ d. in_other row r d one ne))
         ]
 
-    pub page_is_selective : moved rows cols mid two ≡ moved rows cols cells source
+    pub page_is_selective : mapped_cells rows cols mid two ≡ mapped_cells rows cols cells source
     page_is_selective =
-        table_is rows cols (moved_at cols cells source) (moved rows cols mid two) (length-table rows cols _) (λ r c p q.
+        table_is rows cols (moved_at cols cells source) (mapped_cells rows cols mid two) (length-table rows cols _) (λ r c p q.
         get_or-table rows cols (moved_at cols mid two) r c blank p q
         ∙ elim (cases_lt r (page_from extent row)) [
           | inl above ↦ rest r c p q (inl above)
@@ -116,20 +116,20 @@ module _ (extent : Extent) (rows cols row col : ℕ) (cells mid : List Glyph) (w
 
 pub page_erased_selectively : (extent : Extent) (row col from to top bottom : ℕ) (v m w : Rows) → AreRows v → AreRows m → row < v.rows
     → from ≡ line_from extent col → to ≡ line_to extent v.cols col → top ≡ page_from extent row → bottom ≡ page_to extent v.rows row
-    → m ≡ with_row row (unguarded_blanked (row_of v.cols v.cells row) from to) v → w ≡ mapped (rows_unguarded_blanked m.cols m.cells top bottom) m
-    → w ≡ mapped (page_unguarded_blanked extent v.cols v.cells row col) v
+    → m ≡ with_row row (unguarded_blanked (row_of v.cols v.cells row) from to) v → w ≡ mapped_rows (rows_unguarded_blanked m.cols m.cells top bottom) m
+    → w ≡ mapped_rows (page_unguarded_blanked extent v.cols v.cells row col) v
 page_erased_selectively extent row col from to top bottom v m w h k row_in from_is to_is top_is bottom_is m_is w_is =
     let old = row_of v.cols v.cells row in
     let rows_is : m.rows ≡ v.rows = ap (λ (x : Rows). x.rows) m_is in
     let cols_is : m.cols ≡ v.cols = ap (λ (x : Rows). x.cols) m_is in
     let first_is : m.first ≡ v.first = ap (λ (x : Rows). x.first) m_is in
-    let mid_is : m.cells ≡ moved v.rows v.cols v.cells (in_row row (unguarded_blanked old (line_from extent col) (line_to extent v.cols col))) =
-    ap (λ (x : Rows). x.cells) m_is ∙ ap (λ j. moved v.rows v.cols v.cells (in_row row (unguarded_blanked old j to))) from_is
-    ∙ ap (λ j. moved v.rows v.cols v.cells (in_row row (unguarded_blanked old (line_from extent col) j))) to_is in
-    rows_are w v.rows v.cols v.first (moved v.rows v.cols v.cells (page_unguarded_blanked extent v.cols v.cells row col))
+    let mid_is : m.cells ≡ mapped_cells v.rows v.cols v.cells (in_row row (unguarded_blanked old (line_from extent col) (line_to extent v.cols col))) =
+    ap (λ (x : Rows). x.cells) m_is ∙ ap (λ j. mapped_cells v.rows v.cols v.cells (in_row row (unguarded_blanked old j to))) from_is
+    ∙ ap (λ j. mapped_cells v.rows v.cols v.cells (in_row row (unguarded_blanked old (line_from extent col) j))) to_is in
+    rows_are w v.rows v.cols v.first (mapped_cells v.rows v.cols v.cells (page_unguarded_blanked extent v.cols v.cells row col))
     (ap (λ (x : Rows). x.rows) w_is ∙ rows_is) (ap (λ (x : Rows). x.cols) w_is ∙ cols_is) (ap (λ (x : Rows). x.first) w_is ∙ first_is)
-    (ap (λ (x : Rows). x.cells) w_is ∙ ap (λ j. moved j m.cols m.cells (rows_unguarded_blanked m.cols m.cells top bottom)) rows_is
-    ∙ ap (λ j. moved v.rows j m.cells (rows_unguarded_blanked j m.cells top bottom)) cols_is
-    ∙ ap (λ j. moved v.rows v.cols m.cells (rows_unguarded_blanked v.cols m.cells j bottom)) top_is
-    ∙ ap (λ j. moved v.rows v.cols m.cells (rows_unguarded_blanked v.cols m.cells (page_from extent row) j)) bottom_is
+    (ap (λ (x : Rows). x.cells) w_is ∙ ap (λ j. mapped_cells j m.cols m.cells (rows_unguarded_blanked m.cols m.cells top bottom)) rows_is
+    ∙ ap (λ j. mapped_cells v.rows j m.cells (rows_unguarded_blanked j m.cells top bottom)) cols_is
+    ∙ ap (λ j. mapped_cells v.rows v.cols m.cells (rows_unguarded_blanked v.cols m.cells j bottom)) top_is
+    ∙ ap (λ j. mapped_cells v.rows v.cols m.cells (rows_unguarded_blanked v.cols m.cells (page_from extent row) j)) bottom_is
     ∙ page_is_selective extent v.rows v.cols row col v.cells m.cells h.whole (rw (rows_is, cols_is) at k.whole) row_in mid_is)

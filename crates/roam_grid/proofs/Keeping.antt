@@ -9,22 +9,22 @@ use Rattle.roam_cells.specs.Place.{cell_at, glyph_at, row_of}
 use Rattle.roam_cells.specs.Width.{width_of}
 use Rattle.roam_cells.proofs.Ascii.{ascii_width}
 use Rattle.roam_rows.specs.Row.{RowSource}
-use Rattle.roam_rows.specs.Places.{Source, moved, in_row}
+use Rattle.roam_rows.specs.Places.{Source, mapped_cells, in_row}
 use Rattle.roam_rows.specs.Scrolling.{up, down}
-use Rattle.roam_rows.specs.Editing.{inserted, deleted}
-use Rattle.roam_rows.specs.Erasing.{blanked, unguarded_blanked}
-use Rattle.roam_rows.specs.Writing.{written}
+use Rattle.roam_rows.specs.Editing.{insertion_source, deletion_source}
+use Rattle.roam_rows.specs.Erasing.{erasure_source, unguarded_blanked}
+use Rattle.roam_rows.specs.Writing.{writing_source}
 use Rattle.roam_cells.proofs.CellLists.{cell_shown, default_is_style}
 use Rattle.roam_rows.proofs.Keeping.{AreCells, IsPlain, IsPlainIn, either, plain_cells, up_plain, down_plain, blanked_plain, plain_row_cells, inserted_plain, deleted_plain, blanked_plain_in, written_cells, joined_cells, same_cells, blank_cells, sized_cells}
-use Rattle.roam_grid.specs.Screen.{Screen, IsFrame, start, mapped}
+use Rattle.roam_grid.specs.Screen.{Screen, IsFrame, start, mapped_screen}
 use Rattle.roam_grid.specs.Tabs.{stop_from, next_stop, stop_before, stops_on, stops_back}
-use Rattle.roam_grid.specs.Tabbing.{tabbed, back_tabbed, stop_set, stop_cleared, stops_cleared}
+use Rattle.roam_grid.specs.Tabbing.{after_tabs, after_back_tabs, stop_set, stop_cleared, stops_cleared}
 use Rattle.roam_grid.specs.Scrolling.{scrolled_up, scrolled_down, with_margins}
-use Rattle.roam_grid.specs.Cursor.{backspaced, carried, indexed, moved_to, row_above, moved_up, row_below, moved_down, moved_right, moved_left, wrap_cleared, reverse_indexed, restored}
+use Rattle.roam_grid.specs.Cursor.{after_backspace, after_carriage_return, after_index, moved_to, row_above, moved_up, row_below, moved_down, moved_right, moved_left, wrap_cleared, after_reverse_index, after_restoring}
 use Rattle.roam_grid.specs.Editing.{cells_inserted, cells_deleted, cells_erased, lines_inserted, lines_deleted, is_between_margins}
 use Rattle.roam_grid.specs.Erasing.{line_from, line_to, is_in_page, page_blanked, erased_in_page, erased_in_line, page_unguarded_blanked, erased_selectively_in_page, erased_selectively_in_line}
-use Rattle.roam_grid.specs.Frames.{letter_e, aligned, all_blank, restarted, resized}
-use Rattle.roam_grid.specs.Writing.{columns, wrapped, settled, with_room, made_way, inked, advanced, put_on, put_all, joined_in, joined_on}
+use Rattle.roam_grid.specs.Frames.{letter_e, after_alignment, all_blank, after_restart, after_resizing}
+use Rattle.roam_grid.specs.Writing.{columns, after_wrap, after_pending_wrap, with_room, made_way, after_ink, after_advance, put_on, put_all, joined_in, joined_on}
 use Rattle.roam_grid.specs.declared.erasing.Extent.{Extent}
 use Rattle.roam_grid.specs.declared.writing.Writing.{Writing}
 use Rattle.roam_grid.proofs.Puts.{wrapped_place, settled_none}
@@ -116,12 +116,12 @@ module _ (s : Screen) (is : IsSound s) where
     };
   }
 
-  plain : (source : ℕ → ℕ → Source) → ((r c : ℕ) → r < s.rows → c < s.cols → IsPlain s.rows s.cols (source r c)) → Kept s (mapped source s)
-  plain source each = with_cells (moved s.rows s.cols s.cells source) (plain_cells s.rows s.cols s.rows s.cols s.cells source is.cells each)
+  plain : (source : ℕ → ℕ → Source) → ((r c : ℕ) → r < s.rows → c < s.cols → IsPlain s.rows s.cols (source r c)) → Kept s (mapped_screen source s)
+  plain source each = with_cells (mapped_cells s.rows s.cols s.cells source) (plain_cells s.rows s.cols s.rows s.cols s.cells source is.cells each)
 
-  plain_row : (one : ℕ → RowSource) → ((c : ℕ) → c < s.cols → IsPlainIn s.cols (one c)) → Kept s (mapped (in_row s.row one) s)
+  plain_row : (one : ℕ → RowSource) → ((c : ℕ) → c < s.cols → IsPlainIn s.cols (one c)) → Kept s (mapped_screen (in_row s.row one) s)
   plain_row one each =
-      with_cells (moved s.rows s.cols s.cells (in_row s.row one))
+      with_cells (mapped_cells s.rows s.cols s.cells (in_row s.row one))
       (plain_row_cells s.rows s.cols s.row s.cells one is.cells is.frame.row_in each)
 
   row_low : s.row < s.rows
@@ -136,20 +136,20 @@ module _ (s : Screen) (is : IsSound s) where
   unfolding wrap_cleared
   wrap_cleared_kept = quiet s s (kept_same s is)
 
-  pub backspaced_kept : Kept s (backspaced s)
-  unfolding backspaced
+  pub backspaced_kept : Kept s (after_backspace s)
+  unfolding after_backspace
   backspaced_kept = at_rest s.row (s.col - 1) row_low (omega (arith, col_low))
 
-  pub carried_kept : Kept s (carried s)
-  unfolding carried
+  pub carried_kept : Kept s (after_carriage_return s)
+  unfolding after_carriage_return
   carried_kept = at_rest s.row 0 row_low (omega (arith, col_low))
 
   pub moved_to_kept : (row col : ℕ) → Kept s (moved_to row col s)
   unfolding moved_to
   moved_to_kept row col = at_rest (min row (s.rows - 1)) (min col (s.cols - 1)) (omega (arith, row_low)) (omega (arith, col_low))
 
-  pub restored_kept : (row col : ℕ) (pending : Bool) → Kept s (restored row col pending s)
-  unfolding restored
+  pub restored_kept : (row col : ℕ) (pending : Bool) → Kept s (after_restoring row col pending s)
+  unfolding after_restoring
   restored_kept row col pending =
       at_place (min row (s.rows - 1)) (min col (s.cols - 1)) (pending && eqb (min col (s.cols - 1) + 1) s.cols) (omega (arith, row_low))
       (omega (arith, col_low))
@@ -211,8 +211,8 @@ module _ (s : Screen) (is : IsSound s) where
     };
   }
 
-  pub indexed_kept : Kept s (indexed s)
-  unfolding indexed
+  pub indexed_kept : Kept s (after_index s)
+  unfolding after_index
   indexed_kept =
       either (Kept s) (eqb s.row s.bottom) (record (scrolled_up 1 s) { pending = false })
       (cond (eqb (s.row + 1) s.rows) (record s { pending = false }) (record s { row = s.row + 1; pending = false }))
@@ -221,8 +221,8 @@ module _ (s : Screen) (is : IsSound s) where
       (λ k. quiet s s (kept_same s is))
       (λ k. at_rest (s.row + 1) s.col (omega (arith, row_low, eqb-false (s.row + 1) s.rows k)) col_low))
 
-  pub reverse_indexed_kept : Kept s (reverse_indexed s)
-  unfolding reverse_indexed
+  pub reverse_indexed_kept : Kept s (after_reverse_index s)
+  unfolding after_reverse_index
   reverse_indexed_kept =
       either (Kept s) (eqb s.row s.top) (record (scrolled_down 1 s) { pending = false }) (record s { row = s.row - 1; pending = false })
       (λ e. quiet s (scrolled_down 1 s) (scrolled_down_kept 1))
@@ -246,18 +246,18 @@ module _ (s : Screen) (is : IsSound s) where
 
   pub cells_inserted_kept : (n : ℕ) → Kept s (cells_inserted n s)
   unfolding cells_inserted
-  cells_inserted_kept n = quiet s (mapped (in_row s.row (inserted s.col n)) s)
-      (plain_row (inserted s.col n) (λ c q. inserted_plain s.cols s.col n c q))
+  cells_inserted_kept n = quiet s (mapped_screen (in_row s.row (insertion_source s.col n)) s)
+      (plain_row (insertion_source s.col n) (λ c q. inserted_plain s.cols s.col n c q))
 
   pub cells_deleted_kept : (n : ℕ) → Kept s (cells_deleted n s)
   unfolding cells_deleted
-  cells_deleted_kept n = quiet s (mapped (in_row s.row (deleted s.cols s.col n)) s)
-      (plain_row (deleted s.cols s.col n) (λ c q. deleted_plain s.cols s.col n c q))
+  cells_deleted_kept n = quiet s (mapped_screen (in_row s.row (deletion_source s.cols s.col n)) s)
+      (plain_row (deletion_source s.cols s.col n) (λ c q. deleted_plain s.cols s.col n c q))
 
-  blanked_kept : (from to : ℕ) → Kept s (record (mapped (in_row s.row (blanked from to)) s) { pending = false })
+  blanked_kept : (from to : ℕ) → Kept s (record (mapped_screen (in_row s.row (erasure_source from to)) s) { pending = false })
   blanked_kept from to =
-      quiet s (mapped (in_row s.row (blanked from to)) s)
-      (plain_row (blanked from to) (λ c q. blanked_plain_in s.cols (leb from c && ltb c to) c q))
+      quiet s (mapped_screen (in_row s.row (erasure_source from to)) s)
+      (plain_row (erasure_source from to) (λ c q. blanked_plain_in s.cols (leb from c && ltb c to) c q))
 
   pub cells_erased_kept : (n : ℕ) → Kept s (cells_erased n s)
   unfolding cells_erased
@@ -266,7 +266,7 @@ module _ (s : Screen) (is : IsSound s) where
   pub erased_in_page_kept : (extent : Extent) → Kept s (erased_in_page extent s)
   unfolding erased_in_page
   erased_in_page_kept extent =
-      quiet s (mapped (page_blanked extent s.row s.col) s)
+      quiet s (mapped_screen (page_blanked extent s.row s.col) s)
       (plain (page_blanked extent s.row s.col) (λ r c p q. blanked_plain s.rows s.cols (is_in_page extent s.row s.col r c) r c p q))
 
   pub erased_in_line_kept : (extent : Extent) → Kept s (erased_in_line extent s)
@@ -276,7 +276,7 @@ module _ (s : Screen) (is : IsSound s) where
   pub erased_selectively_in_page_kept : (extent : Extent) → Kept s (erased_selectively_in_page extent s)
   unfolding erased_selectively_in_page
   erased_selectively_in_page_kept extent =
-      quiet s (mapped (page_unguarded_blanked extent s.cols s.cells s.row s.col) s)
+      quiet s (mapped_screen (page_unguarded_blanked extent s.cols s.cells s.row s.col) s)
       (plain (page_unguarded_blanked extent s.cols s.cells s.row s.col)
       (λ r c p q. blanked_plain s.rows s.cols (is_in_page extent s.row s.col r c && not (cell_at s.cols s.cells r c).guarded) r c p q))
 
@@ -286,14 +286,14 @@ module _ (s : Screen) (is : IsSound s) where
       let row = row_of s.cols s.cells s.row in
       let from = line_from extent s.col in
       let to = line_to extent s.cols s.col in
-      quiet s (mapped (in_row s.row (unguarded_blanked row from to)) s)
+      quiet s (mapped_screen (in_row s.row (unguarded_blanked row from to)) s)
       (plain_row (unguarded_blanked row from to)
       (λ c q. blanked_plain_in s.cols (leb from c && ltb c to && not (glyph_at row c).guarded) c q))
 
   -- ---- whole screens
 
-  pub aligned_kept : Kept s (aligned s)
-  unfolding aligned
+  pub aligned_kept : Kept s (after_alignment s)
+  unfolding after_alignment
   aligned_kept =
       let one : width_of 0x45 ≡ 1 = ascii_width 0x45 (omega arith) (omega arith) in
       record {
@@ -326,14 +326,14 @@ at_start s t h = kept_then s t (record t { col = 0; pending = false }) h
 pub lines_inserted_kept : (n : ℕ) (s : Screen) → IsSound s → Kept s (lines_inserted n s)
 unfolding lines_inserted
 lines_inserted_kept n s is =
-    let t = mapped (down s.row s.bottom n) s in
+    let t = mapped_screen (down s.row s.bottom n) s in
     either (Kept s) (is_between_margins s) (record t { col = 0; pending = false }) (wrap_cleared s)
     (λ e. at_start s t (plain s is (down s.row s.bottom n) (down_plain s.rows s.cols s.row s.bottom n))) (λ e. wrap_cleared_kept s is)
 
 pub lines_deleted_kept : (n : ℕ) (s : Screen) → IsSound s → Kept s (lines_deleted n s)
 unfolding lines_deleted
 lines_deleted_kept n s is =
-    let t = mapped (up s.row s.bottom n) s in
+    let t = mapped_screen (up s.row s.bottom n) s in
     either (Kept s) (is_between_margins s) (record t { col = 0; pending = false }) (wrap_cleared s)
     (λ e. at_start s t (plain s is (up s.row s.bottom n) (up_plain s.rows s.cols s.row s.bottom n is.frame.margins.1)))
     (λ e. wrap_cleared_kept s is)
@@ -370,14 +370,14 @@ unfolding stops_back
 back_low zero c stops = omega arith
 back_low (suc n) c stops = omega (arith, back_low n (stop_before c stops) stops, before_low c stops)
 
-pub tabbed_kept : (n : ℕ) (s : Screen) → IsSound s → Kept s (tabbed n s)
-unfolding tabbed
+pub tabbed_kept : (n : ℕ) (s : Screen) → IsSound s → Kept s (after_tabs n s)
+unfolding after_tabs
 tabbed_kept n s is =
     let low = on_low n (s.cols - 1) s.col s.stops (omega (arith, is.frame.col_in)) in
     at_rest s is s.row (stops_on n (s.cols - 1) s.stops s.col) is.frame.row_in (omega (arith, low, is.frame.col_in))
 
-pub back_tabbed_kept : (n : ℕ) (s : Screen) → IsSound s → Kept s (back_tabbed n s)
-unfolding back_tabbed
+pub back_tabbed_kept : (n : ℕ) (s : Screen) → IsSound s → Kept s (after_back_tabs n s)
+unfolding after_back_tabs
 back_tabbed_kept n s is =
     let low = back_low n s.col s.stops in
     at_rest s is s.row (stops_back n s.stops s.col) is.frame.row_in (omega (arith, low, is.frame.col_in))
@@ -389,17 +389,17 @@ record Ready (s t : Screen) : Type 0 where
   kept : Kept s t
   none : t.pending ≡ false
 
-pub wrapped_kept : (s : Screen) → IsSound s → Kept s (wrapped s)
-unfolding wrapped
+pub wrapped_kept : (s : Screen) → IsSound s → Kept s (after_wrap s)
+unfolding after_wrap
 wrapped_kept s is =
     let first = carried_kept s is in
-    kept_then s (carried s) (indexed (carried s)) first (indexed_kept (carried s) first.sound)
+    kept_then s (after_carriage_return s) (after_index (after_carriage_return s)) first (indexed_kept (after_carriage_return s) first.sound)
 
-settled_kept : (s : Screen) → IsSound s → Kept s (settled s)
-unfolding settled
-settled_kept s is = either (Kept s) s.pending (wrapped s) s (λ e. wrapped_kept s is) (λ e. kept_same s is)
+settled_kept : (s : Screen) → IsSound s → Kept s (after_pending_wrap s)
+unfolding after_pending_wrap
+settled_kept s is = either (Kept s) s.pending (after_wrap s) s (λ e. wrapped_kept s is) (λ e. kept_same s is)
 
-settled_ready : (s : Screen) → IsSound s → Ready s (settled s)
+settled_ready : (s : Screen) → IsSound s → Ready s (after_pending_wrap s)
 settled_ready s is = record { kept = settled_kept s is; none = settled_none s }
 
 room_ready : (width : ℕ) (w : Writing) (s : Screen) → IsSound s → s.pending ≡ false → Ready s (with_room width w s)
@@ -407,8 +407,8 @@ unfolding with_room
 room_ready width w s is none =
     let same : Ready s s = record { kept = kept_same s is; none = none } in
     let low : s.cols - 2 < s.cols = omega (arith, is.frame.size.least_columns) in
-    either (Ready s) (eqb width 2 && eqb (s.col + 1) s.cols) (cond w.wraps (wrapped s) (record s { col = s.cols - 2 })) s
-    (λ e. either (Ready s) w.wraps (wrapped s) (record s { col = s.cols - 2 })
+    either (Ready s) (eqb width 2 && eqb (s.col + 1) s.cols) (cond w.wraps (after_wrap s) (record s { col = s.cols - 2 })) s
+    (λ e. either (Ready s) w.wraps (after_wrap s) (record s { col = s.cols - 2 })
     (λ k. record { kept = wrapped_kept s is; none = (wrapped_place s).1 })
     (λ k. record {
       kept = at_place s is s.row (s.cols - 2) s.pending is.frame.row_in low
@@ -420,20 +420,20 @@ room_ready width w s is none =
 way_ready : (width : ℕ) (w : Writing) (s : Screen) → IsSound s → s.pending ≡ false → Ready s (made_way width w s)
 unfolding made_way
 way_ready width w s is none =
-    either (Ready s) w.inserts (mapped (in_row s.row (inserted s.col width)) s) s
-    (λ e. record { kept = plain_row s is (inserted s.col width) (λ c q. inserted_plain s.cols s.col width c q); none = none })
+    either (Ready s) w.inserts (mapped_screen (in_row s.row (insertion_source s.col width)) s) s
+    (λ e. record { kept = plain_row s is (insertion_source s.col width) (λ c q. inserted_plain s.cols s.col width c q); none = none })
     (λ e. record { kept = kept_same s is; none = none })
 
-inked_ready : (x : Glyph) (s : Screen) → IsShown x → IsSound s → s.pending ≡ false → Ready s (inked x s)
-unfolding inked
+inked_ready : (x : Glyph) (s : Screen) → IsShown x → IsSound s → s.pending ≡ false → Ready s (after_ink x s)
+unfolding after_ink
 inked_ready x s shown is none = record {
-  kept = with_cells s is (moved s.rows s.cols s.cells (in_row s.row (written x s.col)))
+  kept = with_cells s is (mapped_cells s.rows s.cols s.cells (in_row s.row (writing_source x s.col)))
       (written_cells s.rows s.cols s.row s.col s.cells x is.cells is.frame.row_in shown);
   none = none;
 }
 
-advanced_kept : (n : ℕ) (w : Writing) (s : Screen) → IsSound s → s.pending ≡ false → Kept s (advanced n w s)
-unfolding advanced
+advanced_kept : (n : ℕ) (w : Writing) (s : Screen) → IsSound s → s.pending ≡ false → Kept s (after_advance n w s)
+unfolding after_advance
 advanced_kept n w s is none =
     either (Kept s) (ltb (s.col + n) s.cols) (record s { col = s.col + n }) (record s { col = s.cols - 1; pending = w.wraps })
     (λ e. at_place s is s.row (s.col + n) s.pending is.frame.row_in (ltb-true (s.col + n) s.cols e)
@@ -444,18 +444,18 @@ pub put_on_kept : (x : Glyph) (w : Writing) (s : Screen) → IsShown x → IsSou
 unfolding put_on
 put_on_kept x w s shown is =
     let n = columns x in
-    let a = settled s in
+    let a = after_pending_wrap s in
     let b = with_room n w a in
     let c = made_way n w b in
-    let d = inked x c in
+    let d = after_ink x c in
     let first = settled_ready s is in
     let second = room_ready n w a first.kept.sound first.none in
     let third = way_ready n w b second.kept.sound second.none in
     let fourth = inked_ready x c shown third.kept.sound third.none in
     let fifth = advanced_kept n w d fourth.kept.sound fourth.none in
-    kept_then s a (advanced n w d) first.kept
-    (kept_then a b (advanced n w d) second.kept
-    (kept_then b c (advanced n w d) third.kept (kept_then c d (advanced n w d) fourth.kept fifth)))
+    kept_then s a (after_advance n w d) first.kept
+    (kept_then a b (after_advance n w d) second.kept
+    (kept_then b c (after_advance n w d) third.kept (kept_then c d (after_advance n w d) fourth.kept fifth)))
 
 pub put_all_kept : (n : ℕ) (x : Glyph) (w : Writing) (s : Screen) → IsShown x → IsSound s → Kept s (put_all (replicate n x) w s)
 unfolding put_all
@@ -491,8 +491,8 @@ start_sound rows cols size = record {
   cells = blank_cells rows cols;
 }
 
-pub restarted_kept : (s : Screen) → IsSound s → Kept s (restarted s)
-unfolding restarted
+pub restarted_kept : (s : Screen) → IsSound s → Kept s (after_restart s)
+unfolding after_restart
 restarted_kept s is = record { rows = refl; cols = refl; sound = start_sound s.rows s.cols is.frame.size }
 
 pub record Sized (new_rows new_cols : ℕ) (s : Screen) : Type 0 where
@@ -500,8 +500,8 @@ pub record Sized (new_rows new_cols : ℕ) (s : Screen) : Type 0 where
   pub cols : s.cols ≡ new_cols
   pub sound : IsSound s
 
-pub resized_kept : (rows cols off : ℕ) (s : Screen) → IsSize rows cols → IsSound s → Sized rows cols (resized rows cols off s)
-unfolding resized
+pub resized_kept : (rows cols off : ℕ) (s : Screen) → IsSize rows cols → IsSound s → Sized rows cols (after_resizing rows cols off s)
+unfolding after_resizing
 resized_kept rows cols off s size is = record {
   rows = refl;
   cols = refl;

@@ -6,10 +6,10 @@ use Rattle.std.proofs.lemmas.Grind.{common_steps}
 use Rattle.roam_cells.specs.Glyph.{Glyph, blank}
 use Rattle.roam_rows.specs.Row.{RowSource, Column}
 use Rattle.roam_rows.specs.Places.{Source, From, Fresh, at_row, in_row}
-use Rattle.roam_rows.specs.Editing.{inserted, deleted}
-use Rattle.roam_rows.specs.Erasing.{blanked}
+use Rattle.roam_rows.specs.Editing.{insertion_source, deletion_source}
+use Rattle.roam_rows.specs.Erasing.{erasure_source}
 use Rattle.roam_rows.specs.Scrolling.{up, down}
-use Rattle.roam_rows.specs.Writing.{written}
+use Rattle.roam_rows.specs.Writing.{writing_source}
 use Rattle.roam_rows.proofs.Lifting.{in_here, in_other}
 use Rattle.roam_grid.specs.Screen.{Screen, IsScreen}
 use Rattle.roam_grid.specs.Editing.{is_between_margins}
@@ -203,49 +203,49 @@ module _ (s : Screen) (marks : List Bool) (is : IsScreen s) where
       (λ pos r p a b. in_row_named s.cols s.row r s.col one (omega (arith, a, b)) is.frame.col_in (on pos))
       (λ r c p q out. in_other s.row r c one (λ e. elim out [ inl a ↦ absurd (omega (arith, a, e)) | inr a ↦ absurd (omega (arith, a, e)) ])) (eqb n 0) refl
 
-  inserted_none : (col n c : ℕ) → n ≡ 0 → inserted col n c ≡ Column c
-  inserted_none col n c e = ap (λ k. inserted col k c) e ∙ by_side (ltb c col) refl
+  inserted_none : (col n c : ℕ) → n ≡ 0 → insertion_source col n c ≡ Column c
+  inserted_none col n c e = ap (λ k. insertion_source col k c) e ∙ by_side (ltb c col) refl
     where
-      by_side : (b : Bool) → ltb c col ≡ b → inserted col 0 c ≡ Column c
+      by_side : (b : Bool) → ltb c col ≡ b → insertion_source col 0 c ≡ Column c
       by_side true h = grind (arith, common_steps)
       by_side false h = grind (arith, common_steps)
 
-  inserted_here : (col n : ℕ) → 0 < n → inserted col n col ≡ RowSource.Fresh blank
+  inserted_here : (col n : ℕ) → 0 < n → insertion_source col n col ≡ RowSource.Fresh blank
   inserted_here col n h = grind (arith, common_steps)
 
-  pub inserted_marks : (n : ℕ) → AreNamedMarked s (in_row s.row (inserted s.col n)) marks (marks_cells_moved n s marks)
+  pub inserted_marks : (n : ℕ) → AreNamedMarked s (in_row s.row (insertion_source s.col n)) marks (marks_cells_moved n s marks)
   inserted_marks n =
-      cells_by n (inserted s.col n) (λ e c q. inserted_none s.col n c e)
+      cells_by n (insertion_source s.col n) (λ e c q. inserted_none s.col n c e)
       (λ pos e. fresh_not blank s.row s.col (sym (ap (at_row s.row) (inserted_here s.col n pos)) ∙ e))
 
-  deleted_none : (cols col n c : ℕ) → n ≡ 0 → c < cols → deleted cols col n c ≡ Column c
-  deleted_none cols col n c e q = ap (λ k. deleted cols col k c) e ∙ by_side (ltb c col) refl
+  deleted_none : (cols col n c : ℕ) → n ≡ 0 → c < cols → deletion_source cols col n c ≡ Column c
+  deleted_none cols col n c e q = ap (λ k. deletion_source cols col k c) e ∙ by_side (ltb c col) refl
     where
-      by_side : (b : Bool) → ltb c col ≡ b → deleted cols col 0 c ≡ Column c
+      by_side : (b : Bool) → ltb c col ≡ b → deletion_source cols col 0 c ≡ Column c
       by_side true h = grind (arith, common_steps)
       by_side false h = grind (arith, common_steps)
 
-  deleted_fresh : (cols col n : ℕ) → cols ≤ col + n → deleted cols col n col ≡ RowSource.Fresh blank
+  deleted_fresh : (cols col n : ℕ) → cols ≤ col + n → deletion_source cols col n col ≡ RowSource.Fresh blank
   deleted_fresh cols col n h = grind (arith, common_steps)
 
-  deleted_moves : (cols col n : ℕ) → col + n < cols → deleted cols col n col ≡ Column (col + n)
+  deleted_moves : (cols col n : ℕ) → col + n < cols → deletion_source cols col n col ≡ Column (col + n)
   deleted_moves cols col n h = grind (arith, common_steps)
 
-  pub deleted_marks : (n : ℕ) → AreNamedMarked s (in_row s.row (deleted s.cols s.col n)) marks (marks_cells_moved n s marks)
+  pub deleted_marks : (n : ℕ) → AreNamedMarked s (in_row s.row (deletion_source s.cols s.col n)) marks (marks_cells_moved n s marks)
   deleted_marks n =
-      cells_by n (deleted s.cols s.col n) (λ e c q. deleted_none s.cols s.col n c e q) (λ pos e.
+      cells_by n (deletion_source s.cols s.col n) (λ e c q. deleted_none s.cols s.col n c e q) (λ pos e.
       elim (cases_lt (s.col + n) s.cols) [
         | inl h ↦ other_col_not s.row (s.col + n) s.row s.col (λ k. absurd (omega (arith, k, pos))) (sym (ap (at_row s.row) (deleted_moves s.cols s.col n h)) ∙ e)
         | inr h ↦ fresh_not blank s.row s.col (sym (ap (at_row s.row) (deleted_fresh s.cols s.col n h)) ∙ e)
       ])
 
-  blanked_here : (from to : ℕ) → from < to → blanked from to from ≡ RowSource.Fresh blank
+  blanked_here : (from to : ℕ) → from < to → erasure_source from to from ≡ RowSource.Fresh blank
   blanked_here from to h = grind (arith, common_steps)
 
-  blanked_marks : (from to : ℕ) → from < to → to ≤ s.cols → AreNamedMarked s (in_row s.row (blanked from to)) marks (marks_in_line s marks)
-  blanked_marks from to h k = row_named s s.row from (blanked from to) marks few (omega (arith, h, k)) (λ e. fresh_not blank s.row from (sym (ap (at_row s.row) (blanked_here from to h)) ∙ e))
+  blanked_marks : (from to : ℕ) → from < to → to ≤ s.cols → AreNamedMarked s (in_row s.row (erasure_source from to)) marks (marks_in_line s marks)
+  blanked_marks from to h k = row_named s s.row from (erasure_source from to) marks few (omega (arith, h, k)) (λ e. fresh_not blank s.row from (sym (ap (at_row s.row) (blanked_here from to h)) ∙ e))
 
-  pub erased_marks : (n : ℕ) → 0 < n → AreNamedMarked s (in_row s.row (blanked s.col (min (s.col + n) s.cols))) marks (marks_in_line s marks)
+  pub erased_marks : (n : ℕ) → 0 < n → AreNamedMarked s (in_row s.row (erasure_source s.col (min (s.col + n) s.cols))) marks (marks_in_line s marks)
   erased_marks n pos = blanked_marks s.col (min (s.col + n) s.cols) (omega (arith, is.frame.col_in, pos)) (omega arith)
 
   pub line_range : (e : Extent) → (line_from e s.col < line_to e s.cols s.col) × (line_to e s.cols s.col ≤ s.cols)
@@ -253,14 +253,14 @@ module _ (s : Screen) (marks : List Bool) (is : IsScreen s) where
   line_range ToStart = (omega arith, omega (arith, is.frame.col_in))
   line_range All = (some, omega arith)
 
-  pub line_marks : (e : Extent) → AreNamedMarked s (in_row s.row (blanked (line_from e s.col) (line_to e s.cols s.col))) marks (marks_in_line s marks)
+  pub line_marks : (e : Extent) → AreNamedMarked s (in_row s.row (erasure_source (line_from e s.col) (line_to e s.cols s.col))) marks (marks_in_line s marks)
   line_marks e = blanked_marks (line_from e s.col) (line_to e s.cols s.col) (line_range e).0 (line_range e).1
 
-  written_here : (x : Glyph) (col : ℕ) → written x col col ≡ RowSource.Fresh x
+  written_here : (x : Glyph) (col : ℕ) → writing_source x col col ≡ RowSource.Fresh x
   written_here x col = grind (arith, common_steps)
 
-  pub written_marks : (x : Glyph) → AreNamedMarked s (in_row s.row (written x s.col)) marks (row_marked s.row marks)
-  written_marks x = row_named s s.row s.col (written x s.col) marks few is.frame.col_in (λ e. fresh_not x s.row s.col (sym (ap (at_row s.row) (written_here x s.col)) ∙ e))
+  pub written_marks : (x : Glyph) → AreNamedMarked s (in_row s.row (writing_source x s.col)) marks (row_marked s.row marks)
+  written_marks x = row_named s s.row s.col (writing_source x s.col) marks few is.frame.col_in (λ e. fresh_not x s.row s.col (sym (ap (at_row s.row) (written_here x s.col)) ∙ e))
 
   in_page : (e : Extent) (r : ℕ) → page_from e s.row ≤ r → r < page_to e s.rows s.row → IsNamed s.cols (page_blanked e s.row s.col) r
   in_page e r p q = (0, some, λ h. fresh_not blank r 0 (sym (ap (λ b. cond b (Fresh blank) (From r 0)) (inside e s.rows s.row s.col r 0 p q)) ∙ h))

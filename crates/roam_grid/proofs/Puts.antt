@@ -2,12 +2,12 @@
 use Rattle.std.proofs.Common.{◌≡◌, ℕ, ◌+◌, ◌-◌, ◌<◌, ◌≤◌, Bool, true, false, ◌&&◌, cond, eqb, refl, sym, ap, ◌∙◌, arith}
 use Rattle.std.proofs.lemmas.Grind.{common_steps}
 use Rattle.roam_cells.specs.Glyph.{Glyph}
-use Rattle.roam_rows.specs.Editing.{inserted}
+use Rattle.roam_rows.specs.Editing.{insertion_source}
 use Rattle.roam_rows.specs.Places.{in_row}
-use Rattle.roam_grid.specs.Screen.{Screen, mapped}
+use Rattle.roam_grid.specs.Screen.{Screen, mapped_screen}
 use Rattle.roam_grid.specs.Scrolling.{scrolled_up, first_scrolled_up}
-use Rattle.roam_grid.specs.Cursor.{carried, indexed, first_indexed}
-use Rattle.roam_grid.specs.Writing.{columns, wrapped, settled, first_settled, with_room, first_with_room, made_way, inked, advanced, leaves_row, put_on, first_put}
+use Rattle.roam_grid.specs.Cursor.{after_carriage_return, after_index, first_indexed}
+use Rattle.roam_grid.specs.Writing.{columns, after_wrap, after_pending_wrap, first_settled, with_room, first_with_room, made_way, after_ink, after_advance, leaves_row, put_on, first_put}
 use Rattle.roam_grid.specs.declared.writing.Writing.{Writing}
 
 abbrev pub Placed : ℕ → Screen → Type 0
@@ -19,22 +19,22 @@ one_of n false true x y z p q r = q
 one_of n false false x y z p q r = r
 
 -- after a wrap the cursor is in the first column
-pub wrapped_place : (s : Screen) → Placed s.cols (wrapped s)
-unfolding wrapped carried indexed scrolled_up
+pub wrapped_place : (s : Screen) → Placed s.cols (after_wrap s)
+unfolding after_wrap after_carriage_return after_index scrolled_up
 wrapped_place s = one_of s.cols (eqb s.row s.bottom) (eqb (s.row + 1) s.rows) _ _ _ (refl, refl, refl) (refl, refl, refl) (refl, refl, refl)
 
-settled_by : (s : Screen) (p : Bool) → s.pending ≡ p → (settled s).pending ≡ false
-unfolding settled
-settled_by s true e = ap (λ b. (cond b (wrapped s) s).pending) e ∙ (wrapped_place s).1
-settled_by s false e = ap (λ b. (cond b (wrapped s) s).pending) e ∙ e
+settled_by : (s : Screen) (p : Bool) → s.pending ≡ p → (after_pending_wrap s).pending ≡ false
+unfolding after_pending_wrap
+settled_by s true e = ap (λ b. (cond b (after_wrap s) s).pending) e ∙ (wrapped_place s).1
+settled_by s false e = ap (λ b. (cond b (after_wrap s) s).pending) e ∙ e
 
 -- no wrap pends once one is done
-pub settled_none : (s : Screen) → (settled s).pending ≡ false
+pub settled_none : (s : Screen) → (after_pending_wrap s).pending ≡ false
 settled_none s = settled_by s s.pending refl
 
-pub settled_same : (s : Screen) → s.pending ≡ false → settled s ≡ s
-unfolding settled
-settled_same s e = ap (λ b. cond b (wrapped s) s) e
+pub settled_same : (s : Screen) → s.pending ≡ false → after_pending_wrap s ≡ s
+unfolding after_pending_wrap
+settled_same s e = ap (λ b. cond b (after_wrap s) s) e
 
 pub first_settled_same : (s : Screen) (first : ℕ) → s.pending ≡ false → first_settled s first ≡ first
 unfolding first_settled
@@ -61,46 +61,46 @@ module _ (n : ℕ) (w : Writing) (s : Screen) (first : ℕ) (wide : 4 ≤ s.cols
   abbrev tests : Bool
   tests = eqb n 2 && eqb (s.col + 1) s.cols && w.wraps
 
-  by_pending : (p : Bool) → s.pending ≡ p → first_with_room n w (settled s) (first_settled s first) ≡ cond (leaves_row n w s) (first_scrolled_up 1 s first) first
-  unfolding first_with_room first_settled settled leaves_row first_indexed
+  by_pending : (p : Bool) → s.pending ≡ p → first_with_room n w (after_pending_wrap s) (first_settled s first) ≡ cond (leaves_row n w s) (first_scrolled_up 1 s first) first
+  unfolding first_with_room first_settled after_pending_wrap leaves_row first_indexed
   by_pending true e =
-      let t = wrapped s in
+      let t = after_wrap s in
       let place = wrapped_place s in
       ap (λ b. first_with_room n w (cond b t s) (cond b (first_indexed s first) first)) e
       ∙ ap (λ b. cond (eqb n 2 && b && w.wraps) (first_indexed t (first_indexed s first)) (first_indexed s first)) (not_last t.col t.cols s.cols place.0 place.2 wide)
       ∙ ap (λ b. cond b (first_indexed t (first_indexed s first)) (first_indexed s first)) (and_false (eqb n 2) w.wraps)
       ∙ sym (ap (λ b. cond (eqb s.row s.bottom && cond b true tests) (first_scrolled_up 1 s first) first) e ∙ ap (λ b. cond b (first_scrolled_up 1 s first) first) (and_true (eqb s.row s.bottom)))
   by_pending false e =
-      ap (λ b. first_with_room n w (cond b (wrapped s) s) (cond b (first_indexed s first) first)) e
+      ap (λ b. first_with_room n w (cond b (after_wrap s) s) (cond b (first_indexed s first) first)) e
       ∙ cond_and tests (eqb s.row s.bottom) (first_scrolled_up 1 s first) first
       ∙ sym (ap (λ b. cond (eqb s.row s.bottom && cond b true tests) (first_scrolled_up 1 s first) first) e)
 
   -- the first row goes on where a row leaves
-  pub first_steps : first_with_room n w (settled s) (first_settled s first) ≡ cond (leaves_row n w s) (first_scrolled_up 1 s first) first
+  pub first_steps : first_with_room n w (after_pending_wrap s) (first_settled s first) ≡ cond (leaves_row n w s) (first_scrolled_up 1 s first) first
   first_steps = by_pending s.pending refl
 
-settled_cols_by : (s : Screen) (p : Bool) → s.pending ≡ p → (settled s).cols ≡ s.cols
-unfolding settled
-settled_cols_by s true e = ap (λ b. (cond b (wrapped s) s).cols) e ∙ (wrapped_place s).2
-settled_cols_by s false e = ap (λ b. (cond b (wrapped s) s).cols) e
+settled_cols_by : (s : Screen) (p : Bool) → s.pending ≡ p → (after_pending_wrap s).cols ≡ s.cols
+unfolding after_pending_wrap
+settled_cols_by s true e = ap (λ b. (cond b (after_wrap s) s).cols) e ∙ (wrapped_place s).2
+settled_cols_by s false e = ap (λ b. (cond b (after_wrap s) s).cols) e
 
 -- a pending wrap may be done before
-pub put_settled : (x : Glyph) (w : Writing) (s : Screen) → put_on x w (settled s) ≡ put_on x w s
+pub put_settled : (x : Glyph) (w : Writing) (s : Screen) → put_on x w (after_pending_wrap s) ≡ put_on x w s
 unfolding put_on
-put_settled x w s = ap (λ t. advanced (columns x) w (inked x (made_way (columns x) w (with_room (columns x) w t)))) (settled_same (settled s) (settled_none s))
+put_settled x w s = ap (λ t. after_advance (columns x) w (after_ink x (made_way (columns x) w (with_room (columns x) w t)))) (settled_same (after_pending_wrap s) (settled_none s))
 
-pub first_put_settled : (x : Glyph) (w : Writing) (s : Screen) (first : ℕ) → 4 ≤ s.cols → first_put x w (settled s) (first_settled s first) ≡ first_put x w s first
+pub first_put_settled : (x : Glyph) (w : Writing) (s : Screen) (first : ℕ) → 4 ≤ s.cols → first_put x w (after_pending_wrap s) (first_settled s first) ≡ first_put x w s first
 unfolding first_put
 first_put_settled x w s first wide =
     let n = columns x in
     let next = first_settled s first in
     let none = settled_none s in
-    sym (first_steps n w (settled s) next (omega (arith, settled_cols_by s s.pending refl)))
-    ∙ ap (λ t. first_with_room n w t (first_settled (settled s) next)) (settled_same (settled s) none)
-    ∙ ap (λ f. first_with_room n w (settled s) f) (first_settled_same (settled s) next none)
+    sym (first_steps n w (after_pending_wrap s) next (omega (arith, settled_cols_by s s.pending refl)))
+    ∙ ap (λ t. first_with_room n w t (first_settled (after_pending_wrap s) next)) (settled_same (after_pending_wrap s) none)
+    ∙ ap (λ f. first_with_room n w (after_pending_wrap s) f) (first_settled_same (after_pending_wrap s) next none)
     ∙ first_steps n w s first wide
 
-pub settled_cols : (s : Screen) → (settled s).cols ≡ s.cols
+pub settled_cols : (s : Screen) → (after_pending_wrap s).cols ≡ s.cols
 settled_cols s = settled_cols_by s s.pending refl
 
 pub not_edge : (n col cols : ℕ) → col + n < cols → (eqb n 2 && eqb (col + 1) cols) ≡ false
@@ -108,13 +108,13 @@ not_edge n col cols room = grind (arith, common_steps)
 
 -- a cell that has room after it, with no wrap pending, is written where the cursor is
 pub put_inside : (x : Glyph) (w : Writing) (s : Screen) → w.inserts ≡ false → s.pending ≡ false → s.col + columns x < s.cols
-    → put_on x w s ≡ advanced (columns x) w (inked x s)
+    → put_on x w s ≡ after_advance (columns x) w (after_ink x s)
 unfolding put_on with_room made_way
 put_inside x w s over none room =
     let n = columns x in
-    ap (λ t. advanced n w (inked x (made_way n w (with_room n w t)))) (settled_same s none)
-    ∙ ap (λ b. advanced n w (inked x (made_way n w (cond b (cond w.wraps (wrapped s) (record s { col = s.cols - 2 })) s)))) (not_edge n s.col s.cols room)
-    ∙ ap (λ b. advanced n w (inked x (cond b (mapped (in_row s.row (inserted s.col n)) s) s))) over
+    ap (λ t. after_advance n w (after_ink x (made_way n w (with_room n w t)))) (settled_same s none)
+    ∙ ap (λ b. after_advance n w (after_ink x (made_way n w (cond b (cond w.wraps (after_wrap s) (record s { col = s.cols - 2 })) s)))) (not_edge n s.col s.cols room)
+    ∙ ap (λ b. after_advance n w (after_ink x (cond b (mapped_screen (in_row s.row (insertion_source s.col n)) s) s))) over
 
 and_nothing : (a b : Bool) → b ≡ false → (a && b) ≡ false
 and_nothing true b e = e

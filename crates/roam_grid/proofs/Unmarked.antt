@@ -6,12 +6,12 @@ use Rattle.roam_cells.proofs.Places.{get_or-table}
 use Rattle.roam_rows.specs.Places.{Source, From, moved_at}
 use Rattle.roam_rows.specs.Scrolling.{up, down}
 use Rattle.roam_rows.proofs.Vertical.{row_stays}
-use Rattle.roam_grid.specs.Cursor.{indexed, reverse_indexed, wrap_cleared}
+use Rattle.roam_grid.specs.Cursor.{after_index, after_reverse_index, wrap_cleared}
 use Rattle.roam_grid.specs.Editing.{cells_inserted, cells_deleted, cells_erased, lines_inserted, lines_deleted, is_between_margins}
 use Rattle.roam_grid.specs.Erasing.{erased_in_page, erased_in_line, erased_selectively_in_page, erased_selectively_in_line}
 use Rattle.roam_grid.specs.Laws.{AreNamedMarked, ShowsUnmarked}
 use Rattle.roam_grid.specs.Marks.{moved_marked, marks_scrolled, marks_indexed, marks_reverse_indexed, marks_cells_moved, marks_lines_moved, marks_in_line, marks_erased_in_page, marks_erased_selectively_in_page, marks_erased_selectively_in_line}
-use Rattle.roam_grid.specs.Screen.{Screen, IsScreen, mapped}
+use Rattle.roam_grid.specs.Screen.{Screen, IsScreen, mapped_screen}
 use Rattle.roam_grid.specs.Scrolling.{scrolled_up, scrolled_down}
 use Rattle.roam_grid.specs.declared.erasing.Extent.{Extent}
 use Rattle.roam_grid.proofs.Named.{up_marks, down_marks, lines_up, lines_down, inserted_marks, deleted_marks, erased_marks, line_marks, page_marks}
@@ -20,13 +20,13 @@ use Rattle.roam_grid.proofs.Pages.{moved_same}
 
 -- a row of a map in which each place takes itself
 pub row_same : (s : Screen) (source : ℕ → ℕ → Source) (r c : ℕ) → AreWhole s.rows s.cols s.cells → r < s.rows → c < s.cols
-    → ((d : ℕ) → d < s.cols → source r d ≡ From r d) → cell_at s.cols (mapped source s).cells r c ≡ cell_at s.cols s.cells r c
+    → ((d : ℕ) → d < s.cols → source r d ≡ From r d) → cell_at s.cols (mapped_screen source s).cells r c ≡ cell_at s.cols s.cells r c
 row_same s source r c whole p q same =
     get_or-table s.rows s.cols (moved_at s.cols s.cells source) r c blank p q
     ∙ moved_same s.cols s.cells source From r c q same
     ∙ row_stays s.rows s.cols s.cells whole From r c r p q (λ d. refl)
 
-by_map : (s : Screen) (source : ℕ → ℕ → Source) (m k : List Bool) → AreWhole s.rows s.cols s.cells → AreNamedMarked s source m k → ShowsUnmarked s (mapped source s) m k
+by_map : (s : Screen) (source : ℕ → ℕ → Source) (m k : List Bool) → AreWhole s.rows s.cols s.cells → AreNamedMarked s source m k → ShowsUnmarked s (mapped_screen source s) m k
 by_map s source m k whole named = record {
   stay = named.stay;
   shows = λ r c p q off. row_same s source r c whole p q (λ d h. named.rest r d p h off);
@@ -96,12 +96,12 @@ module _ (s : Screen) (m : List Bool) (is : IsScreen s) where
   unfolding lines_deleted
   lines_deleted_show n = lines_by n _ (is_between_margins s) refl (λ e. let h = by_map s _ m (marks_lines_moved n s m) is.whole (lines_up s m is n e) in record { stay = h.stay; shows = h.shows })
 
-  pub reverse_shows : ShowsUnmarked s (reverse_indexed s) m (marks_reverse_indexed s m)
-  unfolding reverse_indexed
+  pub reverse_shows : ShowsUnmarked s (after_reverse_index s) m (marks_reverse_indexed s m)
+  unfolding after_reverse_index
   reverse_shows = one_of s _ _ m (marks_scrolled 1 s m) (eqb s.row s.top) (let h = down_shows 1 in record { stay = h.stay; shows = h.shows }) refl
 
-  pub index_shows : ShowsUnmarked s (indexed s) m (marks_indexed s m)
-  unfolding indexed marks_indexed
+  pub index_shows : ShowsUnmarked s (after_index s) m (marks_indexed s m)
+  unfolding after_index marks_indexed
   index_shows =
       one_of s _ _ m (marks_scrolled 1 s m) (eqb s.row s.bottom) (let h = up_shows 1 in record { stay = h.stay; shows = h.shows })
       (same_cells s _ _ (eqb (s.row + 1) s.rows) refl refl)

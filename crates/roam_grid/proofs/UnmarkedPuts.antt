@@ -7,21 +7,21 @@ use Rattle.roam_cells.specs.Glyph.{Glyph, is_wide, is_right_half, right_of, blan
 use Rattle.roam_cells.specs.Place.{cell_at, glyph_at, AreWhole, IsWholeRow}
 use Rattle.roam_cells.proofs.Places.{get_or-table, place_below}
 use Rattle.roam_rows.specs.Row.{RowSource, Column, Fresh, row_moved}
-use Rattle.roam_rows.specs.Places.{Source, moved, moved_at, in_row}
-use Rattle.roam_rows.specs.Editing.{inserted}
+use Rattle.roam_rows.specs.Places.{Source, mapped_cells, moved_at, in_row}
+use Rattle.roam_rows.specs.Editing.{insertion_source}
 use Rattle.roam_rows.specs.Scrolling.{up}
-use Rattle.roam_rows.specs.Writing.{written, base_column}
+use Rattle.roam_rows.specs.Writing.{writing_source, base_column}
 use Rattle.roam_rows.proofs.Columns.{InRow}
 use Rattle.roam_rows.proofs.Inking.{written_whole}
 use Rattle.roam_rows.proofs.Lifting.{in_other, in_row_else}
 use Rattle.roam_rows.proofs.Shifts.{inserted_whole}
 use Rattle.roam_rows.proofs.Vertical.{row_stays, row_blank, rows_whole}
-use Rattle.roam_grid.specs.Cursor.{carried, indexed}
+use Rattle.roam_grid.specs.Cursor.{after_carriage_return, after_index}
 use Rattle.roam_grid.specs.Laws.{IsChanged, ShowsUnmarked}
 use Rattle.roam_grid.specs.Marks.{is_marked, row_marked, marks_scrolled, marks_indexed, marks_settled, marks_with_room, marks_put, marks_put_all, joins, marks_joined_in, marks_joined}
-use Rattle.roam_grid.specs.Screen.{Screen, IsScreen, mapped}
+use Rattle.roam_grid.specs.Screen.{Screen, IsScreen, mapped_screen}
 use Rattle.roam_grid.specs.Scrolling.{scrolled_up}
-use Rattle.roam_grid.specs.Writing.{columns, wrapped, settled, with_room, made_way, inked, advanced, leaves_row, put_on, put_all, joined_in, joined_on}
+use Rattle.roam_grid.specs.Writing.{columns, after_wrap, after_pending_wrap, with_room, made_way, after_ink, after_advance, leaves_row, put_on, put_all, joined_in, joined_on}
 use Rattle.roam_grid.specs.declared.writing.Writing.{Writing}
 use Rattle.roam_grid.proofs.Marked.{marked_at, same_row}
 use Rattle.roam_grid.proofs.MarkedRuns.{made_row, marks_steps}
@@ -70,15 +70,15 @@ module _ (s : Screen) (m : List Bool) (is : IsSound s) where
   abbrev source : ℕ → ℕ → Source
   source = up s.top s.bottom 1
 
-  up_at : (r c : ℕ) → r < s.rows → c < s.cols → cell_at s.cols (moved s.rows s.cols s.cells source) r c ≡ moved_at s.cols s.cells source r c
+  up_at : (r c : ℕ) → r < s.rows → c < s.cols → cell_at s.cols (mapped_cells s.rows s.cols s.cells source) r c ≡ moved_at s.cols s.cells source r c
   up_at r c p q = get_or-table s.rows s.cols (moved_at s.cols s.cells source) r c blank p q
 
-  stays_there : (r : ℕ) → r < s.rows → (r < s.top) ⊎ (s.bottom + 1 ≤ r) → (c : ℕ) → c < s.cols → cell_at s.cols (moved s.rows s.cols s.cells source) r c ≡ cell_at s.cols s.cells r c
+  stays_there : (r : ℕ) → r < s.rows → (r < s.top) ⊎ (s.bottom + 1 ≤ r) → (c : ℕ) → c < s.cols → cell_at s.cols (mapped_cells s.rows s.cols s.cells source) r c ≡ cell_at s.cols s.cells r c
   stays_there r p out c q = row_same s source r c is.whole p q (λ d h. up_out s.top s.bottom 1 r d out)
 
-  up_whole : AreWhole s.rows s.cols (moved s.rows s.cols s.cells source)
+  up_whole : AreWhole s.rows s.cols (mapped_cells s.rows s.cols s.cells source)
   up_whole =
-      rows_whole s.rows s.cols s.cells (moved s.rows s.cols s.cells source) is.whole (λ r p.
+      rows_whole s.rows s.cols s.cells (mapped_cells s.rows s.cols s.cells source) is.whole (λ r p.
       elim (cases_lt r s.top) [
         | inl a ↦ inl (r, p, λ c q. stays_there r p (inl a) c q)
         | inr low ↦ elim (cases_lt s.bottom r) [
@@ -132,27 +132,27 @@ module _ (s : Screen) (m : List Bool) (is : IsSound s) where
     shown = unchanged s _ m refl;
   }
 
-  index_goes : Goes s (indexed s) m (marks_indexed s m)
-  unfolding indexed marks_indexed
+  index_goes : Goes s (after_index s) m (marks_indexed s m)
+  unfolding after_index marks_indexed
   index_goes = index_by (eqb s.row s.bottom) (eqb (s.row + 1) s.rows) refl
 
 -- a wrap
-wrap_goes : (s : Screen) (m : List Bool) → IsSound s → Goes s (wrapped s) m (marks_indexed s m)
-unfolding wrapped carried marks_indexed
+wrap_goes : (s : Screen) (m : List Bool) → IsSound s → Goes s (after_wrap s) m (marks_indexed s m)
+unfolding after_wrap after_carriage_return marks_indexed
 wrap_goes s m is =
-    let g = index_goes (carried s) m (record { few = is.few; row_in = is.row_in; bottom_in = is.bottom_in; whole = is.whole }) in
+    let g = index_goes (after_carriage_return s) m (record { few = is.few; row_in = is.row_in; bottom_in = is.bottom_in; whole = is.whole }) in
     record { rows = g.rows; cols = g.cols; sound = g.sound; shown = record { stay = g.shown.stay; shows = g.shown.shows } }
 
 module _ (s : Screen) (m : List Bool) (is : IsSound s) where
-  settle_by : (b : Bool) → Goes s (cond b (wrapped s) s) m (cond b (marks_indexed s m) m)
+  settle_by : (b : Bool) → Goes s (cond b (after_wrap s) s) m (cond b (marks_indexed s m) m)
   settle_by true = wrap_goes s m is
   settle_by false = goes_nowhere s m is
 
-  settle_goes : Goes s (settled s) m (marks_settled s m)
-  unfolding settled marks_settled
+  settle_goes : Goes s (after_pending_wrap s) m (marks_settled s m)
+  unfolding after_pending_wrap marks_settled
   settle_goes = settle_by s.pending
 
-  room_by : (a b w : Bool) → Goes s (cond (a && b) (cond w (wrapped s) (record s { col = s.cols - 2 })) s) m (cond (a && b && w) (marks_indexed s m) m)
+  room_by : (a b w : Bool) → Goes s (cond (a && b) (cond w (after_wrap s) (record s { col = s.cols - 2 })) s) m (cond (a && b && w) (marks_indexed s m) m)
   room_by true true true = wrap_goes s m is
   room_by true true false = record {
     rows = refl;
@@ -181,13 +181,13 @@ module _ (s : Screen) (m : List Bool) (is : IsSound s) where
     shown = unchanged s _ m refl;
   }
 
-  advance_goes : (n : ℕ) (w : Writing) → Goes s (advanced n w s) m m
-  unfolding advanced
+  advance_goes : (n : ℕ) (w : Writing) → Goes s (after_advance n w s) m m
+  unfolding after_advance
   advance_goes n w = advance_by n w (ltb (s.col + n) s.cols)
 
   -- a map of the cursor's row, which is marked
   row_goes : (one : ℕ → RowSource) (k : List Bool) → ((r : ℕ) → r < s.rows → is_marked m r ≡ true → is_marked k r ≡ true) → is_marked k s.row ≡ true
-      → ((c : ℕ) → c < s.cols → InRow s.cols (one c)) → IsWholeRow (row_moved (row_of s.cols s.cells s.row) one) → Goes s (mapped (in_row s.row one) s) m k
+      → ((c : ℕ) → c < s.cols → InRow s.cols (one c)) → IsWholeRow (row_moved (row_of s.cols s.cells s.row) one) → Goes s (mapped_screen (in_row s.row one) s) m k
   row_goes one k stay on stays line = record {
     rows = refl;
     cols = refl;
@@ -219,9 +219,9 @@ module _ (s : Screen) (m : List Bool) (is : IsSound s) where
   in_three cols c d false true p q = tt
   in_three cols c d false false p q = q
 
-  way_by : (n : ℕ) (b : Bool) → Goes s (cond b (mapped (in_row s.row (inserted s.col n)) s) s) m (row_marked s.row m)
+  way_by : (n : ℕ) (b : Bool) → Goes s (cond b (mapped_screen (in_row s.row (insertion_source s.col n)) s) s) m (row_marked s.row m)
   way_by n true =
-      row_goes (inserted s.col n) (row_marked s.row m) marks_stay marks_row
+      row_goes (insertion_source s.col n) (row_marked s.row m) marks_stay marks_row
       (λ c q. in_three s.cols c (c - n) (ltb c s.col) (ltb c (s.col + n)) q (omega arith))
       (inserted_whole s.col n (row_of s.cols s.cells s.row) line_whole)
   way_by n false = record { rows = refl; cols = refl; sound = is; shown = record { stay = marks_stay; shows = λ r c p q off. refl } }
@@ -230,17 +230,17 @@ module _ (s : Screen) (m : List Bool) (is : IsSound s) where
   unfolding made_way
   way_goes n w = way_by n w.inserts
 
-  ink_goes : (x : Glyph) → is_right_half x ≡ false → is_marked m s.row ≡ true → Goes s (inked x s) m m
-  unfolding inked
+  ink_goes : (x : Glyph) → is_right_half x ≡ false → is_marked m s.row ≡ true → Goes s (after_ink x s) m m
+  unfolding after_ink
   ink_goes x no_half on =
-      row_goes (written x s.col) m (λ r p e. e) on (λ c q. in_row_else s.cols c x (right_of x) (eqb c s.col) (is_wide x && eqb c (s.col + 1)) q)
+      row_goes (writing_source x s.col) m (λ r p e. e) on (λ c q. in_row_else s.cols c x (right_of x) (eqb c s.col) (is_wide x && eqb c (s.col + 1)) q)
       (written_whole s.col (row_of s.cols s.cells s.row) x line_whole no_half)
 
 put_goes : (x : Glyph) (w : Writing) (s : Screen) (m : List Bool) → IsSound s → is_right_half x ≡ false → Goes s (put_on x w s) m (marks_put x w s m)
 unfolding put_on marks_put
 put_goes x w s m is no_half =
     let n = columns x in
-    let t = settled s in
+    let t = after_pending_wrap s in
     let u = with_room n w t in
     let v = made_way n w u in
     let m1 = marks_settled s m in
@@ -251,9 +251,9 @@ put_goes x w s m is no_half =
     let three = way_goes u m2 two.sound n w in
     let on : is_marked k v.row ≡ true = ap (is_marked k) (made_row n w u) ∙ marks_row u m2 two.sound in
     let four = ink_goes v k three.sound x no_half on in
-    let five = advance_goes (inked x v) k four.sound n w in
-    steps s t (advanced n w (inked x v)) m m1 k one
-    (steps t u (advanced n w (inked x v)) m1 m2 k two (steps u v (advanced n w (inked x v)) m2 k k three (steps v (inked x v) (advanced n w (inked x v)) k k k four five)))
+    let five = advance_goes (after_ink x v) k four.sound n w in
+    steps s t (after_advance n w (after_ink x v)) m m1 k one
+    (steps t u (after_advance n w (after_ink x v)) m1 m2 k two (steps u v (after_advance n w (after_ink x v)) m2 k k three (steps v (after_ink x v) (after_advance n w (after_ink x v)) k k k four five)))
 
 put_all_goes : (xs : List Glyph) (w : Writing) (s : Screen) (m : List Bool) → IsSound s → ((k : ℕ) → k < length xs → is_right_half (glyph_at xs k) ≡ false) → Goes s (put_all xs w s) m (marks_put_all xs w s m)
 unfolding put_all marks_put_all
@@ -372,12 +372,12 @@ advanced_by : (n : ℕ) (w : Writing) (s : Screen) (b : Bool) → (cond b (recor
 advanced_by n w s true = refl
 advanced_by n w s false = refl
 
-advanced_row : (n : ℕ) (w : Writing) (s : Screen) → (advanced n w s).row ≡ s.row
-unfolding advanced
+advanced_row : (n : ℕ) (w : Writing) (s : Screen) → (after_advance n w s).row ≡ s.row
+unfolding after_advance
 advanced_row n w s = advanced_by n w s (ltb (s.col + n) s.cols)
 
-inked_row : (x : Glyph) (s : Screen) → (inked x s).row ≡ s.row
-unfolding inked
+inked_row : (x : Glyph) (s : Screen) → (after_ink x s).row ≡ s.row
+unfolding after_ink
 inked_row x s = refl
 
 -- the rows that go up before a cell is written, and the row that the cursor is in afterwards
@@ -386,7 +386,7 @@ pub put_is : (x : Glyph) (w : Writing) (s : Screen) (m : List Bool) → IsScreen
 unfolding marks_put put_on
 put_is x w s m is =
     let n = columns x in
-    let u = with_room n w (settled s) in
-    let row : (advanced n w (inked x (made_way n w u))).row ≡ u.row = advanced_row n w (inked x (made_way n w u)) ∙ inked_row x (made_way n w u) ∙ made_row n w u in
+    let u = with_room n w (after_pending_wrap s) in
+    let row : (after_advance n w (after_ink x (made_way n w u))).row ≡ u.row = advanced_row n w (after_ink x (made_way n w u)) ∙ inked_row x (made_way n w u) ∙ made_row n w u in
     ap (row_marked u.row) (marks_steps n w s m is.frame.size.least_columns)
     ∙ ap (λ r. row_marked r (cond (leaves_row n w s) (marks_scrolled 1 s m) m)) (sym row)

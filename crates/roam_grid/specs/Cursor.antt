@@ -4,17 +4,17 @@ use Rattle.roam_grid.specs.Screen.{Screen}
 use Rattle.roam_grid.specs.Scrolling.{scrolled_up, first_scrolled_up, scrolled_down, first_scrolled_down}
 
 -- one column to the left, not past the first (BS, ECMA-48 8.3.5)
-unfoldable pub backspaced : Screen → Screen
-backspaced s = record s { col = s.col - 1; pending = false }
+unfoldable pub after_backspace : Screen → Screen
+after_backspace s = record s { col = s.col - 1; pending = false }
 
 -- to the first column (CR, ECMA-48 8.3.15)
-unfoldable pub carried : Screen → Screen
-carried s = record s { col = 0; pending = false }
+unfoldable pub after_carriage_return : Screen → Screen
+after_carriage_return s = record s { col = 0; pending = false }
 
 -- one row down; on the bottom margin the rows between the margins go up, and on the last row below it nothing moves (IND, VT220 Programmer
 -- Reference; LF, ECMA-48 8.3.74)
-unfoldable pub indexed : Screen → Screen
-indexed s =
+unfoldable pub after_index : Screen → Screen
+after_index s =
     if (s.row == s.bottom) then record (scrolled_up 1 s) { pending = false }
     else if (s.row + 1 == s.rows) then record s { pending = false }
     else record s { row = s.row + 1; pending = false }
@@ -57,8 +57,8 @@ wrap_cleared s = record s { pending = false }
 
 -- one row up; on the top margin the rows between the margins go down, and on the first row above it nothing moves (RI, VT220
 -- Programmer Reference)
-unfoldable pub reverse_indexed : Screen → Screen
-reverse_indexed s =
+unfoldable pub after_reverse_index : Screen → Screen
+after_reverse_index s =
     if (s.row == s.top) then record (scrolled_down 1 s) { pending = false }
     else record s { row = s.row - 1; pending = false }
 
@@ -68,6 +68,6 @@ first_reverse_indexed s first = if (s.row == s.top) then first_scrolled_down 1 s
 
 -- to a row and a column from 0, at most the last ones, with a wrap pending where it was kept as pending and the column is the last (DECRC,
 -- VT220 Programmer Reference; this project's profile)
-unfoldable pub restored : ℕ → ℕ → Bool → Screen → Screen
-restored row col pending s =
+unfoldable pub after_restoring : ℕ → ℕ → Bool → Screen → Screen
+after_restoring row col pending s =
     record s { row = min row (s.rows - 1); col = min col (s.cols - 1); pending = pending && (min col (s.cols - 1) + 1 == s.cols) }

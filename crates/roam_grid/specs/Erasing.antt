@@ -2,9 +2,9 @@
 use Rattle.std.specs.Prelude.{ℕ, ◌+◌, Bool, true, false, not, ◌&&◌, ◌||◌, ◌==◌, nat_lt, nat_le, List, if◌then◌else◌}
 use Rattle.roam_cells.specs.Glyph.{Glyph, blank}
 use Rattle.roam_cells.specs.Place.{row_of, cell_at}
-use Rattle.roam_rows.specs.Erasing.{blanked, unguarded_blanked}
+use Rattle.roam_rows.specs.Erasing.{erasure_source, unguarded_blanked}
 use Rattle.roam_rows.specs.Places.{Source, From, Fresh, in_row}
-use Rattle.roam_grid.specs.Screen.{Screen, mapped}
+use Rattle.roam_grid.specs.Screen.{Screen, mapped_screen}
 use Rattle.roam_grid.specs.declared.erasing.Extent.{Extent}
 use Rattle.roam_grid.specs.declared.erasing.Extent.TheVariants.{ToEnd, ToStart, All}
 
@@ -42,12 +42,12 @@ page_blanked extent row col r c = if is_in_page extent row col r c then Fresh bl
 
 -- ED (ECMA-48 8.3.39): guarded cells too
 unfoldable pub erased_in_page : Extent → Screen → Screen
-erased_in_page extent s = record (mapped (page_blanked extent s.row s.col) s) { pending = false }
+erased_in_page extent s = record (mapped_screen (page_blanked extent s.row s.col) s) { pending = false }
 
 -- EL (ECMA-48 8.3.41): guarded cells too
 unfoldable pub erased_in_line : Extent → Screen → Screen
 erased_in_line extent s =
-    record (mapped (in_row s.row (blanked (line_from extent s.col) (line_to extent s.cols s.col))) s) { pending = false }
+    record (mapped_screen (in_row s.row (erasure_source (line_from extent s.col) (line_to extent s.cols s.col))) s) { pending = false }
 
 -- those of the places that an extent names become blank that aren't guarded
 abbrev pub page_unguarded_blanked : Extent → ℕ → List Glyph → ℕ → ℕ → ℕ → ℕ → Source
@@ -56,11 +56,12 @@ page_unguarded_blanked extent cols cells row col r c =
 
 -- DECSED (VT220 Programmer Reference): guarded cells stay
 unfoldable pub erased_selectively_in_page : Extent → Screen → Screen
-erased_selectively_in_page extent s = record (mapped (page_unguarded_blanked extent s.cols s.cells s.row s.col) s) { pending = false }
+erased_selectively_in_page extent s =
+    record (mapped_screen (page_unguarded_blanked extent s.cols s.cells s.row s.col) s) { pending = false }
 
 -- DECSEL (VT220 Programmer Reference): guarded cells stay
 unfoldable pub erased_selectively_in_line : Extent → Screen → Screen
 erased_selectively_in_line extent s =
-    record
-    (mapped (in_row s.row (unguarded_blanked (row_of s.cols s.cells s.row) (line_from extent s.col) (line_to extent s.cols s.col))) s)
+    record (mapped_screen
+        (in_row s.row (unguarded_blanked (row_of s.cols s.cells s.row) (line_from extent s.col) (line_to extent s.cols s.col))) s)
     { pending = false }

@@ -1,7 +1,7 @@
 -- What becomes of a whole screen at once: an alignment pattern, a frame taken over, another size.
 use Rattle.std.specs.Prelude.{ℕ, ◌+◌, ◌-◌, ◌*◌, false, ◌∷◌, [], replicate, min}
 use Rattle.roam_cells.specs.Glyph.{Glyph, default_style, blank}
-use Rattle.roam_rows.specs.Sizing.{sized}
+use Rattle.roam_rows.specs.Sizing.{sized_rows}
 use Rattle.roam_grid.specs.Screen.{Screen, start}
 
 -- E in the default style
@@ -9,16 +9,17 @@ abbrev pub letter_e : Glyph
 letter_e = record { points = 0x45 ∷ []; style = default_style; guarded = false }
 
 -- every cell is an E, the margins are full, the cursor is at the start (DECALN, VT220 Programmer Reference)
-unfoldable pub aligned : Screen → Screen
-aligned s = record s { cells = replicate (s.rows * s.cols) letter_e; row = 0; col = 0; pending = false; top = 0; bottom = s.rows - 1 }
+unfoldable pub after_alignment : Screen → Screen
+after_alignment s =
+    record s { cells = replicate (s.rows * s.cols) letter_e; row = 0; col = 0; pending = false; top = 0; bottom = s.rows - 1 }
 
 -- every cell is blank; all else stays
 unfoldable pub all_blank : Screen → Screen
 all_blank s = record s { cells = replicate (s.rows * s.cols) blank }
 
 -- every cell is blank; the cursor, the margins and the tab stops are as at the start (RIS, ECMA-48 8.3.105)
-unfoldable pub restarted : Screen → Screen
-restarted s = start s.rows s.cols
+unfoldable pub after_restart : Screen → Screen
+after_restart s = start s.rows s.cols
 
 -- the cursor, the margins and the tab stops of another screen, with no wrap pending (a switch of screens; this project's profile)
 unfoldable pub framed_as : Screen → Screen → Screen
@@ -30,12 +31,12 @@ leaving rows s = s.row + 1 - rows
 
 -- another size, after `off` rows have left at the top: rows come in or are cut at the bottom and columns at the right; full margins, the
 -- cursor pushed into the screen, no wrap pending (this project's profile)
-unfoldable pub resized : ℕ → ℕ → ℕ → Screen → Screen
-resized rows cols off s =
+unfoldable pub after_resizing : ℕ → ℕ → ℕ → Screen → Screen
+after_resizing rows cols off s =
     record {
       rows = rows;
       cols = cols;
-      cells = (sized rows cols off (record { rows = s.rows; cols = s.cols; cells = s.cells; first = 0 })).cells;
+      cells = (sized_rows rows cols off (record { rows = s.rows; cols = s.cols; cells = s.cells; first = 0 })).cells;
       row = min (s.row - off) (rows - 1);
       col = min s.col (cols - 1);
       pending = false;

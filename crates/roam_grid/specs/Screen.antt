@@ -4,7 +4,7 @@ use Rattle.roam_cells.specs.Limits.{most_columns}
 use Rattle.roam_cells.specs.Glyph.{Glyph, blank}
 use Rattle.roam_cells.specs.Limits.{IsSize}
 use Rattle.roam_cells.specs.Place.{AreWhole}
-use Rattle.roam_rows.specs.Places.{Source, moved}
+use Rattle.roam_rows.specs.Places.{Source, mapped_cells}
 use Rattle.roam_rows.specs.Rows.{Rows}
 use Rattle.roam_grid.specs.Tabs.{start_stops}
 
@@ -67,8 +67,8 @@ abbrev pub has_full_margins : Screen → Bool
 has_full_margins s = (s.top == 0) && (s.bottom + 1 == s.rows)
 
 -- the screen after a map of places
-abbrev pub mapped : (ℕ → ℕ → Source) → Screen → Screen
-mapped source s = record s { cells = moved s.rows s.cols s.cells source }
+abbrev pub mapped_screen : (ℕ → ℕ → Source) → Screen → Screen
+mapped_screen source s = record s { cells = mapped_cells s.rows s.cols s.cells source }
 
 -- screens of one size
 pub record IsSameSize (s t : Screen) : Type 0 where

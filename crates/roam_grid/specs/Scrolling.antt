@@ -1,15 +1,15 @@
 -- Scrolls between the margins, and the margins.
 use Rattle.std.specs.Prelude.{ℕ, if◌then◌else◌}
 use Rattle.roam_rows.specs.Scrolling.{up, down, turned_up, turned_down}
-use Rattle.roam_grid.specs.Screen.{Screen, mapped, has_full_margins}
+use Rattle.roam_grid.specs.Screen.{Screen, mapped_screen, has_full_margins}
 
 -- the rows between the margins go up by n (SU, ECMA-48 8.3.147)
 unfoldable pub scrolled_up : ℕ → Screen → Screen
-scrolled_up n s = mapped (up s.top s.bottom n) s
+scrolled_up n s = mapped_screen (up s.top s.bottom n) s
 
 -- the rows between the margins go down by n (SD, ECMA-48 8.3.113)
 unfoldable pub scrolled_down : ℕ → Screen → Screen
-scrolled_down n s = mapped (down s.top s.bottom n) s
+scrolled_down n s = mapped_screen (down s.top s.bottom n) s
 
 -- the place of the first row after a scroll up or down by n: only with full margins it goes on or back
 unfoldable pub first_scrolled_up : ℕ → Screen → ℕ → ℕ

@@ -5,12 +5,12 @@ use Rattle.roam_grid.specs.Screen.{Screen}
 use Rattle.roam_grid.specs.Tabs.{stops_on, stops_back}
 
 -- to the nth stop after the cursor, else to the last column (HT, ECMA-48 8.3.60; CHT, 8.3.10)
-unfoldable pub tabbed : ℕ → Screen → Screen
-tabbed n s = record s { col = stops_on n (s.cols - 1) s.stops s.col; pending = false }
+unfoldable pub after_tabs : ℕ → Screen → Screen
+after_tabs n s = record s { col = stops_on n (s.cols - 1) s.stops s.col; pending = false }
 
 -- to the nth stop before the cursor, else to the first column (CBT, ECMA-48 8.3.7)
-unfoldable pub back_tabbed : ℕ → Screen → Screen
-back_tabbed n s = record s { col = stops_back n s.stops s.col; pending = false }
+unfoldable pub after_back_tabs : ℕ → Screen → Screen
+after_back_tabs n s = record s { col = stops_back n s.stops s.col; pending = false }
 
 -- a stop in the cursor's column (HTS, ECMA-48 8.3.62)
 unfoldable pub stop_set : Screen → Screen

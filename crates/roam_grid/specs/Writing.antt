@@ -2,11 +2,11 @@
 use Rattle.std.specs.Prelude.{ℕ, ◌+◌, ◌-◌, Bool, true, ◌&&◌, ◌==◌, nat_lt, List, [], ◌∷◌, if◌then◌else◌}
 use Rattle.roam_cells.specs.Glyph.{Glyph, is_wide}
 use Rattle.roam_rows.specs.Places.{in_row}
-use Rattle.roam_rows.specs.Editing.{inserted}
-use Rattle.roam_rows.specs.Writing.{written, joined}
-use Rattle.roam_grid.specs.Screen.{Screen, mapped}
+use Rattle.roam_rows.specs.Editing.{insertion_source}
+use Rattle.roam_rows.specs.Writing.{writing_source, joined_rows}
+use Rattle.roam_grid.specs.Screen.{Screen, mapped_screen}
 use Rattle.roam_grid.specs.Scrolling.{first_scrolled_up}
-use Rattle.roam_grid.specs.Cursor.{carried, indexed, first_indexed}
+use Rattle.roam_grid.specs.Cursor.{after_carriage_return, after_index, first_indexed}
 use Rattle.roam_grid.specs.declared.writing.Writing.{Writing}
 
 -- the columns that a cell takes
@@ -14,12 +14,12 @@ abbrev pub columns : Glyph → ℕ
 columns x = if is_wide x then 2 else 1
 
 -- to the first column of the next row
-unfoldable pub wrapped : Screen → Screen
-wrapped s = indexed (carried s)
+unfoldable pub after_wrap : Screen → Screen
+after_wrap s = after_index (after_carriage_return s)
 
 -- a pending wrap is done (DECAWM, VT220 Programmer Reference)
-unfoldable pub settled : Screen → Screen
-settled s = if s.pending then wrapped s else s
+unfoldable pub after_pending_wrap : Screen → Screen
+after_pending_wrap s = if s.pending then after_wrap s else s
 
 -- the place of the first row after that
 unfoldable pub first_settled : Screen → ℕ → ℕ
@@ -28,7 +28,7 @@ first_settled s first = if s.pending then first_indexed s first else first
 -- a cell of two columns in the last column goes to the next row, and without DECAWM one column to the left
 unfoldable pub with_room : ℕ → Writing → Screen → Screen
 with_room width w s =
-    if ((width == 2) && (s.col + 1 == s.cols)) then (if w.wraps then wrapped s else record s { col = s.cols - 2 })
+    if ((width == 2) && (s.col + 1 == s.cols)) then (if w.wraps then after_wrap s else record s { col = s.cols - 2 })
     else s
 
 -- the place of the first row after that
@@ -37,21 +37,21 @@ first_with_room width w s first = if ((width == 2) && (s.col + 1 == s.cols) && w
 
 -- under IRM blanks come in where the cell will stand (ECMA-48 section 7.2.10; ICH, 8.3.64)
 unfoldable pub made_way : ℕ → Writing → Screen → Screen
-made_way width w s = if w.inserts then mapped (in_row s.row (inserted s.col width)) s else s
+made_way width w s = if w.inserts then mapped_screen (in_row s.row (insertion_source s.col width)) s else s
 
 -- the cell is written at the cursor, with its right half where it is wide
-unfoldable pub inked : Glyph → Screen → Screen
-inked x s = mapped (in_row s.row (written x s.col)) s
+unfoldable pub after_ink : Glyph → Screen → Screen
+after_ink x s = mapped_screen (in_row s.row (writing_source x s.col)) s
 
 -- the cursor goes a number of columns to the right; past the last column it stays there, with a wrap pending under DECAWM
-unfoldable pub advanced : ℕ → Writing → Screen → Screen
-advanced n w s =
+unfoldable pub after_advance : ℕ → Writing → Screen → Screen
+after_advance n w s =
     if nat_lt (s.col + n) s.cols then record s { col = s.col + n }
     else record s { col = s.cols - 1; pending = w.wraps }
 
 -- a cell of one or two columns is written
 unfoldable pub put_on : Glyph → Writing → Screen → Screen
-put_on x w s = advanced (columns x) w (inked x (made_way (columns x) w (with_room (columns x) w (settled s))))
+put_on x w s = after_advance (columns x) w (after_ink x (made_way (columns x) w (with_room (columns x) w (after_pending_wrap s))))
 
 -- whether writing a cell of so many columns first scrolls a row out at the top margin
 unfoldable pub leaves_row : ℕ → Writing → Screen → Bool
@@ -73,7 +73,8 @@ first_put_all (x ∷ xs) w s first = first_put_all xs w (put_on x w s) (first_pu
 
 -- the cells after a code point has joined the character in a column of the cursor's row
 abbrev pub joined_in : ℕ → ℕ → Screen → Screen
-joined_in col c s = record s { cells = (joined s.row col c (record { rows = s.rows; cols = s.cols; cells = s.cells; first = 0 })).cells }
+joined_in col c s =
+    record s { cells = (joined_rows s.row col c (record { rows = s.rows; cols = s.cols; cells = s.cells; first = 0 })).cells }
 
 -- a character of width 0 joins the cell before the cursor, and with a wrap pending the cursor's; in the first column with no wrap pending
 -- it is dropped (this project's profile)

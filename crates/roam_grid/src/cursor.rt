@@ -1,6 +1,6 @@
 //! Moves of the cursor.
 ghost use Rattle.std.specs.Prelude.{◌≡◌};
-ghost use Rattle.roam_grid.specs.Cursor.{backspaced, carried, indexed, first_indexed, moved_to, moved_up, moved_down, moved_right, moved_left, wrap_cleared, reverse_indexed, first_reverse_indexed, restored};
+ghost use Rattle.roam_grid.specs.Cursor.{after_backspace, after_carriage_return, after_index, first_indexed, moved_to, moved_up, moved_down, moved_right, moved_left, wrap_cleared, after_reverse_index, first_reverse_indexed, after_restoring};
 ghost use Rattle.roam_grid.specs.Marks.{marks_indexed, marks_reverse_indexed};
 ghost use Rattle.roam_grid.specs.Screen.{IsSameSize};
 
@@ -8,9 +8,9 @@ use crate::grids::Grid;
 
 impl Grid {
     /// One column to the left, not past the first (BS, ECMA-48 8.3.5).
-    #[tactic(auto, unfolding(crate::specs::Cursor::backspaced))]
+    #[tactic(auto, unfolding(crate::specs::Cursor::after_backspace))]
     pub fn backspace(&mut self)
-        ensures screen { self.new.screen ≡ backspaced self.old.screen }
+        ensures screen { self.new.screen ≡ after_backspace self.old.screen }
         ensures first { self.new.first ≡ self.old.first }
         ensures marks { self.new.marks ≡ self.old.marks }
         ensures size { IsSameSize self.old.screen self.new.screen }
@@ -21,9 +21,9 @@ impl Grid {
 
     /// To the first column (CR, ECMA-48 8.3.15).
     #[inline]
-    #[tactic(auto, unfolding(crate::specs::Cursor::carried))]
+    #[tactic(auto, unfolding(crate::specs::Cursor::after_carriage_return))]
     pub fn carriage_return(&mut self)
-        ensures screen { self.new.screen ≡ carried self.old.screen }
+        ensures screen { self.new.screen ≡ after_carriage_return self.old.screen }
         ensures first { self.new.first ≡ self.old.first }
         ensures marks { self.new.marks ≡ self.old.marks }
         ensures size { IsSameSize self.old.screen self.new.screen }
@@ -35,9 +35,9 @@ impl Grid {
     /// One row down, and on the bottom margin the rows between the margins up (IND, VT220 Programmer
     /// Reference; LF, ECMA-48 8.3.74).
     #[inline]
-    #[tactic(auto, unfolding(crate::specs::Cursor::indexed, crate::specs::Cursor::first_indexed, crate::specs::Marks::marks_indexed))]
+    #[tactic(auto, unfolding(crate::specs::Cursor::after_index, crate::specs::Cursor::first_indexed, crate::specs::Marks::marks_indexed))]
     pub fn index(&mut self)
-        ensures screen { self.new.screen ≡ indexed self.old.screen }
+        ensures screen { self.new.screen ≡ after_index self.old.screen }
         ensures first { self.new.first ≡ first_indexed self.old.screen self.old.first }
         ensures marks { self.new.marks ≡ marks_indexed self.old.screen self.old.marks }
         ensures size { IsSameSize self.old.screen self.new.screen }
@@ -133,9 +133,9 @@ impl Grid {
     }
 
     /// One row up, and on the top margin the rows between the margins down (RI, VT220 Programmer Reference).
-    #[tactic(auto, unfolding(crate::specs::Cursor::reverse_indexed, crate::specs::Cursor::first_reverse_indexed))]
+    #[tactic(auto, unfolding(crate::specs::Cursor::after_reverse_index, crate::specs::Cursor::first_reverse_indexed))]
     pub fn reverse_index(&mut self)
-        ensures screen { self.new.screen ≡ reverse_indexed self.old.screen }
+        ensures screen { self.new.screen ≡ after_reverse_index self.old.screen }
         ensures first { self.new.first ≡ first_reverse_indexed self.old.screen self.old.first }
         ensures marks { self.new.marks ≡ marks_reverse_indexed self.old.screen self.old.marks }
         ensures size { IsSameSize self.old.screen self.new.screen }
@@ -150,9 +150,9 @@ impl Grid {
 
     /// To a row and a column from 0, at most the last ones; a wrap pends where it was kept as pending and the column is the last (DECRC,
     /// VT220 Programmer Reference).
-    #[tactic(auto, unfolding(crate::specs::Cursor::restored))]
+    #[tactic(auto, unfolding(crate::specs::Cursor::after_restoring))]
     pub fn restore(&mut self, row: usize, col: usize, pending: bool)
-        ensures screen { self.new.screen ≡ restored row col pending self.old.screen }
+        ensures screen { self.new.screen ≡ after_restoring row col pending self.old.screen }
         ensures first { self.new.first ≡ self.old.first }
         ensures marks { self.new.marks ≡ self.old.marks }
         ensures size { IsSameSize self.old.screen self.new.screen }

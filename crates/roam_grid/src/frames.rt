@@ -1,7 +1,7 @@
 //! What becomes of a whole screen at once.
 ghost use Rattle.std.specs.Prelude.{◌≡◌, ◌↔◌, ◌⊎◌, ◌<◌, IfOk, IfErr, IsErrOf, OnOk, OnErr};
 ghost use Rattle.roam_cells.specs.Limits.{IsSize};
-ghost use Rattle.roam_grid.specs.Frames.{aligned, all_blank, restarted, framed_as, leaving, resized};
+ghost use Rattle.roam_grid.specs.Frames.{after_alignment, all_blank, after_restart, framed_as, leaving, after_resizing};
 ghost use Rattle.roam_grid.specs.Marks.{all_on};
 ghost use Rattle.roam_grid.specs.Screen.{IsSameSize};
 
@@ -16,9 +16,9 @@ pub use roam_rows::Fitted;
 
 impl Grid {
     /// Fills the screen with E in the default style, with full margins and the cursor at the start (DECALN, VT220 Programmer Reference).
-    #[tactic(auto, unfolding(crate::specs::Frames::aligned, crate::specs::Marks::all_on))]
+    #[tactic(auto, unfolding(crate::specs::Frames::after_alignment, crate::specs::Marks::all_on))]
     pub fn align(&mut self)
-        ensures screen { self.new.screen ≡ aligned self.old.screen }
+        ensures screen { self.new.screen ≡ after_alignment self.old.screen }
         ensures first { self.new.first ≡ self.old.first }
         ensures marks { self.new.marks ≡ all_on }
         ensures size { IsSameSize self.old.screen self.new.screen }
@@ -47,9 +47,9 @@ impl Grid {
     }
 
     /// Blanks every cell, and puts the cursor, the margins and the tab stops where they are at the start (RIS, ECMA-48 8.3.105).
-    #[tactic(auto, unfolding(crate::specs::Frames::restarted, crate::specs::Frames::all_blank))]
+    #[tactic(auto, unfolding(crate::specs::Frames::after_restart, crate::specs::Frames::all_blank))]
     pub fn restart(&mut self)
-        ensures screen { self.new.screen ≡ restarted self.old.screen }
+        ensures screen { self.new.screen ≡ after_restart self.old.screen }
         ensures first { self.new.first ≡ self.old.first }
         ensures marks { self.new.marks ≡ all_on }
         ensures size { IsSameSize self.old.screen self.new.screen }
@@ -107,9 +107,9 @@ impl Grid {
 
     /// Brings the screen to the size that memory was made for, after `off` rows have left at the top: rows come in or are cut at the
     /// bottom and columns at the right. It takes no memory.
-    #[tactic(auto, unfolding(crate::specs::Frames::resized, crate::specs::Marks::all_on))]
+    #[tactic(auto, unfolding(crate::specs::Frames::after_resizing, crate::specs::Marks::all_on))]
     pub fn adopt(&mut self, fitted: Fitted, off: usize)
-        ensures screen { self.new.screen ≡ resized fitted.rows fitted.cols off self.old.screen }
+        ensures screen { self.new.screen ≡ after_resizing fitted.rows fitted.cols off self.old.screen }
         ensures first { self.new.first ≡ 0 }
         ensures marks { self.new.marks ≡ all_on }
     {
@@ -128,7 +128,7 @@ impl Grid {
     /// Brings the screen to another size, as `fit` and `adopt` do, after as many rows have left at the top that the cursor's stays. Refuses
     /// a size outside 2 to 200 rows and 4 to 500 columns, and want of memory, and changes nothing then.
     pub fn resize(&mut self, alloc: Global, rows: usize, cols: usize) -> Result<(), Fault>
-        ensures screen { OnOk result (self.new.screen ≡ resized rows cols (leaving rows self.old.screen) self.old.screen) }
+        ensures screen { OnOk result (self.new.screen ≡ after_resizing rows cols (leaving rows self.old.screen) self.old.screen) }
         ensures first { OnOk result (self.new.first ≡ 0) }
         ensures marks { OnOk result (self.new.marks ≡ all_on) }
         ensures err { OnErr result (self.new ≡ self.old) }

@@ -1,14 +1,14 @@
 //! What marks say of a screen, whatever calls were made, and what a scroll leaves in the buffer.
 ghost use Rattle.std.specs.Prelude.{◌≡◌, ℕ, ◌+◌, ◌-◌, ◌<◌, Bool, true, false, List, length, min, if◌then◌else◌};
 ghost use Rattle.roam_cells.specs.Glyph.{Glyph, is_right_half};
-ghost use Rattle.roam_rows.specs.Editing.{inserted, deleted};
-ghost use Rattle.roam_rows.specs.Erasing.{blanked, unguarded_blanked};
+ghost use Rattle.roam_rows.specs.Editing.{insertion_source, deletion_source};
+ghost use Rattle.roam_rows.specs.Erasing.{erasure_source, unguarded_blanked};
 ghost use Rattle.roam_rows.specs.Places.{in_row};
 ghost use Rattle.roam_rows.specs.Rows.{AreRows, KeepPlaces};
 ghost use Rattle.roam_rows.specs.Scrolling.{up, down};
-ghost use Rattle.roam_rows.specs.Writing.{written};
+ghost use Rattle.roam_rows.specs.Writing.{writing_source};
 ghost use Rattle.roam_cells.specs.Place.{glyph_at, row_of};
-ghost use Rattle.roam_grid.specs.Cursor.{indexed, reverse_indexed};
+ghost use Rattle.roam_grid.specs.Cursor.{after_index, after_reverse_index};
 ghost use Rattle.roam_grid.specs.Editing.{cells_inserted, cells_deleted, cells_erased, is_between_margins, lines_inserted, lines_deleted};
 ghost use Rattle.roam_grid.specs.Erasing.{line_from, line_to, page_blanked, page_unguarded_blanked, erased_in_page, erased_in_line, erased_selectively_in_page, erased_selectively_in_line};
 ghost use Rattle.roam_grid.specs.Laws.{AreNamedMarked, IsChanged, ShowsUnmarked, grid_up, grid_down};
@@ -29,11 +29,11 @@ pub fn marks_go_on_in_named_rows()
     ensures scrolled_down { (n : ℕ) (s : Screen) (m : List Bool) → IsScreen s
         → AreNamedMarked s (down s.top s.bottom n) m (marks_scrolled n s m) }
     ensures cells_inserted { (n : ℕ) (s : Screen) (m : List Bool) → IsScreen s
-        → AreNamedMarked s (in_row s.row (inserted s.col n)) m (marks_cells_moved n s m) }
+        → AreNamedMarked s (in_row s.row (insertion_source s.col n)) m (marks_cells_moved n s m) }
     ensures cells_deleted { (n : ℕ) (s : Screen) (m : List Bool) → IsScreen s
-        → AreNamedMarked s (in_row s.row (deleted s.cols s.col n)) m (marks_cells_moved n s m) }
+        → AreNamedMarked s (in_row s.row (deletion_source s.cols s.col n)) m (marks_cells_moved n s m) }
     ensures cells_erased { (n : ℕ) (s : Screen) (m : List Bool) → IsScreen s → 0 < n
-        → AreNamedMarked s (in_row s.row (blanked s.col (min (s.col + n) s.cols))) m (marks_in_line s m) }
+        → AreNamedMarked s (in_row s.row (erasure_source s.col (min (s.col + n) s.cols))) m (marks_in_line s m) }
     ensures lines_inserted { (n : ℕ) (s : Screen) (m : List Bool) → IsScreen s → is_between_margins s ≡ true
         → AreNamedMarked s (down s.row s.bottom n) m (marks_lines_moved n s m) }
     ensures lines_deleted { (n : ℕ) (s : Screen) (m : List Bool) → IsScreen s → is_between_margins s ≡ true
@@ -41,7 +41,7 @@ pub fn marks_go_on_in_named_rows()
     ensures erased_in_page { (e : Extent) (s : Screen) (m : List Bool) → IsScreen s
         → AreNamedMarked s (page_blanked e s.row s.col) m (marks_erased_in_page e s m) }
     ensures erased_in_line { (e : Extent) (s : Screen) (m : List Bool) → IsScreen s
-        → AreNamedMarked s (in_row s.row (blanked (line_from e s.col) (line_to e s.cols s.col))) m (marks_in_line s m) }
+        → AreNamedMarked s (in_row s.row (erasure_source (line_from e s.col) (line_to e s.cols s.col))) m (marks_in_line s m) }
     ensures erased_selectively_in_page { (e : Extent) (s : Screen) (m : List Bool) → IsScreen s
         → AreNamedMarked s (page_unguarded_blanked e s.cols s.cells s.row s.col) m (marks_erased_selectively_in_page e s m) }
     ensures erased_selectively_in_line { (e : Extent) (s : Screen) (m : List Bool) → IsScreen s
@@ -49,7 +49,7 @@ pub fn marks_go_on_in_named_rows()
         (in_row s.row (unguarded_blanked (row_of s.cols s.cells s.row) (line_from e s.col) (line_to e s.cols s.col)))
         m (marks_erased_selectively_in_line e s m) }
     ensures written { (x : Glyph) (s : Screen) (m : List Bool) → IsScreen s
-        → AreNamedMarked s (in_row s.row (written x s.col)) m (row_marked s.row m) }
+        → AreNamedMarked s (in_row s.row (writing_source x s.col)) m (row_marked s.row m) }
     ensures put { (x : Glyph) (w : Writing) (s : Screen) (m : List Bool) → IsScreen s
         → marks_put x w s m
         ≡ row_marked (put_on x w s).row (if leaves_row (columns x) w s then marks_scrolled 1 s m else m) }
@@ -69,9 +69,9 @@ pub fn unmarked_rows_show_what_they_showed()
         → ShowsUnmarked s (put_all xs w s) m (marks_put_all xs w s m) }
     ensures joined { (c : ℕ) (s : Screen) (m : List Bool) → IsScreen s
         → ShowsUnmarked s (joined_on c s) m (marks_joined c s m) }
-    ensures indexed { (s : Screen) (m : List Bool) → IsScreen s → ShowsUnmarked s (indexed s) m (marks_indexed s m) }
+    ensures indexed { (s : Screen) (m : List Bool) → IsScreen s → ShowsUnmarked s (after_index s) m (marks_indexed s m) }
     ensures reverse_indexed { (s : Screen) (m : List Bool) → IsScreen s
-        → ShowsUnmarked s (reverse_indexed s) m (marks_reverse_indexed s m) }
+        → ShowsUnmarked s (after_reverse_index s) m (marks_reverse_indexed s m) }
     ensures scrolled_up { (n : ℕ) (s : Screen) (m : List Bool) → IsScreen s
         → ShowsUnmarked s (scrolled_up n s) m (marks_scrolled n s m) }
     ensures scrolled_down { (n : ℕ) (s : Screen) (m : List Bool) → IsScreen s

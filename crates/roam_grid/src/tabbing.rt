@@ -1,6 +1,6 @@
 //! Tabs.
 ghost use Rattle.std.specs.Prelude.{◌≡◌};
-ghost use Rattle.roam_grid.specs.Tabbing.{tabbed, back_tabbed, stop_set, stop_cleared, stops_cleared};
+ghost use Rattle.roam_grid.specs.Tabbing.{after_tabs, after_back_tabs, stop_set, stop_cleared, stops_cleared};
 ghost use Rattle.roam_grid.specs.Screen.{IsSameSize};
 
 use crate::grids::Grid;
@@ -9,9 +9,9 @@ use roam_cells::limits::MOST_COLUMNS;
 
 impl Grid {
     /// To the nth tab stop after the cursor, else to the last column (HT, ECMA-48 8.3.60; CHT, 8.3.10).
-    #[tactic(auto, unfolding(crate::specs::Tabbing::tabbed))]
+    #[tactic(auto, unfolding(crate::specs::Tabbing::after_tabs))]
     pub fn tab(&mut self, n: usize)
-        ensures screen { self.new.screen ≡ tabbed n self.old.screen }
+        ensures screen { self.new.screen ≡ after_tabs n self.old.screen }
         ensures first { self.new.first ≡ self.old.first }
         ensures marks { self.new.marks ≡ self.old.marks }
         ensures size { IsSameSize self.old.screen self.new.screen }
@@ -23,9 +23,9 @@ impl Grid {
     }
 
     /// To the nth tab stop before the cursor, else to the first column (CBT, ECMA-48 8.3.7).
-    #[tactic(auto, unfolding(crate::specs::Tabbing::back_tabbed))]
+    #[tactic(auto, unfolding(crate::specs::Tabbing::after_back_tabs))]
     pub fn back_tab(&mut self, n: usize)
-        ensures screen { self.new.screen ≡ back_tabbed n self.old.screen }
+        ensures screen { self.new.screen ≡ after_back_tabs n self.old.screen }
         ensures first { self.new.first ≡ self.old.first }
         ensures marks { self.new.marks ≡ self.old.marks }
         ensures size { IsSameSize self.old.screen self.new.screen }

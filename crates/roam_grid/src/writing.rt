@@ -30,7 +30,7 @@ fn columns_of(cell: Cell) -> usize
 impl Grid {
     ghost use Rattle.roam_grid.specs.Marks.{joins, marks_indexed, marks_joined, marks_joined_in, marks_put, marks_settled, marks_with_room, row_marked};
     ghost use Rattle.roam_grid.specs.Screen.{IsSameSize};
-    ghost use Rattle.roam_grid.specs.Writing.{wrapped, settled, first_settled, with_room, first_with_room, made_way, inked, advanced, put_on, leaves_row, first_put, joined_in, joined_on};
+    ghost use Rattle.roam_grid.specs.Writing.{after_wrap, after_pending_wrap, first_settled, with_room, first_with_room, made_way, after_ink, after_advance, put_on, leaves_row, first_put, joined_in, joined_on};
     ghost use Rattle.roam_grid.specs.Cursor.{first_indexed};
 
     /// Whether a `put` of a cell of so many columns first scrolls a row out at the top margin.
@@ -134,9 +134,9 @@ impl Grid {
     }
 
     #[inline]
-    #[tactic(auto, unfolding(crate::specs::Writing::wrapped))]
+    #[tactic(auto, unfolding(crate::specs::Writing::after_wrap))]
     fn wrap(&mut self)
-        ensures screen { self.new.screen ≡ wrapped self.old.screen }
+        ensures screen { self.new.screen ≡ after_wrap self.old.screen }
         ensures first { self.new.first ≡ first_indexed self.old.screen self.old.first }
         ensures marks { self.new.marks ≡ marks_indexed self.old.screen self.old.marks }
         ensures size { IsSameSize self.old.screen self.new.screen }
@@ -148,9 +148,12 @@ impl Grid {
     }
 
     #[inline]
-    #[tactic(auto, unfolding(crate::specs::Writing::settled, crate::specs::Writing::first_settled, crate::specs::Marks::marks_settled))]
+    #[tactic(
+        auto,
+        unfolding(crate::specs::Writing::after_pending_wrap, crate::specs::Writing::first_settled, crate::specs::Marks::marks_settled)
+    )]
     pub(crate) fn settle(&mut self)
-        ensures screen { self.new.screen ≡ settled self.old.screen }
+        ensures screen { self.new.screen ≡ after_pending_wrap self.old.screen }
         ensures first { self.new.first ≡ first_settled self.old.screen self.old.first }
         ensures marks { self.new.marks ≡ marks_settled self.old.screen self.old.marks }
         ensures size { IsSameSize self.old.screen self.new.screen }
@@ -197,11 +200,11 @@ impl Grid {
     }
 
     #[inline(always)]
-    #[tactic(auto, unfolding(crate::specs::Writing::inked))]
+    #[tactic(auto, unfolding(crate::specs::Writing::after_ink))]
     fn ink(&mut self, cell: Cell)
         requires no_half { is_right_half cell ≡ false }
         requires room { columns cell + self.old.screen.col ≤ self.old.screen.cols }
-        ensures screen { self.new.screen ≡ inked cell self.old.screen }
+        ensures screen { self.new.screen ≡ after_ink cell self.old.screen }
         ensures first { self.new.first ≡ self.old.first }
         ensures marks { self.new.marks ≡ row_marked self.old.screen.row self.old.marks }
         ensures size { IsSameSize self.old.screen self.new.screen }
@@ -211,10 +214,10 @@ impl Grid {
     }
 
     #[inline]
-    #[tactic(auto, unfolding(crate::specs::Writing::advanced))]
+    #[tactic(auto, unfolding(crate::specs::Writing::after_advance))]
     pub(crate) fn advance(&mut self, columns: usize, writing: Writing)
         requires few { columns ≤ most_columns }
-        ensures screen { self.new.screen ≡ advanced columns writing self.old.screen }
+        ensures screen { self.new.screen ≡ after_advance columns writing self.old.screen }
         ensures first { self.new.first ≡ self.old.first }
         ensures marks { self.new.marks ≡ self.old.marks }
         ensures size { IsSameSize self.old.screen self.new.screen }

@@ -9,7 +9,7 @@ use Rattle.circular_buffer.specs.Buffer.{Buffer, buffer, keep_last}
 use Rattle.roam_cells.specs.Glyph.{Glyph, is_wide, is_right_half, blank}
 use Rattle.roam_cells.specs.Place.{glyph_at, IsWholeRow}
 use Rattle.roam_history.specs.Limits.{IsHistorySize}
-use Rattle.roam_history.specs.Histories.{Scrollback, last, pushed, IsRow, IsKept}
+use Rattle.roam_history.specs.Histories.{Scrollback, last, after_push, IsRow, IsKept}
 use Rattle.roam_history.specs.Lines.{refitted_row}
 use Rattle.roam_history.proofs.Refitting.{is_wide-blank, length-refitted_row}
 
@@ -129,8 +129,8 @@ module _ (ring popped next : Buffer (List Glyph)) (cols len new_len count : ℕ)
       ∙ last_turned ring.items y some len new_len kept.few (len_is ∙ ap (min (len + 1)) (count_is ∙ lines_are))
       ∙ ap (λ l. last (length ring.items) (last len ring.items ++ l ∷ [])) written
 
-  pub pushed_next : after ≡ pushed (refitted_row cols row) before
-  pushed_next = same_scrollback after (pushed (refitted_row cols row) before) lines_are refl rows_are
+  pub pushed_next : after ≡ after_push (refitted_row cols row) before
+  pushed_next = same_scrollback after (after_push (refitted_row cols row) before) lines_are refl rows_are
 
 blank_row : (cols : ℕ) → IsRow cols (replicate cols blank)
 blank_row cols =

@@ -9,5 +9,5 @@ pub record HistorySize : Type 0 where
   pub cols : ℕ
 
 -- a history at another number of columns: each row is cut or padded
-abbrev pub refitted : ℕ → Scrollback → Scrollback
-refitted cols h = record { lines = h.lines; cols = cols; rows = map (refitted_row cols) h.rows }
+abbrev pub after_refit : ℕ → Scrollback → Scrollback
+after_refit cols h = record { lines = h.lines; cols = cols; rows = map (refitted_row cols) h.rows }

@@ -20,8 +20,8 @@ abbrev pub empty : ℕ → ℕ → Scrollback
 empty lines cols = record { lines = lines; cols = cols; rows = [] }
 
 -- one more row comes in as the newest, and the last rows are kept
-abbrev pub pushed : List Glyph → Scrollback → Scrollback
-pushed row h = record { lines = h.lines; cols = h.cols; rows = last h.lines (h.rows ++ row ∷ []) }
+abbrev pub after_push : List Glyph → Scrollback → Scrollback
+after_push row h = record { lines = h.lines; cols = h.cols; rows = last h.lines (h.rows ++ row ∷ []) }
 
 -- of all rows that were ever pushed, oldest first, the last are kept
 abbrev pub keeping : ℕ → ℕ → List (List Glyph) → Scrollback

@@ -1,6 +1,6 @@
 //! A history brought to other columns: all memory first, then the rows.
 ghost use Rattle.std.specs.Prelude.{◌≡◌, ◌↔◌, ◌⊎◌, IfOk, IfErr, IsErrOf, OnOk, OnErr};
-ghost use Rattle.roam_history.specs.Fitting.{refitted};
+ghost use Rattle.roam_history.specs.Fitting.{after_refit};
 ghost use Rattle.roam_history.specs.Limits.{IsHistorySize};
 
 use crate::histories::History;
@@ -59,7 +59,7 @@ impl History {
     /// cut in two becomes a space in its own style and guard. Takes no memory.
     pub fn adopt(&mut self, fitted: Fitted)
         requires lines { fitted.lines ≡ self.old.lines }
-        ensures history { self.new ≡ refitted fitted.cols self.old }
+        ensures history { self.new ≡ after_refit fitted.cols self.old }
     {
         let Fitted { history } = fitted;
         let mut history = history;
@@ -72,7 +72,7 @@ impl History {
 
     /// Brings the history to other columns, as `fit` and `adopt` do; `BadSize` outside 4 to 500 columns. A refusal leaves it as it was.
     pub fn refit(&mut self, alloc: Global, cols: usize) -> Result<(), Fault>
-        ensures history { OnOk result (self.new ≡ refitted cols self.old) }
+        ensures history { OnOk result (self.new ≡ after_refit cols self.old) }
         ensures refused { OnErr result (self.new ≡ self.old) }
         ensures bad_size { IsErrOf result Fault.BadSize ↔ (¬ IsHistorySize self.old.lines cols) }
         ensures faults { IfErr result (λ fault. (fault ≡ Fault.BadSize) ⊎ (fault ≡ Fault.OutOfMemory)) }

@@ -3,7 +3,7 @@ ghost use Rattle.std.specs.Prelude.{◌≡◌, ◌≤◌, ◌<◌, ◌↔◌, �
 ghost use Rattle.circular_buffer.specs.Buffer.{buffer};
 ghost use Rattle.roam_cells.specs.Glyph.{blank};
 ghost use Rattle.roam_cells.specs.Place.{IsWholeRow};
-ghost use Rattle.roam_history.specs.Histories.{IsScrollback, empty, pushed};
+ghost use Rattle.roam_history.specs.Histories.{IsScrollback, empty, after_push};
 ghost use Rattle.roam_history.specs.Limits.{IsHistorySize};
 ghost use Rattle.roam_history.specs.Lines.{refitted_row, with_blanks};
 
@@ -125,7 +125,7 @@ impl History {
     /// Takes a row, cut or padded to its columns.
     pub(crate) fn take(&mut self, row: &[Cell])
         requires whole { IsWholeRow (refitted_row self.old.cols row.now) }
-        ensures pushed { self.new ≡ pushed (refitted_row self.old.cols row.now) self.old }
+        ensures pushed { self.new ≡ after_push (refitted_row self.old.cols row.now) self.old }
     {
         if let Some(mut line) = self.ring.pop_front() {
             line.take(row);
@@ -139,7 +139,7 @@ impl History {
     pub fn push_row(&mut self, row: &[Cell])
         requires count { length row.now ≡ self.old.cols }
         requires whole { IsWholeRow row.now }
-        ensures pushed { self.new ≡ pushed row.now self.old }
+        ensures pushed { self.new ≡ after_push row.now self.old }
     {
         self.push_front(row);
     }
@@ -148,7 +148,7 @@ impl History {
     pub fn push_front(&mut self, front: &[Cell])
         requires few { length front.now ≤ self.old.cols }
         requires whole { IsWholeRow (with_blanks self.old.cols front.now) }
-        ensures pushed { self.new ≡ pushed (with_blanks self.old.cols front.now) self.old }
+        ensures pushed { self.new ≡ after_push (with_blanks self.old.cols front.now) self.old }
     {
         self.take(front);
     }

@@ -28,7 +28,7 @@ use Rattle.roam_world.specs.Texts.{Address, datagram_with}
 use Rattle.roam_world.specs.Ticks.{holds_after, down_from}
 use Rattle.roam_hub.specs.declared.addresses.Addr.{Addr}
 use Rattle.roam_hub.specs.Servers.{RecordView, address_of, parcels_of}
-use Rattle.roam_hub.specs.Records.{held, fragments_due, is_sent_to, fragments_sent, datagrams_for, parcels_for}
+use Rattle.roam_hub.specs.Records.{held_record, fragments_due, is_sent_to, fragments_sent, datagrams_for, parcels_for}
 
 -- ---- texts with an address
 
@@ -115,14 +115,14 @@ newest_sent s now = marked_newest s.base s.later
 
 pub not_held : (v : RecordView) (n : ℕ) (s : Screenshot) (now : ℕ) (b : Bool)
     → b ≡ (nat_lt now (v.heard_at + 60000) && nat_lt (newest v.sender).number n && nat_lt (count v.sender) 8) → b ≡ false
-    → v ≡ held v n s now
+    → v ≡ held_record v n s now
 unfolding holds_after
 not_held v n s now b e f = sym (λ i. record v { sender = cond ((sym e ∙ f) i) (offered v.sender n (seen_by v.version s)) v.sender })
 
 pub held_now : (v : RecordView) (n : ℕ) (s : Screenshot) (now : ℕ) (b : Bool) (version : Version) (sender : Sending Screenshot)
     → version ≡ v.version
     → b ≡ (nat_lt now (v.heard_at + 60000) && nat_lt (newest v.sender).number n && nat_lt (count v.sender) 8) → b ≡ true
-    → sender ≡ offered v.sender n (seen_by v.version s) → record v { version = version; sender = sender } ≡ held v n s now
+    → sender ≡ offered v.sender n (seen_by v.version s) → record v { version = version; sender = sender } ≡ held_record v n s now
 unfolding holds_after
 held_now v n s now b version sender same e f g =
     (λ i. record v { version = same i; sender = g i })

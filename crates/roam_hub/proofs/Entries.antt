@@ -4,7 +4,7 @@ use Rattle.std.specs.Prelude.{nat_eq, nat_le, not, ◌&&◌}
 use Rattle.std.specs.List.{IsDistinct, AllByRecursion}
 use Rattle.std.specs.Map.{keys_of, lookup, set_value}
 use Rattle.std.proofs.lemmas.Bool.Decides.{nat_tests}
-use Rattle.roam_world.specs.Lists.{put}
+use Rattle.roam_world.specs.Lists.{with_value}
 use Rattle.roam_world.specs.Servers.{Record, no_record, Server}
 use Rattle.roam_wire.specs.Datagrams.{DatagramValue}
 use Rattle.roam_world.specs.Texts.{is_watching}
@@ -23,10 +23,10 @@ same_id i j e = grind (arith, nat_tests)
 itself : (i : ℕ) → nat_eq i i ≡ true
 itself i = grind (arith, nat_tests)
 
-put_other : (f : ℕ → Record) (i : ℕ) (r : Record) (j : ℕ) → nat_eq i j ≡ false → put f i r j ≡ f j
+put_other : (f : ℕ → Record) (i : ℕ) (r : Record) (j : ℕ) → nat_eq i j ≡ false → with_value f i r j ≡ f j
 put_other f i r j e = ap (λ b. cond b r (f j)) (other_way i j false e)
 
-put_here : (f : ℕ → Record) (i : ℕ) (r : Record) (j : ℕ) → nat_eq i j ≡ true → put f i r j ≡ r
+put_here : (f : ℕ → Record) (i : ℕ) (r : Record) (j : ℕ) → nat_eq i j ≡ true → with_value f i r j ≡ r
 put_here f i r j e = ap (λ b. cond b r (f j)) (other_way i j true e)
 
 abbrev Apart : ℕ → List (ℕ × RecordView) → Type 0
@@ -45,19 +45,19 @@ apart_from id (e ∷ es) none = go (nat_eq id e.0) refl none (apart_from id es)
 -- ---- what is kept stays kept
 
 kept_apart : (id : ℕ) (r : Record) (es : List (ℕ × RecordView)) (records : ℕ → Record) → Apart id es → AreKept es records
-    → AreKept es (put records id r)
+    → AreKept es (with_value records id r)
 kept_apart id r [] records a k = tt
 kept_apart id r (e ∷ es) records a k =
     (subst (IsKept e.1) (sym (put_other records id r e.0 a.0)) k.0, kept_apart id r es records a.1 k.1)
 
 kept_set : (id : ℕ) (w : RecordView) (r : Record) (es : List (ℕ × RecordView)) (records : ℕ → Record) → IsDistinct nat_eq (keys_of es)
-    → IsKept w r → AreKept es records → AreKept (set_value (nat_eq id) es w) (put records id r)
+    → IsKept w r → AreKept es records → AreKept (set_value (nat_eq id) es w) (with_value records id r)
 unfolding IsDistinct
 kept_set id w r [] records d is k = tt
 kept_set id w r (e ∷ es) records d is k = go (nat_eq id e.0) refl (kept_set id w r es records d.1 is k.1)
   where
-    go : (b : Bool) → nat_eq id e.0 ≡ b → AreKept (set_value (nat_eq id) es w) (put records id r)
-        → AreKept (cond b ((e.0, w) ∷ es) (e ∷ set_value (nat_eq id) es w)) (put records id r)
+    go : (b : Bool) → nat_eq id e.0 ≡ b → AreKept (set_value (nat_eq id) es w) (with_value records id r)
+        → AreKept (cond b ((e.0, w) ∷ es) (e ∷ set_value (nat_eq id) es w)) (with_value records id r)
     go true f next = (
       subst (IsKept w) (sym (put_here records id r e.0 f)) is,
       kept_apart id r es records
@@ -66,7 +66,7 @@ kept_set id w r (e ∷ es) records d is k = go (nat_eq id e.0) refl (kept_set id
     go false f next = (subst (IsKept e.1) (sym (put_other records id r e.0 f)) k.0, next)
 
 kept_push : (id : ℕ) (w : RecordView) (r : Record) (es : List (ℕ × RecordView)) (records : ℕ → Record) → Apart id es → IsKept w r
-    → AreKept es records → AreKept (es ++ (id, w) ∷ []) (put records id r)
+    → AreKept es records → AreKept (es ++ (id, w) ∷ []) (with_value records id r)
 kept_push id w r [] records a is k = (subst (IsKept w) (sym (put_here records id r id (itself id))) is, tt)
 kept_push id w r (e ∷ es) records a is k =
     (subst (IsKept e.1) (sym (put_other records id r e.0 a.0)) k.0, kept_push id w r es records a.1 is k.1)
@@ -142,8 +142,8 @@ unknown r e = ap (λ (x : Record). x.known) e
 -- there is room for the record of an id where one is put
 pub record PutsWell (v : ServerView) (s : Server) (id : ℕ) (new : List (ℕ × RecordView)) (r : Record) : Type 0 where
   pub arrival : keys_of new ≡ arrival_with s id
-  pub records : AreKept new (put s.records id r)
-  pub others : (j : ℕ) → lookup (nat_eq j) new ≡ None → put s.records id r j ≡ no_record
+  pub records : AreKept new (with_value s.records id r)
+  pub others : (j : ℕ) → lookup (nat_eq j) new ≡ None → with_value s.records id r j ≡ no_record
 
 pub puts_well : (v : ServerView) (s : Server) (d : DatagramValue) (new : List (ℕ × RecordView)) (was is : RecordView) (r : Record)
     → Stands v s
@@ -157,7 +157,7 @@ puts_well v s d new was is r st apart (known at fits same) k =
       others = (λ j none. go j (none_set d.client j is v.records none) (nat_eq d.client j) refl);
     })
   where
-    go : (j : ℕ) → lookup (nat_eq j) v.records ≡ None → (b : Bool) → nat_eq d.client j ≡ b → put s.records d.client r j ≡ no_record
+    go : (j : ℕ) → lookup (nat_eq j) v.records ≡ None → (b : Bool) → nat_eq d.client j ≡ b → with_value s.records d.client r j ≡ no_record
     go j none true e =
         let z : Some was ≡ None = sym at ∙ ap (λ (i : ℕ). lookup (nat_eq i) v.records) (same_id d.client j e) ∙ none in absurd (cc)
     go j none false e = put_other s.records d.client r j e ∙ st.others j none

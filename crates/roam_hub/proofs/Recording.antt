@@ -33,7 +33,7 @@ use Rattle.roam_world.specs.ServerArrivals.{coming_gathered, is_same, most_of}
 use Rattle.roam_world.proofs.Versions as versions
 use Rattle.roam_hub.specs.declared.taking.Taking.{Taking}
 use Rattle.roam_hub.specs.Servers.{RecordView, kept_of}
-use Rattle.roam_hub.specs.Records.{taking, TakesActs, heard_by, informed_by, Notes, fragment, instruction, NotNoted, no_fragment, unread, no_memory, known, added, NotesIn, NotNotedIn, room, differs, entry_of, first_record, Fits, IsOther, another_version, another_kind, NotHeard, other, fitting, fitted, alike_entries}
+use Rattle.roam_hub.specs.Records.{taking, TakesActs, heard_by, informed_by, Notes, fragment, instruction, NotNoted, no_fragment, unread, no_memory, known, added, NotesIn, NotNotedIn, room, differs, entry_of, first_record, Fits, IsOther, another_version, another_kind, NotHeard, other, fitting, fitted_record, alike_entries}
 
 pub new_record : (version v : Version) (watches : Bool) (g : Gathering) (taken : ℕ) (sender : Sending Screenshot) → v ≡ version
     → g ≡ nothing → taken ≡ 0 → sender ≡ start first_screen
@@ -232,7 +232,7 @@ same_kind false false e = refl
 same_kind true false e = absurd (cc)
 same_kind false true e = absurd (cc)
 
-pub is_fitted : (v : RecordView) (d : DatagramValue) → Fits v.version v.watches d → v ≡ fitted v d
+pub is_fitted : (v : RecordView) (d : DatagramValue) → Fits v.version v.watches d → v ≡ fitted_record v d
 is_fitted v d f =
     λ i. record v {
       version = versions.is_same-same v.version d.version f.version_is i;

@@ -20,17 +20,17 @@ use Rattle.roam_session.specs.Stands.{SessionView, Stands as SessionStands, Appe
 use Rattle.roam_session.specs.Queues.{IsWithin}
 use Rattle.roam_session.proofs.Entering.{waiting_is}
 use Rattle.roam_acts.specs.Takers.{fresh_of}
-use Rattle.roam_world.specs.Numbers.{cut, screen, first_screen}
+use Rattle.roam_world.specs.Numbers.{cut_of, screen, first_screen}
 use Rattle.roam_wire.specs.declared.versions.Version.TheVariants.{Two}
 use Rattle.roam_world.specs.Texts.{Address, is_to_server, is_watching}
 use Rattle.roam_world.specs.Versions.{is_same_version}
-use Rattle.roam_world.specs.Lists.{put}
+use Rattle.roam_world.specs.Lists.{with_value}
 use Rattle.roam_world.specs.Servers.{Record, Server, new_server, moment, after_input}
 use Rattle.roam_world.specs.ServerArrivals.{turned_away, coming, coming_gathered, is_same, is_full_for, is_of_other, is_else, most_of, arrival_with, heard_from, informed_from, new_acts, after_acts, room_for}
 use Rattle.roam_hub.specs.Clients.{IsTextOf}
 use Rattle.roam_hub.specs.declared.taking.Taking.{Taking}
-use Rattle.roam_hub.specs.Servers.{RecordView, ServerView, kept_of, IsKept, Stands, Feeds, refused, taken, Drains, no_pane, gone, stopped, Comes, no_datagram, fragment, unread, all_taken, no_room, no_memory_at_act, no_memory}
-use Rattle.roam_hub.specs.Records.{answered, taking, TakesActs, all, full, no_memory as wants_memory, heard_by, informed_by, Notes, fragment as noted_fragment, instruction, NotNoted, no_fragment, unread as not_read, NotesIn, NotNotedIn, room, differs, IsOther, another_version, another_kind, alike_entries, fitted, entry_of}
+use Rattle.roam_hub.specs.Servers.{RecordView, ServerView, kept_of, IsKept, Stands, Feeds, refused, taken, Drains, no_pane, gone, stop_after, Comes, no_datagram, fragment, unread, all_taken, no_room, no_memory_at_act, no_memory}
+use Rattle.roam_hub.specs.Records.{answer_to_datagram, taking, TakesActs, all, full, no_memory as wants_memory, heard_by, informed_by, Notes, fragment as noted_fragment, instruction, NotNoted, no_fragment, unread as not_read, NotesIn, NotNotedIn, room, differs, IsOther, another_version, another_kind, alike_entries, fitted_record, entry_of}
 use Rattle.roam_hub.proofs.Entries.{PutsWell, puts_well, was_kept, has_room, entry_is, found_at, room_is, is_full, Suits, suits, suits_put, Differs, there_is}
 
 -- ---- a new server
@@ -81,10 +81,10 @@ cut_stays c log more low = omega (arith, length-append log more)
 cut_same : (c : ℕ) (log more : List Entry) → c ≤ length log → take c (log ++ more) ≡ take c log
 cut_same c log more low = rw take-append-le
 
-screen_stays : (size : SessionSize) (log more : List Entry) (cuts : List ℕ) (n : ℕ) → cut cuts n ≤ length log
+screen_stays : (size : SessionSize) (log more : List Entry) (cuts : List ℕ) (n : ℕ) → cut_of cuts n ≤ length log
     → screen Two size (log ++ more) cuts n ≡ screen Two size log cuts n
 screen_stays size log more cuts n low = ap (λ (l : List Entry). cond (nat_eq n 0) first_screen (face size l)) (cut_same
-    (cut cuts n) log more low)
+    (cut_of cuts n) log more low)
 
 pub stands_input : (v : ServerView) (s : Server) (entry : Entry) (state : SessionView) → Stands v s
     → SessionStands state s.size (s.log ++ entry ∷ []) → Stands (record v { state = state; input = true }) (after_input s entry)
@@ -93,7 +93,7 @@ stands_input v s entry state st log =
       session = st.session;
       log = log;
       made = st.made;
-      cut = cut_stays (cut s.cuts (length s.cuts)) s.log (entry ∷ []) st.cut;
+      cut = cut_stays (cut_of s.cuts (length s.cuts)) s.log (entry ∷ []) st.cut;
       screen = st.screen ∙ sym (screen_stays s.size s.log (entry ∷ []) s.cuts (length s.cuts) st.cut);
       made_at = st.made_at;
       input = refl;
@@ -197,7 +197,7 @@ stands_noted : (v : ServerView) (s : Server) (id moment n : ℕ) (log : List Ent
       log = s.log ++ log;
       input = s.input || nat_lt 0 n;
       clock = max now s.clock;
-      records = put s.records id r;
+      records = with_value s.records id r;
       arrival = arrival_with s id;
     })
 stands_noted v s id moment n log new r state now st p stands m =
@@ -205,7 +205,7 @@ stands_noted v s id moment n log new r state now st p stands m =
       session = st.session;
       log = stands;
       made = st.made;
-      cut = cut_stays (cut s.cuts (length s.cuts)) s.log log st.cut;
+      cut = cut_stays (cut_of s.cuts (length s.cuts)) s.log log st.cut;
       screen = st.screen ∙ sym (screen_stays s.size s.log log s.cuts (length s.cuts) st.cut);
       made_at = st.made_at;
       input = ap (λ b. b || nat_lt 0 n) st.input;
@@ -227,7 +227,7 @@ take_all (x ∷ xs) = ap (λ ys. x ∷ ys) (take_all xs)
 pub after_noted : (v : ServerView) (s : Server) (from : Address) (bytes : List ℕ) (d : DatagramValue) (now moment : ℕ) (t : Taking)
     (new : List (ℕ × RecordView)) (state : SessionView) → Stands v s → IsTextOf bytes d → Admits v d → moment ≡ max now v.clock
     → IsDistinct nat_eq (keys_of v.records) → NotesIn v.records v.state d from moment t new state
-    → Comes s from bytes now (answered (Ok t))
+    → Comes s from bytes now (answer_to_datagram (Ok t))
     (record v { state = state; input = v.input || nat_lt 0 t.taken; clock = moment; records = new })
 after_noted v s from bytes d now moment t new state st text admits m unique n = go n.notes
   where
@@ -242,21 +242,21 @@ after_noted v s from bytes d now moment t new state st text admits m unique n = 
     at : moment ≡ max now s.clock
     at = m ∙ ap (λ (c : ℕ). max now c) st.clock
 
-    heard : (g : Gathering) → IsKept (heard_by (fitted n.was d) d from moment g) (heard_from (s.records d.client) d from (max now s.clock) g)
-    heard g = record { known = refl; kept = λ i. heard_by (fitted (was i) d) d from (at i) g }
+    heard : (g : Gathering) → IsKept (heard_by (fitted_record n.was d) d from moment g) (heard_from (s.records d.client) d from (max now s.clock) g)
+    heard g = record { known = refl; kept = λ i. heard_by (fitted_record (was i) d) d from (at i) g }
 
     informed : (g g' : Gathering) (u : UpValue) (k : ℕ) → g ≡ g'
-        → IsKept (informed_by (fitted n.was d) d from moment g u k) (informed_from (s.records d.client) d from (max now s.clock) g' u k)
-    informed g g' u k e = record { known = refl; kept = λ i. informed_by (fitted (was i) d) d from (at i) (e i) u k }
+        → IsKept (informed_by (fitted_record n.was d) d from moment g u k) (informed_from (s.records d.client) d from (max now s.clock) g' u k)
+    informed g g' u k e = record { known = refl; kept = λ i. informed_by (fitted_record (was i) d) d from (at i) (e i) u k }
 
     -- where acts are done
-    acts : (g g' : Gathering) (u : UpValue) (k : ℕ) (log : List Entry) → g ≡ g' → n.is ≡ informed_by (fitted n.was d) d from moment g u k
+    acts : (g g' : Gathering) (u : UpValue) (k : ℕ) (log : List Entry) → g ≡ g' → n.is ≡ informed_by (fitted_record n.was d) d from moment g u k
         → SessionStands state s.size (s.log ++ log)
         → Stands (record v { state = state; input = v.input || nat_lt 0 k; clock = moment; records = new }) (record s {
           log = s.log ++ log;
           input = s.input || nat_lt 0 k;
           clock = max now s.clock;
-          records = put s.records d.client (informed_from (s.records d.client) d from (max now s.clock) g' u k);
+          records = with_value s.records d.client (informed_from (s.records d.client) d from (max now s.clock) g' u k);
           arrival = arrival_with s d.client;
         })
     acts g g' u k log e is stands =
@@ -266,11 +266,11 @@ after_noted v s from bytes d now moment t new state st text admits m unique n = 
         (informed g g' u k e)))
         stands m
 
-    go : Notes (fitted n.was d) v.state d from moment t n.is state
-        → Comes s from bytes now (answered (Ok t))
+    go : Notes (fitted_record n.was d) v.state d from moment t n.is state
+        → Comes s from bytes now (answer_to_datagram (Ok t))
         (record v { state = state; input = v.input || nat_lt 0 t.taken; clock = moment; records = new })
     go (noted_fragment g e none is same) =
-        subst (λ (x : Taking). Comes s from bytes now (answered (Ok x))
+        subst (λ (x : Taking). Comes s from bytes now (answer_to_datagram (Ok x))
         (record v { state = state; input = v.input || nat_lt 0 x.taken; clock = moment; records = new })) (sym none)
         (fragment d g text (comes ∙ e) refl (record {
           session = st.session;
@@ -294,14 +294,14 @@ after_noted v s from bytes d now moment t new state st text admits m unique n = 
         acts_told (subst (λ (x : RecordView). TakesActs s.size s.log d.client (fresh_of x.taken u.first u.acts) t state) was
         (done s.size s.log st.log))
       where
-        same_now : t.stopped ≡ None → n.is ≡ informed_by (fitted n.was d) d from moment g u t.taken
-        same_now none = is ∙ ap (λ (o : Option Fault). informed_by (fitted n.was d) d from moment
+        same_now : t.stopped ≡ None → n.is ≡ informed_by (fitted_record n.was d) d from moment g u t.taken
+        same_now none = is ∙ ap (λ (o : Option Fault). informed_by (fitted_record n.was d) d from moment
             (if is_some o then n.was.gathering else g) u t.taken) none
 
         back_now : (fault : Fault) → t.stopped ≡ Some fault
-            → n.is ≡ informed_by (fitted n.was d) d from moment n.was.gathering u t.taken
+            → n.is ≡ informed_by (fitted_record n.was d) d from moment n.was.gathering u t.taken
         back_now fault stop =
-            is ∙ ap (λ (o : Option Fault). informed_by (fitted n.was d) d from moment (if is_some o then n.was.gathering else g) u t.taken) stop
+            is ∙ ap (λ (o : Option Fault). informed_by (fitted_record n.was d) d from moment (if is_some o then n.was.gathering else g) u t.taken) stop
 
         before : n.was.gathering ≡ (s.records d.client).gathering
         before = ap (λ (x : RecordView). x.gathering) was
@@ -313,25 +313,25 @@ after_noted v s from bytes d now moment t new state st text admits m unique n = 
         back fault k e stands =
             acts n.was.gathering (s.records d.client).gathering u k (map (Did d.client) (take k (new_acts s d u))) before
             (back_now fault (ap (λ (x : Taking). x.stopped) e)
-            ∙ ap (λ (m : ℕ). informed_by (fitted n.was d) d from moment n.was.gathering u m) (ap (λ (x : Taking). x.taken) e)) stands
+            ∙ ap (λ (m : ℕ). informed_by (fitted_record n.was d) d from moment n.was.gathering u m) (ap (λ (x : Taking). x.taken) e)) stands
 
         told_as : (x : Taking) → t ≡ x
-            → Comes s from bytes now (answered (Ok x))
+            → Comes s from bytes now (answer_to_datagram (Ok x))
             (record v { state = state; input = v.input || nat_lt 0 x.taken; clock = moment; records = new })
-            → Comes s from bytes now (answered (Ok t))
+            → Comes s from bytes now (answer_to_datagram (Ok t))
             (record v { state = state; input = v.input || nat_lt 0 t.taken; clock = moment; records = new })
         told_as x e c =
-            subst (λ (y : Taking). Comes s from bytes now (answered (Ok y))
+            subst (λ (y : Taking). Comes s from bytes now (answer_to_datagram (Ok y))
             (record v { state = state; input = v.input || nat_lt 0 y.taken; clock = moment; records = new })) (sym e) c
 
-        acts_told : TakesActs s.size s.log d.client (new_acts s d u) t state → Comes s from bytes now (answered (Ok t))
+        acts_told : TakesActs s.size s.log d.client (new_acts s d u) t state → Comes s from bytes now (answer_to_datagram (Ok t))
             (record v { state = state; input = v.input || nat_lt 0 t.taken; clock = moment; records = new })
         acts_told (all r x stands) =
             told_as (taking (length (new_acts s d u)) None) x
             (all_taken d g whole u text (comes ∙ e) says r refl
             (acts g g u (length (new_acts s d u)) (map (Did d.client) (take (length (new_acts s d u)) (new_acts s d u))) refl
             (same_now (ap (λ (y : Taking). y.stopped) x)
-            ∙ ap (λ (m : ℕ). informed_by (fitted n.was d) d from moment g u m) (ap (λ (y : Taking). y.taken) x))
+            ∙ ap (λ (m : ℕ). informed_by (fitted_record n.was d) d from moment g u m) (ap (λ (y : Taking). y.taken) x))
             (subst (λ (xs : List Act). SessionStands state s.size (s.log ++ map (Did d.client) xs)) (sym (take_all
             (new_acts s d u))) stands)))
         acts_told (full r x stands) =
@@ -344,7 +344,7 @@ after_noted v s from bytes d now moment t new state st text admits m unique n = 
 -- ---- a datagram that isn't noted
 
 none_noted : (v : ServerView) (s : Server) (from : Address) (bytes : List ℕ) (d : DatagramValue) (now : ℕ) (fault : Fault) → Stands v s
-    → IsTextOf bytes d → Admits v d → NotNotedIn v.records d fault → Comes s from bytes now (answered (Err fault)) v
+    → IsTextOf bytes d → Admits v d → NotNotedIn v.records d fault → Comes s from bytes now (answer_to_datagram (Err fault)) v
 none_noted v s from bytes d now fault st text admits (full absent many why) =
     refused d fault text (turned ∙ ap turned_away (sym why)) refl st
   where
@@ -362,35 +362,35 @@ none_noted v s from bytes d now fault st text admits (room free fits none) = go 
         coming_at v s d st admits (room_is v s d st free) (suits v s d st fits)
         ∙ sym (ap (λ (x : RecordView). coming_gathered (gather x.gathering (fragment_of d))) was)
 
-    go : NotNoted (entry_of (lookup (nat_eq d.client) v.records)) d fault → Comes s from bytes now (answered (Err fault)) v
+    go : NotNoted (entry_of (lookup (nat_eq d.client) v.records)) d fault → Comes s from bytes now (answer_to_datagram (Err fault)) v
     go (no_fragment e why) =
         refused d fault text (comes ∙ ap coming_gathered e ∙ ap turned_away (sym why)) refl st
     go (not_read g whole why e says f) =
-        unread d g whole why text (comes ∙ e) says (ap (λ x. stopped x 0) f) st
-    go (wants_memory f) = no_memory (ap (λ x. stopped x 0) f) st
-none_noted v s from bytes d now fault st text admits (wants_memory f) = no_memory (ap (λ x. stopped x 0) f) st
+        unread d g whole why text (comes ∙ e) says (ap (λ x. stop_after x 0) f) st
+    go (wants_memory f) = no_memory (ap (λ x. stop_after x 0) f) st
+none_noted v s from bytes d now fault st text admits (wants_memory f) = no_memory (ap (λ x. stop_after x 0) f) st
 
 pub after_none : (v : ServerView) (s : Server) (from : Address) (bytes : List ℕ) (d : DatagramValue) (now : ℕ) (fault : Fault)
     (state : SessionView) (records : List (ℕ × RecordView)) → Stands v s → IsTextOf bytes d → Admits v d → state ≡ v.state
     → records ≡ v.records → NotNotedIn v.records d fault
-    → Comes s from bytes now (answered (Err fault)) (record v { state = state; records = records })
+    → Comes s from bytes now (answer_to_datagram (Err fault)) (record v { state = state; records = records })
 after_none v s from bytes d now fault state records st text admits same_state same_records none =
-    subst (λ (x : SessionView). Comes s from bytes now (answered (Err fault)) (record v { state = x; records = records })) (sym same_state)
-    (subst (λ (es : List (ℕ × RecordView)). Comes s from bytes now (answered (Err fault)) (record v { records = es })) (sym same_records)
+    subst (λ (x : SessionView). Comes s from bytes now (answer_to_datagram (Err fault)) (record v { state = x; records = records })) (sym same_state)
+    (subst (λ (es : List (ℕ × RecordView)). Comes s from bytes now (answer_to_datagram (Err fault)) (record v { records = es })) (sym same_records)
     (none_noted v s from bytes d now fault st text admits none))
 
 -- a datagram of another direction or session
 pub not_admitted : (v : ServerView) (s : Server) (from : Address) (bytes : List ℕ) (d : DatagramValue) (now : ℕ) (fault : Fault)
     → Stands v s
     → IsTextOf bytes d → ((x : Server) → x.session ≡ v.session → coming x d ≡ turned_away fault)
-    → Comes s from bytes now (answered (Err fault)) v
+    → Comes s from bytes now (answer_to_datagram (Err fault)) v
 not_admitted v s from bytes d now fault st text away = refused d fault text (away s (sym st.session)) refl st
 
 -- ---- bytes
 
 pub not_read_datagram : (s : Server) (from : Address) (bytes : List ℕ) (now : ℕ) (fault : Fault) (v : ServerView) → Stands v s
     → Refuses (datagram_at bytes) fault
-    → ((d : DatagramValue) → IsDatagram d → bytes ≡ datagram_text d → fault ≡ OutOfMemory) → Comes s from bytes now (answered (Err fault)) v
+    → ((d : DatagramValue) → IsDatagram d → bytes ≡ datagram_text d → fault ≡ OutOfMemory) → Comes s from bytes now (answer_to_datagram (Err fault)) v
 not_read_datagram s from bytes now OutOfMemory v st why only = no_memory refl st
 not_read_datagram s from bytes now (BadDatagram r) v st why only =
     no_datagram r

@@ -21,13 +21,13 @@ use Rattle.roam_wire.specs.declared.versions.Version.{Version}
 use Rattle.roam_wire.specs.declared.versions.Version.TheVariants.{Two}
 use Rattle.roam_world.specs.Versions.{seen_by}
 use Rattle.roam_world.proofs.Keeps.{or_left}
-use Rattle.roam_world.specs.Numbers.{cut, screen, first_screen}
+use Rattle.roam_world.specs.Numbers.{cut_of, screen, first_screen}
 use Rattle.roam_world.specs.Texts.{Address, datagrams_of}
 use Rattle.roam_world.specs.Servers.{Record, no_record, Server, moment}
-use Rattle.roam_world.specs.Ticks.{makes, cuts_after, number_after, screen_after, screen_to, holds_after, sends, down_from, down_to, fragments_to, after_sent, ticked, datagrams_to, is_record_spent, Parcel, parcel, parcels_to, sent_by, after_tick}
+use Rattle.roam_world.specs.Ticks.{makes, cuts_after, number_after, screen_after, screen_to, holds_after, sends, down_from, down_to, fragments_to, after_sent, ticked_record, datagrams_to, is_record_spent, Parcel, parcel, parcels_to, sent_by, after_tick}
 use Rattle.roam_hub.specs.declared.addresses.Addr.{Addr}
 use Rattle.roam_hub.specs.Servers.{RecordView, ServerView, kept_of, IsKept, AreKept, Stands, parcels_of, parcel_text, is_ack_spent, is_number_spent, Ticks, spent, ticked as did_tick, no_memory}
-use Rattle.roam_hub.specs.Records.{bare, is_sent_to, fragments_sent, settled_with, held, texts_for, is_entry_spent, settled_entry, makes_at, sent_by_tick, ticked_by, is_any_spent}
+use Rattle.roam_hub.specs.Records.{bare, is_sent_to, fragments_sent, settled_with, held_record, texts_for, is_entry_spent, settled_entry, makes_at, sent_by_tick, ticked_by, is_any_spent}
 
 -- ---- one record
 
@@ -36,7 +36,7 @@ unfolding holds_after
 holds_is r n s now known = ap (λ b. holds_after (record (bare (kept_of r)) { known = b }) n s now) (sym known)
 
 sends_is : (r : Record) (n : ℕ) (s : Screenshot) (now : ℕ) → r.known ≡ true
-    → is_sent_to (held (kept_of r) n s now) now ≡ sends r n (seen_by r.version s) now
+    → is_sent_to (held_record (kept_of r) n s now) now ≡ sends r n (seen_by r.version s) now
 unfolding sends
 sends_is r n s now known =
     (λ i. (sym known i && nat_lt now (r.heard_at + 60000))
@@ -81,15 +81,15 @@ spent_is id r n s now known =
 
 -- what is kept of it
 kept_ticked : (r : Record) (n : ℕ) (s : Screenshot) (now : ℕ) → r.known ≡ true
-    → IsKept (settled_with (held (kept_of r) n s now) (fragments_sent (held (kept_of r) n s now) now) now)
-    (ticked r n (seen_by r.version s) now)
+    → IsKept (settled_with (held_record (kept_of r) n s now) (fragments_sent (held_record (kept_of r) n s now) now) now)
+    (ticked_record r n (seen_by r.version s) now)
 kept_ticked r n s now known =
-    subst (λ (v : RecordView). IsKept v (ticked r n seen now)) (sym same) (go (sends r n seen now))
+    subst (λ (v : RecordView). IsKept v (ticked_record r n seen now)) (sym same) (go (sends r n seen now))
   where
     seen : Screenshot
     seen = seen_by r.version s
 
-    same : settled_with (held (kept_of r) n s now) (fragments_sent (held (kept_of r) n s now) now) now
+    same : settled_with (held_record (kept_of r) n s now) (fragments_sent (held_record (kept_of r) n s now) now) now
         ≡ settled_with (record (kept_of r) { sender = holds_after r n seen now })
         (cond (sends r n seen now) (Some (length (fragments_to r n seen now))) None) now
     same =
@@ -114,7 +114,7 @@ kept_ticked r n s now known =
     go false = record { known = known; kept = refl }
 
 -- a record that isn't there is none
-none_ticked : (n : ℕ) (s : Screenshot) (now : ℕ) → ticked no_record n s now ≡ no_record
+none_ticked : (n : ℕ) (s : Screenshot) (now : ℕ) → ticked_record no_record n s now ≡ no_record
 unfolding no_record sends holds_after
 none_ticked n s now = refl
 
@@ -136,11 +136,11 @@ none_settled n s now j (e ∷ es) none = go (nat_eq j e.0) none (none_settled n 
     go false m next = next m
 
 kept_settled : (n : ℕ) (s : Screenshot) (now : ℕ) (es : List (ℕ × RecordView)) (records : ℕ → Record) → AreKept es records
-    → AreKept (map (settled_entry n s now) es) (λ id. ticked (records id) n (seen_by (records id).version s) now)
+    → AreKept (map (settled_entry n s now) es) (λ id. ticked_record (records id) n (seen_by (records id).version s) now)
 kept_settled n s now [] records k = tt
 kept_settled n s now (e ∷ es) records k = (
-  subst (λ (v : RecordView). IsKept (settled_with (held v n s now) (fragments_sent (held v n s now) now) now)
-      (ticked (records e.0) n (seen_by (records e.0).version s) now))
+  subst (λ (v : RecordView). IsKept (settled_with (held_record v n s now) (fragments_sent (held_record v n s now) now) now)
+      (ticked_record (records e.0) n (seen_by (records e.0).version s) now))
       (sym k.0.kept) (kept_ticked (records e.0) n s now k.0.known),
   kept_settled n s now es records k.1,
 )
@@ -194,7 +194,7 @@ take_all : {X : Type 0} (xs : List X) → take (length xs) xs ≡ xs
 take_all [] = refl
 take_all (x ∷ xs) = ap (λ ys. x ∷ ys) (take_all xs)
 
-pub cut_made : (s : Server) → cut (s.cuts ++ length s.log ∷ []) (length (s.cuts ++ length s.log ∷ [])) ≡ length s.log
+pub cut_made : (s : Server) → cut_of (s.cuts ++ length s.log ∷ []) (length (s.cuts ++ length s.log ∷ [])) ≡ length s.log
 cut_made s =
     ap (λ (n : ℕ). slice_index (s.cuts ++ length s.log ∷ []) (n - 1)) (length-append s.cuts (length s.log ∷ []))
     ∙ (let z : length s.cuts + 1 - 1 ≡ length s.cuts = omega arith in
@@ -204,10 +204,10 @@ cut_made s =
 screen_made : (s : Server) → screen Two s.size s.log (s.cuts ++ length s.log ∷ []) (length (s.cuts ++ length s.log ∷ []))
     ≡ face s.size s.log
 screen_made s =
-    ap (λ (n : ℕ). cond (nat_eq n 0) first_screen (face s.size (take (cut (s.cuts ++ length s.log ∷ [])
+    ap (λ (n : ℕ). cond (nat_eq n 0) first_screen (face s.size (take (cut_of (s.cuts ++ length s.log ∷ [])
     (length (s.cuts ++ length s.log ∷ []))) s.log)))
     (length-append s.cuts (length s.log ∷ []) ∙ (let z : length s.cuts + 1 ≡ suc (length s.cuts) = omega arith in z))
-    ∙ ap (λ b. cond b first_screen (face s.size (take (cut (s.cuts ++ length s.log ∷ []) (length (s.cuts ++ length s.log ∷ []))) s.log)))
+    ∙ ap (λ b. cond b first_screen (face s.size (take (cut_of (s.cuts ++ length s.log ∷ []) (length (s.cuts ++ length s.log ∷ []))) s.log)))
     (let z : nat_eq (suc (length s.cuts)) 0 ≡ false = grind (arith, nat_tests) in z)
     ∙ ap (λ (c : ℕ). face s.size (take c s.log)) (cut_made s) ∙ ap (face s.size) (take_all s.log)
 
@@ -222,8 +222,8 @@ module _ (v : ServerView) (s : Server) (n : ℕ) (sc : Screenshot) (m : ℕ) (st
   seen_at : (w : Version) → seen_by w sc ≡ screen_after s w m
   seen_at w =
       ap (seen_by w) f
-      ∙ ap (λ b. seen_by w (cond b first_screen (face s.size (take (cut (cuts_after s m) (number_after s m)) s.log)))) some
-      ∙ sym (ap (λ b. cond b first_screen (seen_by w (face s.size (take (cut (cuts_after s m) (number_after s m)) s.log)))) some)
+      ∙ ap (λ b. seen_by w (cond b first_screen (face s.size (take (cut_of (cuts_after s m) (number_after s m)) s.log)))) some
+      ∙ sym (ap (λ b. cond b first_screen (seen_by w (face s.size (take (cut_of (cuts_after s m) (number_after s m)) s.log)))) some)
 
   parcels_are : sent_by_tick v n sc m ≡ map parcel_text (sent_by s m)
   parcels_are =
@@ -249,12 +249,12 @@ module _ (v : ServerView) (s : Server) (n : ℕ) (sc : Screenshot) (m : ℕ) (st
   kept_are =
       subst (λ (k : ℕ). AreKept (map (settled_entry k sc m) v.records) (after_tick s m).records) (sym e)
       (subst (λ (g : ℕ → Record). AreKept (map (settled_entry (number_after s m) sc m) v.records) g)
-      (λ i id. ticked (s.records id) (number_after s m) (seen_at (s.records id).version i) m)
+      (λ i id. ticked_record (s.records id) (number_after s m) (seen_at (s.records id).version i) m)
       (kept_settled (number_after s m) sc m v.records s.records st.records))
 
   none_are : (j : ℕ) → lookup (nat_eq j) (map (settled_entry n sc m) v.records) ≡ None → (after_tick s m).records j ≡ no_record
   none_are j none =
-      ap (λ (r : Record). ticked r (number_after s m) (screen_to s m j) m) (st.others j (none_settled n sc m j v.records none))
+      ap (λ (r : Record). ticked_record r (number_after s m) (screen_to s m j) m) (st.others j (none_settled n sc m j v.records none))
       ∙ none_ticked (number_after s m) (screen_to s m j) m
 
   -- no number was made
@@ -264,7 +264,7 @@ module _ (v : ServerView) (s : Server) (n : ℕ) (sc : Screenshot) (m : ℕ) (st
         session = st.session;
         log = st.log;
         made = st.made ∙ sym (ap (λ (cs : List ℕ). length cs) cuts);
-        cut = subst (λ (cs : List ℕ). cut cs (length cs) ≤ length s.log) (sym cuts) st.cut;
+        cut = subst (λ (cs : List ℕ). cut_of cs (length cs) ≤ length s.log) (sym cuts) st.cut;
         screen = st.screen ∙ sym (ap (λ (cs : List ℕ). screen Two s.size s.log cs (length cs)) cuts);
         made_at = st.made_at ∙ sym (ap (λ b. cond b m s.made_at) unmade);
         input = st.input ∙ sym (ap (λ b. cond b false s.input) unmade);
@@ -287,7 +287,7 @@ module _ (v : ServerView) (s : Server) (n : ℕ) (sc : Screenshot) (m : ℕ) (st
         log = record { plan = st.log.plan; panes = st.log.panes; lives = st.log.lives };
         made = e;
         cut =
-            subst (λ (cs : List ℕ). cut cs (length cs) ≤ length s.log) (sym cuts)
+            subst (λ (cs : List ℕ). cut_of cs (length cs) ≤ length s.log) (sym cuts)
             (let z = cut_made s in omega (arith, z));
         screen = f;
         made_at = sym (ap (λ b. cond b m s.made_at) made_now);

@@ -7,7 +7,7 @@ use Rattle.roam_cells.specs.declared.faults.Fault.{Fault}
 use Rattle.roam_acts.specs.declared.acts.Act.{Act}
 use Rattle.roam_acts.specs.Acts.{IsAct}
 use Rattle.roam_screens.specs.Screenshot.{Screenshot}
-use Rattle.roam_acts.specs.Senders.{Typing, start as no_acts, typed}
+use Rattle.roam_acts.specs.Senders.{Typing, start as no_acts, after_typing}
 use Rattle.roam_sync.specs.Receivers.{Receiving, start}
 use Rattle.roam_wire.specs.declared.versions.Version.{Version}
 use Rattle.roam_wire.specs.Gatherers.{Gathering, nothing}
@@ -52,7 +52,7 @@ stands_new session id version v watches acts g r same a e f =
     }
 
 -- each act is still one
-pub acts_typed : (r : Result (Unit {0}) Fault) (old new : Typing) (act : Act) → OnOk r (new ≡ typed old act) → OnErr r (new ≡ old)
+pub acts_typed : (r : Result (Unit {0}) Fault) (old new : Typing) (act : Act) → OnOk r (new ≡ after_typing old act) → OnErr r (new ≡ old)
     → All IsAct old.acts → IsAct act → All IsAct new.acts
 acts_typed (Ok u) old new act ok err all one =
     subst (λ (s : Typing). All IsAct s.acts) (sym ok) (All-push IsAct old.acts act all one)

@@ -11,7 +11,7 @@ use Rattle.roam_wire.specs.declared.versions.Version.{Version}
 use Rattle.roam_wire.specs.declared.versions.Version.TheVariants.{One, Two}
 use Rattle.roam_wire.specs.Versions.{version_numbered}
 use Rattle.roam_wire.specs.Datagrams.{DatagramValue, datagram_text}
-use Rattle.roam_wire.specs.Headers.{header_at, kind_tagged, fragment_fault, kind_unless, version_unless, checked, datagram_with, datagram_if, datagram_at}
+use Rattle.roam_wire.specs.Headers.{header_at, kind_tagged, fragment_fault, kind_unless, version_unless, checked_header, datagram_with, datagram_if, datagram_at}
 use Rattle.roam_wire.specs.Gatherers.{Gathering}
 use Rattle.roam_wire.specs.Instructions.{UpValue}
 use Rattle.roam_wire.proofs.Heads.{again}
@@ -25,8 +25,8 @@ use Rattle.roam_world.proofs.Runs.{reach_low}
 use Rattle.roam_hub.specs.Clients.{IsTextOf}
 use Rattle.roam_hub.specs.declared.addresses.Stop.{Stop}
 use Rattle.roam_hub.specs.declared.taking.Taking.{Taking}
-use Rattle.roam_hub.specs.Servers.{ServerView, Stands, stopped, Comes, no_datagram, refused, fragment, unread, all_taken, no_room, no_memory_at_act, no_memory, ComesFromWatcher, taken_in, TakesNothing, IsStopAtAct}
-use Rattle.roam_hub.specs.Records.{answered}
+use Rattle.roam_hub.specs.Servers.{ServerView, Stands, stop_after, Comes, no_datagram, refused, fragment, unread, all_taken, no_room, no_memory_at_act, no_memory, ComesFromWatcher, taken_in, TakesNothing, IsStopAtAct}
+use Rattle.roam_hub.specs.Records.{answer_to_datagram}
 
 -- ---- bytes
 
@@ -42,7 +42,7 @@ kind_told tag v (Some r) (Some k) p f g = absurd (cc)
 kind_told tag v None (Some k) p f g =
     let z : (v, k) ≡ p = cc in subst (λ (q : Version × Kind). kind_tagged q.0 tag ≡ Some q.1) z f
 
-tagged : (bytes : List ℕ) (rest : ℕ) (p : Version × Kind) → checked (header_at bytes) rest ≡ Ok p
+tagged : (bytes : List ℕ) (rest : ℕ) (p : Version × Kind) → checked_header (header_at bytes) rest ≡ Ok p
     → kind_tagged p.0 (header_at bytes).kind ≡ Some p.1
 tagged bytes rest p e = go (nat_eq (header_at bytes).magic 0x524D) (version_numbered (header_at bytes).version) e
   where
@@ -54,9 +54,9 @@ tagged bytes rest p e = go (nat_eq (header_at bytes).magic 0x524D) (version_numb
         kind_told (header_at bytes).kind v (fragment_fault v (header_at bytes) rest) (kind_tagged v (header_at bytes).kind) p refl f
 
 tells : (bytes : List ℕ) (d : DatagramValue) → datagram_at bytes ≡ Ok d → Tells bytes d
-tells bytes d e = go (nat_lt (length bytes) 42) (checked (header_at bytes) (length (drop 42 bytes))) refl e
+tells bytes d e = go (nat_lt (length bytes) 42) (checked_header (header_at bytes) (length (drop 42 bytes))) refl e
   where
-    go : (b : Bool) (r : Result (Version × Kind) Reason) → checked (header_at bytes) (length (drop 42 bytes)) ≡ r
+    go : (b : Bool) (r : Result (Version × Kind) Reason) → checked_header (header_at bytes) (length (drop 42 bytes)) ≡ r
         → cond b (Err Short) (datagram_if (header_at bytes) (drop 42 bytes) r) ≡ Ok d → Tells bytes d
     go true r f g = absurd (cc)
     go false (Err why) f g = absurd (cc)
@@ -148,7 +148,7 @@ module _ (s : Server) (from : Address) (bytes : List ℕ) (now : ℕ) (result : 
 -- a refusal that isn't one at an act leaves the server
 pub leaves_all : (result : Result Taking Fault) (old new : ServerView)
     → IfOk result (λ t. IfSome t.stopped (λ fault. (fault ≡ OutOfMemory) ⊎ (fault ≡ Busy))) → OnErr result (new ≡ old)
-    → IfErr (answered result) (λ stop. IsStopAtAct stop ⊎ (new ≡ old))
+    → IfErr (answer_to_datagram result) (λ stop. IsStopAtAct stop ⊎ (new ≡ old))
 leaves_all (Err fault) old new stops same = inr same
 leaves_all (Ok t) old new stops same = go t.stopped stops
   where

@@ -26,7 +26,7 @@ use Rattle.roam_world.specs.Versions.{is_same_version, seen_by}
 use Rattle.roam_world.specs.Servers.{Record, no_record}
 use Rattle.roam_world.specs.ServerArrivals.{noted, completed, coming_gathered, reach, is_same, most_of}
 use Rattle.roam_world.specs.Ticks.{is_live, holds_after, down_from}
-use Rattle.roam_hub.specs.Servers.{RecordView, ServerView, kept_of, stopped}
+use Rattle.roam_hub.specs.Servers.{RecordView, ServerView, kept_of, stop_after}
 use Rattle.roam_hub.specs.declared.addresses.Stop.{Stop}
 use Rattle.roam_hub.specs.declared.taking.Taking.{Taking}
 
@@ -73,12 +73,12 @@ taking n stop = record { taken = n; stopped = stop }
 -- what is answered where so many acts were taken
 abbrev pub answer_with : ℕ → Option Fault → Result ℕ Stop
 answer_with n None = Ok n
-answer_with n (Some fault) = stopped fault n
+answer_with n (Some fault) = stop_after fault n
 
 -- what is answered to a datagram, by what became of its acts
-abbrev pub answered : Result Taking Fault → Result ℕ Stop
-answered (Ok t) = answer_with t.taken t.stopped
-answered (Err fault) = stopped fault 0
+abbrev pub answer_to_datagram : Result Taking Fault → Result ℕ Stop
+answer_to_datagram (Ok t) = answer_with t.taken t.stopped
+answer_to_datagram (Err fault) = stop_after fault 0
 
 -- Acts are done one after another: all of them; those before the first that finds its queue full; or those before one for which memory
 -- is wanting.
@@ -144,8 +144,8 @@ pub data Puts (d : DatagramValue) (old new : List (ℕ × RecordView)) (v w : Re
       → v ≡ kept_of no_record → new ≡ old ++ (d.client, w) ∷ [] → Puts d old new v w
 
 -- a record with the version and the kind of a datagram
-abbrev pub fitted : RecordView → DatagramValue → RecordView
-fitted v d = record v { version = d.version; watches = is_watching d.kind }
+abbrev pub fitted_record : RecordView → DatagramValue → RecordView
+fitted_record v d = record v { version = d.version; watches = is_watching d.kind }
 
 -- a datagram is noted in the record of its client start
 pub record NotesIn (old : List (ℕ × RecordView)) (before : SessionView) (d : DatagramValue) (from : Address) (now : ℕ) (t : Taking)
@@ -153,7 +153,7 @@ pub record NotesIn (old : List (ℕ × RecordView)) (before : SessionView) (d : 
   pub was : RecordView
   pub is : RecordView
   pub puts : Puts d old new was is
-  pub notes : Notes (fitted was d) before d from now t is after
+  pub notes : Notes (fitted_record was d) before d from now t is after
 
 -- what is kept of the record of an id, if only that nothing came
 abbrev pub entry_of : Option RecordView → RecordView
@@ -215,11 +215,11 @@ back_from v offered = if offered then record v { sender = withdrawn v.sender } e
 -- ---- a whole tick, where s is the screen of the newest number n
 
 -- what a record holds then: the screen as its version is shown it
-abbrev pub held : RecordView → ℕ → Screenshot → ℕ → RecordView
-held v n s now = record v { sender = holds_after (bare v) n (seen_by v.version s) now }
+abbrev pub held_record : RecordView → ℕ → Screenshot → ℕ → RecordView
+held_record v n s now = record v { sender = holds_after (bare v) n (seen_by v.version s) now }
 
 abbrev pub held_entry : ℕ → Screenshot → ℕ → ℕ × RecordView → ℕ × RecordView
-held_entry n s now e = (e.0, held e.1 n s now)
+held_entry n s now e = (e.0, held_record e.1 n s now)
 
 -- what goes to its client start
 abbrev pub texts_for : ℕ → ℕ → Screenshot → ℕ → ℕ × RecordView → List (Address × List ℕ)
@@ -227,11 +227,11 @@ texts_for session n s now e = parcels_for session now (held_entry n s now e)
 
 -- a number that this needs would be past the last
 abbrev pub is_entry_spent : ℕ → Screenshot → ℕ → ℕ × RecordView → Bool
-is_entry_spent n s now e = is_sent_to (held e.1 n s now) now && is_instruction_spent (held e.1 n s now)
+is_entry_spent n s now e = is_sent_to (held_record e.1 n s now) now && is_instruction_spent (held_record e.1 n s now)
 
 -- what is kept of it after the tick
 abbrev pub settled_entry : ℕ → Screenshot → ℕ → ℕ × RecordView → ℕ × RecordView
-settled_entry n s now e = (e.0, settled_with (held e.1 n s now) (fragments_sent (held e.1 n s now) now) now)
+settled_entry n s now e = (e.0, settled_with (held_record e.1 n s now) (fragments_sent (held_record e.1 n s now) now) now)
 
 -- whether a number is made at a moment
 abbrev pub makes_at : ServerView → ℕ → Bool

@@ -19,7 +19,7 @@ use Rattle.roam_session.specs.Sessions.{Given, Drained}
 use Rattle.roam_session.specs.Refusals.{refuses_bytes, output_at}
 use Rattle.roam_session.specs.Stands.{SessionView, Stands as SessionStands}
 use Rattle.roam_world.specs.Moments.{is_spent}
-use Rattle.roam_world.specs.Numbers.{cut, screen}
+use Rattle.roam_world.specs.Numbers.{cut_of, screen}
 use Rattle.roam_world.specs.Texts.{Address, is_watching, SaysUp, SaysNoUp}
 use Rattle.roam_world.specs.Servers.{Record, no_record, Server, moment, after_input}
 use Rattle.roam_world.specs.ServerArrivals.{turned_away, noted, completed, coming, after_note, new_acts, after_acts, room_for}
@@ -86,14 +86,14 @@ AreKept (e ∷ es) records = IsKept e.1 (records e.0) × AreKept es records
 
 -- the newest number stands for a place in the log
 abbrev pub IsCut : Server → Type 0
-IsCut s = cut s.cuts (length s.cuts) ≤ length s.log
+IsCut s = cut_of s.cuts (length s.cuts) ≤ length s.log
 
 -- a server of the code stands for a server of the definitions: it has what is kept of it
 pub record Stands (v : ServerView) (s : Server) : Type 0 where
   pub session : v.session ≡ s.session
   pub log : SessionStands v.state s.size s.log
   pub made : v.made ≡ length s.cuts
-  pub cut : IsCut s
+  pub cut_of : IsCut s
   pub screen : v.screen ≡ screen Two s.size s.log s.cuts (length s.cuts)
   pub made_at : v.made_at ≡ s.made_at
   pub input : v.input ≡ s.input
@@ -122,35 +122,35 @@ abbrev pub address_of : Addr → Address
 address_of a = record { host = big_number 4 a.host; port = a.port }
 
 -- a refusal after so many acts
-abbrev pub stopped : Fault → ℕ → Result ℕ Stop
-stopped fault n = Err (record { fault = fault; taken = n })
+abbrev pub stop_after : Fault → ℕ → Result ℕ Stop
+stop_after fault n = Err (record { fault = fault; taken = n })
 
 -- Bytes come: they are no datagram; it is refused; it makes no instruction whole; its instruction can't be read; all its new acts are
 -- taken; one finds its queue full; memory is wanting at one, or anywhere else.
 pub data Comes (s : Server) (from : Address) (bytes : List ℕ) (now : ℕ) (result : Result ℕ Stop) (new : ServerView) : Type 0 where
-  no_datagram : (why : Reason) → IsNoDatagram bytes why → result ≡ stopped (BadDatagram why) 0 → Stands new s
+  no_datagram : (why : Reason) → IsNoDatagram bytes why → result ≡ stop_after (BadDatagram why) 0 → Stands new s
       → Comes s from bytes now result new
   refused : (d : DatagramValue) (fault : Fault) → IsTextOf bytes d → coming s d ≡ turned_away fault
-      → result ≡ stopped fault 0 → Stands new s → Comes s from bytes now result new
+      → result ≡ stop_after fault 0 → Stands new s → Comes s from bytes now result new
   fragment : (d : DatagramValue) (g : Gathering) → IsTextOf bytes d → coming s d ≡ noted g
       → result ≡ Ok 0 → Stands new (after_note s d from (moment s now) g) → Comes s from bytes now result new
   unread : (d : DatagramValue) (g : Gathering) (text : List ℕ) (why : Reason) → IsTextOf bytes d
       → coming s d ≡ completed g text → SaysNoUp (is_watching d.kind) text why
-      → result ≡ stopped (BadDatagram why) 0 → Stands new s → Comes s from bytes now result new
+      → result ≡ stop_after (BadDatagram why) 0 → Stands new s → Comes s from bytes now result new
   all_taken : (d : DatagramValue) (g : Gathering) (text : List ℕ) (u : UpValue) → IsTextOf bytes d
       → coming s d ≡ completed g text → SaysUp (is_watching d.kind) text u → room_for s d u ≡ length (new_acts s d u)
       → result ≡ Ok (length (new_acts s d u))
       → Stands new (after_acts s d from (moment s now) g u (length (new_acts s d u))) → Comes s from bytes now result new
   no_room : (d : DatagramValue) (g : Gathering) (text : List ℕ) (u : UpValue) → IsTextOf bytes d
       → coming s d ≡ completed g text → SaysUp (is_watching d.kind) text u → room_for s d u < length (new_acts s d u)
-      → result ≡ stopped Busy (room_for s d u)
+      → result ≡ stop_after Busy (room_for s d u)
       → Stands new (after_acts s d from (moment s now) (s.records d.client).gathering u (room_for s d u))
       → Comes s from bytes now result new
   no_memory_at_act : (d : DatagramValue) (g : Gathering) (text : List ℕ) (u : UpValue) (n : ℕ) → IsTextOf bytes d
       → coming s d ≡ completed g text → SaysUp (is_watching d.kind) text u → n < room_for s d u
-      → result ≡ stopped OutOfMemory n
+      → result ≡ stop_after OutOfMemory n
       → Stands new (after_acts s d from (moment s now) (s.records d.client).gathering u n) → Comes s from bytes now result new
-  no_memory : result ≡ stopped OutOfMemory 0 → Stands new s → Comes s from bytes now result new
+  no_memory : result ≡ stop_after OutOfMemory 0 → Stands new s → Comes s from bytes now result new
 
 -- the bytes tell the kind of a datagram from a start that only watches, whatever else they are
 abbrev pub ComesFromWatcher : List ℕ → Type 0

@@ -11,7 +11,7 @@ ghost use Rattle.roam_world.specs.ServerArrivals.{is_same as are_same};
 ghost use Rattle.roam_world.specs.Versions.{is_same_version as are_same_version};
 ghost use Rattle.roam_hub.specs.Ends.{version_of, sending_of};
 ghost use Rattle.roam_hub.specs.Servers.{address_of, parcels_of};
-ghost use Rattle.roam_hub.specs.Records.{first_record, Fits, IsOther, Notes, NotHeard, is_instruction_spent, is_sent_to, fragments_sent, datagrams_for, parcels_for, settled_with, HasNumbersFor, back_from, held, is_entry_spent};
+ghost use Rattle.roam_hub.specs.Records.{first_record, Fits, IsOther, Notes, NotHeard, is_instruction_spent, is_sent_to, fragments_sent, datagrams_for, parcels_for, settled_with, HasNumbersFor, back_from, held_record, is_entry_spent};
 ghost use Rattle.roam_acts.specs.Limits.{number_limit};
 ghost use Rattle.roam_sync.specs.Limits.{most_held};
 
@@ -279,7 +279,7 @@ impl Record {
     ) -> Result<bool, Fault>
         requires number { number < number_limit }
         requires kept { IfSome kept.old (λ old. old ≡ narrow screen.now) }
-        ensures held { OnOk result (self.new ≡ held self.old number screen.now now) }
+        ensures held { OnOk result (self.new ≡ held_record self.old number screen.now now) }
         ensures several { IfOk result (λ offered. IsTrue offered → 2 ≤ count self.new.sender) }
         ensures back { IfOk result (λ offered. back_from self.new offered ≡ self.old) }
         ensures kept { IfSome kept.new (λ old. old ≡ narrow screen.now) }
@@ -379,7 +379,7 @@ impl Record {
         requires session { news.session < 2 ^ 64 }
         requires client { client < 2 ^ 64 }
         requires kept { IfSome kept.old (λ old. old ≡ narrow screen.now) }
-        ensures held { OnOk result (self.new ≡ held self.old news.number screen.now news.now) }
+        ensures held { OnOk result (self.new ≡ held_record self.old news.number screen.now news.now) }
         ensures fragments { IfOk result (λ p. p.fragments ≡ fragments_sent self.new news.now) }
         ensures parcels { OnOk result (parcels_of parcels.new.items ≡ parcels_of parcels.old.items
             ++ parcels_for news.session news.now (client, self.new)) }

@@ -13,7 +13,7 @@ ghost use Rattle.roam_wire.specs.Datagrams.{datagram_value};
 ghost use Rattle.roam_world.specs.Texts.{is_to_server as is_to_server_kind};
 ghost use Rattle.roam_world.specs.ServerArrivals.{coming, turned_away};
 ghost use Rattle.roam_hub.specs.Servers.{Stands, Feeds, Drains, Comes, Ticks, ComesFromWatcher, TakesNothing, IsStopAtAct, address_of, parcels_of};
-ghost use Rattle.roam_hub.specs.Records.{answered, makes_at, sent_by_tick, ticked_by, is_any_spent, Numbers, is_numbering_spent};
+ghost use Rattle.roam_hub.specs.Records.{answer_to_datagram, makes_at, sent_by_tick, ticked_by, is_any_spent, Numbers, is_numbering_spent};
 ghost use Rattle.roam_term.specs.Limits.{most_output};
 
 use crate::addresses::{Addr, Stop};
@@ -98,7 +98,7 @@ fn admit(session: u64, datagram: &Datagram) -> Result<(), Fault>
 
 // What is answered to a datagram of which so many acts were taken.
 fn answer(taking: Result<Taking, Fault>) -> Result<usize, Stop>
-    ensures answer { result ≡ answered taking }
+    ensures answer { result ≡ answer_to_datagram taking }
 {
     match taking {
         Err(fault) => Err(Stop { fault, taken: 0 }),
@@ -148,7 +148,7 @@ impl Server {
 
     // Takes the bytes of a datagram, as `datagram` does.
     fn hear(&mut self, alloc: Global, from: Addr, bytes: &[u8], now: u64) -> Result<Taking, Fault>
-        ensures heard { (s : ServerOf) → Stands self.old s → Comes s (address_of from) bytes.now now (answered result) self.new }
+        ensures heard { (s : ServerOf) → Stands self.old s → Comes s (address_of from) bytes.now now (answer_to_datagram result) self.new }
         ensures stops { IfOk result (λ t. IfSome t.stopped (λ fault. (fault ≡ Fault.OutOfMemory) ⊎ (fault ≡ Fault.Busy))) }
         ensures err { OnErr result (self.new ≡ self.old) }
     {

@@ -10,8 +10,8 @@ abbrev pub single_shift : ℕ → List ℕ
 single_shift final = 0x1B ∷ 0x4F ∷ final ∷ []
 
 -- ESC [, a number and ~
-abbrev pub numbered : List ℕ → List ℕ
-numbered digits = 0x1B ∷ 0x5B ∷ (digits ++ 0x7E ∷ [])
+abbrev pub numbered_sequence : List ℕ → List ℕ
+numbered_sequence digits = 0x1B ∷ 0x5B ∷ (digits ++ 0x7E ∷ [])
 
 -- a cursor key: ESC [ and a final byte, and under DECCKM ESC O and that byte
 abbrev pub cursor_key : KeyModes → ℕ → List ℕ
@@ -26,50 +26,50 @@ abbrev pub return_key : KeyModes → List ℕ
 return_key modes = if modes.new_line then 0x0D ∷ 0x0A ∷ [] else 0x0D ∷ []
 
 -- the bytes that a key sends under the modes of a keyboard
-abbrev pub sent : KeyModes → Key → List ℕ
-sent modes (Char c) = encode_utf8 c
-sent modes Up = cursor_key modes 0x41
-sent modes Down = cursor_key modes 0x42
-sent modes Right = cursor_key modes 0x43
-sent modes Left = cursor_key modes 0x44
-sent modes Pf1 = single_shift 0x50
-sent modes Pf2 = single_shift 0x51
-sent modes Pf3 = single_shift 0x52
-sent modes Pf4 = single_shift 0x53
-sent modes Find = numbered (codes "1")
-sent modes Insert = numbered (codes "2")
-sent modes Remove = numbered (codes "3")
-sent modes Select = numbered (codes "4")
-sent modes Prev = numbered (codes "5")
-sent modes Next = numbered (codes "6")
-sent modes F6 = numbered (codes "17")
-sent modes F7 = numbered (codes "18")
-sent modes F8 = numbered (codes "19")
-sent modes F9 = numbered (codes "20")
-sent modes F10 = numbered (codes "21")
-sent modes F11 = numbered (codes "23")
-sent modes F12 = numbered (codes "24")
-sent modes F13 = numbered (codes "25")
-sent modes F14 = numbered (codes "26")
-sent modes F15 = numbered (codes "28")
-sent modes F16 = numbered (codes "29")
-sent modes F17 = numbered (codes "31")
-sent modes F18 = numbered (codes "32")
-sent modes F19 = numbered (codes "33")
-sent modes F20 = numbered (codes "34")
-sent modes Pad0 = keypad_key modes 0x70 0x30
-sent modes Pad1 = keypad_key modes 0x71 0x31
-sent modes Pad2 = keypad_key modes 0x72 0x32
-sent modes Pad3 = keypad_key modes 0x73 0x33
-sent modes Pad4 = keypad_key modes 0x74 0x34
-sent modes Pad5 = keypad_key modes 0x75 0x35
-sent modes Pad6 = keypad_key modes 0x76 0x36
-sent modes Pad7 = keypad_key modes 0x77 0x37
-sent modes Pad8 = keypad_key modes 0x78 0x38
-sent modes Pad9 = keypad_key modes 0x79 0x39
-sent modes PadMinus = keypad_key modes 0x6D 0x2D
-sent modes PadComma = keypad_key modes 0x6C 0x2C
-sent modes PadPeriod = keypad_key modes 0x6E 0x2E
-sent modes PadEnter = if modes.application_keypad then single_shift 0x4D else return_key modes
-sent modes Return = return_key modes
-sent modes Backspace = 0x7F ∷ []
+abbrev pub bytes_of_key : KeyModes → Key → List ℕ
+bytes_of_key modes (Char c) = encode_utf8 c
+bytes_of_key modes Up = cursor_key modes 0x41
+bytes_of_key modes Down = cursor_key modes 0x42
+bytes_of_key modes Right = cursor_key modes 0x43
+bytes_of_key modes Left = cursor_key modes 0x44
+bytes_of_key modes Pf1 = single_shift 0x50
+bytes_of_key modes Pf2 = single_shift 0x51
+bytes_of_key modes Pf3 = single_shift 0x52
+bytes_of_key modes Pf4 = single_shift 0x53
+bytes_of_key modes Find = numbered_sequence (codes "1")
+bytes_of_key modes Insert = numbered_sequence (codes "2")
+bytes_of_key modes Remove = numbered_sequence (codes "3")
+bytes_of_key modes Select = numbered_sequence (codes "4")
+bytes_of_key modes Prev = numbered_sequence (codes "5")
+bytes_of_key modes Next = numbered_sequence (codes "6")
+bytes_of_key modes F6 = numbered_sequence (codes "17")
+bytes_of_key modes F7 = numbered_sequence (codes "18")
+bytes_of_key modes F8 = numbered_sequence (codes "19")
+bytes_of_key modes F9 = numbered_sequence (codes "20")
+bytes_of_key modes F10 = numbered_sequence (codes "21")
+bytes_of_key modes F11 = numbered_sequence (codes "23")
+bytes_of_key modes F12 = numbered_sequence (codes "24")
+bytes_of_key modes F13 = numbered_sequence (codes "25")
+bytes_of_key modes F14 = numbered_sequence (codes "26")
+bytes_of_key modes F15 = numbered_sequence (codes "28")
+bytes_of_key modes F16 = numbered_sequence (codes "29")
+bytes_of_key modes F17 = numbered_sequence (codes "31")
+bytes_of_key modes F18 = numbered_sequence (codes "32")
+bytes_of_key modes F19 = numbered_sequence (codes "33")
+bytes_of_key modes F20 = numbered_sequence (codes "34")
+bytes_of_key modes Pad0 = keypad_key modes 0x70 0x30
+bytes_of_key modes Pad1 = keypad_key modes 0x71 0x31
+bytes_of_key modes Pad2 = keypad_key modes 0x72 0x32
+bytes_of_key modes Pad3 = keypad_key modes 0x73 0x33
+bytes_of_key modes Pad4 = keypad_key modes 0x74 0x34
+bytes_of_key modes Pad5 = keypad_key modes 0x75 0x35
+bytes_of_key modes Pad6 = keypad_key modes 0x76 0x36
+bytes_of_key modes Pad7 = keypad_key modes 0x77 0x37
+bytes_of_key modes Pad8 = keypad_key modes 0x78 0x38
+bytes_of_key modes Pad9 = keypad_key modes 0x79 0x39
+bytes_of_key modes PadMinus = keypad_key modes 0x6D 0x2D
+bytes_of_key modes PadComma = keypad_key modes 0x6C 0x2C
+bytes_of_key modes PadPeriod = keypad_key modes 0x6E 0x2E
+bytes_of_key modes PadEnter = if modes.application_keypad then single_shift 0x4D else return_key modes
+bytes_of_key modes Return = return_key modes
+bytes_of_key modes Backspace = 0x7F ∷ []

@@ -1,6 +1,6 @@
 //! What a key sends: the codes of the VT220's keyboard under its modes.
 ghost use Rattle.std.specs.Prelude.{◌≡◌, ◌+◌, ◌≤◌, ◌++◌, [], ◌∷◌, length, if◌then◌else◌};
-ghost use Rattle.roam_keys.specs.Sent.{cursor_key, keypad_key, numbered, return_key, sent, single_shift};
+ghost use Rattle.roam_keys.specs.Sent.{cursor_key, keypad_key, numbered_sequence, return_key, bytes_of_key, single_shift};
 
 use crate::keys::Key;
 use std::marker::Model;
@@ -105,7 +105,7 @@ impl Sent {
     // A number of one or two digits.
     fn numbered(digits: &str) -> Self
         requires short { length digits.now ≤ 2 }
-        ensures bytes { result ≡ numbered digits.now }
+        ensures bytes { result ≡ numbered_sequence digits.now }
     {
         let digits = digits.as_bytes();
         let mut text = [0x1B, b'[', 0, 0, 0];
@@ -122,7 +122,7 @@ impl Key {
     /// The bytes that this key sends under the modes of a terminal (VT220 Programmer Reference, chapter 3); a character
     /// sends its UTF-8.
     pub fn sent(self, modes: KeyModes) -> Sent
-        ensures bytes { result ≡ sent modes self }
+        ensures bytes { result ≡ bytes_of_key modes self }
     {
         match self {
             Key::Char(c) => Sent::of(c.encode_utf8(&mut [0u8; 4]).as_bytes()),

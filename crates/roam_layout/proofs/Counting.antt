@@ -2,16 +2,16 @@
 use Rattle.std.proofs.Common.{◌≡◌, ℕ, zero, suc, ◌+◌, ◌≤◌, ◌<◌, nat_le, Bool, true, false, ◌||◌, ◌==◌, cond, refl, ap, sym, ◌∙◌, inl, inr, length, arith, length-append}
 use Rattle.std.proofs.lemmas.Bool.{eqb-true, cases_lt, false≢true}
 use Rattle.std.proofs.lemmas.Bool.Decides.{nat_tests}
-use Rattle.roam_layout.specs.Trees.{Shape, One, Two, leaves, has, is_one, planted, closed, times, free, free_among, AreDistinct}
+use Rattle.roam_layout.specs.Trees.{Shape, One, Two, leaves, has, is_one, with_subtree, without_pane, times, free, free_among, AreDistinct}
 
 -- one tree takes one pane's place
-pub times_planted : (k p : ℕ) (u t : Shape) → has p t ≡ true → times k (planted p u t) + times k (One p) ≡ times k t + times k u
+pub times_planted : (k p : ℕ) (u t : Shape) → has p t ≡ true → times k (with_subtree p u t) + times k (One p) ≡ times k t + times k u
 times_planted k p u (One q) h = let e : q ≡ p = eqb-true q p h in rw h (rw e (omega arith))
 times_planted k p u (Two w g a b) h = by_side (has p a) (has p b) h (times_planted k p u a) (times_planted k p u b)
   where
-    by_side : (x y : Bool) → (x || y) ≡ true → (x ≡ true → times k (planted p u a) + times k (One p) ≡ times k a + times k u)
-        → (y ≡ true → times k (planted p u b) + times k (One p) ≡ times k b + times k u)
-        → times k (cond x (Two w g (planted p u a) b) (Two w g a (planted p u b))) + times k (One p) ≡ times k a + times k b + times k u
+    by_side : (x y : Bool) → (x || y) ≡ true → (x ≡ true → times k (with_subtree p u a) + times k (One p) ≡ times k a + times k u)
+        → (y ≡ true → times k (with_subtree p u b) + times k (One p) ≡ times k b + times k u)
+        → times k (cond x (Two w g (with_subtree p u a) b) (Two w g a (with_subtree p u b))) + times k (One p) ≡ times k a + times k b + times k u
     by_side true y is l r = omega (arith, l refl)
     by_side false y is l r = omega (arith, r is)
 
@@ -21,11 +21,11 @@ one_of_four P false true z s t u v a b c d = b
 one_of_four P false false true s t u v a b c d = c
 one_of_four P false false false s t u v a b c d = d
 
-pub times_closed : (k p : ℕ) (t : Shape) → times k (closed p t) ≤ times k t
+pub times_closed : (k p : ℕ) (t : Shape) → times k (without_pane p t) ≤ times k t
 times_closed k p (One q) = omega arith
 times_closed k p (Two w g a b) =
-    one_of_four (λ t. times k t ≤ times k a + times k b) (is_one p a) (is_one p b) (has p a) b a (Two w g (closed p a) b)
-    (Two w g a (closed p b))
+    one_of_four (λ t. times k t ≤ times k a + times k b) (is_one p a) (is_one p b) (has p a) b a (Two w g (without_pane p a) b)
+    (Two w g a (without_pane p b))
     (omega arith) (omega arith) (omega (arith, times_closed k p a)) (omega (arith, times_closed k p b))
 
 -- what isn't in a tree is in it no times
@@ -110,10 +110,10 @@ below_free p t h below = below_in 8 1 p t h below
 -- a pane that is split in itself and a free number: the panes stay distinct
 pub distinct_planted : (p n : ℕ) (u t : Shape) → ((k : ℕ) → times k u ≡ times k (One p) + times k (One n)) → has p t ≡ true
     → has n t ≡ false
-    → AreDistinct t → AreDistinct (planted p u t)
+    → AreDistinct t → AreDistinct (with_subtree p u t)
 distinct_planted p n u t two is free distinct k = by_case (n == k) refl
   where
-    by_case : (v : Bool) → (n == k) ≡ v → times k (planted p u t) ≤ 1
+    by_case : (v : Bool) → (n == k) ≡ v → times k (with_subtree p u t) ≤ 1
     by_case true e =
         let same : n ≡ k = eqb-true n k e in
         let none : times k t ≡ 0 = ap (λ j. times j t) (sym same) ∙ times_none n t free in

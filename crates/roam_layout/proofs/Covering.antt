@@ -2,11 +2,11 @@
 use Rattle.std.proofs.Common.{◌≡◌, ℕ, ℤ, pos, negsuc, ◌+◌, ◌-◌, ◌≤◌, Bool, true, false, ◌&&◌, cond, refl, inl, inr, List, [], ◌∷◌, ◌++◌, arith, ◌+ℤ◌}
 use Rattle.std.proofs.lemmas.Bool.{cases_lt}
 use Rattle.roam_layout.specs.Trees.{Shape, One, Two, least_rows, least_cols}
-use Rattle.roam_layout.specs.Rects.{placed, borders, within, once, hits, Covers, pushed, middle, first_length, front, part, Fits}
+use Rattle.roam_layout.specs.Rects.{rects_of, borders, within, once, hits, Covers, nearest_in_range, middle, first_length, front, part, Fits}
 use Rattle.roam_layout.specs.declared.rects.Way.TheVariants.{Right, Down}
 use Rattle.roam_layout.specs.declared.rects.Rect.{Rect}
 
-pub pushed_in : (g : ℤ) (low high : ℕ) → low ≤ high → (low ≤ pushed g low high) × (pushed g low high ≤ high)
+pub pushed_in : (g : ℤ) (low high : ℕ) → low ≤ high → (low ≤ nearest_in_range g low high) × (nearest_in_range g low high ≤ high)
 pushed_in (pos n) low high le = (omega arith, omega arith)
 pushed_in (negsuc n) low high le = (omega arith, le)
 
@@ -70,7 +70,7 @@ once_down n r c x le =
     (within x.row x.rows r)
     (within_parts x.row n x.rows r le)
 
-pub covered : (t : Shape) (x : Rect) → Fits t x → Covers (placed t x) (borders t x) x
+pub covered : (t : Shape) (x : Rect) → Fits t x → Covers (rects_of t x) (borders t x) x
 covered (One p) x fits r c = omega arith
 covered (Two Right g a b) x fits r c =
     let n = first_length Right g a b x in
@@ -78,7 +78,7 @@ covered (Two Right g a b) x fits r c =
     let left = covered a (front Right n x) (omega (arith, fits.0), bounds.0) r c in
     let right = covered b (part Right (n + 1) (x.cols - n - 1) x) (omega (arith, fits.0), omega (arith, bounds.1)) r c in
     let whole = once_across n r c x (omega (arith, bounds.1)) in
-    let panes = hits-append r c (placed a (front Right n x)) (placed b (part Right (n + 1) (x.cols - n - 1) x)) in
+    let panes = hits-append r c (rects_of a (front Right n x)) (rects_of b (part Right (n + 1) (x.cols - n - 1) x)) in
     let edges = hits-append r c (borders a (front Right n x))
     ((Right, part Right n 1 x) ∷ borders b (part Right (n + 1) (x.cols - n - 1) x)) in
     omega (arith, left, right, whole, panes, edges)
@@ -88,6 +88,6 @@ covered (Two Down g a b) x fits r c =
     let upper = covered a (front Down n x) (bounds.0, omega (arith, fits.1)) r c in
     let lower = covered b (part Down (n + 1) (x.rows - n - 1) x) (omega (arith, bounds.1), omega (arith, fits.1)) r c in
     let whole = once_down n r c x (omega (arith, bounds.1)) in
-    let panes = hits-append r c (placed a (front Down n x)) (placed b (part Down (n + 1) (x.rows - n - 1) x)) in
+    let panes = hits-append r c (rects_of a (front Down n x)) (rects_of b (part Down (n + 1) (x.rows - n - 1) x)) in
     let edges = hits-append r c (borders a (front Down n x)) ((Down, part Down n 1 x) ∷ borders b (part Down (n + 1) (x.rows - n - 1) x)) in
     omega (arith, upper, lower, whole, panes, edges)

@@ -10,7 +10,7 @@ use Rattle.roam_cells.specs.Place.{cell_at, glyph_at, table, IsWholeLine, IsWhol
 use Rattle.roam_screens.specs.Screenshot.{Screenshot, IsScreenshot}
 use Rattle.roam_cells.proofs.Places.{get_or-table, length-table, place_of}
 use Rattle.roam_layout.specs.Trees.{Shape, One, Two}
-use Rattle.roam_layout.specs.Rects.{placed, borders, within, first_part, border_part, second_part}
+use Rattle.roam_layout.specs.Rects.{rects_of, borders, within, first_part, border_part, second_part}
 use Rattle.roam_layout.specs.Layouts.{Plan, IsPlan, area, panes, edges}
 use Rattle.roam_layout.specs.Status.{status, status_row, IsPrintable}
 use Rattle.roam_layout.specs.Faces.{character, sign, reverse_style, face_at, face_row, face, border_segment, segments, ArePictures, Show}
@@ -28,7 +28,7 @@ segment_sound : (r : ℕ) (e : Way × Rect) → IsSound (border_segment r e)
 segment_sound r e = cond_both (within e.1.row e.1.rows r) (replicate e.1.cols (sign e.0)) [] (λ (l : List Glyph). IsSound l)
     (λ _. sound_signs e.1.cols e.0) (λ _. sound_nil)
 
-strip_sound : (r : ℕ) (picture : ℕ → Screenshot) (t : Shape) (x : Rect) → ArePictured picture (placed t x) → IsSound (strip r picture t x)
+strip_sound : (r : ℕ) (picture : ℕ → Screenshot) (t : Shape) (x : Rect) → ArePictured picture (rects_of t x) → IsSound (strip r picture t x)
 strip_sound r picture (One p) x are =
     let shot = picture p in
     cond_both (within x.row x.rows r) (row_of shot.cols shot.cells (r - x.row)) [] (λ (l : List Glyph). IsSound l)
@@ -36,7 +36,7 @@ strip_sound r picture (One p) x are =
     sound_row shot are.0.shot (r - x.row) (omega (arith, range.0, range.1, are.0.rows)))
     (λ _. sound_nil)
 strip_sound r picture (Two w g a b) x are =
-    let parts = pictured_parts picture (placed a (first_part w g a b x)) (placed b (second_part w g a b x)) are in
+    let parts = pictured_parts picture (rects_of a (first_part w g a b x)) (rects_of b (second_part w g a b x)) are in
     let edge : Way × Rect = (w, border_part w g a b x) in
     let rest = strip r picture b (second_part w g a b x) in
     sound_beside (strip r picture a (first_part w g a b x)) (border_segment r edge ++ rest)

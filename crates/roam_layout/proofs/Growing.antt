@@ -4,7 +4,7 @@ use Rattle.std.specs.Prelude.{int_le}
 use Rattle.std.proofs.lemmas.Int.{ints}
 use Rattle.std.proofs.lemmas.Bool.Decides.{nat_tests}
 use Rattle.roam_layout.specs.Trees.{Shape, One, Two, has, is_one, least, least_rows, least_cols, times, AreNumbers, AreModest}
-use Rattle.roam_layout.specs.Rects.{first_length, first_part, second_part, length_along, middle, most_first, stretched, with_first, with_second, grown, Fits}
+use Rattle.roam_layout.specs.Rects.{first_length, first_part, second_part, length_along, middle, most_first, after_stretch, with_first, with_second, after_growth, Fits}
 use Rattle.roam_layout.proofs.Covering.{across_in, down_in}
 use Rattle.roam_layout.specs.declared.rects.Way.{Way}
 use Rattle.roam_layout.specs.declared.rects.Way.TheVariants.{Right, Down}
@@ -40,7 +40,7 @@ along_limit Right r h k = k
 along_limit Down r h k = h
 
 stretched_keeps : (w : Way) (g wanted : ℤ) (a b : Shape) (r : Rect) → r.rows ≤ 500 → r.cols ≤ 500 → AreModest (Two w g a b)
-    → IfGrown (Two w g a b) (stretched w wanted a b r)
+    → IfGrown (Two w g a b) (after_stretch w wanted a b r)
 stretched_keeps w g wanted a b r h k modest = by_case (int_le (pos (least w a)) wanted && int_le wanted (pos (most_first w b r))) refl
   where
     by_case : (v : Bool) → (int_le (pos (least w a)) wanted && int_le wanted (pos (most_first w b r))) ≡ v
@@ -112,14 +112,14 @@ second_limits : (w : Way) (g : ℤ) (a b : Shape) (r : Rect) → Fits (Two w g a
 second_limits Right g a b r fits = let e = across_in g a b r fits in ((omega (arith, fits.0), omega (arith, e.1)), omega arith, omega arith)
 second_limits Down g a b r fits = let e = down_in g a b r fits in ((omega (arith, e.1), omega (arith, fits.1)), omega arith, omega arith)
 
-pub grown_keeps : (p : ℕ) (d : ℤ) (t : Shape) (r : Rect) → Fits t r → r.rows ≤ 500 → r.cols ≤ 500 → AreModest t → IfGrown t (grown p d t r)
+pub grown_keeps : (p : ℕ) (d : ℤ) (t : Shape) (r : Rect) → Fits t r → r.rows ≤ 500 → r.cols ≤ 500 → AreModest t → IfGrown t (after_growth p d t r)
 grown_keeps p d (One q) r fits h k m = tt
 grown_keeps p d (Two w g a b) r fits h k m =
     let x = first_limits w g a b r fits in
     let y = second_limits w g a b r fits in
     one_of_four (IfGrown (Two w g a b)) (is_one p a) (is_one p b) (has p a)
-    (stretched w (pos (first_length w g a b r) +ℤ d) a b r) (stretched w (pos (first_length w g a b r) -ℤ d) a b r)
-    (with_first w g b (grown p d a (first_part w g a b r))) (with_second w g a (grown p d b (second_part w g a b r)))
+    (after_stretch w (pos (first_length w g a b r) +ℤ d) a b r) (after_stretch w (pos (first_length w g a b r) -ℤ d) a b r)
+    (with_first w g b (after_growth p d a (first_part w g a b r))) (with_second w g a (after_growth p d b (second_part w g a b r)))
     (stretched_keeps w g (pos (first_length w g a b r) +ℤ d) a b r h k m)
     (stretched_keeps w g (pos (first_length w g a b r) -ℤ d) a b r h k m)
     (first_keeps w g a b _ m (grown_keeps p d a (first_part w g a b r) x.0 (omega (arith, x.1, h)) (omega (arith, x.2, k)) m.1))

@@ -16,11 +16,11 @@ use Rattle.roam_cells.proofs.Places.{get_or-table, place_of}
 use Rattle.roam_acts.specs.declared.acts.Act.{Act}
 use Rattle.roam_acts.specs.declared.acts.Act.TheVariants.{Key, SplitRight, SplitDown, Close, Focus, Next, Grow, Size, View}
 use Rattle.roam_cells.specs.declared.faults.Fault.TheVariants.{BadSize, TooSmall, NoPane, PanesFull, LastPane}
-use Rattle.roam_layout.specs.Trees.{Shape, One, Two, leaves, has, is_one, first_leaf, forked, closed, heir, free_among, free}
-use Rattle.roam_layout.specs.Rects.{spot, inside, Fits, fits_in, is_roomy, grown}
-use Rattle.roam_layout.specs.Layouts.{Plan, Outcome, Laid, Refused, IsSessionSize, is_session_size, area, panes, edges, start, IsPlan, split, after, with_tree, viewed, laid}
+use Rattle.roam_layout.specs.Trees.{Shape, One, Two, leaves, has, is_one, first_leaf, with_split, without_pane, heir, free_among, free}
+use Rattle.roam_layout.specs.Rects.{spot, inside, Fits, fits_in, is_roomy, after_growth}
+use Rattle.roam_layout.specs.Layouts.{Plan, Outcome, Laid, Refused, IsSessionSize, is_session_size, area, panes, edges, start, IsPlan, split, after, with_tree, view_in_range, outcome_of}
 use Rattle.roam_layout.specs.Status.{status_row, IsPrintable}
-use Rattle.roam_layout.specs.Faces.{character, reverse_style, found, border_cell, pane_cell, face_at, face_row, face}
+use Rattle.roam_layout.specs.Faces.{character, reverse_style, first_with_place, border_cell, pane_cell, face_at, face_row, face}
 use Rattle.roam_layout.specs.declared.rects.Way.{Way}
 use Rattle.roam_layout.specs.declared.rects.Way.TheVariants.{Right, Down}
 use Rattle.roam_layout.specs.declared.rects.Rect.{Rect}
@@ -50,7 +50,7 @@ one_view views i v low small each k =
       | inr ne ↦ subst (λ (n : ℕ). n ≤ 500) (sym (get_or-set_other views i k v 0 ne)) (each k)
     ]
 
-viewed_low : (v : ℤ) → viewed v ≤ 500
+viewed_low : (v : ℤ) → view_in_range v ≤ 500
 viewed_low (pos n) = omega arith
 viewed_low (negsuc n) = omega arith
 
@@ -88,24 +88,24 @@ module _ (s : Plan) (is : IsLayout s) where
       cond_both (nat_le 9 (length (leaves s.tree))) (Refused PanesFull) (cond (is_roomy w x) (Laid _) (Refused TooSmall)) IfLaid (λ e. tt)
       (λ e. cond_both (is_roomy w x) (Laid _) (Refused TooSmall) IfLaid
       (λ roomy. record {
-        plan = plan_split s w (Two w (pos 0) (One s.focus) (One n)) s.tree (forked w s.focus n s.tree) n
+        plan = plan_split s w (Two w (pos 0) (One s.focus) (One n)) s.tree (with_split w s.focus n s.tree) n
             (slice_set s.views n 0) refl refl refl range.0 (omega (arith, range.1)) refl
             (leb-false 9 (length (leaves s.tree)) e) (length-set s.views n 0 ∙ is.plan.views) roomy is.plan;
         views = one_view s.views n 0 (omega (arith, range.1, is.plan.views)) (omega arith) is.views;
       })
       (λ e. tt))
 
-  tree_laid : (d : ℤ) (o : Option Shape) → grown s.focus d s.tree (area s.rows s.cols) ≡ o → IfLaid (with_tree s o)
+  tree_laid : (d : ℤ) (o : Option Shape) → after_growth s.focus d s.tree (area s.rows s.cols) ≡ o → IfLaid (with_tree s o)
   tree_laid d None e = tt
   tree_laid d (Some t) e = record { plan = plan_grow s d s.tree t (area s.rows s.cols) refl refl e is.plan; views = is.views }
 
-  pub laid_kept : (act : Act) → IfLaid (laid s act)
+  pub laid_kept : (act : Act) → IfLaid (outcome_of s act)
   laid_kept (Key k) = is
   laid_kept SplitRight = split_laid Right
   laid_kept SplitDown = split_laid Down
   laid_kept Close =
       cond_both (is_one s.focus s.tree) (Refused LastPane) (Laid _) IfLaid (λ e. tt)
-      (λ e. record { plan = plan_close s s.tree (closed s.focus s.tree) (heir s.focus s.tree) refl refl refl is.plan; views = is.views })
+      (λ e. record { plan = plan_close s s.tree (without_pane s.focus s.tree) (heir s.focus s.tree) refl refl refl is.plan; views = is.views })
   laid_kept (Focus p) =
       cond_both (has p s.tree) (Laid _) (Refused NoPane) IfLaid
       (λ e. record { plan = plan_focus s s.tree p refl e is.plan; views = is.views }) (λ e. tt)
@@ -115,8 +115,8 @@ module _ (s : Plan) (is : IsLayout s) where
     views = is.views;
   }
   laid_kept (Grow d) =
-      cond_both (is_one s.focus s.tree) (Refused LastPane) (with_tree s (grown s.focus d s.tree (area s.rows s.cols))) IfLaid (λ e. tt)
-      (λ e. tree_laid d (grown s.focus d s.tree (area s.rows s.cols)) refl)
+      cond_both (is_one s.focus s.tree) (Refused LastPane) (with_tree s (after_growth s.focus d s.tree (area s.rows s.cols))) IfLaid (λ e. tt)
+      (λ e. tree_laid d (after_growth s.focus d s.tree (area s.rows s.cols)) refl)
   laid_kept (Size r c) =
       cond_both (is_session_size r c) (cond (fits_in s.tree (area r c)) (Laid _) (Refused TooSmall)) (Refused BadSize) IfLaid
       (λ size. cond_both (fits_in s.tree (area r c)) (Laid _) (Refused TooSmall) IfLaid
@@ -135,7 +135,7 @@ module _ (s : Plan) (is : IsLayout s) where
       (λ e. tt))
       (λ e. tt)
   laid_kept (View d) =
-      let v = viewed (pos (slice_index s.views s.focus) +ℤ d) in
+      let v = view_in_range (pos (slice_index s.views s.focus) +ℤ d) in
       record {
         plan = record {
           size = is.plan.size;
@@ -149,7 +149,7 @@ module _ (s : Plan) (is : IsLayout s) where
         views = one_view s.views s.focus v focus_low (viewed_low (pos (slice_index s.views s.focus) +ℤ d)) is.views;
       }
 
-pub laid_layout : (s t : Plan) (act : Act) → IsLayout s → laid s act ≡ Laid t → IsLayout t
+pub laid_layout : (s t : Plan) (act : Act) → IsLayout s → outcome_of s act ≡ Laid t → IsLayout t
 laid_layout s t act is e = subst IfLaid e (laid_kept s is act)
 
 -- a session begins with a layout
@@ -193,12 +193,12 @@ any_shown s is k =
     ]
 
 panes_shown : (picture : ℕ → Screenshot) (xs : List (ℕ × Rect)) → ArePictured picture xs → (r c : ℕ) (border : Option (Way × Rect))
-    → IsShown (pane_cell picture r c (found r c xs) border)
+    → IsShown (pane_cell picture r c (first_with_place r c xs) border)
 panes_shown picture [] are r c border = border_shown border
 panes_shown picture (x ∷ xs) are r c border =
     let rest = panes_shown picture xs are.1 r c border in
     let shot = picture x.0 in
-    cond_both (inside r c x.1) (Some x) (found r c xs) (λ (o : Option (ℕ × Rect)). IsShown (pane_cell picture r c o border))
+    cond_both (inside r c x.1) (Some x) (first_with_place r c xs) (λ (o : Option (ℕ × Rect)). IsShown (pane_cell picture r c o border))
     (λ e. any_shown shot are.0.shot ((r - x.1.row) * shot.cols + (c - x.1.col))) (λ e. rest)
 
 module _ (s : Plan) (picture : ℕ → Screenshot) (is : IsLayout s) (are : ArePictured picture (panes s)) where
@@ -223,9 +223,9 @@ module _ (s : Plan) (picture : ℕ → Screenshot) (is : IsLayout s) (are : AreP
       let back : c + 1 - 1 ≡ c = omega arith in
       let text = printable c 0 (omega (arith, length-status_row s, low)) in
       cond_both (eqb r s.rows) (character (slice_index (status_row s) (c + 1 - 1)) reverse_style)
-      (pane_cell picture r (c + 1) (found r (c + 1) (panes s)) (found r (c + 1) (edges s))) IsShown
+      (pane_cell picture r (c + 1) (first_with_place r (c + 1) (panes s)) (first_with_place r (c + 1) (edges s))) IsShown
       (λ e. subst (λ (j : ℕ). IsShown (character (slice_index (status_row s) j) reverse_style)) (sym back) (printable_shown (slice_index (status_row s) c) text))
-      (λ e. panes_shown picture (panes s) are r (c + 1) (found r (c + 1) (edges s)))
+      (λ e. panes_shown picture (panes s) are r (c + 1) (first_with_place r (c + 1) (edges s)))
 
   -- what shows screens of the panes' sizes in a layout is a screen
   pub face_screen : IsScreenshot (face s picture)

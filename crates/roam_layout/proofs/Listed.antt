@@ -6,7 +6,7 @@ use Rattle.std.proofs.lemmas.List.{get_or-map, length-map}
 use Rattle.std.proofs.lemmas.List.Elements.{All-head, All-tail}
 use Rattle.roam_screens.specs.Screenshot.{Screenshot, IsScreenshot}
 use Rattle.roam_layout.specs.Trees.{Shape, One, Two, has, times}
-use Rattle.roam_layout.specs.Rects.{placed, first_part, second_part}
+use Rattle.roam_layout.specs.Rects.{rects_of, first_part, second_part}
 use Rattle.roam_layout.specs.Layouts.{Plan, IsPlan, area, panes}
 use Rattle.roam_layout.specs.Changes.{size_of}
 use Rattle.roam_layout.specs.Faces.{picture_size, picture_in, ArePictures, Show}
@@ -73,22 +73,22 @@ or_false : (a : Bool) → (a || false) ≡ a
 or_false true = refl
 or_false false = refl
 
-pub lists_placed : (p : ℕ) (t : Shape) (x : Rect) → lists p (placed t x) ≡ has p t
+pub lists_placed : (p : ℕ) (t : Shape) (x : Rect) → lists p (rects_of t x) ≡ has p t
 lists_placed p (One q) x = or_false (eqb q p)
 lists_placed p (Two w g a b) x =
-    lists-append p (placed a (first_part w g a b x)) (placed b (second_part w g a b x))
+    lists-append p (rects_of a (first_part w g a b x)) (rects_of b (second_part w g a b x))
     ∙ (λ i. lists_placed p a (first_part w g a b x) i || lists_placed p b (second_part w g a b x) i)
 
 counts-append : {A : Type 0} (p : ℕ) (xs ys : List (ℕ × A)) → counts p (xs ++ ys) ≡ counts p xs + counts p ys
 counts-append p [] ys = omega arith
 counts-append p (x ∷ xs) ys = omega (arith, counts-append p xs ys)
 
-counts_placed : (p : ℕ) (t : Shape) (x : Rect) → counts p (placed t x) ≡ times p t
+counts_placed : (p : ℕ) (t : Shape) (x : Rect) → counts p (rects_of t x) ≡ times p t
 counts_placed p (One q) x = omega arith
 counts_placed p (Two w g a b) x =
     omega (
       arith,
-      counts-append p (placed a (first_part w g a b x)) (placed b (second_part w g a b x)),
+      counts-append p (rects_of a (first_part w g a b x)) (rects_of b (second_part w g a b x)),
       counts_placed p a (first_part w g a b x),
       counts_placed p b (second_part w g a b x),
     )

@@ -8,8 +8,8 @@ use Rattle.std.proofs.lemmas.List.FromFn.{length-map-range_with_len, get_or-map-
 use Rattle.roam_cells.specs.Glyph.{Glyph, blank}
 use Rattle.roam_screens.specs.Screenshot.{Screenshot}
 use Rattle.roam_layout.specs.Trees.{Shape}
-use Rattle.roam_layout.specs.Rects.{placed, borders, within, inside, once, hits, Fits}
-use Rattle.roam_layout.specs.Faces.{found, pane_cell, sign}
+use Rattle.roam_layout.specs.Rects.{rects_of, borders, within, inside, once, hits, Fits}
+use Rattle.roam_layout.specs.Faces.{first_with_place, pane_cell, sign}
 use Rattle.roam_layout.proofs.Covering.{covered}
 use Rattle.roam_layout.specs.declared.rects.Way.{Way}
 use Rattle.roam_layout.specs.declared.rects.Rect.{Rect}
@@ -55,54 +55,54 @@ pub or_none : {A : Type 0} → (x : Option A) → or_else x None ≡ x
 or_none None = refl
 or_none (Some x) = refl
 
-pub found-append : {A : Type 0} (r c : ℕ) (xs ys : List (A × Rect)) → found r c (xs ++ ys) ≡ or_else (found r c xs) (found r c ys)
+pub found-append : {A : Type 0} (r c : ℕ) (xs ys : List (A × Rect)) → first_with_place r c (xs ++ ys) ≡ or_else (first_with_place r c xs) (first_with_place r c ys)
 found-append r c [] ys = refl
 found-append r c (x ∷ xs) ys = by_case (inside r c x.1) (found-append r c xs ys)
   where
-    by_case : (v : Bool) → found r c (xs ++ ys) ≡ or_else (found r c xs) (found r c ys)
-        → cond v (Some x) (found r c (xs ++ ys)) ≡ or_else (cond v (Some x) (found r c xs)) (found r c ys)
+    by_case : (v : Bool) → first_with_place r c (xs ++ ys) ≡ or_else (first_with_place r c xs) (first_with_place r c ys)
+        → cond v (Some x) (first_with_place r c (xs ++ ys)) ≡ or_else (cond v (Some x) (first_with_place r c xs)) (first_with_place r c ys)
     by_case true rest = refl
     by_case false rest = rest
 
-pub not_found : {A : Type 0} (r c : ℕ) (xs : List (A × Rect)) → hits r c xs ≡ 0 → found r c xs ≡ None
+pub not_found : {A : Type 0} (r c : ℕ) (xs : List (A × Rect)) → hits r c xs ≡ 0 → first_with_place r c xs ≡ None
 not_found r c [] e = refl
 not_found r c (x ∷ xs) e = by_case (inside r c x.1) e (not_found r c xs)
   where
-    by_case : (v : Bool) → cond v 1 0 + hits r c xs ≡ 0 → (hits r c xs ≡ 0 → found r c xs ≡ None) → cond v (Some x) (found r c xs) ≡ None
+    by_case : (v : Bool) → cond v 1 0 + hits r c xs ≡ 0 → (hits r c xs ≡ 0 → first_with_place r c xs ≡ None) → cond v (Some x) (first_with_place r c xs) ≡ None
     by_case true more rest = absurd (omega (arith, more))
     by_case false more rest = rest (omega (arith, more))
 
 -- outside its rectangle a tree has nothing
 pub outside : (t : Shape) (x : Rect) (r c : ℕ) → Fits t x → inside r c x ≡ false
-    → (found r c (placed t x) ≡ None) × (found r c (borders t x) ≡ None)
+    → (first_with_place r c (rects_of t x) ≡ None) × (first_with_place r c (borders t x) ≡ None)
 outside t x r c fits out =
     let none : once r c x ≡ 0 = ap (λ v. cond v 1 0) out in
     let all = covered t x fits r c in
-    (not_found r c (placed t x) (omega (arith, all, none)), not_found r c (borders t x) (omega (arith, all, none)))
+    (not_found r c (rects_of t x) (omega (arith, all, none)), not_found r c (borders t x) (omega (arith, all, none)))
 
 -- what a tree shows at a place
 abbrev pub tree_cell : (ℕ → Screenshot) → Shape → Rect → ℕ → ℕ → Glyph
-tree_cell picture t x r c = pane_cell picture r c (found r c (placed t x)) (found r c (borders t x))
+tree_cell picture t x r c = pane_cell picture r c (first_with_place r c (rects_of t x)) (first_with_place r c (borders t x))
 
 -- a split shows what its parts show
 module _ (picture : ℕ → Screenshot) (w : Way) (a b : Shape) (xa xe xb : Rect) (fa : Fits a xa) (fb : Fits b xb) (r c : ℕ) where
   abbrev whole : Glyph
-  whole = pane_cell picture r c (found r c (placed a xa ++ placed b xb)) (found r c (borders a xa ++ (w, xe) ∷ borders b xb))
+  whole = pane_cell picture r c (first_with_place r c (rects_of a xa ++ rects_of b xb)) (first_with_place r c (borders a xa ++ (w, xe) ∷ borders b xb))
 
   abbrev parted : Option (ℕ × Rect) → Option (ℕ × Rect) → Option (Way × Rect) → Bool → Option (Way × Rect) → Glyph
   parted pa pb ea e eb = pane_cell picture r c (or_else pa pb) (or_else ea (cond e (Some (w, xe)) eb))
 
-  whole_is : whole ≡ parted (found r c (placed a xa)) (found r c (placed b xb)) (found r c (borders a xa)) (inside r c xe)
-      (found r c (borders b xb))
-  whole_is = λ i. pane_cell picture r c (found-append r c (placed a xa) (placed b xb) i)
+  whole_is : whole ≡ parted (first_with_place r c (rects_of a xa)) (first_with_place r c (rects_of b xb)) (first_with_place r c (borders a xa)) (inside r c xe)
+      (first_with_place r c (borders b xb))
+  whole_is = λ i. pane_cell picture r c (found-append r c (rects_of a xa) (rects_of b xb) i)
       (found-append r c (borders a xa) ((w, xe) ∷ borders b xb) i)
 
   pub first_cell : inside r c xe ≡ false → inside r c xb ≡ false → whole ≡ tree_cell picture a xa r c
   first_cell ee eb =
       let none = outside b xb r c fb eb in
       whole_is
-      ∙ (λ i. parted (found r c (placed a xa)) (none.0 i) (found r c (borders a xa)) (ee i) (none.1 i))
-      ∙ (λ i. pane_cell picture r c (or_none (found r c (placed a xa)) i) (or_none (found r c (borders a xa)) i))
+      ∙ (λ i. parted (first_with_place r c (rects_of a xa)) (none.0 i) (first_with_place r c (borders a xa)) (ee i) (none.1 i))
+      ∙ (λ i. pane_cell picture r c (or_none (first_with_place r c (rects_of a xa)) i) (or_none (first_with_place r c (borders a xa)) i))
 
   pub border_sign : inside r c xa ≡ false → inside r c xe ≡ true → inside r c xb ≡ false → whole ≡ sign w
   border_sign ea ee eb =
@@ -113,7 +113,7 @@ module _ (picture : ℕ → Screenshot) (w : Way) (a b : Shape) (xa xe xb : Rect
   pub second_cell : inside r c xa ≡ false → inside r c xe ≡ false → whole ≡ tree_cell picture b xb r c
   second_cell ea ee =
       let none = outside a xa r c fa ea in
-      whole_is ∙ (λ i. parted (none.0 i) (found r c (placed b xb)) (none.1 i) (ee i) (found r c (borders b xb)))
+      whole_is ∙ (λ i. parted (none.0 i) (first_with_place r c (rects_of b xb)) (none.1 i) (ee i) (first_with_place r c (borders b xb)))
 
 -- ---- lists that show a row
 

@@ -4,7 +4,7 @@ use Rattle.std.specs.List.{All}
 use Rattle.std.proofs.lemmas.Bool.{eqb-true, cond_both}
 use Rattle.roam_screens.specs.Screenshot.{Screenshot, IsScreenshot, IsPlace}
 use Rattle.roam_layout.specs.Trees.{Shape, One, Two, has}
-use Rattle.roam_layout.specs.Rects.{placed, spot, first_length, first_part, second_part, front, part, Fits}
+use Rattle.roam_layout.specs.Rects.{rects_of, spot, first_length, first_part, second_part, front, part, Fits}
 use Rattle.roam_layout.specs.Layouts.{Plan, IsPlan, area, panes}
 use Rattle.roam_layout.specs.Faces.{face, focus_rect, picture_in, ArePictures, Show}
 use Rattle.roam_layout.proofs.Covering.{across_in, down_in}
@@ -79,11 +79,11 @@ spot_in p (Two Down g a b) x fits =
     cond_both (has p a) (spot p a (front Down n x)) (spot p b (part Down (n + 1) (x.rows - n - 1) x)) (λ (y : Rect). IsPart y x)
     (λ _. one) (λ _. two)
 
-pub spot_pictured : (picture : ℕ → Screenshot) (p : ℕ) (t : Shape) (x : Rect) → ArePictured picture (placed t x) → has p t ≡ true
+pub spot_pictured : (picture : ℕ → Screenshot) (p : ℕ) (t : Shape) (x : Rect) → ArePictured picture (rects_of t x) → has p t ≡ true
     → IsPictured picture p (spot p t x)
 spot_pictured picture p (One q) x are is = subst (λ n. IsPictured picture n x) (eqb-true q p is) are.0
 spot_pictured picture p (Two w g a b) x are is =
-    let parts = pictured_parts picture (placed a (first_part w g a b x)) (placed b (second_part w g a b x)) are in
+    let parts = pictured_parts picture (rects_of a (first_part w g a b x)) (rects_of b (second_part w g a b x)) are in
     let one = spot_pictured picture p a (first_part w g a b x) parts.0 in
     let two = spot_pictured picture p b (second_part w g a b x) parts.1 in
     cond_both (has p a) (spot p a (first_part w g a b x)) (spot p b (second_part w g a b x)) (λ (y : Rect). IsPictured picture p y) one

@@ -8,8 +8,8 @@ use Rattle.roam_cells.specs.Place.{row_of}
 use Rattle.roam_screens.specs.Screenshot.{Screenshot, IsScreenshot}
 use Rattle.roam_cells.proofs.Places.{row_from}
 use Rattle.roam_layout.specs.Trees.{Shape, One, Two}
-use Rattle.roam_layout.specs.Rects.{placed, borders, within, first_length, first_part, border_part, second_part, front, part, Fits}
-use Rattle.roam_layout.specs.Faces.{found, pane_cell, sign, pane_segment, border_segment, first_segment}
+use Rattle.roam_layout.specs.Rects.{rects_of, borders, within, first_length, first_part, border_part, second_part, front, part, Fits}
+use Rattle.roam_layout.specs.Faces.{first_with_place, pane_cell, sign, pane_segment, border_segment, first_segment}
 use Rattle.roam_layout.proofs.Covering.{across_in, down_in}
 use Rattle.roam_layout.proofs.Places.{Shows, shows_same, shows_beside, shows_equal, shows_one, tree_cell, first_cell, border_sign, second_cell, not_row, not_col, both, within_in, within_below, within_above, within_range, within_none}
 use Rattle.roam_layout.specs.declared.rects.Way.{Way}
@@ -49,7 +49,7 @@ segments_by r picture (x ∷ xs) es = pane_segment r x.1 (picture x.0) ++ (first
 module _ (r : ℕ) (picture : ℕ → Screenshot) where
   -- in tree order panes and borders take turns
   woven : (t : Shape) (x : Rect) (ps : List (ℕ × Rect)) (e : Way × Rect) (es : List (Way × Rect))
-      → segments_by r picture (placed t x ++ ps) (borders t x ++ e ∷ es) ≡ strip r picture t x ++
+      → segments_by r picture (rects_of t x ++ ps) (borders t x ++ e ∷ es) ≡ strip r picture t x ++
       (border_segment r e ++ segments_by r picture ps es)
   woven (One p) x ps e es = refl
   woven (Two w g a b) x ps e es =
@@ -57,20 +57,20 @@ module _ (r : ℕ) (picture : ℕ → Screenshot) where
       let xb = second_part w g a b x in
       let edge : Way × Rect = (w, border_part w g a b x) in
       let rest = border_segment r e ++ segments_by r picture ps es in
-      (λ i. segments_by r picture (append_assoc (placed a xa) (placed b xb) ps i)
+      (λ i. segments_by r picture (append_assoc (rects_of a xa) (rects_of b xb) ps i)
       (append_assoc (borders a xa) (edge ∷ borders b xb) (e ∷ es) i))
-      ∙ woven a xa (placed b xb ++ ps) edge (borders b xb ++ e ∷ es)
+      ∙ woven a xa (rects_of b xb ++ ps) edge (borders b xb ++ e ∷ es)
       ∙ ap (λ l. strip r picture a xa ++ (border_segment r edge ++ l)) (woven b xb ps e es)
       ∙ ap (λ l. strip r picture a xa ++ l) (sym (append_assoc (border_segment r edge) (strip r picture b xb) rest))
       ∙ sym (append_assoc (strip r picture a xa) (border_segment r edge ++ strip r picture b xb) rest)
 
-  pub woven_last : (t : Shape) (x : Rect) → segments_by r picture (placed t x) (borders t x) ≡ strip r picture t x
+  pub woven_last : (t : Shape) (x : Rect) → segments_by r picture (rects_of t x) (borders t x) ≡ strip r picture t x
   woven_last (One p) x = append-nil (pane_segment r x (picture p))
   woven_last (Two w g a b) x =
       let xa = first_part w g a b x in
       let xb = second_part w g a b x in
       let edge : Way × Rect = (w, border_part w g a b x) in
-      woven a xa (placed b xb) edge (borders b xb) ∙ ap (λ l. strip r picture a xa ++ (border_segment r edge ++ l)) (woven_last b xb)
+      woven a xa (rects_of b xb) edge (borders b xb) ∙ ap (λ l. strip r picture a xa ++ (border_segment r edge ++ l)) (woven_last b xb)
 
 -- ---- what the segments show
 
@@ -138,8 +138,8 @@ module _ (r : ℕ) (picture : ℕ → Screenshot) (a b : Shape) (x : Rect) (n : 
   right = part Right (n + 1) (x.cols - n - 1) x
 
   across_shows : (xs ys : List Glyph)
-      → ((c : ℕ) → f c ≡ pane_cell picture r c (found r c (placed a left ++ placed b right))
-      (found r c (borders a left ++ (Right, edge) ∷ borders b right)))
+      → ((c : ℕ) → f c ≡ pane_cell picture r c (first_with_place r c (rects_of a left ++ rects_of b right))
+      (first_with_place r c (borders a left ++ (Right, edge) ∷ borders b right)))
       → Shows xs x.col n (tree_cell picture a left r) → Shows ys (x.col + (n + 1)) (x.cols - n - 1) (tree_cell picture b right r)
       → Shows (xs ++ (border_segment r (Right, edge) ++ ys)) x.col x.cols f
   across_shows xs ys is s t =
@@ -177,8 +177,8 @@ module _ (r : ℕ) (picture : ℕ → Screenshot) (a b : Shape) (x : Rect) (n : 
   lower = part Down (n + 1) (x.rows - n - 1) x
 
   abbrev IsBoth : Type 0
-  IsBoth = (c : ℕ) → f c ≡ pane_cell picture r c (found r c (placed a upper ++ placed b lower))
-      (found r c (borders a upper ++ (Down, level) ∷ borders b lower))
+  IsBoth = (c : ℕ) → f c ≡ pane_cell picture r c (first_with_place r c (rects_of a upper ++ rects_of b lower))
+      (first_with_place r c (borders a upper ++ (Down, level) ∷ borders b lower))
 
   no_level : within (x.row + n) 1 r ≡ false → border_segment r (Down, level) ≡ []
   no_level e = ap (λ v. cond v (replicate x.cols (sign Down)) []) e
@@ -215,7 +215,7 @@ module _ (r : ℕ) (picture : ℕ → Screenshot) (a b : Shape) (x : Rect) (n : 
       (not_row r c level not_level))))
 
 -- a row's segments show what the tree shows there
-pub strip_shows : (r : ℕ) (picture : ℕ → Screenshot) (t : Shape) (x : Rect) → Fits t x → ArePictured picture (placed t x)
+pub strip_shows : (r : ℕ) (picture : ℕ → Screenshot) (t : Shape) (x : Rect) → Fits t x → ArePictured picture (rects_of t x)
     → within x.row x.rows r ≡ true → Shows (strip r picture t x) x.col x.cols (tree_cell picture t x r)
 strip_shows r picture (One p) x fits pictured e = pane_shows r picture p x pictured.0 e
 strip_shows r picture (Two Right g a b) x fits pictured e =
@@ -223,7 +223,7 @@ strip_shows r picture (Two Right g a b) x fits pictured e =
     let bounds = across_in g a b x fits in
     let fa : Fits a (front Right n x) = (omega (arith, fits.0), bounds.0) in
     let fb : Fits b (part Right (n + 1) (x.cols - n - 1) x) = (omega (arith, fits.0), omega (arith, bounds.1)) in
-    let parts = pictured_parts picture (placed a (front Right n x)) (placed b (part Right (n + 1) (x.cols - n - 1) x)) pictured in
+    let parts = pictured_parts picture (rects_of a (front Right n x)) (rects_of b (part Right (n + 1) (x.cols - n - 1) x)) pictured in
     across_shows r picture a b x n fa fb (omega (arith, bounds.1)) e (tree_cell picture (Two Right g a b) x r) _ _ (λ c. refl)
     (strip_shows r picture a (front Right n x) fa parts.0 e)
     (strip_shows r picture b (part Right (n + 1) (x.cols - n - 1) x) fb parts.1 e)
@@ -232,7 +232,7 @@ strip_shows r picture (Two Down g a b) x fits pictured e =
     let bounds = down_in g a b x fits in
     let fa : Fits a (front Down n x) = (bounds.0, omega (arith, fits.1)) in
     let fb : Fits b (part Down (n + 1) (x.rows - n - 1) x) = (omega (arith, bounds.1), omega (arith, fits.1)) in
-    let parts = pictured_parts picture (placed a (front Down n x)) (placed b (part Down (n + 1) (x.rows - n - 1) x)) pictured in
+    let parts = pictured_parts picture (rects_of a (front Down n x)) (rects_of b (part Down (n + 1) (x.rows - n - 1) x)) pictured in
     let range = within_range x.row x.rows r e in
     let le : n + 1 ≤ x.rows = omega (arith, bounds.1) in
     let f = tree_cell picture (Two Down g a b) x r in

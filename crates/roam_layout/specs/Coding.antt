@@ -25,23 +25,23 @@ join w g [] = []
 join w g (a ∷ []) = []
 join w g (a ∷ b ∷ rest) = Two (way_of w) g a b ∷ rest
 
-abbrev pub read : List Node → List Shape
-read [] = []
-read (inl p ∷ rest) = One p ∷ read rest
-read (inr n ∷ rest) = join n.0 n.1 (read rest)
+abbrev pub shapes_of : List Node → List Shape
+shapes_of [] = []
+shapes_of (inl p ∷ rest) = One p ∷ shapes_of rest
+shapes_of (inr n ∷ rest) = join n.0 n.1 (shapes_of rest)
 
 abbrev pub head_of : List Shape → Shape
 head_of [] = One 0
 head_of (t ∷ ts) = t
 
-abbrev pub read_spell : (t : Shape) (rest : List Node) → read (spell t rest) ≡ t ∷ read rest
+abbrev pub read_spell : (t : Shape) (rest : List Node) → shapes_of (spell t rest) ≡ t ∷ shapes_of rest
 read_spell (One p) rest = refl
 read_spell (Two Right g a b) rest = ap (join true g) (read_spell a (spell b rest) ∙ ap (λ ts. a ∷ ts) (read_spell b rest))
 read_spell (Two Down g a b) rest = ap (join false g) (read_spell a (spell b rest) ∙ ap (λ ts. a ∷ ts) (read_spell b rest))
 
 abbrev pub shape_code : Coded Shape
 shape_code =
-    code_by (List Node) (coded_list (coded⊎ coded_ℕ (coded× coded_bool coded_ℤ))) (λ t. spell t []) (λ ns. head_of (read ns))
+    code_by (List Node) (coded_list (coded⊎ coded_ℕ (coded× coded_bool coded_ℤ))) (λ t. spell t []) (λ ns. head_of (shapes_of ns))
     (λ t. ap head_of (read_spell t []))
 
 abbrev pub plan_code : Coded Plan

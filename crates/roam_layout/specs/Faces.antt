@@ -32,9 +32,9 @@ reverse_style = record default_style { reverse = true }
 -- ---- places
 
 -- the first of these whose rectangle has a place
-abbrev pub found : {A : Type 0} → ℕ → ℕ → List (A × Rect) → Option (A × Rect)
-found r c [] = None
-found r c (x ∷ xs) = if inside r c x.1 then Some x else found r c xs
+abbrev pub first_with_place : {A : Type 0} → ℕ → ℕ → List (A × Rect) → Option (A × Rect)
+first_with_place r c [] = None
+first_with_place r c (x ∷ xs) = if inside r c x.1 then Some x else first_with_place r c xs
 
 -- what a picture that stands in a rectangle shows at a place
 abbrev pub cell_in : Rect → Screenshot → ℕ → ℕ → Glyph
@@ -54,7 +54,7 @@ pane_cell picture r c (Some x) border = cell_in x.1 (picture x.0) r c
 abbrev pub face_at : Plan → (ℕ → Screenshot) → ℕ → ℕ → Glyph
 face_at s picture r c =
     if r == s.rows then character (slice_index (status_row s) (c - 1)) reverse_style
-    else pane_cell picture r c (found r c (panes s)) (found r c (edges s))
+    else pane_cell picture r c (first_with_place r c (panes s)) (first_with_place r c (edges s))
 
 -- a row of the face, from 1
 abbrev pub face_row : Plan → (ℕ → Screenshot) → ℕ → List Glyph

@@ -6,8 +6,8 @@ use Rattle.roam_cells.specs.declared.faults.Fault.{Fault}
 use Rattle.roam_cells.specs.declared.faults.Fault.TheVariants.{OutOfMemory, BadSize, TooSmall, NoPane, PanesFull, LastPane}
 use Rattle.roam_cells.specs.Limits.{most_rows, most_columns}
 use Rattle.roam_layout.specs.Limits.{fewest_session_rows, fewest_session_columns, most_view}
-use Rattle.roam_layout.specs.Trees.{Shape, One, leaves, has, is_one, first_leaf, forked, closed, heir, free, AreDistinct, AreNumbers, AreModest}
-use Rattle.roam_layout.specs.Rects.{placed, borders, spot, Fits, fits_in, is_roomy, grown}
+use Rattle.roam_layout.specs.Trees.{Shape, One, leaves, has, is_one, first_leaf, with_split, without_pane, heir, free, AreDistinct, AreNumbers, AreModest}
+use Rattle.roam_layout.specs.Rects.{rects_of, borders, spot, Fits, fits_in, is_roomy, after_growth}
 use Rattle.roam_layout.specs.declared.rects.Way.{Way}
 use Rattle.roam_layout.specs.declared.rects.Way.TheVariants.{Right, Down}
 use Rattle.roam_layout.specs.declared.rects.Rect.{Rect}
@@ -39,7 +39,7 @@ area rows cols = record { row = 1; col = 1; rows = rows - 1; cols = cols }
 
 -- the panes of a layout with their rectangles, in tree order
 abbrev pub panes : Plan → List (ℕ × Rect)
-panes s = placed s.tree (area s.rows s.cols)
+panes s = rects_of s.tree (area s.rows s.cols)
 
 -- the borders of a layout, in tree order
 abbrev pub edges : Plan → List (Way × Rect)
@@ -74,7 +74,7 @@ split way s =
     if nat_le 9 (length (leaves s.tree)) then Refused PanesFull
     else if is_roomy way (spot s.focus s.tree (area s.rows s.cols)) then
     Laid (record s {
-      tree = forked way s.focus (free s.tree) s.tree;
+      tree = with_split way s.focus (free s.tree) s.tree;
       focus = free s.tree;
       views = slice_set s.views (free s.tree) 0;
     })
@@ -84,7 +84,7 @@ split way s =
 abbrev pub close : Plan → Outcome
 close s =
     if is_one s.focus s.tree then Refused LastPane
-    else Laid (record s { tree = closed s.focus s.tree; focus = heir s.focus s.tree })
+    else Laid (record s { tree = without_pane s.focus s.tree; focus = heir s.focus s.tree })
 
 -- the focus goes to a pane
 abbrev pub focus_on : ℕ → Plan → Outcome
@@ -109,7 +109,7 @@ with_tree s (Some t) = Laid (record s { tree = t })
 abbrev pub grow : ℤ → Plan → Outcome
 grow d s =
     if is_one s.focus s.tree then Refused LastPane
-    else with_tree s (grown s.focus d s.tree (area s.rows s.cols))
+    else with_tree s (after_growth s.focus d s.tree (area s.rows s.cols))
 
 -- the session gets another size
 abbrev pub resize : ℕ → ℕ → Plan → Outcome
@@ -118,25 +118,25 @@ resize r c s =
     else Refused BadSize
 
 -- a whole number pushed into the range of views
-abbrev pub viewed : ℤ → ℕ
-viewed (pos n) = min n most_view
-viewed (negsuc n) = 0
+abbrev pub view_in_range : ℤ → ℕ
+view_in_range (pos n) = min n most_view
+view_in_range (negsuc n) = 0
 
 -- the view of the pane in focus moves
 abbrev pub scroll : ℤ → Plan → Outcome
-scroll d s = Laid (record s { views = slice_set s.views s.focus (viewed (pos (slice_index s.views s.focus) +ℤ d)) })
+scroll d s = Laid (record s { views = slice_set s.views s.focus (view_in_range (pos (slice_index s.views s.focus) +ℤ d)) })
 
 -- what an act makes of a layout; a key leaves it
-abbrev pub laid : Plan → Act → Outcome
-laid s (Key k) = Laid s
-laid s SplitRight = split Right s
-laid s SplitDown = split Down s
-laid s Close = close s
-laid s (Focus p) = focus_on p s
-laid s Next = next s
-laid s (Grow d) = grow d s
-laid s (Size r c) = resize r c s
-laid s (View d) = scroll d s
+abbrev pub outcome_of : Plan → Act → Outcome
+outcome_of s (Key k) = Laid s
+outcome_of s SplitRight = split Right s
+outcome_of s SplitDown = split Down s
+outcome_of s Close = close s
+outcome_of s (Focus p) = focus_on p s
+outcome_of s Next = next s
+outcome_of s (Grow d) = grow d s
+outcome_of s (Size r c) = resize r c s
+outcome_of s (View d) = scroll d s
 
 -- an act that is laid
 abbrev pub IsLaid : Outcome → Type 0

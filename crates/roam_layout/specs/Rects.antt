@@ -23,9 +23,9 @@ front Right n r = record { row = r.row; col = r.col; rows = r.rows; cols = n }
 front Down n r = record { row = r.row; col = r.col; rows = n; cols = r.cols }
 
 -- a whole number pushed into the range from low to high
-abbrev pub pushed : ℤ → ℕ → ℕ → ℕ
-pushed (pos n) low high = max low (min n high)
-pushed (negsuc n) low high = low
+abbrev pub nearest_in_range : ℤ → ℕ → ℕ → ℕ
+nearest_in_range (pos n) low high = max low (min n high)
+nearest_in_range (negsuc n) low high = low
 
 -- half of what the border leaves of a length
 abbrev pub middle : ℕ → ℕ
@@ -37,7 +37,7 @@ most_first w b r = length_along w r - 1 - least w b
 
 -- the first child's length: the middle and the shift, pushed into what both children's least lengths allow
 abbrev pub first_length : Way → ℤ → Shape → Shape → Rect → ℕ
-first_length w g a b r = pushed (pos (middle (length_along w r)) +ℤ g) (least w a) (most_first w b r)
+first_length w g a b r = nearest_in_range (pos (middle (length_along w r)) +ℤ g) (least w a) (most_first w b r)
 
 -- the rectangles of a split's first child, its border and its second child
 abbrev pub first_part : Way → ℤ → Shape → Shape → Rect → Rect
@@ -53,9 +53,9 @@ second_part w g a b r =
 -- ---- panes and borders
 
 -- the panes with their rectangles, in tree order
-abbrev pub placed : Shape → Rect → List (ℕ × Rect)
-placed (One p) r = (p, r) ∷ []
-placed (Two w g a b) r = placed a (first_part w g a b r) ++ placed b (second_part w g a b r)
+abbrev pub rects_of : Shape → Rect → List (ℕ × Rect)
+rects_of (One p) r = (p, r) ∷ []
+rects_of (Two w g a b) r = rects_of a (first_part w g a b r) ++ rects_of b (second_part w g a b r)
 
 -- the borders of the splits, each with its split's way, in tree order
 abbrev pub borders : Shape → Rect → List (Way × Rect)
@@ -92,8 +92,8 @@ is_roomy Down r = nat_le 5 r.rows
 -- ---- growing
 
 -- a split whose first child is to have a length: its shift is set so that this length comes out; none where a child would be too small
-abbrev pub stretched : Way → ℤ → Shape → Shape → Rect → Option Shape
-stretched w wanted a b r =
+abbrev pub after_stretch : Way → ℤ → Shape → Shape → Rect → Option Shape
+after_stretch w wanted a b r =
     if int_le (pos (least w a)) wanted && int_le wanted (pos (most_first w b r))
     then Some (Two w (wanted -ℤ pos (middle (length_along w r))) a b)
     else None
@@ -107,13 +107,13 @@ with_second w g a None = None
 with_second w g a (Some b) = Some (Two w g a b)
 
 -- a tree in a rectangle after pane p grew by d along its own split, the split that it is a child of
-abbrev pub grown : ℕ → ℤ → Shape → Rect → Option Shape
-grown p d (One q) r = None
-grown p d (Two w g a b) r =
-    if is_one p a then stretched w (pos (first_length w g a b r) +ℤ d) a b r
-    else if is_one p b then stretched w (pos (first_length w g a b r) -ℤ d) a b r
-    else if has p a then with_first w g b (grown p d a (first_part w g a b r))
-    else with_second w g a (grown p d b (second_part w g a b r))
+abbrev pub after_growth : ℕ → ℤ → Shape → Rect → Option Shape
+after_growth p d (One q) r = None
+after_growth p d (Two w g a b) r =
+    if is_one p a then after_stretch w (pos (first_length w g a b r) +ℤ d) a b r
+    else if is_one p b then after_stretch w (pos (first_length w g a b r) -ℤ d) a b r
+    else if has p a then with_first w g b (after_growth p d a (first_part w g a b r))
+    else with_second w g a (after_growth p d b (second_part w g a b r))
 
 -- ---- places
 

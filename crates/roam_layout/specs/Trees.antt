@@ -89,22 +89,22 @@ AreModest (Two way g a b) = IsModest g × AreModest a × AreModest b
 -- ---- splitting and closing
 
 -- another tree in the place of pane p
-abbrev pub planted : ℕ → Shape → Shape → Shape
-planted p other (One q) = if (q == p) then other else One q
-planted p other (Two w g a b) = if has p a then Two w g (planted p other a) b else Two w g a (planted p other b)
+abbrev pub with_subtree : ℕ → Shape → Shape → Shape
+with_subtree p other (One q) = if (q == p) then other else One q
+with_subtree p other (Two w g a b) = if has p a then Two w g (with_subtree p other a) b else Two w g a (with_subtree p other b)
 
 -- pane p split in two with the border in the middle, the second of them being pane n
-abbrev pub forked : Way → ℕ → ℕ → Shape → Shape
-forked way p n t = planted p (Two way (pos 0) (One p) (One n)) t
+abbrev pub with_split : Way → ℕ → ℕ → Shape → Shape
+with_split way p n t = with_subtree p (Two way (pos 0) (One p) (One n)) t
 
 -- pane p gone, its sibling in the place of the split
-abbrev pub closed : ℕ → Shape → Shape
-closed p (One q) = One q
-closed p (Two w g a b) =
+abbrev pub without_pane : ℕ → Shape → Shape
+without_pane p (One q) = One q
+without_pane p (Two w g a b) =
     if is_one p a then b
     else if is_one p b then a
-    else if has p a then Two w g (closed p a) b
-    else Two w g a (closed p b)
+    else if has p a then Two w g (without_pane p a) b
+    else Two w g a (without_pane p b)
 
 -- the first pane of what takes pane p's place
 abbrev pub heir : ℕ → Shape → ℕ

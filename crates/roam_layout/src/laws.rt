@@ -3,7 +3,7 @@ ghost use Rattle.std.specs.Prelude.{◌≡◌, ◌≤◌, ◌<◌, ℕ, List, tr
 ghost use Rattle.roam_acts.specs.declared.acts.Act.{Act};
 ghost use Rattle.roam_screens.specs.Screenshot.{Screenshot};
 ghost use Rattle.roam_layout.specs.Trees.{Shape, has, leaves, free};
-ghost use Rattle.roam_layout.specs.Layouts.{Plan, IsPlan, Laid, laid, panes};
+ghost use Rattle.roam_layout.specs.Layouts.{Plan, IsPlan, Laid, outcome_of, panes};
 ghost use Rattle.roam_layout.specs.Changes.{panes_closed, panes_made};
 ghost use Rattle.roam_layout.specs.Faces.{picture_in, ArePictures, Show};
 
@@ -20,6 +20,6 @@ pub fn lists_show_their_pictures()
 
 /// An act closes at most one pane, and makes at most one.
 pub fn acts_close_and_make_at_most_one_pane()
-    ensures closed { (s t : Plan) (act : Act) → IsPlan s → laid s act ≡ Laid t → length (panes_closed (panes s) (panes t)) ≤ 1 }
-    ensures made { (s t : Plan) (act : Act) → IsPlan s → laid s act ≡ Laid t → length (panes_made (panes s) (panes t)) ≤ 1 }
+    ensures closed { (s t : Plan) (act : Act) → IsPlan s → outcome_of s act ≡ Laid t → length (panes_closed (panes s) (panes t)) ≤ 1 }
+    ensures made { (s t : Plan) (act : Act) → IsPlan s → outcome_of s act ≡ Laid t → length (panes_made (panes s) (panes t)) ≤ 1 }
 {}

@@ -7,7 +7,7 @@ ghost use Rattle.roam_layout.specs.Rects.{Covers};
 ghost use Rattle.roam_layout.specs.Changes.{first_of, panes_closed, panes_made, panes_sized};
 ghost use Rattle.roam_layout.specs.Status.{status_row, IsPrintable};
 ghost use Rattle.roam_layout.specs.Faces.{focus_rect};
-ghost use Rattle.roam_layout.specs.Layouts.{Plan, IsPlan, IsSessionSize, Answers, area, panes, edges, start, split, close, focus_on, next, grow, laid, after, resize, scroll, viewed, IsLaid, Laid, Refused};
+ghost use Rattle.roam_layout.specs.Layouts.{Plan, IsPlan, IsSessionSize, Answers, area, panes, edges, start, split, close, focus_on, next, grow, outcome_of, after, resize, scroll, view_in_range, IsLaid, Laid, Refused};
 
 use crate::changes::Changes;
 use crate::limits::{MOST_VIEW, is_session_size};
@@ -62,7 +62,7 @@ fn area_of(rows: u16, cols: u16) -> Rect
 /// A view moved by a number, pushed into 0 to 500.
 fn moved_view(view: u16, by: i16) -> u16
     requires by { (negsuc 499 ≤ℤ by) × (by ≤ℤ pos 500) }
-    ensures view { result ≡ viewed (pos view +ℤ by) }
+    ensures view { result ≡ view_in_range (pos view +ℤ by) }
 {
     let moved = view as i32 + by as i32;
     if moved < 0 {
@@ -285,7 +285,7 @@ impl Layout {
     /// The layout after an act; it is refused as the act is, and `self` stays in either case.
     pub fn after(&self, alloc: Global, act: &Act) -> Result<Layout, Fault>
         requires in_range { IsInRange act.now }
-        ensures answer { Answers (laid self.now act.now) result }
+        ensures answer { Answers (outcome_of self.now act.now) result }
     {
         match *act {
             Act::SplitRight => self.split(alloc, Way::Right),
@@ -303,12 +303,12 @@ impl Layout {
     /// Does an act, and tells which panes it closed, made and sized. A refused act leaves the layout.
     pub fn apply(&mut self, alloc: Global, act: &Act) -> Result<Changes, Fault>
         requires in_range { IsInRange act.now }
-        ensures laid { OnOk result (laid self.old act.now ≡ Laid self.new) }
+        ensures laid { OnOk result (outcome_of self.old act.now ≡ Laid self.new) }
         ensures closed { IfOk result (λ changes. changes.closed ≡ first_of (panes_closed (panes self.old) (panes self.new))) }
         ensures made { IfOk result (λ changes. changes.made ≡ first_of (panes_made (panes self.old) (panes self.new))) }
         ensures sized { IfOk result (λ changes. changes.sized.items ≡ panes_sized (panes self.old) (panes self.new)) }
-        ensures refused { IfErr result (λ fault. (fault ≡ Fault.OutOfMemory) ⊎ (laid self.old act.now ≡ Refused fault)) }
-        ensures memory { IsErrOf result Fault.OutOfMemory → IsLaid (laid self.old act.now) }
+        ensures refused { IfErr result (λ fault. (fault ≡ Fault.OutOfMemory) ⊎ (outcome_of self.old act.now ≡ Refused fault)) }
+        ensures memory { IsErrOf result Fault.OutOfMemory → IsLaid (outcome_of self.old act.now) }
         ensures err { OnErr result (self.new ≡ self.old) }
     {
         let next = self.after(alloc, act)?;

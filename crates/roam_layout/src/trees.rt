@@ -1,7 +1,7 @@
 //! The tree of splits, whose leaves are panes.
 ghost use Rattle.std.specs.Prelude.{◌≡◌, ◌+◌, ◌≤◌, ◌++◌, pos, negsuc, ◌≤ℤ◌, ◌+ℤ◌, IfOk, OnOk, Some, None, is_some, if◌then◌else◌};
-ghost use Rattle.roam_layout.specs.Rects.{first_length, first_part, second_part, border_part, length_along, pushed, middle, placed, borders, spot, is_roomy, grown, stretched, Fits, IsOnScreen};
-ghost use Rattle.roam_layout.specs.Trees.{One, Two, shape_of, least, least_rows, least_cols, has, is_one, first_leaf, planted, closed, heir, free, free_among, IsModest, AreModest};
+ghost use Rattle.roam_layout.specs.Rects.{first_length, first_part, second_part, border_part, length_along, nearest_in_range, middle, rects_of, borders, spot, is_roomy, after_growth, after_stretch, Fits, IsOnScreen};
+ghost use Rattle.roam_layout.specs.Trees.{One, Two, shape_of, least, least_rows, least_cols, has, is_one, first_leaf, with_subtree, without_pane, heir, free, free_among, IsModest, AreModest};
 
 use crate::rects::{Rect, Way};
 use std::alloc::{AllocError, Global};
@@ -38,7 +38,7 @@ fn first_of(whole: u16, shift: i16, low: u16, high: u16) -> u16
     requires whole { (1 ≤ whole) × (whole ≤ 500) }
     requires range { (low ≤ high) × (high ≤ 500) }
     requires modest { IsModest shift }
-    ensures length { result ≡ pushed (pos (middle whole) +ℤ shift) low high }
+    ensures length { result ≡ nearest_in_range (pos (middle whole) +ℤ shift) low high }
 {
     let aim = ((whole - 1) / 2) as i16 + shift;
     if aim < low as i16 {
@@ -69,7 +69,7 @@ impl Split {
     fn stretch(&mut self, wanted: i16, rect: Rect) -> bool
         requires fits { Fits (Two self.now.way self.now.shift (shape_of self.now.first) (shape_of self.now.second)) rect }
         requires limits { IsOnScreen rect }
-        ensures stretched { stretched self.old.way wanted (shape_of self.old.first) (shape_of self.old.second) rect
+        ensures stretched { after_stretch self.old.way wanted (shape_of self.old.first) (shape_of self.old.second) rect
             ≡ (if result then Some (Two self.new.way self.new.shift (shape_of self.new.first) (shape_of self.new.second)) else None) }
     {
         let whole = rect.length_along(self.way);
@@ -86,7 +86,7 @@ impl Split {
     fn can_stretch(&self, wanted: i16, rect: Rect) -> bool
         requires fits { Fits (Two self.now.way self.now.shift (shape_of self.now.first) (shape_of self.now.second)) rect }
         requires limits { IsOnScreen rect }
-        ensures stretched { is_some (stretched self.now.way wanted (shape_of self.now.first) (shape_of self.now.second) rect) ≡ result }
+        ensures stretched { is_some (after_stretch self.now.way wanted (shape_of self.now.first) (shape_of self.now.second) rect) ≡ result }
     {
         let low = self.first.least(self.way);
         let high = rect.length_along(self.way) - 1 - self.second.least(self.way);
@@ -292,7 +292,7 @@ impl Tree {
 
     /// Puts another tree in the place of a pane.
     pub fn plant(&mut self, pane: u8, other: Tree)
-        ensures shape { shape_of self.new ≡ planted pane (shape_of other) (shape_of self.old) }
+        ensures shape { shape_of self.new ≡ with_subtree pane (shape_of other) (shape_of self.old) }
     {
         match self {
             Tree::Leaf(p) => {
@@ -312,7 +312,7 @@ impl Tree {
 
     /// Closes a pane of a split: its sibling takes the split's place.
     pub fn close(&mut self, pane: u8)
-        ensures shape { shape_of self.new ≡ closed pane (shape_of self.old) }
+        ensures shape { shape_of self.new ≡ without_pane pane (shape_of self.old) }
     {
         if let Tree::Fork(split) = self {
             if split.first.is_one(pane) {
@@ -339,7 +339,7 @@ impl Tree {
         requires fits { Fits (shape_of self.now) rect }
         requires limits { IsOnScreen rect }
         requires modest { AreModest (shape_of self.now) }
-        ensures panes { OnOk result (panes.new.items ≡ panes.old.items ++ placed (shape_of self.now) rect) }
+        ensures panes { OnOk result (panes.new.items ≡ panes.old.items ++ rects_of (shape_of self.now) rect) }
         ensures borders { OnOk result (edges.new.items ≡ edges.old.items ++ borders (shape_of self.now) rect) }
     {
         match self {
@@ -394,7 +394,7 @@ impl Tree {
         requires limits { IsOnScreen rect }
         requires modest { AreModest (shape_of self.now) }
         requires by { (negsuc 98 ≤ℤ by) × (by ≤ℤ pos 99) }
-        ensures grown { is_some (grown pane by (shape_of self.now) rect) ≡ result }
+        ensures grown { is_some (after_growth pane by (shape_of self.now) rect) ≡ result }
     {
         match self {
             Tree::Leaf(_) => false,
@@ -420,7 +420,7 @@ impl Tree {
         requires limits { IsOnScreen rect }
         requires modest { AreModest (shape_of self.now) }
         requires by { (negsuc 98 ≤ℤ by) × (by ≤ℤ pos 99) }
-        ensures grown { grown pane by (shape_of self.old) rect ≡ (if result then Some (shape_of self.new) else None) }
+        ensures grown { after_growth pane by (shape_of self.old) rect ≡ (if result then Some (shape_of self.new) else None) }
     {
         match self {
             Tree::Leaf(_) => false,

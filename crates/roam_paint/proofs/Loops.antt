@@ -15,9 +15,9 @@ use Rattle.roam_text.specs.declared.functions.Function.TheVariants.{Print}
 use Rattle.roam_screens.specs.Screenshot.{Screenshot}
 use Rattle.roam_cells.specs.Same.{same_style}
 use Rattle.roam_term.specs.ControlFunctions.{place_cursor, set_style, restyle}
-use Rattle.roam_paint.specs.Sequences.{spelled}
+use Rattle.roam_paint.specs.Sequences.{spelling_of}
 use Rattle.roam_term.specs.Ground.{shown_at}
-use Rattle.roam_paint.specs.Painting.{same_size, differs, is_drawn, goes_on, placing, styling, drawn_cell, style_after, style_in, style_at, drawn_row, drawn_rows, opening, closing, drawn, painted}
+use Rattle.roam_paint.specs.Painting.{same_size, differs, is_drawn, goes_on, placing, styling, drawn_cell, style_after, style_in, style_at, drawn_row, drawn_rows, opening, closing, functions_between, text_between}
 use Rattle.roam_paint.specs.Texts.{cell_text, place_text, row_text, row_style, rows_text, rows_style, opening_text, closing_text}
 
 pub row_start : (old new : Screenshot) (r : ℕ) (g : Style) → row_text old new r g 0 ≡ []
@@ -59,30 +59,30 @@ unfolding opening_text digits
 opening_is true = refl
 opening_is false = refl
 
-pub closing_is : (row col : ℕ) (visible : Bool) → closing_text row col visible ≡ spelled (set_style default_style) ++ (spelled (place_cursor row col) ++ (if visible then 0x1B ∷ 0x5B ∷ 0x3F ∷ 0x32 ∷ 0x35 ∷ 0x68 ∷ [] else []))
+pub closing_is : (row col : ℕ) (visible : Bool) → closing_text row col visible ≡ spelling_of (set_style default_style) ++ (spelling_of (place_cursor row col) ++ (if visible then 0x1B ∷ 0x5B ∷ 0x3F ∷ 0x32 ∷ 0x35 ∷ 0x68 ∷ [] else []))
 unfolding closing_text digits
 closing_is row col true = refl
 closing_is row col false = refl
 
 -- ---- it is the text of the functions
 
-points_text : (ps : List ℕ) → flat_map spelled (map Print ps) ≡ flat_map encode_utf8 ps
+points_text : (ps : List ℕ) → flat_map spelling_of (map Print ps) ≡ flat_map encode_utf8 ps
 points_text [] = refl
 points_text (p ∷ ps) = ap (λ l. encode_utf8 p ++ l) (points_text ps)
 
-one_text : (f : Function) (b : Bool) → flat_map spelled (if b then [] else f ∷ []) ≡ (if b then [] else spelled f)
+one_text : (f : Function) (b : Bool) → flat_map spelling_of (if b then [] else f ∷ []) ≡ (if b then [] else spelling_of f)
 one_text f true = refl
-one_text f false = append-nil (spelled f)
+one_text f false = append-nil (spelling_of f)
 
-text_unless : (fs : List Function) (b : Bool) → flat_map spelled (if b then [] else fs) ≡ (if b then [] else flat_map spelled fs)
+text_unless : (fs : List Function) (b : Bool) → flat_map spelling_of (if b then [] else fs) ≡ (if b then [] else flat_map spelling_of fs)
 text_unless fs true = refl
 text_unless fs false = refl
 
-text_if : (fs : List Function) (b : Bool) → flat_map spelled (if b then fs else []) ≡ (if b then flat_map spelled fs else [])
+text_if : (fs : List Function) (b : Bool) → flat_map spelling_of (if b then fs else []) ≡ (if b then flat_map spelling_of fs else [])
 text_if fs true = refl
 text_if fs false = refl
 
-place_is : (old new : Screenshot) (r c : ℕ) (g : Style) → flat_map spelled (drawn_cell (differs old new) (shown_at new) r c g) ≡ place_text old new r c g
+place_is : (old new : Screenshot) (r c : ℕ) (g : Style) → flat_map spelling_of (drawn_cell (differs old new) (shown_at new) r c g) ≡ place_text old new r c g
 unfolding drawn_cell place_text
 place_is old new r c g =
     let d = differs old new in
@@ -92,37 +92,37 @@ place_is old new r c g =
     let p = map Print x.points in
     text_if (a ++ (b ++ p)) (is_drawn d (shown_at new) r c)
     ∙ ap (λ l. if is_drawn d (shown_at new) r c then l else [])
-    (flat_map-append spelled a (b ++ p) ∙ ap (λ l. flat_map spelled a ++ l) (flat_map-append spelled b p)
-    ∙ ap (λ l. l ++ (flat_map spelled b ++ flat_map spelled p)) (one_text (place_cursor (r + 1) (c + 1)) (goes_on d r c))
-    ∙ ap (λ l. (if goes_on d r c then [] else spelled (place_cursor (r + 1) (c + 1))) ++ (l ++ flat_map spelled p)) (text_unless (restyle x.style) (same_style x.style g))
-    ∙ ap (λ l. (if goes_on d r c then [] else spelled (place_cursor (r + 1) (c + 1))) ++ ((if same_style x.style g then [] else flat_map spelled (restyle x.style)) ++ l)) (points_text x.points))
+    (flat_map-append spelling_of a (b ++ p) ∙ ap (λ l. flat_map spelling_of a ++ l) (flat_map-append spelling_of b p)
+    ∙ ap (λ l. l ++ (flat_map spelling_of b ++ flat_map spelling_of p)) (one_text (place_cursor (r + 1) (c + 1)) (goes_on d r c))
+    ∙ ap (λ l. (if goes_on d r c then [] else spelling_of (place_cursor (r + 1) (c + 1))) ++ (l ++ flat_map spelling_of p)) (text_unless (restyle x.style) (same_style x.style g))
+    ∙ ap (λ l. (if goes_on d r c then [] else spelling_of (place_cursor (r + 1) (c + 1))) ++ ((if same_style x.style g then [] else flat_map spelling_of (restyle x.style)) ++ l)) (points_text x.points))
 
-row_is : (old new : Screenshot) (r : ℕ) (g : Style) (c : ℕ) → flat_map spelled (drawn_row (differs old new) (shown_at new) r g c) ≡ row_text old new r g c
+row_is : (old new : Screenshot) (r : ℕ) (g : Style) (c : ℕ) → flat_map spelling_of (drawn_row (differs old new) (shown_at new) r g c) ≡ row_text old new r g c
 unfolding row_text
 row_is old new r g zero = refl
 row_is old new r g (suc c) =
     let d = differs old new in
     let s = style_in d (shown_at new) r g c in
-    flat_map-append spelled (drawn_row d (shown_at new) r g c) (drawn_cell d (shown_at new) r c s)
-    ∙ ap (λ l. l ++ flat_map spelled (drawn_cell d (shown_at new) r c s)) (row_is old new r g c) ∙ ap (λ l. row_text old new r g c ++ l) (place_is old new r c s)
+    flat_map-append spelling_of (drawn_row d (shown_at new) r g c) (drawn_cell d (shown_at new) r c s)
+    ∙ ap (λ l. l ++ flat_map spelling_of (drawn_cell d (shown_at new) r c s)) (row_is old new r g c) ∙ ap (λ l. row_text old new r g c ++ l) (place_is old new r c s)
 
-rows_is : (old new : Screenshot) (n : ℕ) → flat_map spelled (drawn_rows (differs old new) (shown_at new) new.cols n) ≡ rows_text old new n
+rows_is : (old new : Screenshot) (n : ℕ) → flat_map spelling_of (drawn_rows (differs old new) (shown_at new) new.cols n) ≡ rows_text old new n
 unfolding rows_text
 rows_is old new zero = refl
 rows_is old new (suc n) =
     let d = differs old new in
     let s = style_at d (shown_at new) new.cols n in
-    flat_map-append spelled (drawn_rows d (shown_at new) new.cols n) (drawn_row d (shown_at new) n s new.cols)
-    ∙ ap (λ l. l ++ flat_map spelled (drawn_row d (shown_at new) n s new.cols)) (rows_is old new n) ∙ ap (λ l. rows_text old new n ++ l) (row_is old new n s new.cols)
+    flat_map-append spelling_of (drawn_rows d (shown_at new) new.cols n) (drawn_row d (shown_at new) n s new.cols)
+    ∙ ap (λ l. l ++ flat_map spelling_of (drawn_row d (shown_at new) n s new.cols)) (rows_is old new n) ∙ ap (λ l. rows_text old new n ++ l) (row_is old new n s new.cols)
 
-pub painted_text : (b : List ℕ) (old new : Screenshot) → ((b ++ opening_text (same_size old new)) ++ rows_text old new new.rows) ++ closing_text new.cursor_row new.cursor_col new.visible ≡ b ++ painted old new
-unfolding painted drawn opening_text closing_text
+pub painted_text : (b : List ℕ) (old new : Screenshot) → ((b ++ opening_text (same_size old new)) ++ rows_text old new new.rows) ++ closing_text new.cursor_row new.cursor_col new.visible ≡ b ++ text_between old new
+unfolding text_between functions_between opening_text closing_text
 painted_text b old new =
     let body = drawn_rows (differs old new) (shown_at new) new.cols new.rows in
     append_assoc (b ++ opening_text (same_size old new)) (rows_text old new new.rows) (closing_text new.cursor_row new.cursor_col new.visible)
     ∙ append_assoc b (opening_text (same_size old new)) (rows_text old new new.rows ++ closing_text new.cursor_row new.cursor_col new.visible)
-    ∙ ap (λ l. b ++ l) (sym (flat_map-append spelled (opening old new) (body ++ closing new)
-    ∙ ap (λ l. flat_map spelled (opening old new) ++ l) (flat_map-append spelled body (closing new) ∙ ap (λ l. l ++ flat_map spelled (closing new)) (rows_is old new new.rows))))
+    ∙ ap (λ l. b ++ l) (sym (flat_map-append spelling_of (opening old new) (body ++ closing new)
+    ∙ ap (λ l. flat_map spelling_of (opening old new) ++ l) (flat_map-append spelling_of body (closing new) ∙ ap (λ l. l ++ flat_map spelling_of (closing new)) (rows_is old new new.rows))))
 
 -- ---- one more place, one more row
 

@@ -8,13 +8,13 @@ use Rattle.roam_text.proofs.Graphics.{printed_if}
 use Rattle.roam_term.specs.ControlFunctions.{reset_all}
 use Rattle.roam_term.specs.Ground.{ShowsScreen, IsGround, IsSized}
 use Rattle.roam_term.specs.GroundFunctions.{IsBegun}
-use Rattle.roam_term.specs.Terminal.{Live, changed, started, term}
+use Rattle.roam_term.specs.Terminal.{Live, changed_by, started_terminal, term}
 use Rattle.roam_term.proofs.Grounds.{all_is_reset}
 use Rattle.roam_term.proofs.PrintedSizes.{size-printed}
 use Rattle.roam_term.proofs.Runs.{run-live}
 use Rattle.roam_term.proofs.Steps.{acted, acted-append}
 use Rattle.roam_paint.specs.Ground.{IsOpened, OpenedBeginsBlank}
-use Rattle.roam_paint.specs.Painting.{opened}
+use Rattle.roam_paint.specs.Painting.{blanking_text}
 
 size-by : (t : Bool) (l : Live) → IsSized l (acted (printed_if 0xFFFD t) l)
 size-by true l = size-printed 0xFFFD l
@@ -22,10 +22,10 @@ size-by false l = record { rows = refl; cols = refl }
 
 module _ (log : List Item) (rows cols lines : ℕ) where
   abbrev later : List Item
-  later = log ++ map Byte opened
+  later = log ++ map Byte blanking_text
 
   abbrev start : Live
-  start = (started rows cols lines).live
+  start = (started_terminal rows cols lines).live
 
   abbrev before : Live
   before = (term rows cols lines log).live
@@ -38,19 +38,19 @@ module _ (log : List Item) (rows cols lines : ℕ) where
   abbrev cut_off : Live
   cut_off = acted (printed_if 0xFFFD is_printed) before
 
-  term-later : (term rows cols lines later).live ≡ changed reset_all cut_off
+  term-later : (term rows cols lines later).live ≡ changed_by reset_all cut_off
   unfolding term
   term-later =
-      run-live (started rows cols lines) (functions_of later)
+      run-live (started_terminal rows cols lines) (functions_of later)
       ∙ ap (λ fs. acted fs start) (functions-reset log).1
       ∙ acted-append (functions_of log ++ printed_if 0xFFFD is_printed) (reset_all ∷ []) start
-      ∙ ap (changed reset_all) (acted-append (functions_of log) (printed_if 0xFFFD is_printed) start)
-      ∙ ap (λ l. changed reset_all (acted (printed_if 0xFFFD is_printed) l)) (sym (run-live (started rows cols lines) (functions_of log)))
+      ∙ ap (changed_by reset_all) (acted-append (functions_of log) (printed_if 0xFFFD is_printed) start)
+      ∙ ap (λ l. changed_by reset_all (acted (printed_if 0xFFFD is_printed) l)) (sym (run-live (started_terminal rows cols lines) (functions_of log)))
 
   sized : IsSized before cut_off
   sized = size-by is_printed before
 
-  begins : 1 ≤ before.screen.rows → 1 ≤ before.screen.cols → IsBegun cut_off (changed reset_all cut_off)
+  begins : 1 ≤ before.screen.rows → 1 ≤ before.screen.cols → IsBegun cut_off (changed_by reset_all cut_off)
   begins tall broad = let r = sized.rows in let c = sized.cols in all_is_reset cut_off (omega (arith, tall, r)) (omega (arith, broad, c))
 
   pub opens : 1 ≤ before.screen.rows → 1 ≤ before.screen.cols → IsOpened rows cols lines log

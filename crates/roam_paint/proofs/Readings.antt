@@ -17,11 +17,11 @@ use Rattle.roam_text.specs.declared.functions.Function.TheVariants.{Print}
 use Rattle.roam_text.specs.Kinds.{kind_of, c0_kind, ascii_kind, c1_kind}
 use Rattle.roam_text.specs.Log.{Sign, Character, character}
 use Rattle.roam_text.specs.Inside.{Front, front_while, rest_while, acts}
-use Rattle.roam_text.specs.ControlSequences.{Header, in_control_sequence, body_of, with_digit, split, number_from, capped, is_numeric, kinds_while, kinds_after, intermediates, header, unmarked, with_inter, first_sixteen, control_sequence_function, end_control_sequence, behind, control_sequence}
+use Rattle.roam_text.specs.ControlSequences.{Header, in_control_sequence, body_of, with_digit, digits_of_parameters, number_from, capped_value, is_numeric, kinds_while, kinds_after, intermediates, header, header_after, with_inter, first_sixteen, control_sequence_function, end_control_sequence, behind, control_sequence}
 use Rattle.roam_text.specs.Functions.{functions}
 use Rattle.roam_text.proofs.Fronts.{functions-step}
 use Rattle.roam_text.proofs.Entries.{functions-plain, functions-graphic}
-use Rattle.roam_paint.specs.Sequences.{parameter_text, spelled}
+use Rattle.roam_paint.specs.Sequences.{parameter_text, spelling_of}
 use Rattle.roam_term.specs.ControlFunctions.{csi}
 
 -- ---- digits
@@ -123,20 +123,20 @@ inside-after [] h = refl
 inside-after (b ∷ bs) h =
     ap (λ t. cond t (kinds_after is_numeric (map kind_of bs)) (kind_of b ∷ map kind_of bs)) h.0 ∙ inside-after bs h.2
 
-header-numeric : (k : Kind) (ks : List Kind) → is_numeric k ≡ true → header (k ∷ ks) ≡ unmarked None (k ∷ ks)
+header-numeric : (k : Kind) (ks : List Kind) → is_numeric k ≡ true → header (k ∷ ks) ≡ header_after None (k ∷ ks)
 header-numeric (PrivateMarker b) ks h = absurd (false≢true h)
 header-numeric k ks h = refl
 
-header-plain : (bs : List ℕ) → AreNumeric bs → header (map kind_of bs) ≡ unmarked None (map kind_of bs)
+header-plain : (bs : List ℕ) → AreNumeric bs → header (map kind_of bs) ≡ header_after None (map kind_of bs)
 header-plain [] h = refl
 header-plain (b ∷ bs) h = header-numeric (kind_of b) (map kind_of bs) h.0
 
 -- ---- its numbers
 
-split-digits : (ds : List ℕ) (tail : List Kind) (x : List ℕ) (xs : List (List ℕ)) → AreDigits ds → split tail ≡ x ∷ xs → split (map kind_of ds ++ tail) ≡ (map less ds ++ x) ∷ xs
+split-digits : (ds : List ℕ) (tail : List Kind) (x : List ℕ) (xs : List (List ℕ)) → AreDigits ds → digits_of_parameters tail ≡ x ∷ xs → digits_of_parameters (map kind_of ds ++ tail) ≡ (map less ds ++ x) ∷ xs
 split-digits [] tail x xs h e = e
 split-digits (d ∷ ds) tail x xs h e =
-    ap (λ k. split (k ∷ (map kind_of ds ++ tail))) (digit_kind d h.0 h.1)
+    ap (λ k. digits_of_parameters (k ∷ (map kind_of ds ++ tail))) (digit_kind d h.0 h.1)
     ∙ ap (with_digit (d - 48)) (split-digits ds tail x xs h.2 e)
 
 abbrev pub AreSmall : List ℕ → Type 0
@@ -154,31 +154,31 @@ parameters-numeric p [] h = numeric-digits (decimal p) (decimal-digits p (small 
 parameters-numeric p (q ∷ ps) h =
     numeric-append (decimal p) (0x3B ∷ parameter_text (q ∷ ps)) (numeric-digits (decimal p) (decimal-digits p (small p h.0))) (refl, omega arith, parameters-numeric q ps h.1)
 
-parameters-split : (p : ℕ) (ps : List ℕ) → AreSmall (p ∷ ps) → split (map kind_of (parameter_text (p ∷ ps))) ≡ numerals (p ∷ ps)
+parameters-split : (p : ℕ) (ps : List ℕ) → AreSmall (p ∷ ps) → digits_of_parameters (map kind_of (parameter_text (p ∷ ps))) ≡ numerals (p ∷ ps)
 parameters-split p [] h =
-    ap split (sym (append-nil (map kind_of (decimal p)))) ∙ split-digits (decimal p) [] [] [] (decimal-digits p (small p h.0)) refl
+    ap digits_of_parameters (sym (append-nil (map kind_of (decimal p)))) ∙ split-digits (decimal p) [] [] [] (decimal-digits p (small p h.0)) refl
     ∙ ap (λ l. l ∷ []) (append-nil (map less (decimal p)))
 parameters-split p (q ∷ ps) h =
-    ap split (map-append kind_of (decimal p) (0x3B ∷ parameter_text (q ∷ ps)))
+    ap digits_of_parameters (map-append kind_of (decimal p) (0x3B ∷ parameter_text (q ∷ ps)))
     ∙ split-digits (decimal p) (Separator ∷ map kind_of (parameter_text (q ∷ ps))) [] (numerals (q ∷ ps)) (decimal-digits p (small p h.0)) (ap (λ l. [] ∷ l) (parameters-split q ps h.1))
     ∙ ap (λ l. l ∷ numerals (q ∷ ps)) (append-nil (map less (decimal p)))
 
-capped-number : (p : ℕ) → p ≤ 9999 → capped (map less (decimal p)) ≡ p
+capped-number : (p : ℕ) → p ≤ 9999 → capped_value (map less (decimal p)) ≡ p
 capped-number p h = ap (min 9999) (decimal-number p (small p h)) ∙ omega (arith, h)
 
-capped-all : (ps : List ℕ) → AreSmall ps → map capped (numerals ps) ≡ ps
+capped-all : (ps : List ℕ) → AreSmall ps → map capped_value (numerals ps) ≡ ps
 capped-all [] h = refl
-capped-all (p ∷ ps) h = ap (λ x. x ∷ map capped (numerals ps)) (capped-number p h.0) ∙ ap (λ l. p ∷ l) (capped-all ps h.1)
+capped-all (p ∷ ps) h = ap (λ x. x ∷ map capped_value (numerals ps)) (capped-number p h.0) ∙ ap (λ l. p ∷ l) (capped-all ps h.1)
 
 unmarked-is : (mark : Option ℕ) (p : ℕ) (ps : List ℕ) → AreSmall (p ∷ ps) → length (p ∷ ps) ≤ 16
-    → unmarked mark (map kind_of (parameter_text (p ∷ ps))) ≡ Some (record { mark = mark; params = p ∷ ps; inter = [] })
+    → header_after mark (map kind_of (parameter_text (p ∷ ps))) ≡ Some (record { mark = mark; params = p ∷ ps; inter = [] })
 unfolding first_sixteen
 unmarked-is mark p ps h few =
     let bs = parameter_text (p ∷ ps) in
     let n = parameters-numeric p ps h in
-    ap (λ ks. with_inter mark (take 16 (map capped (split ks))) (intermediates (kinds_after is_numeric (map kind_of bs)))) (inside-while bs n)
-    ∙ ap (λ ks. with_inter mark (take 16 (map capped (split (map kind_of bs)))) (intermediates ks)) (inside-after bs n)
-    ∙ ap (λ xs. with_inter mark (take 16 (map capped xs)) (Some [])) (parameters-split p ps h)
+    ap (λ ks. with_inter mark (take 16 (map capped_value (digits_of_parameters ks))) (intermediates (kinds_after is_numeric (map kind_of bs)))) (inside-while bs n)
+    ∙ ap (λ ks. with_inter mark (take 16 (map capped_value (digits_of_parameters (map kind_of bs)))) (intermediates ks)) (inside-after bs n)
+    ∙ ap (λ xs. with_inter mark (take 16 (map capped_value xs)) (Some [])) (parameters-split p ps h)
     ∙ ap (λ xs. with_inter mark (take 16 xs) (Some [])) (capped-all (p ∷ ps) h)
     ∙ ap (λ xs. with_inter mark xs (Some [])) (take_all 16 (p ∷ ps) few)
 
@@ -232,7 +232,7 @@ module _ (p : ℕ) (ps : List ℕ) (last : ℕ) (rest : List Sign) (h : AreSmall
 pub record Legible (f : Function) : Type 0 where
   pub letters : List ℕ
   pub good : scalars letters ≡ true
-  pub bytes : spelled f ≡ encode_utf8_all letters
+  pub bytes : spelling_of f ≡ encode_utf8_all letters
   pub gives : (rest : List Sign) → functions (map character letters ++ rest) ≡ f ∷ functions rest
 
 abbrev AreAscii : List ℕ → Type 0

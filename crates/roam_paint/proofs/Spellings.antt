@@ -7,11 +7,11 @@ use Rattle.std.specs.List.{flat_map}
 use Rattle.roam_cells.specs.declared.styles.Style.{Style}
 use Rattle.roam_cells.specs.declared.styles.Colour.{Colour}
 use Rattle.roam_cells.specs.declared.styles.Colour.TheVariants.{Default, Index, Rgb}
-use Rattle.roam_paint.specs.Sequences.{parameter_text, spelled}
+use Rattle.roam_paint.specs.Sequences.{parameter_text, spelling_of}
 use Rattle.roam_term.specs.ControlFunctions.{flag_code, colour_codes, style_codes, place_cursor, set_style, mixture, set_mixture, restyle}
 use Rattle.roam_paint.specs.Texts.{code_text, colour_text}
 
-pub place_cursor_text : (b : List ℕ) (row col : ℕ) → ((((b ++ 0x1B ∷ 0x5B ∷ []) ++ decimal row) ++ 0x3B ∷ []) ++ decimal col) ++ 0x48 ∷ [] ≡ b ++ spelled (place_cursor row col)
+pub place_cursor_text : (b : List ℕ) (row col : ℕ) → ((((b ++ 0x1B ∷ 0x5B ∷ []) ++ decimal row) ++ 0x3B ∷ []) ++ decimal col) ++ 0x48 ∷ [] ≡ b ++ spelling_of (place_cursor row col)
 place_cursor_text b row col =
     ap (λ l. ((l ++ 0x3B ∷ []) ++ decimal col) ++ 0x48 ∷ []) (append_assoc b (0x1B ∷ 0x5B ∷ []) (decimal row))
     ∙ ap (λ l. (l ++ decimal col) ++ 0x48 ∷ []) (append_assoc b (0x1B ∷ 0x5B ∷ decimal row) (0x3B ∷ []))
@@ -82,7 +82,7 @@ codes_are s =
     (two (colour_text 38 s.foreground) (tail j) (tail k) _ (tail-colour 38 s.foreground k)
     (two (colour_text 48 s.background) (tail k) [] _ (tail-colour 48 s.background []) refl))))))))))
 
-pub set_style_text : (b : List ℕ) (s : Style) → lefts b (parts s) ≡ b ++ spelled (set_style s)
+pub set_style_text : (b : List ℕ) (s : Style) → lefts b (parts s) ≡ b ++ spelling_of (set_style s)
 set_style_text b s = lefts-rights b (parts s) ∙ ap (λ l. b ++ (0x1B ∷ 0x5B ∷ l)) (sym (codes_are s))
 
 mixture_are : (n r g b : ℕ) → parameter_text (n ∷ 2 ∷ r ∷ g ∷ b ∷ []) ++ 0x6D ∷ []
@@ -99,18 +99,18 @@ mixture_are n r g b =
 -- the text of a mixture, as it is put together
 pub mixture_text : (t : List ℕ) (n r g b : ℕ)
     → ((((((t ++ 0x1B ∷ 0x5B ∷ []) ++ decimal n) ++ code_text true 2) ++ code_text true r) ++ code_text true g) ++ code_text true b) ++ 0x6D ∷ []
-    ≡ t ++ flat_map spelled (set_mixture n (Rgb r g b))
+    ≡ t ++ flat_map spelling_of (set_mixture n (Rgb r g b))
 mixture_text t n r g b =
     lefts-rights t ((0x1B ∷ 0x5B ∷ []) ∷ decimal n ∷ code_text true 2 ∷ code_text true r ∷ code_text true g ∷ code_text true b ∷ (0x6D ∷ []) ∷ [])
     ∙ ap (λ l. t ++ (0x1B ∷ 0x5B ∷ l)) (sym (mixture_are n r g b))
-    ∙ ap (λ l. t ++ l) (sym (append-nil (spelled (mixture n r g b))))
+    ∙ ap (λ l. t ++ l) (sym (append-nil (spelling_of (mixture n r g b))))
 
 pub restyle_text : (t : List ℕ) (s : Style)
-    → ((t ++ spelled (set_style s)) ++ flat_map spelled (set_mixture 38 s.foreground)) ++ flat_map spelled (set_mixture 48 s.background)
-    ≡ t ++ flat_map spelled (restyle s)
+    → ((t ++ spelling_of (set_style s)) ++ flat_map spelling_of (set_mixture 38 s.foreground)) ++ flat_map spelling_of (set_mixture 48 s.background)
+    ≡ t ++ flat_map spelling_of (restyle s)
 restyle_text t s =
-    let a = spelled (set_style s) in
-    let b = flat_map spelled (set_mixture 38 s.foreground) in
-    let c = flat_map spelled (set_mixture 48 s.background) in
+    let a = spelling_of (set_style s) in
+    let b = flat_map spelling_of (set_mixture 38 s.foreground) in
+    let c = flat_map spelling_of (set_mixture 48 s.background) in
     append_assoc (t ++ a) b c ∙ append_assoc t a (b ++ c)
-    ∙ ap (λ l. t ++ (a ++ l)) (sym (flat_map-append spelled (set_mixture 38 s.foreground) (set_mixture 48 s.background)))
+    ∙ ap (λ l. t ++ (a ++ l)) (sym (flat_map-append spelling_of (set_mixture 38 s.foreground) (set_mixture 48 s.background)))

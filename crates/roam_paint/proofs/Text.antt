@@ -16,18 +16,18 @@ use Rattle.roam_cells.specs.declared.styles.Colour.{Colour}
 use Rattle.roam_cells.specs.declared.styles.Colour.TheVariants.{Default, Index, Rgb}
 use Rattle.roam_text.specs.declared.functions.Function.{Function}
 use Rattle.roam_text.specs.declared.functions.Function.TheVariants.{Print}
-use Rattle.roam_text.specs.Log.{Item, Byte, Sign, character, bytes_of, signs, unfinished}
+use Rattle.roam_text.specs.Log.{Item, Byte, Sign, character, bytes_of, signs, unfinished_part}
 use Rattle.roam_text.specs.Functions.{functions, functions_of}
 use Rattle.roam_text.proofs.Fronts.{functions-nil}
-use Rattle.roam_term.specs.Terminal.{Live, Terminal, run, started, term}
+use Rattle.roam_term.specs.Terminal.{Live, Terminal, run, started_terminal, term}
 use Rattle.roam_term.proofs.Runs.{run-append, run-live}
 use Rattle.roam_term.specs.ControlFunctions.{flag_code, colour_codes, set_style, set_mixture, restyle, place_cursor, hide_cursor, show_cursor, erase_all}
 use Rattle.roam_term.specs.Ground.{IsGround, ShowsScreen, shown_at}
 use Rattle.roam_text.specs.Resting.{AtRest}
 use Rattle.roam_paint.specs.Ground.{PaintedLeadsOver}
 use Rattle.roam_cells.specs.Same.{same_style}
-use Rattle.roam_paint.specs.Sequences.{spelled}
-use Rattle.roam_paint.specs.Painting.{Places, is_drawn, goes_on, placing, styling, drawn_cell, style_in, drawn_row, style_at, drawn_rows, same_size, differs, opening, closing, drawn, painted}
+use Rattle.roam_paint.specs.Sequences.{spelling_of}
+use Rattle.roam_paint.specs.Painting.{Places, is_drawn, goes_on, placing, styling, drawn_cell, style_in, drawn_row, style_at, drawn_rows, same_size, differs, opening, closing, functions_between, text_between}
 use Rattle.roam_text.proofs.Encoded.{signs-encoded, bytes-encoded}
 use Rattle.roam_paint.proofs.Readings.{AreSmall, IsFinal, Legible, legible-plain, legible-private, legible-print}
 use Rattle.roam_term.proofs.Steps.{acted}
@@ -172,8 +172,8 @@ legible-closing row col p q true =
     (legible-restyle default_style tt tt, (legible-go_to row col p q, (legible-private 25 [] 0x68 (omega arith, tt) (omega arith) final-on, tt)))
 legible-closing row col p q false = (legible-restyle default_style tt tt, (legible-go_to row col p q, tt))
 
-legible-drawn : (old new : Screenshot) → IsScreenshot new → AllLegible (drawn old new)
-unfolding drawn
+legible-drawn : (old new : Screenshot) → IsScreenshot new → AllLegible (functions_between old new)
+unfolding functions_between
 legible-drawn old new h =
     let row = h.cursor.row_to in
     let col = h.cursor.col_to in
@@ -198,7 +198,7 @@ scalars-append (x ∷ xs) ys h k = let parts = and_parts (scalar x) (scalars xs)
 record Spells (fs : List Function) : Type 0 where
   letters : List ℕ
   good : scalars letters ≡ true
-  bytes : flat_map spelled fs ≡ encode_utf8_all letters
+  bytes : flat_map spelling_of fs ≡ encode_utf8_all letters
   gives : (rest : List Sign) → functions (map character letters ++ rest) ≡ fs ++ functions rest
 
 spells : (fs : List Function) → AllLegible fs → Spells fs
@@ -209,7 +209,7 @@ spells (f ∷ fs) h =
     record {
       letters = one.letters ++ more.letters;
       good = scalars-append one.letters more.letters one.good more.good;
-      bytes = ap (λ l. l ++ flat_map spelled fs) one.bytes ∙ ap (λ l. encode_utf8_all one.letters ++ l) more.bytes ∙ sym (encoded-append one.letters more.letters);
+      bytes = ap (λ l. l ++ flat_map spelling_of fs) one.bytes ∙ ap (λ l. encode_utf8_all one.letters ++ l) more.bytes ∙ sym (encoded-append one.letters more.letters);
       gives = λ rest.
           ap (λ l. functions (l ++ rest)) (map-append character one.letters more.letters)
           ∙ ap functions (append_assoc (map character one.letters) (map character more.letters) rest)
@@ -224,7 +224,7 @@ module _ (log : List Item) (fs : List Function) (rest : AtRest log) (legible : A
   all = spells fs legible
 
   abbrev later : List Item
-  later = log ++ map Byte (flat_map spelled fs)
+  later = log ++ map Byte (flat_map spelling_of fs)
 
   later_is : later ≡ log ++ map Byte (encode_utf8_all all.letters)
   later_is = ap (λ l. log ++ map Byte l) all.bytes
@@ -248,7 +248,7 @@ module _ (log : List Item) (fs : List Function) (rest : AtRest log) (legible : A
   -- and the reader is at rest again
   pub rests : AtRest later
   rests = record {
-    whole = ap (λ l. unfinished (bytes_of l)) later_is ∙ bytes-encoded log all.letters rest.whole all.good;
+    whole = ap (λ l. unfinished_part (bytes_of l)) later_is ∙ bytes-encoded log all.letters rest.whole all.good;
     to_come = λ more. after_all more ∙ sym (ap (λ l. l ++ functions more) reads);
   }
 
@@ -256,14 +256,14 @@ module _ (log : List Item) (fs : List Function) (rest : AtRest log) (legible : A
   pub term-acted : (rows cols lines : ℕ) → (term rows cols lines later).live ≡ acted fs (term rows cols lines log).live
   unfolding term
   term-acted rows cols lines =
-      let start = started rows cols lines in
+      let start = started_terminal rows cols lines in
       ap (λ l. (run start l).live) reads ∙ ap (λ (t : Terminal). t.live) (run-append start (functions_of log) fs)
       ∙ run-live (run start (functions_of log)) fs
 
 pub painted_leads_over : PaintedLeadsOver
-unfolding painted
+unfolding text_between
 painted_leads_over rows cols lines log old new painting h rows_in cols_in =
-    let fs = drawn old new in
+    let fs = functions_between old new in
     let legible = legible-drawn old new painting in
     let is = term-acted log fs h.reader legible rows cols lines in
     let ends = goes_over (term rows cols lines log).live old new h.ground h.shows rows_in cols_in painting in

@@ -7,11 +7,11 @@ use Rattle.roam_cells.specs.Glyph.{IsColour, Glyph, is_wide, is_wide_text, is_ri
 use Rattle.roam_cells.specs.Place.{cell_at}
 use Rattle.roam_cells.specs.declared.styles.Style.{Style}
 use Rattle.roam_cells.proofs.Places.{get_or-table}
-use Rattle.roam_rows.specs.Places.{in_row, moved, moved_at}
-use Rattle.roam_rows.specs.Writing.{written}
+use Rattle.roam_rows.specs.Places.{in_row, mapped_cells, moved_at}
+use Rattle.roam_rows.specs.Writing.{writing_source}
 use Rattle.roam_grid.specs.Writing.{columns}
 use Rattle.roam_text.specs.declared.functions.Function.TheVariants.{Print}
-use Rattle.roam_term.specs.Terminal.{Live, changed}
+use Rattle.roam_term.specs.Terminal.{Live, changed_by}
 use Rattle.roam_term.specs.ControlFunctions.{place_cursor, restyle}
 use Rattle.roam_cells.specs.Same.{same_style}
 use Rattle.roam_paint.specs.Painting.{Places, is_drawn, goes_on, placing, styling, drawn_cell, style_after, style_in, drawn_row, style_at, drawn_rows}
@@ -71,10 +71,10 @@ module _ (still : Constants) (prows pcols : ℕ) (d : ℕ → ℕ → Bool) (new
 
   module _ (cells : List Glyph) (r k : ℕ) (r_in : r < prows) (k_in : k < pcols) (some : is_right_half (new r k) ≡ false) (after : List Glyph)
       (hit : cell_at cols after r k ≡ new r k)
-      (other : (i j : ℕ) → i < rows → j < cols → (i ≡ r → j ≡ k → ⊥) → cell_at cols after i j ≡ cell_at cols (moved rows cols cells (in_row r (written (first_of (new r k)) k))) i j) where
+      (other : (i j : ℕ) → i < rows → j < cols → (i ≡ r → j ≡ k → ⊥) → cell_at cols after i j ≡ cell_at cols (mapped_cells rows cols cells (in_row r (writing_source (first_of (new r k)) k))) i j) where
     at_table : (i j : ℕ) → i < rows → j < cols → (i ≡ r → j ≡ k → ⊥) → cell_at cols after i j ≡ moved_at cols cells (by (is_wide (new r k)) (first_of (new r k)) r k) i j
     at_table i j p q e =
-        other i j p q e ∙ get_or-table rows cols (moved_at cols cells (in_row r (written (first_of (new r k)) k))) i j _ p q
+        other i j p q e ∙ get_or-table rows cols (moved_at cols cells (in_row r (writing_source (first_of (new r k)) k))) i j _ p q
         ∙ ap (λ b. moved_at cols cells (by b (first_of (new r k)) r k) i j) (first_wide (new r k))
 
     hits_half : is_wide (new r k) ≡ true → cell_at cols after r (k + 1) ≡ new r (k + 1)
@@ -231,11 +231,11 @@ module _ (still : Constants) (prows pcols : ℕ) (d : ℕ → ℕ → Bool) (new
         w.is ∙ ap (λ a. at_work still w.cells a w.col w.pending g false w.last) at.0 ∙ ap (λ a. at_work still w.cells r a w.pending g false w.last) at.1
         ∙ ap (λ a. at_work still w.cells r k a g false w.last) at.2
 
-    went : changed (place_cursor (r + 1) (k + 1)) t ≡ ready g None
+    went : changed_by (place_cursor (r + 1) (k + 1)) t ≡ ready g None
     went =
         let row_back : r + 1 - 1 ≡ r = omega arith in
         let col_back : k + 1 - 1 ≡ k = omega arith in
-        ap (changed (place_cursor (r + 1) (k + 1))) w.is
+        ap (changed_by (place_cursor (r + 1) (k + 1))) w.is
         ∙ goes still w.cells w.row w.col w.pending g false w.last (r + 1) (k + 1) (omega arith) (omega (arith, r_in, rows_in)) (omega arith) (omega (arith, k_in, cols_in))
         ∙ ap (λ a. at_work still w.cells a (k + 1 - 1) false g false None) row_back ∙ ap (λ a. at_work still w.cells r a false g false None) col_back
 

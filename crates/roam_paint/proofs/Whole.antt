@@ -8,14 +8,14 @@ use Rattle.roam_cells.specs.Place.{cell_at}
 use Rattle.roam_screens.specs.Screenshot.{Screenshot, IsScreenshot}
 use Rattle.roam_cells.specs.declared.styles.Style.{Style}
 use Rattle.roam_cells.proofs.Places.{place_below}
-use Rattle.roam_rows.specs.Places.{moved}
+use Rattle.roam_rows.specs.Places.{mapped_cells}
 use Rattle.roam_rows.proofs.Mending.{is_wide-blank}
 use Rattle.roam_grid.specs.Erasing.{page_blanked}
 use Rattle.roam_grid.specs.declared.erasing.Extent.TheVariants.{All}
-use Rattle.roam_term.specs.Terminal.{Live, changed}
+use Rattle.roam_term.specs.Terminal.{Live, changed_by}
 use Rattle.roam_term.specs.Ground.{IsGround, ShowsScreen, shown_at}
 use Rattle.roam_term.specs.ControlFunctions.{hide_cursor, show_cursor, erase_all, place_cursor, set_style}
-use Rattle.roam_paint.specs.Painting.{same_size, painted_over, differs, style_at, drawn_rows, opening, closing, drawn}
+use Rattle.roam_paint.specs.Painting.{same_size, painted_over, differs, style_at, drawn_rows, opening, closing, functions_between}
 use Rattle.roam_paint.proofs.Places.{shown_inside, shown_below, shown_right, same_below, same_right, same_cell}
 use Rattle.roam_term.proofs.Grounds.{constants_of, at_rest, erased_shows}
 use Rattle.roam_term.proofs.Steps.{acted, acted-append, Constants, at_work, goes, restyles, hides, reveals, erases}
@@ -103,11 +103,11 @@ module _ (still : Constants) (old new : Screenshot) (rows_in : new.rows ≤ stil
 
     opened : (b : Bool) → same_size old new ≡ b → W 0 0 default_style (acted (hide_cursor ∷ (if b then [] else erase_all ∷ [])) before)
     opened true e =
-        begun cells row col pending (changed hide_cursor before) (hides still cells row col pending default_style visible printed)
+        begun cells row col pending (changed_by hide_cursor before) (hides still cells row col pending default_style visible printed)
         (λ i j p q. shows i j p q ∙ sym (ap (λ b. if b then shown_at old i j else blank) e))
     opened false e =
-        begun (moved still.rows still.cols cells (page_blanked All row col)) row col false (changed erase_all (changed hide_cursor before))
-        (ap (changed erase_all) (hides still cells row col pending default_style visible printed) ∙ erases still cells row col pending default_style false None)
+        begun (mapped_cells still.rows still.cols cells (page_blanked All row col)) row col false (changed_by erase_all (changed_by hide_cursor before))
+        (ap (changed_by erase_all) (hides still cells row col pending default_style visible printed) ∙ erases still cells row col pending default_style false None)
         (λ i j p q. erased_shows still.rows still.cols cells row col i j p q ∙ sym (ap (λ b. if b then shown_at old i j else blank) e))
 
     walked : W new.rows 0 (style_at (differs old new) (shown_at new) new.cols new.rows) (acted (drawn_rows (differs old new) (shown_at new) new.cols new.rows) (acted (opening old new) before))
@@ -128,21 +128,21 @@ module _ (still : Constants) (old new : Screenshot) (rows_in : new.rows ≤ stil
         let more = if visible then show_cursor ∷ [] else [] in
         let a = painting.cursor.row_to in
         let b = painting.cursor.col_to in
-        ap (λ u. acted more (changed (place_cursor new.cursor_row new.cursor_col) (changed (set_style default_style) u))) is
-        ∙ ap (λ u. acted more (changed (place_cursor new.cursor_row new.cursor_col) u)) (restyles still cells row col pending g false last default_style tt tt)
+        ap (λ u. acted more (changed_by (place_cursor new.cursor_row new.cursor_col) (changed_by (set_style default_style) u))) is
+        ∙ ap (λ u. acted more (changed_by (place_cursor new.cursor_row new.cursor_col) u)) (restyles still cells row col pending g false last default_style tt tt)
         ∙ ap (acted more) (goes still cells row col pending default_style false None new.cursor_row new.cursor_col
         painting.cursor.row_from (omega (arith, a, rows_in)) painting.cursor.col_from (omega (arith, b, cols_in)))
         ∙ revealed cells visible
 
-    final : acted (drawn old new) before ≡ at_work still walked.cells (new.cursor_row - 1) (new.cursor_col - 1) false default_style new.visible None
-    unfolding drawn
+    final : acted (functions_between old new) before ≡ at_work still walked.cells (new.cursor_row - 1) (new.cursor_col - 1) false default_style new.visible None
+    unfolding functions_between
     final =
         let body = drawn_rows (differs old new) (shown_at new) new.cols new.rows in
         acted-append (opening old new) (body ++ closing new) before
         ∙ acted-append body (closing new) (acted (opening old new) before)
         ∙ shut new.visible (acted body (acted (opening old new) before)) walked.cells walked.row walked.col walked.pending _ walked.last walked.is
 
-    pub ends_ground : IsGround (acted (drawn old new) before)
+    pub ends_ground : IsGround (acted (functions_between old new) before)
     ends_ground =
         let a = painting.cursor.row_to in
         let b = painting.cursor.col_to in
@@ -165,7 +165,7 @@ module _ (still : Constants) (old new : Screenshot) (rows_in : new.rows ≤ stil
           pen = refl;
         })
 
-    pub ends_shown : ShowsScreen (acted (drawn old new) before) new
+    pub ends_shown : ShowsScreen (acted (functions_between old new) before) new
     ends_shown =
         let c = painting.cursor.row_from in
         let e = painting.cursor.col_from in
@@ -184,11 +184,11 @@ module _ (still : Constants) (old new : Screenshot) (rows_in : new.rows ≤ stil
 -- that shows the new screen
 pub goes_over : (t : Live) (old new : Screenshot) → IsGround t → ShowsScreen t old → new.rows ≤ t.screen.rows → new.cols ≤ t.screen.cols
     → IsScreenshot new
-    → IsGround (acted (drawn old new) t) × ShowsScreen (acted (drawn old new) t) new
-    × ((acted (drawn old new) t).screen.rows ≡ t.screen.rows) × ((acted (drawn old new) t).screen.cols ≡ t.screen.cols)
+    → IsGround (acted (functions_between old new) t) × ShowsScreen (acted (functions_between old new) t) new
+    × ((acted (functions_between old new) t).screen.rows ≡ t.screen.rows) × ((acted (functions_between old new) t).screen.cols ≡ t.screen.cols)
 goes_over t old new ground shows rows_in cols_in painting =
-    let P : Live → Type 0 = λ u. IsGround (acted (drawn old new) u) × ShowsScreen (acted (drawn old new) u) new
-    × ((acted (drawn old new) u).screen.rows ≡ t.screen.rows) × ((acted (drawn old new) u).screen.cols ≡ t.screen.cols) in
+    let P : Live → Type 0 = λ u. IsGround (acted (functions_between old new) u) × ShowsScreen (acted (functions_between old new) u) new
+    × ((acted (functions_between old new) u).screen.rows ≡ t.screen.rows) × ((acted (functions_between old new) u).screen.cols ≡ t.screen.cols) in
     let still = constants_of t in
     let cells = t.screen.cells in
     let row = t.screen.row in

@@ -6,7 +6,7 @@ use Rattle.roam_text.specs.Resting.{AtRest}
 use Rattle.roam_text.specs.Stands.{View, Stands, IsAtRest}
 use Rattle.roam_term.specs.Ground.{IsGround, ShowsScreen, IsSized}
 use Rattle.roam_term.specs.Terminal.{term}
-use Rattle.roam_paint.specs.Painting.{painted, opened}
+use Rattle.roam_paint.specs.Painting.{text_between, blanking_text}
 
 -- a size, a number of history lines and a log make a ground terminal that shows a screen
 pub record Displays (rows cols lines : ℕ) (log : List Item) (p : Screenshot) : Type 0 where
@@ -19,8 +19,8 @@ pub record Displays (rows cols lines : ℕ) (log : List Item) (p : Screenshot) :
 -- the text between two screens: a ground terminal that shows the old one and has the new one's size at least is afterwards a ground
 -- terminal of its size that shows the new one
 pub record LeadsOver (rows cols lines : ℕ) (log : List Item) (old new : Screenshot) : Type 0 where
-  pub displays : Displays rows cols lines (log ++ map Byte (painted old new)) new
-  pub size : IsSized (term rows cols lines log).live (term rows cols lines (log ++ map Byte (painted old new))).live
+  pub displays : Displays rows cols lines (log ++ map Byte (text_between old new)) new
+  pub size : IsSized (term rows cols lines log).live (term rows cols lines (log ++ map Byte (text_between old new))).live
 
 abbrev pub PaintedLeadsOver : Type 0
 PaintedLeadsOver =
@@ -28,13 +28,13 @@ PaintedLeadsOver =
     → new.rows ≤ (term rows cols lines log).live.screen.rows → new.cols ≤ (term rows cols lines log).live.screen.cols
     → LeadsOver rows cols lines log old new
 
--- after `opened` any terminal is a ground terminal of its size that shows a blank screen, of its size or of a smaller one, also where it
+-- after `blanking_text` any terminal is a ground terminal of its size that shows a blank screen, of its size or of a smaller one, also where it
 -- stood in a sequence, in a string or in an unfinished character
 pub record IsOpened (rows cols lines : ℕ) (log : List Item) : Type 0 where
   pub displays : (height width : ℕ)
       → height ≤ (term rows cols lines log).live.screen.rows → width ≤ (term rows cols lines log).live.screen.cols
-      → Displays rows cols lines (log ++ map Byte opened) (blank_screenshot height width)
-  pub size : IsSized (term rows cols lines log).live (term rows cols lines (log ++ map Byte opened)).live
+      → Displays rows cols lines (log ++ map Byte blanking_text) (blank_screenshot height width)
+  pub size : IsSized (term rows cols lines log).live (term rows cols lines (log ++ map Byte blanking_text)).live
 
 abbrev pub OpenedBeginsBlank : Type 0
 OpenedBeginsBlank =

@@ -10,7 +10,7 @@ use Rattle.roam_text.specs.declared.functions.Function.TheVariants.{Print}
 use Rattle.roam_cells.specs.Same.{same, same_style}
 use Rattle.roam_term.specs.Ground.{shown_at}
 use Rattle.roam_term.specs.ControlFunctions.{hide_cursor, show_cursor, erase_all, place_cursor, reset_all, set_style, restyle}
-use Rattle.roam_paint.specs.Sequences.{spelled}
+use Rattle.roam_paint.specs.Sequences.{spelling_of}
 
 -- ---- the places
 
@@ -89,15 +89,15 @@ abbrev pub closing : Screenshot → List Function
 closing new = set_style default_style ∷ place_cursor new.cursor_row new.cursor_col ∷ (if new.visible then show_cursor ∷ [] else [])
 
 -- all that leads from one screen to another
-unfoldable pub drawn : Screenshot → Screenshot → List Function
-drawn old new = opening old new ++ (drawn_rows (differs old new) (shown_at new) new.cols new.rows ++ closing new)
+unfoldable pub functions_between : Screenshot → Screenshot → List Function
+functions_between old new = opening old new ++ (drawn_rows (differs old new) (shown_at new) new.cols new.rows ++ closing new)
 
 -- ---- as text
 
 -- the text that leads from one screen to another
-unfoldable pub painted : Screenshot → Screenshot → List ℕ
-painted old new = flat_map spelled (drawn old new)
+unfoldable pub text_between : Screenshot → Screenshot → List ℕ
+text_between old new = flat_map spelling_of (functions_between old new)
 
 -- the text that makes a blank screen of any terminal state
-abbrev pub opened : List ℕ
-opened = spelled reset_all
+abbrev pub blanking_text : List ℕ
+blanking_text = spelling_of reset_all

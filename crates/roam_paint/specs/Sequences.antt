@@ -16,8 +16,8 @@ marker_text None = []
 marker_text (Some mark) = mark ∷ []
 
 -- a character in UTF-8, ESC with a final byte, or a control sequence after ESC [ (ECMA-48 5.3 and 5.4); a painter asks for nothing else
-abbrev pub spelled : Function → List ℕ
-spelled (Print c) = encode_utf8 c
-spelled (Esc inter last) = 0x1B ∷ last ∷ []
-spelled (Csi mark params inter last) = 0x1B ∷ 0x5B ∷ marker_text mark ++ (parameter_text params.items ++ last ∷ [])
-spelled f = []
+abbrev pub spelling_of : Function → List ℕ
+spelling_of (Print c) = encode_utf8 c
+spelling_of (Esc inter last) = 0x1B ∷ last ∷ []
+spelling_of (Csi mark params inter last) = 0x1B ∷ 0x5B ∷ marker_text mark ++ (parameter_text params.items ++ last ∷ [])
+spelling_of f = []

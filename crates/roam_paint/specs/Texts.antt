@@ -9,7 +9,7 @@ use Rattle.roam_cells.specs.declared.styles.Colour.{Colour}
 use Rattle.roam_cells.specs.declared.styles.Colour.TheVariants.{Default, Index, Rgb}
 use Rattle.roam_cells.specs.Same.{same_style}
 use Rattle.roam_term.specs.ControlFunctions.{place_cursor, set_style, restyle, hide_cursor, show_cursor, erase_all}
-use Rattle.roam_paint.specs.Sequences.{spelled}
+use Rattle.roam_paint.specs.Sequences.{spelling_of}
 use Rattle.roam_term.specs.Ground.{shown_at}
 use Rattle.roam_paint.specs.Painting.{differs, is_drawn, goes_on, style_in, style_at}
 
@@ -26,8 +26,8 @@ colour_text code (Rgb r g b) = []
 -- a cell at a row and a column, in the run of the place before it or not, in the style that is set or not
 abbrev pub cell_text : Bool → Bool → ℕ → ℕ → Glyph → List ℕ
 cell_text stays same r c x =
-    (if stays then [] else spelled (place_cursor (r + 1) (c + 1)))
-    ++ ((if same then [] else flat_map spelled (restyle x.style)) ++ flat_map encode_utf8 x.points)
+    (if stays then [] else spelling_of (place_cursor (r + 1) (c + 1)))
+    ++ ((if same then [] else flat_map spelling_of (restyle x.style)) ++ flat_map encode_utf8 x.points)
 
 -- what is written for a place, with the style that is set before it
 unfoldable pub place_text : Screenshot → Screenshot → ℕ → ℕ → Style → List ℕ
@@ -56,8 +56,8 @@ rows_style old new r = style_at (differs old new) (shown_at new) new.cols r
 
 -- what is written before the rows, and after them
 unfoldable pub opening_text : Bool → List ℕ
-opening_text same = flat_map spelled (hide_cursor ∷ (if same then [] else erase_all ∷ []))
+opening_text same = flat_map spelling_of (hide_cursor ∷ (if same then [] else erase_all ∷ []))
 
 unfoldable pub closing_text : ℕ → ℕ → Bool → List ℕ
 closing_text row col visible =
-    flat_map spelled (set_style default_style ∷ place_cursor row col ∷ (if visible then show_cursor ∷ [] else []))
+    flat_map spelling_of (set_style default_style ∷ place_cursor row col ∷ (if visible then show_cursor ∷ [] else []))

@@ -6,10 +6,10 @@ ghost use Rattle.roam_text.specs.Log.{Item};
 ghost use Rattle.roam_term.specs.Terminal.{term};
 ghost use Rattle.roam_paint.specs.Ground.{Displays, LeadsOver, IsOpened};
 ghost use Rattle.roam_cells.specs.Same.{same_style};
-ghost use Rattle.roam_paint.specs.Sequences.{spelled};
+ghost use Rattle.roam_paint.specs.Sequences.{spelling_of};
 ghost use Rattle.roam_term.specs.ControlFunctions.{place_cursor, restyle};
 ghost use Rattle.roam_term.specs.Ground.{shown_at};
-ghost use Rattle.roam_paint.specs.Painting.{differs, is_drawn, goes_on, style_after, painted, opened};
+ghost use Rattle.roam_paint.specs.Painting.{differs, is_drawn, goes_on, style_after, text_between, blanking_text};
 ghost use Rattle.roam_paint.specs.Texts.{place_text, cell_text, row_text, row_style, rows_text, opening_text, closing_text};
 
 use crate::differences::{cell_of, differs, is_same_row, is_same_size};
@@ -39,7 +39,7 @@ fn is_drawn(cell: &Cell, at: Differences) -> bool
 
 fn place(text: &mut Vec<u8>, stays: bool, row: usize, col: usize) -> Result<(), AllocError>
     requires few { (row < 1000) × (col < 1000) }
-    ensures text { OnOk result (text.new.items ≡ text.old.items ++ (if stays then [] else spelled (place_cursor (row + 1) (col + 1)))) }
+    ensures text { OnOk result (text.new.items ≡ text.old.items ++ (if stays then [] else spelling_of (place_cursor (row + 1) (col + 1)))) }
 {
     if !stays {
         push_place_cursor(text, row as u16 + 1, col as u16 + 1)?;
@@ -48,7 +48,7 @@ fn place(text: &mut Vec<u8>, stays: bool, row: usize, col: usize) -> Result<(), 
 }
 
 fn restyle(text: &mut Vec<u8>, same: bool, style: Style) -> Result<(), AllocError>
-    ensures text { OnOk result (text.new.items ≡ text.old.items ++ (if same then [] else flat_map spelled (restyle style))) }
+    ensures text { OnOk result (text.new.items ≡ text.old.items ++ (if same then [] else flat_map spelling_of (restyle style))) }
 {
     if !same {
         push_restyle(text, style)?;
@@ -184,7 +184,7 @@ fn close_painting(text: &mut Vec<u8>, cursor: (u16, u16), visible: bool) -> Resu
 
 // The text is put together apart, so that want of memory leaves what was there as it was.
 fn painting<O: Seen, N: Seen>(alloc: Global, old: &O, new: &N) -> Result<Vec<u8>, AllocError>
-    ensures text { IfOk result (λ text. text.items ≡ painted (O.screen old.now) (N.screen new.now)) }
+    ensures text { IfOk result (λ text. text.items ≡ text_between (O.screen old.now) (N.screen new.now)) }
 {
     let mut text = Vec::new(alloc);
     open_painting(&mut text, is_same_size(old, new))?;
@@ -204,7 +204,7 @@ pub fn paint<O: Seen, N: Seen>(old: &O, new: &N, out: &mut Vec<u8>) -> Result<()
         → (N.screen new.now).rows ≤ (term rows cols lines log).live.screen.rows
         → (N.screen new.now).cols ≤ (term rows cols lines log).live.screen.cols
         → LeadsOver rows cols lines log (O.screen old.now) (N.screen new.now)) }
-    ensures text { OnOk result (out.new.items ≡ out.old.items ++ painted (O.screen old.now) (N.screen new.now)) }
+    ensures text { OnOk result (out.new.items ≡ out.old.items ++ text_between (O.screen old.now) (N.screen new.now)) }
     ensures err { OnErr result (out.new.items ≡ out.old.items) }
     ensures fault { IsOkUnless result Fault.OutOfMemory }
 {
@@ -220,7 +220,7 @@ pub fn paint<O: Seen, N: Seen>(old: &O, new: &N, out: &mut Vec<u8>) -> Result<()
 pub fn open(out: &mut Vec<u8>) -> Result<(), Fault>
     ensures begins { OnOk result ((rows cols lines : ℕ) (log : List Item) → 1 ≤ (term rows cols lines log).live.screen.rows
         → 1 ≤ (term rows cols lines log).live.screen.cols → IsOpened rows cols lines log) }
-    ensures text { OnOk result (out.new.items ≡ out.old.items ++ opened) }
+    ensures text { OnOk result (out.new.items ≡ out.old.items ++ blanking_text) }
     ensures err { OnErr result (out.new.items ≡ out.old.items) }
     ensures fault { IsOkUnless result Fault.OutOfMemory }
 {

@@ -3,7 +3,7 @@ ghost use Rattle.std.specs.Prelude.{◌≡◌, ◌∷◌, [], ◌++◌, OnOk, de
 ghost use Rattle.std.specs.List.{flat_map};
 ghost use Rattle.std.specs.Char.{encode_utf8};
 ghost use Rattle.roam_term.specs.ControlFunctions.{place_cursor, set_style, set_mixture, restyle};
-ghost use Rattle.roam_paint.specs.Sequences.{spelled};
+ghost use Rattle.roam_paint.specs.Sequences.{spelling_of};
 ghost use Rattle.roam_paint.specs.Texts.{code_text, colour_text};
 
 use itoa::Buffer;
@@ -20,7 +20,7 @@ fn push_number(text: &mut Vec<u8>, n: u16) -> Result<(), AllocError>
 /// CUP (ECMA-48 8.3.21) to a row and a column, both from 1.
 #[tactic(auto, using(crate::proofs::Spellings::place_cursor_text))]
 pub fn push_place_cursor(text: &mut Vec<u8>, row: u16, col: u16) -> Result<(), AllocError>
-    ensures text { OnOk result (text.new.items ≡ text.old.items ++ spelled (place_cursor row col)) }
+    ensures text { OnOk result (text.new.items ≡ text.old.items ++ spelling_of (place_cursor row col)) }
 {
     text.extend_from_slice(b"\x1B[")?;
     push_number(text, row)?;
@@ -52,7 +52,7 @@ fn push_colour(text: &mut Vec<u8>, code: u16, colour: Colour) -> Result<(), Allo
 
 /// SGR (ECMA-48 8.3.117) that sets a style but for its mixtures, whatever style is set.
 pub fn push_set_style(text: &mut Vec<u8>, style: Style) -> Result<(), AllocError>
-    ensures text { OnOk result (text.new.items ≡ text.old.items ++ spelled (set_style style)) }
+    ensures text { OnOk result (text.new.items ≡ text.old.items ++ spelling_of (set_style style)) }
 {
     text.extend_from_slice(b"\x1B[")?;
     push_number(text, 0)?;
@@ -73,7 +73,7 @@ pub fn push_set_style(text: &mut Vec<u8>, style: Style) -> Result<(), AllocError
 // SGR that sets a colour, after 38 or 48, where it is a mixture.
 #[tactic(auto, using(crate::proofs::Spellings::mixture_text))]
 fn push_mixture(text: &mut Vec<u8>, code: u16, colour: Colour) -> Result<(), AllocError>
-    ensures text { OnOk result (text.new.items ≡ text.old.items ++ flat_map spelled (set_mixture code colour)) }
+    ensures text { OnOk result (text.new.items ≡ text.old.items ++ flat_map spelling_of (set_mixture code colour)) }
 {
     if let Colour::Rgb(red, green, blue) = colour {
         text.extend_from_slice(b"\x1B[")?;
@@ -90,7 +90,7 @@ fn push_mixture(text: &mut Vec<u8>, code: u16, colour: Colour) -> Result<(), All
 /// SGR (ECMA-48 8.3.117) that sets a style, whatever style is set: its mixtures by sequences of their own.
 #[tactic(auto, using(crate::proofs::Spellings::restyle_text))]
 pub fn push_restyle(text: &mut Vec<u8>, style: Style) -> Result<(), AllocError>
-    ensures text { OnOk result (text.new.items ≡ text.old.items ++ flat_map spelled (restyle style)) }
+    ensures text { OnOk result (text.new.items ≡ text.old.items ++ flat_map spelling_of (restyle style)) }
 {
     push_set_style(text, style)?;
     push_mixture(text, 38, style.foreground)?;

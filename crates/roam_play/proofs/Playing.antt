@@ -20,7 +20,7 @@ use Rattle.roam_faults.specs.declared.faults.RunFault.{RunFault}
 use Rattle.roam_faults.specs.declared.faults.RunFault.TheVariants as run
 use Rattle.roam_play.specs.Asked.{asked_in}
 use Rattle.roam_play.specs.Replies.{reply_line}
-use Rattle.roam_play.specs.Scripts.{Stage, Before, Within, AnswersLine, AreLines, BeginsWith, Ends, IsBadSession, IsEvent, IsOneLine, IsReason, Plays, Prints, Stopped, ended, event_in, is_in_place, size_of}
+use Rattle.roam_play.specs.Scripts.{Stage, Before, Within, AnswersLine, AreLines, BeginsWith, Ends, IsBadSession, IsEvent, IsOneLine, IsReason, Plays, Prints, Stopped, ended_line, event_in, is_in_place, size_of}
 use Rattle.roam_play.specs.Scripts as script
 use Rattle.roam_play.specs.Played.{Fails, Fed, HasAnswer, IsAt, Told}
 use Rattle.roam_play.specs.Played as played
@@ -183,7 +183,7 @@ fed_byte stage old piece begun before after world number counted byte f other = 
   lines = f.lines;
   are = record {
     is = sym (append_assoc old piece (byte ∷ [])) ∙ ap (λ (t : List ℕ). t ++ byte ∷ []) f.are.is
-        ∙ append_assoc (flat_map ended f.lines) begun (byte ∷ []);
+        ∙ append_assoc (flat_map ended_line f.lines) begun (byte ∷ []);
     each = f.are.each;
     last = All-push (λ (b : ℕ). b ≢ 10) begun byte f.are.last other;
   };
@@ -201,10 +201,10 @@ ends_line old piece begun lines a = record {
   is =
       sym (append_assoc old piece (10 ∷ []))
       ∙ ap (λ (t : List ℕ). t ++ 10 ∷ []) a.is
-      ∙ append_assoc (flat_map ended lines) begun (10 ∷ [])
-      ∙ ap (λ (t : List ℕ). flat_map ended lines ++ t) (sym (append-nil (ended begun)))
-      ∙ sym (flat_map-append ended lines (begun ∷ []))
-      ∙ sym (append-nil (flat_map ended (lines ++ begun ∷ [])));
+      ∙ append_assoc (flat_map ended_line lines) begun (10 ∷ [])
+      ∙ ap (λ (t : List ℕ). flat_map ended_line lines ++ t) (sym (append-nil (ended_line begun)))
+      ∙ sym (flat_map-append ended_line lines (begun ∷ []))
+      ∙ sym (append-nil (flat_map ended_line (lines ++ begun ∷ [])));
   each = All-push IsOneLine lines begun a.each a.last;
   last = λ k d lt. absurd (omega (arith, lt));
 }
@@ -238,7 +238,7 @@ module _ (stage : Stage) (old piece begun more : List ℕ) (before between : Opt
   stopped after fault keeps why = record {
     lines = f.lines;
     rest = begun ++ more;
-    is = sym (append_assoc old piece more) ∙ ap (λ (t : List ℕ). t ++ more) f.are.is ∙ append_assoc (flat_map ended f.lines) begun more;
+    is = sym (append_assoc old piece more) ∙ ap (λ (t : List ℕ). t ++ more) f.are.is ∙ append_assoc (flat_map ended_line f.lines) begun more;
     each = f.are.each;
     left = f.left;
     text = f.text;
@@ -267,10 +267,10 @@ fed_more stage log begun piece new before between after world world' number coun
   are = record {
     is =
         ap (λ (t : List ℕ). t ++ piece) f.are.is
-        ∙ append_assoc (flat_map ended f.lines) begun piece
-        ∙ ap (λ (t : List ℕ). flat_map ended f.lines ++ t) g.are.is
-        ∙ sym (append_assoc (flat_map ended f.lines) (flat_map ended g.lines) new)
-        ∙ ap (λ (t : List ℕ). t ++ new) (sym (flat_map-append ended f.lines g.lines));
+        ∙ append_assoc (flat_map ended_line f.lines) begun piece
+        ∙ ap (λ (t : List ℕ). flat_map ended_line f.lines ++ t) g.are.is
+        ∙ sym (append_assoc (flat_map ended_line f.lines) (flat_map ended_line g.lines) new)
+        ∙ ap (λ (t : List ℕ). t ++ new) (sym (flat_map-append ended_line f.lines g.lines));
     each = All-append IsOneLine f.lines g.lines f.are.each g.are.each;
     last = g.are.last;
   };
@@ -292,10 +292,10 @@ stopped_more stage log begun piece before between after world number counted fau
   rest = s.rest;
   is =
       ap (λ (t : List ℕ). t ++ piece) f.are.is
-      ∙ append_assoc (flat_map ended f.lines) begun piece
-      ∙ ap (λ (t : List ℕ). flat_map ended f.lines ++ t) s.is
-      ∙ sym (append_assoc (flat_map ended f.lines) (flat_map ended s.lines) s.rest)
-      ∙ ap (λ (t : List ℕ). t ++ s.rest) (sym (flat_map-append ended f.lines s.lines));
+      ∙ append_assoc (flat_map ended_line f.lines) begun piece
+      ∙ ap (λ (t : List ℕ). flat_map ended_line f.lines ++ t) s.is
+      ∙ sym (append_assoc (flat_map ended_line f.lines) (flat_map ended_line s.lines) s.rest)
+      ∙ ap (λ (t : List ℕ). t ++ s.rest) (sym (flat_map-append ended_line f.lines s.lines));
   each = All-append IsOneLine f.lines s.lines f.are.each s.each;
   left = s.left;
   text = f.text ++ s.text;

@@ -21,8 +21,8 @@ use Rattle.roam_play.specs.Asked.{asked_in}
 -- ---- lines
 
 -- a line with its end
-abbrev pub ended : List ℕ → List ℕ
-ended line = line ++ 0x0A ∷ []
+abbrev pub ended_line : List ℕ → List ℕ
+ended_line line = line ++ 0x0A ∷ []
 
 -- no end of line is in it
 abbrev pub IsOneLine : List ℕ → Type 0
@@ -30,7 +30,7 @@ IsOneLine line = All (λ byte. byte ≢ 0x0A) line
 
 -- what was read is lines, each with its end, and a line that is begun
 pub record AreLines (log : List ℕ) (lines : List (List ℕ)) (begun : List ℕ) : Type 0 where
-  pub is : log ≡ flat_map ended lines ++ begun
+  pub is : log ≡ flat_map ended_line lines ++ begun
   pub each : All IsOneLine lines
   pub last : IsOneLine begun
 
@@ -127,7 +127,7 @@ pub data Ends (stage : Stage) (number : ℕ) (line : List ℕ) (fault : RunFault
 
 -- what is left of the bytes read begins with this line: with its end, or without one where nothing follows
 pub data BeginsWith (line rest : List ℕ) : Type 0 where
-  whole : (more : List ℕ) → rest ≡ ended line ++ more → BeginsWith line rest
+  whole : (more : List ℕ) → rest ≡ ended_line line ++ more → BeginsWith line rest
   last : rest ≡ line → BeginsWith line rest
 
 -- why a run ends before the end of its script: reading failed, memory is wanting, or the next line ends it
@@ -141,7 +141,7 @@ pub data IsReason (stage : Stage) (number : ℕ) (rest : List ℕ) (fault : RunF
 pub record Stopped (stage : Stage) (log : List ℕ) (before after : Option (List ℕ)) (number : ℕ) (fault : RunFault) : Type 0 where
   pub lines : List (List ℕ)
   pub rest : List ℕ
-  pub is : log ≡ flat_map ended lines ++ rest
+  pub is : log ≡ flat_map ended_line lines ++ rest
   pub each : All IsOneLine lines
   pub left : Stage
   pub text : List ℕ

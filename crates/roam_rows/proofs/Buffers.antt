@@ -8,7 +8,7 @@ use Rattle.std.proofs.lemmas.Grind.{common_steps}
 use Rattle.roam_cells.specs.Glyph.{Glyph, blank}
 use Rattle.roam_cells.specs.Place.{cell_at}
 use Rattle.roam_cells.proofs.Places.{get_or-table, length-table, row_from}
-use Rattle.roam_rows.specs.Places.{From, moved, moved_at}
+use Rattle.roam_rows.specs.Places.{From, mapped_cells, moved_at}
 use Rattle.roam_rows.specs.Turned.{IsTurned, in_order, brought_back}
 use Rattle.roam_rows.specs.Rows.{Rows, AreRows, KeepPlaces}
 use Rattle.roam_rows.specs.Scrolling.{up, down, all_up, all_down, turned_up, turned_down}
@@ -46,7 +46,7 @@ turned_in rows first n p = next_in rows first (min n rows) p (omega arith)
 pub kept_by_all_up : (n : ℕ) (v : Rows) → AreRows v → KeepPlaces n v.rows v (all_up n v)
 kept_by_all_up n v h r c low r_in' r_in q =
     let source = up 0 (v.rows - 1) n in
-    let cells = moved v.rows v.cols v.cells source in
+    let cells = mapped_cells v.rows v.cols v.cells source in
     let next = turned_up v.rows n v.first in
     let moves : (d : ℕ) → source (r - n) d ≡ From r d = λ d. up_moves 0 (v.rows - 1) n (r - n) d (omega arith) (omega arith) ∙ ap (λ j. From j d) (omega arith) in
     let size : length cells ≡ v.rows * v.cols = length-table v.rows v.cols (moved_at v.cols v.cells source) in
@@ -62,7 +62,7 @@ on_index_down rows first n r p q = grind (arith, common_steps)
 pub kept_by_all_down : (n : ℕ) (v : Rows) → AreRows v → KeepPlaces 0 (v.rows - n) v (all_down n v)
 kept_by_all_down n v h r c low stays r_in q =
     let source = down 0 (v.rows - 1) n in
-    let cells = moved v.rows v.cols v.cells source in
+    let cells = mapped_cells v.rows v.cols v.cells source in
     let next = turned_down v.rows n v.first in
     let moves : (d : ℕ) → source (r + n) d ≡ From r d = λ d. down_moves 0 (v.rows - 1) n (r + n) d (omega arith) (omega arith) ∙ ap (λ j. From j d) (omega arith) in
     let size : length cells ≡ v.rows * v.cols = length-table v.rows v.cols (moved_at v.cols v.cells source) in

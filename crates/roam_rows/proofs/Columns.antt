@@ -7,7 +7,7 @@ use Rattle.std.proofs.lemmas.List.FromFn.{length-map-range_with_len, get_or-map-
 use Rattle.std.proofs.lemmas.Grind.{common_steps}
 use Rattle.roam_cells.specs.Glyph.{Glyph, is_wide, is_right_half, right_of, blank}
 use Rattle.roam_cells.specs.Place.{glyph_at, IsWholeRow}
-use Rattle.roam_rows.specs.Row.{RowSource, Column, Fresh, row_taken, are_neighbours, mended, row_moved, row_moved_at}
+use Rattle.roam_rows.specs.Row.{RowSource, Column, Fresh, row_taken, are_neighbours, mended_glyph, row_moved, row_moved_at}
 use Rattle.roam_rows.specs.Halves.{AreParted}
 use Rattle.roam_rows.proofs.Mending.{mended_same, mended_agree, still_wide, still_half, wide_not_half, and_left, and_right, ltb-means, means-ltb, both}
 
@@ -25,7 +25,7 @@ row_is n f xs len each =
 
 -- cells that come in pairs, and are mended where a pair is parted, are whole
 module _ (n : ℕ) (T : ℕ → Glyph) (J : ℕ → Bool) (new : List Glyph) (len : length new ≡ n) where
-  pub whole_row_of : ((c : ℕ) → c < n → glyph_at new c ≡ mended (T c) (ltb (c + 1) n && J c) (ltb 0 c && J (c - 1)))
+  pub whole_row_of : ((c : ℕ) → c < n → glyph_at new c ≡ mended_glyph (T c) (ltb (c + 1) n && J c) (ltb 0 c && J (c - 1)))
       → ((c : ℕ) → c + 1 < n → J c ≡ true → is_wide (T c) ≡ true → T (c + 1) ≡ right_of (T c))
       → ((c : ℕ) → c + 1 < n → J c ≡ true → is_right_half (T (c + 1)) ≡ true → is_wide (T c) ≡ true)
       → IsWholeRow new
@@ -40,7 +40,7 @@ module _ (n : ℕ) (T : ℕ → Glyph) (J : ℕ → Bool) (new : List Glyph) (le
         let joined : J c ≡ true = and_right (ltb (c + 1) n) (J c) right in
         let half : T (c + 1) ≡ right_of (T c) = wide_pair c inside joined was in
         let back : (ltb 0 (c + 1) && J (c + 1 - 1)) ≡ true = both _ _ (means-ltb 0 (c + 1) (omega arith)) (ap J (omega arith) ∙ joined) in
-        let kept : mended (T (c + 1)) (ltb (c + 1 + 1) n && J (c + 1)) (ltb 0 (c + 1) && J (c + 1 - 1)) ≡ T (c + 1) =
+        let kept : mended_glyph (T (c + 1)) (ltb (c + 1 + 1) n && J (c + 1)) (ltb 0 (c + 1) && J (c + 1 - 1)) ≡ T (c + 1) =
         mended_same (T (c + 1)) _ _ (λ h. absurd (false≢true (sym (ap is_wide half) ∙ h))) (λ h. back) in
         (omega (arith, len), each (c + 1) inside ∙ kept ∙ half ∙ ap right_of (sym same));
     half = λ w.
@@ -54,7 +54,7 @@ module _ (n : ℕ) (T : ℕ → Glyph) (J : ℕ → Bool) (new : List Glyph) (le
         let e : c - 1 + 1 ≡ c = omega arith in
         let whole : is_wide (T (c - 1)) ≡ true = half_pair (c - 1) (omega arith) joined (ap (λ k. is_right_half (T k)) e ∙ was) in
         let next : (ltb (c - 1 + 1) n && J (c - 1)) ≡ true = both _ _ (means-ltb (c - 1 + 1) n (omega arith)) joined in
-        let kept : mended (T (c - 1)) (ltb (c - 1 + 1) n && J (c - 1)) (ltb 0 (c - 1) && J (c - 1 - 1)) ≡ T (c - 1) =
+        let kept : mended_glyph (T (c - 1)) (ltb (c - 1 + 1) n && J (c - 1)) (ltb 0 (c - 1) && J (c - 1 - 1)) ≡ T (c - 1) =
         mended_same (T (c - 1)) _ _ (λ h. next) (λ h. absurd (false≢true (sym (wide_not_half (T (c - 1)) whole) ∙ h))) in
         (pos, ap is_wide (each (c - 1) (omega arith) ∙ kept) ∙ whole);
   }
@@ -67,7 +67,7 @@ pub row_unmoved : (row : List Glyph) (one : ℕ → RowSource) → IsWholeRow ro
 row_unmoved row one whole same =
     row_is (length row) (row_moved_at row one) row refl (λ c q.
     sym (
-    ap (λ x. mended (row_taken row x) (ltb (c + 1) (length row) && are_neighbours x (one (c + 1))) (ltb 0 c && are_neighbours (one (c - 1)) x)) (same c q)
+    ap (λ x. mended_glyph (row_taken row x) (ltb (c + 1) (length row) && are_neighbours x (one (c + 1))) (ltb 0 c && are_neighbours (one (c - 1)) x)) (same c q)
     ∙ mended_same (glyph_at row c) (ltb (c + 1) (length row) && are_neighbours (Column c) (one (c + 1))) (ltb 0 c && are_neighbours (one (c - 1)) (Column c))
     (λ w. let inside : c + 1 < length row = ((whole c q).wide w).0 in
     both _ _ (means-ltb (c + 1) (length row) inside) (ap (are_neighbours (Column c)) (same (c + 1) inside) ∙ is_next c (c + 1) refl))
@@ -84,7 +84,7 @@ Agrees n cut c (Fresh x) next before =
 
 -- what a column shows, by its source and those beside it
 abbrev pub row_shown : List Glyph → ℕ → RowSource → RowSource → RowSource → Glyph
-row_shown row c here next before = mended (row_taken row here) (ltb (c + 1) (length row) && are_neighbours here next) (ltb 0 c && are_neighbours before here)
+row_shown row c here next before = mended_glyph (row_taken row here) (ltb (c + 1) (length row) && are_neighbours here next) (ltb 0 c && are_neighbours before here)
 
 -- the same, asked only where a half stands
 abbrev pub AgreesAt : List Glyph → (ℕ → Bool) → ℕ → RowSource → RowSource → RowSource → Type 0
@@ -175,7 +175,7 @@ module _ (row : List Glyph) (whole : IsWholeRow row) where
             ap (λ b. b && are_neighbours (one (c - 1)) (one c)) e ∙ sym (ap (λ b. b && J (c - 1)) e)
       ] in
       whole_row_of (length row) T J (row_moved row one) (length-row (length row) (row_moved_at row one))
-      (λ c q. row_at (length row) (row_moved_at row one) c q ∙ ap (λ b. mended (T c) (ltb (c + 1) (length row) && J c) b) (same c))
+      (λ c q. row_at (length row) (row_moved_at row one) c q ∙ ap (λ b. mended_glyph (T c) (ltb (c + 1) (length row) && J c) b) (same c))
       (λ c q j w. wide_pair (one c) (one (c + 1)) (fits c q) j w)
       (λ c q j w. half_pair (one c) (one (c + 1)) (fits c q) j w)
 

@@ -5,13 +5,13 @@ use Rattle.std.proofs.lemmas.Grind.{common_steps}
 use borrow.Rule.Slice.PartMut.{put_mid}
 use Rattle.roam_cells.specs.Glyph.{Glyph, is_wide, blank}
 use Rattle.roam_cells.specs.Place.{cell_at, glyph_at, IsWholeRow}
-use Rattle.roam_rows.specs.Row.{RowSource, Column, Fresh, row_taken, are_neighbours, mended, row_moved, row_moved_at}
-use Rattle.roam_rows.specs.Places.{moved, in_row}
+use Rattle.roam_rows.specs.Row.{RowSource, Column, Fresh, row_taken, are_neighbours, mended_glyph, row_moved, row_moved_at}
+use Rattle.roam_rows.specs.Places.{mapped_cells, in_row}
 use Rattle.roam_rows.specs.Halves.{AreParted}
 use Rattle.roam_rows.specs.Turned.{IsTurned, in_order, brought_back}
 use Rattle.roam_rows.specs.Rows.{Rows}
-use Rattle.roam_rows.specs.Writing.{written, written_run}
-use Rattle.roam_rows.specs.Erasing.{blanked}
+use Rattle.roam_rows.specs.Writing.{writing_source, written_run}
+use Rattle.roam_rows.specs.Erasing.{erasure_source}
 use Rattle.roam_rows.specs.Kept.{AreLengths}
 use Rattle.roam_rows.proofs.Mending.{mended-blank}
 use Rattle.roam_rows.proofs.Columns.{InRow, row_at, length-row}
@@ -23,15 +23,15 @@ use Rattle.roam_rows.proofs.Written.{still_lengths, past_length, row_here, rest_
 pub blank_from : (row : List Glyph) (one : ℕ → RowSource) (c d : ℕ) → c < length row → one c ≡ Column d → glyph_at row d ≡ blank → glyph_at (row_moved row one) c ≡ blank
 blank_from row one c d q e h =
     row_at (length row) (row_moved_at row one) c q
-    ∙ ap (λ x. mended (row_taken row x) (ltb (c + 1) (length row) && are_neighbours (one c) (one (c + 1))) (ltb 0 c && are_neighbours (one (c - 1)) (one c))) e
-    ∙ ap (λ x. mended x (ltb (c + 1) (length row) && are_neighbours (one c) (one (c + 1))) (ltb 0 c && are_neighbours (one (c - 1)) (one c))) h
+    ∙ ap (λ x. mended_glyph (row_taken row x) (ltb (c + 1) (length row) && are_neighbours (one c) (one (c + 1))) (ltb 0 c && are_neighbours (one (c - 1)) (one c))) e
+    ∙ ap (λ x. mended_glyph x (ltb (c + 1) (length row) && are_neighbours (one c) (one (c + 1))) (ltb 0 c && are_neighbours (one (c - 1)) (one c))) h
     ∙ mended-blank (ltb (c + 1) (length row) && are_neighbours (one c) (one (c + 1))) (ltb 0 c && are_neighbours (one (c - 1)) (one c))
 
 written_past_by : (x : Glyph) (w : Bool) (col c : ℕ) → col < c → (w ≡ true → col + 1 < c) → by w x col c ≡ Column c
 written_past_by x true col c p h = let q : col + 1 < c = h refl in grind (arith, common_steps)
 written_past_by x false col c p h = grind (arith, common_steps)
 
-pub written_past : (x : Glyph) (col c : ℕ) → col < c → (is_wide x ≡ true → col + 1 < c) → written x col c ≡ Column c
+pub written_past : (x : Glyph) (col c : ℕ) → col < c → (is_wide x ≡ true → col + 1 < c) → writing_source x col c ≡ Column c
 written_past x col c p h = written_past_by x (is_wide x) col c p h
 
 pub run_past : (gs : List Glyph) (col c : ℕ) → col + length gs ≤ c → written_run gs col c ≡ Column c
@@ -45,7 +45,7 @@ IsBlankSource cols len (Fresh x) = x ≡ blank
 blank_fresh : (row : List Glyph) (one : ℕ → RowSource) (c : ℕ) (x : Glyph) → c < length row → one c ≡ Fresh x → x ≡ blank → glyph_at (row_moved row one) c ≡ blank
 blank_fresh row one c x q e h =
     row_at (length row) (row_moved_at row one) c q
-    ∙ ap (λ y. mended (row_taken row y) (ltb (c + 1) (length row) && are_neighbours (one c) (one (c + 1))) (ltb 0 c && are_neighbours (one (c - 1)) (one c))) (e ∙ ap (λ y. Fresh y) h)
+    ∙ ap (λ y. mended_glyph (row_taken row y) (ltb (c + 1) (length row) && are_neighbours (one c) (one (c + 1))) (ltb 0 c && are_neighbours (one (c - 1)) (one c))) (e ∙ ap (λ y. Fresh y) h)
     ∙ mended-blank (ltb (c + 1) (length row) && are_neighbours (one c) (one (c + 1))) (ltb 0 c && are_neighbours (one (c - 1)) (one c))
 
 blank_by : (row : List Glyph) (one : ℕ → RowSource) (len c : ℕ) → c < length row → ((d : ℕ) → len ≤ d → d < length row → glyph_at row d ≡ blank)
@@ -73,7 +73,7 @@ module _ (rows cols first R at a m : ℕ) (buffer : List Glyph) (lengths : List 
     long = same_length ∙ length-slice rows cols first R a m buffer turned R_in a_turned m_is ∙ sym m_is
 
     pub edited : (IsTurned rows cols first (put_mid a m buffer ys)) × (AreLengths rows cols (put_mid a m buffer ys) (set lengths at w))
-        × (in_order cols first (put_mid a m buffer ys) ≡ moved rows cols (in_order cols first buffer) (in_row R one))
+        × (in_order cols first (put_mid a m buffer ys) ≡ mapped_cells rows cols (in_order cols first buffer) (in_row R one))
     edited =
         let room = fits rows cols first R a m buffer turned R_in a_turned m_is in (
           lifted_turned rows cols first R a m buffer turned R_in a_turned m_is ys same_length whole,
@@ -87,7 +87,7 @@ module _ (rows cols first R at a m : ℕ) (buffer : List Glyph) (lengths : List 
   pub edited_by : (ys : List Glyph) (one : ℕ → RowSource) → ((c : ℕ) → c < cols → InRow cols (one c)) → ys ≡ row_moved (take m (drop a buffer)) one → IsWholeRow ys
       → (w : ℕ) → w ≤ cols → ((c : ℕ) → w ≤ c → c < cols → IsBlankSource cols (get_or lengths at 0) (one c))
       → (cells : List Glyph) → cells ≡ put_mid a m buffer ys → (next : List ℕ) → next ≡ set lengths at w
-      → (IsTurned rows cols first cells) × (AreLengths rows cols cells next) × (in_order cols first cells ≡ moved rows cols (in_order cols first buffer) (in_row R one))
+      → (IsTurned rows cols first cells) × (AreLengths rows cols cells next) × (in_order cols first cells ≡ mapped_cells rows cols (in_order cols first buffer) (in_row R one))
   edited_by ys one stays ys_is whole w w_in blanks cells cells_are next next_is =
       let row = take m (drop a buffer) in
       let size : length row ≡ cols = length-slice rows cols first R a m buffer turned R_in a_turned m_is in
@@ -139,13 +139,13 @@ blanked_by : (cols len from to c : ℕ) (b : Bool) → c < cols → (leb from c 
 blanked_by cols len from to c true q h p = refl
 blanked_by cols len from to c false q h p = (elim p [ inl low ↦ low | inr inside ↦ absurd (false≢true (sym h ∙ grind (arith, common_steps))) ], q)
 
-pub blanked_after : (cols len from to c : ℕ) → c < cols → (len ≤ c) ⊎ ((from ≤ c) × (c < to)) → IsBlankSource cols len (blanked from to c)
+pub blanked_after : (cols len from to c : ℕ) → c < cols → (len ≤ c) ⊎ ((from ≤ c) × (c < to)) → IsBlankSource cols len (erasure_source from to c)
 blanked_after cols len from to c q p = blanked_by cols len from to c (leb from c && ltb c to) q refl p
 
 -- a blank column stays blank where boundaries are cut
 pub parted_blank : (cut : ℕ → Bool) (old new : List Glyph) → AreParted cut old new → (c : ℕ) → c < length old → glyph_at old c ≡ blank → glyph_at new c ≡ blank
 parted_blank cut old new parted c q h =
-    parted.each c q ∙ ap (λ x. mended x (not (cut (c + 1))) (not (cut c))) h ∙ mended-blank (not (cut (c + 1))) (not (cut c))
+    parted.each c q ∙ ap (λ x. mended_glyph x (not (cut (c + 1))) (not (cut c))) h ∙ mended-blank (not (cut (c + 1))) (not (cut c))
 
 -- rows by their parts
 abbrev pub rows_by : ℕ → ℕ → ℕ → List Glyph → Rows

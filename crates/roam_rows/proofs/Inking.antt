@@ -8,13 +8,13 @@ use Rattle.roam_cells.proofs.Ascii.{ascii_narrow}
 use Rattle.roam_cells.specs.Place.{glyph_at, IsWholeRow}
 use Rattle.roam_rows.specs.Row.{RowSource, Column, Fresh, row_taken, are_neighbours, row_moved}
 use Rattle.roam_rows.specs.Halves.{AreParted, cut_twice}
-use Rattle.roam_rows.specs.Writing.{written, written_run, ArePrintable}
-use Rattle.roam_rows.specs.Erasing.{blanked}
+use Rattle.roam_rows.specs.Writing.{writing_source, written_run, ArePrintable}
+use Rattle.roam_rows.specs.Erasing.{erasure_source}
 use Rattle.roam_rows.proofs.Mending.{is_wide-blank}
 use Rattle.roam_rows.proofs.Parting.{past_end}
 use Rattle.roam_rows.proofs.Columns.{Agrees, Fits, row_moved_is, row_moved_whole}
 
--- `written`, with the width as a test
+-- `writing_source`, with the width as a test
 abbrev pub by : Bool → Glyph → ℕ → ℕ → RowSource
 by w x col c = cond (eqb c col) (Fresh x) (cond (w && eqb c (col + 1)) (Fresh (right_of x)) (Column c))
 
@@ -52,7 +52,7 @@ module _ (col : ℕ) (row P : List Glyph) (x : Glyph) where
   narrow_shows len q c true h = ap (glyph_at (set P col x)) (hit col c h) ∙ get_or-set_same P col x blank (omega (arith, len))
   narrow_shows len q c false h = get_or-set_other P col c x blank (missed col c h)
 
-  pub written_narrow : IsWholeRow row → AreParted (cut_twice col (col + 1)) row P → col < length row → is_wide x ≡ false → is_right_half x ≡ false → set P col x ≡ row_moved row (written x col)
+  pub written_narrow : IsWholeRow row → AreParted (cut_twice col (col + 1)) row P → col < length row → is_wide x ≡ false → is_right_half x ≡ false → set P col x ≡ row_moved row (writing_source x col)
   written_narrow whole parted q w l =
       row_moved_is (cut_twice col (col + 1)) row P whole parted (by false x col) (set P col x) (length-set P col x ∙ parted.len)
       (λ c p. narrow_shows parted.len q c (eqb c col) refl) (λ c p. narrow_agrees x (length row) col c w l p (eqb c col) refl)
@@ -69,7 +69,7 @@ module _ (col : ℕ) (row P : List Glyph) (x : Glyph) where
       get_or-set_other (set P col x) (col + 1) c (right_of x) blank (missed (col + 1) c k) ∙ get_or-set_other P col c x blank (missed col c h)
 
   pub written_wide : IsWholeRow row → AreParted (cut_twice col (col + 2)) row P → col + 1 < length row → is_wide x ≡ true → is_right_half x ≡ false
-      → set (set P col x) (col + 1) (right_of x) ≡ row_moved row (written x col)
+      → set (set P col x) (col + 1) (right_of x) ≡ row_moved row (writing_source x col)
   written_wide whole parted q w l =
       row_moved_is (cut_twice col (col + 2)) row P whole parted (by true x col) (set (set P col x) (col + 1) (right_of x)) (length-set (set P col x) (col + 1) (right_of x) ∙ length-set P col x ∙ parted.len)
       (λ c p. wide_shows parted.len q c (eqb c col) (eqb c (col + 1)) refl refl) (λ c p. wide_agrees x (length row) col c w l q p (eqb c col) (eqb c (col + 1)) refl refl)
@@ -105,7 +105,7 @@ written_by col row x whole l false w = row_moved_whole row whole (by false x col
 written_by col row x whole l true w =
     row_moved_whole row whole (by true x col) (λ c q. fits_wide x (length row) col c w q (eqb c col) (eqb c (col + 1)) (eqb (c + 1) col) (eqb (c + 1) (col + 1)) refl refl refl refl)
 
-pub written_whole : (col : ℕ) (row : List Glyph) (x : Glyph) → IsWholeRow row → is_right_half x ≡ false → IsWholeRow (row_moved row (written x col))
+pub written_whole : (col : ℕ) (row : List Glyph) (x : Glyph) → IsWholeRow row → is_right_half x ≡ false → IsWholeRow (row_moved row (writing_source x col))
 written_whole col row x whole l = written_by col row x whole l (is_wide x) refl
 
 -- a range of columns
@@ -161,11 +161,11 @@ module _ (f : ℕ → Glyph) (from to : ℕ) (row P Y : List Glyph) (narrow : (c
 module _ (from to : ℕ) (row P Y : List Glyph) where
   pub blanked_is : IsWholeRow row → AreParted (cut_twice from to) row P → length Y ≡ length row → from < to
       → ((k : ℕ) → k < from → glyph_at Y k ≡ glyph_at P k) → ((k : ℕ) → from ≤ k → k < to → glyph_at Y k ≡ blank) → ((k : ℕ) → to ≤ k → glyph_at Y k ≡ glyph_at P k)
-      → Y ≡ row_moved row (blanked from to)
+      → Y ≡ row_moved row (erasure_source from to)
   blanked_is whole parted len some before inside after =
       over_is (λ c. blank) from to row P Y (λ c. (is_wide-blank, refl)) whole parted len some inside (λ c h. elim h [ inl low ↦ before c low | inr high ↦ after c high ])
 
-  pub blanked_whole : IsWholeRow row → IsWholeRow (row_moved row (blanked from to))
+  pub blanked_whole : IsWholeRow row → IsWholeRow (row_moved row (erasure_source from to))
   blanked_whole whole = over_whole (λ c. blank) from to row P Y (λ c. (is_wide-blank, refl)) whole
 
 pub bytes_at : (pen : Glyph) (bytes : List ℕ) (k : ℕ) → k < length bytes → glyph_at (inked_bytes pen bytes) k ≡ ascii_in (get_or bytes k 0) pen

@@ -12,13 +12,13 @@ use Rattle.roam_cells.specs.Place.{cell_at, glyph_at, table, AreWhole, IsWholeLi
 use Rattle.roam_cells.proofs.CellLists.{one_scalar, space_in_shown, blank_shown, half_shown}
 use Rattle.roam_cells.proofs.Joining.{with_point_like}
 use Rattle.roam_cells.proofs.Places.{length-table, get_or-table, place_of, place_below}
-use Rattle.roam_rows.specs.Row.{RowSource, mended}
-use Rattle.roam_rows.specs.Places.{Source, From, Fresh, taken, are_joined, recast_at, moved, at_row, in_row}
+use Rattle.roam_rows.specs.Row.{RowSource, mended_glyph}
+use Rattle.roam_rows.specs.Places.{Source, From, Fresh, glyph_of_source, are_joined, recast_at, mapped_cells, at_row, in_row}
 use Rattle.roam_rows.specs.Rows.{Rows}
-use Rattle.roam_rows.specs.Writing.{written, base_column}
-use Rattle.roam_rows.specs.Editing.{inserted, deleted}
+use Rattle.roam_rows.specs.Writing.{writing_source, base_column}
+use Rattle.roam_rows.specs.Editing.{insertion_source, deletion_source}
 use Rattle.roam_rows.specs.Scrolling.{up, down}
-use Rattle.roam_rows.specs.Sizing.{kept_places, sized}
+use Rattle.roam_rows.specs.Sizing.{kept_places, sized_rows}
 use Rattle.roam_rows.proofs.Mending.{is_wide-blank, wide_not_half, and_left, and_right}
 use Rattle.roam_rows.proofs.Columns.{length-row, row_at, whole_row_of}
 use Rattle.roam_rows.proofs.Joins.{replaced_whole}
@@ -36,7 +36,7 @@ mended_by true w x h = space_in_shown x h
 mended_by false true x h = space_in_shown x h
 mended_by false false x h = h
 
-mended_shown : (x : Glyph) (a b : Bool) → IsShown x → IsShown (mended x a b)
+mended_shown : (x : Glyph) (a b : Bool) → IsShown x → IsShown (mended_glyph x a b)
 mended_shown x a b h = mended_by (is_wide x && not a) (is_right_half x && not b) x h
 
 pub table_shown : (rows cols : ℕ) (f : ℕ → ℕ → Glyph) → ((r c : ℕ) → r < rows → c < cols → IsShown (f r c)) → (k : ℕ)
@@ -67,7 +67,7 @@ line_same cols f g same whole c q = record {
 }
 
 whole_line : (n : ℕ) (T : ℕ → Glyph) (J : ℕ → Bool) (f : ℕ → Glyph)
-    → ((c : ℕ) → c < n → f c ≡ mended (T c) (ltb (c + 1) n && J c) (ltb 0 c && J (c - 1)))
+    → ((c : ℕ) → c < n → f c ≡ mended_glyph (T c) (ltb (c + 1) n && J c) (ltb 0 c && J (c - 1)))
     → ((c : ℕ) → c + 1 < n → J c ≡ true → is_wide (T c) ≡ true → T (c + 1) ≡ right_of (T c))
     → ((c : ℕ) → c + 1 < n → J c ≡ true → is_right_half (T (c + 1)) ≡ true → is_wide (T c) ≡ true)
     → IsWholeLine n f
@@ -97,12 +97,12 @@ joined_means r c s d h = (eqb-true s r (and_left (eqb s r) (eqb d (c + 1)) h), e
 module _ (rows cols new_rows new_cols : ℕ) (cells : List Glyph) (source : ℕ → ℕ → Source) (are : AreCells rows cols cells)
     (placed : (r c : ℕ) → r < new_rows → c < new_cols → IsPlaced rows cols (source r c))
     (suits : (r c : ℕ) → r < new_rows → c + 1 < new_cols → Suits (source r c) (source r (c + 1))) where
-  taken_shown : (s : Source) → IsPlaced rows cols s → IsShown (taken cols cells s)
+  taken_shown : (s : Source) → IsPlaced rows cols s → IsShown (glyph_of_source cols cells s)
   taken_shown (From r c) p = are.shown (r * cols + c)
   taken_shown (Fresh x) p = p
 
   wide_pair : (here next : Source) → IsPlaced rows cols here → Suits here next → are_joined here next ≡ true
-      → is_wide (taken cols cells here) ≡ true → taken cols cells next ≡ right_of (taken cols cells here)
+      → is_wide (glyph_of_source cols cells here) ≡ true → glyph_of_source cols cells next ≡ right_of (glyph_of_source cols cells here)
   wide_pair (From r c) (From s d) p f j w =
       let e = joined_means r c s d j in
       ap (λ k. cell_at cols cells k d) e.0 ∙ ap (cell_at cols cells r) e.1 ∙ ((are.whole r p.0 c p.1).wide w).1
@@ -111,7 +111,7 @@ module _ (rows cols new_rows new_cols : ℕ) (cells : List Glyph) (source : ℕ 
   wide_pair (Fresh x) (Fresh y) p f j w = f w (and_right (is_wide x) (is_right_half y) j)
 
   half_pair : (here next : Source) → IsPlaced rows cols next → are_joined here next ≡ true
-      → is_right_half (taken cols cells next) ≡ true → is_wide (taken cols cells here) ≡ true
+      → is_right_half (glyph_of_source cols cells next) ≡ true → is_wide (glyph_of_source cols cells here) ≡ true
   half_pair (From r c) (From s d) p j h =
       let e = joined_means r c s d j in
       let back : d - 1 ≡ c = omega (arith, e.1) in
@@ -123,7 +123,7 @@ module _ (rows cols new_rows new_cols : ℕ) (cells : List Glyph) (source : ℕ 
 
   recast_whole : AreWhole new_rows new_cols (table new_rows new_cols (recast_at new_cols cols cells source))
   recast_whole r p =
-      let T : ℕ → Glyph = λ c. taken cols cells (source r c) in
+      let T : ℕ → Glyph = λ c. glyph_of_source cols cells (source r c) in
       let J : ℕ → Bool = λ c. are_joined (source r c) (source r (c + 1)) in
       let same : (c : ℕ) → (ltb 0 c && are_joined (source r (c - 1)) (source r c)) ≡ (ltb 0 c && J (c - 1)) =
       λ c. elim (cases_lt 0 c) [
@@ -134,7 +134,7 @@ module _ (rows cols new_rows new_cols : ℕ) (cells : List Glyph) (source : ℕ 
       let f = recast_at new_cols cols cells source in
       line_same new_cols (f r) (cell_at new_cols (table new_rows new_cols f) r) (λ c q. get_or-table new_rows new_cols f r c blank p q)
       (whole_line new_cols T J (f r)
-      (λ c q. ap (λ b. mended (T c) (ltb (c + 1) new_cols && J c) b) (same c))
+      (λ c q. ap (λ b. mended_glyph (T c) (ltb (c + 1) new_cols && J c) b) (same c))
       (λ c q j w. wide_pair (source r c) (source r (c + 1)) (placed r c p (omega arith)) (suits r c p q) j w)
       (λ c q j h. half_pair (source r c) (source r (c + 1)) (placed r (c + 1) p q) j h))
 
@@ -143,7 +143,7 @@ module _ (rows cols new_rows new_cols : ℕ) (cells : List Glyph) (source : ℕ 
     count = length-table new_rows new_cols (recast_at new_cols cols cells source);
     whole = recast_whole;
     shown = table_shown new_rows new_cols (recast_at new_cols cols cells source) (λ r c p q.
-        mended_shown (taken cols cells (source r c)) (ltb (c + 1) new_cols && are_joined (source r c) (source r (c + 1)))
+        mended_shown (glyph_of_source cols cells (source r c)) (ltb (c + 1) new_cols && are_joined (source r c) (source r (c + 1)))
         (ltb 0 c && are_joined (source r (c - 1)) (source r c)) (taken_shown (source r c) (placed r c p q)));
   }
 
@@ -231,26 +231,26 @@ both_suit false row r c s t h = tt
 -- one row after a map of its columns
 module _ (rows cols row : ℕ) (cells : List Glyph) (one : ℕ → RowSource) (are : AreCells rows cols cells) (row_in : row < rows) where
   pub row_cells : ((c : ℕ) → c < cols → IsPlacedIn cols (one c)) → ((c : ℕ) → c + 1 < cols → SuitsIn (one c) (one (c + 1)))
-      → AreCells rows cols (moved rows cols cells (in_row row one))
+      → AreCells rows cols (mapped_cells rows cols cells (in_row row one))
   row_cells placed suits =
       recast_cells rows cols rows cols cells (in_row row one) are
       (λ r c p q. either (IsPlaced rows cols) (eqb r row) (at_row row (one c)) (From r c)
       (λ h. at_placed rows cols row (one c) row_in (placed c q)) (λ h. (p, q)))
       (λ r c p q. both_suit (eqb r row) row r c (one c) (one (c + 1)) (suits c q))
 
-  pub plain_row_cells : ((c : ℕ) → c < cols → IsPlainIn cols (one c)) → AreCells rows cols (moved rows cols cells (in_row row one))
+  pub plain_row_cells : ((c : ℕ) → c < cols → IsPlainIn cols (one c)) → AreCells rows cols (mapped_cells rows cols cells (in_row row one))
   plain_row_cells plain =
       plain_cells rows cols rows cols cells (in_row row one) are
       (λ r c p q. either (IsPlain rows cols) (eqb r row) (at_row row (one c)) (From r c)
       (λ h. at_plain rows cols row (one c) row_in (plain c q)) (λ h. (p, q)))
 
-pub inserted_plain : (cols col n c : ℕ) → c < cols → IsPlainIn cols (inserted col n c)
+pub inserted_plain : (cols col n c : ℕ) → c < cols → IsPlainIn cols (insertion_source col n c)
 inserted_plain cols col n c q =
     either (IsPlainIn cols) (ltb c col) (RowSource.Column c) (cond (ltb c (col + n)) (RowSource.Fresh blank) (RowSource.Column (c - n)))
     (λ h. q)
     (λ h. either (IsPlainIn cols) (ltb c (col + n)) (RowSource.Fresh blank) (RowSource.Column (c - n)) (λ k. refl) (λ k. omega (arith, q)))
 
-pub deleted_plain : (cols col n c : ℕ) → c < cols → IsPlainIn cols (deleted cols col n c)
+pub deleted_plain : (cols col n c : ℕ) → c < cols → IsPlainIn cols (deletion_source cols col n c)
 deleted_plain cols col n c q =
     either (IsPlainIn cols) (ltb c col) (RowSource.Column c) (cond (ltb (c + n) cols) (RowSource.Column (c + n)) (RowSource.Fresh blank))
     (λ h. q)
@@ -276,9 +276,9 @@ written_suits x col c false false false true h k = tt
 written_suits x col c false false false false h k = tt
 
 pub written_cells : (rows cols row col : ℕ) (cells : List Glyph) (x : Glyph) → AreCells rows cols cells → row < rows → IsShown x
-    → AreCells rows cols (moved rows cols cells (in_row row (written x col)))
+    → AreCells rows cols (mapped_cells rows cols cells (in_row row (writing_source x col)))
 written_cells rows cols row col cells x are row_in shown =
-    row_cells rows cols row cells (written x col) are row_in
+    row_cells rows cols row cells (writing_source x col) are row_in
     (λ c q.
     either (IsPlacedIn cols) (eqb c col) (RowSource.Fresh x)
     (cond (is_wide x && eqb c (col + 1)) (RowSource.Fresh (right_of x)) (RowSource.Column c))
@@ -378,7 +378,7 @@ blank_cells rows cols = same_cells rows cols blank is_wide-blank refl blank_show
 
 -- ---- another size
 
-pub sized_cells : (rows cols off : ℕ) (v : Rows) → AreCells v.rows v.cols v.cells → AreCells rows cols (sized rows cols off v).cells
+pub sized_cells : (rows cols off : ℕ) (v : Rows) → AreCells v.rows v.cols v.cells → AreCells rows cols (sized_rows rows cols off v).cells
 sized_cells rows cols off v are =
     plain_cells v.rows v.cols rows cols v.cells (kept_places v.rows v.cols off) are
     (λ r c p q.

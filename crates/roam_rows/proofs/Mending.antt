@@ -4,7 +4,7 @@ use Rattle.std.proofs.lemmas.Bool.{false≢true}
 use Rattle.std.proofs.lemmas.Grind.{common_steps}
 use Rattle.roam_cells.specs.Width.{width-space}
 use Rattle.roam_cells.specs.Glyph.{Glyph, is_wide, is_right_half, is_wide_text, is_empty_text, space_in, blank}
-use Rattle.roam_rows.specs.Row.{mended}
+use Rattle.roam_rows.specs.Row.{mended_glyph}
 
 kept : {X : Type 0} (w z a b : Bool) (s x : X) → (w ≡ true → a ≡ true) → (z ≡ true → b ≡ true) → cond (w && not a) s (cond (z && not b) s x) ≡ x
 kept false false a b s x h k = refl
@@ -17,13 +17,13 @@ kept true true true false s x h k = absurd (false≢true (k refl))
 kept true true false b s x h k = absurd (false≢true (h refl))
 
 -- a cell stays where a wide one has its right half and a right half its wide cell
-pub mended_same : (x : Glyph) (a b : Bool) → (is_wide x ≡ true → a ≡ true) → (is_right_half x ≡ true → b ≡ true) → mended x a b ≡ x
+pub mended_same : (x : Glyph) (a b : Bool) → (is_wide x ≡ true → a ≡ true) → (is_right_half x ≡ true → b ≡ true) → mended_glyph x a b ≡ x
 mended_same x a b h k = kept (is_wide x) (is_right_half x) a b (space_in x) x h k
 
 pub is_wide-blank : is_wide blank ≡ false
 is_wide-blank = ap (λ w. eqb w 2) width-space
 
-pub mended-blank : (a b : Bool) → mended blank a b ≡ blank
+pub mended-blank : (a b : Bool) → mended_glyph blank a b ≡ blank
 mended-blank a b = mended_same blank a b (λ h. absurd (false≢true (sym is_wide-blank ∙ h))) (λ h. absurd (false≢true h))
 
 pub is_wide-space_in : (x : Glyph) → is_wide (space_in x) ≡ false
@@ -48,10 +48,10 @@ picked f false true a false s x h k = absurd (false≢true (sym h ∙ k))
 picked f false false a b s x h k = (refl, λ p. absurd (false≢true p), λ p. absurd (false≢true p))
 
 -- what is still half of a wide character was so before, and has its other half
-pub still_wide : (x : Glyph) (a b : Bool) → is_wide (mended x a b) ≡ true → (mended x a b ≡ x) × (is_wide x ≡ true → a ≡ true) × (is_right_half x ≡ true → b ≡ true)
+pub still_wide : (x : Glyph) (a b : Bool) → is_wide (mended_glyph x a b) ≡ true → (mended_glyph x a b ≡ x) × (is_wide x ≡ true → a ≡ true) × (is_right_half x ≡ true → b ≡ true)
 still_wide x a b h = picked is_wide (is_wide x) (is_right_half x) a b (space_in x) x (is_wide-space_in x) h
 
-pub still_half : (x : Glyph) (a b : Bool) → is_right_half (mended x a b) ≡ true → (mended x a b ≡ x) × (is_wide x ≡ true → a ≡ true) × (is_right_half x ≡ true → b ≡ true)
+pub still_half : (x : Glyph) (a b : Bool) → is_right_half (mended_glyph x a b) ≡ true → (mended_glyph x a b ≡ x) × (is_wide x ≡ true → a ≡ true) × (is_right_half x ≡ true → b ≡ true)
 still_half x a b h = picked is_right_half (is_wide x) (is_right_half x) a b (space_in x) x refl h
 
 pub and_left : (a b : Bool) → (a && b) ≡ true → a ≡ true
@@ -71,15 +71,15 @@ means-ltb a b h = grind (arith, common_steps)
 pub both : (a b : Bool) → a ≡ true → b ≡ true → (a && b) ≡ true
 both a b h k = ap (λ x. x && b) h ∙ k
 
-pub mended_space : (x : Glyph) (d e : Bool) → mended (space_in x) d e ≡ space_in x
+pub mended_space : (x : Glyph) (d e : Bool) → mended_glyph (space_in x) d e ≡ space_in x
 mended_space x d e = mended_same (space_in x) d e (λ h. absurd (false≢true (sym (is_wide-space_in x) ∙ h))) (λ h. absurd (false≢true h))
 
-by_tests : (x : Glyph) (w z d e : Bool) → is_wide x ≡ w → is_right_half x ≡ z → mended x d e ≡ cond (w && not d) (space_in x) (cond (z && not e) (space_in x) x)
+by_tests : (x : Glyph) (w z d e : Bool) → is_wide x ≡ w → is_right_half x ≡ z → mended_glyph x d e ≡ cond (w && not d) (space_in x) (cond (z && not e) (space_in x) x)
 by_tests x w z d e p q =
     ap (λ v. cond (v && not d) (space_in x) (cond (is_right_half x && not e) (space_in x) x)) p ∙ ap (λ v. cond (w && not d) (space_in x) (cond (v && not e) (space_in x) x)) q
 
 compose : (x : Glyph) (w z a b d e : Bool) → is_wide x ≡ w → is_right_half x ≡ z
-    → mended (cond (w && not a) (space_in x) (cond (z && not b) (space_in x) x)) d e ≡ cond (w && not (a && d)) (space_in x) (cond (z && not (b && e)) (space_in x) x)
+    → mended_glyph (cond (w && not a) (space_in x) (cond (z && not b) (space_in x) x)) d e ≡ cond (w && not (a && d)) (space_in x) (cond (z && not (b && e)) (space_in x) x)
 compose x true z false b d e p q = mended_space x d e
 compose x true false true b d e p q = by_tests x true false d e p q
 compose x true true true b d e p q = absurd (false≢true (sym (wide_not_half x p) ∙ q))
@@ -88,7 +88,7 @@ compose x false true a true d e p q = by_tests x false true d e p q
 compose x false false a b d e p q = by_tests x false false d e p q
 
 -- a second mending adds to the first
-pub mended-mended : (x : Glyph) (a b d e : Bool) → mended (mended x a b) d e ≡ mended x (a && d) (b && e)
+pub mended-mended : (x : Glyph) (a b d e : Bool) → mended_glyph (mended_glyph x a b) d e ≡ mended_glyph x (a && d) (b && e)
 mended-mended x a b d e = compose x (is_wide x) (is_right_half x) a b d e refl refl
 
 agree : {X : Type 0} (w z a b d e : Bool) (s x : X) → (w ≡ true → a ≡ d) → (z ≡ true → b ≡ e)
@@ -99,17 +99,17 @@ agree false true a b d e s x h k = ap (λ v. cond (not v) s x) (k refl)
 agree false false a b d e s x h k = refl
 
 -- mending asks of a wide cell for its right side alone, and of a right half for its left
-pub mended_agree : (x : Glyph) (a b d e : Bool) → (is_wide x ≡ true → a ≡ d) → (is_right_half x ≡ true → b ≡ e) → mended x a b ≡ mended x d e
+pub mended_agree : (x : Glyph) (a b d e : Bool) → (is_wide x ≡ true → a ≡ d) → (is_right_half x ≡ true → b ≡ e) → mended_glyph x a b ≡ mended_glyph x d e
 mended_agree x a b d e h k = agree (is_wide x) (is_right_half x) a b d e (space_in x) x h k
 
 not_wide : (b : Bool) → (b ≡ true → b ≡ false) → b ≡ false
 not_wide true h = h refl
 not_wide false h = refl
 
-pub by_right : (x : Glyph) (a : Bool) → is_right_half x ≡ true → mended x a false ≡ space_in x
+pub by_right : (x : Glyph) (a : Bool) → is_right_half x ≡ true → mended_glyph x a false ≡ space_in x
 by_right x a h =
     let narrow : is_wide x ≡ false = not_wide (is_wide x) (λ w. absurd (false≢true (sym (wide_not_half x w) ∙ h))) in
     ap (λ w. cond (w && not a) (space_in x) (cond (is_right_half x && true) (space_in x) x)) narrow ∙ ap (λ w. cond (w && true) (space_in x) x) h
 
-pub by_left : (x : Glyph) (b : Bool) → is_wide x ≡ true → mended x false b ≡ space_in x
+pub by_left : (x : Glyph) (b : Bool) → is_wide x ≡ true → mended_glyph x false b ≡ space_in x
 by_left x b h = ap (λ w. cond (w && true) (space_in x) (cond (is_right_half x && not b) (space_in x) x)) h

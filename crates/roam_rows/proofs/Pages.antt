@@ -7,8 +7,8 @@ use Rattle.roam_cells.specs.Glyph.{Glyph, blank}
 use Rattle.roam_cells.specs.Place.{cell_at, glyph_at, AreWhole, row_of}
 use Rattle.roam_cells.proofs.Places.{get_or-table, table_is}
 use Rattle.roam_rows.specs.Row.{RowSource}
-use Rattle.roam_rows.specs.Places.{Source, From, Fresh, moved, moved_at, at_row, in_row, are_joined}
-use Rattle.roam_rows.specs.Rows.{Rows, AreRows, mapped, with_row}
+use Rattle.roam_rows.specs.Places.{Source, From, Fresh, mapped_cells, moved_at, at_row, in_row, are_joined}
+use Rattle.roam_rows.specs.Rows.{Rows, AreRows, mapped_rows, with_row}
 use Rattle.roam_rows.specs.Erasing.{unguarded_blanked, rows_unguarded_blanked}
 use Rattle.roam_rows.specs.Vertical.{IsSameShape}
 use Rattle.roam_rows.proofs.Mending.{mended_same}
@@ -106,13 +106,13 @@ erased_more from r old v w shape next r_in low here' others' inside outside =
 pub erased_rows : (from to : ℕ) (v w : Rows) → AreRows v → AreRows w → IsSameShape v w
     → ((r c : ℕ) → from ≤ r → r < to → r < v.rows → c < v.cols → cell_at v.cols w.cells r c ≡ cond (cell_at v.cols v.cells r c).guarded (cell_at v.cols v.cells r c) blank)
     → ((r c : ℕ) → (r < from) ⊎ (to ≤ r) → r < v.rows → c < v.cols → cell_at v.cols w.cells r c ≡ cell_at v.cols v.cells r c)
-    → w ≡ mapped (rows_unguarded_blanked v.cols v.cells from to) v
+    → w ≡ mapped_rows (rows_unguarded_blanked v.cols v.cells from to) v
 erased_rows from to v w h k s inside outside =
     let source = rows_unguarded_blanked v.cols v.cells from to in
     let size : length w.cells ≡ v.rows * v.cols = k.size ∙ ap (λ j. j * w.cols) s.rows ∙ ap (λ j. v.rows * j) s.cols in
     let out : (r c : ℕ) → (r < from) ⊎ (to ≤ r) → source r c ≡ From r c =
     λ r c p. ap (λ b. cond b (Fresh blank) (From r c)) (out_test from to r (not (cell_at v.cols v.cells r c).guarded) p) in
-    rows_are w v.rows v.cols v.first (moved v.rows v.cols v.cells source) s.rows s.cols s.first
+    rows_are w v.rows v.cols v.first (mapped_cells v.rows v.cols v.cells source) s.rows s.cols s.first
     (table_is v.rows v.cols (moved_at v.cols v.cells source) w.cells size (λ r c p q.
     elim (cases_lt r from) [
       | inl above ↦ outside r c (inl above) p q ∙ sym (row_stays v.rows v.cols v.cells h.whole source r c r p q (λ d. out r d (inl above)))

@@ -4,7 +4,7 @@ use Rattle.std.proofs.lemmas.Bool.{false≢true, cases_lt, cases_eq}
 use Rattle.std.proofs.lemmas.Grind.{common_steps}
 use Rattle.roam_cells.specs.Glyph.{Glyph, is_wide, is_right_half, space_in, blank}
 use Rattle.roam_cells.specs.Place.{glyph_at, IsWholeRow}
-use Rattle.roam_rows.specs.Row.{mended}
+use Rattle.roam_rows.specs.Row.{mended_glyph}
 use Rattle.roam_rows.specs.Halves.{AreParted, cut_at, cut_twice, cut_unguarded}
 use Rattle.roam_rows.proofs.Mending.{mended_same, mended-mended, by_left, by_right}
 
@@ -45,7 +45,7 @@ module _ (col : ℕ) (old : List Glyph) (right left : Glyph) where
               | inl e ↦
                   ap (λ k. get_or (set one col (space_in right)) k blank) e ∙ get_or-set_same one col (space_in right) blank (omega (arith, length-set old (col - 1) (space_in left)))
                   ∙ ap space_in (right_is ∙ ap (glyph_at old) (sym e))
-                  ∙ sym (ap (λ b. mended x (not (cut_at col (c + 1))) (not b)) (hit col c e) ∙ by_right x (not (cut_at col (c + 1))) (ap (λ k. is_right_half (glyph_at old k)) e ∙ half_at))
+                  ∙ sym (ap (λ b. mended_glyph x (not (cut_at col (c + 1))) (not b)) (hit col c e) ∙ by_right x (not (cut_at col (c + 1))) (ap (λ k. is_right_half (glyph_at old k)) e ∙ half_at))
               | inr other ↦
                   let moved_on : get_or (set one col (space_in right)) c blank ≡ get_or one c blank = get_or-set_other one col c (space_in right) blank other in
                   elim (cases_eq (c + 1) col) [
@@ -53,7 +53,7 @@ module _ (col : ℕ) (old : List Glyph) (right left : Glyph) where
                         let at : c ≡ col - 1 = omega arith in
                         moved_on ∙ ap (λ k. get_or one k blank) at ∙ get_or-set_same old (col - 1) (space_in left) blank (omega arith)
                         ∙ ap space_in (left_is ∙ ap (glyph_at old) (sym at))
-                        ∙ sym (ap (λ b. mended x (not b) (not (cut_at col c))) (hit col (c + 1) e) ∙ by_left x (not (cut_at col c)) (ap (λ k. is_wide (glyph_at old k)) at ∙ wide_at))
+                        ∙ sym (ap (λ b. mended_glyph x (not b) (not (cut_at col c))) (hit col (c + 1) e) ∙ by_left x (not (cut_at col c)) (ap (λ k. is_wide (glyph_at old k)) at ∙ wide_at))
                     | inr apart ↦
                         moved_on ∙ get_or-set_other old (col - 1) c (space_in left) blank (λ h. apart (omega (arith, h)))
                         ∙ sym (mended_same x (not (cut_at col (c + 1))) (not (cut_at col c)) (λ w. ap not (miss col (c + 1) apart)) (λ w. ap not (miss col c other)))
@@ -87,17 +87,17 @@ part_all one_cut other_cut old mid new one two = record {
   len = two.len ∙ one.len;
   each = λ c q.
       let x = glyph_at old c in
-      two.each c (omega (arith, one.len)) ∙ ap (λ y. mended y (not (other_cut (c + 1))) (not (other_cut c))) (one.each c q)
+      two.each c (omega (arith, one.len)) ∙ ap (λ y. mended_glyph y (not (other_cut (c + 1))) (not (other_cut c))) (one.each c q)
       ∙ mended-mended x (not (one_cut (c + 1))) (not (one_cut c)) (not (other_cut (c + 1))) (not (other_cut c))
-      ∙ ap (λ b. mended x b (not (one_cut c) && not (other_cut c))) (not_or (one_cut (c + 1)) (other_cut (c + 1)))
-      ∙ ap (λ b. mended x (not (one_cut (c + 1) || other_cut (c + 1))) b) (not_or (one_cut c) (other_cut c));
+      ∙ ap (λ b. mended_glyph x b (not (one_cut c) && not (other_cut c))) (not_or (one_cut (c + 1)) (other_cut (c + 1)))
+      ∙ ap (λ b. mended_glyph x (not (one_cut (c + 1) || other_cut (c + 1))) b) (not_or (one_cut c) (other_cut c));
 }
 
 pub part_both : (col last : ℕ) (old mid new : List Glyph) → AreParted (cut_at col) old mid → AreParted (cut_at last) mid new → AreParted (cut_twice col last) old new
 part_both col last = part_all (cut_at col) (cut_at last)
 
 -- mending keeps the guard
-guard_kept : (x : Glyph) (a b : Bool) → (mended x a b).guarded ≡ x.guarded
+guard_kept : (x : Glyph) (a b : Bool) → (mended_glyph x a b).guarded ≡ x.guarded
 guard_kept x a b = guard_by x (is_wide x && not a) (is_right_half x && not b)
 
 pub guards_same : (cut : ℕ → Bool) (old new : List Glyph) → AreParted cut old new → (c : ℕ) → (glyph_at new c).guarded ≡ (glyph_at old c).guarded
@@ -111,7 +111,7 @@ cuts_same : (one_cut other_cut : ℕ → Bool) (old new : List Glyph) → ((c : 
 cuts_same one_cut other_cut old new same parted = record {
   len = parted.len;
   each = λ c q.
-      parted.each c q ∙ ap (λ b. mended (glyph_at old c) (not b) (not (one_cut c))) (same (c + 1)) ∙ ap (λ b. mended (glyph_at old c) (not (other_cut (c + 1))) (not b)) (same c);
+      parted.each c q ∙ ap (λ b. mended_glyph (glyph_at old c) (not b) (not (one_cut c))) (same (c + 1)) ∙ ap (λ b. mended_glyph (glyph_at old c) (not (other_cut (c + 1))) (not b)) (same c);
 }
 
 -- the boundaries before two columns are cut unless the cells there are guarded

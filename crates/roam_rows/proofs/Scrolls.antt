@@ -3,9 +3,9 @@ use Rattle.std.proofs.Common.{◌≡◌, ℕ, ◌+◌, ◌-◌, ◌*◌, ◌<◌
 use Rattle.std.proofs.lemmas.Bool.{cases_eq}
 use Rattle.roam_cells.specs.Glyph.{Glyph}
 use Rattle.roam_cells.specs.Place.{cell_at}
-use Rattle.roam_rows.specs.Places.{moved}
+use Rattle.roam_rows.specs.Places.{mapped_cells}
 use Rattle.roam_rows.specs.Turned.{brought_back}
-use Rattle.roam_rows.specs.Rows.{Rows, AreRows, mapped}
+use Rattle.roam_rows.specs.Rows.{Rows, AreRows, mapped_rows}
 use Rattle.roam_rows.specs.Erasing.{rows_blanked}
 use Rattle.roam_rows.specs.Scrolling.{up, down, all_up, all_down, turned_up, turned_down}
 use Rattle.roam_rows.specs.Vertical.{AreBlanked, AreLifted, AreLowered, IsSameShape, AreTurned, IsCopied}
@@ -37,7 +37,7 @@ all_up_is n m v w x h k m_is t s blanked' =
     let blanked = rw (t.rows, t.cols) at blanked' in
     let few : m ≤ v.rows = omega arith in
     let size : length x.cells ≡ v.rows * v.cols = k.size ∙ ap (λ j. j * x.cols) (s.rows ∙ t.rows) ∙ ap (λ j. v.rows * j) (s.cols ∙ t.cols) in
-    rows_are x v.rows v.cols (turned_up v.rows n v.first) (moved v.rows v.cols v.cells (up 0 (v.rows - 1) n)) (s.rows ∙ t.rows) (s.cols ∙ t.cols)
+    rows_are x v.rows v.cols (turned_up v.rows n v.first) (mapped_cells v.rows v.cols v.cells (up 0 (v.rows - 1) n)) (s.rows ∙ t.rows) (s.cols ∙ t.cols)
     (s.first ∙ t.first ∙ ap (λ j. brought_back v.rows (v.first + j)) m_is)
     (up_is v.rows v.cols 0 (v.rows - 1) n m v.cells x.cells h.whole size (omega arith) (omega (arith, h.first_in)) (omega (arith, h.first_in))
     (λ r c p q. absurd (omega arith)) (λ r c p q j. absurd (omega arith))
@@ -46,11 +46,11 @@ all_up_is n m v w x h k m_is t s blanked' =
 
 -- rows between margins went up
 pub region_up_is : (top bottom n m : ℕ) (v w x : Rows) → AreRows v → AreRows x → top ≤ bottom → bottom < v.rows → m ≡ min n (bottom + 1 - top) → IsSameShape v w → IsSameShape w x
-    → AreLifted v.rows v.cols top (bottom + 1 - m) m v.cells w.cells → AreBlanked w.rows w.cols (bottom + 1 - m) (bottom + 1) w.cells x.cells → x ≡ mapped (up top bottom n) v
+    → AreLifted v.rows v.cols top (bottom + 1 - m) m v.cells w.cells → AreBlanked w.rows w.cols (bottom + 1 - m) (bottom + 1) w.cells x.cells → x ≡ mapped_rows (up top bottom n) v
 region_up_is top bottom n m v w x h k ordered low m_is t s lifted blanked' =
     let blanked = rw (t.rows, t.cols) at blanked' in
     let size : length x.cells ≡ v.rows * v.cols = k.size ∙ ap (λ j. j * x.cols) (s.rows ∙ t.rows) ∙ ap (λ j. v.rows * j) (s.cols ∙ t.cols) in
-    rows_are x v.rows v.cols v.first (moved v.rows v.cols v.cells (up top bottom n)) (s.rows ∙ t.rows) (s.cols ∙ t.cols) (s.first ∙ t.first)
+    rows_are x v.rows v.cols v.first (mapped_cells v.rows v.cols v.cells (up top bottom n)) (s.rows ∙ t.rows) (s.cols ∙ t.cols) (s.first ∙ t.first)
     (up_is v.rows v.cols top bottom n m v.cells x.cells h.whole size ordered low m_is
     (λ r c p q. blanked.above r c (omega arith) q ∙ lifted.above r c p q)
     (λ r c p q j. blanked.below r c (omega arith) q j ∙ lifted.below r c (omega arith) q j)
@@ -64,7 +64,7 @@ all_down_is n m v w x h k m_is t s blanked' =
     let blanked = rw (t.rows, t.cols) at blanked' in
     let few : m ≤ v.rows = omega arith in
     let size : length x.cells ≡ v.rows * v.cols = k.size ∙ ap (λ j. j * x.cols) (s.rows ∙ t.rows) ∙ ap (λ j. v.rows * j) (s.cols ∙ t.cols) in
-    rows_are x v.rows v.cols (turned_down v.rows n v.first) (moved v.rows v.cols v.cells (down 0 (v.rows - 1) n)) (s.rows ∙ t.rows) (s.cols ∙ t.cols)
+    rows_are x v.rows v.cols (turned_down v.rows n v.first) (mapped_cells v.rows v.cols v.cells (down 0 (v.rows - 1) n)) (s.rows ∙ t.rows) (s.cols ∙ t.cols)
     (s.first ∙ t.first ∙ ap (λ j. brought_back v.rows (v.first + (v.rows - j))) m_is)
     (down_is v.rows v.cols 0 (v.rows - 1) n m v.cells x.cells h.whole size (omega arith) (omega (arith, h.first_in)) (omega (arith, h.first_in))
     (λ r c p q. absurd (omega arith)) (λ r c p q j. absurd (omega arith))
@@ -75,11 +75,11 @@ all_down_is n m v w x h k m_is t s blanked' =
 
 -- rows between margins went down
 pub region_down_is : (top bottom n m : ℕ) (v w x : Rows) → AreRows v → AreRows x → top ≤ bottom → bottom < v.rows → m ≡ min n (bottom + 1 - top) → IsSameShape v w → IsSameShape w x
-    → AreLowered v.rows v.cols (top + m) (bottom + 1) m v.cells w.cells → AreBlanked w.rows w.cols top (top + m) w.cells x.cells → x ≡ mapped (down top bottom n) v
+    → AreLowered v.rows v.cols (top + m) (bottom + 1) m v.cells w.cells → AreBlanked w.rows w.cols top (top + m) w.cells x.cells → x ≡ mapped_rows (down top bottom n) v
 region_down_is top bottom n m v w x h k ordered low m_is t s lowered blanked' =
     let blanked = rw (t.rows, t.cols) at blanked' in
     let size : length x.cells ≡ v.rows * v.cols = k.size ∙ ap (λ j. j * x.cols) (s.rows ∙ t.rows) ∙ ap (λ j. v.rows * j) (s.cols ∙ t.cols) in
-    rows_are x v.rows v.cols v.first (moved v.rows v.cols v.cells (down top bottom n)) (s.rows ∙ t.rows) (s.cols ∙ t.cols) (s.first ∙ t.first)
+    rows_are x v.rows v.cols v.first (mapped_cells v.rows v.cols v.cells (down top bottom n)) (s.rows ∙ t.rows) (s.cols ∙ t.cols) (s.first ∙ t.first)
     (down_is v.rows v.cols top bottom n m v.cells x.cells h.whole size ordered low m_is
     (λ r c p q. blanked.above r c p q ∙ lowered.above r c (omega arith) q)
     (λ r c p q j. blanked.below r c (omega arith) q j ∙ lowered.below r c (omega arith) q j)
@@ -87,10 +87,10 @@ region_down_is top bottom n m v w x h k ordered low m_is t s lowered blanked' =
     (λ r c p q j i. blanked.inside r c p j i))
 
 -- rows became blank
-pub cleared_is : (from to : ℕ) (v w : Rows) → AreRows v → AreRows w → IsSameShape v w → AreBlanked v.rows v.cols from to v.cells w.cells → w ≡ mapped (rows_blanked from to) v
+pub cleared_is : (from to : ℕ) (v w : Rows) → AreRows v → AreRows w → IsSameShape v w → AreBlanked v.rows v.cols from to v.cells w.cells → w ≡ mapped_rows (rows_blanked from to) v
 cleared_is from to v w h k s blanked =
     let size : length w.cells ≡ v.rows * v.cols = k.size ∙ ap (λ j. j * w.cols) s.rows ∙ ap (λ j. v.rows * j) s.cols in
-    rows_are w v.rows v.cols v.first (moved v.rows v.cols v.cells (rows_blanked from to)) s.rows s.cols s.first
+    rows_are w v.rows v.cols v.first (mapped_cells v.rows v.cols v.cells (rows_blanked from to)) s.rows s.cols s.first
     (rows_blanked_is v.rows v.cols from to v.cells w.cells h.whole size blanked)
 
 -- one more row is lowered

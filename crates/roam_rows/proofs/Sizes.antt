@@ -7,10 +7,10 @@ use Rattle.std.proofs.lemmas.Grind.{common_steps}
 use Rattle.roam_cells.specs.Glyph.{Glyph, is_wide, is_right_half, right_of, space_in, blank}
 use Rattle.roam_cells.specs.Place.{cell_at, glyph_at, table, AreWhole, IsWholeRow, row_of}
 use Rattle.roam_cells.proofs.Places.{table_is}
-use Rattle.roam_rows.specs.Row.{mended}
-use Rattle.roam_rows.specs.Places.{Source, From, Fresh, taken, are_joined, recast_at}
+use Rattle.roam_rows.specs.Row.{mended_glyph}
+use Rattle.roam_rows.specs.Places.{Source, From, Fresh, glyph_of_source, are_joined, recast_at}
 use Rattle.roam_rows.specs.Rows.{Rows, AreRows}
-use Rattle.roam_rows.specs.Sizing.{kept_places, sized}
+use Rattle.roam_rows.specs.Sizing.{kept_places, sized_rows}
 use Rattle.roam_rows.specs.Vertical.{IsTaken, cut_at_edge}
 use Rattle.roam_rows.proofs.Mending.{mended_same, mended_agree, mended-blank, is_wide-blank, by_left, means-ltb}
 use Rattle.roam_rows.proofs.Columns.{whole_row_of}
@@ -50,7 +50,7 @@ module _ (S row M : List Glyph) (k : ℕ) (k_is : k ≡ min (length S) (length r
             get_or-append_right (take k S) (drop k row) k c blank front_long high ∙ get_or-drop k row (c - k) blank ∙ ap (glyph_at row) back ∙ empty c q ∙ sym (past_end S c (omega arith))
       ]
 
-  pub uncut_each : (0 < k → is_wide (glyph_at M (k - 1)) ≡ false) → (c : ℕ) → c < length row → glyph_at M c ≡ mended (glyph_at S c) (ltb (c + 1) (length row)) true
+  pub uncut_each : (0 < k → is_wide (glyph_at M (k - 1)) ≡ false) → (c : ℕ) → c < length row → glyph_at M c ≡ mended_glyph (glyph_at S c) (ltb (c + 1) (length row)) true
   uncut_each fine c q =
       mid_at c q
       ∙ sym (mended_same (glyph_at S c) (ltb (c + 1) (length row)) true
@@ -66,7 +66,7 @@ module _ (S row M : List Glyph) (k : ℕ) (k_is : k ≡ min (length S) (length r
       (λ h. refl))
 
   pub cut_each : (last : Glyph) → 0 < k → last ≡ glyph_at M (k - 1) → is_wide last ≡ true → (c : ℕ) → c < length row
-      → glyph_at (set M (k - 1) (space_in last)) c ≡ mended (glyph_at S c) (ltb (c + 1) (length row)) true
+      → glyph_at (set M (k - 1) (space_in last)) c ≡ mended_glyph (glyph_at S c) (ltb (c + 1) (length row)) true
   cut_each last some last_is wide c q =
       let at : k - 1 < length row = omega arith in
       let w' : is_wide (glyph_at S (k - 1)) ≡ true = ap is_wide (sym (last_is ∙ mid_at (k - 1) at)) ∙ wide in
@@ -77,13 +77,13 @@ module _ (S row M : List Glyph) (k : ℕ) (k_is : k ≡ min (length S) (length r
             let next : c + 1 ≡ length row = omega arith in
             ap (glyph_at (set M (k - 1) (space_in last))) e ∙ get_or-set_same M (k - 1) (space_in last) blank (omega (arith, mid_long))
             ∙ ap space_in (last_is ∙ mid_at (k - 1) at ∙ ap (glyph_at S) (sym e))
-            ∙ sym (ap (λ b. mended (glyph_at S c) b true) (ap (λ j. ltb j (length row)) next ∙ not_less (length row)) ∙ by_left (glyph_at S c) true (ap (λ j. is_wide (glyph_at S j)) e ∙ w'))
+            ∙ sym (ap (λ b. mended_glyph (glyph_at S c) b true) (ap (λ j. ltb j (length row)) next ∙ not_less (length row)) ∙ by_left (glyph_at S c) true (ap (λ j. is_wide (glyph_at S j)) e ∙ w'))
         | inr ne ↦
             get_or-set_other M (k - 1) c (space_in last) blank ne ∙ mid_at c q
             ∙ sym (mended_same (glyph_at S c) (ltb (c + 1) (length row)) true (λ w. means-ltb (c + 1) (length row) (omega arith)) (λ h. refl))
       ]
 
-  pub cut_whole : (Y : List Glyph) → length Y ≡ length row → ((c : ℕ) → c < length row → glyph_at Y c ≡ mended (glyph_at S c) (ltb (c + 1) (length row)) true) → IsWholeRow Y
+  pub cut_whole : (Y : List Glyph) → length Y ≡ length row → ((c : ℕ) → c < length row → glyph_at Y c ≡ mended_glyph (glyph_at S c) (ltb (c + 1) (length row)) true) → IsWholeRow Y
   cut_whole Y len each =
       whole_row_of (length row) (glyph_at S) (λ c. true) Y len
       (λ c q. each c q ∙ mended_agree (glyph_at S c) (ltb (c + 1) (length row)) true (ltb (c + 1) (length row) && true) (ltb 0 c && true)
@@ -116,17 +116,17 @@ module _ (rows cols i : ℕ) (cells front : List Glyph) (whole : AreWhole rows c
         (pair.0, ap is_wide (sym (front_at (c - 1) (omega arith))) ∙ pair.1);
   }
 
-  cut_by : (new_cols c : ℕ) (b : Bool) → ltb c cols ≡ b → mended (glyph_at front c) (ltb (c + 1) new_cols) true ≡ cond b (mended (cell_at cols cells i c) (ltb (c + 1) new_cols) true) blank
-  cut_by new_cols c true h = let q : c < cols = grind (arith, common_steps) in ap (λ x. mended x (ltb (c + 1) new_cols) true) (sym (front_at c q))
+  cut_by : (new_cols c : ℕ) (b : Bool) → ltb c cols ≡ b → mended_glyph (glyph_at front c) (ltb (c + 1) new_cols) true ≡ cond b (mended_glyph (cell_at cols cells i c) (ltb (c + 1) new_cols) true) blank
+  cut_by new_cols c true h = let q : c < cols = grind (arith, common_steps) in ap (λ x. mended_glyph x (ltb (c + 1) new_cols) true) (sym (front_at c q))
   cut_by new_cols c false h =
       let q : cols ≤ c = grind (arith, common_steps) in
-      ap (λ x. mended x (ltb (c + 1) new_cols) true) (past_end front c (omega arith)) ∙ mended-blank (ltb (c + 1) new_cols) true
+      ap (λ x. mended_glyph x (ltb (c + 1) new_cols) true) (past_end front c (omega arith)) ∙ mended-blank (ltb (c + 1) new_cols) true
 
-  pub cut_here : (new_cols c : ℕ) → mended (glyph_at front c) (ltb (c + 1) new_cols) true ≡ cut_at_edge new_cols cols cells i c
+  pub cut_here : (new_cols c : ℕ) → mended_glyph (glyph_at front c) (ltb (c + 1) new_cols) true ≡ cut_at_edge new_cols cols cells i c
   cut_here new_cols c = cut_by new_cols c (ltb c cols) refl
 
-  pub cut_past : (new_cols c : ℕ) → length front ≤ c → mended (glyph_at front c) (ltb (c + 1) new_cols) true ≡ blank
-  cut_past new_cols c p = ap (λ x. mended x (ltb (c + 1) new_cols) true) (past_end front c p) ∙ mended-blank (ltb (c + 1) new_cols) true
+  pub cut_past : (new_cols c : ℕ) → length front ≤ c → mended_glyph (glyph_at front c) (ltb (c + 1) new_cols) true ≡ blank
+  cut_past new_cols c p = ap (λ x. mended_glyph x (ltb (c + 1) new_cols) true) (past_end front c p) ∙ mended-blank (ltb (c + 1) new_cols) true
 
 keeps : (rows cols off r c : ℕ) → r + off < rows → c < cols → kept_places rows cols off r c ≡ From (r + off) c
 keeps rows cols off r c p q = grind (arith, common_steps)
@@ -143,16 +143,16 @@ joins_next s c d e = grind (arith, common_steps)
 -- what a place shows whose source is blank
 pub blank_there : (n cols : ℕ) (cells : List Glyph) (source : ℕ → ℕ → Source) (r c : ℕ) → source r c ≡ Fresh blank → recast_at n cols cells source r c ≡ blank
 blank_there n cols cells source r c e =
-    ap (λ x. mended (taken cols cells x) (ltb (c + 1) n && are_joined x (source r (c + 1))) (ltb 0 c && are_joined (source r (c - 1)) x)) e
+    ap (λ x. mended_glyph (glyph_of_source cols cells x) (ltb (c + 1) n && are_joined x (source r (c + 1))) (ltb 0 c && are_joined (source r (c - 1)) x)) e
     ∙ mended-blank (ltb (c + 1) n && are_joined (Fresh blank) (source r (c + 1))) (ltb 0 c && are_joined (source r (c - 1)) (Fresh blank))
 
 -- what a place shows that keeps its cell
 kept_there : (n rows cols off r c : ℕ) (cells : List Glyph) → AreWhole rows cols cells → r + off < rows → c < cols
-    → recast_at n cols cells (kept_places rows cols off) r c ≡ mended (cell_at cols cells (r + off) c) (ltb (c + 1) n) true
+    → recast_at n cols cells (kept_places rows cols off) r c ≡ mended_glyph (cell_at cols cells (r + off) c) (ltb (c + 1) n) true
 kept_there n rows cols off r c cells whole p q =
     let source = kept_places rows cols off in
     let s = r + off in
-    ap (λ x. mended (taken cols cells x) (ltb (c + 1) n && are_joined x (source r (c + 1))) (ltb 0 c && are_joined (source r (c - 1)) x)) (keeps rows cols off r c p q)
+    ap (λ x. mended_glyph (glyph_of_source cols cells x) (ltb (c + 1) n && are_joined x (source r (c + 1))) (ltb 0 c && are_joined (source r (c - 1)) x)) (keeps rows cols off r c p q)
     ∙ mended_agree (cell_at cols cells s c) (ltb (c + 1) n && are_joined (From s c) (source r (c + 1))) (ltb 0 c && are_joined (source r (c - 1)) (From s c)) (ltb (c + 1) n) true
     (λ w.
     let next : c + 1 < cols = ((whole s p c q).wide w).0 in
@@ -166,7 +166,7 @@ kept_there n rows cols off r c cells whole p q =
 pub sized_is : (v w : Rows) (rows cols off count : ℕ) → AreRows v → AreRows w → w.rows ≡ rows → w.cols ≡ cols → w.first ≡ 0 → count ≡ min (v.rows - off) rows
     → ((r c : ℕ) → r < count → c < cols → cell_at cols w.cells r c ≡ cut_at_edge cols v.cols v.cells (r + off) c)
     → ((r c : ℕ) → count ≤ r → r < rows → c < cols → cell_at cols w.cells r c ≡ blank)
-    → w ≡ sized rows cols off v
+    → w ≡ sized_rows rows cols off v
 sized_is v w rows cols off count h k rows_is cols_is first_is count_is taken_rows rest =
     let source = kept_places v.rows v.cols off in
     let size : length w.cells ≡ rows * cols = k.size ∙ ap (λ j. j * w.cols) rows_is ∙ ap (λ j. rows * j) cols_is in
@@ -178,11 +178,11 @@ sized_is v w rows cols off count h k rows_is cols_is first_is count_is taken_row
           taken_rows r c low q
           ∙ elim (cases_lt c v.cols) [
             | inl inside ↦
-                ap (λ b. cond b (mended (cell_at v.cols v.cells (r + off) c) (ltb (c + 1) cols) true) blank) (means-ltb c v.cols inside)
+                ap (λ b. cond b (mended_glyph (cell_at v.cols v.cells (r + off) c) (ltb (c + 1) cols) true) blank) (means-ltb c v.cols inside)
                 ∙ sym (kept_there cols v.rows v.cols off r c v.cells h.whole s_in inside)
             | inr past ↦
                 let no : ltb c v.cols ≡ false = grind (arith, common_steps) in
-                ap (λ b. cond b (mended (cell_at v.cols v.cells (r + off) c) (ltb (c + 1) cols) true) blank) no
+                ap (λ b. cond b (mended_glyph (cell_at v.cols v.cells (r + off) c) (ltb (c + 1) cols) true) blank) no
                 ∙ sym (blank_there cols v.cols v.cells source r c (comes_in v.rows v.cols off r c past))
           ]
       | inr high ↦ rest r c high p q ∙ sym (blank_there cols v.cols v.cells source r c (comes_below v.rows v.cols off r c (omega arith)))

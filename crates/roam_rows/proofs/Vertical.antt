@@ -5,8 +5,8 @@ use Rattle.std.proofs.lemmas.Grind.{common_steps}
 use Rattle.roam_cells.specs.Glyph.{Glyph, is_wide, is_right_half, right_of, blank}
 use Rattle.roam_cells.specs.Place.{cell_at, AreWhole}
 use Rattle.roam_cells.proofs.Places.{table_is}
-use Rattle.roam_rows.specs.Row.{mended}
-use Rattle.roam_rows.specs.Places.{Source, From, Fresh, taken, are_joined, moved, moved_at}
+use Rattle.roam_rows.specs.Row.{mended_glyph}
+use Rattle.roam_rows.specs.Places.{Source, From, Fresh, glyph_of_source, are_joined, mapped_cells, moved_at}
 use Rattle.roam_rows.specs.Turned.{IsTurned, in_order, brought_back}
 use Rattle.roam_rows.specs.Erasing.{rows_blanked}
 use Rattle.roam_rows.specs.Scrolling.{up, down}
@@ -17,7 +17,7 @@ use Rattle.roam_rows.proofs.Turning.{turned_at}
 -- what a place shows, by its source and those beside it
 abbrev pub shown : ℕ → List Glyph → ℕ → Source → Source → Source → Glyph
 shown cols cells c here next before =
-    mended (taken cols cells here) (ltb (c + 1) cols && are_joined here next) (ltb 0 c && are_joined before here)
+    mended_glyph (glyph_of_source cols cells here) (ltb (c + 1) cols && are_joined here next) (ltb 0 c && are_joined before here)
 
 pub shown_by : (cols : ℕ) (cells : List Glyph) (source : ℕ → ℕ → Source) (r c : ℕ) (here next before : Source)
     → source r c ≡ here → source r (c + 1) ≡ next → source r (c - 1) ≡ before → moved_at cols cells source r c ≡ shown cols cells c here next before
@@ -86,7 +86,7 @@ rows_stay : (from to r c : ℕ) → (r < from) ⊎ (to ≤ r) → rows_blanked f
 rows_stay from to r c p = grind (arith, common_steps)
 
 -- rows between two become blank
-pub rows_blanked_is : (rows cols from to : ℕ) (cells new : List Glyph) → AreWhole rows cols cells → length new ≡ rows * cols → AreBlanked rows cols from to cells new → new ≡ moved rows cols cells (rows_blanked from to)
+pub rows_blanked_is : (rows cols from to : ℕ) (cells new : List Glyph) → AreWhole rows cols cells → length new ≡ rows * cols → AreBlanked rows cols from to cells new → new ≡ mapped_cells rows cols cells (rows_blanked from to)
 rows_blanked_is rows cols from to cells new whole len blanked =
     let source = rows_blanked from to in
     table_is rows cols (moved_at cols cells source) new len (λ r c p q.
@@ -128,7 +128,7 @@ module _ (rows cols top bottom n m : ℕ) (cells new : List Glyph) (whole : AreW
     (below : (r c : ℕ) → bottom < r → r < rows → c < cols → cell_at cols new r c ≡ cell_at cols cells r c) where
   module _ (moves : (r c : ℕ) → top ≤ r → r + m ≤ bottom → c < cols → cell_at cols new r c ≡ cell_at cols cells (r + m) c)
       (fresh : (r c : ℕ) → top ≤ r → r ≤ bottom → bottom < r + m → c < cols → cell_at cols new r c ≡ blank) where
-    pub up_is : new ≡ moved rows cols cells (up top bottom n)
+    pub up_is : new ≡ mapped_cells rows cols cells (up top bottom n)
     up_is =
         let source = up top bottom n in
         table_is rows cols (moved_at cols cells source) new len (λ r c p q.
@@ -148,7 +148,7 @@ module _ (rows cols top bottom n m : ℕ) (cells new : List Glyph) (whole : AreW
 
   module _ (moves : (r c : ℕ) → top + m ≤ r → r ≤ bottom → c < cols → cell_at cols new r c ≡ cell_at cols cells (r - m) c)
       (fresh : (r c : ℕ) → top ≤ r → r ≤ bottom → r < top + m → c < cols → cell_at cols new r c ≡ blank) where
-    pub down_is : new ≡ moved rows cols cells (down top bottom n)
+    pub down_is : new ≡ mapped_cells rows cols cells (down top bottom n)
     down_is =
         let source = down top bottom n in
         table_is rows cols (moved_at cols cells source) new len (λ r c p q.

@@ -5,8 +5,8 @@ use Rattle.roam_rows.specs.Places.{From, in_row}
 use Rattle.roam_rows.specs.Places as places
 use Rattle.roam_rows.specs.Turned.{in_order}
 use Rattle.roam_rows.specs.Writing.{written_run}
-use Rattle.roam_rows.specs.Erasing.{blanked, rows_blanked}
-use Rattle.roam_rows.specs.Editing.{inserted, deleted}
+use Rattle.roam_rows.specs.Erasing.{erasure_source, rows_blanked}
+use Rattle.roam_rows.specs.Editing.{insertion_source, deletion_source}
 use Rattle.roam_rows.specs.Scrolling.{up, down, turned_up, turned_down}
 use Rattle.roam_rows.specs.Sizing.{kept_places}
 use Rattle.roam_cells.specs.Glyph.{Glyph, blank, default_style}
@@ -21,22 +21,22 @@ second_of_a_run = refl
 past_a_run : written_run (x ∷ blank ∷ []) 3 5 ≡ Column 5
 past_a_run = refl
 
-last_erased : blanked 2 5 4 ≡ Fresh blank
+last_erased : erasure_source 2 5 4 ≡ Fresh blank
 last_erased = refl
 
-first_left : blanked 2 5 5 ≡ Column 5
+first_left : erasure_source 2 5 5 ≡ Column 5
 first_left = refl
 
-moved_right : inserted 3 2 6 ≡ Column 4
+moved_right : insertion_source 3 2 6 ≡ Column 4
 moved_right = refl
 
-came_in : inserted 3 2 4 ≡ Fresh blank
+came_in : insertion_source 3 2 4 ≡ Fresh blank
 came_in = refl
 
-moved_left : deleted 8 2 3 4 ≡ Column 7
+moved_left : deletion_source 8 2 3 4 ≡ Column 7
 moved_left = refl
 
-came_in_at_the_edge : deleted 8 2 3 5 ≡ Fresh blank
+came_in_at_the_edge : deletion_source 8 2 3 5 ≡ Fresh blank
 came_in_at_the_edge = refl
 
 a_column_and_the_next : are_neighbours (Column 2) (Column 3) ≡ true
@@ -57,7 +57,7 @@ first_row_between_margins = refl
 blank_row : rows_blanked 1 3 2 7 ≡ places.Fresh blank
 blank_row = refl
 
-other_row : in_row 1 (blanked 0 8) 2 7 ≡ From 2 7
+other_row : in_row 1 (erasure_source 0 8) 2 7 ≡ From 2 7
 other_row = refl
 
 up_and_round : turned_up 3 2 2 ≡ 1

@@ -6,8 +6,8 @@ use Rattle.roam_rows.specs.Row.{RowSource}
 use Rattle.roam_rows.specs.Places.{Source}
 
 -- the columns from one on and before another become blank, guarded ones too (EL, ECMA-48 8.3.41; ECH, 8.3.38)
-abbrev pub blanked : ℕ → ℕ → ℕ → RowSource
-blanked from to c = if (nat_le from c && nat_lt c to) then RowSource.Fresh blank else RowSource.Column c
+abbrev pub erasure_source : ℕ → ℕ → ℕ → RowSource
+erasure_source from to c = if (nat_le from c && nat_lt c to) then RowSource.Fresh blank else RowSource.Column c
 
 -- those of these columns that aren't guarded become blank (DECSEL, VT220 Programmer Reference)
 abbrev pub unguarded_blanked : List Glyph → ℕ → ℕ → ℕ → RowSource

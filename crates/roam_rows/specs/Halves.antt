@@ -2,7 +2,7 @@
 use Rattle.std.specs.Prelude.{◌≡◌, ℕ, ◌+◌, ◌<◌, Bool, not, ◌&&◌, ◌||◌, ◌==◌, List, length}
 use Rattle.roam_cells.specs.Glyph.{Glyph}
 use Rattle.roam_cells.specs.Place.{glyph_at}
-use Rattle.roam_rows.specs.Row.{mended}
+use Rattle.roam_rows.specs.Row.{mended_glyph}
 
 -- the boundary before one column is cut
 abbrev pub cut_at : ℕ → ℕ → Bool
@@ -19,4 +19,4 @@ cut_unguarded row col c = cut_at col c && not (glyph_at row c).guarded
 -- halves on two sides of a boundary that is cut have become spaces in their own style and guard
 pub record AreParted (cut : ℕ → Bool) (old new : List Glyph) : Type 0 where
   pub len : length new ≡ length old
-  pub each : (c : ℕ) → c < length old → glyph_at new c ≡ mended (glyph_at old c) (not (cut (c + 1))) (not (cut c))
+  pub each : (c : ℕ) → c < length old → glyph_at new c ≡ mended_glyph (glyph_at old c) (not (cut (c + 1))) (not (cut c))

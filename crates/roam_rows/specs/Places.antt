@@ -2,7 +2,7 @@
 use Rattle.std.specs.Prelude.{ℕ, ◌+◌, ◌-◌, Bool, false, ◌&&◌, ◌==◌, nat_lt, List, if◌then◌else◌}
 use Rattle.roam_cells.specs.Glyph.{Glyph, is_wide, is_right_half}
 use Rattle.roam_cells.specs.Place.{cell_at, table}
-use Rattle.roam_rows.specs.Row.{RowSource, mended}
+use Rattle.roam_rows.specs.Row.{RowSource, mended_glyph}
 
 -- where a place of many rows takes its cell: from a row and a column, or a cell that is new there
 pub data Source : Type 0 where
@@ -10,9 +10,9 @@ pub data Source : Type 0 where
   Fresh : Glyph → Source
 
 -- what a source holds
-abbrev pub taken : ℕ → List Glyph → Source → Glyph
-taken cols cells (From r c) = cell_at cols cells r c
-taken cols cells (Fresh x) = x
+abbrev pub glyph_of_source : ℕ → List Glyph → Source → Glyph
+glyph_of_source cols cells (From r c) = cell_at cols cells r c
+glyph_of_source cols cells (Fresh x) = x
 
 -- whether two sources are a place and the next of its row, or a new wide cell and a new right half
 abbrev pub are_joined : Source → Source → Bool
@@ -24,7 +24,7 @@ are_joined (Fresh x) (Fresh y) = is_wide x && is_right_half y
 -- what a place of rows of a number of columns shows, where each place takes what the map says of cells in rows of another number, mended
 abbrev pub recast_at : ℕ → ℕ → List Glyph → (ℕ → ℕ → Source) → ℕ → ℕ → Glyph
 recast_at new_cols cols cells source r c =
-    mended (taken cols cells (source r c))
+    mended_glyph (glyph_of_source cols cells (source r c))
     (nat_lt (c + 1) new_cols && are_joined (source r c) (source r (c + 1)))
     (nat_lt 0 c && are_joined (source r (c - 1)) (source r c))
 
@@ -33,8 +33,8 @@ abbrev pub moved_at : ℕ → List Glyph → (ℕ → ℕ → Source) → ℕ �
 moved_at cols = recast_at cols cols
 
 -- the cells after a map of places
-abbrev pub moved : ℕ → ℕ → List Glyph → (ℕ → ℕ → Source) → List Glyph
-moved rows cols cells source = table rows cols (moved_at cols cells source)
+abbrev pub mapped_cells : ℕ → ℕ → List Glyph → (ℕ → ℕ → Source) → List Glyph
+mapped_cells rows cols cells source = table rows cols (moved_at cols cells source)
 
 -- a source of one row, as one of a row among many
 abbrev pub at_row : ℕ → RowSource → Source

@@ -22,8 +22,8 @@ are_neighbours (Fresh x) (Column d) = false
 are_neighbours (Fresh x) (Fresh y) = is_wide x && is_right_half y
 
 -- a half whose other half is not beside it becomes a space in its own style and guard (this project's profile)
-abbrev pub mended : Glyph → Bool → Bool → Glyph
-mended x has_right has_left =
+abbrev pub mended_glyph : Glyph → Bool → Bool → Glyph
+mended_glyph x has_right has_left =
     if (is_wide x && not has_right) then space_in x
     else if (is_right_half x && not has_left) then space_in x
     else x
@@ -31,7 +31,7 @@ mended x has_right has_left =
 -- what a column shows where each column takes what the map says
 abbrev pub row_moved_at : List Glyph → (ℕ → RowSource) → ℕ → Glyph
 row_moved_at row one c =
-    mended (row_taken row (one c))
+    mended_glyph (row_taken row (one c))
     (nat_lt (c + 1) (length row) && are_neighbours (one c) (one (c + 1)))
     (nat_lt 0 c && are_neighbours (one (c - 1)) (one c))
 

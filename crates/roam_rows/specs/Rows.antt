@@ -4,7 +4,7 @@ use Rattle.roam_cells.specs.Glyph.{Glyph, blank}
 use Rattle.roam_cells.specs.Limits.{IsSize}
 use Rattle.roam_cells.specs.Place.{cell_at, AreWhole}
 use Rattle.roam_rows.specs.Row.{RowSource}
-use Rattle.roam_rows.specs.Places.{Source, moved, in_row}
+use Rattle.roam_rows.specs.Places.{Source, mapped_cells, in_row}
 use Rattle.roam_rows.specs.Turned.{brought_back, in_order}
 
 -- rows that go round in one buffer: their number, their columns, their cells in reading order, and the buffer's row that they begin with
@@ -37,13 +37,13 @@ KeepPlaces from to v w =
     ≡ cell_at v.cols (buffer_of v) (brought_back v.rows (v.first + r)) c
 
 -- the rows after a map of places
-abbrev pub mapped : (ℕ → ℕ → Source) → Rows → Rows
-mapped source v = record v { cells = moved v.rows v.cols v.cells source }
+abbrev pub mapped_rows : (ℕ → ℕ → Source) → Rows → Rows
+mapped_rows source v = record v { cells = mapped_cells v.rows v.cols v.cells source }
 
 -- one row after a map of its columns
 abbrev pub with_row : ℕ → (ℕ → RowSource) → Rows → Rows
-with_row row one v = mapped (in_row row one) v
+with_row row one v = mapped_rows (in_row row one) v
 
 -- every cell of these rows is one cell
-abbrev pub filled : Glyph → Rows → Rows
-filled x v = record v { cells = replicate (v.rows * v.cols) x }
+abbrev pub filled_rows : Glyph → Rows → Rows
+filled_rows x v = record v { cells = replicate (v.rows * v.cols) x }

@@ -2,7 +2,7 @@
 use Rattle.std.specs.Prelude.{ℕ, ◌+◌, ◌-◌, ◌&&◌, nat_le, min, if◌then◌else◌}
 use Rattle.roam_cells.specs.Glyph.{blank}
 use Rattle.roam_rows.specs.Places.{Source, From, Fresh}
-use Rattle.roam_rows.specs.Rows.{Rows, mapped}
+use Rattle.roam_rows.specs.Rows.{Rows, mapped_rows}
 use Rattle.roam_rows.specs.Turned.{brought_back}
 
 -- the rows from top to bottom go n rows up, and blank ones come in below (SU, ECMA-48 8.3.147; DL, 8.3.32)
@@ -26,8 +26,8 @@ turned_down rows n first = brought_back rows (first + (rows - min n rows))
 
 -- all rows go up by n, and begin n rows later in the buffer
 abbrev pub all_up : ℕ → Rows → Rows
-all_up n v = record (mapped (up 0 (v.rows - 1) n) v) { first = turned_up v.rows n v.first }
+all_up n v = record (mapped_rows (up 0 (v.rows - 1) n) v) { first = turned_up v.rows n v.first }
 
 -- all rows go down by n, and begin n rows earlier in the buffer
 abbrev pub all_down : ℕ → Rows → Rows
-all_down n v = record (mapped (down 0 (v.rows - 1) n) v) { first = turned_down v.rows n v.first }
+all_down n v = record (mapped_rows (down 0 (v.rows - 1) n) v) { first = turned_down v.rows n v.first }

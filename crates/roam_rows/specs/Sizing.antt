@@ -16,8 +16,8 @@ abbrev pub kept_places : ℕ → ℕ → ℕ → ℕ → ℕ → Source
 kept_places rows cols off r c = if (nat_lt (r + off) rows && nat_lt c cols) then From (r + off) c else Fresh blank
 
 -- rows of another size, after `off` of them have left at the top; they begin with the buffer's first row (this project's profile)
-abbrev pub sized : ℕ → ℕ → ℕ → Rows → Rows
-sized rows cols off v =
+abbrev pub sized_rows : ℕ → ℕ → ℕ → Rows → Rows
+sized_rows rows cols off v =
     record {
       rows = rows;
       cols = cols;

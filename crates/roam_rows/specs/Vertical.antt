@@ -2,13 +2,13 @@
 use Rattle.std.specs.Prelude.{◌≡◌, ◌≢◌, ℕ, ◌+◌, ◌-◌, ◌<◌, ◌≤◌, true, nat_lt, List, if◌then◌else◌}
 use Rattle.roam_cells.specs.Glyph.{Glyph, blank}
 use Rattle.roam_cells.specs.Place.{cell_at}
-use Rattle.roam_rows.specs.Row.{mended}
+use Rattle.roam_rows.specs.Row.{mended_glyph}
 use Rattle.roam_rows.specs.Rows.{Rows}
 use Rattle.roam_rows.specs.Turned.{brought_back}
 
 -- what a column of a row shows that is cut or padded to a number of columns
 abbrev pub cut_at_edge : ℕ → ℕ → List Glyph → ℕ → ℕ → Glyph
-cut_at_edge new_cols cols cells r c = if nat_lt c cols then mended (cell_at cols cells r c) (nat_lt (c + 1) new_cols) true else blank
+cut_at_edge new_cols cols cells r c = if nat_lt c cols then mended_glyph (cell_at cols cells r c) (nat_lt (c + 1) new_cols) true else blank
 
 -- the same but for the cells
 pub record IsSameShape (old new : Rows) : Type 0 where

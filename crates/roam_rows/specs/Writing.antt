@@ -6,8 +6,8 @@ use Rattle.roam_rows.specs.Row.{RowSource, Column, Fresh}
 use Rattle.roam_rows.specs.Rows.{Rows}
 
 -- a cell is written in a column, with its right half where it is wide (ECMA-48 section 6.1, graphic characters)
-abbrev pub written : Glyph → ℕ → ℕ → RowSource
-written x col c =
+abbrev pub writing_source : Glyph → ℕ → ℕ → RowSource
+writing_source x col c =
     if (c == col) then Fresh x
     else if (is_wide x && (c == col + 1)) then Fresh (right_of x)
     else Column c
@@ -21,8 +21,8 @@ abbrev pub base_column : ℕ → List Glyph → ℕ → ℕ → ℕ
 base_column cols cells row col = if is_right_half (cell_at cols cells row col) then col - 1 else col
 
 -- a code point joins the character that a column of a row is part of, where it joins that at all (this project's profile)
-abbrev pub joined : ℕ → ℕ → ℕ → Rows → Rows
-joined row col point v =
+abbrev pub joined_rows : ℕ → ℕ → ℕ → Rows → Rows
+joined_rows row col point v =
     let base = base_column v.cols v.cells row col in
     record v { cells = slice_set v.cells (row * v.cols + base) (with_point point (cell_at v.cols v.cells row base)) }
 

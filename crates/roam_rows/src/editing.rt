@@ -3,7 +3,7 @@ ghost use Rattle.std.specs.Prelude.{◌≡◌, ℕ, ◌<◌, ◌≤◌, length, 
 ghost use Rattle.roam_cells.specs.Glyph.{blank};
 ghost use Rattle.roam_cells.specs.Place.{IsWholeRow};
 ghost use Rattle.roam_rows.specs.Row.{row_moved};
-ghost use Rattle.roam_rows.specs.Editing.{inserted, deleted};
+ghost use Rattle.roam_rows.specs.Editing.{insertion_source, deletion_source};
 
 use crate::halves::part_twice;
 use crate::spans::blank_between;
@@ -14,7 +14,7 @@ pub fn insert(row: &mut [Cell], col: usize, n: usize, len: usize)
     requires col_in { col < length row.old }
     requires rest { (c : ℕ) → len ≤ c → c < length row.old → slice_index_or row.old c blank ≡ blank }
     requires whole { IsWholeRow row.old }
-    ensures after { row.new ≡ row_moved row.old (inserted col n) }
+    ensures after { row.new ≡ row_moved row.old (insertion_source col n) }
     ensures whole { IsWholeRow row.new }
 {
     let n = n.min(row.len() - col);
@@ -33,7 +33,7 @@ pub fn delete(row: &mut [Cell], col: usize, n: usize, len: usize)
     requires len_in { len ≤ length row.old }
     requires rest { (c : ℕ) → len ≤ c → c < length row.old → slice_index_or row.old c blank ≡ blank }
     requires whole { IsWholeRow row.old }
-    ensures after { row.new ≡ row_moved row.old (deleted (length row.old) col n) }
+    ensures after { row.new ≡ row_moved row.old (deletion_source (length row.old) col n) }
     ensures whole { IsWholeRow row.new }
 {
     let n = n.min(row.len() - col);

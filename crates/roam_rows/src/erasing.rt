@@ -3,7 +3,7 @@ ghost use Rattle.std.specs.Prelude.{◌≡◌, ℕ, ◌<◌, ◌≤◌, length, 
 ghost use Rattle.roam_cells.specs.Glyph.{blank};
 ghost use Rattle.roam_cells.specs.Place.{IsWholeRow};
 ghost use Rattle.roam_rows.specs.Row.{row_moved};
-ghost use Rattle.roam_rows.specs.Erasing.{blanked, unguarded_blanked};
+ghost use Rattle.roam_rows.specs.Erasing.{erasure_source, unguarded_blanked};
 
 use crate::halves::{part_twice, part_unguarded};
 use crate::spans::blank_between;
@@ -14,7 +14,7 @@ pub fn erase(row: &mut [Cell], from: usize, to: usize, len: usize)
     requires range { (from < to) × (to ≤ length row.old) }
     requires rest { (c : ℕ) → len ≤ c → c < length row.old → slice_index_or row.old c blank ≡ blank }
     requires whole { IsWholeRow row.old }
-    ensures after { row.new ≡ row_moved row.old (blanked from to) }
+    ensures after { row.new ≡ row_moved row.old (erasure_source from to) }
     ensures whole { IsWholeRow row.new }
 {
     part_twice(row, from, to);

@@ -3,9 +3,9 @@ ghost use Rattle.std.specs.Prelude.{◌≡◌, ℕ, ◌+◌, ◌-◌, ◌*◌, �
 ghost use Rattle.roam_cells.specs.Glyph.{inked_bytes, blank, is_wide, is_right_half};
 ghost use Rattle.roam_cells.specs.Limits.{IsSize};
 ghost use Rattle.roam_cells.specs.Place.{cell_at, row_of};
-ghost use Rattle.roam_rows.specs.Writing.{ArePrintable, joined, written, written_run};
-ghost use Rattle.roam_rows.specs.Erasing.{blanked, unguarded_blanked};
-ghost use Rattle.roam_rows.specs.Editing.{inserted, deleted};
+ghost use Rattle.roam_rows.specs.Writing.{ArePrintable, joined_rows, writing_source, written_run};
+ghost use Rattle.roam_rows.specs.Erasing.{erasure_source, unguarded_blanked};
+ghost use Rattle.roam_rows.specs.Editing.{insertion_source, deletion_source};
 ghost use Rattle.roam_rows.specs.Vertical.{AreBlanked};
 
 use crate::editing::{delete, insert};
@@ -45,7 +45,7 @@ impl Model for Ring {
 }
 
 impl Ring {
-    ghost use Rattle.roam_rows.specs.Rows.{AreRows, blank_rows, buffer_of, filled, with_row};
+    ghost use Rattle.roam_rows.specs.Rows.{AreRows, blank_rows, buffer_of, filled_rows, with_row};
     ghost use Rattle.roam_rows.specs.Vertical.{IsSameShape, AreTurned, IsCopied, IsTaken};
 
     /// So many blank rows of so many columns, which have to be within a screen's limits.
@@ -129,7 +129,7 @@ impl Ring {
         requires on_rows { (row < self.old.rows) × (col < self.old.cols) }
         requires room { is_wide cell ≡ true → col + 1 < self.old.cols }
         requires no_half { is_right_half cell ≡ false }
-        ensures ring { self.new ≡ with_row row (written cell col) self.old }
+        ensures ring { self.new ≡ with_row row (writing_source cell col) self.old }
     {
         let at = place(self.rows, self.first, row);
         let start = start_of(self.rows, self.cols, at);
@@ -158,7 +158,7 @@ impl Ring {
     /// Blanks the columns of row `row` from `from` on and before `to`, all from 0; guarded cells too.
     pub fn erase(&mut self, row: usize, from: usize, to: usize)
         requires on_rows { (row < self.old.rows) × (from < to) × (to ≤ self.old.cols) }
-        ensures ring { self.new ≡ with_row row (blanked from to) self.old }
+        ensures ring { self.new ≡ with_row row (erasure_source from to) self.old }
     {
         let at = place(self.rows, self.first, row);
         let start = start_of(self.rows, self.cols, at);
@@ -186,7 +186,7 @@ impl Ring {
     /// Joins a code point to the character that a column of a row is part of, both from 0; nothing changes where it joins none.
     pub fn join(&mut self, row: usize, col: usize, point: char)
         requires on_rows { (row < self.old.rows) × (col < self.old.cols) }
-        ensures ring { self.new ≡ joined row col point self.old }
+        ensures ring { self.new ≡ joined_rows row col point self.old }
     {
         let at = place(self.rows, self.first, row);
         let start = start_of(self.rows, self.cols, at);
@@ -200,7 +200,7 @@ impl Ring {
     /// Makes every cell a cell of one column.
     pub fn fill(&mut self, cell: Cell)
         requires narrow { (is_wide cell ≡ false) × (is_right_half cell ≡ false) }
-        ensures ring { self.new ≡ filled cell self.old }
+        ensures ring { self.new ≡ filled_rows cell self.old }
     {
         self.cells.as_mut_slice().fill(cell);
         self.lengths.as_mut_slice().fill(self.cols as u16);
@@ -209,7 +209,7 @@ impl Ring {
     /// Inserts n blanks at a column of a row, both from 0; the cells from there on go to the right, and the last ones are lost.
     pub fn insert(&mut self, row: usize, col: usize, n: usize)
         requires on_rows { (row < self.old.rows) × (col < self.old.cols) }
-        ensures ring { self.new ≡ with_row row (inserted col n) self.old }
+        ensures ring { self.new ≡ with_row row (insertion_source col n) self.old }
     {
         let at = place(self.rows, self.first, row);
         let start = start_of(self.rows, self.cols, at);
@@ -226,7 +226,7 @@ impl Ring {
     /// Takes n cells out at a column of a row, both from 0; those right of them go to the left, and blanks come in at the edge.
     pub fn delete(&mut self, row: usize, col: usize, n: usize)
         requires on_rows { (row < self.old.rows) × (col < self.old.cols) }
-        ensures ring { self.new ≡ with_row row (deleted self.old.cols col n) self.old }
+        ensures ring { self.new ≡ with_row row (deletion_source self.old.cols col n) self.old }
     {
         let at = place(self.rows, self.first, row);
         let start = start_of(self.rows, self.cols, at);

@@ -6,7 +6,7 @@ ghost use Rattle.roam_rows.specs.Vertical.{AreBlanked, AreLifted, AreLowered};
 use crate::rings::Ring;
 
 impl Ring {
-    ghost use Rattle.roam_rows.specs.Rows.{mapped};
+    ghost use Rattle.roam_rows.specs.Rows.{mapped_rows};
     ghost use Rattle.roam_rows.specs.Erasing.{rows_blanked, rows_unguarded_blanked};
     ghost use Rattle.roam_rows.specs.Scrolling.{all_up, all_down};
     ghost use Rattle.roam_rows.specs.Vertical.{IsSameShape};
@@ -49,7 +49,7 @@ impl Ring {
     /// Blanks the rows from `from` on and before `to`, both from 0.
     pub fn blank_rows(&mut self, from: usize, to: usize)
         requires on_rows { (from ≤ to) × (to ≤ self.old.rows) }
-        ensures ring { self.new ≡ mapped (rows_blanked from to) self.old }
+        ensures ring { self.new ≡ mapped_rows (rows_blanked from to) self.old }
     {
         self.facts();
         self.clear_rows(from, to);
@@ -59,7 +59,7 @@ impl Ring {
     /// Blanks those cells that aren't guarded of the rows from `from` on and before `to`, both from 0.
     pub fn blank_unguarded_rows(&mut self, from: usize, to: usize)
         requires on_rows { (from ≤ to) × (to ≤ self.old.rows) }
-        ensures ring { self.new ≡ mapped (rows_unguarded_blanked self.old.cols self.old.cells from to) self.old }
+        ensures ring { self.new ≡ mapped_rows (rows_unguarded_blanked self.old.cols self.old.cells from to) self.old }
     {
         self.facts();
         let cols = self.cols();
@@ -98,7 +98,7 @@ impl Ring {
     /// Moves the rows from `top` to `bottom`, both from 0, up by n; blank ones come in below.
     pub fn scroll_region_up(&mut self, top: usize, bottom: usize, n: usize)
         requires margins { (top ≤ bottom) × (bottom < self.old.rows) }
-        ensures ring { self.new ≡ mapped (up top bottom n) self.old }
+        ensures ring { self.new ≡ mapped_rows (up top bottom n) self.old }
     {
         self.facts();
         let n = n.min(bottom + 1 - top);
@@ -110,7 +110,7 @@ impl Ring {
     /// Moves the rows from `top` to `bottom`, both from 0, down by n; blank ones come in above.
     pub fn scroll_region_down(&mut self, top: usize, bottom: usize, n: usize)
         requires margins { (top ≤ bottom) × (bottom < self.old.rows) }
-        ensures ring { self.new ≡ mapped (down top bottom n) self.old }
+        ensures ring { self.new ≡ mapped_rows (down top bottom n) self.old }
     {
         self.facts();
         let n = n.min(bottom + 1 - top);

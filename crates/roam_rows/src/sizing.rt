@@ -3,7 +3,7 @@ ghost use Rattle.std.specs.Prelude.{◌≡◌, ℕ, ◌+◌, ◌<◌, true, leng
 ghost use Rattle.roam_cells.specs.Glyph.{blank};
 ghost use Rattle.roam_cells.specs.Limits.{IsSize};
 ghost use Rattle.roam_cells.specs.Place.{glyph_at, IsWholeRow};
-ghost use Rattle.roam_rows.specs.Row.{mended};
+ghost use Rattle.roam_rows.specs.Row.{mended_glyph};
 
 use crate::rings::Ring;
 use roam_cells::Cell;
@@ -58,7 +58,7 @@ pub fn cut_into(row: &mut [Cell], source: &[Cell])
     requires whole { IsWholeRow source.now }
     ensures len { length row.new ≡ length row.old }
     ensures each { (c : ℕ) → c < length row.new
-        → glyph_at row.new c ≡ mended (glyph_at source.now c) (nat_lt (c + 1) (length row.new)) true }
+        → glyph_at row.new c ≡ mended_glyph (glyph_at source.now c) (nat_lt (c + 1) (length row.new)) true }
     ensures whole { IsWholeRow row.new }
 {
     let count = source.len().min(row.len());
@@ -72,11 +72,11 @@ pub fn cut_into(row: &mut [Cell], source: &[Cell])
 }
 
 impl Ring {
-    ghost use Rattle.roam_rows.specs.Sizing.{sized};
+    ghost use Rattle.roam_rows.specs.Sizing.{sized_rows};
 
     /// Brings the rows to another size, after `off` of them have left at the top; takes no memory.
     pub fn adopt(&mut self, fitted: Fitted, off: usize)
-        ensures ring { self.new ≡ sized fitted.rows fitted.cols off self.old }
+        ensures ring { self.new ≡ sized_rows fitted.rows fitted.cols off self.old }
     {
         let Fitted { ring } = fitted;
         let mut ring = ring;

@@ -3,7 +3,7 @@ ghost use Rattle.std.specs.Prelude.{◌≡◌, ℕ, ◌+◌, ◌-◌, ◌<◌, �
 ghost use Rattle.roam_cells.specs.Glyph.{ascii_in, inked_bytes, blank, is_wide, is_right_half};
 ghost use Rattle.roam_cells.specs.Place.{glyph_at, IsWholeRow};
 ghost use Rattle.roam_rows.specs.Row.{row_moved};
-ghost use Rattle.roam_rows.specs.Writing.{written, written_run, ArePrintable};
+ghost use Rattle.roam_rows.specs.Writing.{writing_source, written_run, ArePrintable};
 
 use crate::halves::part_twice;
 use roam_cells::Cell;
@@ -15,7 +15,7 @@ pub fn write(row: &mut [Cell], col: usize, cell: Cell)
     requires room { is_wide cell ≡ true → col + 1 < length row.old }
     requires no_half { is_right_half cell ≡ false }
     requires whole { IsWholeRow row.old }
-    ensures after { row.new ≡ row_moved row.old (written cell col) }
+    ensures after { row.new ≡ row_moved row.old (writing_source cell col) }
     ensures whole { IsWholeRow row.new }
 {
     if cell.is_wide() {

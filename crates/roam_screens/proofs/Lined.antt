@@ -8,7 +8,7 @@ use Rattle.std.proofs.Math.Seq.{take-append-add}
 use Rattle.roam_cells.specs.Glyph.{Glyph, IsShown, is_wide, is_right_half, right_of, blank}
 use Rattle.roam_cells.specs.Place.{glyph_at, cell_at, IsWholeLine, IsWholeRow, AreUnguarded, AreShown, row_of}
 use Rattle.roam_screens.specs.Screenshot.{Screenshot, IsScreenshot}
-use Rattle.roam_screens.specs.Lines.{joined, AreLines, with_row}
+use Rattle.roam_screens.specs.Lines.{cells_in_order, AreLines, with_row}
 use Rattle.roam_cells.proofs.Places.{place_below, place_of}
 
 -- ---- one row of cells
@@ -45,37 +45,37 @@ rest_long cols line lines long k h = long (suc k) (omega (arith, h))
 
 module _ (cols : ℕ) where
   joined_at : (lines : List (List Glyph)) (r c : ℕ) → EachIndex lines (λ k. length (get_or lines k []) ≡ cols) → r < length lines → c < cols
-      → cell_at cols (joined lines) r c ≡ get_or (get_or lines r []) c blank
+      → cell_at cols (cells_in_order lines) r c ≡ get_or (get_or lines r []) c blank
   joined_at [] r c long p q = absurd (omega (arith, p))
   joined_at (line ∷ lines) zero c long p q =
       let first : length line ≡ cols = long 0 (omega arith) in
-      ap (λ k. get_or (line ++ joined lines) k blank) (omega arith) ∙ get_or_append_left line (joined lines) blank c (omega (arith, first, q))
+      ap (λ k. get_or (line ++ cells_in_order lines) k blank) (omega arith) ∙ get_or_append_left line (cells_in_order lines) blank c (omega (arith, first, q))
   joined_at (line ∷ lines) (suc r) c long p q =
       let first : length line ≡ cols = long 0 (omega arith) in
       let there : cols ≤ suc r * cols + c = omega arith in
       let less : suc r * cols + c - cols ≡ r * cols + c = omega arith in
-      get_or-append_right line (joined lines) cols (suc r * cols + c) blank first there
-      ∙ ap (λ k. get_or (joined lines) k blank) less ∙ joined_at lines r c (rest_long cols line lines long) (omega (arith, p)) q
+      get_or-append_right line (cells_in_order lines) cols (suc r * cols + c) blank first there
+      ∙ ap (λ k. get_or (cells_in_order lines) k blank) less ∙ joined_at lines r c (rest_long cols line lines long) (omega (arith, p)) q
 
-  length-joined : (lines : List (List Glyph)) → EachIndex lines (λ k. length (get_or lines k []) ≡ cols) → length (joined lines) ≡ length lines * cols
+  length-joined : (lines : List (List Glyph)) → EachIndex lines (λ k. length (get_or lines k []) ≡ cols) → length (cells_in_order lines) ≡ length lines * cols
   length-joined [] long = omega arith
   length-joined (line ∷ lines) long =
       let first : length line ≡ cols = long 0 (omega arith) in
-      omega (arith, length-append line (joined lines), first, length-joined lines (rest_long cols line lines long))
+      omega (arith, length-append line (cells_in_order lines), first, length-joined lines (rest_long cols line lines long))
 
   joined_set : (lines : List (List Glyph)) (r : ℕ) (new : List Glyph) → EachIndex lines (λ k. length (get_or lines k []) ≡ cols) → r < length lines
-      → joined (set lines r new) ≡ take (r * cols) (joined lines) ++ (new ++ drop ((r + 1) * cols) (joined lines))
+      → cells_in_order (set lines r new) ≡ take (r * cols) (cells_in_order lines) ++ (new ++ drop ((r + 1) * cols) (cells_in_order lines))
   joined_set [] r new long p = absurd (omega (arith, p))
   joined_set (line ∷ lines) zero new long p =
       let first : length line ≡ cols = long 0 (omega arith) in
-      let cells = line ++ joined lines in
+      let cells = line ++ cells_in_order lines in
       let none : 0 ≡ zero * cols = omega arith in
       let one : (zero + 1) * cols ≡ cols = omega arith in
-      let rest : drop ((zero + 1) * cols) cells ≡ joined lines = ap (λ k. drop k cells) one ∙ drop_at line (joined lines) cols first in
+      let rest : drop ((zero + 1) * cols) cells ≡ cells_in_order lines = ap (λ k. drop k cells) one ∙ drop_at line (cells_in_order lines) cols first in
       ap (λ t. new ++ t) (sym rest) ∙ ap (λ k. take k cells ++ (new ++ drop ((zero + 1) * cols) cells)) none
   joined_set (line ∷ lines) (suc r) new long p =
       let first : length line ≡ cols = long 0 (omega arith) in
-      let cells = joined lines in
+      let cells = cells_in_order lines in
       let here : suc r * cols ≡ length line + r * cols = omega (arith, first) in
       let next : (suc r + 1) * cols ≡ cols + (r + 1) * cols = omega arith in
       let front : take (suc r * cols) (line ++ cells) ≡ line ++ take (r * cols) cells =
@@ -88,28 +88,28 @@ module _ (cols : ℕ) where
       ∙ (λ i. sym front i ++ (new ++ sym back i))
 
   -- a row of them
-  pub joined_row : (rows : ℕ) (lines : List (List Glyph)) (r : ℕ) → AreLines rows cols lines → r < rows → row_of cols (joined lines) r ≡ get_or lines r []
+  pub joined_row : (rows : ℕ) (lines : List (List Glyph)) (r : ℕ) → AreLines rows cols lines → r < rows → row_of cols (cells_in_order lines) r ≡ get_or lines r []
   joined_row rows lines r are p =
       let p' : r < length lines = omega (arith, are.count, p) in
-      let all : length (joined lines) ≡ rows * cols = length-joined lines are.long ∙ ap (λ n. n * cols) are.count in
-      let long = length-row rows cols (joined lines) r all p in
-      same_lists (row_of cols (joined lines) r) (get_or lines r []) (long ∙ sym (are.long r p')) (λ k d h.
+      let all : length (cells_in_order lines) ≡ rows * cols = length-joined lines are.long ∙ ap (λ n. n * cols) are.count in
+      let long = length-row rows cols (cells_in_order lines) r all p in
+      same_lists (row_of cols (cells_in_order lines) r) (get_or lines r []) (long ∙ sym (are.long r p')) (λ k d h.
       let q : k < cols = omega (arith, h, long) in
-      get_or_default (row_of cols (joined lines) r) k d blank h ∙ row_at cols (joined lines) r k q ∙ joined_at lines r k are.long p' q
+      get_or_default (row_of cols (cells_in_order lines) r) k d blank h ∙ row_at cols (cells_in_order lines) r k q ∙ joined_at lines r k are.long p' q
       ∙ get_or_default (get_or lines r []) k blank d (omega (arith, are.long r p', q)))
 
-  pub joined_count : (rows : ℕ) (lines : List (List Glyph)) → AreLines rows cols lines → length (joined lines) ≡ rows * cols
+  pub joined_count : (rows : ℕ) (lines : List (List Glyph)) → AreLines rows cols lines → length (cells_in_order lines) ≡ rows * cols
   joined_count rows lines are = length-joined lines are.long ∙ ap (λ n. n * cols) are.count
 
   -- blank rows are a blank screen
-  joined_replicate : (n : ℕ) → joined (replicate n (replicate cols blank)) ≡ replicate (n * cols) blank
+  joined_replicate : (n : ℕ) → cells_in_order (replicate n (replicate cols blank)) ≡ replicate (n * cols) blank
   joined_replicate zero = let none : 0 ≡ zero * cols = omega arith in ap (λ k. replicate k blank) none
   joined_replicate (suc n) =
       let more : cols + n * cols ≡ suc n * cols = omega arith in
       ap (λ t. replicate cols blank ++ t) (joined_replicate n) ∙ replicate-append-replicate cols (n * cols) blank ∙ ap (λ k. replicate k blank) more
 
-  pub blank_joined : (rows : ℕ) (lines : List (List Glyph)) → lines ≡ replicate rows (replicate cols blank) → joined lines ≡ replicate (rows * cols) blank
-  blank_joined rows lines e = ap joined e ∙ joined_replicate rows
+  pub blank_joined : (rows : ℕ) (lines : List (List Glyph)) → lines ≡ replicate rows (replicate cols blank) → cells_in_order lines ≡ replicate (rows * cols) blank
+  blank_joined rows lines e = ap cells_in_order e ∙ joined_replicate rows
 
   pub blank_lines : (rows : ℕ) (lines : List (List Glyph)) → lines ≡ replicate rows (replicate cols blank) → AreLines rows cols lines
   blank_lines rows lines e =
@@ -125,13 +125,13 @@ module _ (cols : ℕ) where
 
   -- the cell of a place stands in its row
   joined_place : (rows : ℕ) (lines : List (List Glyph)) (k : ℕ) → AreLines rows cols lines → k < rows * cols
-      → (k / cols < rows) × (k % cols < cols) × (get_or (joined lines) k blank ≡ get_or (get_or lines (k / cols) []) (k % cols) blank)
+      → (k / cols < rows) × (k % cols < cols) × (get_or (cells_in_order lines) k blank ≡ get_or (get_or lines (k / cols) []) (k % cols) blank)
   joined_place rows lines k are h =
       let p = place_of rows cols k h in
-      (p.0, p.1, ap (λ j. get_or (joined lines) j blank) (sym p.2) ∙ joined_at lines (k / cols) (k % cols) are.long (omega (arith, are.count, p.0)) p.1)
+      (p.0, p.1, ap (λ j. get_or (cells_in_order lines) j blank) (sym p.2) ∙ joined_at lines (k / cols) (k % cols) are.long (omega (arith, are.count, p.0)) p.1)
 
   -- a place of a row is on the screen
-  row_place : (rows : ℕ) (lines : List (List Glyph)) (r c : ℕ) → AreLines rows cols lines → r < rows → c < cols → r * cols + c < length (joined lines)
+  row_place : (rows : ℕ) (lines : List (List Glyph)) (r c : ℕ) → AreLines rows cols lines → r < rows → c < cols → r * cols + c < length (cells_in_order lines)
   row_place rows lines r c are p q = omega (arith, joined_count rows lines are, place_below rows cols r c p q)
 
 -- a row of a screen: whole characters, none guarded, each what some cell shows
@@ -149,7 +149,7 @@ line_is cols line long whole unguarded shown =
     }
 
 -- the rows of a screen
-lines_are : (s : Screenshot) (lines : List (List Glyph)) → AreLines s.rows s.cols lines → s.cells ≡ joined lines → IsScreenshot s
+lines_are : (s : Screenshot) (lines : List (List Glyph)) → AreLines s.rows s.cols lines → s.cells ≡ cells_in_order lines → IsScreenshot s
     → (r : ℕ) → r < s.rows → IsLine s.cols (get_or lines r [])
 lines_are s lines are e is r p =
     let at : (c : ℕ) → c < s.cols → cell_at s.cols s.cells r c ≡ glyph_at (get_or lines r []) c =
@@ -164,16 +164,16 @@ lines_are s lines are e is r p =
 
 -- rows that make a screen
 pub screen_is : (s : Screenshot) (lines : List (List Glyph)) → AreLines s.rows s.cols lines → IsScreenshot s
-    → ((r : ℕ) → r < s.rows → IsLine s.cols (get_or lines r [])) → IsScreenshot (record s { cells = joined lines })
+    → ((r : ℕ) → r < s.rows → IsLine s.cols (get_or lines r [])) → IsScreenshot (record s { cells = cells_in_order lines })
 screen_is s lines are is each =
-    let at : (r c : ℕ) → r < s.rows → c < s.cols → cell_at s.cols (joined lines) r c ≡ glyph_at (get_or lines r []) c =
+    let at : (r c : ℕ) → r < s.rows → c < s.cols → cell_at s.cols (cells_in_order lines) r c ≡ glyph_at (get_or lines r []) c =
     λ r c p q. joined_at s.cols lines r c are.long (omega (arith, are.count, p)) q in
     let count = joined_count s.cols s.rows lines are in
     record {
       size = is.size;
       count = count;
       cursor = is.cursor;
-      whole = λ r p. line_like s.cols (glyph_at (get_or lines r [])) (cell_at s.cols (joined lines) r) (λ c q. sym (at r c p q)) (each r p).whole;
+      whole = λ r p. line_like s.cols (glyph_at (get_or lines r [])) (cell_at s.cols (cells_in_order lines) r) (λ c q. sym (at r c p q)) (each r p).whole;
       unguarded = λ k h.
           let t = joined_place s.cols s.rows lines k are (omega (arith, count, h)) in
           ap (λ (g : Glyph). g.guarded) t.2 ∙ (each (k / s.cols) t.0).unguarded (k % s.cols) t.1;
@@ -197,8 +197,8 @@ module _ (s : Screenshot) (lines : List (List Glyph)) (i : ℕ) (line : List Gly
             ];
       }
 
-  pub set_screen : s.cells ≡ joined lines → IsScreenshot s → IsWholeRow line → AreUnguarded line → AreShown line
-      → IsScreenshot (record s { cells = joined (set lines i line) })
+  pub set_screen : s.cells ≡ cells_in_order lines → IsScreenshot s → IsWholeRow line → AreUnguarded line → AreShown line
+      → IsScreenshot (record s { cells = cells_in_order (set lines i line) })
   set_screen e is whole unguarded shown =
       let there : i < length lines = omega (arith, are.count, p) in
       screen_is s (set lines i line) set_lines is (λ r q.
@@ -209,7 +209,7 @@ module _ (s : Screenshot) (lines : List (List Glyph)) (i : ℕ) (line : List Gly
         | inr d ↦ subst (λ (l : List Glyph). IsLine s.cols l) (sym (get_or-set_other lines i r line [] d)) (lines_are s lines are e is r q)
       ])
 
-  pub set_is : s.cells ≡ joined lines → record s { cells = joined (set lines i line) } ≡ with_row i line s
+  pub set_is : s.cells ≡ cells_in_order lines → record s { cells = cells_in_order (set lines i line) } ≡ with_row i line s
   set_is e j =
       let there : i < length lines = omega (arith, are.count, p) in
       record s {
@@ -218,11 +218,11 @@ module _ (s : Screenshot) (lines : List (List Glyph)) (i : ℕ) (line : List Gly
       }
 
   -- the row is the new one, and each other what it was
-  pub set_row_here : row_of s.cols (joined (set lines i line)) i ≡ line
+  pub set_row_here : row_of s.cols (cells_in_order (set lines i line)) i ≡ line
   set_row_here =
       joined_row s.cols s.rows (set lines i line) i set_lines p ∙ get_or-set_same lines i line [] (omega (arith, are.count, p))
 
-  pub set_row_other : (r : ℕ) → r < s.rows → r ≢ i → row_of s.cols (joined (set lines i line)) r ≡ row_of s.cols (joined lines) r
+  pub set_row_other : (r : ℕ) → r < s.rows → r ≢ i → row_of s.cols (cells_in_order (set lines i line)) r ≡ row_of s.cols (cells_in_order lines) r
   set_row_other r q d =
       joined_row s.cols s.rows (set lines i line) r set_lines q ∙ get_or-set_other lines i r line [] d
       ∙ sym (joined_row s.cols s.rows lines r are q)
@@ -251,9 +251,9 @@ module _ (rows cols : ℕ) (cells : List Glyph) (count : length cells ≡ rows *
             ap length (each k p) ∙ length-row rows cols cells k count p;
       }
 
-  pub rows_joined : joined lines ≡ cells
+  pub rows_joined : cells_in_order lines ≡ cells
   rows_joined =
-      all_rows rows cols (joined lines) cells (joined_count cols rows lines rows_lines) count
+      all_rows rows cols (cells_in_order lines) cells (joined_count cols rows lines rows_lines) count
       (λ r p. joined_row cols rows lines r rows_lines p ∙ each r p)
 
 -- one row more

@@ -10,7 +10,7 @@ use Rattle.roam_screens.specs.Screenshot.{Screenshot, IsScreenshot, blank_screen
 use Rattle.roam_cells.specs.declared.styles.Style.{Style}
 use Rattle.roam_cells.specs.declared.styles.Colour.{Colour}
 use Rattle.roam_cells.specs.declared.styles.Colour.TheVariants.{Default, Index, Rgb}
-use Rattle.roam_screens.specs.Lines.{joined, AreLines, screen_of}
+use Rattle.roam_screens.specs.Lines.{cells_in_order, AreLines, screen_of}
 use Rattle.roam_cells.proofs.Places.{length-table, get_or-table, place_of, place_below, table_is}
 use Rattle.roam_cells.proofs.CellLists.{is_wide-blank, space_in_shown}
 use Rattle.roam_screens.proofs.Screens.{blank_is_screenshot}
@@ -36,14 +36,14 @@ row_more t f n =
 
 -- ---- lines
 
-joined_last : (lines : List (List Glyph)) (line : List Glyph) → joined (lines ++ line ∷ []) ≡ joined lines ++ line
+joined_last : (lines : List (List Glyph)) (line : List Glyph) → cells_in_order (lines ++ line ∷ []) ≡ cells_in_order lines ++ line
 joined_last [] line = append-nil line
-joined_last (l ∷ lines) line = ap (λ (x : List Glyph). l ++ x) (joined_last lines line) ∙ sym (append_assoc l (joined lines) line)
+joined_last (l ∷ lines) line = ap (λ (x : List Glyph). l ++ x) (joined_last lines line) ∙ sym (append_assoc l (cells_in_order lines) line)
 
 -- one line more of a table
 pub record IsMore (row cols : ℕ) (f : ℕ → ℕ → Glyph) (all : List (List Glyph)) : Type 0 where
   pub lines : AreLines row cols all
-  pub cells : joined all ≡ table row cols f
+  pub cells : cells_in_order all ≡ table row cols f
 
 pub line_none : (cols : ℕ) (f : ℕ → ℕ → Glyph) (all : List (List Glyph)) → all ≡ [] → IsMore 0 cols f all
 line_none cols f all e =
@@ -361,8 +361,8 @@ old_blank =
 
 -- a screen of these parts is what is shown of it
 pub narrow_shown : (s : Screenshot) (rows cols : ℕ) (lines : List (List Glyph)) (row col : ℕ) (visible : Bool) → rows ≡ narrow_rows s.rows → cols ≡ narrow_cols s.cols
-    → joined lines ≡ table rows cols (narrow_at s) → row ≡ narrow_row s.rows s.cursor_row → col ≡ min s.cursor_col 250
+    → cells_in_order lines ≡ table rows cols (narrow_at s) → row ≡ narrow_row s.rows s.cursor_row → col ≡ min s.cursor_col 250
     → visible ≡ (s.visible && not (is_row_out s.rows s.cursor_row || is_col_out s.cursor_col)) → screen_of rows cols lines row col visible ≡ narrow s
 narrow_shown s m n lines _ _ _ a b c d e f i =
-    let all : joined lines ≡ table (narrow_rows s.rows) (narrow_cols s.cols) (narrow_at s) = c ∙ (λ j. table (a j) (b j) (narrow_at s)) in
+    let all : cells_in_order lines ≡ table (narrow_rows s.rows) (narrow_cols s.cols) (narrow_at s) = c ∙ (λ j. table (a j) (b j) (narrow_at s)) in
     record { rows = a i; cols = b i; cells = all i; cursor_row = d i; cursor_col = e i; visible = f i }

@@ -4,9 +4,9 @@ use Rattle.roam_cells.specs.Glyph.{Glyph}
 use Rattle.roam_screens.specs.Screenshot.{Screenshot}
 
 -- the cells of rows, in reading order
-abbrev pub joined : List (List Glyph) → List Glyph
-joined [] = []
-joined (line ∷ lines) = line ++ joined lines
+abbrev pub cells_in_order : List (List Glyph) → List Glyph
+cells_in_order [] = []
+cells_in_order (line ∷ lines) = line ++ cells_in_order lines
 
 -- so many rows of so many cells each
 pub record AreLines (rows cols : ℕ) (lines : List (List Glyph)) : Type 0 where
@@ -24,4 +24,4 @@ with_cursor row col visible s = record s { cursor_row = row; cursor_col = col; v
 -- the screen of rows, with its size and its cursor
 abbrev pub screen_of : ℕ → ℕ → List (List Glyph) → ℕ → ℕ → Bool → Screenshot
 screen_of rows cols lines row col visible =
-    record { rows = rows; cols = cols; cells = joined lines; cursor_row = row; cursor_col = col; visible = visible }
+    record { rows = rows; cols = cols; cells = cells_in_order lines; cursor_row = row; cursor_col = col; visible = visible }

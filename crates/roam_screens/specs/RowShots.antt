@@ -1,6 +1,6 @@
 -- How a screen is kept row by row.
 use Rattle.roam_screens.specs.Screenshot.{Screenshot, IsScreenshot}
-use Rattle.roam_screens.specs.Lines.{joined, AreLines}
+use Rattle.roam_screens.specs.Lines.{cells_in_order, AreLines}
 use Rattle.roam_screens.specs.declared.row_shots.RowShot.TheInside.{Inside}
 
 -- the screen that the fields keep
@@ -9,7 +9,7 @@ shown_by a =
     record {
       rows = a.rows;
       cols = a.cols;
-      cells = joined a.lines.items;
+      cells = cells_in_order a.lines.items;
       cursor_row = a.cursor.0;
       cursor_col = a.cursor.1;
       visible = a.visible;

@@ -1,7 +1,7 @@
 //! Screens brought to the limits of version 1.
 ghost use Rattle.std.specs.Prelude.{◌≡◌, ◌+◌, ◌<◌, ◌≤◌, ◌*◌, ◌++◌, map, IfOk, OnOk, IsOkUnless, ◌==◌, ◌&&◌, ◌||◌, not, min, length, IsTrue};
 ghost use Rattle.std.specs.List.{range_with_len};
-ghost use Rattle.roam_screens.specs.Lines.{joined, AreLines};
+ghost use Rattle.roam_screens.specs.Lines.{cells_in_order, AreLines};
 ghost use Rattle.roam_cells.specs.Place.{cell_at, table};
 ghost use Rattle.roam_screens.specs.Narrow.{is_plain_colour, is_plain_style, step, narrow_colour, narrow_style, narrow_glyph, narrow_rows, narrow_cols, row_shown, narrow_at, narrow_row, is_row_out, is_col_out, narrow};
 
@@ -141,7 +141,7 @@ fn narrow_lines<S: Seen>(
     requires rows { rows ≡ narrow_rows (S.screen shot.now).rows }
     requires cols { cols ≡ narrow_cols (S.screen shot.now).cols }
     ensures lines { IfOk result (λ lines. AreLines rows cols lines.items) }
-    ensures cells { IfOk result (λ lines. joined lines.items ≡ table rows cols (narrow_at (S.screen shot.now))) }
+    ensures cells { IfOk result (λ lines. cells_in_order lines.items ≡ table rows cols (narrow_at (S.screen shot.now))) }
 {
     let mut lines = Vec::with_capacity(alloc, rows as usize)?;
     let mut cells = Vec::with_capacity(alloc, cols as usize)?;

@@ -3,7 +3,7 @@ ghost use Rattle.std.specs.Prelude.{◌≡◌, ℕ, ◌<◌, ◌↔◌, length, 
 ghost use Rattle.roam_cells.specs.Limits.{IsSize};
 ghost use Rattle.roam_cells.specs.Place.{IsWholeRow, AreUnguarded, row_of};
 ghost use Rattle.roam_screens.specs.Screenshot.{IsPlace, IsScreenshot, blank_screenshot, row_text};
-ghost use Rattle.roam_screens.specs.Lines.{joined, AreLines, screen_of, with_row, with_cursor};
+ghost use Rattle.roam_screens.specs.Lines.{cells_in_order, AreLines, screen_of, with_row, with_cursor};
 
 use crate::lines::{Line, repeated, shared};
 use crate::seen::Seen;
@@ -186,7 +186,7 @@ impl Seen for RowShot {
 
 fn lines_of<S: Seen>(alloc: Global, shot: &S) -> Result<Vec<Line>, AllocError>
     ensures lines { IfOk result (λ lines. AreLines (S.screen shot.now).rows (S.screen shot.now).cols lines.items) }
-    ensures cells { IfOk result (λ lines. joined lines.items ≡ (S.screen shot.now).cells) }
+    ensures cells { IfOk result (λ lines. cells_in_order lines.items ≡ (S.screen shot.now).cells) }
 {
     shot.facts();
     let mut lines = Vec::with_capacity(alloc, shot.rows() as usize)?;

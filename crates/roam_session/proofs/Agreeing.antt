@@ -4,12 +4,12 @@ use Rattle.std.specs.Option.{option_map}
 use Rattle.std.proofs.lemmas.Bool.{eqb-true}
 use Rattle.roam_text.specs.Log.{Resized}
 use Rattle.roam_keys.specs.declared.keys.Key.{Key}
-use Rattle.roam_keys.specs.Sent.{sent}
+use Rattle.roam_keys.specs.Sent.{bytes_of_key}
 use Rattle.roam_term.specs.Keys.{key_modes}
 use Rattle.roam_term.specs.Terminal.{reports}
 use Rattle.roam_term.specs.Stands.{TermView, HasSize}
 use Rattle.roam_layout.specs.declared.rects.Rect.{Rect}
-use Rattle.roam_session.specs.Panes.{Pane, given, moved, is_same_size, fed, keyed, drained, answers}
+use Rattle.roam_session.specs.Panes.{Pane, pane_after_act, after_move, is_same_size, after_feed, after_key, after_drain, answers}
 use Rattle.roam_session.specs.Stands.{IsOf, Agrees, IsPlaced}
 use Rattle.roam_session.specs.Steps.{IsGiven, IsMoved}
 use Rattle.roam_layout.specs.Layouts.{Plan}
@@ -17,7 +17,7 @@ use Rattle.roam_session.specs.Queues.{IsFed, IsKeyed, IsDrained, Both}
 
 -- ---- rectangles
 
-moved_of : (from to : Rect) (old new : TermView) (pane : Pane) → IsMoved from to old new → IsOf old pane → IsOf new (moved from to pane)
+moved_of : (from to : Rect) (old new : TermView) (pane : Pane) → IsMoved from to old new → IsOf old pane → IsOf new (after_move from to pane)
 moved_of from to old new pane is of = by_size (is_same_size from to) refl
   where
     by_size : (v : Bool) → is_same_size from to ≡ v
@@ -30,7 +30,7 @@ moved_of from to old new pane is of = by_size (is_same_size from to) refl
         record { shows = fit.stands pane.rows pane.cols 500 pane.log of.shows; waiting = fit.waiting ∙ of.waiting }
 
 pub agrees_given : (from to : Option Rect) (old new : Option TermView) (pane : Option Pane) → IsGiven from to old new → Agrees old pane
-    → Agrees new (given from to pane)
+    → Agrees new (pane_after_act from to pane)
 agrees_given from None old None pane is of = tt
 agrees_given from None old (Some new) pane is of = absurd is
 agrees_given None (Some to) old None pane is of = absurd is
@@ -90,24 +90,24 @@ pub drop-front : {A : Type 0} (xs ys : List A) → drop (length xs) (xs ++ ys) �
 drop-front [] ys = refl
 drop-front (x ∷ xs) ys = drop-front xs ys
 
-pub does_fed : (bytes : List ℕ) (plan : Plan) (p : ℕ) (before after : List Bool) → Does' (IsFed bytes plan p before after) (fed bytes)
+pub does_fed : (bytes : List ℕ) (plan : Plan) (p : ℕ) (before after : List Bool) → Does' (IsFed bytes plan p before after) (after_feed bytes)
 does_fed bytes plan p before after old new pane is of =
     let gains = is.fed.gains pane.rows pane.cols 500 pane.log of.shows in
     let mid = is.fed.stands pane.rows pane.cols 500 pane.log of.shows in
     let told = reports pane.rows pane.cols 500 pane.log in
     let more : answers pane bytes ≡ gains.more = ap (drop (length told)) gains.answers ∙ drop-front told gains.more in
-    subst (λ (t : TermView). IsOf t (fed bytes pane)) (sym is.quiet) (record {
+    subst (λ (t : TermView). IsOf t (after_feed bytes pane)) (sym is.quiet) (record {
       shows = record { reads = mid.reads; live = mid.live; history = mid.history };
       waiting = gains.queue ∙ (λ i. of.waiting i ++ sym more i);
     })
 
-pub does_keyed : (key : Key) → Does' (IsKeyed key) (keyed key)
+pub does_keyed : (key : Key) → Does' (IsKeyed key) (after_key key)
 does_keyed key old new pane is of =
     record {
       shows = is.keeps.shows pane.rows pane.cols 500 pane.log of.shows;
-      waiting = is.waiting ∙ (λ i. of.waiting i ++ sent (key_modes (of.shows.live i).modes) key);
+      waiting = is.waiting ∙ (λ i. of.waiting i ++ bytes_of_key (key_modes (of.shows.live i).modes) key);
     }
 
-pub does_drained : (n : ℕ) → Does' (IsDrained n) (drained n)
+pub does_drained : (n : ℕ) → Does' (IsDrained n) (after_drain n)
 does_drained n old new pane is of =
     record { shows = is.keeps.shows pane.rows pane.cols 500 pane.log of.shows; waiting = is.waiting ∙ ap (drop n) of.waiting }

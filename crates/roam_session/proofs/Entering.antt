@@ -8,14 +8,14 @@ use Rattle.roam_cells.specs.declared.faults.Fault.{Fault}
 use Rattle.roam_cells.specs.declared.faults.Fault.TheVariants.{OutOfMemory, Busy}
 use Rattle.roam_keys.specs.declared.keys.Key.{Key}
 use Rattle.roam_acts.specs.declared.acts.Act.{Act}
-use Rattle.roam_keys.specs.Sent.{sent}
+use Rattle.roam_keys.specs.Sent.{bytes_of_key}
 use Rattle.roam_term.specs.Keys.{key_modes}
 use Rattle.roam_term.specs.Stands.{TermView}
 use Rattle.roam_layout.specs.Rects.{rect_in}
-use Rattle.roam_layout.specs.Layouts.{Plan, IsPlan, Laid, Refused, laid, panes, start}
+use Rattle.roam_layout.specs.Layouts.{Plan, IsPlan, Laid, Refused, outcome_of, panes, start}
 use Rattle.roam_layout.specs.declared.rects.Rect.{Rect}
-use Rattle.roam_session.specs.Panes.{Pane, given, fed, keyed, drained}
-use Rattle.roam_session.specs.Sessions.{Entry, Given, Did, Drained, SessionSize, SessionState, session, acted, laid_out, panes_given, at_pane, key_in}
+use Rattle.roam_session.specs.Panes.{Pane, pane_after_act, after_feed, after_key, after_drain}
+use Rattle.roam_session.specs.Sessions.{Entry, Given, Did, Drained, SessionSize, SessionState, session, after_act, laid_out, panes_given, at_pane, key_in}
 use Rattle.roam_session.specs.Refusals.{waiting_in, output_at, stops, is_full_for, is_stopped, fault_of}
 use Rattle.roam_session.specs.Stands.{SessionView, Stands, Agrees, ArePlaced, term_at, waiting_at}
 use Rattle.roam_session.specs.Steps.{IsGiven, Prepares, Does, step_at}
@@ -42,7 +42,7 @@ stands_after s t size log entry now h e plan panes lives =
 
 -- ---- layout commands
 
-pub stands_laid : (s t : SessionView) (client : ℕ) (act : Act) → key_in act ≡ None → laid s.plan act ≡ Laid t.plan
+pub stands_laid : (s t : SessionView) (client : ℕ) (act : Act) → key_in act ≡ None → outcome_of s.plan act ≡ Laid t.plan
     → ((k : ℕ) → IsGiven (rect_in k (panes s.plan)) (rect_in k (panes t.plan)) (term_at s.terms k) (term_at t.terms k))
     → CountsLives s.plan t.plan s.lives t.lives
     → (size : SessionSize) (log : List Entry) → Stands s size log → Stands t size (log ++ Did client act ∷ [])
@@ -50,7 +50,7 @@ stands_laid s t client act no_key e are lives size log h =
     let d = session size log in
     let now : SessionState = record { plan = t.plan; pane = panes_given s.plan t.plan d.pane } in
     stands_after s t size log (Did client act) now h
-    (session-append size log (Did client act) ∙ ap (λ o. acted o act d) no_key ∙ ap (λ p. laid_out (laid p act) d) (sym h.plan)
+    (session-append size log (Did client act) ∙ ap (λ o. after_act o act d) no_key ∙ ap (λ p. laid_out (outcome_of p act) d) (sym h.plan)
     ∙ ap (λ o. laid_out o d) e
     ∙ (λ i. record { plan = t.plan; pane = panes_given (sym h.plan i) t.plan d.pane }))
     refl
@@ -58,12 +58,12 @@ stands_laid s t client act no_key e are lives size log h =
     (h.panes k))
     lives
 
-pub stands_refused : (s : SessionView) (client : ℕ) (act : Act) (fault : Fault) → key_in act ≡ None → laid s.plan act ≡ Refused fault
+pub stands_refused : (s : SessionView) (client : ℕ) (act : Act) (fault : Fault) → key_in act ≡ None → outcome_of s.plan act ≡ Refused fault
     → (size : SessionSize) (log : List Entry) → Stands s size log → Stands s size (log ++ Did client act ∷ [])
 stands_refused s client act fault no_key e size log h =
     let d = session size log in
     stands_after s s size log (Did client act) d h
-    (session-append size log (Did client act) ∙ ap (λ o. acted o act d) no_key ∙ ap (λ p. laid_out (laid p act) d) (sym h.plan)
+    (session-append size log (Did client act) ∙ ap (λ o. after_act o act d) no_key ∙ ap (λ p. laid_out (outcome_of p act) d) (sym h.plan)
     ∙ ap (λ o. laid_out o d) e)
     h.plan h.panes (counts_kept s s size log h refl refl)
 
@@ -109,7 +109,7 @@ stands_first s size ts plan lives none are =
     record {
       plan = plan;
       panes = λ k.
-          subst (λ (x : Plan). Agrees (term_at s.terms k) (given None (rect_in k (panes x)) None)) plan
+          subst (λ (x : Plan). Agrees (term_at s.terms k) (pane_after_act None (rect_in k (panes x)) None)) plan
           (agrees_given None (rect_in k (panes s.plan)) (term_at ts k) (term_at s.terms k) None (are k)
           (none_agrees (term_at ts k) (none k)));
       lives = counted_first s size lives;
@@ -135,16 +135,16 @@ pub stands_fed : (s t : SessionView) (p : ℕ) (bytes : List ℕ) (plan : Plan) 
     → (size : SessionSize) (log : List Entry) → Stands s size log → Stands t size (log ++ Given p bytes ∷ [])
 stands_fed s t p bytes layout before after plan lives changes size log h =
     let d = session size log in
-    stands_after s t size log (Given p bytes) (at_pane p (fed bytes) d) h (session-append size log (Given p bytes)) (plan ∙ h.plan)
-    (agrees_at p (IsFed bytes layout p before after) (fed bytes) (does_fed bytes layout p before after) s.terms t.terms changes d.pane h.panes)
+    stands_after s t size log (Given p bytes) (at_pane p (after_feed bytes) d) h (session-append size log (Given p bytes)) (plan ∙ h.plan)
+    (agrees_at p (IsFed bytes layout p before after) (after_feed bytes) (does_fed bytes layout p before after) s.terms t.terms changes d.pane h.panes)
     (counts_kept s t size log h plan lives)
 
 pub stands_drained : (s t : SessionView) (p n : ℕ) → t.plan ≡ s.plan → t.lives ≡ s.lives → ChangesAt p (IsDrained n) s.terms t.terms
     → (size : SessionSize) (log : List Entry) → Stands s size log → Stands t size (log ++ Drained p n ∷ [])
 stands_drained s t p n plan lives changes size log h =
     let d = session size log in
-    stands_after s t size log (Drained p n) (at_pane p (drained n) d) h (session-append size log (Drained p n)) (plan ∙ h.plan)
-    (agrees_at p (IsDrained n) (drained n) (does_drained n) s.terms t.terms changes d.pane h.panes) (counts_kept s t size log h plan lives)
+    stands_after s t size log (Drained p n) (at_pane p (after_drain n) d) h (session-append size log (Drained p n)) (plan ∙ h.plan)
+    (agrees_at p (IsDrained n) (after_drain n) (does_drained n) s.terms t.terms changes d.pane h.panes) (counts_kept s t size log h plan lives)
 
 pub stands_keyed : (s t : SessionView) (client : ℕ) (act : Act) (key : Key) → key_in act ≡ Some key → t.plan ≡ s.plan
     → t.lives ≡ s.lives → ChangesAt s.plan.focus (IsKeyed key) s.terms t.terms
@@ -152,10 +152,10 @@ pub stands_keyed : (s t : SessionView) (client : ℕ) (act : Act) (key : Key) �
 stands_keyed s t client act key is plan lives changes size log h =
     let d = session size log in
     let f = s.plan.focus in
-    stands_after s t size log (Did client act) (at_pane f (keyed key) d) h
-    (session-append size log (Did client act) ∙ ap (λ o. acted o act d) is ∙ ap (λ (x : Plan). at_pane x.focus (keyed key) d) (sym h.plan))
+    stands_after s t size log (Did client act) (at_pane f (after_key key) d) h
+    (session-append size log (Did client act) ∙ ap (λ o. after_act o act d) is ∙ ap (λ (x : Plan). at_pane x.focus (after_key key) d) (sym h.plan))
     (plan ∙ h.plan)
-    (agrees_at f (IsKeyed key) (keyed key) (does_keyed key) s.terms t.terms changes d.pane h.panes) (counts_kept s t size log h plan lives)
+    (agrees_at f (IsKeyed key) (after_key key) (does_keyed key) s.terms t.terms changes d.pane h.panes) (counts_kept s t size log h plan lives)
 
 -- ---- what waits
 
@@ -178,7 +178,7 @@ fulls : (key : Key) (t : Option TermView) (pane : Option Pane) → Agrees t pane
 fulls key None None of = refl
 fulls key None (Some p) of = absurd of
 fulls key (Some t) None of = absurd of
-fulls key (Some t) (Some p) of = λ i. fault_if (ltb 65536 (length (of.waiting i) + length (sent (key_modes (of.shows.live i).modes) key)))
+fulls key (Some t) (Some p) of = λ i. fault_if (ltb 65536 (length (of.waiting i) + length (bytes_of_key (key_modes (of.shows.live i).modes) key)))
 
 pub stopped_is : (s : SessionView) (act : Act) (key : Key) → key_in act ≡ Some key → (size : SessionSize) (log : List Entry)
     → Stands s size log
@@ -220,7 +220,7 @@ busy_if true o e = (λ h. refl, λ h. e)
 busy_if false o e = (λ h. let no : None ≡ Some Busy = sym e ∙ h in cc, λ h. cc)
 
 -- and a layout command never
-pub not_busy : {A : Type 0} (r : Result A Fault) (plan : Plan) (act : Act) → IfErr r (λ f. (f ≡ OutOfMemory) ⊎ (laid plan act ≡ Refused f))
+pub not_busy : {A : Type 0} (r : Result A Fault) (plan : Plan) (act : Act) → IfErr r (λ f. (f ≡ OutOfMemory) ⊎ (outcome_of plan act ≡ Refused f))
     → fault_of r ≡ Some Busy → ⊥
 not_busy (Ok x) plan act why e = cc
 not_busy (Err f) plan act why e =
@@ -235,7 +235,7 @@ pub never_wants : {A : Type 0} (r : Result A Fault) (key : Key) (t : Option Term
     → r ≡ Err OutOfMemory → ⊥
 never_wants r key None is e = let no : None ≡ Some OutOfMemory = sym is ∙ ap fault_of e in cc
 never_wants r key (Some t) is e =
-    not_wanted (ltb 65536 (length t.waiting + length (sent (key_modes t.live.modes) key))) (sym is ∙ ap fault_of e)
+    not_wanted (ltb 65536 (length t.waiting + length (bytes_of_key (key_modes t.live.modes) key))) (sym is ∙ ap fault_of e)
   where
     not_wanted : (v : Bool) → fault_if v ≡ Some OutOfMemory → ⊥
     not_wanted true h = let no : Busy ≡ OutOfMemory = cc in cc

@@ -8,7 +8,7 @@ use Rattle.roam_cells.specs.Place.{cell_at, row_of}
 use Rattle.roam_screens.specs.Screenshot.{Screenshot}
 use Rattle.roam_layout.specs.Layouts.{Plan, panes, edges}
 use Rattle.roam_layout.specs.Status.{status_row}
-use Rattle.roam_layout.specs.Faces.{character, reverse_style, found, cell_in, pane_cell, face_at, face_row}
+use Rattle.roam_layout.specs.Faces.{character, reverse_style, first_with_place, cell_in, pane_cell, face_at, face_row}
 use Rattle.roam_layout.specs.declared.rects.Rect.{Rect}
 use Rattle.roam_layout.specs.declared.rects.Way.{Way}
 use Rattle.roam_term.specs.Unmarked.{IsSameRow}
@@ -21,20 +21,20 @@ same_cell r c p q (Some x) border each = each x refl
 
 -- above the last row a place shows a pane or a border
 above : (s : Plan) (p : ℕ → Screenshot) (r c : ℕ) → eqb r s.rows ≡ false
-    → face_at s p r c ≡ pane_cell p r c (found r c (panes s)) (found r c (edges s))
+    → face_at s p r c ≡ pane_cell p r c (first_with_place r c (panes s)) (first_with_place r c (edges s))
 above s p r c e =
-    ap (λ b. cond b (character (slice_index (status_row s) (c - 1)) reverse_style) (pane_cell p r c (found r c (panes s)) (found r c (edges s)))) e
+    ap (λ b. cond b (character (slice_index (status_row s) (c - 1)) reverse_style) (pane_cell p r c (first_with_place r c (panes s)) (first_with_place r c (edges s)))) e
 
 module _ (s t : Plan) (p q : ℕ → Screenshot) (r : ℕ) (rows : t.rows ≡ s.rows) (cols : t.cols ≡ s.cols) (low : eqb r s.rows ≡ false)
-    (same_panes : (c : ℕ) → found r c (panes t) ≡ found r c (panes s))
-    (same_edges : (c : ℕ) → found r c (edges t) ≡ found r c (edges s))
-    (same : (c : ℕ) (x : ℕ × Rect) → found r c (panes s) ≡ Some x → cell_in x.1 (q x.0) r c ≡ cell_in x.1 (p x.0) r c) where
+    (same_panes : (c : ℕ) → first_with_place r c (panes t) ≡ first_with_place r c (panes s))
+    (same_edges : (c : ℕ) → first_with_place r c (edges t) ≡ first_with_place r c (edges s))
+    (same : (c : ℕ) (x : ℕ × Rect) → first_with_place r c (panes s) ≡ Some x → cell_in x.1 (q x.0) r c ≡ cell_in x.1 (p x.0) r c) where
   at_same : (c : ℕ) → face_at t q r c ≡ face_at s p r c
   at_same c =
       above t q r c (ap (eqb r) rows ∙ low)
-      ∙ ap (λ o. pane_cell q r c o (found r c (edges t))) (same_panes c)
-      ∙ ap (pane_cell q r c (found r c (panes s))) (same_edges c)
-      ∙ same_cell r c p q (found r c (panes s)) (found r c (edges s)) (same c)
+      ∙ ap (λ o. pane_cell q r c o (first_with_place r c (edges t))) (same_panes c)
+      ∙ ap (pane_cell q r c (first_with_place r c (panes s))) (same_edges c)
+      ∙ same_cell r c p q (first_with_place r c (panes s)) (first_with_place r c (edges s)) (same c)
       ∙ sym (above s p r c low)
 
   pub row_same : face_row t q r ≡ face_row s p r
@@ -56,5 +56,5 @@ status_same s p q r e = (λ i. map (λ c. at (c + 1) i) (range_with_len 0 s.cols
     at : (c : ℕ) → face_at s q r c ≡ face_at s p r c
     at c =
         let text = character (slice_index (status_row s) (c - 1)) reverse_style in
-        ap (λ b. cond b text (pane_cell q r c (found r c (panes s)) (found r c (edges s)))) e
-        ∙ sym (ap (λ b. cond b text (pane_cell p r c (found r c (panes s)) (found r c (edges s)))) e)
+        ap (λ b. cond b text (pane_cell q r c (first_with_place r c (panes s)) (first_with_place r c (edges s)))) e
+        ∙ sym (ap (λ b. cond b text (pane_cell p r c (first_with_place r c (panes s)) (first_with_place r c (edges s)))) e)

@@ -3,7 +3,7 @@ use Rattle.std.proofs.Common.{◌≡◌, ℕ, suc, ◌+◌, ◌<◌, ◌≤◌, 
 use Rattle.std.specs.List.{list_any}
 use Rattle.std.proofs.lemmas.Bool.{and_parts, eqb-true}
 use Rattle.roam_layout.specs.Rects.{within, inside, once, hits}
-use Rattle.roam_layout.specs.Faces.{found}
+use Rattle.roam_layout.specs.Faces.{first_with_place}
 use Rattle.roam_layout.specs.declared.rects.Rect.{Rect}
 use Rattle.roam_layout.specs.declared.rects.Way.{Way}
 use Rattle.roam_layout.specs.declared.rects.Way.TheVariants.{Right, Down}
@@ -19,11 +19,11 @@ pub record IsFound {A : Type 0} (r c : ℕ) (x : A × Rect) (xs : List (A × Rec
   pub there : In x xs
   pub has : inside r c x.1 ≡ true
 
-pub found_is : {A : Type 0} (r c : ℕ) (x : A × Rect) (xs : List (A × Rect)) → found r c xs ≡ Some x → IsFound r c x xs
+pub found_is : {A : Type 0} (r c : ℕ) (x : A × Rect) (xs : List (A × Rect)) → first_with_place r c xs ≡ Some x → IsFound r c x xs
 found_is r c x [] e = absurd cc
 found_is {A} r c x (y ∷ ys) e = by_case (found_is r c x ys) (inside r c y.1) refl e
   where
-    by_case : (found r c ys ≡ Some x → IsFound r c x ys) → (v : Bool) → inside r c y.1 ≡ v → cond v (Some y) (found r c ys) ≡ Some x
+    by_case : (first_with_place r c ys ≡ Some x → IsFound r c x ys) → (v : Bool) → inside r c y.1 ≡ v → cond v (Some y) (first_with_place r c ys) ≡ Some x
         → IsFound r c x (y ∷ ys)
     by_case rest true is at =
         let same : y ≡ x = cc in
@@ -40,14 +40,14 @@ hit r c x (y ∷ ys) (inr i) h = omega (arith, hit r c x ys i h)
 
 -- the only one that has the place is found
 only : {A : Type 0} (r c : ℕ) (x : A × Rect) (xs : List (A × Rect)) → hits r c xs ≤ 1 → In x xs → inside r c x.1 ≡ true
-    → found r c xs ≡ Some x
+    → first_with_place r c xs ≡ Some x
 only r c x [] few i h = absurd i
 only {A} r c x (y ∷ ys) few (inl e) h =
-    ap (λ b. cond b (Some y) (found r c ys)) (sym (ap (λ (z : A × Rect). inside r c z.1) e) ∙ h) ∙ ap Some (sym e)
+    ap (λ b. cond b (Some y) (first_with_place r c ys)) (sym (ap (λ (z : A × Rect). inside r c z.1) e) ∙ h) ∙ ap Some (sym e)
 only r c x (y ∷ ys) few (inr i) h = by_case (inside r c y.1) few (only r c x ys)
   where
-    by_case : (v : Bool) → cond v 1 0 + hits r c ys ≤ 1 → (hits r c ys ≤ 1 → In x ys → inside r c x.1 ≡ true → found r c ys ≡ Some x)
-        → cond v (Some y) (found r c ys) ≡ Some x
+    by_case : (v : Bool) → cond v 1 0 + hits r c ys ≤ 1 → (hits r c ys ≤ 1 → In x ys → inside r c x.1 ≡ true → first_with_place r c ys ≡ Some x)
+        → cond v (Some y) (first_with_place r c ys) ≡ Some x
     by_case true all rest = absurd (omega (arith, all, hit r c x ys i h))
     by_case false all rest = rest (omega (arith, all)) i h
 
@@ -55,10 +55,10 @@ only r c x (y ∷ ys) few (inr i) h = by_case (inside r c y.1) few (only r c x y
 pub found_same : {A : Type 0} (r c : ℕ) (xs ys : List (A × Rect)) → hits r c xs ≤ 1 → hits r c ys ≤ 1
     → ((x : A × Rect) → In x xs → within x.1.row x.1.rows r ≡ true → In x ys)
     → ((x : A × Rect) → In x ys → within x.1.row x.1.rows r ≡ true → In x xs)
-    → found r c ys ≡ found r c xs
-found_same {A} r c xs ys few less there back = by_both (found r c xs) (found r c ys) refl refl
+    → first_with_place r c ys ≡ first_with_place r c xs
+found_same {A} r c xs ys few less there back = by_both (first_with_place r c xs) (first_with_place r c ys) refl refl
   where
-    by_both : (o q : Option (A × Rect)) → found r c xs ≡ o → found r c ys ≡ q → q ≡ o
+    by_both : (o q : Option (A × Rect)) → first_with_place r c xs ≡ o → first_with_place r c ys ≡ q → q ≡ o
     by_both (Some x) q e f =
         let is = found_is r c x xs e in
         sym f ∙ only r c x ys less (there x is.there (and_parts (within x.1.row x.1.rows r) (within x.1.col x.1.cols c) is.has).0) is.has

@@ -13,14 +13,14 @@ use Rattle.roam_term.specs.Picture.{picture_of}
 use Rattle.roam_term.specs.Stands.{TermView, HasSize}
 use Rattle.roam_layout.specs.Trees.{has}
 use Rattle.roam_layout.specs.Rects.{rect_in, within, inside, hits}
-use Rattle.roam_layout.specs.Layouts.{Plan, IsPlan, Laid, laid, area, panes, edges}
-use Rattle.roam_layout.specs.Faces.{found, cell_in, face_row, face, ArePictures, Show, KeepsRows}
+use Rattle.roam_layout.specs.Layouts.{Plan, IsPlan, Laid, outcome_of, area, panes, edges}
+use Rattle.roam_layout.specs.Faces.{first_with_place, cell_in, face_row, face, ArePictures, Show, KeepsRows}
 use Rattle.roam_layout.specs.declared.rects.Rect.{Rect}
 use Rattle.roam_layout.proofs.Covering.{covered}
 use Rattle.roam_layout.proofs.FaceOver.{face_rows}
 use Rattle.roam_layout.proofs.Listed.{pane_listed}
 use Rattle.roam_layout.proofs.Places.{within_range}
-use Rattle.roam_session.specs.Marks.{view_in, is_touched, touched, loses_pane, loses_border, is_shown_anew, is_relaid, is_concerned, has_row}
+use Rattle.roam_session.specs.Marks.{view_in, is_touched, touched_marks, loses_pane, loses_border, is_shown_anew, is_relaid, is_concerned, has_row}
 use Rattle.roam_session.specs.Panes.{is_same_size}
 use Rattle.roam_session.specs.Stands.{IsPlaced, ArePlaced, IsQuiet, IsQuietAt, shown_at, shown_by, term_at}
 use Rattle.roam_session.specs.Steps.{IsGiven}
@@ -40,7 +40,7 @@ pub unmarked : (names : ℕ → Bool) (marks : List Bool) (r : ℕ) → r < 200 
 unmarked names marks r low off = or_none (is_marked marks r) (names r) (sym (marked_at names marks r low) ∙ off)
 
 untouched : (o : Option Rect) (v : Option ℕ) (rows : ℕ) (named marks : List Bool) (r : ℕ) → r < 200
-    → is_marked (touched o v rows named marks) r ≡ false → is_marked marks r ≡ false
+    → is_marked (touched_marks o v rows named marks) r ≡ false → is_marked marks r ≡ false
 untouched None v rows named marks r low off = off
 untouched (Some x) None rows named marks r low off = off
 untouched (Some x) (Some view) rows named marks r low off = (unmarked (is_touched x view rows named) marks r low off).0
@@ -60,7 +60,7 @@ record IsPane (s : Plan) (r c : ℕ) (x : ℕ × Rect) : Type 0 where
   row : within x.1.row x.1.rows r ≡ true
   col : within x.1.col x.1.cols c ≡ true
 
-pane_of : (s : Plan) (r c : ℕ) (x : ℕ × Rect) → IsPlan s → found r c (panes s) ≡ Some x → IsPane s r c x
+pane_of : (s : Plan) (r c : ℕ) (x : ℕ × Rect) → IsPlan s → first_with_place r c (panes s) ≡ Some x → IsPane s r c x
 pane_of s r c x is e =
     let f = found_is r c x (panes s) e in
     let at = in_at x (panes s) x f.there in
@@ -129,8 +129,8 @@ module _ (plan : Plan) (is : IsPlan plan) (p : ℕ) (bytes : List ℕ) (before a
         let view : view_in plan p ≡ Some (slice_index plan.views p) = ap (λ b. cond b (Some (slice_index plan.views p)) None) pane.there in
         (unmarked (is_touched x (slice_index plan.views p) plan.rows fed.read.marks) before r (omega (arith, low, is.size.1))
         (sym (ap (λ m. is_marked m r)
-        (fed.marks ∙ ap (λ o. touched o (view_in plan p) plan.rows fed.read.marks before) pane.rect
-        ∙ ap (λ o. touched (Some x) o plan.rows fed.read.marks before) view)) ∙ off)).1
+        (fed.marks ∙ ap (λ o. touched_marks o (view_in plan p) plan.rows fed.read.marks before) pane.rect
+        ∙ ap (λ o. touched_marks (Some x) o plan.rows fed.read.marks before) view)) ∙ off)).1
 
     here : (r c : ℕ) (x : Rect) → r < plan.rows → IsPane plan (r + 1) c (p, x) → is_marked after r ≡ false
         → cell_in x (shown_by plan us p) (r + 1) c ≡ cell_in x (shown_by plan ts p) (r + 1) c
@@ -196,7 +196,7 @@ unviewed (View d) t r x rect row off =
     λ same. false≢true (sym off ∙ ap (λ k. has_row (rect_in k (panes t)) r) (sym same) ∙ ap (λ o. has_row o r) rect ∙ row)
 unviewed act t r x rect row off = tt
 
-module _ (act : Act) (old new : Plan) (is_old : IsPlan old) (is_new : IsPlan new) (e : laid old act ≡ Laid new)
+module _ (act : Act) (old new : Plan) (is_old : IsPlan old) (is_new : IsPlan new) (e : outcome_of old act ≡ Laid new)
     (ts us : List (Option TermView)) (kept : Screenshot) (marks : List Bool)
     (given : (k : ℕ) → IsGiven (rect_in k (panes old)) (rect_in k (panes new)) (term_at ts k) (term_at us k))
     (keeps : KeepsRows marks kept old (shown_by old ts)) where
@@ -228,17 +228,17 @@ module _ (act : Act) (old new : Plan) (is_old : IsPlan old) (is_new : IsPlan new
     one : (gone ≡ false) × (come ≡ false)
     one = or_none gone come two.0
 
-    same_panes : (c : ℕ) → found (r + 1) c (panes new) ≡ found (r + 1) c (panes old)
+    same_panes : (c : ℕ) → first_with_place (r + 1) c (panes new) ≡ first_with_place (r + 1) c (panes old)
     same_panes c =
         found_same (r + 1) c (panes old) (panes new) (few_hits old is_old (r + 1) c).0 (few_hits new is_new (r + 1) c).0
         (λ x i h. pane_stays (r + 1) (panes old) (panes new) one.0 x i h) (λ x i h. pane_stays (r + 1) (panes new) (panes old) one.1 x i h)
 
-    same_edges : (c : ℕ) → found (r + 1) c (edges new) ≡ found (r + 1) c (edges old)
+    same_edges : (c : ℕ) → first_with_place (r + 1) c (edges new) ≡ first_with_place (r + 1) c (edges old)
     same_edges c =
         found_same (r + 1) c (edges old) (edges new) (few_hits old is_old (r + 1) c).1 (few_hits new is_new (r + 1) c).1
         (λ x i h. border_stays (r + 1) (edges old) (edges new) two.1 x i h) (λ x i h. border_stays (r + 1) (edges new) (edges old) three.1 x i h)
 
-    shown_same : (c : ℕ) (x : ℕ × Rect) → found (r + 1) c (panes old) ≡ Some x → shown_by new us x.0 ≡ shown_by old ts x.0
+    shown_same : (c : ℕ) (x : ℕ × Rect) → first_with_place (r + 1) c (panes old) ≡ Some x → shown_by new us x.0 ≡ shown_by old ts x.0
     shown_same c x f =
         let a = pane_of old (r + 1) c x is_old f in
         let b = pane_of new (r + 1) c x is_new (same_panes c ∙ f) in

@@ -7,10 +7,10 @@ use Rattle.std.proofs.lemmas.Bool.{cond_both}
 use Rattle.roam_acts.specs.declared.acts.Act.{Act}
 use Rattle.roam_keys.specs.declared.keys.Key.{Key}
 use Rattle.roam_layout.specs.Rects.{rect_in}
-use Rattle.roam_layout.specs.Layouts.{Outcome, Laid, Refused, laid, panes}
+use Rattle.roam_layout.specs.Layouts.{Outcome, Laid, Refused, outcome_of, panes}
 use Rattle.roam_layout.specs.declared.rects.Rect.{Rect}
-use Rattle.roam_session.specs.Panes.{Pane, given, fed, keyed, drained}
-use Rattle.roam_session.specs.Sessions.{Entry, Given, Did, Drained, SessionSize, SessionState, at_pane, laid_out, key_in, acted, after_entry, first_state, session}
+use Rattle.roam_session.specs.Panes.{Pane, pane_after_act, after_feed, after_key, after_drain}
+use Rattle.roam_session.specs.Sessions.{Entry, Given, Did, Drained, SessionSize, SessionState, at_pane, laid_out, key_in, after_act, after_entry, first_state, session}
 use Rattle.roam_session.specs.Lives.{is_made, begins, ever_made, life_of, LivesAreCounted, LivesLast}
 use Rattle.roam_session.proofs.Logs.{session-append}
 use Rattle.roam_session.proofs.Living.{ever_more}
@@ -20,7 +20,7 @@ use Rattle.roam_session.proofs.Living.{ever_more}
 abbrev IsThere : Option Rect → Option Pane → Type 0
 IsThere r pane = is_some r ≡ is_some pane
 
-given_there : (from to : Option Rect) (pane : Option Pane) → IsThere from pane → IsThere to (given from to pane)
+given_there : (from to : Option Rect) (pane : Option Pane) → IsThere from pane → IsThere to (pane_after_act from to pane)
 given_there from None pane is = refl
 given_there None (Some to) pane is = refl
 given_there (Some from) (Some to) None is = is
@@ -42,14 +42,14 @@ laid_there : (o : Outcome) (s : SessionState) → AreThere s → AreThere (laid_
 laid_there (Refused fault) s are k = are k
 laid_there (Laid plan) s are k = given_there (rect_in k (panes s.plan)) (rect_in k (panes plan)) (s.pane k) (are k)
 
-acted_there : (o : Option Key) (act : Act) (s : SessionState) → AreThere s → AreThere (acted o act s)
-acted_there (Some key) act s are = at_pane_there s.plan.focus (keyed key) s are
-acted_there None act s are = laid_there (laid s.plan act) s are
+acted_there : (o : Option Key) (act : Act) (s : SessionState) → AreThere s → AreThere (after_act o act s)
+acted_there (Some key) act s are = at_pane_there s.plan.focus (after_key key) s are
+acted_there None act s are = laid_there (outcome_of s.plan act) s are
 
 entry_there : (entry : Entry) (s : SessionState) → AreThere s → AreThere (after_entry s entry)
-entry_there (Given n bytes) s are = at_pane_there n (fed bytes) s are
+entry_there (Given n bytes) s are = at_pane_there n (after_feed bytes) s are
 entry_there (Did client act) s are = acted_there (key_in act) act s are
-entry_there (Drained n count) s are = at_pane_there n (drained count) s are
+entry_there (Drained n count) s are = at_pane_there n (after_drain count) s are
 
 entries_there : (log : List Entry) (s : SessionState) → AreThere s → AreThere (fold after_entry s log)
 entries_there [] s are = are

@@ -7,8 +7,8 @@ use Rattle.roam_text.specs.Functions.{functions_of}
 use Rattle.roam_term.specs.Marks.{marked_through}
 use Rattle.roam_term.specs.Stands.{TermView}
 use Rattle.roam_layout.specs.Rects.{rect_in}
-use Rattle.roam_layout.specs.Layouts.{Plan, Laid, laid, panes}
-use Rattle.roam_session.specs.Marks.{view_in, touched, functions_given, named_by, is_concerned, marks_laid, marks_acted, marks_after}
+use Rattle.roam_layout.specs.Layouts.{Plan, Laid, outcome_of, panes}
+use Rattle.roam_session.specs.Marks.{view_in, touched_marks, functions_given, named_by, is_concerned, marks_laid, marks_acted, marks_after}
 use Rattle.roam_session.specs.Panes.{Pane, live_of}
 use Rattle.roam_session.specs.Refusals.{bytes_refused}
 use Rattle.roam_session.specs.Sessions.{Entry, Given, Did, SessionSize, session, key_in}
@@ -40,20 +40,20 @@ marks_fed plan ts us before after p bytes size log quiet free changes same of =
     let new = given_to rule old.0 (term_at us p) (subst (λ (o : Option TermView). Both rule o (term_at us p)) old.1 changes.here) in
     let fed = new.2 in
     fed.marks
-    ∙ ap (λ named. touched (rect_in p (panes plan)) (view_in plan p) plan.rows named before)
+    ∙ ap (λ named. touched_marks (rect_in p (panes plan)) (view_in plan p) plan.rows named before)
     (named_is bytes plan p before after old.0 new.0 (d.pane p) fed (subst IsQuietAt old.1 (quiet p))
     (subst (λ (o : Option TermView). Agrees o (d.pane p)) old.1 (of p)))
-    ∙ ap (λ (x : Plan). touched (rect_in p (panes x)) (view_in x p) x.rows (named_by bytes (d.pane p)) before) same
+    ∙ ap (λ (x : Plan). touched_marks (rect_in p (panes x)) (view_in x p) x.rows (named_by bytes (d.pane p)) before) same
 
 -- ---- acts
 
-pub marks_laid_out : (s t : SessionView) (client : ℕ) (act : Act) → key_in act ≡ None → laid s.plan act ≡ Laid t.plan
+pub marks_laid_out : (s t : SessionView) (client : ℕ) (act : Act) → key_in act ≡ None → outcome_of s.plan act ≡ Laid t.plan
     → t.marks ≡ also_marked (is_concerned act s.plan t.plan) s.marks → t.kept ≡ s.kept → MarksRows s t (Did client act)
 marks_laid_out s t client act no_key e marks kept = record {
   kept = kept;
   marks = λ size log h.
       let d = session size log in
-      marks ∙ sym (ap (λ o. marks_laid act s.plan o s.marks) e) ∙ ap (λ x. marks_laid act x (laid x act) s.marks) h.plan
+      marks ∙ sym (ap (λ o. marks_laid act s.plan o s.marks) e) ∙ ap (λ x. marks_laid act x (outcome_of x act) s.marks) h.plan
       ∙ sym (ap (λ o. marks_acted o act d s.marks) no_key);
 }
 

@@ -3,7 +3,7 @@ use Rattle.std.proofs.Common.{◌≡◌, ℕ, zero, suc, ◌+◌, ◌<◌, ◌�
 use Rattle.std.proofs.lemmas.Bool.{eqb-true, eq-eqb, ne_eqb}
 use Rattle.roam_cells.specs.Limits.{IsSize}
 use Rattle.roam_layout.specs.Trees.{Shape, One, Two, times, AreNumbers}
-use Rattle.roam_layout.specs.Rects.{placed, first_part, second_part, first_length, rect_in, Fits}
+use Rattle.roam_layout.specs.Rects.{rects_of, first_part, second_part, first_length, rect_in, Fits}
 use Rattle.roam_layout.specs.Layouts.{Plan, IsPlan, area, panes}
 use Rattle.roam_layout.proofs.Covering.{across_in, down_in}
 use Rattle.roam_layout.specs.declared.rects.Way.TheVariants.{Right, Down}
@@ -37,18 +37,18 @@ none_in p (x ∷ xs) h = ap (λ v. cond v (Some x.1) (rect_in p xs)) h.0 ∙ non
 abbrev HasScreenSize : ℕ × Rect → Type 0
 HasScreenSize x = IsSize x.1.rows x.1.cols
 
-sizes_placed : (t : Shape) (r : Rect) → Fits t r → r.rows ≤ 200 → r.cols ≤ 500 → Each HasScreenSize (placed t r)
+sizes_placed : (t : Shape) (r : Rect) → Fits t r → r.rows ≤ 200 → r.cols ≤ 500 → Each HasScreenSize (rects_of t r)
 sizes_placed (One p) r fits rows cols = (record { least_rows = fits.0; most_rows = rows; least_columns = fits.1; most_columns = cols }, tt)
 sizes_placed (Two Right g a b) r fits rows cols =
     let n = first_length Right g a b r in
     let bounds = across_in g a b r fits in
-    each-append HasScreenSize (placed a (first_part Right g a b r)) (placed b (second_part Right g a b r))
+    each-append HasScreenSize (rects_of a (first_part Right g a b r)) (rects_of b (second_part Right g a b r))
     (sizes_placed a (first_part Right g a b r) (omega (arith, fits.0), bounds.0) rows (omega (arith, bounds.1, cols)))
     (sizes_placed b (second_part Right g a b r) (omega (arith, fits.0), omega (arith, bounds.1)) rows (omega (arith, cols)))
 sizes_placed (Two Down g a b) r fits rows cols =
     let n = first_length Down g a b r in
     let bounds = down_in g a b r fits in
-    each-append HasScreenSize (placed a (first_part Down g a b r)) (placed b (second_part Down g a b r))
+    each-append HasScreenSize (rects_of a (first_part Down g a b r)) (rects_of b (second_part Down g a b r))
     (sizes_placed a (first_part Down g a b r) (bounds.0, omega (arith, fits.1)) (omega (arith, bounds.1, rows)) cols)
     (sizes_placed b (second_part Down g a b r) (omega (arith, bounds.1), omega (arith, fits.1)) (omega (arith, rows)) cols)
 
@@ -61,10 +61,10 @@ sizes_in s plan k r e =
 
 -- ---- numbers
 
-numbers_placed : (p : ℕ) (t : Shape) (r : Rect) → AreNumbers t → 10 ≤ p → Each (λ x. eqb x.0 p ≡ false) (placed t r)
+numbers_placed : (p : ℕ) (t : Shape) (r : Rect) → AreNumbers t → 10 ≤ p → Each (λ x. eqb x.0 p ≡ false) (rects_of t r)
 numbers_placed p (One q) r numbers high = (ne_eqb q p (λ e. omega (arith, e, numbers.1, high)), tt)
 numbers_placed p (Two w g a b) r numbers high =
-    each-append (λ x. eqb x.0 p ≡ false) (placed a (first_part w g a b r)) (placed b (second_part w g a b r))
+    each-append (λ x. eqb x.0 p ≡ false) (rects_of a (first_part w g a b r)) (rects_of b (second_part w g a b r))
     (numbers_placed p a (first_part w g a b r) numbers.0 high) (numbers_placed p b (second_part w g a b r) numbers.1 high)
 
 -- no pane has a number above 9
@@ -81,12 +81,12 @@ counts-append : (p : ℕ) (xs ys : List (ℕ × Rect)) → counts p (xs ++ ys) �
 counts-append p [] ys = omega arith
 counts-append p (x ∷ xs) ys = omega (arith, counts-append p xs ys)
 
-counts_placed : (p : ℕ) (t : Shape) (x : Rect) → counts p (placed t x) ≡ times p t
+counts_placed : (p : ℕ) (t : Shape) (x : Rect) → counts p (rects_of t x) ≡ times p t
 counts_placed p (One q) x = omega arith
 counts_placed p (Two w g a b) x =
     omega (
       arith,
-      counts-append p (placed a (first_part w g a b x)) (placed b (second_part w g a b x)),
+      counts-append p (rects_of a (first_part w g a b x)) (rects_of b (second_part w g a b x)),
       counts_placed p a (first_part w g a b x),
       counts_placed p b (second_part w g a b x),
     )

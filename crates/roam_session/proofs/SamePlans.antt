@@ -6,8 +6,8 @@ use Rattle.roam_acts.specs.declared.acts.Act.{Act}
 use Rattle.roam_acts.specs.declared.acts.Act.TheVariants.{Key, SplitRight, SplitDown, Close, Focus, Next, Grow, Size, View}
 use Rattle.roam_cells.specs.declared.faults.Fault.TheVariants.{LastPane, NoPane, PanesFull, TooSmall, BadSize}
 use Rattle.roam_layout.specs.Trees.{Shape, leaves, has, is_one, free}
-use Rattle.roam_layout.specs.Rects.{is_roomy, spot, grown, fits_in}
-use Rattle.roam_layout.specs.Layouts.{Plan, Outcome, Laid, Refused, laid, split, with_tree, is_session_size, area}
+use Rattle.roam_layout.specs.Rects.{is_roomy, spot, after_growth, fits_in}
+use Rattle.roam_layout.specs.Layouts.{Plan, Outcome, Laid, Refused, outcome_of, split, with_tree, is_session_size, area}
 use Rattle.roam_layout.specs.declared.rects.Way.{Way}
 use Rattle.roam_layout.specs.declared.rects.Way.TheVariants.{Right, Down}
 use Rattle.roam_layout.proofs.Counting.{free_is_free}
@@ -47,7 +47,7 @@ grown_same : (d : _) (s : Plan) (o : Option Shape) → IfSame (Grow d) s (with_t
 grown_same d s None = tt
 grown_same d s (Some t) = plain (Grow d) s (record s { tree = t }) refl refl refl
 
-laid_same : (act : Act) (s : Plan) → IfSame act s (laid s act)
+laid_same : (act : Act) (s : Plan) → IfSame act s (outcome_of s act)
 laid_same (Key k) s = plain (Key k) s s refl refl refl
 laid_same SplitRight s = split_same SplitRight Right s
 laid_same SplitDown s = split_same SplitDown Down s
@@ -59,8 +59,8 @@ laid_same (Focus p) s =
     (λ e. record { size = λ r h. (refl, refl); views = λ k h u. refl }) (λ e. tt)
 laid_same Next s = record { size = λ r h. (refl, refl); views = λ k h u. refl }
 laid_same (Grow d) s =
-    cond_both (is_one s.focus s.tree) (Refused LastPane) (with_tree s (grown s.focus d s.tree (area s.rows s.cols))) (IfSame (Grow d) s)
-    (λ e. tt) (λ e. grown_same d s (grown s.focus d s.tree (area s.rows s.cols)))
+    cond_both (is_one s.focus s.tree) (Refused LastPane) (with_tree s (after_growth s.focus d s.tree (area s.rows s.cols))) (IfSame (Grow d) s)
+    (λ e. tt) (λ e. grown_same d s (after_growth s.focus d s.tree (area s.rows s.cols)))
 laid_same (Size r c) s =
     cond_both (is_session_size r c) (cond (fits_in s.tree (area r c)) (Laid _) (Refused TooSmall)) (Refused BadSize) (IfSame (Size r c) s)
     (λ size. cond_both (fits_in s.tree (area r c)) (Laid _) (Refused TooSmall) (IfSame (Size r c) s)
@@ -68,5 +68,5 @@ laid_same (Size r c) s =
     (λ e. tt)
 laid_same (View d) s = record { size = λ r h. (refl, refl); views = λ k h u. get_or-set_other s.views s.focus k _ 0 u }
 
-pub same_plan : (act : Act) (s t : Plan) → laid s act ≡ Laid t → IsSamePlan act s t
+pub same_plan : (act : Act) (s t : Plan) → outcome_of s act ≡ Laid t → IsSamePlan act s t
 same_plan act s t e = subst (IfSame act s) e (laid_same act s)

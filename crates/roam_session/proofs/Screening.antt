@@ -13,13 +13,13 @@ use Rattle.roam_term.specs.Picture.{picture}
 use Rattle.roam_term.specs.Screens.{AreSizes, size_after}
 use Rattle.roam_term.proofs.Picturing.{picture_screen}
 use Rattle.roam_layout.specs.Rects.{rect_in}
-use Rattle.roam_layout.specs.Layouts.{Outcome, Laid, Refused, IsSessionSize, start, laid, panes}
+use Rattle.roam_layout.specs.Layouts.{Outcome, Laid, Refused, IsSessionSize, start, outcome_of, panes}
 use Rattle.roam_layout.specs.declared.rects.Rect.{Rect}
 use Rattle.roam_layout.proofs.Laying.{IsLayout, laid_layout, start_layout, face_screen}
 use Rattle.roam_layout.proofs.Segments.{ArePictured, IsPictured}
 use Rattle.roam_session.specs.Faces.{picture_at, pictures_of, face}
-use Rattle.roam_session.specs.Panes.{Pane, is_same_size, moved, given, fed, keyed, drained}
-use Rattle.roam_session.specs.Sessions.{Entry, Given, Did, Drained, SessionSize, SessionState, at_pane, laid_out, key_in, acted, after_entry, first_state, session}
+use Rattle.roam_session.specs.Panes.{Pane, is_same_size, after_move, pane_after_act, after_feed, after_key, after_drain}
+use Rattle.roam_session.specs.Sessions.{Entry, Given, Did, Drained, SessionSize, SessionState, at_pane, laid_out, key_in, after_act, after_entry, first_state, session}
 use Rattle.roam_session.proofs.Rectangles.{sizes_in, found_by_number}
 
 -- ---- what panes are given
@@ -59,17 +59,17 @@ IsPlaced (Some r) (Some p) = IsPaneOf r p
 abbrev Keeps : (Pane → Pane) → Type 0
 Keeps change = (r : Rect) (p : Pane) → IsPaneOf r p → IsPaneOf r (change p)
 
-fed_keeps : (bytes : List ℕ) → Keeps (fed bytes)
+fed_keeps : (bytes : List ℕ) → Keeps (after_feed bytes)
 fed_keeps bytes r p is = record {
   first = is.first;
   sizes = sizes-append p.log (map Byte bytes) is.sizes (bytes_sizes bytes);
   size = after-append (p.rows, p.cols) p.log (map Byte bytes) ∙ bytes_after (size_after (p.rows, p.cols) p.log) bytes ∙ is.size;
 }
 
-keyed_keeps : (key : Key) → Keeps (keyed key)
+keyed_keeps : (key : Key) → Keeps (after_key key)
 keyed_keeps key r p is = record { first = is.first; sizes = is.sizes; size = is.size }
 
-drained_keeps : (n : ℕ) → Keeps (drained n)
+drained_keeps : (n : ℕ) → Keeps (after_drain n)
 drained_keeps n r p is = record { first = is.first; sizes = is.sizes; size = is.size }
 
 changed_placed : (change : Pane → Pane) → Keeps change → (o : Option Rect) (pane : Option Pane) → IsPlaced o pane → IsPlaced o
@@ -78,7 +78,7 @@ changed_placed change keeps None pane is = tt
 changed_placed change keeps (Some r) None is = is
 changed_placed change keeps (Some r) (Some p) is = keeps r p is
 
-moved_placed : (from to : Rect) (p : Pane) → IsSize to.rows to.cols → IsPaneOf from p → IsPaneOf to (moved from to p)
+moved_placed : (from to : Rect) (p : Pane) → IsSize to.rows to.cols → IsPaneOf from p → IsPaneOf to (after_move from to p)
 moved_placed from to p size is =
     let q : Pane = record { rows = p.rows; cols = p.cols; log = p.log ++ Resized to.rows to.cols ∷ []; waiting = p.waiting } in
     cond_both (is_same_size from to) p q (IsPaneOf to)
@@ -95,7 +95,7 @@ moved_placed from to p size is =
     })
 
 given_placed : (from to : Option Rect) (pane : Option Pane) → ((r : Rect) → to ≡ Some r → IsSize r.rows r.cols) → IsPlaced from pane
-    → IsPlaced to (given from to pane)
+    → IsPlaced to (pane_after_act from to pane)
 given_placed from None pane sizes is = tt
 given_placed None (Some to) pane sizes is = record { first = sizes to refl; sizes = tt; size = refl }
 given_placed (Some from) (Some to) None sizes is = is
@@ -115,7 +115,7 @@ at_pane_is n change s keeps is = record {
       (λ e. changed_placed change keeps (rect_in k (panes s.plan)) (s.pane k) (is.placed k)) (λ e. is.placed k);
 }
 
-laid_is : (o : Outcome) (act : Act) (s : SessionState) → laid s.plan act ≡ o → IsSession s → IsSession (laid_out o s)
+laid_is : (o : Outcome) (act : Act) (s : SessionState) → outcome_of s.plan act ≡ o → IsSession s → IsSession (laid_out o s)
 laid_is (Refused fault) act s e is = is
 laid_is (Laid plan) act s e is =
     let layout = laid_layout s.plan plan act is.layout e in
@@ -124,14 +124,14 @@ laid_is (Laid plan) act s e is =
       placed = λ k. given_placed (rect_in k (panes s.plan)) (rect_in k (panes plan)) (s.pane k) (sizes_in plan layout.plan k) (is.placed k);
     }
 
-acted_is : (o : Option Key) (act : Act) (s : SessionState) → IsSession s → IsSession (acted o act s)
-acted_is (Some key) act s is = at_pane_is s.plan.focus (keyed key) s (keyed_keeps key) is
-acted_is None act s is = laid_is (laid s.plan act) act s refl is
+acted_is : (o : Option Key) (act : Act) (s : SessionState) → IsSession s → IsSession (after_act o act s)
+acted_is (Some key) act s is = at_pane_is s.plan.focus (after_key key) s (keyed_keeps key) is
+acted_is None act s is = laid_is (outcome_of s.plan act) act s refl is
 
 entry_is : (entry : Entry) (s : SessionState) → IsSession s → IsSession (after_entry s entry)
-entry_is (Given n bytes) s is = at_pane_is n (fed bytes) s (fed_keeps bytes) is
+entry_is (Given n bytes) s is = at_pane_is n (after_feed bytes) s (fed_keeps bytes) is
 entry_is (Did client act) s is = acted_is (key_in act) act s is
-entry_is (Drained n count) s is = at_pane_is n (drained count) s (drained_keeps count) is
+entry_is (Drained n count) s is = at_pane_is n (after_drain count) s (drained_keeps count) is
 
 entries_are : (log : List Entry) (s : SessionState) → IsSession s → IsSession (fold after_entry s log)
 entries_are [] s is = is

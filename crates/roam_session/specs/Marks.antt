@@ -11,7 +11,7 @@ use Rattle.roam_text.specs.declared.functions.Function.{Function}
 use Rattle.roam_term.specs.Marks.{marked_through}
 use Rattle.roam_layout.specs.Trees.{has}
 use Rattle.roam_layout.specs.Rects.{rect_in, within}
-use Rattle.roam_layout.specs.Layouts.{Plan, Outcome, Laid, Refused, laid, panes, edges}
+use Rattle.roam_layout.specs.Layouts.{Plan, Outcome, Laid, Refused, outcome_of, panes, edges}
 use Rattle.roam_layout.specs.declared.rects.Rect.{Rect}
 use Rattle.roam_layout.specs.declared.rects.Way.{Way}
 use Rattle.roam_layout.specs.declared.rects.Way.TheVariants.{Right, Down}
@@ -32,10 +32,10 @@ is_touched x view rows named r =
     else within x.row x.rows (r + 1) || r + 1 == rows
 
 -- they are marked too; a pane that isn't there marks none
-abbrev pub touched : Option Rect → Option ℕ → ℕ → List Bool → List Bool → List Bool
-touched None view rows named marks = marks
-touched (Some x) None rows named marks = marks
-touched (Some x) (Some view) rows named marks = also_marked (is_touched x view rows named) marks
+abbrev pub touched_marks : Option Rect → Option ℕ → ℕ → List Bool → List Bool → List Bool
+touched_marks None view rows named marks = marks
+touched_marks (Some x) None rows named marks = marks
+touched_marks (Some x) (Some view) rows named marks = also_marked (is_touched x view rows named) marks
 
 -- the functions that bytes give a pane's terminal, after all that it was given before
 abbrev pub functions_given : Pane → List ℕ → List Function
@@ -98,14 +98,14 @@ marks_laid act old (Refused fault) marks = marks
 -- a key leaves the layout
 abbrev pub marks_acted : Option KeyOfKeyboard → Act → SessionState → List Bool → List Bool
 marks_acted (Some key) act s marks = marks
-marks_acted None act s marks = marks_laid act s.plan (laid s.plan act) marks
+marks_acted None act s marks = marks_laid act s.plan (outcome_of s.plan act) marks
 
 -- ---- one entry
 
 -- the marks after an entry, on the session before it
 abbrev pub marks_after : SessionState → Entry → List Bool → List Bool
 marks_after s (Given p bytes) marks =
-    touched (rect_in p (panes s.plan)) (view_in s.plan p) s.plan.rows (named_by bytes (s.pane p)) marks
+    touched_marks (rect_in p (panes s.plan)) (view_in s.plan p) s.plan.rows (named_by bytes (s.pane p)) marks
 marks_after s (Did client act) marks = marks_acted (key_in act) act s marks
 marks_after s (Drained p n) marks = marks
 

@@ -4,7 +4,7 @@ use Rattle.std.specs.Option.{option_map}
 use Rattle.roam_term.specs.Limits.{pane_lines}
 use Rattle.roam_text.specs.Log.{Item, Byte, Resized}
 use Rattle.roam_keys.specs.declared.keys.Key.{Key}
-use Rattle.roam_keys.specs.Sent.{sent}
+use Rattle.roam_keys.specs.Sent.{bytes_of_key}
 use Rattle.roam_term.specs.Keys.{key_modes}
 use Rattle.roam_term.specs.Terminal.{Live, term, reports}
 use Rattle.roam_layout.specs.declared.rects.Rect.{Rect}
@@ -19,16 +19,16 @@ pub record Pane : Type 0 where
 -- ---- what a pane is given
 
 -- a pane that begins in a rectangle
-abbrev pub begun : Rect → Pane
-begun r = record { rows = r.rows; cols = r.cols; log = []; waiting = [] }
+abbrev pub new_pane : Rect → Pane
+new_pane r = record { rows = r.rows; cols = r.cols; log = []; waiting = [] }
 
 -- what a pane's terminal answers to bytes, after all that it was given before
 abbrev pub answers : Pane → List ℕ → List ℕ
 answers p bytes = drop (length (reports p.rows p.cols pane_lines p.log)) (reports p.rows p.cols pane_lines (p.log ++ map Byte bytes))
 
 -- bytes of the pane's program go to its terminal, and what this answers waits
-abbrev pub fed : List ℕ → Pane → Pane
-fed bytes p = record { rows = p.rows; cols = p.cols; log = p.log ++ map Byte bytes; waiting = p.waiting ++ answers p bytes }
+abbrev pub after_feed : List ℕ → Pane → Pane
+after_feed bytes p = record { rows = p.rows; cols = p.cols; log = p.log ++ map Byte bytes; waiting = p.waiting ++ answers p bytes }
 
 -- what lives of the pane's terminal
 abbrev pub live_of : Pane → Live
@@ -36,15 +36,15 @@ live_of p = (term p.rows p.cols pane_lines p.log).live
 
 -- the bytes of a key under the modes of the pane's terminal
 abbrev pub key_bytes : Key → Pane → List ℕ
-key_bytes key p = sent (key_modes (live_of p).modes) key
+key_bytes key p = bytes_of_key (key_modes (live_of p).modes) key
 
 -- they wait behind what waits
-abbrev pub keyed : Key → Pane → Pane
-keyed key p = record { rows = p.rows; cols = p.cols; log = p.log; waiting = p.waiting ++ key_bytes key p }
+abbrev pub after_key : Key → Pane → Pane
+after_key key p = record { rows = p.rows; cols = p.cols; log = p.log; waiting = p.waiting ++ key_bytes key p }
 
 -- the pane's program takes the first n bytes that wait
-abbrev pub drained : ℕ → Pane → Pane
-drained n p = record { rows = p.rows; cols = p.cols; log = p.log; waiting = drop n p.waiting }
+abbrev pub after_drain : ℕ → Pane → Pane
+after_drain n p = record { rows = p.rows; cols = p.cols; log = p.log; waiting = drop n p.waiting }
 
 -- ---- rectangles
 
@@ -53,14 +53,14 @@ abbrev pub is_same_size : Rect → Rect → Bool
 is_same_size old new = (old.rows == new.rows) && (old.cols == new.cols)
 
 -- a pane goes from a rectangle to another: where that has another size, the terminal is given the size
-abbrev pub moved : Rect → Rect → Pane → Pane
-moved old new p =
+abbrev pub after_move : Rect → Rect → Pane → Pane
+after_move old new p =
     if is_same_size old new then p
     else record { rows = p.rows; cols = p.cols; log = p.log ++ Resized new.rows new.cols ∷ []; waiting = p.waiting }
 
 -- what stands at a number that has one rectangle before an act and another after it: a pane whose rectangle goes ends, and one begins where
 -- there was none
-abbrev pub given : Option Rect → Option Rect → Option Pane → Option Pane
-given old None pane = None
-given None (Some new) pane = Some (begun new)
-given (Some old) (Some new) pane = option_map (moved old new) pane
+abbrev pub pane_after_act : Option Rect → Option Rect → Option Pane → Option Pane
+pane_after_act old None pane = None
+pane_after_act None (Some new) pane = Some (new_pane new)
+pane_after_act (Some old) (Some new) pane = option_map (after_move old new) pane

@@ -5,13 +5,13 @@ use Rattle.roam_cells.specs.declared.faults.Fault.{Fault}
 use Rattle.roam_cells.specs.declared.faults.Fault.TheVariants.{Busy}
 use Rattle.roam_text.specs.Log.{Item}
 use Rattle.roam_keys.specs.declared.keys.Key.{Key}
-use Rattle.roam_keys.specs.Sent.{sent}
+use Rattle.roam_keys.specs.Sent.{bytes_of_key}
 use Rattle.roam_term.specs.Keys.{key_modes}
 use Rattle.roam_term.specs.Stands.{TermView, Shows, Fed, HasSize}
 use Rattle.roam_grid.specs.Marks.{all_off}
 use Rattle.roam_layout.specs.Rects.{rect_in}
 use Rattle.roam_layout.specs.Layouts.{Plan, panes}
-use Rattle.roam_session.specs.Marks.{touched, view_in}
+use Rattle.roam_session.specs.Marks.{touched_marks, view_in}
 use Rattle.roam_session.specs.Stands.{term_at}
 
 -- a terminal stands for what it stood for, and what lives, the history and the marks are the same
@@ -26,13 +26,13 @@ pub record IsFed (bytes : List ℕ) (plan : Plan) (p : ℕ) (before after : List
   pub read : TermView
   pub fed : Fed old read bytes
   pub size : HasSize read old.live.screen.rows old.live.screen.cols
-  pub marks : after ≡ touched (rect_in p (panes plan)) (view_in plan p) plan.rows read.marks before
+  pub marks : after ≡ touched_marks (rect_in p (panes plan)) (view_in plan p) plan.rows read.marks before
   pub quiet : new ≡ record read { marks = all_off }
 
 -- a key's bytes were put behind what waits
 pub record IsKeyed (key : Key) (old new : TermView) : Type 0 where
   pub keeps : Keeps old new
-  pub waiting : new.waiting ≡ old.waiting ++ sent (key_modes old.live.modes) key
+  pub waiting : new.waiting ≡ old.waiting ++ bytes_of_key (key_modes old.live.modes) key
 
 -- the first n bytes that wait were taken
 pub record IsDrained (n : ℕ) (old new : TermView) : Type 0 where
@@ -66,4 +66,4 @@ IsCopied n old new (Some waiting) = (n ≡ min (length waiting) (length old)) ×
 abbrev pub key_refused : Key → Option TermView → Option Fault
 key_refused key None = None
 key_refused key (Some t) =
-    if nat_lt most_output (length t.waiting + length (sent (key_modes t.live.modes) key)) then Some Busy else None
+    if nat_lt most_output (length t.waiting + length (bytes_of_key (key_modes t.live.modes) key)) then Some Busy else None

@@ -6,8 +6,8 @@ use Rattle.roam_acts.specs.declared.acts.Act.{Act}
 use Rattle.roam_acts.specs.declared.acts.Act.TheVariants.{Key}
 use Rattle.roam_keys.specs.declared.keys.Key.{Key as KeyOfKeyboard}
 use Rattle.roam_layout.specs.Rects.{rect_in}
-use Rattle.roam_layout.specs.Layouts.{Plan, Outcome, Laid, Refused, start, laid, panes}
-use Rattle.roam_session.specs.Panes.{Pane, given, fed, keyed, drained}
+use Rattle.roam_layout.specs.Layouts.{Plan, Outcome, Laid, Refused, start, outcome_of, panes}
+use Rattle.roam_session.specs.Panes.{Pane, pane_after_act, after_feed, after_key, after_drain}
 
 -- what happens in a session: bytes of a pane's program are given to the pane, an act of a client is done, and so many bytes that wait in
 -- a pane go to its program
@@ -34,7 +34,7 @@ at_pane p change s = record { plan = s.plan; pane = (λ k. if k == p then option
 
 -- the panes of a layout that becomes another
 abbrev pub panes_given : Plan → Plan → (ℕ → Option Pane) → ℕ → Option Pane
-panes_given old new pane k = given (rect_in k (panes old)) (rect_in k (panes new)) (pane k)
+panes_given old new pane k = pane_after_act (rect_in k (panes old)) (rect_in k (panes new)) (pane k)
 
 -- what a layout command comes to; a refused one leaves all as it is
 abbrev pub laid_out : Outcome → SessionState → SessionState
@@ -47,14 +47,14 @@ key_in (Key key) = Some key
 key_in act = None
 
 -- an act with the key that it may have: a key goes to the pane in focus, any other act is a layout command
-abbrev pub acted : Option KeyOfKeyboard → Act → SessionState → SessionState
-acted (Some key) act s = at_pane s.plan.focus (keyed key) s
-acted None act s = laid_out (laid s.plan act) s
+abbrev pub after_act : Option KeyOfKeyboard → Act → SessionState → SessionState
+after_act (Some key) act s = at_pane s.plan.focus (after_key key) s
+after_act None act s = laid_out (outcome_of s.plan act) s
 
 abbrev pub after_entry : SessionState → Entry → SessionState
-after_entry s (Given p bytes) = at_pane p (fed bytes) s
-after_entry s (Did client act) = acted (key_in act) act s
-after_entry s (Drained p n) = at_pane p (drained n) s
+after_entry s (Given p bytes) = at_pane p (after_feed bytes) s
+after_entry s (Did client act) = after_act (key_in act) act s
+after_entry s (Drained p n) = at_pane p (after_drain n) s
 
 -- ---- a log
 
@@ -63,7 +63,7 @@ abbrev pub first_state : SessionSize → SessionState
 first_state size =
     record {
       plan = start size.rows size.cols;
-      pane = (λ k. given None (rect_in k (panes (start size.rows size.cols))) None);
+      pane = (λ k. pane_after_act None (rect_in k (panes (start size.rows size.cols))) None);
     }
 
 -- the session that a log makes, entry after entry

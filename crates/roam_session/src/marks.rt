@@ -4,7 +4,7 @@ ghost use Rattle.std.specs.List.{list_any};
 ghost use Rattle.roam_grid.specs.Marks.{also_marked, row_marked};
 ghost use Rattle.roam_layout.specs.Rects.{rect_in};
 ghost use Rattle.roam_layout.specs.Layouts.{panes};
-ghost use Rattle.roam_session.specs.Marks.{is_same_rect, is_same_way, is_same_pane, is_same_border, loses_pane, loses_border, is_relaid, is_shown_anew, is_concerned, is_touched, touched, view_in};
+ghost use Rattle.roam_session.specs.Marks.{is_same_rect, is_same_way, is_same_pane, is_same_border, loses_pane, loses_border, is_relaid, is_shown_anew, is_concerned, is_touched, touched_marks, view_in};
 ghost use Rattle.roam_session.specs.Stands.{IsPlaced};
 
 use roam_acts::Act;
@@ -143,7 +143,7 @@ fn touch(marks: &mut [bool; 200], rect: Rect, view: u16, rows: u16, named: &[boo
 pub fn touch_pane(marks: &mut [bool; 200], layout: &Layout, pane: u8, term: &Term)
     requires placed { IsPlaced (rect_in pane (panes layout.now)) (Some term.now) }
     ensures marks { marks.new
-        ≡ touched (rect_in pane (panes layout.now)) (view_in layout.now pane) layout.now.rows term.now.marks marks.old }
+        ≡ touched_marks (rect_in pane (panes layout.now)) (view_in layout.now pane) layout.now.rows term.now.marks marks.old }
 {
     if let Some(rect) = rect_of(layout.rects(), pane) {
         if let Some(view) = layout.view(pane) {

@@ -1,6 +1,6 @@
 //! The terminals of panes by their numbers: what their programs send, and the bytes that wait for them.
 ghost use Rattle.std.specs.Prelude.{◌≡◌, ◌⊎◌, ◌↔◌, ◌+◌, ◌-◌, ◌<◌, ◌≤◌, ◌++◌, ℕ, List, Option, Some, None, length, IfOk, IfErr, IsOk, IsErrOf, OnOk, OnErr};
-ghost use Rattle.std.specs.Option.{option_map};
+ghost use Rattle.std.specs.Option.{option_map, option_copied};
 ghost use Rattle.roam_session.specs.Refusals.{bytes_refused, none_refused, fault_of};
 ghost use Rattle.roam_session.specs.Stands.{ArePlaced, IsPlaced, term_at, waiting_at};
 ghost use Rattle.roam_layout.specs.Rects.{rect_in};
@@ -55,13 +55,9 @@ pub fn feed(
     ensures err { OnErr result (terms.new.items ≡ terms.old.items) }
     ensures same { OnErr result (marks.new ≡ marks.old) }
 {
-    let number = usize::from(pane);
-    if terms.len() <= number {
-        return Err(Fault::NoPane);
-    }
-    match &mut terms[number] {
-        None => Err(Fault::NoPane),
-        Some(term) => read(term, pane, piece, layout, marks),
+    match terms.get_mut(usize::from(pane)) {
+        Some(Some(term)) => read(term, pane, piece, layout, marks),
+        _ => Err(Fault::NoPane),
     }
 }
 
@@ -71,13 +67,9 @@ pub fn type_key(terms: &mut Vec<Option<Term>>, pane: u8, key: &Key) -> Result<()
     ensures keyed { OnOk result (ChangesAt pane (IsKeyed key.now) terms.old.items terms.new.items) }
     ensures err { OnErr result (terms.new.items ≡ terms.old.items) }
 {
-    let pane = usize::from(pane);
-    if terms.len() <= pane {
-        return Ok(());
-    }
-    match &mut terms[pane] {
-        None => Ok(()),
-        Some(term) => term.key(key),
+    match terms.get_mut(usize::from(pane)) {
+        Some(Some(term)) => term.key(key),
+        _ => Ok(()),
     }
 }
 
@@ -88,16 +80,22 @@ pub fn drain(terms: &mut Vec<Option<Term>>, pane: u8, n: usize) -> Result<(), Fa
     ensures drained { OnOk result (ChangesAt pane (IsDrained n) terms.old.items terms.new.items) }
     ensures err { OnErr result (terms.new.items ≡ terms.old.items) }
 {
-    let pane = usize::from(pane);
-    if terms.len() <= pane {
-        return Err(Fault::NoPane);
-    }
-    match &mut terms[pane] {
-        None => Err(Fault::NoPane),
-        Some(term) => {
+    match terms.get_mut(usize::from(pane)) {
+        Some(Some(term)) => {
             term.take_output(n);
             Ok(())
         }
+        _ => Err(Fault::NoPane),
+    }
+}
+
+// The terminal of a pane that is there.
+fn term_of(terms: &[Option<Term>], pane: u8) -> Option<&Term>
+    ensures term { option_copied result ≡ term_at terms.now pane }
+{
+    match terms.get(usize::from(pane)) {
+        Some(Some(term)) => Some(term),
+        _ => None,
     }
 }
 
@@ -105,28 +103,14 @@ pub fn drain(terms: &mut Vec<Option<Term>>, pane: u8, n: usize) -> Result<(), Fa
 pub fn output_len(terms: &[Option<Term>], pane: u8) -> Option<usize>
     ensures len { result ≡ option_map (λ (waiting : List ℕ). length waiting) (waiting_at terms.now pane) }
 {
-    let pane = usize::from(pane);
-    if terms.len() <= pane {
-        return None;
-    }
-    match &terms[pane] {
-        None => None,
-        Some(term) => Some(term.output_len()),
-    }
+    Some(term_of(terms, pane)?.output_len())
 }
 
 /// How many more bytes may wait in a pane that is there.
 pub fn room(terms: &[Option<Term>], pane: u8) -> Option<usize>
     ensures room { result ≡ option_map (λ (waiting : List ℕ). most_output - length waiting) (waiting_at terms.now pane) }
 {
-    let pane = usize::from(pane);
-    if terms.len() <= pane {
-        return None;
-    }
-    match &terms[pane] {
-        None => None,
-        Some(term) => Some(MOST_OUTPUT - term.output_len()),
-    }
+    Some(MOST_OUTPUT - term_of(terms, pane)?.output_len())
 }
 
 /// Copies the first bytes that wait in a pane, as many as fit, and tells how many. Refuses `NoPane`.
@@ -136,12 +120,6 @@ pub fn copy_output(terms: &[Option<Term>], pane: u8, out: &mut [u8]) -> Result<u
     ensures within { IfOk result (λ n. n ≤ length out.old) }
     ensures err { OnErr result (out.new ≡ out.old) }
 {
-    let pane = usize::from(pane);
-    if terms.len() <= pane {
-        return Err(Fault::NoPane);
-    }
-    match &terms[pane] {
-        None => Err(Fault::NoPane),
-        Some(term) => Ok(term.copy_output(out)),
-    }
+    let term = term_of(terms, pane).ok_or(Fault::NoPane)?;
+    Ok(term.copy_output(out))
 }

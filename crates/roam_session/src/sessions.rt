@@ -3,7 +3,7 @@ ghost use Rattle.std.specs.Prelude.{◌≡◌, ◌≢◌, ◌≤◌, ◌-◌, �
 ghost use Rattle.std.specs.Option.{option_map};
 ghost use Rattle.roam_acts.specs.Acts.{IsInRange};
 ghost use Rattle.roam_layout.specs.Rects.{rect_in};
-ghost use Rattle.roam_layout.specs.Layouts.{IsSessionSize, Laid, Refused, laid, panes};
+ghost use Rattle.roam_layout.specs.Layouts.{IsSessionSize, Laid, Refused, outcome_of, panes};
 ghost use Rattle.roam_session.specs.Sessions.{SessionSize, Entry, Given, Did, Drained, key_in};
 ghost use Rattle.roam_session.specs.Refusals.{refuses_bytes, output_at, stops, none_refused, fault_of};
 ghost use Rattle.roam_session.specs.Faces.{face};
@@ -120,15 +120,15 @@ impl Session {
     // A layout command: all memory first, then the change.
     fn lay_out(&mut self, alloc: Global, act: &Act) -> Result<(), Fault>
         requires in_range { IsInRange act.now }
-        ensures laid { OnOk result (laid self.old.plan act.now ≡ Laid self.new.plan) }
+        ensures laid { OnOk result (outcome_of self.old.plan act.now ≡ Laid self.new.plan) }
         ensures given { OnOk result ((k : ℕ)
             → IsGiven (rect_in k (panes self.old.plan)) (rect_in k (panes self.new.plan))
             (term_at self.old.terms k) (term_at self.new.terms k)) }
         ensures marks { OnOk result (self.new.marks ≡ also_marked (is_concerned act.now self.old.plan self.new.plan) self.old.marks) }
         ensures kept { self.new.kept ≡ self.old.kept }
         ensures lives { OnOk result (CountsLives self.old.plan self.new.plan self.old.lives self.new.lives) }
-        ensures refused { IfErr result (λ fault. (fault ≡ Fault.OutOfMemory) ⊎ (laid self.old.plan act.now ≡ Refused fault)) }
-        ensures exact { (fault : Fault) → laid self.old.plan act.now ≡ Refused fault → IsErrOf result fault }
+        ensures refused { IfErr result (λ fault. (fault ≡ Fault.OutOfMemory) ⊎ (outcome_of self.old.plan act.now ≡ Refused fault)) }
+        ensures exact { (fault : Fault) → outcome_of self.old.plan act.now ≡ Refused fault → IsErrOf result fault }
         ensures err { OnErr result (self.new ≡ self.old) }
     {
         let next = self.layout.after(alloc, act)?;
@@ -163,14 +163,14 @@ impl Session {
         requires in_range { IsInRange act.now }
         ensures done { OnOk result (Appends self.old self.new (Did client act.now)) }
         ensures marks { OnOk result (MarksRows self.old self.new (Did client act.now)) }
-        ensures laid { OnOk result (laid self.old.plan act.now ≡ Laid self.new.plan) }
+        ensures laid { OnOk result (outcome_of self.old.plan act.now ≡ Laid self.new.plan) }
         ensures refused { IfErr result (λ fault. fault ≢ Fault.OutOfMemory → fault ≢ Fault.Busy
             → Appends self.old self.new (Did client act.now)) }
         ensures busy { (size : SessionSize) (log : List Entry)
             → Stands self.old size log → (fault_of result ≡ Some Fault.Busy) ↔ (stops size log act.now ≡ true) }
         ensures faults { IfErr result (λ fault. (fault ≡ Fault.OutOfMemory) ⊎ (fault ≡ Fault.Busy)
-            ⊎ (laid self.old.plan act.now ≡ Refused fault)) }
-        ensures exact { (fault : Fault) → laid self.old.plan act.now ≡ Refused fault → IsErrOf result fault }
+            ⊎ (outcome_of self.old.plan act.now ≡ Refused fault)) }
+        ensures exact { (fault : Fault) → outcome_of self.old.plan act.now ≡ Refused fault → IsErrOf result fault }
         ensures keys { IsErrOf result Fault.OutOfMemory → key_in act.now ≡ None }
         ensures err { OnErr result (self.new ≡ self.old) }
     {

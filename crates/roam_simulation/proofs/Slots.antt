@@ -3,7 +3,7 @@ use Rattle.std.proofs.Common.{◌≡◌, ℕ, zero, suc, ◌<◌, ◌≤◌, ◌
 use Rattle.std.specs.Prelude.{nat_eq}
 use Rattle.std.proofs.lemmas.Bool.Decides.{nat_tests}
 use Rattle.std.proofs.lemmas.Option.{slice_get-get_or}
-use Rattle.roam_world.specs.Lists.{IsIn, put}
+use Rattle.roam_world.specs.Lists.{IsIn, with_value}
 use Rattle.roam_world.specs.Clients.{Client}
 use Rattle.roam_world.specs.Servers.{Server}
 use Rattle.roam_world.specs.Worlds.{World, with_server, with_client}
@@ -77,7 +77,7 @@ filled-set session slots slot v clients ids lt here others x = go (nat_eq x slot
 
 -- a start that isn't in a slot can be another
 fills-put : (session : ℕ) (clients : ℕ → Client) (id : ℕ) (c : Client) (o : Option ClientView) (i : Option ℕ) → (i ≡ Some id → ⊥)
-    → Fills session clients o i → Fills session (put clients id c) o i
+    → Fills session clients o i → Fills session (with_value clients id c) o i
 fills-put session clients id c None None not f = tt
 fills-put session clients id c None (Some j) not f = absurd f
 fills-put session clients id c (Some v) None not f = absurd f
@@ -105,12 +105,12 @@ starts_kept session slots used clients ids slot id v st lt at stands =
 -- the start in a slot is another
 pub starts_put : (session : ℕ) (slots : List (Option ClientView)) (used : List ℕ) (clients : ℕ → Client) (ids : ℕ → Option ℕ)
     (slot id : ℕ) (v : ClientView) (c : Client) → StartsStand session slots used clients ids → slot < length slots → ids slot ≡ Some id
-    → c.made ≡ true → ClientStands v session id c → StartsStand session (set slots slot (Some v)) used (put clients id c) ids
+    → c.made ≡ true → ClientStands v session id c → StartsStand session (set slots slot (Some v)) used (with_value clients id c) ids
 starts_put session slots used clients ids slot id v c st lt at made stands =
     record {
       filled =
-          filled-set session slots slot v (put clients id c) ids lt
-          (subst (λ (i : Option ℕ). Fills session (put clients id c) (Some v) i) (sym at)
+          filled-set session slots slot v (with_value clients id c) ids lt
+          (subst (λ (i : Option ℕ). Fills session (with_value clients id c) (Some v) i) (sym at)
           (subst (λ (k : Client). ClientStands v session id k) (sym (put_same clients id c)) stands))
           (λ x ne. fills-put session clients id c (start_in slots x) (ids x) (λ e. not_same x slot ne (st.once x slot id e at))
           (st.filled x));
@@ -128,18 +128,18 @@ starts_put session slots used clients ids slot id v c st lt at made stands =
 pub starts_new : (session : ℕ) (slots : List (Option ClientView)) (used : List ℕ) (clients : ℕ → Client) (ids : ℕ → Option ℕ)
     (slot id : ℕ) (v : ClientView) (c : Client) → StartsStand session slots used clients ids → slot < length slots
     → (clients id).made ≡ false → c.made ≡ true → ClientStands v session id c
-    → StartsStand session (set slots slot (Some v)) (used ++ id ∷ []) (put clients id c) (put ids slot (Some id))
+    → StartsStand session (set slots slot (Some v)) (used ++ id ∷ []) (with_value clients id c) (with_value ids slot (Some id))
 starts_new session slots used clients ids slot id v c st lt free made stands =
     record {
       filled =
-          filled-set session slots slot v (put clients id c) (put ids slot (Some id)) lt
-          (subst (λ (i : Option ℕ). Fills session (put clients id c) (Some v) i) (sym (put_same ids slot (Some id)))
+          filled-set session slots slot v (with_value clients id c) (with_value ids slot (Some id)) lt
+          (subst (λ (i : Option ℕ). Fills session (with_value clients id c) (Some v) i) (sym (put_same ids slot (Some id)))
           (subst (λ (k : Client). ClientStands v session id k) (sym (put_same clients id c)) stands))
-          (on_put (λ (x : ℕ) (i : Option ℕ). nat_eq x slot ≡ false → Fills session (put clients id c) (start_in slots x) i) ids slot
+          (on_put (λ (x : ℕ) (i : Option ℕ). nat_eq x slot ≡ false → Fills session (with_value clients id c) (start_in slots x) i) ids slot
           (Some id) (λ ne. let z : ⊥ = grind (arith, nat_tests) in absurd z)
           (λ x ne same. fills-put session clients id c (start_in slots x) (ids x) (unheld x) (st.filled x)));
       made =
-          λ x j. on_put (λ (y : ℕ) (i : Option ℕ). i ≡ Some j → (put clients id c j).made ≡ true) ids slot (Some id)
+          λ x j. on_put (λ (y : ℕ) (i : Option ℕ). i ≡ Some j → (with_value clients id c j).made ≡ true) ids slot (Some id)
           (λ e. is_made j (inj id j e)) (λ y ne e. was_made y j e) x;
       once = λ x y j e f. once x y j e f;
       all =
@@ -157,14 +157,14 @@ starts_new session slots used clients ids slot id v c st lt free made stands =
     unheld : (x : ℕ) → ids x ≡ Some id → ⊥
     unheld x e = let z : true ≡ false = sym (st.made x id e) ∙ free in absurd (cc)
 
-    is_made : (j : ℕ) → id ≡ j → (put clients id c j).made ≡ true
-    is_made j e = subst (λ (k : ℕ). (put clients id c k).made ≡ true) e (ap (λ (d : Client). d.made) (put_same clients id c) ∙ made)
+    is_made : (j : ℕ) → id ≡ j → (with_value clients id c j).made ≡ true
+    is_made j e = subst (λ (k : ℕ). (with_value clients id c k).made ≡ true) e (ap (λ (d : Client). d.made) (put_same clients id c) ∙ made)
 
-    was_made : (y j : ℕ) → ids y ≡ Some j → (put clients id c j).made ≡ true
+    was_made : (y j : ℕ) → ids y ≡ Some j → (with_value clients id c j).made ≡ true
     was_made y j e =
         on_put (λ (k : ℕ) (d : Client). ids y ≡ Some k → d.made ≡ true) clients id c (λ _. made) (λ k ne. st.made y k) j e
 
-    once : (x y j : ℕ) → put ids slot (Some id) x ≡ Some j → put ids slot (Some id) y ≡ Some j → x ≡ y
+    once : (x y j : ℕ) → with_value ids slot (Some id) x ≡ Some j → with_value ids slot (Some id) y ≡ Some j → x ≡ y
     once x y j = go (nat_eq x slot) (nat_eq y slot) refl refl
       where
         go : (a b : Bool) → nat_eq x slot ≡ a → nat_eq y slot ≡ b → cond a (Some id) (ids x) ≡ Some j → cond b (Some id) (ids y) ≡ Some j

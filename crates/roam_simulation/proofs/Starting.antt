@@ -3,7 +3,7 @@ use Rattle.std.proofs.Common.{◌≡◌, ℕ, ◌<◌, ◌⊎◌, List, [], ◌�
 use Rattle.std.specs.Prelude.{nat_eq, ◌||◌}
 use Rattle.std.specs.List.{list_any}
 use Rattle.std.proofs.lemmas.Bool.Decides.{nat_tests}
-use Rattle.roam_world.specs.Lists.{IsIn, put}
+use Rattle.roam_world.specs.Lists.{IsIn, with_value}
 use Rattle.roam_wire.specs.declared.versions.Version.{Version}
 use Rattle.roam_world.specs.Clients.{new_client}
 use Rattle.roam_world.specs.Worlds.{World, Start, Done, Refused, after_start}
@@ -54,8 +54,8 @@ steps_started v w slot id version watches client ids st lt e fit stands more =
             session = st.session;
             server = st.server;
             starts =
-                subst (λ (xs : List ℕ). StartsStand w.server.session (set v.slots slot (Some client)) xs (put w.clients id (new_client version watches))
-                (put w.slots slot (Some id))) (sym more)
+                subst (λ (xs : List ℕ). StartsStand w.server.session (set v.slots slot (Some client)) xs (with_value w.clients id (new_client version watches))
+                (with_value w.slots slot (Some id))) (sym more)
                 (starts_new w.server.session v.slots v.used w.clients w.slots slot id client (new_client version watches) st.starts lt free refl
                 (subst (λ (n : ℕ). ClientStands client n id (new_client version watches)) st.session stands));
             sent = st.sent;

@@ -10,7 +10,7 @@ use Rattle.roam_sockets.specs.Keys.{lines_of, AreLinesOf}
 use Rattle.roam_sockets.specs.declared.typing.Stream.{Stream}
 use Rattle.roam_sockets.specs.declared.typing.Stream.TheVariants.{Absent, Open, Ended, Spoiled, SpoiledLast}
 use Rattle.roam_sockets.specs.declared.typing.ActLines.{ActLines}
-use Rattle.roam_sockets.specs.Typing.{Came, EndsLine, GoesOn, HasCome, IsNoAct, Reads, ReadsOn, Stands, counted, given, last_of}
+use Rattle.roam_sockets.specs.Typing.{Came, EndsLine, GoesOn, HasCome, IsNoAct, Reads, ReadsOn, Stands, line_count, bytes_given, last_of}
 use Rattle.roam_sockets.specs.Typing as typing
 use Rattle.roam_sockets.proofs.Streams.{came_byte, came_line, stops_at_line, stops_at_long, ends_with_none, ends_with_act, stops_at_end}
 
@@ -24,11 +24,11 @@ came_in : (l : ActLines) (log : List ℕ) (acts : List Act) → l.stream ≡ Ope
     → Came log acts l.begun.items
 came_in l log acts is_open h = subst (λ (x : Stream). HasCome x log acts l.begun.items) is_open h
 
-next_count : (count : ℕ) (acts : List Act) (act : Act) → count ≡ counted (length acts)
-    → counted (count + 1) ≡ counted (length (acts ++ act ∷ []))
+next_count : (count : ℕ) (acts : List Act) (act : Act) → count ≡ line_count (length acts)
+    → line_count (count + 1) ≡ line_count (length (acts ++ act ∷ []))
 next_count count acts act is = omega (arith, is, length-append acts (act ∷ []))
 
-next_number : (count : ℕ) (acts : List Act) → count ≡ counted (length acts) → counted (count + 1) ≡ counted (length acts + 1)
+next_number : (count : ℕ) (acts : List Act) → count ≡ line_count (length acts) → line_count (count + 1) ≡ line_count (length acts + 1)
 next_number count acts is = omega (arith, is)
 
 none_begun : {begun : List ℕ} → begun ≡ [] → length begun ≤ 64
@@ -73,7 +73,7 @@ ended_line old new is_open (typing.none none e) = subst (ReadsOn old (10 ∷ [])
 
 -- a line that is too long
 pub too_long : (old : ActLines) (b number : ℕ) → old.stream ≡ Open → b ≢ 10 → 64 ≤ length old.begun.items
-    → number ≡ counted (old.count + 1) → ReadsOn old (b ∷ []) (record old { stream = Spoiled number })
+    → number ≡ line_count (old.count + 1) → ReadsOn old (b ∷ []) (record old { stream = Spoiled number })
 too_long old b number is_open other long is = record {
   goes = tt;
   reads = λ first log taken s. record {
@@ -156,10 +156,10 @@ shut (SpoiledLast number) on = on
 
 -- what a read gave was consumed
 pub consumes_given : (old new : Option (List ℕ)) (answer : Result ℕ Error) (buf : List ℕ) → ReadConsumes old new answer buf
-    → Consumes old new (given answer buf)
+    → Consumes old new (bytes_given answer buf)
 consumes_given old new (Ok n) buf h = h.0
 consumes_given old new (Err e) buf h = Consumes-kept old old new [] (Consumes-nil old) h
 
-pub given_short : (answer : Result ℕ Error) (buf : List ℕ) → length (given answer buf) ≤ length buf
+pub given_short : (answer : Result ℕ Error) (buf : List ℕ) → length (bytes_given answer buf) ≤ length buf
 given_short (Ok n) buf = omega (arith, length-take n buf)
 given_short (Err e) buf = omega arith

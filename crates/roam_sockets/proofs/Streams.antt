@@ -6,7 +6,7 @@ use Rattle.std.proofs.lemmas.List.Elements.{All-push, All-head, All-tail, All-ni
 use Rattle.std.specs.List.{flat_map}
 use Rattle.roam_acts.specs.declared.acts.Act.{Act}
 use Rattle.roam_sockets.specs.Keys.{lines_of, in_front, IsLineOf, AreLinesOf}
-use Rattle.roam_sockets.specs.Typing.{Came, IsNoAct, IsOneLine, StopsAfter, ended}
+use Rattle.roam_sockets.specs.Typing.{Came, IsNoAct, IsOneLine, StopsAfter, ended_line}
 use Rattle.roam_sockets.proofs.Lengths.{act_is_short}
 
 -- ---- the lines of a text
@@ -24,13 +24,13 @@ line_first (b ∷ bs) rest one = rw (is_inner b bs one, line_first bs rest (rest
 
 -- so do lines that have theirs
 pub lines_first : (lines : List (List ℕ)) (rest : List ℕ) → All IsOneLine lines
-    → lines_of (flat_map ended lines ++ rest) ≡ lines ++ lines_of rest
+    → lines_of (flat_map ended_line lines ++ rest) ≡ lines ++ lines_of rest
 lines_first [] rest each = refl
 lines_first (line ∷ lines) rest each =
-    let there : flat_map ended (line ∷ lines) ++ rest ≡ line ++ 10 ∷ (flat_map ended lines ++ rest) =
-    append_assoc (line ++ 10 ∷ []) (flat_map ended lines) rest ∙ append_assoc line (10 ∷ []) (flat_map ended lines ++ rest) in
+    let there : flat_map ended_line (line ∷ lines) ++ rest ≡ line ++ 10 ∷ (flat_map ended_line lines ++ rest) =
+    append_assoc (line ++ 10 ∷ []) (flat_map ended_line lines) rest ∙ append_assoc line (10 ∷ []) (flat_map ended_line lines ++ rest) in
     ap lines_of there
-    ∙ line_first line (flat_map ended lines ++ rest) (All-head IsOneLine line lines each)
+    ∙ line_first line (flat_map ended_line lines ++ rest) (All-head IsOneLine line lines each)
     ∙ ap (λ (ls : List (List ℕ)). line ∷ ls) (lines_first lines rest (All-tail IsOneLine line lines each))
 
 -- a line with which a text begins is the front of its first line
@@ -72,7 +72,7 @@ module _ (log begun : List ℕ) (acts : List Act) (came : Came log acts begun) w
   pub all_lines : (more : List ℕ) → lines_of (log ++ more) ≡ came.lines ++ lines_of (begun ++ more)
   all_lines more =
       ap (λ (t : List ℕ). lines_of (t ++ more)) came.are.is
-      ∙ ap lines_of (append_assoc (flat_map ended came.lines) begun more)
+      ∙ ap lines_of (append_assoc (flat_map ended_line came.lines) begun more)
       ∙ lines_first came.lines (begun ++ more) came.are.each
 
   -- a byte that ends no line
@@ -80,7 +80,7 @@ module _ (log begun : List ℕ) (acts : List Act) (came : Came log acts begun) w
   came_byte b other = record {
     lines = came.lines;
     are = record {
-      is = ap (λ (t : List ℕ). t ++ b ∷ []) came.are.is ∙ append_assoc (flat_map ended came.lines) begun (b ∷ []);
+      is = ap (λ (t : List ℕ). t ++ b ∷ []) came.are.is ∙ append_assoc (flat_map ended_line came.lines) begun (b ∷ []);
       each = came.are.each;
       last = All-push (λ (byte : ℕ). byte ≢ 10) begun b came.are.last other;
     };
@@ -94,10 +94,10 @@ module _ (log begun : List ℕ) (acts : List Act) (came : Came log acts begun) w
     are = record {
       is =
           ap (λ (t : List ℕ). t ++ 10 ∷ []) came.are.is
-          ∙ append_assoc (flat_map ended came.lines) begun (10 ∷ [])
-          ∙ ap (λ (t : List ℕ). flat_map ended came.lines ++ t) (sym (append-nil (ended begun)))
-          ∙ sym (flat_map-append ended came.lines (begun ∷ []))
-          ∙ sym (append-nil (flat_map ended (came.lines ++ begun ∷ [])));
+          ∙ append_assoc (flat_map ended_line came.lines) begun (10 ∷ [])
+          ∙ ap (λ (t : List ℕ). flat_map ended_line came.lines ++ t) (sym (append-nil (ended_line begun)))
+          ∙ sym (flat_map-append ended_line came.lines (begun ∷ []))
+          ∙ sym (append-nil (flat_map ended_line (came.lines ++ begun ∷ [])));
       each = All-push IsOneLine came.lines begun came.are.each came.are.last;
       last = All-nil (λ (byte : ℕ). byte ≢ 10);
     };

@@ -4,10 +4,10 @@ use Rattle.roam_layout.specs.declared.rects.Rect.{Rect}
 use Rattle.roam_session.specs.Lives.{life_of}
 use Rattle.roam_session.specs.Places.{focus_at, rect_at}
 use Rattle.roam_world.specs.Servers.{Server}
-use Rattle.roam_places.specs.Known.{nothing, place_at}
-use Rattle.roam_places.specs.Lines.{lines_text, lines_between}
-use Rattle.roam_places.specs.declared.places.Place.{Place}
-use Rattle.roam_places.specs.declared.places.Places.{Places}
+use Rattle.roam_pane_list.specs.Known.{nothing, pane_at}
+use Rattle.roam_pane_list.specs.Lines.{lines_text, lines_between}
+use Rattle.roam_pane_list.specs.declared.pane_list.ListedPane.{ListedPane}
+use Rattle.roam_pane_list.specs.declared.pane_list.PaneList.{PaneList}
 use Rattle.roam_sockets.specs.declared.following.Follower.{Follower}
 
 -- its file in a folder
@@ -25,23 +25,23 @@ pub record IsFresh (f : Follower) : Type 0 where
   pub waiting : f.waiting.items ≡ []
 
 -- the text of what is new
-abbrev pub news : Places → Places → List ℕ
+abbrev pub news : PaneList → PaneList → List ℕ
 news told now = lines_text (lines_between told now)
 
 -- The program that is there was told what is so: what waits for it is the rest of what waited before and the news, or of all there is to
 -- tell where it came just now.
-pub record Tells (now : Places) (old new : Follower) : Type 0 where
+pub record Tells (now : PaneList) (old new : Follower) : Type 0 where
   pub told : new.told ≡ now
   pub waiting : (n : ℕ) × ((new.waiting.items ≡ drop n (old.waiting.items ++ news old.told now))
       ⊎ (new.waiting.items ≡ drop n (news nothing now)))
 
 -- a pane that is there: its life and its size
-abbrev pub place_of : Option ℕ → Option Rect → Option Place
-place_of None rect = None
-place_of (Some life) None = None
-place_of (Some life) (Some rect) = Some (record { life = life; rows = rect.rows; cols = rect.cols })
+abbrev pub pane_of : Option ℕ → Option Rect → Option ListedPane
+pane_of None rect = None
+pane_of (Some life) None = None
+pane_of (Some life) (Some rect) = Some (record { life = life; rows = rect.rows; cols = rect.cols })
 
 -- these are the panes of a server, and the one in focus
-pub record ArePlacesOf (s : Server) (known : Places) : Type 0 where
-  pub places : (p : ℕ) → 1 ≤ p → p ≤ 9 → place_at known p ≡ place_of (life_of s.size s.log p) (rect_at s.size s.log p)
+pub record ArePanesOf (s : Server) (known : PaneList) : Type 0 where
+  pub panes : (p : ℕ) → 1 ≤ p → p ≤ 9 → pane_at known p ≡ pane_of (life_of s.size s.log p) (rect_at s.size s.log p)
   pub focus : known.focus ≡ focus_at s.size s.log

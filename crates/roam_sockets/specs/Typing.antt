@@ -17,8 +17,8 @@ abbrev pub longest_line : ℕ
 longest_line = 64
 
 -- a line with its end
-abbrev pub ended : List ℕ → List ℕ
-ended line = line ++ 0x0A ∷ []
+abbrev pub ended_line : List ℕ → List ℕ
+ended_line line = line ++ 0x0A ∷ []
 
 -- no end of line is in it
 abbrev pub IsOneLine : List ℕ → Type 0
@@ -26,7 +26,7 @@ IsOneLine line = All (λ byte. byte ≢ 0x0A) line
 
 -- what was read is lines, each with its end, and a line that is begun
 pub record AreLines (log : List ℕ) (lines : List (List ℕ)) (begun : List ℕ) : Type 0 where
-  pub is : log ≡ flat_map ended lines ++ begun
+  pub is : log ≡ flat_map ended_line lines ++ begun
   pub each : All IsOneLine lines
   pub last : IsOneLine begun
 
@@ -52,8 +52,8 @@ pub record StopsAfter (acts : List Act) (text : List ℕ) : Type 0 where
   pub none : IsNoAct line
 
 -- so many lines, as far as numbers go
-abbrev pub counted : ℕ → ℕ
-counted lines = min lines (2 ^ 64 - 1)
+abbrev pub line_count : ℕ → ℕ
+line_count lines = min lines (2 ^ 64 - 1)
 
 -- After these bytes of a stream the acts of its lines are these: none comes; its whole lines are these acts; at its end its lines are, as a
 -- file's would be; or however it goes on, its lines are these acts and then one that is none; or at its end they are.
@@ -61,15 +61,15 @@ abbrev pub HasCome : Stream → List ℕ → List Act → List ℕ → Type 0
 HasCome Absent log acts begun = (log ≡ []) × (acts ≡ [])
 HasCome Open log acts begun = Came log acts begun
 HasCome Ended log acts begun = AreLinesOf (lines_of log) acts
-HasCome (Spoiled number) log acts begun = (number ≡ counted (length acts + 1)) × ((more : List ℕ) → StopsAfter acts (log ++ more))
-HasCome (SpoiledLast number) log acts begun = (number ≡ counted (length acts + 1)) × StopsAfter acts log
+HasCome (Spoiled number) log acts begun = (number ≡ line_count (length acts + 1)) × ((more : List ℕ) → StopsAfter acts (log ++ more))
+HasCome (SpoiledLast number) log acts begun = (number ≡ line_count (length acts + 1)) × StopsAfter acts log
 
 -- After these bytes, of these first acts and those of the stream's lines, in order, these were taken and the others wait.
 pub record Stands (lines : ActLines) (first : List Act) (log : List ℕ) (taken : List Act) : Type 0 where
   pub came : List Act
   pub order : taken ++ lines.waiting.items ≡ first ++ came
   pub has_come : HasCome lines.stream log came lines.begun.items
-  pub count : lines.count ≡ counted (length came)
+  pub count : lines.count ≡ line_count (length came)
   pub short : length lines.begun.items ≤ longest_line
 
 -- more of a stream may come, or is let go
@@ -117,15 +117,15 @@ abbrev pub longest_piece : ℕ
 longest_piece = 1024
 
 -- the bytes that a read gave
-abbrev pub given : Result ℕ Error → List ℕ → List ℕ
-given (Ok n) buf = take n buf
-given (Err error) buf = []
+abbrev pub bytes_given : Result ℕ Error → List ℕ → List ℕ
+bytes_given (Ok n) buf = take n buf
+bytes_given (Err error) buf = []
 
 -- A line that was begun is at its end: it is an act, which waits behind the others, and none is begun; or it is none.
 pub data EndsLine (old new : ActLines) : Type 0 where
   act : (a : Act) → IsLineOf old.begun.items a → new.waiting.items ≡ old.waiting.items ++ a ∷ [] → new.begun.items ≡ []
-      → new.count ≡ counted (old.count + 1) → new.stream ≡ old.stream → EndsLine old new
-  none : IsNoAct old.begun.items → new ≡ record old { stream = Spoiled (counted (old.count + 1)) } → EndsLine old new
+      → new.count ≡ line_count (old.count + 1) → new.stream ≡ old.stream → EndsLine old new
+  none : IsNoAct old.begun.items → new ≡ record old { stream = Spoiled (line_count (old.count + 1)) } → EndsLine old new
 
 -- more bytes of it were read: whatever was before, these stand behind
 abbrev pub Reads : ActLines → List ℕ → ActLines → Type 0

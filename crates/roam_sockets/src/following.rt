@@ -1,6 +1,6 @@
 //! The socket `panes`, where a program follows which panes there are, how large each is and which is in focus.
 ghost use Rattle.std.specs.Prelude.{◌≡◌, ◌⊎◌, ◌++◌, ◌≤◌, ℕ, [], length, is_some, drop, true, false, string_bytes, IfOk, IfErr, OnOk, IfSome, IsSome, IsOkUnless};
-ghost use Rattle.roam_places.specs.Known.{nothing};
+ghost use Rattle.roam_pane_list.specs.Known.{nothing};
 ghost use Rattle.roam_sockets.specs.Following.{IsFresh, Tells, news, panes_path, room};
 
 use crate::files::listen;
@@ -9,7 +9,7 @@ use mio::net::UnixListener;
 use mio::{Interest, Registry, Token};
 use roam_cells::Fault;
 use roam_faults::RunFault;
-use roam_places::{Places, lines_between};
+use roam_pane_list::{PaneList, lines_between};
 use std::alloc::Global;
 use std::fs::{Files, remove_file};
 use std::net::Net;
@@ -23,7 +23,7 @@ pub(crate) struct Follower {
     path: String,
     listener: UnixListener,
     peer: Peer,
-    told: Places,
+    told: PaneList,
     waiting: Vec<u8>,
 }
 
@@ -51,7 +51,7 @@ impl Follower {
             path,
             listener,
             peer: Peer::none(),
-            told: Places::unknown(),
+            told: PaneList::unknown(),
             waiting: Vec::new(alloc),
         })
     }
@@ -68,12 +68,12 @@ impl Follower {
             return;
         }
         self.peer.accept(&self.listener, registry);
-        self.told = Places::unknown();
+        self.told = PaneList::unknown();
         self.waiting.clear();
     }
 
     // What is new waits for the program.
-    fn add(&mut self, alloc: Global, now: &Places) -> Result<(), Fault>
+    fn add(&mut self, alloc: Global, now: &PaneList) -> Result<(), Fault>
         ensures added { OnOk result (self.new.waiting.items ≡ self.old.waiting.items ++ news self.old.told now.now) }
         ensures told { OnOk result (self.new.told ≡ now.now) }
         ensures path { self.new.path ≡ self.old.path }
@@ -98,7 +98,7 @@ impl Follower {
 
     /// Tells the program what is new of the panes. One that leaves 65,536 bytes waiting is let go, and so is one for which there is no
     /// memory: it may come again, and is told all then.
-    pub(crate) fn tell(&mut self, alloc: Global, registry: &Registry, now: &Places)
+    pub(crate) fn tell(&mut self, alloc: Global, registry: &Registry, now: &PaneList)
         ensures tells { IfSome self.new.peer.stream (λ _. Tells now.now self.old self.new) }
         ensures room { length self.new.waiting.items ≤ room }
         ensures path { self.new.path ≡ self.old.path }

@@ -16,7 +16,7 @@ use mio::net::UnixStream;
 use roam_cells::Fault;
 use roam_faults::RunFault;
 use roam_hub::Addr;
-use roam_places::Places;
+use roam_pane_list::PaneList;
 use roam_turns::Ports;
 use std::alloc::Global;
 use std::fs::Files;
@@ -94,7 +94,7 @@ impl<R: Clock + Drop> ServerPorts<R> {
     }
 
     /// Tells the program that follows the session's panes what is new of them; one that comes is told all.
-    pub fn tell_panes(&mut self, alloc: Global, now: &Places)
+    pub fn tell_panes(&mut self, alloc: Global, now: &PaneList)
         ensures tells { IfSome self.new.follower.peer.stream (λ _. Tells now.now self.old.follower self.new.follower) }
         ensures panes { self.new.panes ≡ self.old.panes }
     {

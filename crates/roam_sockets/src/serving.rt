@@ -4,14 +4,14 @@ ghost use Rattle.roam_session.specs.Lives.{life_of};
 ghost use Rattle.roam_session.specs.Places.{rect_at};
 ghost use Rattle.roam_world.specs.Servers.{Server as ServerOf};
 ghost use Rattle.roam_hub.specs.Servers.{Stands};
-ghost use Rattle.roam_sockets.specs.Following.{ArePlacesOf, place_of};
+ghost use Rattle.roam_sockets.specs.Following.{ArePanesOf, pane_of};
 
 use crate::moments::Moments;
 use crate::ports::ServerPorts;
 use roam_cells::Fault;
 use roam_faults::RunFault;
 use roam_hub::Server;
-use roam_places::{Place, Places};
+use roam_pane_list::{ListedPane, PaneList};
 use roam_turns::serve_turn;
 use std::alloc::Global;
 use std::fs::Files;
@@ -32,11 +32,11 @@ pub struct Serve<'a> {
 }
 
 // A pane of a server, where it is there.
-fn place_of(server: &Server, pane: u8) -> Option<Place>
-    ensures place { (s : ServerOf) → Stands server.now s → result ≡ place_of (life_of s.size s.log pane) (rect_at s.size s.log pane) }
+fn pane_of(server: &Server, pane: u8) -> Option<ListedPane>
+    ensures pane { (s : ServerOf) → Stands server.now s → result ≡ pane_of (life_of s.size s.log pane) (rect_at s.size s.log pane) }
 {
     match (server.life(pane), server.rect(pane)) {
-        (Some(life), Some(rect)) => Some(Place {
+        (Some(life), Some(rect)) => Some(ListedPane {
             life,
             rows: rect.rows,
             cols: rect.cols,
@@ -46,15 +46,15 @@ fn place_of(server: &Server, pane: u8) -> Option<Place>
 }
 
 // The panes of a server, and the one in focus.
-fn places_of(server: &Server) -> Places
-    ensures places { (s : ServerOf) → Stands server.now s → ArePlacesOf s result }
+fn panes_of(server: &Server) -> PaneList
+    ensures panes { (s : ServerOf) → Stands server.now s → ArePanesOf s result }
 {
-    let mut places = Places::unknown();
+    let mut panes = PaneList::unknown();
     for pane in 1..10u8 {
-        places.set(pane, place_of(server, pane));
+        panes.set(pane, pane_of(server, pane));
     }
-    places.set_focus(server.focus());
-    places
+    panes.set_focus(server.focus());
+    panes
 }
 
 // Takes the turns of a server, tells after each who follows the panes, and waits where one brought nothing.
@@ -66,7 +66,7 @@ fn serve_turns<C: Clock + Drop>(
 ) {
     for _ in 0..turns {
         serve_turn(alloc, server, ports);
-        ports.tell_panes(alloc, &places_of(server));
+        ports.tell_panes(alloc, &panes_of(server));
         ports.rest();
     }
 }

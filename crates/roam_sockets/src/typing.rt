@@ -5,7 +5,7 @@ ghost use Rattle.std.specs.Option.{option_copied};
 ghost use Rattle.std.specs.Io.KnownBytes.{Consumes};
 ghost use Rattle.roam_acts.specs.declared.acts.Act.{Act as ActOf};
 ghost use Rattle.roam_acts.specs.Acts.{IsInRange};
-ghost use Rattle.roam_sockets.specs.Typing.{EndsLine, ForNow, GoesOn, IsStreamEnd, Reads, ReadsOn, Stands, given, last_of, longest_piece, refused_at};
+ghost use Rattle.roam_sockets.specs.Typing.{EndsLine, ForNow, GoesOn, IsStreamEnd, Reads, ReadsOn, Stands, bytes_given, last_of, longest_piece, refused_at};
 
 use roam_acts::{Act, read_act};
 use roam_cells::Fault;
@@ -170,7 +170,7 @@ impl ActLines {
         requires open { self.old.stream ≡ Stream.Open }
         requires within { IfOk answer.now (λ n. n ≤ length buf.now) }
         requires room { 0 < length buf.now }
-        ensures reads { OnOk result (Reads self.old (given answer.now buf.now) self.new) }
+        ensures reads { OnOk result (Reads self.old (bytes_given answer.now buf.now) self.new) }
         ensures ends { OnOk result (IsStreamEnd answer.now → GoesOn self.new.stream → ⊥) }
         ensures goes { OnOk result ((IsStreamEnd answer.now → ⊥) → GoesOn self.new.stream) }
         ensures few { OnOk result (length self.new.waiting.items ≤ length self.old.waiting.items + length buf.now) }

@@ -16,20 +16,20 @@ use Rattle.roam_controls.specs.declared.motions.Motion.{Motion}
 use Rattle.roam_controls.specs.declared.motions.Motion.TheVariants.{LineFeed, Index, NextLine, ReverseIndex}
 use Rattle.roam_controls.specs.declared.settings.Setting.{Setting}
 use Rattle.roam_controls.specs.declared.settings.Setting.TheVariants.{PrivateMode, Reset}
-use Rattle.roam_grid.specs.Cursor.{carried}
+use Rattle.roam_grid.specs.Cursor.{after_carriage_return}
 use Rattle.roam_grid.specs.Editing.{is_between_margins}
 use Rattle.roam_grid.specs.Erasing.{line_from, line_to, page_from, page_to}
 use Rattle.roam_grid.specs.Marks.{is_marked, all_on, all_off, also_marked, row_marked, rows_marked, moved_marked, marks_scrolled, marks_indexed, marks_reverse_indexed, marks_lines_moved, marks_erased_in_page, unguarded_marked, marks_erased_selectively_in_line, marks_erased_selectively_in_page, marks_settled, marks_with_room, marks_put, marks_put_all, joins, marks_joined_in, marks_joined, has_unguarded}
 use Rattle.roam_grid.specs.Screen.{Screen}
-use Rattle.roam_grid.specs.Writing.{columns, settled, with_room, put_on}
+use Rattle.roam_grid.specs.Writing.{columns, after_pending_wrap, with_room, put_on}
 use Rattle.roam_grid.specs.declared.erasing.Extent.{Extent}
 use Rattle.roam_grid.specs.declared.writing.Writing.{Writing}
 use Rattle.roam_grid.proofs.Marked.{marked_at}
 use Rattle.roam_grid.proofs.Named.{all_marked}
 use Rattle.roam_text.specs.declared.functions.Function.{Function}
 use Rattle.roam_text.specs.declared.functions.Function.TheVariants.{Print, C0, C1, Esc, Csi, Size}
-use Rattle.roam_term.specs.Marks.{marks_moved_by, marks_edited_by, marks_erased_by, marks_printed, marks_repeated, marks_chosen, marks_followed, marks_private_mode, marks_private_modes, marks_set_by, marks_performed, marked, marked_through}
-use Rattle.roam_term.specs.Terminal.{Live, glyph_in, writing_under, is_alternate_mode, private_mode_set, changed}
+use Rattle.roam_term.specs.Marks.{marks_moved_by, marks_edited_by, marks_erased_by, marks_printed, marks_repeated, marks_chosen, marks_followed, marks_private_mode, marks_private_modes, marks_set_by, marks_performed, marked_by, marked_through}
+use Rattle.roam_term.specs.Terminal.{Live, glyph_in, writing_under, is_alternate_mode, private_mode_set, changed_by}
 use Rattle.roam_term.specs.Unmarked.{MarksAreAdded}
 
 -- ---- what puts marks on
@@ -122,9 +122,9 @@ room_adds width w s =
 put_adds : (x : Glyph) (w : Writing) (s : Screen) → Adds (marks_put x w s)
 unfolding marks_put
 put_adds x w s =
-    let row = (with_room (columns x) w (settled s)).row in
-    then_adds (λ m. marks_with_room (columns x) w (settled s) (marks_settled s m)) (row_marked row)
-    (then_adds (marks_settled s) (marks_with_room (columns x) w (settled s)) (settled_adds s) (room_adds (columns x) w (settled s)))
+    let row = (with_room (columns x) w (after_pending_wrap s)).row in
+    then_adds (λ m. marks_with_room (columns x) w (after_pending_wrap s) (marks_settled s m)) (row_marked row)
+    (then_adds (marks_settled s) (marks_with_room (columns x) w (after_pending_wrap s)) (settled_adds s) (room_adds (columns x) w (after_pending_wrap s)))
     (row_adds row)
 
 put_all_adds : (xs : List Glyph) (w : Writing) (s : Screen) → Adds (marks_put_all xs w s)
@@ -146,7 +146,7 @@ joined_adds c s =
 motion_adds : (motion : Motion) (s : Screen) → Adds (marks_moved_by motion s)
 motion_adds LineFeed s = index_adds s
 motion_adds Index s = index_adds s
-motion_adds NextLine s = index_adds (carried s)
+motion_adds NextLine s = index_adds (after_carriage_return s)
 motion_adds ReverseIndex s = reverse_adds s
 motion_adds motion s = same_adds
 
@@ -210,8 +210,8 @@ command_adds (Sets setting) params l = setting_adds setting params l
 command_adds (Repeats n) params l = repeated_adds n l.printed l
 command_adds command params l = same_adds
 
-function_adds : (f : Function) (l : Live) → Adds (marked f l)
-unfolding marked
+function_adds : (f : Function) (l : Live) → Adds (marked_by f l)
+unfolding marked_by
 function_adds (Size rows cols) l = all_adds
 function_adds (Print c) l = command_adds (command_of (Print c)) (parameters_of (Print c)) l
 function_adds (C0 b) l = command_adds (command_of (C0 b)) (parameters_of (C0 b)) l
@@ -221,7 +221,7 @@ function_adds (Csi marker params inter b) l = command_adds (command_of (Csi mark
 
 through_adds : (l : Live) (fs : List Function) → Adds (marked_through l fs)
 through_adds l [] = same_adds
-through_adds l (f ∷ fs) = then_adds (marked f l) (marked_through (changed f l) fs) (function_adds f l) (through_adds (changed f l) fs)
+through_adds l (f ∷ fs) = then_adds (marked_by f l) (marked_through (changed_by f l) fs) (function_adds f l) (through_adds (changed_by f l) fs)
 
 pub marks_are_added : MarksAreAdded
 marks_are_added l fs = through_adds l fs

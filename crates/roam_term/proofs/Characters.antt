@@ -10,8 +10,8 @@ use Rattle.roam_text.specs.declared.kinds.Kind.TheVariants.{C0Control, Bell, Can
 use Rattle.roam_text.specs.declared.functions.Function.{Function}
 use Rattle.roam_text.specs.declared.functions.Function.TheVariants.{Print, Size}
 use Rattle.roam_text.specs.Kinds.{kind_of}
-use Rattle.roam_text.specs.Log.{Item, Byte, Resized, Sign, Character, Resize, character, is_unfinished, settled_from, settled, gained, signs_after, signs}
-use Rattle.roam_text.specs.Inside.{Front, front_while, rest_while, resized, acts}
+use Rattle.roam_text.specs.Log.{Item, Byte, Resized, Sign, Character, Resize, character, is_unfinished, settled_from, settled_part, gained_characters, signs_after, signs}
+use Rattle.roam_text.specs.Inside.{Front, front_while, rest_while, size_functions, acts}
 use Rattle.roam_text.specs.ControlStrings.{in_control_string, after_control_string, control_string}
 use Rattle.roam_text.specs.ControlSequences.{Header, in_control_sequence, body_of, header, intermediates, control_sequence_function, control_sequence, end_control_sequence}
 use Rattle.roam_text.specs.EscapeSequences.{in_escape_sequence, escape_sequence_function, escape_sequence, c1_control, upper_final, end_escape_sequence}
@@ -71,7 +71,7 @@ rest_each p (s ∷ xs) h = by_test (p s) (rest_each p xs h.1)
     by_test true rest = rest
     by_test false rest = h
 
-resized_proper : (s : Sign) → IsSign s → Each IsProper (resized s)
+resized_proper : (s : Sign) → IsSign s → Each IsProper (size_functions s)
 resized_proper (Resize r c) h = (h, tt)
 resized_proper (Character k c) h = tt
 
@@ -88,7 +88,7 @@ after_string (s ∷ rest) h = h.1
 
 string_proper : (bell : Bool) (xs : List Sign) → Each IsSign xs → AreProper (control_string bell xs)
 string_proper bell xs h = record {
-  gives = each-flat IsSign IsProper resized resized_proper (front_while (in_control_string bell) xs)
+  gives = each-flat IsSign IsProper size_functions resized_proper (front_while (in_control_string bell) xs)
       (front_each (in_control_string bell) xs h);
   left = after_string (rest_while (in_control_string bell) xs) (rest_each (in_control_string bell) xs h);
 }
@@ -193,9 +193,9 @@ settled_scalars (suc n) bs = by_test (is_unfinished bs) (settled_scalars n (drop
     by_test true rest = tt
     by_test false rest = (char_scalar bs (decoded bs).char refl, rest)
 
-gained_scalars : (before : List ℕ) (b : ℕ) → Each IsScalar (gained before b)
-unfolding gained settled
-gained_scalars before b = each-drop IsScalar (length (settled before)) (settled (before ++ b ∷ []))
+gained_scalars : (before : List ℕ) (b : ℕ) → Each IsScalar (gained_characters before b)
+unfolding gained_characters settled_part
+gained_scalars before b = each-drop IsScalar (length (settled_part before)) (settled_part (before ++ b ∷ []))
     (settled_scalars (length (before ++ b ∷ [])) (before ++ b ∷ []))
 
 signs_of : (cs : List ℕ) → Each IsScalar cs → Each IsSign (map character cs)
@@ -205,8 +205,8 @@ signs_of (c ∷ cs) h = (h.0, signs_of cs h.1)
 signs_proper : (before : List ℕ) (log : List Item) → AreSizes log → Each IsSign (signs_after before log)
 signs_proper before [] h = tt
 signs_proper before (Byte b ∷ log) h =
-    each-append IsSign (map character (gained before b)) (signs_after (before ++ b ∷ []) log)
-    (signs_of (gained before b) (gained_scalars before b))
+    each-append IsSign (map character (gained_characters before b)) (signs_after (before ++ b ∷ []) log)
+    (signs_of (gained_characters before b) (gained_scalars before b))
     (signs_proper (before ++ b ∷ []) log h)
 signs_proper before (Resized r c ∷ log) h = (h.0, signs_proper before log h.1)
 

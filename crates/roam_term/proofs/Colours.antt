@@ -12,13 +12,13 @@ use Rattle.roam_controls.specs.declared.renditions.Layer.{Layer}
 use Rattle.roam_controls.specs.declared.renditions.Layer.TheVariants.{Foreground, Background}
 use Rattle.roam_controls.specs.declared.renditions.Awaited.{Awaited}
 use Rattle.roam_controls.specs.declared.renditions.Awaited.TheVariants.{Aspect, ColourSpace, ColourIndex, Red, Green, Blue, Nothing}
-use Rattle.roam_controls.specs.Renditions.{Rendition, coloured, with_colour, ended, with_aspect, mixed, read_as, with_parameter, styled}
+use Rattle.roam_controls.specs.Renditions.{Rendition, coloured_style, with_colour, without_aspect, with_aspect, mixed_style, read_as, with_parameter, styled_by}
 
 -- both colours of a style, as a pair: it is the same where only aspects differ
 abbrev HasColours : Style → Type 0
 HasColours s = IsColour s.foreground × IsColour s.background
 
-coloured_has : (layer : Layer) (colour : Colour) (g : Style) → IsColour colour → HasColours g → HasColours (coloured layer colour g)
+coloured_has : (layer : Layer) (colour : Colour) (g : Style) → IsColour colour → HasColours g → HasColours (coloured_style layer colour g)
 coloured_has Foreground colour g is has = (is, has.1)
 coloured_has Background colour g is has = (has.0, is)
 
@@ -35,7 +35,7 @@ numbered_has p g has =
     (λ e. either HasColours (leb 90 p && leb p 97) _ _ (λ e. (omega (arith, last_of 90 p e), has.1))
     (λ e. either HasColours (leb 100 p && leb p 107) _ _ (λ e. (has.0, omega (arith, last_of 100 p e))) (λ e. has))))))
 
-ended_has : (p : ℕ) (g : Style) → HasColours g → HasColours (ended p g)
+ended_has : (p : ℕ) (g : Style) → HasColours g → HasColours (without_aspect p g)
 ended_has p g has =
     either HasColours (eqb p 21) _ _ (λ e. has)
     (λ e. either HasColours (eqb p 22) _ _ (λ e. has)
@@ -58,7 +58,7 @@ aspect_has p g has =
     (λ e. either HasColours (eqb p 8) _ _ (λ e. has)
     (λ e. either HasColours (eqb p 9) _ _ (λ e. has) (λ e. ended_has p g has)))))))))
 
-mixed_has : (layer : Layer) (r g b : ℕ) (s : Style) → HasColours s → HasColours (mixed layer r g b s)
+mixed_has : (layer : Layer) (r g b : ℕ) (s : Style) → HasColours s → HasColours (mixed_style layer r g b s)
 mixed_has layer r g b s has =
     either HasColours (leb r 255 && (leb g 255 && leb b 255)) _ _
     (λ e.
@@ -90,7 +90,7 @@ all_read : (params : List ℕ) (r : Rendition) → IsRead r → IsRead (fold wit
 all_read [] r has = has
 all_read (p ∷ params) r has = all_read params (with_parameter r p) (read_has r.awaited r p has)
 
-pub styled_is : (params : List ℕ) (g : Style) → IsStyle g → IsStyle (styled params g)
+pub styled_is : (params : List ℕ) (g : Style) → IsStyle g → IsStyle (styled_by params g)
 styled_is params g is =
     let has = all_read params (record { style = g; awaited = Aspect }) (is.foreground, is.background) in
     record { foreground = has.0; background = has.1 }

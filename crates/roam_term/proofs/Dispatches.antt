@@ -5,12 +5,12 @@ use Rattle.roam_text.specs.declared.functions.Dispatch.TheVariants.{Print, C0, C
 use Rattle.roam_text.specs.Dispatched.{function_of}
 use Rattle.roam_controls.specs.Commands.{command_of, parameters_of}
 use Rattle.roam_history.specs.Histories.{Scrollback}
-use Rattle.roam_term.specs.Marks.{marked, marks_performed}
-use Rattle.roam_term.specs.Terminal.{Live, changed, commanded, kept, left, left_by, on_main, with_rows}
+use Rattle.roam_term.specs.Marks.{marked_by, marks_performed}
+use Rattle.roam_term.specs.Terminal.{Live, changed_by, commanded_by, history_after, rows_left, left_by, on_main, with_rows}
 
 pub changed-dispatch : (d : Dispatch) (params inter : List ℕ) (l : Live)
-    → changed (function_of d params inter) l ≡ commanded (command_of (function_of d params inter)) (parameters_of (function_of d params inter)) l
-unfolding changed
+    → changed_by (function_of d params inter) l ≡ commanded_by (command_of (function_of d params inter)) (parameters_of (function_of d params inter)) l
+unfolding changed_by
 changed-dispatch (Print c) params inter l = refl
 changed-dispatch (C0 b) params inter l = refl
 changed-dispatch (C1 b) params inter l = refl
@@ -18,9 +18,9 @@ changed-dispatch (Esc last) params inter l = refl
 changed-dispatch (Csi mark last) params inter l = refl
 
 pub marked-dispatch : (d : Dispatch) (params inter : List ℕ) (l : Live) (marks : List Bool)
-    → marked (function_of d params inter) l marks
+    → marked_by (function_of d params inter) l marks
     ≡ marks_performed (command_of (function_of d params inter)) (parameters_of (function_of d params inter)) l marks
-unfolding marked
+unfolding marked_by
 marked-dispatch (Print c) params inter l marks = refl
 marked-dispatch (C0 b) params inter l marks = refl
 marked-dispatch (C1 b) params inter l marks = refl
@@ -28,8 +28,8 @@ marked-dispatch (Esc last) params inter l marks = refl
 marked-dispatch (Csi mark last) params inter l marks = refl
 
 pub kept-dispatch : (d : Dispatch) (params inter : List ℕ) (l : Live) (h : Scrollback)
-    → kept (function_of d params inter) l h ≡ with_rows (on_main l.alternate (left_by (command_of (function_of d params inter)) l)) h
-unfolding kept left
+    → history_after (function_of d params inter) l h ≡ with_rows (on_main l.alternate (left_by (command_of (function_of d params inter)) l)) h
+unfolding history_after rows_left
 kept-dispatch (Print c) params inter l h = refl
 kept-dispatch (C0 b) params inter l h = refl
 kept-dispatch (C1 b) params inter l h = refl

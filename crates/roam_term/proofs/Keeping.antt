@@ -15,9 +15,9 @@ use Rattle.roam_charset.specs.Sets.{in_use, spent}
 use Rattle.roam_rows.proofs.Keeping.{AreCells, either, blank_cells, sized_cells}
 use Rattle.roam_grid.specs.Screen.{Screen}
 use Rattle.roam_grid.specs.Scrolling.{with_margins}
-use Rattle.roam_grid.specs.Cursor.{carried, indexed, moved_up, moved_down, wrap_cleared}
+use Rattle.roam_grid.specs.Cursor.{after_carriage_return, after_index, moved_up, moved_down, wrap_cleared}
 use Rattle.roam_grid.specs.Writing.{put_on, put_all, joined_on}
-use Rattle.roam_grid.specs.Frames.{restarted, leaving}
+use Rattle.roam_grid.specs.Frames.{after_restart, leaving}
 use Rattle.roam_grid.proofs.Keeping as grid
 use Rattle.roam_grid.proofs.Keeping.{IsSound, Kept, kept_same, kept_then}
 use Rattle.roam_text.specs.declared.functions.Function.{Function}
@@ -48,9 +48,9 @@ use Rattle.roam_term.specs.declared.pens.Saved.{Saved}
 use Rattle.roam_term.specs.Pens.{plain_pen, nothing_saved}
 use Rattle.roam_term.specs.Edits.{edited_by}
 use Rattle.roam_term.specs.Erasures.{erased_by}
-use Rattle.roam_term.specs.Motions.{row_under, homed, moved_by}
+use Rattle.roam_term.specs.Motions.{row_under, after_home, moved_by}
 use Rattle.roam_term.specs.Settings.{bottom_of, margins_set, after_private_mode}
-use Rattle.roam_term.specs.Terminal.{Live, glyph_in, writing_under, written, printed_on, repeated, saved_on, kept_of, keepsake, restored_to, is_alternate_mode, switched, blanked, alternate_shown, main_shown, screen_chosen, soft_reset, reset, mode_set, private_mode_set, set_by, performed, commanded, changed, sized_to, started_live}
+use Rattle.roam_term.specs.Terminal.{Live, glyph_in, writing_under, written_on, printed_on, repeated_on, saved_on, kept_of, keepsake, restored_to, is_alternate_mode, screens_switched, screen_blanked, alternate_shown, main_shown, screen_chosen, soft_reset, reset, mode_set, private_mode_set, set_by, performed_by, commanded_by, changed_by, sized_to, started_live}
 use Rattle.roam_controls.specs.Modes.{with_private_mode}
 use Rattle.roam_term.proofs.Characters.{Each, IsProper}
 use Rattle.roam_term.proofs.Colours.{styled_is}
@@ -64,22 +64,22 @@ moved_kept Backspace modes s is = grid.backspaced_kept s is
 moved_kept CarriageReturn modes s is = grid.carried_kept s is
 moved_kept LineFeed modes s is =
     let first = grid.indexed_kept s is in
-    either (Kept s) modes.newline (carried (indexed s)) (indexed s)
-    (λ e. kept_then s (indexed s) (carried (indexed s)) first (grid.carried_kept (indexed s) first.sound)) (λ e. first)
+    either (Kept s) modes.newline (after_carriage_return (after_index s)) (after_index s)
+    (λ e. kept_then s (after_index s) (after_carriage_return (after_index s)) first (grid.carried_kept (after_index s) first.sound)) (λ e. first)
 moved_kept Index modes s is = grid.indexed_kept s is
 moved_kept NextLine modes s is =
     let first = grid.carried_kept s is in
-    kept_then s (carried s) (indexed (carried s)) first (grid.indexed_kept (carried s) first.sound)
+    kept_then s (after_carriage_return s) (after_index (after_carriage_return s)) first (grid.indexed_kept (after_carriage_return s) first.sound)
 moved_kept (Up n) modes s is = grid.moved_up_kept s is n
 moved_kept (Down n) modes s is = grid.moved_down_kept s is n
 moved_kept (Right n) modes s is = grid.moved_right_kept s is n
 moved_kept (Left n) modes s is = grid.moved_left_kept s is n
 moved_kept (NextLines n) modes s is =
     let first = grid.moved_down_kept s is n in
-    kept_then s (moved_down n s) (carried (moved_down n s)) first (grid.carried_kept (moved_down n s) first.sound)
+    kept_then s (moved_down n s) (after_carriage_return (moved_down n s)) first (grid.carried_kept (moved_down n s) first.sound)
 moved_kept (PreviousLines n) modes s is =
     let first = grid.moved_up_kept s is n in
-    kept_then s (moved_up n s) (carried (moved_up n s)) first (grid.carried_kept (moved_up n s) first.sound)
+    kept_then s (moved_up n s) (after_carriage_return (moved_up n s)) first (grid.carried_kept (moved_up n s) first.sound)
 moved_kept ReverseIndex modes s is = grid.reverse_indexed_kept s is
 moved_kept (Tab n) modes s is = grid.tabbed_kept n s is
 moved_kept (BackTab n) modes s is = grid.back_tabbed_kept n s is
@@ -103,7 +103,7 @@ edited_kept (ScrollUp n) s is = grid.scrolled_up_kept s is n
 edited_kept (ScrollDown n) s is = grid.scrolled_down_kept s is n
 edited_kept Align s is = grid.aligned_kept s is
 
-homed_kept : (origin : Bool) (s : Screen) → IsSound s → Kept s (homed origin s)
+homed_kept : (origin : Bool) (s : Screen) → IsSound s → Kept s (after_home origin s)
 homed_kept origin s is = grid.moved_to_kept s is (row_under origin 1 s) 0
 
 bottom_low : (bottom : ℕ) (s : Screen) → IsSound s → bottom_of bottom s < s.rows
@@ -115,16 +115,16 @@ bottom_low bottom s is =
 margins_kept : (top bottom : ℕ) (origin : Bool) (s : Screen) → IsSound s → Kept s (margins_set top bottom origin s)
 margins_kept top bottom origin s is =
     let t = with_margins (top - 1) (bottom_of bottom s) s in
-    either (Kept s) (ltb (top - 1) (bottom_of bottom s)) (homed origin t) s
+    either (Kept s) (ltb (top - 1) (bottom_of bottom s)) (after_home origin t) s
     (λ e. let first = grid.with_margins_kept s is (top - 1) (bottom_of bottom s) (ltb-true (top - 1) (bottom_of bottom s) e)
     (bottom_low bottom s is) in
-    kept_then s t (homed origin t) first (homed_kept origin t first.sound))
+    kept_then s t (after_home origin t) first (homed_kept origin t first.sound))
     (λ e. kept_same s is)
 
 private_kept : (on : Bool) (p : ℕ) (s : Screen) → IsSound s → Kept s (after_private_mode on p s)
 private_kept on p s is =
     let same = kept_same s is in
-    either (Kept s) (eqb p 6) (homed on s) (cond (eqb p 7) (cond on s (wrap_cleared s)) s) (λ e. homed_kept on s is)
+    either (Kept s) (eqb p 6) (after_home on s) (cond (eqb p 7) (cond on s (wrap_cleared s)) s) (λ e. homed_kept on s is)
     (λ e. either (Kept s) (eqb p 7) (cond on s (wrap_cleared s)) s
     (λ k. either (Kept s) on s (wrap_cleared s) (λ j. same) (λ j. grid.wrap_cleared_kept s is)) (λ k. same))
 
@@ -282,7 +282,7 @@ lives_then l m n h k = record { rows = k.rows ∙ h.rows; cols = k.cols ∙ h.co
 
 -- ---- printing
 
-written_lives : (c : ℕ) (l : Live) → IsScalar c → IsLive l → Lives l (written c l)
+written_lives : (c : ℕ) (l : Live) → IsScalar c → IsLive l → Lives l (written_on c l)
 written_lives c l h is =
     let t = put_on (glyph_in c l.pen) (writing_under l.modes) l.screen in
     either (Lives l) (eqb (width_of c) 0) (record l { screen = joined_on c l.screen }) (record l { screen = t; printed = Some c })
@@ -296,9 +296,9 @@ printed_lives c l h is =
     let m : Live = record l { sets = spent l.sets } in
     let d = mapped_by (in_use l.sets) c in
     let first = stays l m is refl refl refl is.inks in
-    lives_then l m (written d m) first (written_lives d m (mapped_scalar (in_use l.sets) c h) first.live)
+    lives_then l m (written_on d m) first (written_lives d m (mapped_scalar (in_use l.sets) c h) first.live)
 
-repeated_lives : (n : ℕ) (o : Option ℕ) (l : Live) → IsPrinted o → IsLive l → Lives l (repeated n o l)
+repeated_lives : (n : ℕ) (o : Option ℕ) (l : Live) → IsPrinted o → IsLive l → Lives l (repeated_on n o l)
 repeated_lives n None l h is = lives_same l is
 repeated_lives n (Some c) l h is =
     let t = put_all (replicate n (glyph_in c l.pen)) (writing_under l.modes) l.screen in
@@ -331,7 +331,7 @@ kept_is l is =
     unwrapped_is (cond l.alternate l.saved_alternate l.saved)
     (either IsSaved l.alternate l.saved_alternate l.saved (λ e. is.inks.alternate) (λ e. is.inks.saved))
 
-switched_lives : (l : Live) → IsLive l → Lives l (switched l)
+switched_lives : (l : Live) → IsLive l → Lives l (screens_switched l)
 switched_lives l is = record {
   rows = refl;
   cols = refl;
@@ -353,25 +353,25 @@ switched_lives l is = record {
   };
 }
 
-blanked_lives : (l : Live) → IsLive l → Lives l (blanked l)
-blanked_lives l is = goes l (blanked l) is (grid.all_blank_kept l.screen is.screen) refl is.printed is.inks
+blanked_lives : (l : Live) → IsLive l → Lives l (screen_blanked l)
+blanked_lives l is = goes l (screen_blanked l) is (grid.all_blank_kept l.screen is.screen) refl is.printed is.inks
 
 alternate_lives : (p : ℕ) (l : Live) → IsLive l → Lives l (alternate_shown p l)
 alternate_lives p l is =
-    either (Lives l) (eqb p 1049) (blanked (switched (saved_on l))) (switched l)
+    either (Lives l) (eqb p 1049) (screen_blanked (screens_switched (saved_on l))) (screens_switched l)
     (λ e. let a = saved_lives l is in
     let b = switched_lives (saved_on l) a.live in
-    let c = blanked_lives (switched (saved_on l)) b.live in
-    lives_then l (saved_on l) (blanked (switched (saved_on l))) a
-    (lives_then (saved_on l) (switched (saved_on l)) (blanked (switched (saved_on l))) b c))
+    let c = blanked_lives (screens_switched (saved_on l)) b.live in
+    lives_then l (saved_on l) (screen_blanked (screens_switched (saved_on l))) a
+    (lives_then (saved_on l) (screens_switched (saved_on l)) (screen_blanked (screens_switched (saved_on l))) b c))
     (λ e. switched_lives l is)
 
 main_lives : (p : ℕ) (l : Live) → IsLive l → Lives l (main_shown p l)
 main_lives p l is =
-    let m = switched l in
+    let m = screens_switched l in
     let b = switched_lives l is in
-    either (Lives l) (eqb p 1047) (switched (blanked l)) (cond (eqb p 1049) (restored_to (kept_of m) m) m)
-    (λ e. let a = blanked_lives l is in lives_then l (blanked l) (switched (blanked l)) a (switched_lives (blanked l) a.live))
+    either (Lives l) (eqb p 1047) (screens_switched (screen_blanked l)) (cond (eqb p 1049) (restored_to (kept_of m) m) m)
+    (λ e. let a = blanked_lives l is in lives_then l (screen_blanked l) (screens_switched (screen_blanked l)) a (switched_lives (screen_blanked l) a.live))
     (λ e. either (Lives l) (eqb p 1049) (restored_to (kept_of m) m) m
     (λ k. lives_then l m (restored_to (kept_of m) m) b (restored_lives (kept_of m) m (kept_is m b.live) b.live)) (λ k. b))
 
@@ -389,7 +389,7 @@ reset_lives l is =
       cols = kept.cols;
       live = record {
         screen = kept.sound;
-        other = cells_of_size l.screen (restarted l.screen) (replicate (length l.other) blank) kept
+        other = cells_of_size l.screen (after_restart l.screen) (replicate (length l.other) blank) kept
             (subst (λ (n : ℕ). AreCells l.screen.rows l.screen.cols (replicate n blank)) (sym is.other.count)
             (blank_cells l.screen.rows l.screen.cols));
         printed = tt;
@@ -454,23 +454,23 @@ IsSaid (Sets setting) = Unit {0}
 IsSaid (Reports report) = Unit {0}
 IsSaid (Repeats n) = Unit {0}
 
-performed_lives : (command : Command) (params : List ℕ) (l : Live) → IsSaid command → IsLive l → Lives l (performed command params l)
+performed_lives : (command : Command) (params : List ℕ) (l : Live) → IsSaid command → IsLive l → Lives l (performed_by command params l)
 performed_lives Nothing params l h is = lives_same l is
 performed_lives (Prints c) params l h is = printed_lives c l h is
 performed_lives (Moves motion) params l h is =
-    goes l (performed (Moves motion) params l) is (moved_kept motion l.modes l.screen is.screen) refl is.printed is.inks
+    goes l (performed_by (Moves motion) params l) is (moved_kept motion l.modes l.screen is.screen) refl is.printed is.inks
 performed_lives (Erases erasure) params l h is =
-    goes l (performed (Erases erasure) params l) is (erased_kept erasure l.screen is.screen) refl is.printed is.inks
+    goes l (performed_by (Erases erasure) params l) is (erased_kept erasure l.screen is.screen) refl is.printed is.inks
 performed_lives (Edits edit) params l h is =
-    goes l (performed (Edits edit) params l) is (edited_kept edit l.screen is.screen) refl is.printed is.inks
-performed_lives (Shifts shift) params l h is = stays l (performed (Shifts shift) params l) is refl refl refl is.inks
+    goes l (performed_by (Edits edit) params l) is (edited_kept edit l.screen is.screen) refl is.printed is.inks
+performed_lives (Shifts shift) params l h is = stays l (performed_by (Shifts shift) params l) is refl refl refl is.inks
 performed_lives (Sets setting) params l h is = set_lives setting params l is
 performed_lives (Reports report) params l h is = lives_same l is
 performed_lives (Repeats n) params l h is = repeated_lives n l.printed l is.printed is
 
-commanded_lives : (command : Command) (params : List ℕ) (l : Live) → IsSaid command → IsLive l → Lives l (commanded command params l)
+commanded_lives : (command : Command) (params : List ℕ) (l : Live) → IsSaid command → IsLive l → Lives l (commanded_by command params l)
 commanded_lives command params l h is =
-    let m = performed command params l in
+    let m = performed_by command params l in
     let first = performed_lives command params l h is in
     either (Lives l) (forgets command) (record m { printed = None }) m
     (λ e. lives_then l m (record m { printed = None }) first
@@ -578,21 +578,21 @@ pub record Follows (f : Function) (l m : Live) : Type 0 where
 follows : (f : Function) (l m : Live) → size_by (size_of l) f ≡ size_of l → Lives l m → Follows f l m
 follows f l m same h = record { size = (λ i. (h.rows i, h.cols i)) ∙ sym same; live = h.live }
 
-pub changed_lives : (f : Function) (l : Live) → IsProper f → IsLive l → Follows f l (changed f l)
-unfolding changed
+pub changed_lives : (f : Function) (l : Live) → IsProper f → IsLive l → Follows f l (changed_by f l)
+unfolding changed_by
 changed_lives (Size rows cols) l h is = record {
   size =
       (λ i. (rows-sized rows cols l i, cols-sized rows cols l i));
   live = sized_live rows cols l h is;
 }
-changed_lives (Print c) l h is = follows (Print c) l (commanded (Prints c) [] l) refl (commanded_lives (Prints c) [] l h is)
-changed_lives (C0 b) l h is = follows (C0 b) l (commanded (c0_command b) [] l) refl (commanded_lives (c0_command b) [] l (said_c0 b) is)
-changed_lives (C1 b) l h is = follows (C1 b) l (commanded (c1_command b) [] l) refl (commanded_lives (c1_command b) [] l (said_c1 b) is)
+changed_lives (Print c) l h is = follows (Print c) l (commanded_by (Prints c) [] l) refl (commanded_lives (Prints c) [] l h is)
+changed_lives (C0 b) l h is = follows (C0 b) l (commanded_by (c0_command b) [] l) refl (commanded_lives (c0_command b) [] l (said_c0 b) is)
+changed_lives (C1 b) l h is = follows (C1 b) l (commanded_by (c1_command b) [] l) refl (commanded_lives (c1_command b) [] l (said_c1 b) is)
 changed_lives (Esc inter b) l h is =
-    follows (Esc inter b) l (commanded (escape_command inter.items b) [] l) refl
+    follows (Esc inter b) l (commanded_by (escape_command inter.items b) [] l) refl
     (commanded_lives (escape_command inter.items b) [] l (said_escape inter.items b) is)
 changed_lives (Csi marker params inter b) l h is =
-    follows (Csi marker params inter b) l (commanded (sequence_command marker params.items inter.items b) params.items l) refl
+    follows (Csi marker params inter b) l (commanded_by (sequence_command marker params.items inter.items b) params.items l) refl
     (commanded_lives (sequence_command marker params.items inter.items b) params.items l
     (said_sequence marker params.items inter.items b) is)
 

@@ -6,8 +6,8 @@ use Rattle.roam_text.specs.declared.kinds.Kind.TheVariants.{C0Control, Bell, Can
 use Rattle.roam_text.specs.declared.functions.Function.{Function}
 use Rattle.roam_text.specs.declared.functions.Function.TheVariants.{Print, C0, C1, Esc, Csi, Size}
 use Rattle.roam_text.specs.Kinds.{kind_of}
-use Rattle.roam_text.specs.Log.{Item, Byte, Resized, Sign, Character, Resize, character, gained, signs_after, signs}
-use Rattle.roam_text.specs.Inside.{Front, front_while, rest_while, resized, acts}
+use Rattle.roam_text.specs.Log.{Item, Byte, Resized, Sign, Character, Resize, character, gained_characters, signs_after, signs}
+use Rattle.roam_text.specs.Inside.{Front, front_while, rest_while, size_functions, acts}
 use Rattle.roam_text.specs.ControlStrings.{in_control_string, after_control_string, control_string}
 use Rattle.roam_text.specs.ControlSequences.{Header, in_control_sequence, body_of, header, intermediates, control_sequence_function, control_sequence, end_control_sequence}
 use Rattle.roam_text.specs.EscapeSequences.{in_escape_sequence, escape_sequence_function, escape_sequence, c1_control, upper_final, end_escape_sequence}
@@ -63,7 +63,7 @@ while_passes test f one (s ∷ xs) p = by_test (test s) (while_passes test f one
         ∙ more (sizes_by p (f s)) ∙ ap (λ q. sizes_in q xs) (one p s)
     by_test false more = refl
 
-resized_one : (p : ℕ × ℕ) (s : Sign) → sizes_by p (resized s) ≡ size_in p s
+resized_one : (p : ℕ × ℕ) (s : Sign) → sizes_by p (size_functions s) ≡ size_in p s
 resized_one p (Resize r c) = refl
 resized_one p (Character k c) = refl
 
@@ -93,8 +93,8 @@ after_passes bell (Character k c ∷ xs) p = by_test (in_control_string bell (Ch
 
 string_passes : (bell : Bool) (xs : List Sign) → Passes xs (control_string bell xs)
 string_passes bell xs p =
-    after_passes bell xs (sizes_by p (flat_map resized (front_while (in_control_string bell) xs)))
-    ∙ while_passes (in_control_string bell) resized resized_one xs p
+    after_passes bell xs (sizes_by p (flat_map size_functions (front_while (in_control_string bell) xs)))
+    ∙ while_passes (in_control_string bell) size_functions resized_one xs p
 
 none_in_sequence : (p : ℕ × ℕ) (h : Option Header) (b : ℕ) → sizes_by p (control_sequence_function h b) ≡ p
 none_in_sequence p None b = refl
@@ -186,8 +186,8 @@ none_in_characters p (c ∷ cs) = none_in_characters p cs
 signs_sizes : (before : List ℕ) (log : List Item) (p : ℕ × ℕ) → sizes_in p (signs_after before log) ≡ size_after p log
 signs_sizes before [] p = refl
 signs_sizes before (Byte b ∷ log) p =
-    in-append p (map character (gained before b)) (signs_after (before ++ b ∷ []) log)
-    ∙ ap (λ q. sizes_in q (signs_after (before ++ b ∷ []) log)) (none_in_characters p (gained before b))
+    in-append p (map character (gained_characters before b)) (signs_after (before ++ b ∷ []) log)
+    ∙ ap (λ q. sizes_in q (signs_after (before ++ b ∷ []) log)) (none_in_characters p (gained_characters before b))
     ∙ signs_sizes (before ++ b ∷ []) log p
 signs_sizes before (Resized r c ∷ log) p = signs_sizes before log (r, c)
 

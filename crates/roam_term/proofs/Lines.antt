@@ -34,7 +34,7 @@ use Rattle.roam_controls.specs.declared.edits.Edit.TheVariants.{ScrollUp}
 use Rattle.roam_cells.specs.Limits.{IsSize}
 use Rattle.roam_term.specs.Leaving.{top_rows, left_by_put, left_by_puts, left_by_motion, left_by_edit}
 use Rattle.roam_term.specs.Screens.{AreSizes, size_after}
-use Rattle.roam_term.specs.Terminal.{Live, Terminal, glyph_in, writing_under, on_main, left_by_character, left_by_repeat, left_by, left, with_rows, kept, after, run, term, started}
+use Rattle.roam_term.specs.Terminal.{Live, Terminal, glyph_in, writing_under, on_main, left_by_character, left_by_repeat, left_by, rows_left, with_rows, history_after, after, run, term, started_terminal}
 use Rattle.roam_term.proofs.Characters.{Each, each-append, each-drop, IsProper, log_proper}
 use Rattle.roam_term.proofs.LastSizes.{size_by, sizes_by, log_sizes}
 use Rattle.roam_term.proofs.Keeping.{IsLive, IsPrinted, size_of, glyph_shown, changed_lives, started_lives}
@@ -84,11 +84,11 @@ puts_lines : (n : ℕ) (g : Glyph) (w : Writing) (s : Screen) → IsShown g → 
     (left_by_puts (replicate n g) w s)
 puts_lines zero g w s shown is = tt
 puts_lines (suc n) g w s shown is =
-    let kept = grid.put_on_kept g w s shown is in
+    let history_after = grid.put_on_kept g w s shown is in
     each-append (IsLine s.cols) (left_by_put g w s) (left_by_puts (replicate n g) w (put_on g w s))
     (first_line (eqb s.top 0 && leaves_row (columns g) w s) s is)
-    (subst (λ (cols : ℕ). Each (IsLine cols) (left_by_puts (replicate n g) w (put_on g w s))) kept.cols
-    (puts_lines n g w (put_on g w s) shown kept.sound))
+    (subst (λ (cols : ℕ). Each (IsLine cols) (left_by_puts (replicate n g) w (put_on g w s))) history_after.cols
+    (puts_lines n g w (put_on g w s) shown history_after.sound))
 
 -- ---- what a function leaves
 
@@ -132,8 +132,8 @@ main_lines : (cols : ℕ) (alternate : Bool) (rows : List (List Glyph)) → Each
 main_lines cols true rows h = tt
 main_lines cols false rows h = h
 
-left_lines : (f : Function) (l : Live) → IsLive l → Each (IsLine l.screen.cols) (left f l)
-unfolding left
+left_lines : (f : Function) (l : Live) → IsLive l → Each (IsLine l.screen.cols) (rows_left f l)
+unfolding rows_left
 left_lines (Size rows cols) l is =
     main_lines l.screen.cols l.alternate (top_rows (leaving rows l.screen) l.screen)
     (top_lines (leaving rows l.screen) l.screen is.screen (omega (arith, is.screen.frame.row_in)))
@@ -175,17 +175,17 @@ refitted_lines old cols [] h = tt
 refitted_lines old cols (row ∷ rows) h = (refitted_line old cols row h.0, refitted_lines old cols rows h.1)
 
 kept_lines : (f : Function) (l : Live) (h : Scrollback) → IsLive l → Each (IsLine l.screen.cols) h.rows → Each
-    (IsLine (size_by (size_of l) f).1) (kept f l h).rows
-unfolding kept
+    (IsLine (size_by (size_of l) f).1) (history_after f l h).rows
+unfolding history_after
 kept_lines (Size rows cols) l h is lines =
-    refitted_lines l.screen.cols cols (with_rows (left (Size rows cols) l) h).rows
-    (with_lines l.screen.cols (left (Size rows cols) l) h (left_lines (Size rows cols) l is) lines)
-kept_lines (Print c) l h is lines = with_lines l.screen.cols (left (Print c) l) h (left_lines (Print c) l is) lines
-kept_lines (C0 b) l h is lines = with_lines l.screen.cols (left (C0 b) l) h (left_lines (C0 b) l is) lines
-kept_lines (C1 b) l h is lines = with_lines l.screen.cols (left (C1 b) l) h (left_lines (C1 b) l is) lines
-kept_lines (Esc inter b) l h is lines = with_lines l.screen.cols (left (Esc inter b) l) h (left_lines (Esc inter b) l is) lines
+    refitted_lines l.screen.cols cols (with_rows (rows_left (Size rows cols) l) h).rows
+    (with_lines l.screen.cols (rows_left (Size rows cols) l) h (left_lines (Size rows cols) l is) lines)
+kept_lines (Print c) l h is lines = with_lines l.screen.cols (rows_left (Print c) l) h (left_lines (Print c) l is) lines
+kept_lines (C0 b) l h is lines = with_lines l.screen.cols (rows_left (C0 b) l) h (left_lines (C0 b) l is) lines
+kept_lines (C1 b) l h is lines = with_lines l.screen.cols (rows_left (C1 b) l) h (left_lines (C1 b) l is) lines
+kept_lines (Esc inter b) l h is lines = with_lines l.screen.cols (rows_left (Esc inter b) l) h (left_lines (Esc inter b) l is) lines
 kept_lines (Csi marker params inter b) l h is lines =
-    with_lines l.screen.cols (left (Csi marker params inter b) l) h (left_lines (Csi marker params inter b) l is) lines
+    with_lines l.screen.cols (rows_left (Csi marker params inter b) l) h (left_lines (Csi marker params inter b) l is) lines
 
 -- ---- a whole terminal
 
@@ -200,7 +200,7 @@ after_is f p t h is =
     record {
       size = step.size ∙ ap (λ (q : ℕ × ℕ). size_by q f) is.size;
       live = step.live;
-      lines = subst (λ (cols : ℕ). Each (IsLine cols) (kept f t.live t.history).rows) (sym (ap (λ (q : ℕ × ℕ). q.1) step.size))
+      lines = subst (λ (cols : ℕ). Each (IsLine cols) (history_after f t.live t.history).rows) (sym (ap (λ (q : ℕ × ℕ). q.1) step.size))
           (kept_lines f t.live t.history is.live is.lines);
     }
 
@@ -212,6 +212,6 @@ pub term_is : (rows cols lines : ℕ) (log : List Item) → IsSize rows cols →
     (term rows cols lines log)
 unfolding term
 term_is rows cols lines log size sizes =
-    subst (λ (p : ℕ × ℕ). IsTerm p (run (started rows cols lines) (functions_of log))) (log_sizes (rows, cols) log)
-    (run_is (functions_of log) (rows, cols) (started rows cols lines) (log_proper log sizes)
+    subst (λ (p : ℕ × ℕ). IsTerm p (run (started_terminal rows cols lines) (functions_of log))) (log_sizes (rows, cols) log)
+    (run_is (functions_of log) (rows, cols) (started_terminal rows cols lines) (log_proper log sizes)
     (record { size = refl; live = started_lives rows cols size; lines = tt }))

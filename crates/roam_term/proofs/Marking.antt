@@ -9,12 +9,12 @@ use Rattle.roam_grid.specs.Writing.{put_on}
 use Rattle.roam_text.specs.Functions.{ArePlain}
 use Rattle.roam_text.specs.declared.functions.Function.{Function}
 use Rattle.roam_text.specs.declared.functions.Function.TheVariants.{Print}
-use Rattle.roam_term.specs.Marks.{marked, marked_through, marks_printed, marks_written, marks_private_mode, marks_private_modes}
-use Rattle.roam_term.specs.Terminal.{Live, glyph_in, writing_under, changed, private_mode_set, lived}
+use Rattle.roam_term.specs.Marks.{marked_by, marked_through, marks_printed, marks_written, marks_private_mode, marks_private_modes}
+use Rattle.roam_term.specs.Terminal.{Live, glyph_in, writing_under, changed_by, private_mode_set, live_after}
 use Rattle.roam_term.proofs.Prints.{changed-print, mapped-ascii, printed-plain}
 
-pub marked-print : (c : ℕ) (l : Live) (marks : List Bool) → marked (Print c) l marks ≡ marks_printed c l marks
-unfolding marked
+pub marked-print : (c : ℕ) (l : Live) (marks : List Bool) → marked_by (Print c) l marks ≡ marks_printed c l marks
+unfolding marked_by
 marked-print c l marks = refl
 
 marks-plain : (b : ℕ) (s : Live) (marks : List Bool) → 0x20 ≤ b → b < 0x7F → set_in s.sets.locked s.sets ≡ Ascii → s.sets.single ≡ None
@@ -31,15 +31,15 @@ unfolding marks_put_all
 marked-run s [] marks plain locked single = refl
 marked-run s (b ∷ bs) marks plain locked single =
     let next : Live = record s { screen = put_on (glyph_in b s.pen) (writing_under s.modes) s.screen; printed = Some b } in
-    ap (λ l. marked_through l (map Print bs) (marked (Print b) s marks)) (changed-print b s ∙ printed-plain b s plain.0 plain.1 locked single)
+    ap (λ l. marked_through l (map Print bs) (marked_by (Print b) s marks)) (changed-print b s ∙ printed-plain b s plain.0 plain.1 locked single)
     ∙ ap (marked_through next (map Print bs)) (marked-print b s marks ∙ marks-plain b s marks plain.0 plain.1 locked single)
     ∙ marked-run next bs (marks_put (glyph_in b s.pen) (writing_under s.modes) s.screen marks) plain.2 locked single
 
 -- functions after others
 pub marked-append : (l : Live) (fs gs : List Function) (marks : List Bool)
-    → marked_through l (fs ++ gs) marks ≡ marked_through (lived l fs) gs (marked_through l fs marks)
+    → marked_through l (fs ++ gs) marks ≡ marked_through (live_after l fs) gs (marked_through l fs marks)
 marked-append l [] gs marks = refl
-marked-append l (f ∷ fs) gs marks = marked-append (changed f l) fs gs (marked f l marks)
+marked-append l (f ∷ fs) gs marks = marked-append (changed_by f l) fs gs (marked_by f l marks)
 
 -- one private mode more
 pub private-more : (on : Bool) (s : Live) (ps : List ℕ) (p : ℕ) (marks : List Bool)

@@ -13,7 +13,7 @@ use Rattle.roam_cells.proofs.Places.{place_below}
 use Rattle.roam_rows.proofs.Keeping.{line_same}
 use Rattle.roam_history.specs.Histories.{Scrollback, IsRow}
 use Rattle.roam_text.specs.Log.{Item}
-use Rattle.roam_term.specs.Picture.{shown, shown_style, rows_in_view, cells_in_view, picture_with, picture}
+use Rattle.roam_term.specs.Picture.{shown_glyph, shown_style, rows_in_view, cells_in_view, picture_with, picture}
 use Rattle.roam_term.specs.Screens.{AreSizes, IsScreenOf}
 use Rattle.roam_term.specs.Terminal.{Live, term}
 use Rattle.roam_term.proofs.Views.{flat, view_size, view_whole}
@@ -41,11 +41,11 @@ flat_shown cols (row ∷ rows) cells h each k =
     ])
 
 -- a cell as it is shown is of the width that it has
-shown_line : (cols : ℕ) (reversed : Bool) (f : ℕ → Glyph) → IsWholeLine cols f → IsWholeLine cols (λ c. shown reversed (f c))
+shown_line : (cols : ℕ) (reversed : Bool) (f : ℕ → Glyph) → IsWholeLine cols f → IsWholeLine cols (λ c. shown_glyph reversed (f c))
 shown_line cols reversed f whole c q =
     let was = whole c q in
     record {
-      wide = λ w. let pair = was.wide w in (pair.0, ap (shown reversed) pair.1);
+      wide = λ w. let pair = was.wide w in (pair.0, ap (shown_glyph reversed) pair.1);
       half = λ h. was.half h;
     }
 
@@ -54,7 +54,7 @@ turned_is true s is = record { foreground = is.foreground; background = is.backg
 turned_is false s is = is
 
 -- and what some cell shows
-shown_is : (reversed : Bool) (g : Glyph) → IsShown g → IsShown (shown reversed g)
+shown_is : (reversed : Bool) (g : Glyph) → IsShown g → IsShown (shown_glyph reversed g)
 shown_is reversed g is = record { text = is.text; scalars = is.scalars; style = turned_is reversed g.style is.style }
 
 module _ (v : ℕ) (l : Live) (h : Scrollback) (is : IsLive l) (lines : Each (IsLine l.screen.cols) h.rows) where
@@ -87,11 +87,11 @@ module _ (v : ℕ) (l : Live) (h : Scrollback) (is : IsLive l) (lines : Each (Is
   abbrev reversed : Bool
   reversed = l.modes.reverse_screen
 
-  count : length (map (shown reversed) cells) ≡ rows * cols
-  count = length-map cells (shown reversed) ∙ size
+  count : length (map (shown_glyph reversed) cells) ≡ rows * cols
+  count = length-map cells (shown_glyph reversed) ∙ size
 
-  at : (k : ℕ) → k < rows * cols → get_or (map (shown reversed) cells) k blank ≡ shown reversed (get_or cells k blank)
-  at k low = get_or-map (shown reversed) cells k blank blank (omega (arith, size, low))
+  at : (k : ℕ) → k < rows * cols → get_or (map (shown_glyph reversed) cells) k blank ≡ shown_glyph reversed (get_or cells k blank)
+  at k low = get_or-map (shown_glyph reversed) cells k blank blank (omega (arith, size, low))
 
   pub picture_is : IsScreenshot (picture_with v l h)
   picture_is = record {
@@ -104,7 +104,7 @@ module _ (v : ℕ) (l : Live) (h : Scrollback) (is : IsLive l) (lines : Each (Is
       col_to = omega (arith, is.screen.frame.col_in);
     };
     whole = λ r p.
-        line_same cols (λ c. shown reversed (cell_at cols cells r c)) (cell_at cols (map (shown reversed) cells) r)
+        line_same cols (λ c. shown_glyph reversed (cell_at cols cells r c)) (cell_at cols (map (shown_glyph reversed) cells) r)
         (λ c q. at (r * cols + c) (place_below rows cols r c p q))
         (shown_line cols reversed (cell_at cols cells r) (whole r p));
     unguarded = λ k low. ap (λ (g : Glyph). g.guarded) (at k (omega (arith, count, low)));

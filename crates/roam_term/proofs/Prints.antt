@@ -18,12 +18,12 @@ use Rattle.roam_cells.specs.Width.{width_of}
 use Rattle.roam_grid.specs.Writing.{put_on, put_all, joined_on}
 use Rattle.roam_history.specs.Histories.{Scrollback}
 use Rattle.roam_term.specs.Leaving.{left_by_put, left_by_puts}
-use Rattle.roam_term.specs.Terminal.{Live, glyph_in, writing_under, written, printed_on, printed_all, changed, answer, lived, kept_by, answered, kept, left, on_main, with_rows, left_by_character}
+use Rattle.roam_term.specs.Terminal.{Live, glyph_in, writing_under, written_on, printed_on, printed_all, changed_by, answer, live_after, kept_by, answers_after, history_after, rows_left, on_main, with_rows, left_by_character}
 use Rattle.roam_term.proofs.Scrollback.{main_none, main_then, few_kept}
 use Rattle.roam_term.proofs.Lists.{append-nil}
 
-pub changed-print : (b : ℕ) (l : Live) → changed (Print b) l ≡ printed_on b l
-unfolding changed
+pub changed-print : (b : ℕ) (l : Live) → changed_by (Print b) l ≡ printed_on b l
+unfolding changed_by
 changed-print b l = refl
 
 pub answer-print : (b : ℕ) (l : Live) → answer (Print b) l ≡ []
@@ -31,19 +31,19 @@ unfolding answer
 answer-print b l = refl
 
 -- a printed character answers nothing, and a function after it answers what it does there
-pub answered-after : (b : ℕ) (f : Function) (l : Live) → answered l (Print b ∷ f ∷ []) ≡ answer f (printed_on b l)
+pub answered-after : (b : ℕ) (f : Function) (l : Live) → answers_after l (Print b ∷ f ∷ []) ≡ answer f (printed_on b l)
 answered-after b f l =
-    ap (λ a. a ++ (answer f (changed (Print b) l) ++ [])) (answer-print b l)
-    ∙ append-nil (answer f (changed (Print b) l)) ∙ ap (answer f) (changed-print b l)
+    ap (λ a. a ++ (answer f (changed_by (Print b) l) ++ [])) (answer-print b l)
+    ∙ append-nil (answer f (changed_by (Print b) l)) ∙ ap (answer f) (changed-print b l)
 
-pub lived-prints : (l : Live) (bs : List ℕ) → lived l (map Print bs) ≡ printed_all l bs
+pub lived-prints : (l : Live) (bs : List ℕ) → live_after l (map Print bs) ≡ printed_all l bs
 lived-prints l [] = refl
-lived-prints l (b ∷ bs) = lived-prints (changed (Print b) l) bs ∙ ap (λ k. printed_all k bs) (changed-print b l)
+lived-prints l (b ∷ bs) = lived-prints (changed_by (Print b) l) bs ∙ ap (λ k. printed_all k bs) (changed-print b l)
 
-pub answered-prints : (l : Live) (bs : List ℕ) → answered l (map Print bs) ≡ []
+pub answered-prints : (l : Live) (bs : List ℕ) → answers_after l (map Print bs) ≡ []
 answered-prints l [] = refl
 answered-prints l (b ∷ bs) =
-    ap (λ a. a ++ answered (changed (Print b) l) (map Print bs)) (answer-print b l) ∙ answered-prints (changed (Print b) l) bs
+    ap (λ a. a ++ answers_after (changed_by (Print b) l) (map Print bs)) (answer-print b l) ∙ answered-prints (changed_by (Print b) l) bs
 
 -- ---- printable ASCII in ASCII
 
@@ -70,8 +70,8 @@ pub printed-plain : (b : ℕ) (s : Live) → 0x20 ≤ b → b < 0x7F → set_in 
     → printed_on b s ≡ record s { screen = put_on (glyph_in b s.pen) (writing_under s.modes) s.screen; printed = Some b }
 unfolding printed_on
 printed-plain b s low high locked single =
-    ap (λ c. written c (record s { sets = spent s.sets })) (mapped-ascii s.sets b locked single)
-    ∙ ap (λ k. written b (record s { sets = k })) (spent-none s.sets single)
+    ap (λ c. written_on c (record s { sets = spent s.sets })) (mapped-ascii s.sets b locked single)
+    ∙ ap (λ k. written_on b (record s { sets = k })) (spent-none s.sets single)
     ∙ ap
     (λ w.
     if w == 0 then record s { screen = joined_on b s.screen }
@@ -102,8 +102,8 @@ last_printed-is o (b ∷ []) h = refl
 last_printed-is o (b ∷ c ∷ bs) h = last_printed-is (Some b) (c ∷ bs) (omega arith) ∙ ap Some (ap (λ i. get_or (b ∷ c ∷ bs) i 0) (sym (more (length bs))))
 
 -- the row that a printed character makes leave
-pub kept-print : (b : ℕ) (l : Live) (h : Scrollback) → kept (Print b) l h ≡ with_rows (on_main l.alternate (left_by_character (mapped_by (in_use l.sets) b) l)) h
-unfolding kept left
+pub kept-print : (b : ℕ) (l : Live) (h : Scrollback) → history_after (Print b) l h ≡ with_rows (on_main l.alternate (left_by_character (mapped_by (in_use l.sets) b) l)) h
+unfolding history_after rows_left
 kept-print b l h = refl
 
 left-plain : (b : ℕ) (s : Live) → 0x20 ≤ b → b < 0x7F → set_in s.sets.locked s.sets ≡ Ascii → s.sets.single ≡ None
@@ -119,7 +119,7 @@ kept-run s [] h plain locked single few = sym (main_none s.alternate h few)
 kept-run s (b ∷ bs) h plain locked single few =
     let next : Live = record s { screen = put_on (glyph_in b s.pen) (writing_under s.modes) s.screen; printed = Some b } in
     let row = left_by_put (glyph_in b s.pen) (writing_under s.modes) s.screen in
-    ap (λ k. kept_by (changed (Print b) s) (map Print bs) k)
+    ap (λ k. kept_by (changed_by (Print b) s) (map Print bs) k)
     (kept-print b s h ∙ ap (λ rows. with_rows (on_main s.alternate rows) h) (left-plain b s plain.0 plain.1 locked single))
     ∙ ap (λ l. kept_by l (map Print bs) (with_rows (on_main s.alternate row) h)) (changed-print b s ∙ printed-plain b s plain.0 plain.1 locked single)
     ∙ kept-run next bs (with_rows (on_main s.alternate row) h) plain.2 locked single (few_kept (on_main s.alternate row) h)

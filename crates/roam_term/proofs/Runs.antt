@@ -4,7 +4,7 @@ use Rattle.roam_text.specs.declared.functions.Function.{Function}
 use Rattle.roam_text.specs.Log.{Item, Byte}
 use Rattle.roam_text.specs.Functions.{functions_of}
 use Rattle.roam_text.specs.Stands.{Stands}
-use Rattle.roam_term.specs.Terminal.{Terminal, changed, answer, after, run, lived, kept_by, answered, started, term, reports}
+use Rattle.roam_term.specs.Terminal.{Terminal, changed_by, answer, after, run, live_after, kept_by, answers_after, started_terminal, term, reports}
 use Rattle.roam_term.specs.Marks.{marked_through}
 use Rattle.roam_term.specs.Stands.{TermView, Shows, Follows, Fed}
 use Rattle.roam_term.proofs.Lists.{append-nil, map-append}
@@ -15,7 +15,7 @@ run-append t [] gs = refl
 run-append t (f ∷ fs) gs = run-append (after f t) fs gs
 
 -- what lives depends on what lived alone
-pub run-live : (t : Terminal) (fs : List Function) → (run t fs).live ≡ lived t.live fs
+pub run-live : (t : Terminal) (fs : List Function) → (run t fs).live ≡ live_after t.live fs
 run-live t [] = refl
 run-live t (f ∷ fs) = run-live (after f t) fs
 
@@ -25,21 +25,21 @@ run-history t [] = refl
 run-history t (f ∷ fs) = run-history (after f t) fs
 
 -- and what was answered before stays in front
-pub run-answers : (t : Terminal) (fs : List Function) → (run t fs).answers ≡ t.answers ++ answered t.live fs
+pub run-answers : (t : Terminal) (fs : List Function) → (run t fs).answers ≡ t.answers ++ answers_after t.live fs
 run-answers t [] = sym (append-nil t.answers)
-run-answers t (f ∷ fs) = run-answers (after f t) fs ∙ append_assoc t.answers (answer f t.live) (answered (changed f t.live) fs)
+run-answers t (f ∷ fs) = run-answers (after f t) fs ∙ append_assoc t.answers (answer f t.live) (answers_after (changed_by f t.live) fs)
 
 -- the reader's clauses, and what the functions changed and answered
 module _ (old new : TermView) (items : List Item) (out : List Function)
     (reads : (log : List Item) → Stands old.reader log → Stands new.reader (log ++ items))
     (gained : (log : List Item) → Stands old.reader log → functions_of (log ++ items) ≡ functions_of log ++ out)
-    (live : new.live ≡ lived old.live out)
+    (live : new.live ≡ live_after old.live out)
     (history : new.history ≡ kept_by old.live out old.history)
-    (waiting : new.waiting ≡ old.waiting ++ answered old.live out)
+    (waiting : new.waiting ≡ old.waiting ++ answers_after old.live out)
     (marks : new.marks ≡ marked_through old.live out old.marks) where
   later : (rows cols lines : ℕ) (log : List Item) → Stands old.reader log → term rows cols lines (log ++ items) ≡ run (term rows cols lines log) out
   unfolding term
-  later rows cols lines log stands = ap (run (started rows cols lines)) (gained log stands) ∙ run-append (started rows cols lines) (functions_of log) out
+  later rows cols lines log stands = ap (run (started_terminal rows cols lines)) (gained log stands) ∙ run-append (started_terminal rows cols lines) (functions_of log) out
 
   pub follows-out : Follows old new items
   unfolding reports
@@ -47,7 +47,7 @@ module _ (old new : TermView) (items : List Item) (out : List Function)
     stands = λ rows cols lines log shows. record {
       reads = reads log shows.reads;
       live =
-          live ∙ ap (λ l. lived l out) shows.live ∙ sym (run-live (term rows cols lines log) out)
+          live ∙ ap (λ l. live_after l out) shows.live ∙ sym (run-live (term rows cols lines log) out)
           ∙ sym (ap (λ (t : Terminal). t.live) (later rows cols lines log shows.reads));
       history =
           history ∙ ap (λ l. kept_by l out old.history) shows.live ∙ ap (kept_by (term rows cols lines log).live out) shows.history
@@ -55,11 +55,11 @@ module _ (old new : TermView) (items : List Item) (out : List Function)
           ∙ sym (ap (λ (t : Terminal). t.history) (later rows cols lines log shows.reads));
     };
     gains = λ rows cols lines log shows. record {
-      more = answered old.live out;
+      more = answers_after old.live out;
       answers =
           ap (λ (t : Terminal). t.answers) (later rows cols lines log shows.reads)
           ∙ run-answers (term rows cols lines log) out
-          ∙ sym (ap (λ l. (term rows cols lines log).answers ++ answered l out) shows.live);
+          ∙ sym (ap (λ l. (term rows cols lines log).answers ++ answers_after l out) shows.live);
       queue = waiting;
     };
     marks = λ rows cols lines log shows. record { more = out; functions = gained log shows.reads; marks = marks };
@@ -85,12 +85,12 @@ together log xs ys = append_assoc log (map Byte xs) (map Byte ys) ∙ sym (ap (�
 
 -- what lives in two terminals that stand for one log and a later one
 live-after : (a b : TermView) (rows cols lines : ℕ) (log later : List Item) (fs : List Function) → Shows a rows cols lines log
-    → Shows b rows cols lines later → functions_of later ≡ functions_of log ++ fs → b.live ≡ lived a.live fs
+    → Shows b rows cols lines later → functions_of later ≡ functions_of log ++ fs → b.live ≡ live_after a.live fs
 unfolding term
 live-after a b rows cols lines log later fs before after gained =
-    after.live ∙ ap (λ gs. (run (started rows cols lines) gs).live) gained
-    ∙ ap (λ (t : Terminal). t.live) (run-append (started rows cols lines) (functions_of log) fs)
-    ∙ run-live (run (started rows cols lines) (functions_of log)) fs ∙ sym (ap (λ l. lived l fs) before.live)
+    after.live ∙ ap (λ gs. (run (started_terminal rows cols lines) gs).live) gained
+    ∙ ap (λ (t : Terminal). t.live) (run-append (started_terminal rows cols lines) (functions_of log) fs)
+    ∙ run-live (run (started_terminal rows cols lines) (functions_of log)) fs ∙ sym (ap (λ l. live_after l fs) before.live)
 
 -- one piece after another
 pub fed-then : (a b c : TermView) (xs ys : List ℕ) → Fed a b xs → Fed b c ys → Fed a c (xs ++ ys)
@@ -119,7 +119,7 @@ fed-then a b c xs ys p q = record {
         marks =
             second.marks
             ∙ ap (λ l. marked_through l second.more b.marks) (live-after a b rows cols lines log (log ++ map Byte xs) first.more shows mid first.functions)
-            ∙ ap (marked_through (lived a.live first.more) second.more) first.marks
+            ∙ ap (marked_through (live_after a.live first.more) second.more) first.marks
             ∙ sym (marked-append a.live first.more second.more a.marks);
       };
 }

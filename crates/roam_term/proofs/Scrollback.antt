@@ -5,10 +5,10 @@ use Rattle.std.proofs.lemmas.List.{get_or-take, length-take-le}
 use Rattle.roam_cells.specs.Glyph.{Glyph, is_wide, ascii_in, inked_bytes}
 use Rattle.roam_rows.specs.Writing.{ArePrintable}
 use Rattle.roam_rows.proofs.Inking.{bytes_narrow, length-bytes}
-use Rattle.roam_history.specs.Histories.{Scrollback, last, pushed}
+use Rattle.roam_history.specs.Histories.{Scrollback, last, after_push}
 use Rattle.roam_history.proofs.Pushing.{last_more}
 use Rattle.roam_grid.specs.Screen.{Screen}
-use Rattle.roam_grid.specs.Writing.{columns, wrapped, settled, with_room, made_way, inked, advanced, leaves_row, put_on, put_all}
+use Rattle.roam_grid.specs.Writing.{columns, after_wrap, after_pending_wrap, with_room, made_way, after_ink, after_advance, leaves_row, put_on, put_all}
 use Rattle.roam_grid.specs.declared.writing.Writing.{Writing}
 use Rattle.roam_grid.proofs.Puts.{wrapped_place, settled_same, settled_none, put_settled}
 use Rattle.roam_grid.proofs.Runs.{AreNarrow}
@@ -29,7 +29,7 @@ with_none h few =
     same_rows h.lines h.cols (last h.lines (h.rows ++ [])) h.rows (ap (λ n. drop n (h.rows ++ [])) all ∙ append-nil h.rows)
 
 -- a row that is pushed after others
-pub with_pushed : (rows : List (List Glyph)) (row : List Glyph) (h : Scrollback) → pushed row (with_rows rows h) ≡ with_rows (rows ++ row ∷ []) h
+pub with_pushed : (rows : List (List Glyph)) (row : List Glyph) (h : Scrollback) → after_push row (with_rows rows h) ≡ with_rows (rows ++ row ∷ []) h
 with_pushed rows row h =
     same_rows h.lines h.cols (last h.lines (last h.lines (h.rows ++ rows) ++ row ∷ [])) (last h.lines (h.rows ++ (rows ++ row ∷ [])))
     (last_more h.lines (h.rows ++ rows) row ∙ ap (last h.lines) (append_assoc h.rows rows (row ∷ [])))
@@ -120,16 +120,16 @@ way_stays w s false e = record {
 
 -- a cell of one column before the last one, with no wrap pending
 stepped : (g : Glyph) (w : Writing) (s : Screen) → is_wide g ≡ false → s.pending ≡ false → s.col + 1 < s.cols → Stepped s (put_on g w s)
-unfolding put_on with_room inked advanced
+unfolding put_on with_room after_ink after_advance
 stepped g w s narrow none room =
     let way = made_way 1 w s in
     let stays = way_stays w s w.inserts refl in
     let low : ltb (way.col + 1) way.cols ≡ true = grind (arith, common_steps, stays.col, stays.cols, room) in
-    let is : put_on g w s ≡ advanced 1 w (inked g way) =
-    ap (λ x. advanced (columns g) w (inked g (made_way (columns g) w (with_room (columns g) w x)))) (settled_same s none)
-    ∙ ap (λ v. advanced (cond v 2 1) w (inked g (made_way (cond v 2 1) w (with_room (cond v 2 1) w s)))) narrow in
-    let on = record (inked g way) { col = way.col + 1 } in
-    let off = record (inked g way) { col = way.cols - 1; pending = w.wraps } in
+    let is : put_on g w s ≡ after_advance 1 w (after_ink g way) =
+    ap (λ x. after_advance (columns g) w (after_ink g (made_way (columns g) w (with_room (columns g) w x)))) (settled_same s none)
+    ∙ ap (λ v. after_advance (cond v 2 1) w (after_ink g (made_way (cond v 2 1) w (with_room (cond v 2 1) w s)))) narrow in
+    let on = record (after_ink g way) { col = way.col + 1 } in
+    let off = record (after_ink g way) { col = way.cols - 1; pending = w.wraps } in
     record {
       col = ap (λ (x : Screen). x.col) is ∙ ap (λ b. (cond b on off).col) low ∙ ap (λ k. k + 1) stays.col;
       cols = ap (λ (x : Screen). x.cols) is ∙ ap (λ b. (cond b on off).cols) low ∙ stays.cols;
@@ -154,22 +154,22 @@ none_by_puts (g ∷ h ∷ gs) w s narrow none room =
     ∙ none_by_puts (h ∷ gs) w (put_on g w s) (λ k. narrow (suc k)) next.pending (omega (arith, next.col, next.cols))
 
 -- of a run that fits the row that its first character is written in, this one alone makes a row leave
-pub first_alone : (g : Glyph) (gs : List Glyph) (w : Writing) (s : Screen) → AreNarrow (g ∷ gs) → (settled s).col + length (g ∷ gs) ≤ (settled s).cols
+pub first_alone : (g : Glyph) (gs : List Glyph) (w : Writing) (s : Screen) → AreNarrow (g ∷ gs) → (after_pending_wrap s).col + length (g ∷ gs) ≤ (after_pending_wrap s).cols
     → left_by_puts (g ∷ gs) w s ≡ left_by_put g w s
 first_alone g [] w s narrow room = append-nil (left_by_put g w s)
 first_alone g (h ∷ gs) w s narrow room =
-    let t = settled s in
+    let t = after_pending_wrap s in
     let next = stepped g w t (narrow 0).0 (settled_none s) (omega arith) in
     let none : left_by_puts (h ∷ gs) w (put_on g w t) ≡ [] = none_by_puts (h ∷ gs) w (put_on g w t) (λ k. narrow (suc k)) next.pending (omega (arith, next.col, next.cols)) in
     ap (λ l. left_by_put g w s ++ l) (sym (ap (left_by_puts (h ∷ gs) w) (put_settled g w s)) ∙ none) ∙ append-nil (left_by_put g w s)
 
 -- a pending wrap begins a row
-settled_by : (s : Screen) (n : ℕ) (b : Bool) → s.pending ≡ b → (b ≡ true → n ≡ 0) → (b ≡ false → n ≡ s.col) → (settled s).col ≡ n
-unfolding settled
-settled_by s n true e wraps goes = ap (λ b. (cond b (wrapped s) s).col) e ∙ (wrapped_place s).0 ∙ sym (wraps refl)
-settled_by s n false e wraps goes = ap (λ b. (cond b (wrapped s) s).col) e ∙ sym (goes refl)
+settled_by : (s : Screen) (n : ℕ) (b : Bool) → s.pending ≡ b → (b ≡ true → n ≡ 0) → (b ≡ false → n ≡ s.col) → (after_pending_wrap s).col ≡ n
+unfolding after_pending_wrap
+settled_by s n true e wraps goes = ap (λ b. (cond b (after_wrap s) s).col) e ∙ (wrapped_place s).0 ∙ sym (wraps refl)
+settled_by s n false e wraps goes = ap (λ b. (cond b (after_wrap s) s).col) e ∙ sym (goes refl)
 
-pub settled_col : (s : Screen) (n : ℕ) → (s.pending ≡ true → n ≡ 0) → (s.pending ≡ false → n ≡ s.col) → (settled s).col ≡ n
+pub settled_col : (s : Screen) (n : ℕ) → (s.pending ≡ true → n ≡ 0) → (s.pending ≡ false → n ≡ s.col) → (after_pending_wrap s).col ≡ n
 settled_col s n wraps goes = settled_by s n s.pending refl wraps goes
 
 -- ---- functions that bytes give
@@ -180,7 +180,7 @@ few_kept rows h = omega (arith, length-drop (length (h.rows ++ rows) - h.lines) 
 
 -- of a run of bytes that fits the row that its first character is written in, this one alone makes a row leave
 pub bytes_alone : (pen : Glyph) (bytes : List ℕ) (n : ℕ) (w : Writing) (s : Screen) → ArePrintable bytes → 0 < n → n ≤ length bytes
-    → (settled s).col + n ≤ (settled s).cols → left_by_puts (inked_bytes pen (take n bytes)) w s ≡ left_by_put (ascii_in (get_or bytes 0 0) pen) w s
+    → (after_pending_wrap s).col + n ≤ (after_pending_wrap s).cols → left_by_puts (inked_bytes pen (take n bytes)) w s ≡ left_by_put (ascii_in (get_or bytes 0 0) pen) w s
 bytes_alone pen [] n w s printable some within room = absurd (omega arith)
 bytes_alone pen (b ∷ bs) zero w s printable some within room = absurd (omega arith)
 bytes_alone pen (b ∷ bs) (suc n) w s printable some within room =

@@ -20,12 +20,12 @@ use Rattle.roam_controls.specs.declared.motions.Motion.{Motion}
 use Rattle.roam_controls.specs.declared.motions.Motion.TheVariants.{LineFeed, Index, NextLine, ReverseIndex}
 use Rattle.roam_controls.specs.declared.settings.Setting.{Setting}
 use Rattle.roam_controls.specs.declared.settings.Setting.TheVariants.{Mode, PrivateMode, Rendition, Margins, Guard, Keypad, Save, Restore, SoftReset, Reset, SetStop, ClearStop, ClearStops}
-use Rattle.roam_grid.specs.Cursor.{backspaced, carried, indexed, moved_to, moved_up, moved_down, moved_right, moved_left, wrap_cleared, restored}
+use Rattle.roam_grid.specs.Cursor.{after_backspace, after_carriage_return, after_index, moved_to, moved_up, moved_down, moved_right, moved_left, wrap_cleared, after_restoring}
 use Rattle.roam_grid.specs.Laws.{ShowsUnmarked}
 use Rattle.roam_grid.specs.Marks.{is_marked, all_on, marks_joined, marks_put, marks_put_all}
 use Rattle.roam_grid.specs.Screen.{Screen, IsScreen}
 use Rattle.roam_grid.specs.Scrolling.{with_margins}
-use Rattle.roam_grid.specs.Tabbing.{tabbed, back_tabbed, stop_set, stop_cleared, stops_cleared}
+use Rattle.roam_grid.specs.Tabbing.{after_tabs, after_back_tabs, stop_set, stop_cleared, stops_cleared}
 use Rattle.roam_grid.specs.Writing.{put_on, put_all, joined_on}
 use Rattle.roam_grid.proofs.Keeping as keeping
 use Rattle.roam_grid.proofs.Keeping.{IsSound}
@@ -36,9 +36,9 @@ use Rattle.roam_rows.proofs.Keeping.{either}
 use Rattle.roam_term.specs.Edits.{edited_by}
 use Rattle.roam_term.specs.Erasures.{erased_by}
 use Rattle.roam_term.specs.Marks.{marks_moved_by, marks_edited_by, marks_erased_by, marks_written, marks_printed, marks_repeated, marks_chosen, marks_followed, marks_private_mode, marks_private_modes, marks_set_by, marks_performed}
-use Rattle.roam_term.specs.Motions.{homed, moved_by}
+use Rattle.roam_term.specs.Motions.{after_home, moved_by}
 use Rattle.roam_term.specs.Settings.{bottom_of, margins_set, after_private_mode}
-use Rattle.roam_term.specs.Terminal.{Live, glyph_in, writing_under, written, printed_on, repeated, saved_on, keepsake, is_alternate_mode, alternate_shown, main_shown, screen_chosen, mode_set, private_mode_set, set_by, performed, commanded}
+use Rattle.roam_term.specs.Terminal.{Live, glyph_in, writing_under, written_on, printed_on, repeated_on, saved_on, keepsake, is_alternate_mode, alternate_shown, main_shown, screen_chosen, mode_set, private_mode_set, set_by, performed_by, commanded_by}
 use Rattle.roam_term.proofs.Adding.{privates_off}
 use Rattle.roam_term.proofs.Keeping.{IsLive, private_lives}
 
@@ -76,7 +76,7 @@ screen_of s is = record { frame = is.frame; size = is.cells.count; whole = is.ce
 -- ---- printing
 
 written_stays : (c : ℕ) (l : Live) (m : List Bool) (r : ℕ) → IsSound l.screen → is_marked (marks_written c l m) r ≡ false
-    → Stays l (written c l) r
+    → Stays l (written_on c l) r
 written_stays c l m r is off =
     let g = glyph_in c l.pen in
     let w = writing_under l.modes in
@@ -101,7 +101,7 @@ no_half (suc n) c l zero = refl
 no_half (suc n) c l (suc k) = no_half n c l k
 
 repeated_stays : (n : ℕ) (o : Option ℕ) (l : Live) (m : List Bool) (r : ℕ) → IsSound l.screen → is_marked (marks_repeated n o l m) r ≡ false
-    → Stays l (repeated n o l) r
+    → Stays l (repeated_on n o l) r
 repeated_stays n None l m r is off = itself l r
 repeated_stays n (Some c) l m r is off =
     let xs = replicate n (glyph_in c l.pen) in
@@ -115,15 +115,15 @@ repeated_stays n (Some c) l m r is off =
 
 moved_stays : (motion : Motion) (l : Live) (m : List Bool) (r : ℕ) → IsSound l.screen → is_marked (marks_moved_by motion l.screen m) r ≡ false
     → Stays l (record l { screen = moved_by motion l.modes l.screen }) r
-unfolding backspaced carried moved_up moved_down moved_right moved_left moved_to tabbed back_tabbed
+unfolding after_backspace after_carriage_return moved_up moved_down moved_right moved_left moved_to after_tabs after_back_tabs
 moved_stays LineFeed l m r is off =
     let s = l.screen in
-    let h = by_grid l (indexed s) m (marks_moved_by LineFeed s m) r (grid.index_shows s m (screen_of s is)) off in
-    either (λ (t : Screen). Stays l (record l { screen = t }) r) l.modes.newline (carried (indexed s)) (indexed s)
+    let h = by_grid l (after_index s) m (marks_moved_by LineFeed s m) r (grid.index_shows s m (screen_of s is)) off in
+    either (λ (t : Screen). Stays l (record l { screen = t }) r) l.modes.newline (after_carriage_return (after_index s)) (after_index s)
     (λ e. record { reverse = refl; cells = h.cells }) (λ e. h)
-moved_stays Index l m r is off = by_grid l (indexed l.screen) m (marks_moved_by Index l.screen m) r (grid.index_shows l.screen m (screen_of l.screen is)) off
+moved_stays Index l m r is off = by_grid l (after_index l.screen) m (marks_moved_by Index l.screen m) r (grid.index_shows l.screen m (screen_of l.screen is)) off
 moved_stays NextLine l m r is off =
-    let s = carried l.screen in
+    let s = after_carriage_return l.screen in
     let h = grid.index_shows s m (screen_of s (keeping.carried_kept l.screen is).sound) in
     record { reverse = refl; cells = λ c p q. h.shows r c p q off }
 moved_stays ReverseIndex l m r is off =
@@ -196,7 +196,7 @@ unfolding moved_to wrap_cleared
 private_cells on p s =
     let P : Screen → Type 0 = λ x. x.cells ≡ s.cells in
     let b = cond on s (wrap_cleared s) in
-    either P (eqb p 6) (homed on s) (cond (eqb p 7) b s) (λ h. refl)
+    either P (eqb p 6) (after_home on s) (cond (eqb p 7) b s) (λ h. refl)
     (λ h. either P (eqb p 7) b s (λ h. either P on s (wrap_cleared s) (λ h. refl) (λ h. refl)) (λ h. refl))
 
 followed_stays : (on : Bool) (p : ℕ) (l : Live) (m : List Bool) (r : ℕ) → r < 200 → (b : Bool) → eqb p 5 ≡ b
@@ -251,7 +251,7 @@ margins_cells : (top bottom : ℕ) (origin : Bool) (s : Screen) → (margins_set
 unfolding moved_to with_margins
 margins_cells top bottom origin s =
     either (λ (x : Screen). x.cells ≡ s.cells) (ltb (top - 1) (bottom_of bottom s))
-    (homed origin (with_margins (top - 1) (bottom_of bottom s) s)) s (λ h. refl) (λ h. refl)
+    (after_home origin (with_margins (top - 1) (bottom_of bottom s) s)) s (λ h. refl) (λ h. refl)
 
 saved_stays : (l : Live) (r : ℕ) → Stays l (saved_on l) r
 saved_stays l r =
@@ -260,7 +260,7 @@ saved_stays l r =
 
 setting_stays : (setting : Setting) (params : List ℕ) (l : Live) (m : List Bool) (r : ℕ) → r < 200 → IsLive l
     → is_marked (marks_set_by setting params l m) r ≡ false → Stays l (set_by setting params l) r
-unfolding with_margins restored stop_set stop_cleared stops_cleared
+unfolding with_margins after_restoring stop_set stop_cleared stops_cleared
 setting_stays (Mode on) params l m r low is off = modes_stay on params l r
 setting_stays (PrivateMode on) params l m r low is off = privates_stay on params l m r low is off
 setting_stays Rendition params l m r low is off = same l (set_by Rendition params l) r refl refl
@@ -279,21 +279,21 @@ setting_stays ClearStops params l m r low is off = same l (set_by ClearStops par
 -- ---- commands and functions
 
 performed_stays : (command : Command) (params : List ℕ) (l : Live) (m : List Bool) (r : ℕ) → r < 200 → IsLive l
-    → is_marked (marks_performed command params l m) r ≡ false → Stays l (performed command params l) r
+    → is_marked (marks_performed command params l m) r ≡ false → Stays l (performed_by command params l) r
 performed_stays Nothing params l m r low is off = itself l r
 performed_stays (Prints c) params l m r low is off = printed_stays c l m r is.screen off
 performed_stays (Moves motion) params l m r low is off = moved_stays motion l m r is.screen off
 performed_stays (Erases erasure) params l m r low is off = erased_stays l m r is.screen erasure off
 performed_stays (Edits edit) params l m r low is off = edited_stays l m r is.screen edit low off
-performed_stays (Shifts shift) params l m r low is off = same l (performed (Shifts shift) params l) r refl refl
+performed_stays (Shifts shift) params l m r low is off = same l (performed_by (Shifts shift) params l) r refl refl
 performed_stays (Sets setting) params l m r low is off = setting_stays setting params l m r low is off
 performed_stays (Reports report) params l m r low is off = itself l r
 performed_stays (Repeats n) params l m r low is off = repeated_stays n l.printed l m r is.screen off
 
 pub commanded_stays : (command : Command) (params : List ℕ) (l : Live) (m : List Bool) (r : ℕ) → r < 200 → IsLive l
-    → is_marked (marks_performed command params l m) r ≡ false → Stays l (commanded command params l) r
+    → is_marked (marks_performed command params l m) r ≡ false → Stays l (commanded_by command params l) r
 commanded_stays command params l m r low is off =
-    let k = performed command params l in
+    let k = performed_by command params l in
     let h = performed_stays command params l m r low is off in
     either (λ (j : Live). Stays l j r) (forgets command) (record k { printed = None }) k
     (λ e. record { reverse = h.reverse; cells = h.cells }) (λ e. h)

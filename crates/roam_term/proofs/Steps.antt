@@ -10,7 +10,7 @@ use Rattle.roam_cells.specs.Place.{cell_at}
 use Rattle.roam_cells.specs.declared.styles.Style.{Style}
 use Rattle.roam_cells.specs.declared.styles.Colour.{Colour}
 use Rattle.roam_cells.specs.declared.styles.Colour.TheVariants.{Default, Index, Rgb}
-use Rattle.roam_controls.specs.Renditions.{coloured}
+use Rattle.roam_controls.specs.Renditions.{coloured_style}
 use Rattle.roam_controls.specs.declared.renditions.Layer.{Layer}
 use Rattle.roam_controls.specs.declared.renditions.Layer.TheVariants.{Foreground, Background}
 use Rattle.roam_cells.proofs.Places.{get_or-table, length-table, place_below}
@@ -23,25 +23,25 @@ use Rattle.roam_grid.specs.Cursor.{moved_to}
 use Rattle.roam_grid.specs.Erasing.{page_blanked, erased_in_page}
 use Rattle.roam_grid.specs.declared.erasing.Extent.TheVariants.{All}
 use Rattle.roam_grid.specs.Screen.{Screen}
-use Rattle.roam_grid.specs.Writing.{columns, settled, with_room, made_way, wrapped, inked, advanced, put_on, joined_on}
+use Rattle.roam_grid.specs.Writing.{columns, after_pending_wrap, with_room, made_way, after_wrap, after_ink, after_advance, put_on, joined_on}
 use Rattle.roam_grid.specs.declared.writing.Writing.{Writing}
-use Rattle.roam_rows.specs.Places.{in_row, moved, moved_at}
-use Rattle.roam_rows.specs.Writing.{written, base_column}
+use Rattle.roam_rows.specs.Places.{in_row, mapped_cells, moved_at}
+use Rattle.roam_rows.specs.Writing.{writing_source, base_column}
 use Rattle.roam_text.specs.declared.functions.Function.{Function}
 use Rattle.roam_text.specs.declared.functions.Function.TheVariants.{Print}
 use Rattle.roam_term.specs.declared.pens.Saved.{Saved}
-use Rattle.roam_term.specs.Terminal.{Live, changed, lived, printed_on, written as written_on}
+use Rattle.roam_term.specs.Terminal.{Live, changed_by, live_after, printed_on, written_on}
 use Rattle.roam_term.specs.ControlFunctions.{layer_code, plain_colour, plain_style, mixture, set_mixture, restyle, hide_cursor, show_cursor, erase_all, place_cursor, set_style}
 use Rattle.roam_term.proofs.Cells.{first_of, by, written_hit, written_half}
 use Rattle.roam_term.proofs.Styles.{styled-codes, mixed-codes}
 
 -- functions one after another
 abbrev pub acted : List Function → Live → Live
-acted fs t = lived t fs
+acted fs t = live_after t fs
 
 pub acted-append : (fs gs : List Function) (t : Live) → acted (fs ++ gs) t ≡ acted gs (acted fs t)
 acted-append [] gs t = refl
-acted-append (f ∷ fs) gs t = acted-append fs gs (changed f t)
+acted-append (f ∷ fs) gs t = acted-append fs gs (changed_by f t)
 
 -- what stays as it is: the size, and all that a ground terminal may have as it likes
 pub record Constants : Type 0 where
@@ -77,8 +77,8 @@ module _ (k : Constants) where
   module _ (cells : List Glyph) (row col : ℕ) (pending : Bool) (g : Style) (visible : Bool) (printed : Option ℕ) where
     -- CUP
     pub goes : (r c : ℕ) → 1 ≤ r → r ≤ k.rows → 1 ≤ c → c ≤ k.cols
-        → changed (place_cursor r c) (at_work cells row col pending g visible printed) ≡ at_work cells (r - 1) (c - 1) false g visible None
-    unfolding changed moved_to
+        → changed_by (place_cursor r c) (at_work cells row col pending g visible printed) ≡ at_work cells (r - 1) (c - 1) false g visible None
+    unfolding changed_by moved_to
     goes r c a b d e =
         let row_is : min (max r 1 - 1) (k.rows - 1) ≡ r - 1 = omega (arith, a, b) in
         let col_is : min (max c 1 - 1) (k.cols - 1) ≡ c - 1 = omega (arith, d, e) in
@@ -87,29 +87,29 @@ module _ (k : Constants) where
 
     -- SGR
     pub restyles : (s : Style) → IsColour s.foreground → IsColour s.background
-        → changed (set_style s) (at_work cells row col pending g visible printed) ≡ at_work cells row col pending (plain_style s) visible None
-    unfolding changed
+        → changed_by (set_style s) (at_work cells row col pending g visible printed) ≡ at_work cells row col pending (plain_style s) visible None
+    unfolding changed_by
     restyles s a b = ap (λ x. at_work cells row col pending x visible None) (styled-codes s g a b)
 
     pub mixes : (layer : Layer) (r h b : ℕ) → IsColour (Rgb r h b)
-        → changed (mixture (layer_code layer) r h b) (at_work cells row col pending g visible printed)
-        ≡ at_work cells row col pending (coloured layer (Rgb r h b) g) visible None
-    unfolding changed
+        → changed_by (mixture (layer_code layer) r h b) (at_work cells row col pending g visible printed)
+        ≡ at_work cells row col pending (coloured_style layer (Rgb r h b) g) visible None
+    unfolding changed_by
     mixes layer r h b is = ap (λ x. at_work cells row col pending x visible None) (mixed-codes layer g r h b is)
 
     -- DECTCEM
-    pub hides : changed hide_cursor (at_work cells row col pending g visible printed) ≡ at_work cells row col pending g false None
-    unfolding changed
+    pub hides : changed_by hide_cursor (at_work cells row col pending g visible printed) ≡ at_work cells row col pending g false None
+    unfolding changed_by
     hides = refl
 
-    pub reveals : changed show_cursor (at_work cells row col pending g visible printed) ≡ at_work cells row col pending g true None
-    unfolding changed
+    pub reveals : changed_by show_cursor (at_work cells row col pending g visible printed) ≡ at_work cells row col pending g true None
+    unfolding changed_by
     reveals = refl
 
     -- ED 2
-    pub erases : changed erase_all (at_work cells row col pending g visible printed)
-        ≡ at_work (moved k.rows k.cols cells (page_blanked All row col)) row col false g visible None
-    unfolding changed erased_in_page
+    pub erases : changed_by erase_all (at_work cells row col pending g visible printed)
+        ≡ at_work (mapped_cells k.rows k.cols cells (page_blanked All row col)) row col false g visible None
+    unfolding changed_by erased_in_page
     erases = refl
 
   -- ---- a style is set whole
@@ -119,18 +119,18 @@ module _ (k : Constants) where
     styled_so s = at_work cells row col pending s visible None
 
     mixed_in : (layer : Layer) (x : Colour) (s : Style) → IsColour x
-        → acted (set_mixture (layer_code layer) x) (styled_so (coloured layer (plain_colour x) s)) ≡ styled_so (coloured layer x s)
+        → acted (set_mixture (layer_code layer) x) (styled_so (coloured_style layer (plain_colour x) s)) ≡ styled_so (coloured_style layer x s)
     mixed_in layer Default s h = refl
     mixed_in layer (Index n) s h = refl
-    mixed_in Foreground (Rgb r g b) s h = mixes cells row col pending (coloured Foreground Default s) visible None Foreground r g b h
-    mixed_in Background (Rgb r g b) s h = mixes cells row col pending (coloured Background Default s) visible None Background r g b h
+    mixed_in Foreground (Rgb r g b) s h = mixes cells row col pending (coloured_style Foreground Default s) visible None Foreground r g b h
+    mixed_in Background (Rgb r g b) s h = mixes cells row col pending (coloured_style Background Default s) visible None Background r g b h
 
     pub restyled : (g s : Style) (printed : Option ℕ) → IsColour s.foreground → IsColour s.background
         → acted (restyle s) (at_work cells row col pending g visible printed) ≡ styled_so s
     restyled g s printed a b =
         ap (acted (set_mixture 38 s.foreground ++ set_mixture 48 s.background)) (restyles cells row col pending g visible printed s a b)
         ∙ acted-append (set_mixture 38 s.foreground) (set_mixture 48 s.background) (styled_so (plain_style s))
-        ∙ ap (acted (set_mixture 48 s.background)) (mixed_in Foreground s.foreground (coloured Background (plain_colour s.background) s) a)
+        ∙ ap (acted (set_mixture 48 s.background)) (mixed_in Foreground s.foreground (coloured_style Background (plain_colour s.background) s) a)
         ∙ mixed_in Background s.background s b
 
   -- ---- a cell is put
@@ -149,28 +149,28 @@ module _ (k : Constants) where
 
     room_is : (b : Bool) → is_wide x ≡ b → (b ≡ true → col + 1 < k.cols) → with_room (columns x) w s ≡ s
     unfolding with_room
-    room_is false h fits = ap (λ t. if (((if t then 2 else 1) == 2) && (col + 1 == k.cols)) then wrapped s else s) h
+    room_is false h fits = ap (λ t. if (((if t then 2 else 1) == 2) && (col + 1 == k.cols)) then after_wrap s else s) h
     room_is true h fits =
         let inside = fits refl in
-        ap (λ b. if ((columns x == 2) && b) then wrapped s else s) (ne_eqb (col + 1) k.cols (λ e. absurd (omega (arith, inside, e))))
-        ∙ never (columns x == 2) (wrapped s) s
+        ap (λ b. if ((columns x == 2) && b) then after_wrap s else s) (ne_eqb (col + 1) k.cols (λ e. absurd (omega (arith, inside, e))))
+        ∙ never (columns x == 2) (after_wrap s) s
 
-    put_is : (is_wide x ≡ true → col + 1 < k.cols) → put_on x w s ≡ advanced (columns x) w (inked x s)
-    unfolding put_on settled made_way
-    put_is fits = ap (λ u. advanced (columns x) w (inked x u)) (room_is (is_wide x) refl fits)
+    put_is : (is_wide x ≡ true → col + 1 < k.cols) → put_on x w s ≡ after_advance (columns x) w (after_ink x s)
+    unfolding put_on after_pending_wrap made_way
+    put_is fits = ap (λ u. after_advance (columns x) w (after_ink x u)) (room_is (is_wide x) refl fits)
 
     abbrev inside : ℕ → Screen
-    inside n = screen_at (moved k.rows k.cols cells (in_row row (written x col))) row (col + n) false
+    inside n = screen_at (mapped_cells k.rows k.cols cells (in_row row (writing_source x col))) row (col + n) false
 
     abbrev outside : Screen
-    outside = screen_at (moved k.rows k.cols cells (in_row row (written x col))) row (k.cols - 1) true
+    outside = screen_at (mapped_cells k.rows k.cols cells (in_row row (writing_source x col))) row (k.cols - 1) true
 
-    pub advances : (n : ℕ) → col + n < k.cols → advanced n w (inked x s) ≡ inside n
-    unfolding advanced inked
+    pub advances : (n : ℕ) → col + n < k.cols → after_advance n w (after_ink x s) ≡ inside n
+    unfolding after_advance after_ink
     advances n h = ap (λ b. if b then inside n else outside) (lt-ltb (col + n) k.cols h)
 
-    pub pends : (n : ℕ) → k.cols ≤ col + n → advanced n w (inked x s) ≡ outside
-    unfolding advanced inked
+    pub pends : (n : ℕ) → k.cols ≤ col + n → after_advance n w (after_ink x s) ≡ outside
+    unfolding after_advance after_ink
     pends n h = ap (λ b. if b then inside n else outside) (le-ltb (col + n) k.cols h)
 
   -- ---- a character is printed where the cursor stands and no wrap is pending
@@ -188,7 +188,7 @@ module _ (k : Constants) where
     pub is : t ≡ at_work cells' row col' pending' x.style visible printed'
     pub size : length cells' ≡ k.rows * k.cols
     pub hit : cell_at k.cols cells' row col ≡ x
-    pub other : (i j : ℕ) → i < k.rows → j < k.cols → (i ≡ row → j ≡ col → ⊥) → cell_at k.cols cells' i j ≡ cell_at k.cols (moved k.rows k.cols cells (in_row row (written (first_of x) col))) i j
+    pub other : (i j : ℕ) → i < k.rows → j < k.cols → (i ≡ row → j ≡ col → ⊥) → cell_at k.cols cells' i j ≡ cell_at k.cols (mapped_cells k.rows k.cols cells (in_row row (writing_source (first_of x) col))) i j
     pub after : Stands col (columns x) col' pending'
 
   pub stands : (cells : List Glyph) (row col : ℕ) (x : Glyph) (visible : Bool) (t : Live) (p : Printed cells row col x visible t) → col + columns x < k.cols
@@ -211,8 +211,8 @@ module _ (k : Constants) where
     either_way false c = refl
 
     pub print_is : (is_wide cell ≡ true → col + 1 < k.cols)
-        → changed (Print c) before ≡ record before { screen = advanced (columns cell) w (inked cell (screen_at cells row col false)); printed = Some c }
-    unfolding changed printed_on mapped_by
+        → changed_by (Print c) before ≡ record before { screen = after_advance (columns cell) w (after_ink cell (screen_at cells row col false)); printed = Some c }
+    unfolding changed_by printed_on mapped_by
     print_is fits =
         ap (λ m. written_on m before) (either_way (nat_le 0x21 c && nat_le c 0x7E) c)
         ∙ ap (λ b. if b then record before { screen = joined_on c before.screen }
@@ -221,18 +221,18 @@ module _ (k : Constants) where
         ∙ ap (λ u. record before { screen = u; printed = Some c }) (put_is cells row col cell fits)
 
     abbrev inked_cells : List Glyph
-    inked_cells = moved k.rows k.cols cells (in_row row (written cell col))
+    inked_cells = mapped_cells k.rows k.cols cells (in_row row (writing_source cell col))
 
     pub inked_hit : (is_wide cell ≡ true → col + 1 < k.cols) → cell_at k.cols inked_cells row col ≡ cell
     inked_hit fits =
-        get_or-table k.rows k.cols (moved_at k.cols cells (in_row row (written cell col))) row col _ row_in col_in
+        get_or-table k.rows k.cols (moved_at k.cols cells (in_row row (writing_source cell col))) row col _ row_in col_in
         ∙ written_hit (is_wide cell) cell k.cols cells row col refl refl fits
 
     fills : (b : Bool) → is_wide cell ≡ b → (b ≡ true → col + 1 < k.cols) → k.cols ≤ col + columns cell → col + columns cell ≡ k.cols
     fills true e fits h = let two : columns cell ≡ 2 = ap (λ b. if b then 2 else 1) e in let fit = fits refl in omega (arith, two, fit, h)
     fills false e fits h = let one : columns cell ≡ 1 = ap (λ b. if b then 2 else 1) e in omega (arith, one, col_in, h)
 
-    prints_first : (is_wide cell ≡ true → col + 1 < k.cols) → Printed cells row col cell visible (changed (Print c) before)
+    prints_first : (is_wide cell ≡ true → col + 1 < k.cols) → Printed cells row col cell visible (changed_by (Print c) before)
     prints_first fits =
         elim (cases_lt (col + columns cell) k.cols) [
           | inl h ↦ record {
@@ -278,9 +278,9 @@ module _ (k : Constants) where
 
   -- a joining character changes cells alone
   pub joins : (j : ℕ) → is_joiner j ≡ true → (cells : List Glyph) (row col : ℕ) (pending : Bool) (g : Style) (visible : Bool) (printed : Option ℕ)
-      → changed (Print j) (at_work cells row col pending g visible printed)
+      → changed_by (Print j) (at_work cells row col pending g visible printed)
       ≡ record (at_work cells row col pending g visible printed) { screen = joined_on j (screen_at cells row col pending) }
-  unfolding changed printed_on mapped_by
+  unfolding changed_by printed_on mapped_by
   joins j joins_it cells row col pending g visible printed =
       let here = at_work cells row col pending g visible printed in
       ap (λ m. written_on m here) (either_or (nat_le 0x21 j && nat_le j 0x7E) j)
@@ -345,7 +345,7 @@ module _ (k : Constants) where
           let fit = fits e in
           let half : cell_at k.cols now row (col + 1) ≡ right_of (first_of (of ps)) =
           p.other row (col + 1) row_in fit (λ a b. absurd (omega (arith, b)))
-          ∙ get_or-table k.rows k.cols (moved_at k.cols cells (in_row row (written (of []) col))) row (col + 1) _ row_in fit
+          ∙ get_or-table k.rows k.cols (moved_at k.cols cells (in_row row (writing_source (of []) col))) row (col + 1) _ row_in fit
           ∙ ap (λ b. moved_at k.cols cells (by b (of []) row col) row (col + 1)) e ∙ written_half (of []) k.cols cells row col e in
           ap (base_column k.cols now row) here ∙ ap (λ x. if is_right_half x then col + 1 - 1 else col + 1) half ∙ omega arith
 
@@ -363,14 +363,14 @@ module _ (k : Constants) where
           ap (λ n. set now (row * k.cols + n) (with_point j (cell_at k.cols now row n))) (base_by (is_wide (of ps)) refl)
           ∙ ap (λ x. set now place (with_point j x)) p.hit ∙ ap (set now place) point_is
 
-      join_one : Printed cells row col (of (ps ++ j ∷ [])) visible (changed (Print j) t)
+      join_one : Printed cells row col (of (ps ++ j ∷ [])) visible (changed_by (Print j) t)
       join_one = record {
         cells' = then_;
         col' = p.col';
         pending' = p.pending';
         printed' = p.printed';
         is =
-            ap (changed (Print j)) p.is ∙ joins j joins_it now row p.col' p.pending' g visible p.printed'
+            ap (changed_by (Print j)) p.is ∙ joins j joins_it now row p.col' p.pending' g visible p.printed'
             ∙ ap (λ s. record (at_work now row p.col' p.pending' g visible p.printed') { screen = s }) joined_there
             ∙ ap (λ l. at_work l row p.col' p.pending' g visible p.printed') joined_is;
         size = length-set now place (of (ps ++ j ∷ [])) ∙ p.size;
@@ -392,7 +392,7 @@ module _ (k : Constants) where
         let one = and_parts (is_joiner j) (are_joiners js) (joiners-back ps (j ∷ js) joiners) in
         let text = cell_text c (ps ++ j ∷ []) some (joiners-front (ps ++ j ∷ []) js all) (omega (arith, few, size, front)) in
         subst (λ l. Printed cells row col (of l) visible (acted (map Print (j ∷ js)) t)) e
-        (join_all (ps ++ j ∷ []) js (changed (Print j) t) all (omega (arith, few, size)) (join_one ps j t p one.0 text))
+        (join_all (ps ++ j ∷ []) js (changed_by (Print j) t) all (omega (arith, few, size)) (join_one ps j t p one.0 text))
 
   -- the code points of a cell
   pub prints_all : (cells : List Glyph) (row col : ℕ) (visible : Bool) (printed : Option ℕ) (ps : List ℕ) (g : Style) (guarded : Bool) → row < k.rows → col < k.cols

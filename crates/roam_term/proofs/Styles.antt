@@ -9,7 +9,7 @@ use Rattle.roam_cells.specs.declared.styles.Colour.TheVariants.{Default, Index, 
 use Rattle.roam_controls.specs.declared.renditions.Awaited.TheVariants.{Aspect}
 use Rattle.roam_controls.specs.declared.renditions.Layer.{Layer}
 use Rattle.roam_controls.specs.declared.renditions.Layer.TheVariants.{Foreground, Background}
-use Rattle.roam_controls.specs.Renditions.{Rendition, coloured, with_parameter, styled}
+use Rattle.roam_controls.specs.Renditions.{Rendition, coloured_style, with_parameter, styled_by}
 use Rattle.roam_term.specs.ControlFunctions.{flag_code, colour_codes, style_codes, layer_code, plain_colour, plain_style}
 
 abbrev folded : Style → List ℕ → Rendition
@@ -44,26 +44,26 @@ module _ (b f i u k r c s : Bool) (x y : Colour) (more : List ℕ) where
   strike : folded (style b f i u k r c false x y) (flag_code s 9 more) ≡ folded (style b f i u k r c s x y) more
   strike = elim s as (λ s. folded (style b f i u k r c false x y) (flag_code s 9 more) ≡ folded (style b f i u k r c s x y) more) [ true ↦ refl | false ↦ refl ]
 
-coloured-is : (layer : Layer) (g : Style) (x : Colour) (more : List ℕ) → IsColour x → coloured layer Default g ≡ g
-    → folded g (colour_codes (layer_code layer) x more) ≡ folded (coloured layer (plain_colour x) g) more
+coloured-is : (layer : Layer) (g : Style) (x : Colour) (more : List ℕ) → IsColour x → coloured_style layer Default g ≡ g
+    → folded g (colour_codes (layer_code layer) x more) ≡ folded (coloured_style layer (plain_colour x) g) more
 coloured-is Foreground g Default more h e = ap (λ s. folded s more) (sym e)
 coloured-is Background g Default more h e = ap (λ s. folded s more) (sym e)
 coloured-is Foreground g (Index n) more h e =
-    ap (λ b. fold with_parameter (if b then record { style = coloured Foreground (Index n) g; awaited = Aspect } else record { style = g; awaited = Aspect }) more)
+    ap (λ b. fold with_parameter (if b then record { style = coloured_style Foreground (Index n) g; awaited = Aspect } else record { style = g; awaited = Aspect }) more)
     (le-leb n 255 h)
 coloured-is Background g (Index n) more h e =
-    ap (λ b. fold with_parameter (if b then record { style = coloured Background (Index n) g; awaited = Aspect } else record { style = g; awaited = Aspect }) more)
+    ap (λ b. fold with_parameter (if b then record { style = coloured_style Background (Index n) g; awaited = Aspect } else record { style = g; awaited = Aspect }) more)
     (le-leb n 255 h)
 coloured-is Foreground g (Rgb x y z) more h e = ap (λ s. folded s more) (sym e)
 coloured-is Background g (Rgb x y z) more h e = ap (λ s. folded s more) (sym e)
 
 -- a mixture after 38 or 48 and 2
 pub mixed-codes : (layer : Layer) (s : Style) (r g b : ℕ) → IsColour (Rgb r g b)
-    → styled (layer_code layer ∷ 2 ∷ r ∷ g ∷ b ∷ []) s ≡ coloured layer (Rgb r g b) s
+    → styled_by (layer_code layer ∷ 2 ∷ r ∷ g ∷ b ∷ []) s ≡ coloured_style layer (Rgb r g b) s
 mixed-codes Foreground s r g b h = rw (le-leb r 255 h.0, le-leb g 255 h.1, le-leb b 255 h.2) refl
 mixed-codes Background s r g b h = rw (le-leb r 255 h.0, le-leb g 255 h.1, le-leb b 255 h.2) refl
 
-pub styled-codes : (s g : Style) → IsColour s.foreground → IsColour s.background → styled (style_codes s) g ≡ plain_style s
+pub styled-codes : (s g : Style) → IsColour s.foreground → IsColour s.background → styled_by (style_codes s) g ≡ plain_style s
 styled-codes s g fore back =
     let last = colour_codes 48 s.background [] in
     let colours = colour_codes 38 s.foreground last in

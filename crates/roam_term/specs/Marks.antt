@@ -16,12 +16,12 @@ use Rattle.roam_controls.specs.declared.motions.Motion.{Motion}
 use Rattle.roam_controls.specs.declared.motions.Motion.TheVariants.{Backspace, CarriageReturn, LineFeed, Index, NextLine, Up, Down, Right, Left, NextLines, PreviousLines, Column, Row, Position, ReverseIndex, Tab, BackTab}
 use Rattle.roam_controls.specs.declared.settings.Setting.{Setting}
 use Rattle.roam_controls.specs.declared.settings.Setting.TheVariants.{Mode, PrivateMode, Rendition, Margins, Guard, Keypad, Save, Restore, SoftReset, Reset, SetStop, ClearStop, ClearStops}
-use Rattle.roam_grid.specs.Cursor.{carried}
+use Rattle.roam_grid.specs.Cursor.{after_carriage_return}
 use Rattle.roam_grid.specs.Marks.{all_on, marks_cells_moved, marks_erased_in_page, marks_erased_selectively_in_line, marks_erased_selectively_in_page, marks_in_line, marks_indexed, marks_joined, marks_lines_moved, marks_put, marks_put_all, marks_reverse_indexed, marks_scrolled}
 use Rattle.roam_grid.specs.Screen.{Screen}
 use Rattle.roam_text.specs.declared.functions.Function.{Function}
 use Rattle.roam_text.specs.declared.functions.Function.TheVariants.{Print, C0, C1, Esc, Csi, Size}
-use Rattle.roam_term.specs.Terminal.{Live, glyph_in, writing_under, is_alternate_mode, private_mode_set, changed}
+use Rattle.roam_term.specs.Terminal.{Live, glyph_in, writing_under, is_alternate_mode, private_mode_set, changed_by}
 
 -- what contracts see of the screens of a terminal: what lives, and the marks of 200 rows of the screen that is shown
 pub record CanvasView : Type 0 where
@@ -32,7 +32,7 @@ pub record CanvasView : Type 0 where
 abbrev pub marks_moved_by : Motion → Screen → List Bool → List Bool
 marks_moved_by LineFeed s marks = marks_indexed s marks
 marks_moved_by Index s marks = marks_indexed s marks
-marks_moved_by NextLine s marks = marks_indexed (carried s) marks
+marks_moved_by NextLine s marks = marks_indexed (after_carriage_return s) marks
 marks_moved_by ReverseIndex s marks = marks_reverse_indexed s marks
 marks_moved_by Backspace s marks = marks
 marks_moved_by CarriageReturn s marks = marks
@@ -131,16 +131,16 @@ marks_performed (Shifts shift) params s marks = marks
 marks_performed (Reports report) params s marks = marks
 
 -- a function, on the state before it; another size marks all
-unfoldable pub marked : Function → Live → List Bool → List Bool
-marked (Size rows cols) s marks = all_on
-marked (Print c) s marks = marks_performed (command_of (Print c)) (parameters_of (Print c)) s marks
-marked (C0 b) s marks = marks_performed (command_of (C0 b)) (parameters_of (C0 b)) s marks
-marked (C1 b) s marks = marks_performed (command_of (C1 b)) (parameters_of (C1 b)) s marks
-marked (Esc inter b) s marks = marks_performed (command_of (Esc inter b)) (parameters_of (Esc inter b)) s marks
-marked (Csi marker params inter b) s marks =
+unfoldable pub marked_by : Function → Live → List Bool → List Bool
+marked_by (Size rows cols) s marks = all_on
+marked_by (Print c) s marks = marks_performed (command_of (Print c)) (parameters_of (Print c)) s marks
+marked_by (C0 b) s marks = marks_performed (command_of (C0 b)) (parameters_of (C0 b)) s marks
+marked_by (C1 b) s marks = marks_performed (command_of (C1 b)) (parameters_of (C1 b)) s marks
+marked_by (Esc inter b) s marks = marks_performed (command_of (Esc inter b)) (parameters_of (Esc inter b)) s marks
+marked_by (Csi marker params inter b) s marks =
     marks_performed (command_of (Csi marker params inter b)) (parameters_of (Csi marker params inter b)) s marks
 
 -- functions one after another, each on the state that it meets
 abbrev pub marked_through : Live → List Function → List Bool → List Bool
 marked_through s [] marks = marks
-marked_through s (f ∷ fs) marks = marked_through (changed f s) fs (marked f s marks)
+marked_through s (f ∷ fs) marks = marked_through (changed_by f s) fs (marked_by f s marks)

@@ -1,7 +1,7 @@
 -- What printed characters look like, and what DECSC keeps.
 use Rattle.std.specs.Prelude.{false}
 use Rattle.roam_cells.specs.Glyph.{default_style}
-use Rattle.roam_charset.specs.Sets.{started}
+use Rattle.roam_charset.specs.Sets.{started_sets}
 use Rattle.roam_cells.specs.Inks.{InkValue}
 use Rattle.roam_term.specs.declared.pens.Saved.{Saved}
 
@@ -11,4 +11,4 @@ plain_pen = record { style = default_style; guarded = false }
 
 -- what DECRC restores where nothing is saved: the start's values (this project's profile)
 abbrev pub nothing_saved : Saved
-nothing_saved = record { row = 0; col = 0; pending = false; pen = plain_pen; sets = started; origin = false }
+nothing_saved = record { row = 0; col = 0; pending = false; pen = plain_pen; sets = started_sets; origin = false }

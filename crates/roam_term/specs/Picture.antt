@@ -13,8 +13,8 @@ abbrev pub shown_style : Bool → Style → Style
 shown_style reversed style = if reversed then record style { reverse = not style.reverse } else style
 
 -- a cell as it is shown: a guard is no part of it
-abbrev pub shown : Bool → Glyph → Glyph
-shown reversed g = record { points = g.points; style = shown_style reversed g.style; guarded = false }
+abbrev pub shown_glyph : Bool → Glyph → Glyph
+shown_glyph reversed g = record { points = g.points; style = shown_style reversed g.style; guarded = false }
 
 -- how many rows of the history a view shows: at most those that are there, and none on the alternate screen
 abbrev pub rows_in_view : Live → Scrollback → ℕ → ℕ
@@ -31,7 +31,7 @@ picture_with v l h =
     record {
       rows = l.screen.rows;
       cols = l.screen.cols;
-      cells = map (shown l.modes.reverse_screen) (cells_in_view v l h);
+      cells = map (shown_glyph l.modes.reverse_screen) (cells_in_view v l h);
       cursor_row = min (l.screen.row + 1 + v) l.screen.rows;
       cursor_col = l.screen.col + 1;
       visible = l.modes.cursor_visible && nat_le (l.screen.row + 1 + v) l.screen.rows;

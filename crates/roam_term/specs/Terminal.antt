@@ -3,7 +3,7 @@ use Rattle.std.specs.Prelude.{ℕ, ◌-◌, ◌*◌, ◌==◌, ◌++◌, ◌&&�
 use Rattle.roam_cells.specs.Glyph.{Glyph, blank}
 use Rattle.roam_cells.specs.Width.{width_of}
 use Rattle.roam_charset.specs.Charsets.{mapped_by}
-use Rattle.roam_charset.specs.Sets.{started as started_sets, in_use, spent}
+use Rattle.roam_charset.specs.Sets.{started_sets, in_use, spent}
 use Rattle.roam_charset.specs.declared.sets.Sets.{Sets as GraphicSets}
 use Rattle.roam_text.specs.declared.functions.Function.{Function}
 use Rattle.roam_text.specs.declared.functions.Function.TheVariants.{Print, C0, C1, Esc, Csi, Size}
@@ -11,11 +11,11 @@ use Rattle.roam_text.specs.Log.{Item}
 use Rattle.roam_text.specs.Functions.{functions_of}
 use Rattle.roam_grid.specs.Screen.{Screen, start}
 use Rattle.roam_grid.specs.Writing.{put_on, put_all, joined_on}
-use Rattle.roam_grid.specs.Cursor.{restored}
-use Rattle.roam_grid.specs.Frames.{restarted, all_blank, leaving, resized}
-use Rattle.roam_rows.specs.Sizing.{sized}
+use Rattle.roam_grid.specs.Cursor.{after_restoring}
+use Rattle.roam_grid.specs.Frames.{after_restart, all_blank, leaving, after_resizing}
+use Rattle.roam_rows.specs.Sizing.{sized_rows}
 use Rattle.roam_history.specs.Histories.{Scrollback, empty, keeping}
-use Rattle.roam_history.specs.Fitting.{refitted}
+use Rattle.roam_history.specs.Fitting.{after_refit}
 use Rattle.roam_grid.specs.Scrolling.{with_margins}
 use Rattle.roam_grid.specs.Tabbing.{stop_set, stop_cleared, stops_cleared}
 use Rattle.roam_grid.specs.declared.writing.Writing.{Writing}
@@ -33,10 +33,10 @@ use Rattle.roam_term.specs.Leaving.{top_rows, left_by_put, left_by_puts, left_by
 use Rattle.roam_controls.specs.Modes.{started_modes, with_mode, with_private_mode, soft_reset_modes}
 use Rattle.roam_term.specs.Motions.{moved_by}
 use Rattle.roam_term.specs.Pens.{plain_pen, nothing_saved}
-use Rattle.roam_controls.specs.Renditions.{styled}
+use Rattle.roam_controls.specs.Renditions.{styled_by}
 use Rattle.roam_term.specs.Reports.{answer_to}
 use Rattle.roam_term.specs.Settings.{margins_set, after_private_mode}
-use Rattle.roam_term.specs.Shifts.{shifted}
+use Rattle.roam_term.specs.Shifts.{shifted_by}
 
 -- all of a terminal that a later function can depend on
 pub record Live : Type 0 where
@@ -69,14 +69,14 @@ abbrev pub writing_under : Modes → Writing
 writing_under modes = record { wraps = modes.autowrap; inserts = modes.insert }
 
 -- a character as its set has it: one of width 0 joins, another is written, and is what REP repeats
-abbrev pub written : ℕ → Live → Live
-written c s =
+abbrev pub written_on : ℕ → Live → Live
+written_on c s =
     if width_of c == 0 then record s { screen = joined_on c s.screen }
     else record s { screen = put_on (glyph_in c s.pen) (writing_under s.modes) s.screen; printed = Some c }
 
 -- a printed character spends a single shift
 unfoldable pub printed_on : ℕ → Live → Live
-printed_on c s = written (mapped_by (in_use s.sets) c) (record s { sets = spent s.sets })
+printed_on c s = written_on (mapped_by (in_use s.sets) c) (record s { sets = spent s.sets })
 
 -- one character after another
 abbrev pub printed_all : Live → List ℕ → Live
@@ -90,9 +90,9 @@ written_again n c s =
     else record s { screen = put_all (replicate n (glyph_in c s.pen)) (writing_under s.modes) s.screen }
 
 -- REP (ECMA-48, section 8.3.103): nothing where no character is kept
-abbrev pub repeated : ℕ → Option ℕ → Live → Live
-repeated n None s = s
-repeated n (Some c) s = written_again n c s
+abbrev pub repeated_on : ℕ → Option ℕ → Live → Live
+repeated_on n None s = s
+repeated_on n (Some c) s = written_again n c s
 
 -- ---- what DECSC keeps
 
@@ -115,7 +115,7 @@ kept_of s = unwrap_or (if s.alternate then s.saved_alternate else s.saved) nothi
 abbrev pub restored_to : Saved → Live → Live
 restored_to k s =
     record s {
-      screen = restored k.row k.col (k.pending && s.modes.autowrap) s.screen;
+      screen = after_restoring k.row k.col (k.pending && s.modes.autowrap) s.screen;
       pen = k.pen;
       sets = k.sets;
       modes = record s.modes { origin = k.origin };
@@ -128,23 +128,24 @@ abbrev pub is_alternate_mode : ℕ → Bool
 is_alternate_mode p = p == 47 || p == 1047 || p == 1049
 
 -- the screen that wasn't shown is shown; cursor, margins and tab stops stay, and no wrap pends
-abbrev pub switched : Live → Live
-switched s = record s { screen = record s.screen { cells = s.other; pending = false }; other = s.screen.cells; alternate = not s.alternate }
+abbrev pub screens_switched : Live → Live
+screens_switched s =
+    record s { screen = record s.screen { cells = s.other; pending = false }; other = s.screen.cells; alternate = not s.alternate }
 
 -- the screen that is shown is blank
-abbrev pub blanked : Live → Live
-blanked s = record s { screen = all_blank s.screen }
+abbrev pub screen_blanked : Live → Live
+screen_blanked s = record s { screen = all_blank s.screen }
 
 -- 47 and 1047 show the alternate screen; 1049 first does DECSC, and then blanks it
 abbrev pub alternate_shown : ℕ → Live → Live
-alternate_shown p s = if p == 1049 then blanked (switched (saved_on s)) else switched s
+alternate_shown p s = if p == 1049 then screen_blanked (screens_switched (saved_on s)) else screens_switched s
 
 -- 47 shows the main screen; 1047 first blanks the alternate one, and 1049 then does DECRC
 abbrev pub main_shown : ℕ → Live → Live
 main_shown p s =
-    if p == 1047 then switched (blanked s)
-    else if p == 1049 then restored_to (kept_of (switched s)) (switched s)
-    else switched s
+    if p == 1047 then screens_switched (screen_blanked s)
+    else if p == 1049 then restored_to (kept_of (screens_switched s)) (screens_switched s)
+    else screens_switched s
 
 -- where the chosen screen is shown already, nothing happens
 abbrev pub screen_chosen : Bool → ℕ → Live → Live
@@ -171,7 +172,7 @@ soft_reset s =
 abbrev pub reset : Live → Live
 reset s =
     record {
-      screen = restarted s.screen;
+      screen = after_restart s.screen;
       other = replicate (length s.other) blank;
       alternate = false;
       pen = plain_pen;
@@ -197,7 +198,7 @@ private_mode_set on s p =
 abbrev pub set_by : Setting → List ℕ → Live → Live
 set_by (Mode on) params s = fold (mode_set on) s params
 set_by (PrivateMode on) params s = fold (private_mode_set on) s params
-set_by Rendition params s = record s { pen = record s.pen { style = styled params s.pen.style } }
+set_by Rendition params s = record s { pen = record s.pen { style = styled_by params s.pen.style } }
 set_by (Margins top bottom) params s = record s { screen = margins_set top bottom s.modes.origin s.screen }
 set_by (Guard on) params s = record s { pen = record s.pen { guarded = on } }
 set_by (Keypad application) params s = record s { modes = record s.modes { application_keypad = application } }
@@ -210,16 +211,16 @@ set_by ClearStop params s = record s { screen = stop_cleared s.screen }
 set_by ClearStops params s = record s { screen = stops_cleared s.screen }
 
 -- what a command makes of what lives, but for what REP remembers
-abbrev pub performed : Command → List ℕ → Live → Live
-performed Nothing params s = s
-performed (Prints c) params s = printed_on c s
-performed (Moves motion) params s = record s { screen = moved_by motion s.modes s.screen }
-performed (Erases erasure) params s = record s { screen = erased_by erasure s.screen }
-performed (Edits edit) params s = record s { screen = edited_by edit s.screen }
-performed (Shifts shift) params s = record s { sets = shifted shift s.sets }
-performed (Sets setting) params s = set_by setting params s
-performed (Reports report) params s = s
-performed (Repeats n) params s = repeated n s.printed s
+abbrev pub performed_by : Command → List ℕ → Live → Live
+performed_by Nothing params s = s
+performed_by (Prints c) params s = printed_on c s
+performed_by (Moves motion) params s = record s { screen = moved_by motion s.modes s.screen }
+performed_by (Erases erasure) params s = record s { screen = erased_by erasure s.screen }
+performed_by (Edits edit) params s = record s { screen = edited_by edit s.screen }
+performed_by (Shifts shift) params s = record s { sets = shifted_by shift s.sets }
+performed_by (Sets setting) params s = set_by setting params s
+performed_by (Reports report) params s = s
+performed_by (Repeats n) params s = repeated_on n s.printed s
 
 -- any function but a printed character and REP makes REP forget (this project's profile)
 abbrev pub remembering : Bool → Live → Live
@@ -244,8 +245,8 @@ answered_by (Repeats n) s = []
 abbrev pub sized_to : ℕ → ℕ → Live → Live
 sized_to rows cols s =
     record s {
-      screen = resized rows cols (leaving rows s.screen) s.screen;
-      other = (sized rows cols 0 (record { rows = s.screen.rows; cols = s.screen.cols; cells = s.other; first = 0 })).cells;
+      screen = after_resizing rows cols (leaving rows s.screen) s.screen;
+      other = (sized_rows rows cols 0 (record { rows = s.screen.rows; cols = s.screen.cols; cells = s.other; first = 0 })).cells;
       printed = None;
     }
 
@@ -281,30 +282,31 @@ left_by (Reports report) s = []
 -- ---- one function, and all of them
 
 -- what a command makes of what lives
-abbrev pub commanded : Command → List ℕ → Live → Live
-commanded command params s = remembering (forgets command) (performed command params s)
+abbrev pub commanded_by : Command → List ℕ → Live → Live
+commanded_by command params s = remembering (forgets command) (performed_by command params s)
 
 -- what a function makes of what lives
-unfoldable pub changed : Function → Live → Live
-changed (Size rows cols) s = sized_to rows cols s
-changed (Print c) s = commanded (command_of (Print c)) (parameters_of (Print c)) s
-changed (C0 b) s = commanded (command_of (C0 b)) (parameters_of (C0 b)) s
-changed (C1 b) s = commanded (command_of (C1 b)) (parameters_of (C1 b)) s
-changed (Esc inter b) s = commanded (command_of (Esc inter b)) (parameters_of (Esc inter b)) s
-changed (Csi marker params inter b) s = commanded (command_of (Csi marker params inter b)) (parameters_of (Csi marker params inter b)) s
+unfoldable pub changed_by : Function → Live → Live
+changed_by (Size rows cols) s = sized_to rows cols s
+changed_by (Print c) s = commanded_by (command_of (Print c)) (parameters_of (Print c)) s
+changed_by (C0 b) s = commanded_by (command_of (C0 b)) (parameters_of (C0 b)) s
+changed_by (C1 b) s = commanded_by (command_of (C1 b)) (parameters_of (C1 b)) s
+changed_by (Esc inter b) s = commanded_by (command_of (Esc inter b)) (parameters_of (Esc inter b)) s
+changed_by (Csi marker params inter b) s =
+    commanded_by (command_of (Csi marker params inter b)) (parameters_of (Csi marker params inter b)) s
 
 -- what a function answers, on the state before it
 unfoldable pub answer : Function → Live → List ℕ
 answer f s = answered_by (command_of f) s
 
 -- the rows that a function makes leave for the history, the oldest first, on the state before it
-unfoldable pub left : Function → Live → List (List Glyph)
-left (Size rows cols) s = on_main s.alternate (top_rows (leaving rows s.screen) s.screen)
-left (Print c) s = on_main s.alternate (left_by (command_of (Print c)) s)
-left (C0 b) s = on_main s.alternate (left_by (command_of (C0 b)) s)
-left (C1 b) s = on_main s.alternate (left_by (command_of (C1 b)) s)
-left (Esc inter b) s = on_main s.alternate (left_by (command_of (Esc inter b)) s)
-left (Csi marker params inter b) s = on_main s.alternate (left_by (command_of (Csi marker params inter b)) s)
+unfoldable pub rows_left : Function → Live → List (List Glyph)
+rows_left (Size rows cols) s = on_main s.alternate (top_rows (leaving rows s.screen) s.screen)
+rows_left (Print c) s = on_main s.alternate (left_by (command_of (Print c)) s)
+rows_left (C0 b) s = on_main s.alternate (left_by (command_of (C0 b)) s)
+rows_left (C1 b) s = on_main s.alternate (left_by (command_of (C1 b)) s)
+rows_left (Esc inter b) s = on_main s.alternate (left_by (command_of (Esc inter b)) s)
+rows_left (Csi marker params inter b) s = on_main s.alternate (left_by (command_of (Csi marker params inter b)) s)
 
 -- rows come in as the newest, and the last are kept
 abbrev pub with_rows : List (List Glyph) → Scrollback → Scrollback
@@ -312,7 +314,7 @@ with_rows rows h = keeping h.lines h.cols (h.rows ++ rows)
 
 -- a size brings the kept rows to its columns
 abbrev pub fitted_by : Function → Scrollback → Scrollback
-fitted_by (Size rows cols) h = refitted cols h
+fitted_by (Size rows cols) h = after_refit cols h
 fitted_by (Print c) h = h
 fitted_by (C0 b) h = h
 fitted_by (C1 b) h = h
@@ -320,28 +322,28 @@ fitted_by (Esc inter b) h = h
 fitted_by (Csi marker params inter b) h = h
 
 -- the history after a function, of the state before it
-unfoldable pub kept : Function → Live → Scrollback → Scrollback
-kept f s h = fitted_by f (with_rows (left f s) h)
+unfoldable pub history_after : Function → Live → Scrollback → Scrollback
+history_after f s h = fitted_by f (with_rows (rows_left f s) h)
 
 abbrev pub after : Function → Terminal → Terminal
-after f t = record { live = changed f t.live; history = kept f t.live t.history; answers = t.answers ++ answer f t.live }
+after f t = record { live = changed_by f t.live; history = history_after f t.live t.history; answers = t.answers ++ answer f t.live }
 
 abbrev pub run : Terminal → List Function → Terminal
 run t [] = t
 run t (f ∷ fs) = run (after f t) fs
 
 -- what functions one after another make of what lives and of the history, and what they answer
-abbrev pub lived : Live → List Function → Live
-lived l [] = l
-lived l (f ∷ fs) = lived (changed f l) fs
+abbrev pub live_after : Live → List Function → Live
+live_after l [] = l
+live_after l (f ∷ fs) = live_after (changed_by f l) fs
 
 abbrev pub kept_by : Live → List Function → Scrollback → Scrollback
 kept_by l [] h = h
-kept_by l (f ∷ fs) h = kept_by (changed f l) fs (kept f l h)
+kept_by l (f ∷ fs) h = kept_by (changed_by f l) fs (history_after f l h)
 
-abbrev pub answered : Live → List Function → List ℕ
-answered l [] = []
-answered l (f ∷ fs) = answer f l ++ answered (changed f l) fs
+abbrev pub answers_after : Live → List Function → List ℕ
+answers_after l [] = []
+answers_after l (f ∷ fs) = answer f l ++ answers_after (changed_by f l) fs
 
 -- ---- the start
 
@@ -359,12 +361,12 @@ started_live rows cols =
       printed = None;
     }
 
-abbrev pub started : ℕ → ℕ → ℕ → Terminal
-started rows cols lines = record { live = started_live rows cols; history = empty lines cols; answers = [] }
+abbrev pub started_terminal : ℕ → ℕ → ℕ → Terminal
+started_terminal rows cols lines = record { live = started_live rows cols; history = empty lines cols; answers = [] }
 
 -- the terminal that a log makes, of a size and with so many lines of history
 unfoldable pub term : ℕ → ℕ → ℕ → List Item → Terminal
-term rows cols lines log = run (started rows cols lines) (functions_of log)
+term rows cols lines log = run (started_terminal rows cols lines) (functions_of log)
 
 -- all that was answered to a log
 unfoldable pub reports : ℕ → ℕ → ℕ → List Item → List ℕ

@@ -1,7 +1,7 @@
 //! The main and the alternate screen.
 ghost use Rattle.std.specs.Prelude.{◌≡◌};
 ghost use Rattle.roam_grid.specs.Screen.{IsSameSize};
-ghost use Rattle.roam_term.specs.Terminal.{is_alternate_mode, switched, alternate_shown, main_shown, screen_chosen};
+ghost use Rattle.roam_term.specs.Terminal.{is_alternate_mode, screens_switched, alternate_shown, main_shown, screen_chosen};
 ghost use Rattle.roam_grid.specs.Marks.{all_on};
 ghost use Rattle.roam_term.specs.Marks.{marks_chosen};
 
@@ -18,7 +18,7 @@ pub fn is_alternate_mode(number: u16) -> bool
 impl Canvas {
     // Shows the screen that wasn't shown; cursor, margins and tab stops stay, and no wrap pends.
     fn switch(&mut self)
-        ensures switched { self.new.live ≡ switched self.old.live }
+        ensures switched { self.new.live ≡ screens_switched self.old.live }
         ensures marks { self.new.marks ≡ all_on }
         ensures size { IsSameSize self.old.live.screen self.new.live.screen }
     {

@@ -7,7 +7,7 @@ ghost use Rattle.roam_grid.specs.Marks.{all_off, all_on};
 ghost use Rattle.roam_grid.specs.Screen.{IsSameSize, IsScreen};
 ghost use Rattle.roam_text.specs.Functions.{ArePlain};
 ghost use Rattle.roam_text.specs.declared.functions.Function.{Function};
-ghost use Rattle.roam_term.specs.Terminal.{printed_on, printed_all, mode_set, private_mode_set, kept_of, saved_on, restored_to, soft_reset, reset, repeated, set_by, performed, commanded, answered_by, started_live, writing_under, on_main, with_rows, left_by, left_by_character, left_by_repeat, kept_by};
+ghost use Rattle.roam_term.specs.Terminal.{printed_on, printed_all, mode_set, private_mode_set, kept_of, saved_on, restored_to, soft_reset, reset, repeated_on, set_by, performed_by, commanded_by, answered_by, started_live, writing_under, on_main, with_rows, left_by, left_by_character, left_by_repeat, kept_by};
 ghost use Rattle.roam_term.specs.Marks.{marked_through, marks_printed, marks_private_mode, marks_private_modes, marks_repeated, marks_set_by, marks_performed};
 ghost use Rattle.roam_term.specs.Limits.{most_output};
 
@@ -210,7 +210,7 @@ impl Canvas {
     /// Does what SGR with these parameters asks for, as `perform` does.
     #[inline]
     pub fn restyle(&mut self, params: &[u16])
-        ensures performed { self.new.live ≡ commanded (Command.Sets Setting.Rendition) params.now self.old.live }
+        ensures performed { self.new.live ≡ commanded_by (Command.Sets Setting.Rendition) params.now self.old.live }
         ensures marks { self.new.marks ≡ marks_performed (Command.Sets Setting.Rendition) params.now self.old.live self.old.marks }
         ensures size { IsSameSize self.old.live.screen self.new.live.screen }
     {
@@ -347,7 +347,7 @@ impl Canvas {
     // REP
     fn repeat(&mut self, n: u16, history: &mut History)
         requires cols { history.old.cols ≡ self.old.live.screen.cols }
-        ensures repeated { self.new.live ≡ repeated n self.old.live.printed self.old.live }
+        ensures repeated { self.new.live ≡ repeated_on n self.old.live.printed self.old.live }
         ensures marks { self.new.marks ≡ marks_repeated n self.old.live.printed self.old.live self.old.marks }
         ensures history { history.new ≡ with_rows (on_main self.old.live.alternate (left_by_repeat n self.old.live.printed self.old.live))
             history.old }
@@ -391,7 +391,7 @@ impl Canvas {
     // Does what a command asks for, but for what REP remembers.
     fn act(&mut self, command: Command, params: &[u16], history: &mut History)
         requires cols { history.old.cols ≡ self.old.live.screen.cols }
-        ensures performed { self.new.live ≡ performed command params.now self.old.live }
+        ensures performed { self.new.live ≡ performed_by command params.now self.old.live }
         ensures marks { self.new.marks ≡ marks_performed command params.now self.old.live self.old.marks }
         ensures history { history.new ≡ with_rows (on_main self.old.live.alternate (left_by command self.old.live)) history.old }
         ensures size { IsSameSize self.old.live.screen self.new.live.screen }
@@ -419,7 +419,7 @@ impl Canvas {
     /// Does what a command asks for, whose parameters are lent; the rows that leave come into the history. It takes no memory.
     pub fn perform(&mut self, command: Command, params: &[u16], history: &mut History)
         requires cols { history.old.cols ≡ self.old.live.screen.cols }
-        ensures performed { self.new.live ≡ commanded command params.now self.old.live }
+        ensures performed { self.new.live ≡ commanded_by command params.now self.old.live }
         ensures marks { self.new.marks ≡ marks_performed command params.now self.old.live self.old.marks }
         ensures history { history.new ≡ with_rows (on_main self.old.live.alternate (left_by command self.old.live)) history.old }
         ensures size { IsSameSize self.old.live.screen self.new.live.screen }

@@ -1,6 +1,6 @@
 //! What a keyboard sends to a terminal's output.
 ghost use Rattle.std.specs.Prelude.{◌≡◌, ◌+◌, ◌≤◌, ◌↔◌, ◌++◌, ℕ, List, length, IsOk, OnOk, OnErr, IsOkUnless};
-ghost use Rattle.roam_keys.specs.Sent.{sent};
+ghost use Rattle.roam_keys.specs.Sent.{bytes_of_key};
 ghost use Rattle.roam_text.specs.Log.{Item};
 ghost use Rattle.roam_term.specs.Keys.{key_modes};
 ghost use Rattle.roam_term.specs.Stands.{Shows};
@@ -26,8 +26,8 @@ impl Term {
     /// Puts the bytes that a key sends under the terminal's modes behind what waits. Refuses them as `Busy` where the queue hasn't as
     /// many free bytes, and changes nothing then. It takes no memory.
     pub fn key(&mut self, key: &Key) -> Result<(), Fault>
-        ensures ok { IsOk result ↔ (length self.old.waiting + length (sent (key_modes self.old.live.modes) key.now) ≤ most_output) }
-        ensures waiting { OnOk result (self.new.waiting ≡ self.old.waiting ++ sent (key_modes self.old.live.modes) key.now) }
+        ensures ok { IsOk result ↔ (length self.old.waiting + length (bytes_of_key (key_modes self.old.live.modes) key.now) ≤ most_output) }
+        ensures waiting { OnOk result (self.new.waiting ≡ self.old.waiting ++ bytes_of_key (key_modes self.old.live.modes) key.now) }
         ensures stands { OnOk result ((rows cols lines : ℕ) (log : List Item) → Shows self.old rows cols lines log
             → Shows self.new rows cols lines log) }
         ensures live { self.new.live ≡ self.old.live }

@@ -1,9 +1,9 @@
 //! Moves of the cursor.
 ghost use Rattle.std.specs.Prelude.{◌≡◌, ◌-◌, if◌then◌else◌};
-ghost use Rattle.roam_grid.specs.Cursor.{carried, indexed, moved_to};
+ghost use Rattle.roam_grid.specs.Cursor.{after_carriage_return, after_index, moved_to};
 ghost use Rattle.roam_grid.specs.Screen.{IsSameSize};
 ghost use Rattle.roam_grid.specs.Marks.{marks_indexed};
-ghost use Rattle.roam_term.specs.Motions.{row_under, homed, moved_by};
+ghost use Rattle.roam_term.specs.Motions.{row_under, after_home, moved_by};
 ghost use Rattle.roam_term.specs.Marks.{marks_moved_by};
 
 use roam_controls::{Modes, Motion};
@@ -24,7 +24,7 @@ fn row_under(grid: &Grid, origin: bool, row: u16) -> usize
 
 /// To the first column of the first row, under DECOM of the top margin's.
 pub fn home(grid: &mut Grid, origin: bool)
-    ensures homed { grid.new.screen ≡ homed origin grid.old.screen }
+    ensures homed { grid.new.screen ≡ after_home origin grid.old.screen }
     ensures marks { grid.new.marks ≡ grid.old.marks }
     ensures size { IsSameSize grid.old.screen grid.new.screen }
 {
@@ -34,7 +34,7 @@ pub fn home(grid: &mut Grid, origin: bool)
 
 // LF, VT and FF: as IND, and under LNM to the first column too.
 fn line_feed(grid: &mut Grid, returns: bool)
-    ensures fed { grid.new.screen ≡ (if returns then carried (indexed grid.old.screen) else indexed grid.old.screen) }
+    ensures fed { grid.new.screen ≡ (if returns then after_carriage_return (after_index grid.old.screen) else after_index grid.old.screen) }
     ensures marks { grid.new.marks ≡ marks_indexed grid.old.screen grid.old.marks }
     ensures size { IsSameSize grid.old.screen grid.new.screen }
 {

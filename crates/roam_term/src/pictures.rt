@@ -2,7 +2,7 @@
 ghost use Rattle.std.specs.Prelude.{◌≡◌, ◌≤◌, ◌<◌, ◌+◌, ◌*◌, ◌++◌, List, [], slice_index_or, map, take, drop, length, IfOk, IsOkUnless};
 ghost use Rattle.std.specs.List.{flat_map};
 ghost use Rattle.roam_cells.specs.Glyph.{Glyph};
-ghost use Rattle.roam_term.specs.Picture.{shown, shown_style, rows_in_view, cells_in_view, picture_of};
+ghost use Rattle.roam_term.specs.Picture.{shown_glyph, shown_style, rows_in_view, cells_in_view, picture_of};
 
 use crate::canvases::Canvas;
 use roam_cells::{Cell, Fault, Style};
@@ -27,7 +27,7 @@ fn shown_style(style: Style, reversed: bool) -> Style
 
 // A cell as it is shown: unguarded, and in reverse where the whole screen is.
 fn shown_cell(cell: &Cell, reversed: bool) -> Cell
-    ensures cell { result ≡ shown reversed cell.now }
+    ensures cell { result ≡ shown_glyph reversed cell.now }
 {
     if !reversed {
         return cell.unguarded();
@@ -44,7 +44,7 @@ fn shown_cell(cell: &Cell, reversed: bool) -> Cell
 }
 
 fn show_row(cells: &mut Vec<Cell>, row: &[Cell], reversed: bool) -> Result<(), AllocError>
-    ensures cells { IfOk result (λ _. cells.new.items ≡ cells.old.items ++ map (shown reversed) row.now) }
+    ensures cells { IfOk result (λ _. cells.new.items ≡ cells.old.items ++ map (shown_glyph reversed) row.now) }
 {
     for cell in row {
         cells.push(shown_cell(cell, reversed))?;
@@ -80,7 +80,7 @@ fn show_history(
 ) -> Result<(), AllocError>
     requires within { from + count ≤ length history.now.rows }
     ensures cells { IfOk result (λ _. cells.new.items ≡ cells.old.items
-        ++ map (shown reversed) (flat_map (λ (row : List Glyph). row) (take count (drop from history.now.rows)))) }
+        ++ map (shown_glyph reversed) (flat_map (λ (row : List Glyph). row) (take count (drop from history.now.rows)))) }
 {
     history.facts();
     for i in 0..count {
@@ -98,7 +98,7 @@ fn show_screen(
 ) -> Result<(), AllocError>
     requires within { count ≤ grid.now.screen.rows }
     ensures cells { IfOk result (λ _. cells.new.items ≡ cells.old.items
-        ++ map (shown reversed) (take (count * grid.now.screen.cols) grid.now.screen.cells)) }
+        ++ map (shown_glyph reversed) (take (count * grid.now.screen.cols) grid.now.screen.cells)) }
 {
     grid.facts();
     for i in 0..count {
@@ -117,7 +117,7 @@ fn shown_cells(
     requires cols { history.now.cols ≡ canvas.now.live.screen.cols }
     requires within { v ≤ length history.now.rows }
     ensures cells { IfOk result (λ cells.
-        cells.items ≡ map (shown canvas.now.live.modes.reverse_screen) (cells_in_view v canvas.now.live history.now)) }
+        cells.items ≡ map (shown_glyph canvas.now.live.modes.reverse_screen) (cells_in_view v canvas.now.live history.now)) }
 {
     canvas.facts();
     history.facts();

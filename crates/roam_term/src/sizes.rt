@@ -56,7 +56,7 @@ impl Fitted {
 }
 
 impl Canvas {
-    #[tactic(auto, unfolding(roam_grid::specs::Frames::resized))]
+    #[tactic(auto, unfolding(roam_grid::specs::Frames::after_resizing))]
     fn adopt(&mut self, shown: roam_grid::Fitted, other: roam_grid::Fitted)
         requires some { 0 < shown.rows }
         requires same { other ≡ shown }

@@ -1,12 +1,12 @@
 //! A pane's terminal.
 ghost use Rattle.std.specs.Prelude.{◌≡◌, ◌⊎◌, ◌+◌, ◌*◌, ◌≤◌, ◌<◌, ◌↔◌, ◌++◌, ℕ, List, [], ◌∷◌, length, min, take, drop, IfOk, IfErr, OnOk, OnErr, IsOk, IsErrOf, IsOkUnless};
 ghost use Rattle.roam_text.specs.Log.{Item};
-ghost use Rattle.roam_text.specs.Dispatched.{function_of, dispatched};
+ghost use Rattle.roam_text.specs.Dispatched.{function_of, functions_by};
 ghost use Rattle.roam_controls.specs.Commands.{command_of, parameters_of};
 ghost use Rattle.roam_grid.specs.Marks.{all_off, all_on};
-ghost use Rattle.roam_term.specs.Marks.{marked, marked_through};
+ghost use Rattle.roam_term.specs.Marks.{marked_by, marked_through};
 ghost use Rattle.roam_term.specs.Picture.{picture, picture_of};
-ghost use Rattle.roam_term.specs.Terminal.{changed, kept, answer, lived, kept_by, answered};
+ghost use Rattle.roam_term.specs.Terminal.{changed_by, history_after, answer, live_after, kept_by, answers_after};
 ghost use Rattle.roam_term.specs.Stands.{Shows, Fed, HasSize, IsTermSize, IsAccepted};
 ghost use Rattle.roam_term.specs.Limits.{most_output, longest_piece};
 
@@ -101,11 +101,11 @@ impl Term {
     fn perform(&mut self, dispatch: Dispatch)
         requires room { length self.old.waiting + MOST_ANSWER ≤ MOST_OUTPUT }
         ensures live { self.new.live
-            ≡ changed (function_of dispatch self.old.reader.parameters self.old.reader.intermediates) self.old.live }
+            ≡ changed_by (function_of dispatch self.old.reader.parameters self.old.reader.intermediates) self.old.live }
         ensures marks { self.new.marks
-            ≡ marked (function_of dispatch self.old.reader.parameters self.old.reader.intermediates) self.old.live self.old.marks }
+            ≡ marked_by (function_of dispatch self.old.reader.parameters self.old.reader.intermediates) self.old.live self.old.marks }
         ensures history { self.new.history
-            ≡ kept (function_of dispatch self.old.reader.parameters self.old.reader.intermediates) self.old.live self.old.history }
+            ≡ history_after (function_of dispatch self.old.reader.parameters self.old.reader.intermediates) self.old.live self.old.history }
         ensures waiting { self.new.waiting ≡ self.old.waiting
             ++ answer (function_of dispatch self.old.reader.parameters self.old.reader.intermediates) self.old.live }
         ensures short { length self.new.waiting ≤ length self.old.waiting + MOST_ANSWER }
@@ -121,13 +121,14 @@ impl Term {
     #[inline]
     fn take_in(&mut self, step: Dispatched)
         requires room { length self.old.waiting + MOST_ANSWER ≤ MOST_OUTPUT }
-        ensures live { self.new.live ≡ lived self.old.live (dispatched step self.old.reader.parameters self.old.reader.intermediates) }
+        ensures live { self.new.live
+            ≡ live_after self.old.live (functions_by step self.old.reader.parameters self.old.reader.intermediates) }
         ensures marks { self.new.marks
-            ≡ marked_through self.old.live (dispatched step self.old.reader.parameters self.old.reader.intermediates) self.old.marks }
+            ≡ marked_through self.old.live (functions_by step self.old.reader.parameters self.old.reader.intermediates) self.old.marks }
         ensures history { self.new.history
-            ≡ kept_by self.old.live (dispatched step self.old.reader.parameters self.old.reader.intermediates) self.old.history }
+            ≡ kept_by self.old.live (functions_by step self.old.reader.parameters self.old.reader.intermediates) self.old.history }
         ensures waiting { self.new.waiting ≡ self.old.waiting
-            ++ answered self.old.live (dispatched step self.old.reader.parameters self.old.reader.intermediates) }
+            ++ answers_after self.old.live (functions_by step self.old.reader.parameters self.old.reader.intermediates) }
         ensures short { length self.new.waiting ≤ length self.old.waiting + MOST_ANSWER }
         ensures reader { self.new.reader ≡ self.old.reader }
         ensures screen { HasSize self.new self.old.live.screen.rows self.old.live.screen.cols }

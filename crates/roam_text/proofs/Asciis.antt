@@ -1,9 +1,9 @@
 -- ASCII between sequences and within them.
 use Rattle.std.proofs.Common.{◌≡◌, ◌<◌, ℕ, List, [], ◌∷◌, ◌++◌, ◌+◌, ◌-◌, length, length-drop, take, take_all, drop, map, refl, sym, ap, ◌∙◌, append_assoc, arith}
 use Rattle.std.proofs.lemmas.List.{map-append, take-append-drop, take-take, drop-take}
-use Rattle.roam_text.specs.Log.{Item, Byte, Sign, character, settled, unfinished}
+use Rattle.roam_text.specs.Log.{Item, Byte, Sign, character, settled_part, unfinished_part}
 use Rattle.roam_text.specs.Functions.{functions_of, AreAscii}
-use Rattle.roam_text.specs.Residual.{given}
+use Rattle.roam_text.specs.Residual.{outcome}
 use Rattle.roam_text.specs.declared.parsers.Parser.{Parser}
 use Rattle.roam_text.specs.Stands.{View, Stands}
 use Rattle.roam_text.proofs.Bytes.{settled-append, unfinished-append, one-ascii, unfinished-end, settled-end, unfinished-empty}
@@ -18,39 +18,39 @@ ascii-more [] b below last = (last, tt)
 ascii-more (x ∷ xs) b below last = (below.0, ascii-more xs b below.1 last)
 
 -- each is a character of its own
-ascii-settled : (bs : List ℕ) → AreAscii bs → settled bs ≡ bs
+ascii-settled : (bs : List ℕ) → AreAscii bs → settled_part bs ≡ bs
 ascii-settled [] below = settled-end [] unfinished-empty
 ascii-settled (b ∷ bs) below =
     settled-append (b ∷ []) bs
-    ∙ ap (λ l. l ++ settled (unfinished (b ∷ []) ++ bs)) (sym (one-ascii b below.0).chars)
-    ∙ ap (λ l. b ∷ settled (l ++ bs)) (sym (one-ascii b below.0).pending)
+    ∙ ap (λ l. l ++ settled_part (unfinished_part (b ∷ []) ++ bs)) (sym (one-ascii b below.0).chars)
+    ∙ ap (λ l. b ∷ settled_part (l ++ bs)) (sym (one-ascii b below.0).pending)
     ∙ ap (λ l. b ∷ l) (ascii-settled bs below.1)
 
-ascii-unfinished : (bs : List ℕ) → AreAscii bs → unfinished bs ≡ []
+ascii-unfinished : (bs : List ℕ) → AreAscii bs → unfinished_part bs ≡ []
 ascii-unfinished [] below = unfinished-end [] unfinished-empty
 ascii-unfinished (b ∷ bs) below =
     unfinished-append (b ∷ []) bs
-    ∙ ap (λ l. unfinished (l ++ bs)) (sym (one-ascii b below.0).pending)
+    ∙ ap (λ l. unfinished_part (l ++ bs)) (sym (one-ascii b below.0).pending)
     ∙ ascii-unfinished bs below.1
 
 -- one more character of those that were read
 pub characters-more : (old now new : Parser) (xs : List ℕ) (b : ℕ)
-    → ((rest : List Sign) → given old (map character xs ++ rest) ≡ given now rest)
-    → ((rest : List Sign) → given now (character b ∷ rest) ≡ given new rest)
-    → (rest : List Sign) → given old (map character (xs ++ b ∷ []) ++ rest) ≡ given new rest
+    → ((rest : List Sign) → outcome old (map character xs ++ rest) ≡ outcome now rest)
+    → ((rest : List Sign) → outcome now (character b ∷ rest) ≡ outcome new rest)
+    → (rest : List Sign) → outcome old (map character (xs ++ b ∷ []) ++ rest) ≡ outcome new rest
 characters-more old now new xs b before next rest =
-    ap (λ l. given old (l ++ rest)) (map-append character xs (b ∷ []))
-    ∙ ap (given old) (append_assoc (map character xs) (character b ∷ []) rest)
+    ap (λ l. outcome old (l ++ rest)) (map-append character xs (b ∷ []))
+    ∙ ap (outcome old) (append_assoc (map character xs) (character b ∷ []) rest)
     ∙ before (character b ∷ rest) ∙ next rest
 
 -- more characters of those that were read
 pub characters-joined : (old now new : Parser) (xs ys : List ℕ)
-    → ((rest : List Sign) → given old (map character xs ++ rest) ≡ given now rest)
-    → ((rest : List Sign) → given now (map character ys ++ rest) ≡ given new rest)
-    → (rest : List Sign) → given old (map character (xs ++ ys) ++ rest) ≡ given new rest
+    → ((rest : List Sign) → outcome old (map character xs ++ rest) ≡ outcome now rest)
+    → ((rest : List Sign) → outcome now (map character ys ++ rest) ≡ outcome new rest)
+    → (rest : List Sign) → outcome old (map character (xs ++ ys) ++ rest) ≡ outcome new rest
 characters-joined old now new xs ys before next rest =
-    ap (λ l. given old (l ++ rest)) (map-append character xs ys)
-    ∙ ap (given old) (append_assoc (map character xs) (map character ys) rest)
+    ap (λ l. outcome old (l ++ rest)) (map-append character xs ys)
+    ∙ ap (outcome old) (append_assoc (map character xs) (map character ys) rest)
     ∙ before (map character ys ++ rest) ∙ next rest
 
 pub ascii-joined : (xs ys : List ℕ) → AreAscii xs → AreAscii ys → AreAscii (xs ++ ys)
@@ -71,14 +71,14 @@ front-joined xs a b =
 
 -- bytes of ASCII that complete no function
 module _ (old new : View) (bs : List ℕ) (below : AreAscii bs) (whole : old.pending ≡ []) (same : new.pending ≡ [])
-    (read : (rest : List Sign) → given old.parser (map character bs ++ rest) ≡ given new.parser rest) where
-  kept : new.pending ≡ unfinished (old.pending ++ bs)
-  kept = same ∙ sym (ascii-unfinished bs below) ∙ sym (ap (λ l. unfinished (l ++ bs)) whole)
+    (read : (rest : List Sign) → outcome old.parser (map character bs ++ rest) ≡ outcome new.parser rest) where
+  kept : new.pending ≡ unfinished_part (old.pending ++ bs)
+  kept = same ∙ sym (ascii-unfinished bs below) ∙ sym (ap (λ l. unfinished_part (l ++ bs)) whole)
 
-  gives : (rest : List Sign) → given old.parser (map character (settled (old.pending ++ bs)) ++ rest) ≡ given new.parser rest
+  gives : (rest : List Sign) → outcome old.parser (map character (settled_part (old.pending ++ bs)) ++ rest) ≡ outcome new.parser rest
   gives rest =
-      ap (λ l. given old.parser (map character (settled (l ++ bs)) ++ rest)) whole
-      ∙ ap (λ l. given old.parser (map character l ++ rest)) (ascii-settled bs below)
+      ap (λ l. outcome old.parser (map character (settled_part (l ++ bs)) ++ rest)) whole
+      ∙ ap (λ l. outcome old.parser (map character l ++ rest)) (ascii-settled bs below)
       ∙ read rest
 
   pub run-stands : (log : List Item) → Stands old log → Stands new (log ++ map Byte bs)

@@ -6,7 +6,7 @@ use Rattle.bstr.specs.Utf8.{Decoded, decoded, bad, good, second, code_of_2}
 use Rattle.roam_text.specs.declared.functions.Function.{Function}
 use Rattle.roam_text.specs.declared.functions.Function.TheVariants.{Esc}
 use Rattle.roam_text.specs.Functions.{functions, functions_of}
-use Rattle.roam_text.specs.Log.{Item, Byte, Sign, character, bytes_of, signs, settled, unfinished, is_unfinished}
+use Rattle.roam_text.specs.Log.{Item, Byte, Sign, character, bytes_of, signs, settled_part, unfinished_part, is_unfinished}
 use Rattle.roam_text.specs.Resting.{AtRest}
 use Rattle.roam_text.proofs.Bytes.{is_unfinished-true, unfinished-short, unfinished-unfinished, settled-append, unfinished-append, one-ascii, push-cut}
 use Rattle.roam_text.proofs.Fronts.{functions-nil, functions-step}
@@ -42,8 +42,8 @@ replaced_if false = []
 
 record Cuts (t : List ℕ) : Type 0 where
   is_cut : Bool
-  chars : settled (t ++ 0x1B ∷ []) ≡ replaced_if is_cut ++ 0x1B ∷ []
-  pending : unfinished (t ++ 0x1B ∷ []) ≡ []
+  chars : settled_part (t ++ 0x1B ∷ []) ≡ replaced_if is_cut ++ 0x1B ∷ []
+  pending : unfinished_part (t ++ 0x1B ∷ []) ≡ []
 
 cuts : (t : List ℕ) → is_unfinished t ≡ true → Cuts t
 cuts [] h = let one = one-ascii 0x1B (omega arith) in record { is_cut = false; chars = sym one.chars; pending = sym one.pending }
@@ -62,18 +62,18 @@ module _ (t : List ℕ) (h : is_unfinished t ≡ true) where
   abbrev cut : Cuts t
   cut = cuts t h
 
-  settled-opened : settled (t ++ 0x1B ∷ 0x63 ∷ []) ≡ replaced_if cut.is_cut ++ 0x1B ∷ 0x63 ∷ []
+  settled-opened : settled_part (t ++ 0x1B ∷ 0x63 ∷ []) ≡ replaced_if cut.is_cut ++ 0x1B ∷ 0x63 ∷ []
   settled-opened =
-      ap settled (sym (append_assoc t (0x1B ∷ []) (0x63 ∷ []))) ∙ settled-append (t ++ 0x1B ∷ []) (0x63 ∷ [])
-      ∙ ap (λ l. l ++ settled (unfinished (t ++ 0x1B ∷ []) ++ 0x63 ∷ [])) cut.chars
-      ∙ ap (λ l. (replaced_if cut.is_cut ++ 0x1B ∷ []) ++ settled (l ++ 0x63 ∷ [])) cut.pending
+      ap settled_part (sym (append_assoc t (0x1B ∷ []) (0x63 ∷ []))) ∙ settled-append (t ++ 0x1B ∷ []) (0x63 ∷ [])
+      ∙ ap (λ l. l ++ settled_part (unfinished_part (t ++ 0x1B ∷ []) ++ 0x63 ∷ [])) cut.chars
+      ∙ ap (λ l. (replaced_if cut.is_cut ++ 0x1B ∷ []) ++ settled_part (l ++ 0x63 ∷ [])) cut.pending
       ∙ ap (λ l. (replaced_if cut.is_cut ++ 0x1B ∷ []) ++ l) (sym (one-ascii 0x63 (omega arith)).chars)
       ∙ append_assoc (replaced_if cut.is_cut) (0x1B ∷ []) (0x63 ∷ [])
 
-  unfinished-opened : unfinished (t ++ 0x1B ∷ 0x63 ∷ []) ≡ []
+  unfinished-opened : unfinished_part (t ++ 0x1B ∷ 0x63 ∷ []) ≡ []
   unfinished-opened =
-      ap unfinished (sym (append_assoc t (0x1B ∷ []) (0x63 ∷ []))) ∙ unfinished-append (t ++ 0x1B ∷ []) (0x63 ∷ [])
-      ∙ ap (λ l. unfinished (l ++ 0x63 ∷ [])) cut.pending ∙ sym (one-ascii 0x63 (omega arith)).pending
+      ap unfinished_part (sym (append_assoc t (0x1B ∷ []) (0x63 ∷ []))) ∙ unfinished-append (t ++ 0x1B ∷ []) (0x63 ∷ [])
+      ∙ ap (λ l. unfinished_part (l ++ 0x63 ∷ [])) cut.pending ∙ sym (one-ascii 0x63 (omega arith)).pending
 
 -- ---- the functions of a log that is followed by ESC c
 
@@ -85,7 +85,7 @@ reset = Esc (record { items = [] }) 0x63
 
 module _ (log : List Item) where
   abbrev end : List ℕ
-  end = unfinished (bytes_of log)
+  end = unfinished_part (bytes_of log)
 
   abbrev is_cut : Bool
   is_cut = (cut end (unfinished-unfinished (bytes_of log))).is_cut

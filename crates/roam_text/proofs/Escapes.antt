@@ -5,7 +5,7 @@ use Rattle.roam_text.specs.declared.kinds.Kind.{Kind}
 use Rattle.roam_text.specs.declared.kinds.Kind.TheVariants.{Cancel, Escape, Upper, Lower, StringOpening, CommandOpening, SequenceIntroducer}
 use Rattle.roam_text.specs.Kinds.{kind_of}
 use Rattle.roam_text.specs.Log.{Sign, Character}
-use Rattle.roam_text.specs.Inside.{Front, front_while, rest_while, acts, resized}
+use Rattle.roam_text.specs.Inside.{Front, front_while, rest_while, acts, size_functions}
 use Rattle.roam_text.specs.ControlStrings.{after_control_string, in_control_string, control_string}
 use Rattle.roam_text.specs.ControlSequences.{Header, in_control_sequence, body_of, header, intermediates, behind, control_sequence, end_control_sequence}
 use Rattle.roam_text.specs.EscapeSequences.{in_escape_sequence, escape_sequence, c1_control, upper_final, end_escape_sequence}
@@ -40,9 +40,9 @@ module _ (code : ℕ) (tail : List Sign) where
 
   string-escape : (bell : Bool) (xs : List Sign) → control_string bell (xs ++ escape ∷ tail) ≡ then_escape (control_string bell xs)
   string-escape bell xs =
-      ap (λ l. record { gives = flat_map resized l; left = after_control_string (rest_while (in_control_string bell) (xs ++ escape ∷ tail)) })
+      ap (λ l. record { gives = flat_map size_functions l; left = after_control_string (rest_while (in_control_string bell) (xs ++ escape ∷ tail)) })
       (front_while-end escape tail (in_control_string bell) refl xs)
-      ∙ ap (λ l. record { gives = flat_map resized (front_while (in_control_string bell) xs); left = l })
+      ∙ ap (λ l. record { gives = flat_map size_functions (front_while (in_control_string bell) xs); left = l })
       (ap after_control_string (rest_while-end escape tail (in_control_string bell) refl xs) ∙ after-escape (rest_while (in_control_string bell) xs))
 
   end_control-escape : (h : Option Header) (xs : List Sign) → end_control_sequence h (xs ++ escape ∷ tail) ≡ then_escape (end_control_sequence h xs)

@@ -8,7 +8,7 @@ use Rattle.roam_text.specs.declared.functions.Function.{Function}
 use Rattle.roam_text.specs.declared.functions.Function.TheVariants.{Print}
 use Rattle.roam_text.specs.Kinds.{kind_of}
 use Rattle.roam_text.specs.Log.{Sign, Character}
-use Rattle.roam_text.specs.Inside.{Front, front_while, rest_while, acts, resized}
+use Rattle.roam_text.specs.Inside.{Front, front_while, rest_while, acts, size_functions}
 use Rattle.roam_text.specs.ControlStrings.{after_control_string, in_control_string, control_string}
 use Rattle.roam_text.specs.ControlSequences.{Header, in_control_sequence, body_of, header, intermediates, behind, control_sequence, end_control_sequence}
 use Rattle.roam_text.specs.EscapeSequences.{in_escape_sequence, escape_sequence, c1_control, upper_final, end_escape_sequence}
@@ -40,7 +40,7 @@ module _ (code : ℕ) where
 
   record Strings (bell : Bool) (xs : List Sign) : Type 0 where
     is_left : Bool
-    gives : flat_map resized (front_while (in_control_string bell) (xs ++ graphic ∷ [])) ≡ flat_map resized (front_while (in_control_string bell) xs)
+    gives : flat_map size_functions (front_while (in_control_string bell) (xs ++ graphic ∷ [])) ≡ flat_map size_functions (front_while (in_control_string bell) xs)
     left : after_control_string (rest_while (in_control_string bell) (xs ++ graphic ∷ []))
         ≡ after_control_string (rest_while (in_control_string bell) xs) ++ left_if is_left
 
@@ -50,11 +50,11 @@ module _ (code : ℕ) where
       let p = in_control_string bell in
       let more = strings bell xs in
       let P : Bool → Type 0 = λ t. (b : Bool)
-      × (flat_map resized (cond t (s ∷ front_while p (xs ++ graphic ∷ [])) []) ≡ flat_map resized (cond t (s ∷ front_while p xs) []))
+      × (flat_map size_functions (cond t (s ∷ front_while p (xs ++ graphic ∷ [])) []) ≡ flat_map size_functions (cond t (s ∷ front_while p xs) []))
       × (after_control_string (cond t (rest_while p (xs ++ graphic ∷ [])) (s ∷ (xs ++ graphic ∷ [])))
       ≡ after_control_string (cond t (rest_while p xs) (s ∷ xs)) ++ left_if b) in
       let both : P (p s) = elim (p s) as P
-      [ true ↦ (more.is_left, ap (λ l. resized s ++ l) more.gives, more.left) | false ↦ (true, refl, after-more s xs) ] in
+      [ true ↦ (more.is_left, ap (λ l. size_functions s ++ l) more.gives, more.left) | false ↦ (true, refl, after-more s xs) ] in
       record { is_left = both.0; gives = both.1; left = both.2 }
 
   string-goes : (bell : Bool) (xs : List Sign) → Goes (control_string bell xs) (control_string bell (xs ++ graphic ∷ []))
@@ -64,7 +64,7 @@ module _ (code : ℕ) where
         is_left = s.is_left;
         is =
             ap (λ l. record { gives = l; left = after_control_string (rest_while (in_control_string bell) (xs ++ graphic ∷ [])) }) s.gives
-            ∙ ap (λ l. record { gives = flat_map resized (front_while (in_control_string bell) xs); left = l }) s.left;
+            ∙ ap (λ l. record { gives = flat_map size_functions (front_while (in_control_string bell) xs); left = l }) s.left;
       }
 
   end_control-goes : (h : Option Header) (xs : List Sign)

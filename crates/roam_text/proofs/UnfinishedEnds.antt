@@ -6,7 +6,7 @@ use Rattle.std.proofs.lemmas.Bool.Decides.{nat_tests}
 use Rattle.std.proofs.lemmas.List.{get_or-append-add, drop-append-le}
 use Rattle.bstr.specs.Utf8.{Decoded, decoded, decoded_by, bad, good, lead_len, second, continues, code_of_2, code_of_3, code_of_4}
 use Rattle.bstr.proofs.lemmas.PieceLemmas.{by-shape, value-6, value-9, value-12, tail-continues, piece-bounds}
-use Rattle.roam_text.specs.Log.{is_unfinished, unfinished}
+use Rattle.roam_text.specs.Log.{is_unfinished, unfinished_part}
 use Rattle.roam_text.specs.ProperFronts.{IsProperFront}
 use Rattle.roam_text.proofs.Bytes.{is_unfinished-true, decoded-extend, finished-some, true≢false, some≢none, lead-none, lead-most, shorter, unfinished-empty, unfinished-end, unfinished-more, unfinished-unfinished}
 
@@ -140,7 +140,7 @@ unfinished-front (b ∷ c ∷ d ∷ e ∷ bs) h =
 
 -- ---- it is a tail
 
-tail-within : (n : ℕ) (bs : List ℕ) → length bs ≤ n → (front : List ℕ) × (bs ≡ front ++ unfinished bs)
+tail-within : (n : ℕ) (bs : List ℕ) → length bs ≤ n → (front : List ℕ) × (bs ≡ front ++ unfinished_part bs)
 tail-within zero [] le = ([], sym (unfinished-end [] unfinished-empty))
 tail-within zero (x ∷ xs) le = absurd (omega arith)
 tail-within (suc n) bs le = ⊎_elim
@@ -152,15 +152,15 @@ tail-within (suc n) bs le = ⊎_elim
       take s bs ++ rest.0,
       sym (take-append-drop s bs)
           ∙ ap (λ l. take s bs ++ l) (rest.1 ∙ ap (λ l. rest.0 ++ l) (sym (unfinished-more bs no)))
-          ∙ sym (append_assoc (take s bs) rest.0 (unfinished bs)),
+          ∙ sym (append_assoc (take s bs) rest.0 (unfinished_part bs)),
     ))
     (cases_Bool (is_unfinished bs))
 
-pub unfinished-tail : (bs : List ℕ) → (front : List ℕ) × (bs ≡ front ++ unfinished bs)
+pub unfinished-tail : (bs : List ℕ) → (front : List ℕ) × (bs ≡ front ++ unfinished_part bs)
 unfinished-tail bs = tail-within (length bs) bs (omega arith)
 
-pub unfinished-begins : (bs : List ℕ) → IsProperFront (unfinished bs)
-unfinished-begins bs = unfinished-front (unfinished bs) (unfinished-unfinished bs)
+pub unfinished-begins : (bs : List ℕ) → IsProperFront (unfinished_part bs)
+unfinished-begins bs = unfinished-front (unfinished_part bs) (unfinished-unfinished bs)
 
 -- ---- and no longer tail is one
 
@@ -201,7 +201,7 @@ inside-none (x ∷ xs) (t ∷ ts) finished inside starts =
     let short = (is_unfinished-true (t ∷ ts) starts).short in
     absurd (omega arith)
 
-longest-within : (n : ℕ) (bs front tail : List ℕ) → length bs ≤ n → bs ≡ front ++ tail → is_unfinished tail ≡ true → length (unfinished bs) < length tail → ⊥
+longest-within : (n : ℕ) (bs front tail : List ℕ) → length bs ≤ n → bs ≡ front ++ tail → is_unfinished tail ≡ true → length (unfinished_part bs) < length tail → ⊥
 longest-within zero bs front tail le is cut_short longer = absurd (omega (arith, length-append front tail, ap length is))
 longest-within (suc n) bs front tail le is cut_short longer = ⊎_elim
     (λ whole. absurd (omega (arith, length-append front tail, ap length is, ap length (unfinished-end bs whole))))
@@ -216,6 +216,6 @@ longest-within (suc n) bs front tail le is cut_short longer = ⊎_elim
     (cases_lt (length front) (decoded bs).size))
     (cases_Bool (is_unfinished bs))
 
-pub unfinished-longest : (bs front tail : List ℕ) → bs ≡ front ++ tail → IsProperFront tail → length (unfinished bs) < length tail → ⊥
+pub unfinished-longest : (bs front tail : List ℕ) → bs ≡ front ++ tail → IsProperFront tail → length (unfinished_part bs) < length tail → ⊥
 unfinished-longest bs front tail is begins longer =
     longest-within (length bs) bs front tail (omega arith) is (front-unfinished tail begins) longer

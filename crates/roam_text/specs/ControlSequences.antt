@@ -37,11 +37,11 @@ with_digit d [] = (d ∷ []) ∷ []
 with_digit d (ds ∷ more) = (d ∷ ds) ∷ more
 
 -- the digits of each parameter sub-string, which 3B separates (ECMA-48 5.4.2)
-abbrev pub split : List Kind → List (List ℕ)
-split [] = [] ∷ []
-split (Separator ∷ rest) = [] ∷ split rest
-split (Digit b ∷ rest) = with_digit (b - 48) (split rest)
-split (k ∷ rest) = split rest
+abbrev pub digits_of_parameters : List Kind → List (List ℕ)
+digits_of_parameters [] = [] ∷ []
+digits_of_parameters (Separator ∷ rest) = [] ∷ digits_of_parameters rest
+digits_of_parameters (Digit b ∷ rest) = with_digit (b - 48) (digits_of_parameters rest)
+digits_of_parameters (k ∷ rest) = digits_of_parameters rest
 
 -- the number that n and then these digits spell (ECMA-48 5.4.2)
 abbrev pub number_from : ℕ → List ℕ → ℕ
@@ -49,8 +49,8 @@ number_from n [] = n
 number_from n (d ∷ ds) = number_from (10 * n + d) ds
 
 -- a parameter's value: an empty one is 0, and it stops at 9,999 (this project's profile)
-abbrev pub capped : List ℕ → ℕ
-capped ds = min 9999 (number_from 0 ds)
+abbrev pub capped_value : List ℕ → ℕ
+capped_value ds = min 9999 (number_from 0 ds)
 
 -- a byte of a parameter string that is a digit or a separator (ECMA-48 5.4.2)
 abbrev pub is_numeric : Kind → Bool
@@ -100,14 +100,15 @@ unfoldable pub first_sixteen : List ℕ → List ℕ
 first_sixteen params = take 16 params
 
 -- what is said after a private marker, or without one
-abbrev pub unmarked : Option ℕ → List Kind → Option Header
-unmarked mark body =
-    with_inter mark (first_sixteen (map capped (split (kinds_while is_numeric body)))) (intermediates (kinds_after is_numeric body))
+abbrev pub header_after : Option ℕ → List Kind → Option Header
+header_after mark body =
+    with_inter mark (first_sixteen (map capped_value (digits_of_parameters (kinds_while is_numeric body))))
+        (intermediates (kinds_after is_numeric body))
 
 -- a private marker comes first of all (ECMA-48 5.4.1); none where the sequence is recognised without effect
 abbrev pub header : List Kind → Option Header
-header (PrivateMarker b ∷ body) = unmarked (Some b) body
-header body = unmarked None body
+header (PrivateMarker b ∷ body) = header_after (Some b) body
+header body = header_after None body
 
 -- the function of a control sequence with this final byte (ECMA-48 5.4)
 abbrev pub control_sequence_function : Option Header → ℕ → List Function

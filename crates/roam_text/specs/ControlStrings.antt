@@ -3,7 +3,7 @@ use Rattle.std.specs.Prelude.{Bool, true, false, List, [], ◌∷◌}
 use Rattle.std.specs.List.{flat_map}
 use Rattle.roam_text.specs.declared.kinds.Kind.TheVariants.{Bell, Cancel, Escape, StringTerminator}
 use Rattle.roam_text.specs.Log.{Sign, Character, Resize}
-use Rattle.roam_text.specs.Inside.{Front, front_while, rest_while, resized}
+use Rattle.roam_text.specs.Inside.{Front, front_while, rest_while, size_functions}
 
 -- inside a control string, which ends at ST, CAN, SUB or ESC, and at BEL where bell is true (ECMA-48 5.6; the VT220's and xterm's ends)
 abbrev pub in_control_string : Bool → Sign → Bool
@@ -24,6 +24,6 @@ after_control_string (s ∷ rest) = rest
 abbrev pub control_string : Bool → List Sign → Front
 control_string bell rest =
     record {
-      gives = flat_map resized (front_while (in_control_string bell) rest);
+      gives = flat_map size_functions (front_while (in_control_string bell) rest);
       left = after_control_string (rest_while (in_control_string bell) rest);
     }

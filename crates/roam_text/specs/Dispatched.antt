@@ -22,16 +22,16 @@ functions_with None params inter = []
 functions_with (Some d) params inter = function_of d params inter ∷ []
 
 -- the function that a parser answered, with what it keeps of the sequence
-abbrev pub answered : Option Dispatch → Parser → List Function
-answered d p = functions_with d p.sequence.params p.sequence.inter
+abbrev pub answer_functions : Option Dispatch → Parser → List Function
+answer_functions d p = functions_with d p.sequence.params p.sequence.inter
 
 -- U+FFFD is printed, or falls into a control string
-abbrev pub replaced : Bool → List Function
-replaced true = FunctionPrint 0xFFFD ∷ []
-replaced false = []
+abbrev pub replacement : Bool → List Function
+replacement true = FunctionPrint 0xFFFD ∷ []
+replacement false = []
 
 -- the functions of what a byte dispatched
-abbrev pub dispatched : Dispatched → List ℕ → List ℕ → List Function
-dispatched Nothing params inter = []
-dispatched (One d) params inter = function_of d params inter ∷ []
-dispatched (AfterReplacement d) params inter = FunctionPrint 0xFFFD ∷ function_of d params inter ∷ []
+abbrev pub functions_by : Dispatched → List ℕ → List ℕ → List Function
+functions_by Nothing params inter = []
+functions_by (One d) params inter = function_of d params inter ∷ []
+functions_by (AfterReplacement d) params inter = FunctionPrint 0xFFFD ∷ function_of d params inter ∷ []

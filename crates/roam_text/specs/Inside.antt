@@ -21,9 +21,9 @@ rest_while p [] = []
 rest_while p (s ∷ rest) = cond (p s) (rest_while p rest) (s ∷ rest)
 
 -- a size acts wherever it falls (this project's profile)
-abbrev pub resized : Sign → List Function
-resized (Resize r c) = Size r c ∷ []
-resized (Character k c) = []
+abbrev pub size_functions : Sign → List Function
+size_functions (Resize r c) = Size r c ∷ []
+size_functions (Character k c) = []
 
 -- inside a sequence sizes and C0 controls act at once (VT220 Programmer Reference, control characters in sequences)
 abbrev pub acts : Sign → List Function

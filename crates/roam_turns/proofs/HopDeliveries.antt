@@ -10,7 +10,7 @@ use Rattle.roam_sync.specs.declared.receivers.Step.TheVariants as step
 use Rattle.roam_sync.specs.Receivers.{Receiving, pairs, state_at, from_floor, step_for}
 use Rattle.roam_sync.specs.Lines.{Delivers}
 use Rattle.roam_sync.proofs.Ends.{meets_old}
-use Rattle.roam_wire.specs.Cutting.{fragments_of, joined}
+use Rattle.roam_wire.specs.Cutting.{fragments_of, joined_fragments}
 use Rattle.roam_wire.specs.Datagrams.{DatagramValue, IsDatagram, datagram_text}
 use Rattle.roam_wire.specs.Gatherers.{FragmentValue, Gathering, Answer, Part, Old, Whole, gather, fragment_of}
 use Rattle.roam_wire.specs.Fragments.{all_there}
@@ -146,7 +146,7 @@ module _ (session id n : ℕ) (c : Client) (r : Record) (shot : Screenshot) (rea
       (refl, (λ e. and_false (nat_eq h.id (length r.instructions + 1)) (all_there h.fragments) p))
   gathered_leaves old d at (Some (Old, h)) g p s = (refl, (λ e. ap is_whole s ∙ e))
   gathered_leaves old d at (Some (Whole text, h)) g p s =
-      (refl, g.2 ∙ (ap (λ (k : ℕ). joined (cuts k)) at ∙ (ap joined cuts_here ∙ joined-fragments (down_text (told r n shot)))))
+      (refl, g.2 ∙ (ap (λ (k : ℕ). joined_fragments (cuts k)) at ∙ (ap joined_fragments cuts_here ∙ joined-fragments (down_text (told r n shot)))))
 
   arriving_leaves : (x : Client) (d : DatagramValue) → Keeps x → IsMine d
       → Leaves x.gathering (after x.gathering (gather x.gathering (fragment_of d))) (arriving session id x d)

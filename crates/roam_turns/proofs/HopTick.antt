@@ -16,7 +16,7 @@ use Rattle.roam_sync.specs.Senders.{Sending, newest, offered, is_due}
 use Rattle.roam_sync.proofs.Sending.{newest_of_more}
 use Rattle.roam_wire.specs.Cutting.{fragments_of}
 use Rattle.roam_wire.specs.Datagrams.{DatagramValue, IsDatagram, datagram_text}
-use Rattle.roam_wire.specs.Headers.{header_at, checked, datagram_if}
+use Rattle.roam_wire.specs.Headers.{header_at, checked_header, datagram_if}
 use Rattle.roam_wire.specs.Instructions.{DownValue, IsDown, down_text}
 use Rattle.roam_wire.specs.Versions.{most_bytes}
 use Rattle.roam_wire.specs.declared.datagrams.Kind.{Kind}
@@ -146,7 +146,7 @@ smallest_is id lt =
 tells_client : (d : DatagramValue) → d.client < 2 ^ 64 → (header_at (datagram_text d)).client ≡ d.client
 tells_client d lt =
     let text = datagram_text (smallest d.client) in
-    client_of text (0 ∷ []) (checked (header_at text) 1) (smallest d.client) (again (smallest d.client) (smallest_is d.client lt))
+    client_of text (0 ∷ []) (checked_header (header_at text) 1) (smallest d.client) (again (smallest d.client) (smallest_is d.client lt))
 
 -- of what a tick sends, a text that tells a start's id is that of a datagram to the start
 pub of_start : (s : Server) (m id : ℕ) (bytes : List ℕ) → ((j : ℕ) → IsIn j s.arrival → j < 2 ^ 64)

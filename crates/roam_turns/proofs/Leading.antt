@@ -5,7 +5,7 @@ use Rattle.roam_screens.specs.Screenshot.{Screenshot, IsScreenshot, blank_screen
 use Rattle.roam_acts.specs.declared.acts.Act.{Act}
 use Rattle.roam_text.specs.Log.{Item, Byte}
 use Rattle.roam_paint.specs.Ground.{Displays, PaintedLeadsOver, OpenedBeginsBlank}
-use Rattle.roam_paint.specs.Painting.{painted, opened}
+use Rattle.roam_paint.specs.Painting.{text_between, blanking_text}
 use Rattle.roam_hub.specs.declared.addresses.Addr.{Addr}
 use Rattle.roam_turns.specs.declared.outer.Noted.{Noted}
 use Rattle.roam_turns.specs.Calls.{Letter, PortCall, ClientCall}
@@ -68,11 +68,11 @@ module _ (painted_leads : PaintedLeadsOver) (opened_begins : OpenedBeginsBlank) 
       let blank = blank_screenshot s.rows s.cols in
       let begun = open_text.displays s.rows s.cols fits.rows_fit fits.cols_fit in
       let led =
-      painted_leads rows cols lines (log ++ map Byte opened) blank s is begun
+      painted_leads rows cols lines (log ++ map Byte blanking_text) blank s is begun
       (omega (arith, fits.rows_fit, open_text.size.rows)) (omega (arith, fits.cols_fit, open_text.size.cols)) in
       subst (λ l. Displays rows cols lines l s)
-      (append_assoc log (map Byte opened) (map Byte (painted blank s))
-      ∙ ap (λ l. log ++ l) (sym (map-append Byte opened (painted blank s))))
+      (append_assoc log (map Byte blanking_text) (map Byte (text_between blank s))
+      ∙ ap (λ l. log ++ l) (sym (map-append Byte blanking_text (text_between blank s))))
       led.displays
   text_leads (Some noted) s is rows cols lines log ready fits =
       (painted_leads rows cols lines log noted.screen s is ready fits.rows_fit fits.cols_fit).displays

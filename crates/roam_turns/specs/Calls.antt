@@ -32,9 +32,9 @@ pub data PortCall : Type 0 where
   Showed : List ℕ → Bool → PortCall
 
 -- what a receive into room for so many bytes brought
-abbrev pub received : ℕ → Option (Addr × ℕ) → List ℕ → PortCall
-received room None buf = NothingReceived room
-received room (Some r) buf = Received room r.0 (take r.1 buf)
+abbrev pub received_call : ℕ → Option (Addr × ℕ) → List ℕ → PortCall
+received_call room None buf = NothingReceived room
+received_call room (Some r) buf = Received room r.0 (take r.1 buf)
 
 -- what a pane's program wrote into room for so many bytes
 abbrev pub pane_gave : ℕ → ℕ → Option ℕ → List ℕ → PortCall
@@ -66,9 +66,9 @@ pub data ClientCall : Type 0 where
   ClientTick : ℕ → Result (List (List ℕ)) Fault → ClientCall
 
 -- what waits for a pane's program, as it was copied
-abbrev pub copied : Option ℕ → List ℕ → Option (List ℕ)
-copied None out = None
-copied (Some n) out = Some (take n out)
+abbrev pub copied_bytes : Option ℕ → List ℕ → Option (List ℕ)
+copied_bytes None out = None
+copied_bytes (Some n) out = Some (take n out)
 
 abbrev pub letters_in : List (Addr × Vec ℕ Global) → List Letter
 letters_in all = map (λ p. (p.0, p.1.items)) all

@@ -5,7 +5,7 @@ use Rattle.roam_cells.specs.declared.faults.Fault.TheVariants.{OutOfMemory}
 use Rattle.roam_screens.specs.Screenshot.{Screenshot}
 use Rattle.roam_text.specs.Log.{Item, Byte}
 use Rattle.roam_paint.specs.Ground.{Displays}
-use Rattle.roam_paint.specs.Painting.{painted}
+use Rattle.roam_paint.specs.Painting.{text_between}
 use Rattle.roam_sync.specs.Receivers.{pairs, state_at, from_floor}
 use Rattle.roam_wire.specs.Headers.{header_at}
 use Rattle.roam_layout.specs.Layouts.{IsSessionSize}
@@ -105,7 +105,7 @@ pub record Arrives (s : Server) (now : ℕ) (c : Client) (after : ClientView) : 
   pub screen : after.receiver.newest.state ≡ seen_face s c
   pub terminal : (rows cols lines : ℕ) (log : List Item)
       → Displays rows cols lines log (shown_screen c) → Fits rows cols lines log (seen_face s c)
-      → Displays rows cols lines (log ++ map Byte (painted (shown_screen c) (seen_face s c))) (seen_face s c)
+      → Displays rows cols lines (log ++ map Byte (text_between (shown_screen c) (seen_face s c))) (seen_face s c)
 
 -- so it is after every hop
 abbrev pub OneHop : Type 0

@@ -3,7 +3,7 @@ use Rattle.std.specs.Prelude.{◌≡◌, ℕ, ◌≤◌, List, ◌++◌, map, Op
 use Rattle.roam_screens.specs.Screenshot.{Screenshot, blank_screenshot}
 use Rattle.roam_text.specs.Log.{Item, Byte}
 use Rattle.roam_term.specs.Terminal.{term}
-use Rattle.roam_paint.specs.Painting.{painted, opened}
+use Rattle.roam_paint.specs.Painting.{text_between, blanking_text}
 use Rattle.roam_paint.specs.Ground.{Displays}
 use Rattle.roam_turns.specs.declared.outer.Noted.{Noted}
 
@@ -14,8 +14,8 @@ IsNoted n (Some noted) = noted.number ≡ n
 
 -- what is written to show a screen: where none is noted the terminal is opened first, and then blank
 abbrev pub text_for : Option Noted → Screenshot → List ℕ
-text_for None screen = opened ++ painted (blank_screenshot screen.rows screen.cols) screen
-text_for (Some noted) screen = painted noted.screen screen
+text_for None screen = blanking_text ++ text_between (blank_screenshot screen.rows screen.cols) screen
+text_for (Some noted) screen = text_between noted.screen screen
 
 -- ---- numbers that rise
 

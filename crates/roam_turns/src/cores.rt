@@ -4,7 +4,7 @@ ghost use Rattle.roam_acts.specs.Acts.{IsInRange};
 ghost use Rattle.roam_screens.specs.Screenshot.{Screenshot};
 ghost use Rattle.roam_screens.specs.Shown.{shown_by};
 ghost use Rattle.roam_session.specs.Queues.{IsWithin};
-ghost use Rattle.roam_turns.specs.Calls.{Tells, ServerCall, ClientCall, copied, letters_of, texts_in};
+ghost use Rattle.roam_turns.specs.Calls.{Tells, ServerCall, ClientCall, copied_bytes, letters_of, texts_in};
 ghost use Rattle.roam_turns.specs.Calls.ServerCall.{ToServer, Life, Room, PaneBytes, Output, Drain, ServerTick};
 ghost use Rattle.roam_turns.specs.Calls.ClientCall.{Typed, ToClient, ClientTick};
 ghost use Rattle.roam_session.specs.Stands.{waiting_at};
@@ -52,8 +52,8 @@ pub trait ServerCore {
     fn output(&mut self, pane: u8, out: &mut [u8]) -> Option<usize>
         ensures within { IfSome result (λ n. n ≤ length out.new) }
         ensures waits { IfSome result (λ n. IsWithin n (waiting self.new pane)) }
-        ensures tells { Tells (made self.old) (made self.new) (Output pane (length out.old) (copied result out.new) ∷ []) }
-        ensures step { step self.old (Output pane (length out.old) (copied result out.new)) self.new };
+        ensures tells { Tells (made self.old) (made self.new) (Output pane (length out.old) (copied_bytes result out.new) ∷ []) }
+        ensures step { step self.old (Output pane (length out.old) (copied_bytes result out.new)) self.new };
 
     /// Takes the first n bytes that wait for a pane's program, at most all of them.
     fn drain(&mut self, pane: u8, n: usize) -> Result<(), Fault>

@@ -1,6 +1,6 @@
 //! Ports over memory, which tell their calls.
 ghost use Rattle.std.specs.Prelude.{◌≡◌, ◌≤◌, ◌∷◌, ◌++◌, [], is_ok, if◌then◌else◌, not, length, min, take, OnErr, IfOk, IfSome, Some, None};
-ghost use Rattle.roam_turns.specs.Calls.{Tells, received, pane_gave};
+ghost use Rattle.roam_turns.specs.Calls.{Tells, received_call, pane_gave};
 ghost use Rattle.roam_turns.specs.Calls.PortCall.{Now, Sent, PaneLives, PaneTook, Showed};
 ghost use Rattle.roam_turns.specs.Giving.{next_call, goes_well, first_where, rest_where, is_first, gives_piece, receive_of, piece_of, Notes, Counts};
 ghost use Rattle.roam_turns.specs.Recording.{call_of, datagrams_of, pieces_of, told_of};
@@ -198,12 +198,12 @@ impl Ports for MemoryPorts {
     }
 
     fn receive(&mut self, buf: &mut [u8]) -> Option<(Addr, usize)>
-        ensures oldest { received (length buf.old) result buf.new
+        ensures oldest { received_call (length buf.old) result buf.new
             ≡ receive_of (length buf.old) (first_where (goes_well self.old) (datagrams_of self.old)) }
         ensures later { datagrams_of self.new ≡ rest_where (goes_well self.old) (datagrams_of self.old) }
         ensures counts { Counts (record self.old { datagrams = self.new.datagrams }) self.new }
         ensures within { IfSome result (λ r. r.1 ≤ length buf.new) }
-        ensures tells { Tells (told_of self.old) (told_of self.new) (received (length buf.old) result buf.new ∷ []) }
+        ensures tells { Tells (told_of self.old) (told_of self.new) (received_call (length buf.old) result buf.new ∷ []) }
     {
         let room = buf.len();
         let goes = !self.is_failing();

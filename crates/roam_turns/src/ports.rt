@@ -1,6 +1,6 @@
 //! What a turn reaches outside its core.
 ghost use Rattle.std.specs.Prelude.{◌≤◌, length, List, [], ◌∷◌, Option, None, IfSome};
-ghost use Rattle.roam_turns.specs.Calls.{PortCall, Tells, received, pane_gave};
+ghost use Rattle.roam_turns.specs.Calls.{PortCall, Tells, received_call, pane_gave};
 ghost use Rattle.roam_turns.specs.Calls.PortCall.{Now, Sent, PaneLives, PaneTook, Showed};
 
 use roam_hub::Addr;
@@ -18,7 +18,7 @@ pub trait Ports {
     /// A datagram that came: from where, and how many bytes of `buf` it fills from the front.
     fn receive(&mut self, buf: &mut [u8]) -> Option<(Addr, usize)>
         ensures within { IfSome result (λ r. r.1 ≤ length buf.new) }
-        ensures tells { Tells (told self.old) (told self.new) (received (length buf.old) result buf.new ∷ []) };
+        ensures tells { Tells (told self.old) (told self.new) (received_call (length buf.old) result buf.new ∷ []) };
 
     /// Sends a datagram, and tells whether it went.
     fn send(&mut self, to: Addr, bytes: &[u8]) -> bool

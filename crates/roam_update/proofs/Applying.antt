@@ -15,9 +15,9 @@ use Rattle.roam_update.specs.Styles.{Numbered}
 use Rattle.roam_update.specs.TableText.{Table, has_front, front_at, numbered_read, table_in}
 use Rattle.roam_update.specs.Tabled.{head_of_text, cells_behind, cells_in}
 use Rattle.roam_update.specs.Put.{cells_by}
-use Rattle.roam_update.specs.Runs.{Run, patched}
+use Rattle.roam_update.specs.Runs.{Run, patched_cells}
 use Rattle.roam_update.specs.Shots.{applied_two, if_screenshot, screen_by, shown_by}
-use Rattle.roam_update.specs.Sizes.{sized}
+use Rattle.roam_update.specs.Sizes.{sized_cells}
 use Rattle.roam_update.specs.Tested.{is_size}
 use Rattle.roam_update.specs.declared.change_text.Head.{Head}
 use Rattle.roam_update.proofs.Plain.{if_some, put_length, put_plain, sized_plain}
@@ -30,7 +30,7 @@ finished h (Some cells) = if_screenshot (shown_by h cells)
 
 over : (base : Screenshot) (h : Head) (o : Option (List Run))
     → option_and_then (λ x. if_screenshot (screen_by base x)) (option_and_then (λ runs. Some (change_of h runs)) o)
-    ≡ finished h (option_and_then (λ runs. Some (patched (sized h.rows h.cols base) runs)) o)
+    ≡ finished h (option_and_then (λ runs. Some (patched_cells (sized_cells h.rows h.cols base) runs)) o)
 over base h None = refl
 over base h (Some runs) = refl
 
@@ -40,10 +40,10 @@ over_runs : (base : Screenshot) (h : Head) (table : Table) (b : Bool) → leb 4 
     ≡ finished h (cells_behind base h table)
 over_runs base h table false e = rw e refl
 over_runs base h table true e =
-    let start = sized h.rows h.cols base in
+    let start = sized_cells h.rows h.cols base in
     let n = big_number 4 table.rest in
     rw e (over base h (runs_read (Numbered table.styles 0) n 0 (h.rows * h.cols) (drop 4 table.rest))
-    ∙ ap (λ (k : ℕ). finished h (option_and_then (λ runs. Some (patched start runs)) (runs_read (Numbered table.styles 0) n 0 k (drop 4 table.rest)))) (sym (length_sized h.rows h.cols base)))
+    ∙ ap (λ (k : ℕ). finished h (option_and_then (λ runs. Some (patched_cells start runs)) (runs_read (Numbered table.styles 0) n 0 k (drop 4 table.rest)))) (sym (length_sized h.rows h.cols base)))
 
 over_table : (base : Screenshot) (h : Head) (o : Option Table)
     → option_and_then (λ x. if_screenshot (screen_by base x))
@@ -108,12 +108,12 @@ module _ (base : Screenshot) (text : List ℕ) (h : Head) (read : head_of_text t
     pub count : length cells ≡ h.rows * h.cols
     count =
         let by = behind (table_in text) cells put in
-        put_length (Numbered by.0.styles 0) (big_number 4 by.0.rest) 0 (sized h.rows h.cols base) (drop 4 by.0.rest) cells by.1 ∙ length_sized h.rows h.cols base
+        put_length (Numbered by.0.styles 0) (big_number 4 by.0.rest) 0 (sized_cells h.rows h.cols base) (drop 4 by.0.rest) cells by.1 ∙ length_sized h.rows h.cols base
 
     pub plain : IsScreenshot base → All IsPlain cells
     plain s =
         let by = behind (table_in text) cells put in
-        put_plain (Numbered by.0.styles 0) (big_number 4 by.0.rest) 0 (sized h.rows h.cols base) (drop 4 by.0.rest) cells (sized_plain h.rows h.cols base s) by.1
+        put_plain (Numbered by.0.styles 0) (big_number 4 by.0.rest) 0 (sized_cells h.rows h.cols base) (drop 4 by.0.rest) cells (sized_plain h.rows h.cols base s) by.1
 
     pub is_screen : IsScreenshot base → IsPlace h.rows h.cols h.cursor_row h.cursor_col → AreWhole h.rows h.cols cells → IsScreenshot (shown_by h cells)
     is_screen s place whole =

@@ -10,7 +10,7 @@ use Rattle.roam_update.specs.CellText.{IsPlain, cell_text, cells_text}
 use Rattle.roam_update.specs.ChangeText.{run_text, runs_text}
 use Rattle.roam_update.specs.Runs.{Run, lead, runs_from}
 use Rattle.roam_update.specs.Shots.{difference_two}
-use Rattle.roam_update.specs.Sizes.{sized}
+use Rattle.roam_update.specs.Sizes.{sized_cells}
 use Rattle.roam_update.proofs.CellAgain.{few_points, length_cell}
 use Rattle.roam_update.proofs.Sizing.{area, length_sized}
 use Rattle.roam_update.proofs.Stretches.{lead_same, lead_more, lead_none, runs_same, runs_inside, runs_begin, runs_none}
@@ -86,7 +86,7 @@ length_table (s ∷ table) = omega (arith, length-append (entry_text s) (table_t
 
 pub most_two : (base s : Screenshot) → IsScreenshot s → length (difference_two base s) ≤ 3300016
 most_two base s h =
-    let start = sized s.rows s.cols base in
+    let start = sized_cells s.rows s.cols base in
     let runs = (change_to base s).runs in
     let table = styles_used [] runs in
     let len : length start ≡ length s.cells = length_sized s.rows s.cols base ∙ sym h.count in

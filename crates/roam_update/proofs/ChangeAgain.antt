@@ -11,7 +11,7 @@ use Rattle.roam_update.specs.CellText.{Front, IsPlain, bit, cells_text, cells_re
 use Rattle.roam_update.specs.ChangeText.{Change, IsChange, AreShort, runs_text, head_of, change_text, runs_read, head_at, has_head, change_of, body_read, change_read}
 use Rattle.roam_update.specs.Runs.{Run, AreApart, runs_between}
 use Rattle.roam_update.specs.Shots.{change_to}
-use Rattle.roam_update.specs.Sizes.{sized}
+use Rattle.roam_update.specs.Sizes.{sized_cells}
 use Rattle.roam_update.specs.Tested.{is_size}
 use Rattle.roam_update.specs.declared.change_text.Head.{Head}
 use Rattle.roam_update.specs.Styles.{Form, Whole}
@@ -114,7 +114,7 @@ change_again x is short =
 -- the change from a base to a screen is one
 pub is_change_to : (base s : Screenshot) → IsScreenshot s → IsChange (change_to base s)
 is_change_to base s h =
-    let start = sized s.rows s.cols base in
+    let start = sized_cells s.rows s.cols base in
     let len : length start ≡ length s.cells = length_sized s.rows s.cols base ∙ sym h.count in
     record {
       size = h.size;

@@ -7,8 +7,8 @@ use Rattle.roam_cells.specs.Glyph.{Glyph}
 use Rattle.roam_screens.specs.Screenshot.{Screenshot}
 use Rattle.roam_update.specs.ChangeText.{runs_read}
 use Rattle.roam_update.specs.Put.{cells_by}
-use Rattle.roam_update.specs.Runs.{Run, patched}
-use Rattle.roam_update.specs.Sizes.{sized}
+use Rattle.roam_update.specs.Runs.{Run, patched_cells}
+use Rattle.roam_update.specs.Sizes.{sized_cells}
 use Rattle.roam_update.specs.Styles.{Numbered}
 use Rattle.roam_update.specs.TableText.{Table, table_in}
 use Rattle.roam_update.specs.Tabled.{cells_behind, cells_in}
@@ -21,11 +21,11 @@ use Rattle.roam_update.proofs.TableSpelled.{few_entries}
 pub too_many : (base : Screenshot) (h : Head) (text : List ℕ) (cells : List Glyph) → AreBytes text → h.rows * h.cols < big_number 3 (drop 9 text)
     → cells_in base h text ≡ Some cells → ⊥
 too_many base h text cells fits many e =
-    let start = sized h.rows h.cols base in
+    let start = sized_cells h.rows h.cols base in
     option_and_then_some (λ (table : Table). cells_behind base h table) (table_in text) cells e (λ table f g.
     let n = big_number 4 table.rest in
     let a = if_some (leb 4 (length table.rest)) (cells_by (Numbered table.styles 0) n base h (drop 4 table.rest)) cells g in
-    option_and_then_some (λ (runs : List Run). Some (patched start runs)) (runs_read (Numbered table.styles 0) n 0 (length start) (drop 4 table.rest)) cells a.1 (λ runs j k.
+    option_and_then_some (λ (runs : List Run). Some (patched_cells start runs)) (runs_read (Numbered table.styles 0) n 0 (length start) (drop 4 table.rest)) cells a.1 (λ runs j k.
     let few = few_entries (big_number 3 (drop 9 text)) (length start) n (drop 12 text) table runs (bytes-drop 12 text fits)
     (big_from-lt 0 3 (drop 9 text) (bytes-drop 9 text fits)) f j in
     let all = length_sized h.rows h.cols base in

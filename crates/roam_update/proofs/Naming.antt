@@ -8,7 +8,7 @@ use Rattle.roam_cells.specs.Same.{same}
 use Rattle.roam_update.specs.Runs.{Run, IsNamed, IsNamedBy, AreApart, lead, runs_from, runs_between}
 use Rattle.roam_screens.specs.Screenshot.{Screenshot, IsScreenshot}
 use Rattle.roam_update.specs.Shots.{change_to}
-use Rattle.roam_update.specs.Sizes.{sized}
+use Rattle.roam_update.specs.Sizes.{sized_cells}
 use Rattle.roam_update.proofs.ChangeAgain.{is_change_to}
 use Rattle.roam_update.proofs.Parting.{apart}
 use Rattle.roam_cells.proofs.SameCells.{glyph_same, same_glyph}
@@ -150,8 +150,8 @@ named_exactly base cells k len p =
     (λ h. both.0 (subst (λ (i : ℕ). IsNamed i (runs_between base cells)) (sym e) h), λ d. subst (λ (i : ℕ). IsNamed i (runs_between base cells)) e (both.1 d))
 
 pub named_between : (base s : Screenshot) (k : ℕ) → IsScreenshot s → k < length s.cells
-    → IsNamed k (change_to base s).runs ↔ (¬ (glyph_at (sized s.rows s.cols base) k ≡ glyph_at s.cells k))
-named_between base s k h p = named_exactly (sized s.rows s.cols base) s.cells k (length_sized s.rows s.cols base ∙ sym h.count) p
+    → IsNamed k (change_to base s).runs ↔ (¬ (glyph_at (sized_cells s.rows s.cols base) k ≡ glyph_at s.cells k))
+named_between base s k h p = named_exactly (sized_cells s.rows s.cols base) s.cells k (length_sized s.rows s.cols base ∙ sym h.count) p
 
 pub apart_change : (base s : Screenshot) → IsScreenshot s → AreApart 0 (s.rows * s.cols) (change_to base s).runs
 apart_change base s h = (is_change_to base s h).apart

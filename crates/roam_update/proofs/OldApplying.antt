@@ -14,9 +14,9 @@ use Rattle.roam_update.specs.CellText.{IsPlain}
 use Rattle.roam_update.specs.ChangeText.{change_of, has_head, head_at, body_read, runs_read}
 use Rattle.roam_update.specs.Styles.{Whole}
 use Rattle.roam_update.specs.Tabled.{old_head_of_text, old_cells_in}
-use Rattle.roam_update.specs.Runs.{Run, patched}
+use Rattle.roam_update.specs.Runs.{Run, patched_cells}
 use Rattle.roam_update.specs.Shots.{applied_one, if_old_screenshot, screen_by, shown_by}
-use Rattle.roam_update.specs.Sizes.{sized}
+use Rattle.roam_update.specs.Sizes.{sized_cells}
 use Rattle.roam_update.specs.Tested.{is_size}
 use Rattle.roam_update.specs.declared.change_text.Head.{Head}
 use Rattle.roam_update.proofs.Plain.{put_length, put_plain, sized_plain}
@@ -30,16 +30,16 @@ finished h (Some cells) = if_old_screenshot (shown_by h cells)
 
 over : (base : Screenshot) (h : Head) (o : Option (List Run))
     → option_and_then (λ x. if_old_screenshot (screen_by base x)) (option_and_then (λ runs. Some (change_of h runs)) o)
-    ≡ finished h (option_and_then (λ runs. Some (patched (sized h.rows h.cols base) runs)) o)
+    ≡ finished h (option_and_then (λ runs. Some (patched_cells (sized_cells h.rows h.cols base) runs)) o)
 over base h None = refl
 over base h (Some runs) = refl
 
 applied_is : (base : Screenshot) (text : List ℕ) → has_head text ≡ true → applied_one base text ≡ finished (head_at text) (old_cells_in base (head_at text) text)
 applied_is base text e =
     let h = head_at text in
-    let start = sized h.rows h.cols base in
+    let start = sized_cells h.rows h.cols base in
     rw e (over base h (body_read h text)
-    ∙ ap (λ (n : ℕ). finished h (option_and_then (λ runs. Some (patched start runs)) (runs_read Whole h.runs 0 n (drop 13 text)))) (sym (length_sized h.rows h.cols base)))
+    ∙ ap (λ (n : ℕ). finished h (option_and_then (λ runs. Some (patched_cells start runs)) (runs_read Whole h.runs 0 n (drop 13 text)))) (sym (length_sized h.rows h.cols base)))
 
 module _ (base : Screenshot) (text : List ℕ) (h : Head) (read : old_head_of_text text ≡ Some h) where
   parts : (has_head text ≡ true) × (head_at text ≡ h)
@@ -85,16 +85,16 @@ module _ (base : Screenshot) (text : List ℕ) (h : Head) (read : old_head_of_te
     shown s = by_head ∙ ap (finished h) put ∙ ap (λ (b : Bool). cond b (Some (shown_by h cells)) None) (is_old_screenshot_of (shown_by h cells) s)
 
     pub count : length cells ≡ h.rows * h.cols
-    count = put_length Whole h.runs 0 (sized h.rows h.cols base) (drop 13 text) cells put ∙ length_sized h.rows h.cols base
+    count = put_length Whole h.runs 0 (sized_cells h.rows h.cols base) (drop 13 text) cells put ∙ length_sized h.rows h.cols base
 
     pub plain : IsScreenshot base → All IsPlain cells
-    plain s = put_plain Whole h.runs 0 (sized h.rows h.cols base) (drop 13 text) cells (sized_plain h.rows h.cols base s) put
+    plain s = put_plain Whole h.runs 0 (sized_cells h.rows h.cols base) (drop 13 text) cells (sized_plain h.rows h.cols base s) put
 
     pub is_screen : IsOldScreenshot base → (h.rows ≤ 100) × (h.cols ≤ 250) → IsPlace h.rows h.cols h.cursor_row h.cursor_col → AreWhole h.rows h.cols cells
         → IsOldScreenshot (shown_by h cells)
     is_screen s small place whole =
         let all = plain s.screenshot in
-        let short = put_short h.runs 0 (sized h.rows h.cols base) (drop 13 text) cells (sized_short h.rows h.cols base s) put in
+        let short = put_short h.runs 0 (sized_cells h.rows h.cols base) (drop 13 text) cells (sized_short h.rows h.cols base s) put in
         record {
           screenshot = record {
             size = head_size;

@@ -13,7 +13,7 @@ use Rattle.roam_update.specs.CellText.{IsPlain, cell_text, cells_text}
 use Rattle.roam_update.specs.ChangeText.{run_text, runs_text}
 use Rattle.roam_update.specs.Runs.{Run, lead, runs_from}
 use Rattle.roam_update.specs.Shots.{difference_one}
-use Rattle.roam_update.specs.Sizes.{sized}
+use Rattle.roam_update.specs.Sizes.{sized_cells}
 use Rattle.roam_update.proofs.CellAgain.{few_points, length_cell}
 use Rattle.roam_update.proofs.Sizing.{length_sized}
 use Rattle.roam_update.proofs.Stretches.{lead_same, lead_more, lead_none, runs_same, runs_inside, runs_begin, runs_none}
@@ -76,7 +76,7 @@ bound inside k (b ∷ bs) (c ∷ cs) h p =
 pub most_one : (base s : Screenshot) → IsOldScreenshot s → length (difference_one base s) ≤ 650013
 most_one base s old =
     let h = old.screenshot in
-    let start = sized s.rows s.cols base in
+    let start = sized_cells s.rows s.cols base in
     let len : length start ≡ length s.cells = length_sized s.rows s.cols base ∙ sym h.count in
     let few = old_area s.rows s.cols old.rows old.cols in
     let runs = bound false 0 start s.cells len (all_plain s.cells h.shown h.unguarded) in

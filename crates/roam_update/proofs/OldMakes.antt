@@ -11,7 +11,7 @@ use Rattle.roam_update.specs.ChangeText.{Change, AreShort, change_read}
 use Rattle.roam_update.specs.Runs.{Run, lead, runs_from}
 use Rattle.roam_cells.specs.Same.{same}
 use Rattle.roam_update.specs.Shots.{MakesOld, applied_one, change_to, difference_one, if_old_screenshot, screen_by}
-use Rattle.roam_update.specs.Sizes.{sized}
+use Rattle.roam_update.specs.Sizes.{sized_cells}
 use Rattle.roam_update.specs.Tested.{is_old_screenshot}
 use Rattle.roam_update.proofs.ChangeAgain.{change_again, is_change_to}
 use Rattle.roam_update.proofs.ChangeSpelled.{change_spelled}
@@ -63,7 +63,7 @@ some_screenshot s = Some s
 pub leads_one : (base s : Screenshot) → IsOldScreenshot s → applied_one base (difference_one base s) ≡ Some s
 leads_one base s old =
     let h = old.screenshot in
-    let start = sized s.rows s.cols base in
+    let start = sized_cells s.rows s.cols base in
     let len : length start ≡ length s.cells = length_sized s.rows s.cols base ∙ sym h.count in
     let same : screen_by base (change_to base s) ≡ s = λ i. record {
       rows = s.rows;

@@ -16,8 +16,8 @@ use Rattle.roam_update.specs.CellText.{Front, IsPlain, is_scalar, is_style, poin
 use Rattle.roam_update.specs.Styles.{Form, is_used_up}
 use Rattle.roam_update.specs.ChangeText.{may_begin, runs_read}
 use Rattle.roam_update.specs.Put.{runs_put}
-use Rattle.roam_update.specs.Runs.{Run, placed, patched}
-use Rattle.roam_update.specs.Sizes.{sized, sized_at}
+use Rattle.roam_update.specs.Runs.{Run, with_cells_at, patched_cells}
+use Rattle.roam_update.specs.Sizes.{sized_cells, sized_at}
 use Rattle.roam_update.proofs.Sizing.{length_sized}
 use Rattle.roam_update.proofs.Testing.{scalar_is, style_is}
 
@@ -95,39 +95,39 @@ runs_plain form (suc n) least end text runs e =
 
 -- ---- cells that are put into places
 
-placed_plain : (cells : List Glyph) (k : ℕ) (gs : List Glyph) → All IsPlain cells → All IsPlain gs → All IsPlain (placed cells k gs)
-unfolding placed
+placed_plain : (cells : List Glyph) (k : ℕ) (gs : List Glyph) → All IsPlain cells → All IsPlain gs → All IsPlain (with_cells_at cells k gs)
+unfolding with_cells_at
 placed_plain cells k [] h p = h
 placed_plain cells k (g ∷ gs) h p =
     placed_plain (set cells k g) (k + 1) gs (All-set IsPlain cells k g (All-head IsPlain g gs p) h) (All-tail IsPlain g gs p)
 
-pub patched_plain : (cells : List Glyph) (runs : List Run) → All IsPlain cells → ArePlain runs → All IsPlain (patched cells runs)
-unfolding patched
+pub patched_plain : (cells : List Glyph) (runs : List Run) → All IsPlain cells → ArePlain runs → All IsPlain (patched_cells cells runs)
+unfolding patched_cells
 patched_plain cells [] h p = h
 patched_plain cells (run ∷ runs) h p =
-    patched_plain (placed cells run.first run.cells) runs
+    patched_plain (with_cells_at cells run.first run.cells) runs
     (placed_plain cells run.first run.cells h (All-head (λ (r : Run). All IsPlain r.cells) run runs p)) (All-tail (λ (r : Run). All IsPlain r.cells) run runs p)
 
 pub put_plain : (form : Form) (n least : ℕ) (cells : List Glyph) (text : List ℕ) (after : List Glyph) → All IsPlain cells → runs_put form n least cells text ≡ Some after → All IsPlain after
 put_plain form n least cells text after h e =
-    option_and_then_some (λ (runs : List Run). Some (patched cells runs)) (runs_read form n least (length cells) text) after e (λ runs f g.
-    let same : patched cells runs ≡ after = cc in
+    option_and_then_some (λ (runs : List Run). Some (patched_cells cells runs)) (runs_read form n least (length cells) text) after e (λ runs f g.
+    let same : patched_cells cells runs ≡ after = cc in
     subst (All IsPlain) same (patched_plain cells runs h (runs_plain form n least (length cells) text runs f)))
 
-placed_length : (cells : List Glyph) (k : ℕ) (gs : List Glyph) → length (placed cells k gs) ≡ length cells
-unfolding placed
+placed_length : (cells : List Glyph) (k : ℕ) (gs : List Glyph) → length (with_cells_at cells k gs) ≡ length cells
+unfolding with_cells_at
 placed_length cells k [] = refl
 placed_length cells k (g ∷ gs) = placed_length (set cells k g) (k + 1) gs ∙ length-set cells k g
 
-pub patched_length : (cells : List Glyph) (runs : List Run) → length (patched cells runs) ≡ length cells
-unfolding patched
+pub patched_length : (cells : List Glyph) (runs : List Run) → length (patched_cells cells runs) ≡ length cells
+unfolding patched_cells
 patched_length cells [] = refl
-patched_length cells (run ∷ runs) = patched_length (placed cells run.first run.cells) runs ∙ placed_length cells run.first run.cells
+patched_length cells (run ∷ runs) = patched_length (with_cells_at cells run.first run.cells) runs ∙ placed_length cells run.first run.cells
 
 pub put_length : (form : Form) (n least : ℕ) (cells : List Glyph) (text : List ℕ) (after : List Glyph) → runs_put form n least cells text ≡ Some after → length after ≡ length cells
 put_length form n least cells text after e =
-    option_and_then_some (λ (runs : List Run). Some (patched cells runs)) (runs_read form n least (length cells) text) after e (λ runs f g.
-    let same : patched cells runs ≡ after = cc in
+    option_and_then_some (λ (runs : List Run). Some (patched_cells cells runs)) (runs_read form n least (length cells) text) after e (λ runs f g.
+    let same : patched_cells cells runs ≡ after = cc in
     sym (ap length same) ∙ patched_length cells runs)
 
 -- ---- cells that are brought to a size
@@ -152,10 +152,10 @@ module _ (cols : ℕ) (s : Screenshot) (r c : ℕ) (h : IsScreenshot s) where
   pub sized_at_plain : IsPlain (sized_at cols s r c)
   sized_at_plain = kept_plain (ltb r s.rows) (ltb c s.cols) (eqb (c + 1) cols && is_wide old) refl refl
 
-pub sized_plain : (rows cols : ℕ) (s : Screenshot) → IsScreenshot s → All IsPlain (sized rows cols s)
+pub sized_plain : (rows cols : ℕ) (s : Screenshot) → IsScreenshot s → All IsPlain (sized_cells rows cols s)
 sized_plain rows cols s h =
-    All-from_get_or IsPlain (sized rows cols s) blank (λ k p.
+    All-from_get_or IsPlain (sized_cells rows cols s) blank (λ k p.
     let at = place_of rows cols k (subst (λ (n : ℕ). k < n) (length_sized rows cols s) p) in
-    let is : sized_at cols s (k / cols) (k % cols) ≡ get_or (sized rows cols s) k blank =
-    sym (get_or-table rows cols (sized_at cols s) (k / cols) (k % cols) blank at.0 at.1) ∙ ap (λ (j : ℕ). get_or (sized rows cols s) j blank) at.2 in
+    let is : sized_at cols s (k / cols) (k % cols) ≡ get_or (sized_cells rows cols s) k blank =
+    sym (get_or-table rows cols (sized_at cols s) (k / cols) (k % cols) blank at.0 at.1) ∙ ap (λ (j : ℕ). get_or (sized_cells rows cols s) j blank) at.2 in
     subst IsPlain is (sized_at_plain cols s (k / cols) (k % cols) h))

@@ -7,7 +7,7 @@ use Rattle.std.proofs.lemmas.Bool.{ne_eqb, and_parts, and_right, leb-true}
 use Rattle.byteorder.specs.Endian.{big_number}
 use Rattle.roam_cells.specs.Glyph.{Glyph, is_text}
 use Rattle.roam_cells.specs.declared.styles.Style.{Style}
-use Rattle.roam_update.specs.Runs.{Run, placed, patched}
+use Rattle.roam_update.specs.Runs.{Run, with_cells_at, patched_cells}
 use Rattle.roam_update.specs.CellText.{Front, is_scalar, point_read, points_read, is_style, glyph_of, glyph_read, cell_size, form_after, cells_read}
 use Rattle.roam_update.specs.Styles.{Form, Whole, is_used_up}
 use Rattle.roam_update.specs.ChangeText.{runs_read, may_begin}
@@ -54,19 +54,19 @@ three_long None text n third h e = tt
 three_long (Some g) text n third h e = let long = point_long (drop 8 text) third e in omega (arith, h, long, length-drop 8 text)
 
 pub cells_put_none : (f : Form) (n first : ℕ) (cells : List Glyph) (text : List ℕ) → n ≡ 0 → cells_put f n first cells text ≡ Some (record { value = cells; rest = text; form = f })
-unfolding cells_read placed
+unfolding cells_read with_cells_at
 cells_put_none f zero first cells text h = refl
 cells_put_none f (suc n) first cells text h = absurd (omega arith)
 
 abbrev laid : ℕ → List Glyph → Front (List Glyph) → Option (Front (List Glyph))
-laid first cells cs = Some (record { value = placed cells first cs.value; rest = cs.rest; form = cs.form })
+laid first cells cs = Some (record { value = with_cells_at cells first cs.value; rest = cs.rest; form = cs.form })
 
 abbrev after : Glyph → Front (List Glyph) → Option (Front (List Glyph))
 after g cs = Some (record { value = g ∷ cs.value; rest = cs.rest; form = cs.form })
 
 regroup : (first : ℕ) (cells : List Glyph) (g : Glyph) (o : Option (Front (List Glyph)))
     → option_and_then (laid first cells) (option_and_then (after g) o) ≡ option_and_then (laid (first + 1) (set cells first g)) o
-unfolding placed
+unfolding with_cells_at
 regroup first cells g None = refl
 regroup first cells g (Some cs) = refl
 
@@ -104,13 +104,13 @@ abbrev len_of : List ℕ → ℕ
 len_of text = big_number 4 (drop 4 text)
 
 abbrev patch : List Glyph → List Run → Option (List Glyph)
-patch cells rs = Some (patched cells rs)
+patch cells rs = Some (patched_cells cells rs)
 
 abbrev ran : ℕ → List Glyph → List Run → Option (List Run)
 ran first cs rs = Some (record { first = first; cells = cs } ∷ rs)
 
 pub runs_put_whole : (f : Form) (n least : ℕ) (cells : List Glyph) (text : List ℕ) → n ≡ 0 → length text ≡ 0 → is_used_up f ≡ true → runs_put f n least cells text ≡ Some cells
-unfolding runs_read patched
+unfolding runs_read patched_cells
 runs_put_whole f zero least cells text h e u = rw (e, u) refl
 runs_put_whole f (suc n) least cells text h e u = absurd (omega arith)
 
@@ -154,8 +154,8 @@ some_path : {a b : Front (List Glyph)} → maybe a ≡ maybe b → a ≡ b
 some_path e = ap some_of e
 
 regroup_runs : (cells : List Glyph) (text : List ℕ) (cs : List Glyph) (o : Option (List Run))
-    → option_and_then (patch cells) (option_and_then (ran (first_of text) cs) o) ≡ option_and_then (patch (placed cells (first_of text) cs)) o
-unfolding patched
+    → option_and_then (patch cells) (option_and_then (ran (first_of text) cs) o) ≡ option_and_then (patch (with_cells_at cells (first_of text) cs)) o
+unfolding patched_cells
 regroup_runs cells text cs None = refl
 regroup_runs cells text cs (Some rs) = refl
 
@@ -168,11 +168,11 @@ some_laid : (next : Form) (cells : List Glyph) (o : Option (Front (List Glyph)))
 some_laid next cells None n end text after rest e h = absurd cc
 some_laid next cells (Some cs) n end text after rest e h =
     let both = some_path e in
-    let here : placed cells (first_of text) cs.value ≡ after = ap (λ (f : Front (List Glyph)). f.value) both in
+    let here : with_cells_at cells (first_of text) cs.value ≡ after = ap (λ (f : Front (List Glyph)). f.value) both in
     let left : cs.rest ≡ rest = ap (λ (f : Front (List Glyph)). f.rest) both in
     let form : cs.form ≡ next = ap (λ (f : Front (List Glyph)). f.form) both in
     rw (← here, ← left, ← form) (regroup_runs cells text cs.value (runs_read cs.form n (first_of text + len_of text + 1) end cs.rest)
-    ∙ ap (λ (k : ℕ). option_and_then (patch (placed cells (first_of text) cs.value)) (runs_read cs.form n (first_of text + len_of text + 1) k cs.rest)) (sym (ap length here ∙ h)))
+    ∙ ap (λ (k : ℕ). option_and_then (patch (with_cells_at cells (first_of text) cs.value)) (runs_read cs.form n (first_of text + len_of text + 1) k cs.rest)) (sym (ap length here ∙ h)))
 
 pub runs_put_more : (f next : Form) (n least : ℕ) (cells : List Glyph) (text : List ℕ) (after : List Glyph) (rest : List ℕ) → 1 ≤ n → may_begin least (length cells) text ≡ true
     → cells_put f (len_of text) (first_of text) cells (drop 8 text) ≡ front next after rest → length after ≡ length cells

@@ -16,8 +16,8 @@ use Rattle.roam_cells.proofs.Places.{get_or-table, place_of, place_below}
 use Rattle.roam_update.specs.CellText.{Front, points_read, colour_read, style_of, whole_style, is_style, glyph_of, glyph_read, cell_size, cell_read, cells_read}
 use Rattle.roam_update.specs.ChangeText.{may_begin, runs_read}
 use Rattle.roam_update.specs.Put.{runs_put}
-use Rattle.roam_update.specs.Runs.{Run, placed, patched}
-use Rattle.roam_update.specs.Sizes.{sized, sized_at}
+use Rattle.roam_update.specs.Runs.{Run, with_cells_at, patched_cells}
+use Rattle.roam_update.specs.Sizes.{sized_cells, sized_at}
 use Rattle.roam_update.specs.Styles.{Form, Whole, is_used_up}
 use Rattle.roam_update.proofs.Plain.{if_some}
 use Rattle.roam_update.proofs.Sizing.{length_sized}
@@ -106,24 +106,24 @@ runs_short (suc n) least end text runs e =
 
 -- ---- cells that are put into places
 
-placed_short : (cells : List Glyph) (k : ℕ) (gs : List Glyph) → All IsShort cells → All IsShort gs → All IsShort (placed cells k gs)
-unfolding placed
+placed_short : (cells : List Glyph) (k : ℕ) (gs : List Glyph) → All IsShort cells → All IsShort gs → All IsShort (with_cells_at cells k gs)
+unfolding with_cells_at
 placed_short cells k [] h p = h
 placed_short cells k (g ∷ gs) h p =
     placed_short (set cells k g) (k + 1) gs (All-set IsShort cells k g (All-head IsShort g gs p) h) (All-tail IsShort g gs p)
 
-patched_short : (cells : List Glyph) (runs : List Run) → All IsShort cells → AreShortRuns runs → All IsShort (patched cells runs)
-unfolding patched
+patched_short : (cells : List Glyph) (runs : List Run) → All IsShort cells → AreShortRuns runs → All IsShort (patched_cells cells runs)
+unfolding patched_cells
 patched_short cells [] h p = h
 patched_short cells (run ∷ runs) h p =
-    patched_short (placed cells run.first run.cells) runs
+    patched_short (with_cells_at cells run.first run.cells) runs
     (placed_short cells run.first run.cells h (All-head (λ (r : Run). All IsShort r.cells) run runs p)) (All-tail (λ (r : Run). All IsShort r.cells) run runs p)
 
 pub put_short : (n least : ℕ) (cells : List Glyph) (text : List ℕ) (after : List Glyph) → All IsShort cells → runs_put Whole n least cells text ≡ Some after
     → All IsShort after
 put_short n least cells text after h e =
-    option_and_then_some (λ (runs : List Run). Some (patched cells runs)) (runs_read Whole n least (length cells) text) after e (λ runs f g.
-    let same : patched cells runs ≡ after = cc in
+    option_and_then_some (λ (runs : List Run). Some (patched_cells cells runs)) (runs_read Whole n least (length cells) text) after e (λ runs f g.
+    let same : patched_cells cells runs ≡ after = cc in
     subst (All IsShort) same (patched_short cells runs h (runs_short n least (length cells) text runs f)))
 
 -- ---- cells that are brought to a size
@@ -144,10 +144,10 @@ module _ (cols : ℕ) (s : Screenshot) (r c : ℕ) (h : IsOldScreenshot s) where
   sized_at_short : IsShort (sized_at cols s r c)
   sized_at_short = kept_short (ltb r s.rows) (ltb c s.cols) (eqb (c + 1) cols && is_wide old) refl refl
 
-pub sized_short : (rows cols : ℕ) (s : Screenshot) → IsOldScreenshot s → All IsShort (sized rows cols s)
+pub sized_short : (rows cols : ℕ) (s : Screenshot) → IsOldScreenshot s → All IsShort (sized_cells rows cols s)
 sized_short rows cols s h =
-    All-from_get_or IsShort (sized rows cols s) blank (λ k p.
+    All-from_get_or IsShort (sized_cells rows cols s) blank (λ k p.
     let at = place_of rows cols k (subst (λ (n : ℕ). k < n) (length_sized rows cols s) p) in
-    let is : sized_at cols s (k / cols) (k % cols) ≡ get_or (sized rows cols s) k blank =
-    sym (get_or-table rows cols (sized_at cols s) (k / cols) (k % cols) blank at.0 at.1) ∙ ap (λ (j : ℕ). get_or (sized rows cols s) j blank) at.2 in
+    let is : sized_at cols s (k / cols) (k % cols) ≡ get_or (sized_cells rows cols s) k blank =
+    sym (get_or-table rows cols (sized_at cols s) (k / cols) (k % cols) blank at.0 at.1) ∙ ap (λ (j : ℕ). get_or (sized_cells rows cols s) j blank) at.2 in
     subst IsShort is (sized_at_short cols s (k / cols) (k % cols) h))

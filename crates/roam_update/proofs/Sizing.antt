@@ -9,12 +9,12 @@ use Rattle.roam_cells.specs.Glyph.{Glyph, is_wide, space_in, blank}
 use Rattle.roam_cells.specs.Place.{cell_at, table, row_of}
 use Rattle.roam_screens.specs.Screenshot.{Screenshot, IsScreenshot}
 use Rattle.roam_cells.proofs.Places.{length-table, get_or-table, table_is}
-use Rattle.roam_update.specs.Sizes.{sized, sized_at}
+use Rattle.roam_update.specs.Sizes.{sized_cells, sized_at}
 
 pub area : (rows cols : ℕ) → rows ≤ 200 → cols ≤ 500 → rows * cols ≤ 100000
 area rows cols p q = let a = mul-le-mul_right cols p in omega (arith, a)
 
-pub length_sized : (rows cols : ℕ) (s : Screenshot) → length (sized rows cols s) ≡ rows * cols
+pub length_sized : (rows cols : ℕ) (s : Screenshot) → length (sized_cells rows cols s) ≡ rows * cols
 length_sized rows cols s = length-table rows cols (sized_at cols s)
 
 pub table_none : (cols : ℕ) (f : ℕ → ℕ → Glyph) → table 0 cols f ≡ []
@@ -49,12 +49,12 @@ same_width s r c h p q =
     kept_at s.cols s r c p q (λ e. not_wide (is_wide (cell_at s.cols s.cells r c)) (λ w. let k = ((h.whole r p c q).wide w).0 in omega (arith, e, k)))
 
 -- a screen brought to its own size has its own cells
-pub sized_same : (s : Screenshot) → IsScreenshot s → sized s.rows s.cols s ≡ s.cells
+pub sized_same : (s : Screenshot) → IsScreenshot s → sized_cells s.rows s.cols s ≡ s.cells
 sized_same s h = sym (table_is s.rows s.cols (sized_at s.cols s) s.cells h.count (λ r c p q. sym (same_width s r c h p q)))
 
-pub sized_at_same : (rows cols : ℕ) (s : Screenshot) → IsScreenshot s → s.rows ≡ rows → s.cols ≡ cols → s.cells ≡ sized rows cols s
+pub sized_at_same : (rows cols : ℕ) (s : Screenshot) → IsScreenshot s → s.rows ≡ rows → s.cols ≡ cols → s.cells ≡ sized_cells rows cols s
 sized_at_same rows cols s h p q =
-    sym (sized_same s h) ∙ ap (λ (n : ℕ). sized n s.cols s) p ∙ ap (λ (n : ℕ). sized rows n s) q
+    sym (sized_same s h) ∙ ap (λ (n : ℕ). sized_cells n s.cols s) p ∙ ap (λ (n : ℕ). sized_cells rows n s) q
 
 pub row_none : (t : List Glyph) (f : ℕ → Glyph) → t ≡ t ++ map f (range_with_len 0 0)
 row_none t f = sym (append-nil t)
@@ -87,9 +87,9 @@ row_cell cols r c cells p =
     get_or-take ((r + 1) * cols - r * cols) (drop (r * cols) cells) c blank (omega (arith, p, wide)) ∙ get_or-drop (r * cols) cells c blank
 
 -- where the width stays, a row below both numbers of rows is the old row itself
-pub row_stays : (rows r : ℕ) (s : Screenshot) → IsScreenshot s → r < rows → r < s.rows → row_of s.cols (sized rows s.cols s) r ≡ row_of s.cols s.cells r
+pub row_stays : (rows r : ℕ) (s : Screenshot) → IsScreenshot s → r < rows → r < s.rows → row_of s.cols (sized_cells rows s.cols s) r ≡ row_of s.cols s.cells r
 row_stays rows r s h p q =
-    let new = sized rows s.cols s in
+    let new = sized_cells rows s.cols s in
     let one = length-row_of rows s.cols r new (length_sized rows s.cols s) p in
     let two = length-row_of s.rows s.cols r s.cells h.count q in
     ext_get_or blank (row_of s.cols new r) (row_of s.cols s.cells r) (one ∙ sym two) (λ c a.

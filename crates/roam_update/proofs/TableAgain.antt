@@ -13,7 +13,7 @@ use Rattle.roam_update.specs.CellText.{bit, flags, style_of}
 use Rattle.roam_update.specs.ChangeText.{Change, IsChange, head_of, change_of, runs_read, runs_text}
 use Rattle.roam_update.specs.Runs.{Run}
 use Rattle.roam_update.specs.Shots.{applied_two, change_to, difference_two, if_screenshot, screen_by}
-use Rattle.roam_update.specs.Sizes.{sized}
+use Rattle.roam_update.specs.Sizes.{sized_cells}
 use Rattle.roam_update.specs.Styles.{Numbered, has_style, styles_used}
 use Rattle.roam_update.specs.TableText.{Table, colour_text, entry_text, table_text, tabled_text, entry_read, table_read, has_front, front_at, numbered_read, table_in, tabled_read}
 use Rattle.roam_update.specs.Tested.{is_size}
@@ -168,7 +168,7 @@ some_screenshot s = Some s
 -- whoever applies the change to the base has the screen
 pub leads_two : (base s : Screenshot) → IsScreenshot s → applied_two base (difference_two base s) ≡ some_screenshot s
 leads_two base s h =
-    let start = sized s.rows s.cols base in
+    let start = sized_cells s.rows s.cols base in
     let len : length start ≡ length s.cells = length_sized s.rows s.cols base ∙ sym h.count in
     let same : screen_by base (change_to base s) ≡ s = λ i. record {
       rows = s.rows;

@@ -14,8 +14,8 @@ use Rattle.roam_cells.proofs.CellLists.{is_wide-blank}
 use Rattle.roam_update.specs.CellText.{Front, cell_read, cells_read}
 use Rattle.roam_update.specs.Put.{cells_put}
 use Rattle.roam_update.specs.Styles.{Form}
-use Rattle.roam_update.specs.Runs.{placed}
-use Rattle.roam_update.specs.Sizes.{sized, sized_at}
+use Rattle.roam_update.specs.Runs.{with_cells_at}
+use Rattle.roam_update.specs.Sizes.{sized_cells, sized_at}
 use Rattle.roam_update.proofs.Sizing.{kept_at}
 
 -- ---- cells outside a run
@@ -30,8 +30,8 @@ cells_count form (suc n) text cs e =
     let same : record { value = c.value ∷ more.value; rest = more.rest; form = more.form } ≡ cs = cc in
     sym (ap (λ (f : Front (List Glyph)). length f.value) same) ∙ ap suc (cells_count c.form n c.rest more h)))
 
-placed_outside : (cells : List Glyph) (k : ℕ) (gs : List Glyph) (i : ℕ) → (i < k) ⊎ (k + length gs ≤ i) → get_or (placed cells k gs) i blank ≡ get_or cells i blank
-unfolding placed
+placed_outside : (cells : List Glyph) (k : ℕ) (gs : List Glyph) (i : ℕ) → (i < k) ⊎ (k + length gs ≤ i) → get_or (with_cells_at cells k gs) i blank ≡ get_or cells i blank
+unfolding with_cells_at
 placed_outside cells k [] i h = refl
 placed_outside cells k (g ∷ gs) i h =
     let other : ¬ (i ≡ k) = λ e. elim h [ inl p ↦ absurd (omega (arith, p, e)) | inr p ↦ absurd (omega (arith, p, e)) ] in
@@ -41,8 +41,8 @@ placed_outside cells k (g ∷ gs) i h =
 pub put_outside : (form : Form) (n first : ℕ) (cells : List Glyph) (text : List ℕ) (r : Front (List Glyph)) (i : ℕ) → cells_put form n first cells text ≡ Some r
     → (i < first) ⊎ (first + n ≤ i) → get_or r.value i blank ≡ get_or cells i blank
 put_outside form n first cells text r i e h =
-    option_and_then_some (λ (cs : Front (List Glyph)). Some (record { value = placed cells first cs.value; rest = cs.rest; form = cs.form })) (cells_read form n text) r e (λ cs f g.
-    let same : record { value = placed cells first cs.value; rest = cs.rest; form = cs.form } ≡ r = cc in
+    option_and_then_some (λ (cs : Front (List Glyph)). Some (record { value = with_cells_at cells first cs.value; rest = cs.rest; form = cs.form })) (cells_read form n text) r e (λ cs f g.
+    let same : record { value = with_cells_at cells first cs.value; rest = cs.rest; form = cs.form } ≡ r = cc in
     let count = cells_count form n text cs f in
     let far : (i < first) ⊎ (first + length cs.value ≤ i) = elim h [ inl p ↦ inl p | inr p ↦ inr (omega (arith, p, count)) ] in
     sym (ap (λ (x : Front (List Glyph)). get_or x.value i blank) same) ∙ placed_outside cells first cs.value i far)
@@ -163,6 +163,6 @@ module _ (cols : ℕ) (s : Screenshot) (h : IsScreenshot s) where
             (both.0, ap is_wide (kept_at cols s r (c - 1) f.0 (omega (arith, f.1)) (λ e. absurd (omega (arith, e, back, p)))) ∙ both.1);
       }
 
-pub sized_whole : (rows cols : ℕ) (s : Screenshot) → IsScreenshot s → AreWhole rows cols (sized rows cols s)
+pub sized_whole : (rows cols : ℕ) (s : Screenshot) → IsScreenshot s → AreWhole rows cols (sized_cells rows cols s)
 sized_whole rows cols s h r p =
-    line_like cols (sized_at cols s r) (cell_at cols (sized rows cols s) r) (λ c q. sym (get_or-table rows cols (sized_at cols s) r c blank p q)) (λ c q. whole_at cols s h r c q)
+    line_like cols (sized_at cols s r) (cell_at cols (sized_cells rows cols s) r) (λ c q. sym (get_or-table rows cols (sized_at cols s) r c blank p q)) (λ c q. whole_at cols s h r c q)

@@ -8,7 +8,7 @@ use Rattle.roam_update.specs.CellText.{flags, colour_read, cell_text, glyph_read
 use Rattle.roam_update.specs.ChangeText.{Change, change_text}
 use Rattle.roam_update.specs.Styles.{Whole, styles_used, styles_after}
 use Rattle.roam_update.specs.TableText.{tabled_text}
-use Rattle.roam_update.specs.Runs.{lead, runs_from, runs_between, placed, patched}
+use Rattle.roam_update.specs.Runs.{lead, runs_from, runs_between, with_cells_at, patched_cells}
 use Rattle.roam_update.specs.Sizes.{sized_at}
 use Rattle.roam_update.specs.Tested.{is_size, is_place}
 
@@ -57,8 +57,8 @@ no_run : runs_between base base ≡ []
 unfolding runs_from
 no_run = refl
 
-put_back : patched base (record { first = 0; cells = a ∷ [] } ∷ record { first = 2; cells = c ∷ a ∷ [] } ∷ []) ≡ a ∷ blank ∷ c ∷ a ∷ []
-unfolding patched placed
+put_back : patched_cells base (record { first = 0; cells = a ∷ [] } ∷ record { first = 2; cells = c ∷ a ∷ [] } ∷ []) ≡ a ∷ blank ∷ c ∷ a ∷ []
+unfolding patched_cells with_cells_at
 put_back = refl
 
 sizes : is_size 2 4 ∷ is_size 200 500 ∷ is_size 1 4 ∷ is_size 2 501 ∷ [] ≡ true ∷ true ∷ false ∷ false ∷ []

@@ -50,11 +50,11 @@ AreApart least end [] = Unit {0}
 AreApart least end (run ∷ runs) = IsWithin least end run × AreApart (run.first + length run.cells + 1) end runs
 
 -- these cells stand from place k on
-unfoldable pub placed : List Glyph → ℕ → List Glyph → List Glyph
-placed cells k [] = cells
-placed cells k (g ∷ gs) = placed (slice_set cells k g) (k + 1) gs
+unfoldable pub with_cells_at : List Glyph → ℕ → List Glyph → List Glyph
+with_cells_at cells k [] = cells
+with_cells_at cells k (g ∷ gs) = with_cells_at (slice_set cells k g) (k + 1) gs
 
 -- the runs replace what they name
-unfoldable pub patched : List Glyph → List Run → List Glyph
-patched cells [] = cells
-patched cells (run ∷ runs) = patched (placed cells run.first run.cells) runs
+unfoldable pub patched_cells : List Glyph → List Run → List Glyph
+patched_cells cells [] = cells
+patched_cells cells (run ∷ runs) = patched_cells (with_cells_at cells run.first run.cells) runs

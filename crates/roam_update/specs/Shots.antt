@@ -1,8 +1,8 @@
 -- What a change makes of a screen, and the change that leads from one screen to another.
 use Rattle.std.specs.Prelude.{◌≡◌, ℕ, List, Option, Some, None, option_and_then, if◌then◌else◌}
 use Rattle.roam_screens.specs.Screenshot.{Screenshot, IsScreenshot}
-use Rattle.roam_update.specs.Runs.{runs_between, patched}
-use Rattle.roam_update.specs.Sizes.{sized}
+use Rattle.roam_update.specs.Runs.{runs_between, patched_cells}
+use Rattle.roam_update.specs.Sizes.{sized_cells}
 use Rattle.roam_update.specs.ChangeText.{Change, Spells, change_text, change_read}
 use Rattle.roam_update.specs.TableText.{SpellsTabled, tabled_text, tabled_read}
 use Rattle.roam_update.specs.Tested.{is_screenshot, is_old_screenshot}
@@ -16,7 +16,7 @@ screen_by base x =
     record {
       rows = x.rows;
       cols = x.cols;
-      cells = patched (sized x.rows x.cols base) x.runs;
+      cells = patched_cells (sized_cells x.rows x.cols base) x.runs;
       cursor_row = x.cursor_row;
       cursor_col = x.cursor_col;
       visible = x.visible;
@@ -54,7 +54,7 @@ change_to base s =
       cursor_row = s.cursor_row;
       cursor_col = s.cursor_col;
       visible = s.visible;
-      runs = runs_between (sized s.rows s.cols base) s.cells;
+      runs = runs_between (sized_cells s.rows s.cols base) s.cells;
     }
 
 -- the text of version 2 of the change that leads from a base, the first, to a screen

@@ -14,8 +14,8 @@ sized_at cols s r c =
     else blank
 
 -- the cells of a screen brought to a number of rows and of columns: places keep their row and column (this project's profile)
-abbrev pub sized : ℕ → ℕ → Screenshot → List Glyph
-sized rows cols s = table rows cols (sized_at cols s)
+abbrev pub sized_cells : ℕ → ℕ → Screenshot → List Glyph
+sized_cells rows cols s = table rows cols (sized_at cols s)
 
 -- two screens of one size
 pub record AreSameSize (a b : Screenshot) : Type 0 where

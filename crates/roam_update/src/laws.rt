@@ -8,7 +8,7 @@ ghost use Rattle.roam_update.specs.ChangeText.{Change, Spells, change_read};
 ghost use Rattle.roam_update.specs.TableText.{SpellsTabled, tabled_read};
 ghost use Rattle.roam_update.specs.Runs.{AreApart, IsNamed};
 ghost use Rattle.roam_update.specs.Shots.{Makes, MakesOld, applied_one, applied_two, change_to, difference_one, difference_two};
-ghost use Rattle.roam_update.specs.Sizes.{sized};
+ghost use Rattle.roam_update.specs.Sizes.{sized_cells};
 ghost use Rattle.roam_update.specs.Tested.{is_screenshot};
 
 /// The change that leads to a screen has at most 3,300,016 bytes, and in version 1 at most 650,013.
@@ -22,7 +22,7 @@ pub fn most_bytes()
 /// brought to its size, in runs that rise and do not touch: each of them is maximal.
 pub fn named_places()
     ensures named { (base s : Screenshot) (k : ℕ) → IsScreenshot s → k < length s.cells
-        → (IsNamed k (change_to base s).runs ↔ (¬ (glyph_at (sized s.rows s.cols base) k ≡ glyph_at s.cells k))) }
+        → (IsNamed k (change_to base s).runs ↔ (¬ (glyph_at (sized_cells s.rows s.cols base) k ≡ glyph_at s.cells k))) }
     ensures apart { (base s : Screenshot) → IsScreenshot s → AreApart 0 (s.rows * s.cols) (change_to base s).runs }
 {}
 
@@ -57,6 +57,6 @@ pub fn made_screens()
 #[tactic(auto, using(crate::proofs::Sizing::row_stays, crate::proofs::Sizing::sized_same))]
 pub fn kept_rows()
     ensures row { (s : Screenshot) (rows r : ℕ) → IsScreenshot s → r < rows → r < s.rows
-        → row_of s.cols (sized rows s.cols s) r ≡ row_of s.cols s.cells r }
-    ensures same { (s : Screenshot) → IsScreenshot s → sized s.rows s.cols s ≡ s.cells }
+        → row_of s.cols (sized_cells rows s.cols s) r ≡ row_of s.cols s.cells r }
+    ensures same { (s : Screenshot) → IsScreenshot s → sized_cells s.rows s.cols s ≡ s.cells }
 {}

@@ -7,7 +7,7 @@ ghost use Rattle.roam_cells.specs.Place.{AreWhole, AreUnguarded};
 ghost use Rattle.roam_update.specs.Marks.{StaysUnmarked};
 ghost use Rattle.roam_update.specs.Shots.{applied_two};
 ghost use Rattle.roam_update.specs.Tabled.{HasHead, head_of_text};
-ghost use Rattle.roam_update.specs.Sizes.{sized};
+ghost use Rattle.roam_update.specs.Sizes.{sized_cells};
 
 use crate::change_text::Head;
 use crate::shots::{change_text, changed};
@@ -56,7 +56,7 @@ pub fn begun(
     ensures rows { IfOk result (λ shot. shot.rows ≡ head.rows) }
     ensures cols { IfOk result (λ shot. shot.cols ≡ head.cols) }
     ensures stays { IfOk result (λ shot. (cells : List Glyph)
-        → StaysUnmarked head.cols marks.old (sized head.rows head.cols base.now) cells
+        → StaysUnmarked head.cols marks.old (sized_cells head.rows head.cols base.now) cells
         → StaysUnmarked head.cols marks.new shot.cells cells) }
     ensures fault { IsOkUnless result Fault.OutOfMemory }
 {

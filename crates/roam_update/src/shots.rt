@@ -12,7 +12,7 @@ ghost use Rattle.roam_update.specs.Put.{cells_by};
 ghost use Rattle.roam_update.specs.TableText.{joined_text};
 ghost use Rattle.roam_update.specs.Tabled.{head_of_text, HasHead, cells_in, old_head_of_text, HasOldHead, old_cells_in};
 ghost use Rattle.roam_update.specs.Shots.{applied_one, applied_two, change_to, difference_one, difference_two, shown_by};
-ghost use Rattle.roam_update.specs.Sizes.{AreSameSize, sized};
+ghost use Rattle.roam_update.specs.Sizes.{AreSameSize, sized_cells};
 
 use crate::cell_text::add_number;
 use crate::change_text::{Head, add_runs, put_whole};
@@ -38,7 +38,7 @@ fn brought<B: Seen>(alloc: Global, base: &B, rows: u16, cols: u16) -> Result<Sho
     requires size { IsSize rows cols }
     ensures rows { IfOk result (λ shot. shot.rows ≡ rows) }
     ensures cols { IfOk result (λ shot. shot.cols ≡ cols) }
-    ensures cells { IfOk result (λ shot. shot.cells ≡ sized rows cols (B.screen base.now)) }
+    ensures cells { IfOk result (λ shot. shot.cells ≡ sized_cells rows cols (B.screen base.now)) }
 {
     base.facts();
     let cells = sized(alloc, base, rows, cols)?;
@@ -164,7 +164,7 @@ fn patched<B: Seen>(
     ensures ok { IfOk result (λ cells. cells_by form.old n (B.screen base.now) head text.now ≡ Some cells.items) }
     ensures whole { IfOk result (λ cells. AreWhole head.rows head.cols cells.items) }
     ensures stays { IfOk result (λ cells.
-        StaysUnmarked head.cols marks.new (sized head.rows head.cols (B.screen base.now)) cells.items) }
+        StaysUnmarked head.cols marks.new (sized_cells head.rows head.cols (B.screen base.now)) cells.items) }
     ensures bad { IsErrOf result Fault.BadChange → (cells : List Glyph)
         → cells_by form.old n (B.screen base.now) head text.now ≡ Some cells → ¬ AreWhole head.rows head.cols cells }
     ensures fault { IfErr result (λ fault. (fault ≡ Fault.OutOfMemory) ⊎ (fault ≡ Fault.BadChange)) }
@@ -218,7 +218,7 @@ fn changed_cells<B: Seen>(
     ensures ok { IfOk result (λ cells. cells_in (B.screen base.now) head text.now ≡ Some cells.items) }
     ensures whole { IfOk result (λ cells. AreWhole head.rows head.cols cells.items) }
     ensures stays { IfOk result (λ cells.
-        StaysUnmarked head.cols marks.new (sized head.rows head.cols (B.screen base.now)) cells.items) }
+        StaysUnmarked head.cols marks.new (sized_cells head.rows head.cols (B.screen base.now)) cells.items) }
     ensures bad { IsErrOf result Fault.BadChange → (cells : List Glyph)
         → cells_in (B.screen base.now) head text.now ≡ Some cells → ¬ AreWhole head.rows head.cols cells }
     ensures fault { IfErr result (λ fault. (fault ≡ Fault.OutOfMemory) ⊎ (fault ≡ Fault.BadChange)) }
@@ -251,7 +251,7 @@ pub fn changed<B: Seen>(
     ensures ok { IfOk result (λ made. applied_two (B.screen base.now) text.now ≡ Some (shown_by made.0 made.1.items)) }
     ensures shown { IfOk result (λ made. IsScreenshot (shown_by made.0 made.1.items)) }
     ensures stays { IfOk result (λ made.
-        StaysUnmarked made.0.cols marks.new (sized made.0.rows made.0.cols (B.screen base.now)) made.1.items) }
+        StaysUnmarked made.0.cols marks.new (sized_cells made.0.rows made.0.cols (B.screen base.now)) made.1.items) }
     ensures bad { IsErrOf result Fault.BadChange → applied_two (B.screen base.now) text.now ≡ None }
     ensures head { IfOk result (λ _. HasHead (head_of_text text.now)) }
     // A text that begins with no head is told so, whatever memory there is.
@@ -292,7 +292,7 @@ fn old_changed_cells<B: Seen>(
     ensures ok { IfOk result (λ cells. old_cells_in (B.screen base.now) head text.now ≡ Some cells.items) }
     ensures whole { IfOk result (λ cells. AreWhole head.rows head.cols cells.items) }
     ensures stays { IfOk result (λ cells.
-        StaysUnmarked head.cols marks.new (sized head.rows head.cols (B.screen base.now)) cells.items) }
+        StaysUnmarked head.cols marks.new (sized_cells head.rows head.cols (B.screen base.now)) cells.items) }
     ensures bad { IsErrOf result Fault.BadChange → (cells : List Glyph)
         → old_cells_in (B.screen base.now) head text.now ≡ Some cells → ¬ AreWhole head.rows head.cols cells }
     ensures fault { IfErr result (λ fault. (fault ≡ Fault.OutOfMemory) ⊎ (fault ≡ Fault.BadChange)) }
@@ -315,7 +315,7 @@ pub fn old_changed<B: Seen>(
     ensures ok { IfOk result (λ made. applied_one (B.screen base.now) text.now ≡ Some (shown_by made.0 made.1.items)) }
     ensures shown { IfOk result (λ made. IsOldScreenshot (shown_by made.0 made.1.items)) }
     ensures stays { IfOk result (λ made.
-        StaysUnmarked made.0.cols marks.new (sized made.0.rows made.0.cols (B.screen base.now)) made.1.items) }
+        StaysUnmarked made.0.cols marks.new (sized_cells made.0.rows made.0.cols (B.screen base.now)) made.1.items) }
     ensures bad { IsErrOf result Fault.BadChange → applied_one (B.screen base.now) text.now ≡ None }
     ensures head { IfOk result (λ _. HasOldHead (old_head_of_text text.now)) }
     // A text that begins with no head is told so, whatever memory there is.

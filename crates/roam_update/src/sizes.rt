@@ -3,7 +3,7 @@
 ghost use Rattle.std.specs.Prelude.{◌≡◌, ◌≤◌, ◌<◌, ◌++◌, ◌*◌, map, IfOk, OnOk};
 ghost use Rattle.std.specs.List.{range_with_len};
 ghost use Rattle.roam_cells.specs.Place.{cell_at};
-ghost use Rattle.roam_update.specs.Sizes.{sized, sized_at};
+ghost use Rattle.roam_update.specs.Sizes.{sized_cells, sized_at};
 
 use roam_cells::Cell;
 use roam_screens::Seen;
@@ -19,7 +19,7 @@ pub fn sized<B: Seen>(
     cols: u16,
 ) -> Result<Vec<Cell>, AllocError>
     requires few { (rows ≤ 200) × (cols ≤ 500) }
-    ensures cells { IfOk result (λ cells. cells.items ≡ sized rows cols (B.screen base.now)) }
+    ensures cells { IfOk result (λ cells. cells.items ≡ sized_cells rows cols (B.screen base.now)) }
 {
     base.facts();
     let mut cells = Vec::with_capacity(alloc, rows as usize * cols as usize)?;

@@ -3,7 +3,7 @@ use Rattle.std.proofs.Common.{◌≡◌, ℕ, zero, suc, ◌+◌, ◌<◌, ◌�
 use Rattle.std.specs.Prelude.{is_some, slice_get}
 use Rattle.std.proofs.lemmas.Bool.{cases_Bool, eq-eqb, ne_eqb, eqb-true}
 use Rattle.std.proofs.lemmas.Bool.Decides.{nat_tests}
-use Rattle.roam_wire.specs.Cutting.{joined}
+use Rattle.roam_wire.specs.Cutting.{joined_fragments}
 use Rattle.roam_wire.specs.Fragments.{all_there, text_of}
 use Rattle.roam_wire.specs.Gatherers.{FragmentValue, Gathering, nothing, Answer, Part, Old, Whole, gather, with_fragment, answer_in}
 use Rattle.roam_wire.specs.AnyOrder.{IsFragmentOf, AreFragmentsOf, after, gathered_of, highest, has_arrived, each_from, answer_to, GathersOf, GathersWell, IsCutText}
@@ -52,7 +52,7 @@ set_came k (suc i) f (t ∷ ts) u h =
     ∙ same_from (k + 1) (λ j. eqb (k + 1 + i) j || f j) (λ j. eqb (k + suc i) j || f j) ts (λ j le. ap (λ n. eqb n j || f j) (omega arith)) in
     rw miss (ap (λ (xs : List (Option (List ℕ))). cond (f k) (Some t) None ∷ xs) rest)
 
-text_of-came : (k : ℕ) (f : ℕ → Bool) (ts : List (List ℕ)) → all_there (came_from k f ts) ≡ true → text_of (came_from k f ts) ≡ joined ts
+text_of-came : (k : ℕ) (f : ℕ → Bool) (ts : List (List ℕ)) → all_there (came_from k f ts) ≡ true → text_of (came_from k f ts) ≡ joined_fragments ts
 text_of-came k f [] h = refl
 text_of-came k f (t ∷ ts) h =
     elim (cases_Bool (f k)) [
@@ -106,9 +106,9 @@ step_lower cuts m f p of lt =
 
 -- what a new fragment makes
 abbrev one_more : Cuts → FragmentValue → (ℕ → Bool) → Option (Answer × Gathering)
-one_more cuts p f = answered (cond (each_from 0 (length (cuts p.id)) f) (Whole (joined (cuts p.id))) Part) (holds cuts p.id f)
+one_more cuts p f = answered (cond (each_from 0 (length (cuts p.id)) f) (Whole (joined_fragments (cuts p.id))) Part) (holds cuts p.id f)
 
-answer_in-came : (f : ℕ → Bool) (ts : List (List ℕ)) → answer_in (came_from 0 f ts) ≡ cond (each_from 0 (length ts) f) (Whole (joined ts)) Part
+answer_in-came : (f : ℕ → Bool) (ts : List (List ℕ)) → answer_in (came_from 0 f ts) ≡ cond (each_from 0 (length ts) f) (Whole (joined_fragments ts)) Part
 answer_in-came f ts =
     let same = all_came 0 f ts in
     elim (cases_Bool (each_from 0 (length ts) f)) [
@@ -226,7 +226,7 @@ made cuts ps p g le gone same =
     let low : ltb p.id (highest ps) ≡ false = grind (arith, nat_tests) in
     let all = same_each 0 (length (cuts p.id)) g (has_arrived p.id (p ∷ ps)) same in
     let held = same_holds cuts p.id (max p.id (highest ps)) g (has_arrived (max p.id (highest ps)) (p ∷ ps)) top (λ j. same j ∙ ap (λ k. has_arrived k (p ∷ ps) j) top) in
-    (λ i. answered (cond (all i) (Whole (joined (cuts p.id))) Part) (held i)) ∙ rw (low, gone) refl
+    (λ i. answered (cond (all i) (Whole (joined_fragments (cuts p.id))) Part) (held i)) ∙ rw (low, gone) refl
 
 next_new : (cuts : Cuts) (ps : List FragmentValue) (p : FragmentValue) → IsFragmentOf cuts p → highest ps ≡ p.id → has_arrived p.id ps p.index ≡ false → gather (holds cuts p.id (has_arrived p.id ps)) p ≡ next cuts ps p
 next_new cuts ps p of here gone =
@@ -310,7 +310,7 @@ of_nothing cuts none = record { count = sym (ap length none); there = λ i x e. 
 well_more : (cuts : Cuts) (g : Gathering) (p : FragmentValue) (f : ℕ → Bool) → g.id ≤ p.id → GathersWell cuts g p (one_more cuts p f)
 well_more cuts g p f le = (of_holds cuts p.id f, omega arith, by (each_from 0 (length (cuts p.id)) f))
   where
-    by : (b : Bool) → IsCutText (cuts p.id) (cond b (Whole (joined (cuts p.id))) Part)
+    by : (b : Bool) → IsCutText (cuts p.id) (cond b (Whole (joined_fragments (cuts p.id))) Part)
     by true = refl
     by false = tt
 

@@ -2,7 +2,7 @@
 use Rattle.std.proofs.Common.{◌≡◌, ℕ, zero, suc, ◌+◌, ◌*◌, ◌<◌, ◌≤◌, List, [], ◌∷◌, ◌++◌, length, take, drop, get_or, min, refl, sym, ap, ◌∙◌, arith, length-take, length-drop, append-nil, Vec}
 use Rattle.std.proofs.lemmas.List.{take-append-drop, take_min, drop_min}
 use Rattle.std.specs.declared.alloc.Global.{Global}
-use Rattle.roam_wire.specs.Cutting.{cut_within, fragments_of, joined, AreSendable, texts_of}
+use Rattle.roam_wire.specs.Cutting.{cut_within, fragments_of, joined_fragments, AreSendable, texts_of}
 use Rattle.roam_wire.specs.Versions.{most_bytes, most_fragments}
 use Rattle.roam_wire.specs.declared.versions.Version.{Version}
 use Rattle.roam_wire.specs.declared.versions.Version.TheVariants.{One, Two}
@@ -36,7 +36,7 @@ fragments_of-empty = refl
 
 -- ---- what the fragments are
 
-joined-cut : (size n : ℕ) (text : List ℕ) → 0 < size → length text ≤ n → joined (cut_within size n text) ≡ text
+joined-cut : (size n : ℕ) (text : List ℕ) → 0 < size → length text ≤ n → joined_fragments (cut_within size n text) ≡ text
 joined-cut size zero [] some le = refl
 joined-cut size zero (x ∷ xs) some le = absurd (omega arith)
 joined-cut size (suc n) [] some le = refl
@@ -44,7 +44,7 @@ joined-cut size (suc n) (x ∷ xs) some le =
     let rest = length-drop size (x ∷ xs) in
     ap (λ z. take size (x ∷ xs) ++ z) (joined-cut size n (drop size (x ∷ xs)) some (omega (arith, rest))) ∙ take-append-drop size (x ∷ xs)
 
-pub joined-fragments : (text : List ℕ) → joined (fragments_of text) ≡ text
+pub joined-fragments : (text : List ℕ) → joined_fragments (fragments_of text) ≡ text
 unfolding fragments_of
 joined-fragments text = joined-cut 1200 (length text) text (omega arith) (omega arith)
 

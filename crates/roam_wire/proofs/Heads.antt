@@ -16,7 +16,7 @@ use Rattle.roam_wire.specs.declared.versions.Version.{Version}
 use Rattle.roam_wire.specs.declared.versions.Version.TheVariants.{One, Two}
 use Rattle.roam_wire.specs.Versions.{most_fragments, number_of_version, version_numbered}
 use Rattle.roam_wire.specs.Datagrams.{DatagramValue, IsDatagram, datagram_text, header_of, header_text, tag_of}
-use Rattle.roam_wire.specs.Headers.{header_at, watcher_in, kind_tagged, is_bad_length, is_bad_fragment, fragment_fault, kind_unless, version_unless, checked, datagram_with, datagram_if, datagram_at}
+use Rattle.roam_wire.specs.Headers.{header_at, watcher_in, kind_tagged, is_bad_length, is_bad_fragment, fragment_fault, kind_unless, version_unless, checked_header, datagram_with, datagram_if, datagram_at}
 use Rattle.roam_wire.proofs.Numbers.{number, byte, back_8, back_2}
 
 -- ---- the header's text
@@ -145,7 +145,7 @@ tagged_again v ToClient is = refl
 tagged_again v ToServer is = refl
 tagged_again v FromWatcher is = ap watcher_in (is refl)
 
-passes : (h : Header) (rest : ℕ) (v : Version) (kind : Kind) → checked h rest ≡ both_ends v kind → Passes h rest v kind
+passes : (h : Header) (rest : ℕ) (v : Version) (kind : Kind) → checked_header h rest ≡ both_ends v kind → Passes h rest v kind
 passes h rest v kind e =
     let magic = err_or (not (eqb h.magic 0x524D)) Magic _ v kind e in
     let both = reads h rest (version_numbered h.version) v kind refl magic.1 in
@@ -173,7 +173,7 @@ passes h rest v kind e =
 no_fault : (h : Header) (rest : ℕ) (v : Version) (kind : Kind) → Passes h rest v kind → fragment_fault v h rest ≡ None
 no_fault h rest v kind p = grind (arith, nat_tests)
 
-pass_again : (h : Header) (rest : ℕ) (v : Version) (kind : Kind) → Passes h rest v kind → checked h rest ≡ both_ends v kind
+pass_again : (h : Header) (rest : ℕ) (v : Version) (kind : Kind) → Passes h rest v kind → checked_header h rest ≡ both_ends v kind
 pass_again h rest v kind p =
     let is_version : version_numbered h.version ≡ Some v = ap version_numbered (sym p.version) ∙ numbered_again v in
     let is_kind : kind_tagged v h.kind ≡ Some kind = ap (kind_tagged v) (sym p.tag) ∙ tagged_again v kind p.watches in
@@ -182,7 +182,7 @@ pass_again h rest v kind p =
 -- ---- the grammar
 
 -- what is read has this text
-pub found : (bytes : List ℕ) (v : Version) (kind : Kind) → 42 ≤ length bytes → IsBytes bytes → checked (header_at bytes) (length (drop 42 bytes)) ≡ Ok (v, kind)
+pub found : (bytes : List ℕ) (v : Version) (kind : Kind) → 42 ≤ length bytes → IsBytes bytes → checked_header (header_at bytes) (length (drop 42 bytes)) ≡ Ok (v, kind)
     → IsDatagram (datagram_with (header_at bytes) (drop 42 bytes) v kind) × (bytes ≡ datagram_text (datagram_with (header_at bytes) (drop 42 bytes) v kind))
 found bytes v kind long fits e =
     let h = header_at bytes in
@@ -236,8 +236,8 @@ again d is =
       index = is.index;
       whole = is.whole;
     } in
-    let clean : checked (header_at bytes) (length d.payload) ≡ both_ends d.version d.kind =
-    ap (λ (x : Header). checked x (length d.payload)) there ∙ pass_again h (length d.payload) d.version d.kind p in
+    let clean : checked_header (header_at bytes) (length d.payload) ≡ both_ends d.version d.kind =
+    ap (λ (x : Header). checked_header x (length d.payload)) there ∙ pass_again h (length d.payload) d.version d.kind p in
     let whole : ltb (length bytes) 42 ≡ false = le-ltb _ _ (omega (arith, length-append (header_text h) d.payload)) in
     rw whole (ap (datagram_if (header_at bytes) d.payload) clean ∙ ap (λ (x : Header). a_datagram (datagram_with x d.payload d.version d.kind)) there)
   where
@@ -253,28 +253,28 @@ one_datagram d e is_d is_e same =
 
 -- ---- what a call has found
 
-long_at : (bytes : List ℕ) (r : Result Ends Reason) → 42 ≤ length bytes → checked (header_at bytes) (length (drop 42 bytes)) ≡ r
+long_at : (bytes : List ℕ) (r : Result Ends Reason) → 42 ≤ length bytes → checked_header (header_at bytes) (length (drop 42 bytes)) ≡ r
     → datagram_at bytes ≡ datagram_if (header_at bytes) (drop 42 bytes) r
 long_at bytes r long e =
     let whole : ltb (length bytes) 42 ≡ false = le-ltb _ _ long in
     rw whole (ap (datagram_if (header_at bytes) (drop 42 bytes)) e)
 
 -- bytes without a fault are read
-pub is_read : (bytes : List ℕ) (v : Version) (kind : Kind) → 42 ≤ length bytes → checked (header_at bytes) (length (drop 42 bytes)) ≡ Ok (v, kind) → IsOk (datagram_at bytes)
+pub is_read : (bytes : List ℕ) (v : Version) (kind : Kind) → 42 ≤ length bytes → checked_header (header_at bytes) (length (drop 42 bytes)) ≡ Ok (v, kind) → IsOk (datagram_at bytes)
 is_read bytes v kind long e = ap is_ok (long_at bytes (both_ends v kind) long e)
 
 abbrev a_reason : Reason → Result Ends Reason
 a_reason r = Err r
 
 -- bytes with a fault are the text of no datagram
-pub refused : (bytes : List ℕ) (r : Reason) → 42 ≤ length bytes → checked (header_at bytes) (length (drop 42 bytes)) ≡ Err r
+pub refused : (bytes : List ℕ) (r : Reason) → 42 ≤ length bytes → checked_header (header_at bytes) (length (drop 42 bytes)) ≡ Err r
     → (d : DatagramValue) → IsDatagram d → bytes ≡ datagram_text d → ⊥
 refused bytes r long e d is text =
     let both : datagram_if (header_at bytes) (drop 42 bytes) (a_reason r) ≡ a_datagram d = sym (long_at bytes (a_reason r) long e) ∙ ap datagram_at text ∙ again d is in
     absurd cc
 
 -- bytes without a fault are the text of one datagram alone
-pub read_as : (bytes : List ℕ) (v : Version) (kind : Kind) → 42 ≤ length bytes → checked (header_at bytes) (length (drop 42 bytes)) ≡ Ok (v, kind)
+pub read_as : (bytes : List ℕ) (v : Version) (kind : Kind) → 42 ≤ length bytes → checked_header (header_at bytes) (length (drop 42 bytes)) ≡ Ok (v, kind)
     → (d : DatagramValue) → IsDatagram d → bytes ≡ datagram_text d → datagram_with (header_at bytes) (drop 42 bytes) v kind ≡ d
 read_as bytes v kind long e d is text =
     let both : datagram_if (header_at bytes) (drop 42 bytes) (both_ends v kind) ≡ a_datagram d = sym (long_at bytes (both_ends v kind) long e) ∙ ap datagram_at text ∙ again d is in

@@ -1,6 +1,6 @@
 -- Arrivals: what a gatherer makes of fragments that were sent, whichever of them arrive, how often and in which order.
 use Rattle.std.specs.Prelude.{◌≡◌, ℕ, zero, suc, ◌+◌, max, Bool, true, false, ◌||◌, ◌&&◌, List, [], ◌∷◌, length, slice_get, Option, Some, None, nat_lt, ◌==◌, if◌then◌else◌}
-use Rattle.roam_wire.specs.Cutting.{joined}
+use Rattle.roam_wire.specs.Cutting.{joined_fragments}
 use Rattle.roam_wire.specs.Gatherers.{FragmentValue, Gathering, nothing, Answer, Part, Old, Whole, gather}
 
 -- a fragment as it was cut under its id; `cuts` gives the fragments of each id
@@ -47,7 +47,7 @@ have_all_arrived cuts id ps = each_from 0 (length (cuts id)) (has_arrived id ps)
 abbrev pub answer_to : (ℕ → List (List ℕ)) → List FragmentValue → FragmentValue → Answer
 answer_to cuts ps p =
     if nat_lt p.id (highest ps) || has_arrived p.id ps p.index then Old
-    else if have_all_arrived cuts p.id (p ∷ ps) then Whole (joined (cuts p.id))
+    else if have_all_arrived cuts p.id (p ∷ ps) then Whole (joined_fragments (cuts p.id))
     else Part
 
 -- what is gathered was cut under the current id
@@ -59,7 +59,7 @@ pub record GathersOf (cuts : ℕ → List (List ℕ)) (g : Gathering) : Type 0 w
 abbrev pub IsCutText : List (List ℕ) → Answer → Type 0
 IsCutText fragments Part = Unit {0}
 IsCutText fragments Old = Unit {0}
-IsCutText fragments (Whole text) = text ≡ joined fragments
+IsCutText fragments (Whole text) = text ≡ joined_fragments fragments
 
 -- a fragment is taken: what is gathered then was cut under the higher of both ids, and a text that is whole was cut under the fragment's
 abbrev pub GathersWell : (ℕ → List (List ℕ)) → Gathering → FragmentValue → Option (Answer × Gathering) → Type 0

@@ -15,9 +15,9 @@ unfoldable pub fragments_of : List ℕ → List (List ℕ)
 fragments_of text = cut_within 1200 (length text) text
 
 -- fragments one after the other
-abbrev pub joined : List (List ℕ) → List ℕ
-joined [] = []
-joined (fragment ∷ fragments) = fragment ++ joined fragments
+abbrev pub joined_fragments : List (List ℕ) → List ℕ
+joined_fragments [] = []
+joined_fragments (fragment ∷ fragments) = fragment ++ joined_fragments fragments
 
 -- a length that the fragment at this place of so many may have: 1 to 1,200, and 1,200 before the last
 pub record HasLength (index count len : ℕ) : Type 0 where

@@ -69,8 +69,8 @@ version_unless h rest None = Err reason.Version
 version_unless h rest (Some v) = kind_unless v (fragment_fault v h rest) (kind_tagged v h.kind)
 
 -- the version and the direction that a header tells before so many bytes, or the first fault
-abbrev pub checked : Header → ℕ → Result (Version × Kind) Reason
-checked h rest =
+abbrev pub checked_header : Header → ℕ → Result (Version × Kind) Reason
+checked_header h rest =
     if not (h.magic == 0x524D) then Err Magic
     else version_unless h rest (version_numbered h.version)
 
@@ -98,7 +98,7 @@ datagram_if h payload (Err fault) = Err fault
 abbrev pub datagram_at : List ℕ → Result DatagramValue Reason
 datagram_at bytes =
     if nat_lt (length bytes) 42 then Err Short
-    else datagram_if (header_at bytes) (drop 42 bytes) (checked (header_at bytes) (length (drop 42 bytes)))
+    else datagram_if (header_at bytes) (drop 42 bytes) (checked_header (header_at bytes) (length (drop 42 bytes)))
 
 -- a refusal is for want of memory, where a value was read, or tells that reason
 abbrev pub Refuses : {V : Type 0} → Result V Reason → Fault → Type 0

@@ -1,6 +1,6 @@
 //! Cutting: a text in fragments that fit into datagrams.
 ghost use Rattle.std.specs.Prelude.{◌≡◌, ◌<◌, ◌⊎◌, ◌↔◌, length, IfOk, IfErr, IsErrOf};
-ghost use Rattle.roam_wire.specs.Cutting.{AreSendable, joined, fragments_of, texts_of};
+ghost use Rattle.roam_wire.specs.Cutting.{AreSendable, joined_fragments, fragments_of, texts_of};
 ghost use Rattle.roam_wire.specs.Versions.{most_bytes};
 
 use crate::versions::Version;
@@ -28,7 +28,7 @@ fn fragments_of(alloc: Global, text: &[u8]) -> Result<Vec<Vec<u8>>, AllocError>
 /// more than the version allows, 1,024 or 4,096, `OutOfMemory`.
 pub fn cut(alloc: Global, text: &[u8], version: Version) -> Result<Vec<Vec<u8>>, Fault>
     ensures fragments { IfOk result (λ fragments. texts_of fragments.items ≡ fragments_of text.now) }
-    ensures joined { IfOk result (λ fragments. joined (texts_of fragments.items) ≡ text.now) }
+    ensures joined { IfOk result (λ fragments. joined_fragments (texts_of fragments.items) ≡ text.now) }
     ensures sendable { IfOk result (λ fragments. AreSendable version (texts_of fragments.items)) }
     ensures too_long { IsErrOf result Fault.TooLong ↔ (most_bytes version < length text.now) }
     ensures fault { IfErr result (λ e. (e ≡ Fault.OutOfMemory) ⊎ (e ≡ Fault.TooLong)) }

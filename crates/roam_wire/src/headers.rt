@@ -1,6 +1,6 @@
 //! The header of a datagram as plain numbers, and the tests on them in the order of their reasons.
 ghost use Rattle.std.specs.Prelude.{◌≡◌, ◌≤◌, length};
-ghost use Rattle.roam_wire.specs.Headers.{header_at, is_bad_length, is_bad_fragment, fragment_fault, checked};
+ghost use Rattle.roam_wire.specs.Headers.{header_at, is_bad_length, is_bad_fragment, fragment_fault, checked_header};
 
 use crate::cutting::FRAGMENT;
 use crate::datagrams::Kind;
@@ -87,7 +87,7 @@ impl Header {
 
     // The version and the direction that the header tells before this many bytes, or the first fault.
     pub(crate) fn check(&self, rest: usize) -> Result<(Version, Kind), Reason>
-        ensures checked { result ≡ checked self.now rest }
+        ensures checked { result ≡ checked_header self.now rest }
     {
         if self.magic != MAGIC {
             return Err(Reason::Magic);

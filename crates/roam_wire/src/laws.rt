@@ -1,7 +1,7 @@
 //! What holds of the grammars and of gathering alone, whatever calls were made.
 ghost use Rattle.std.specs.Prelude.{◌≡◌, ℕ, List, [], ◌∷◌, Some};
 ghost use Rattle.roam_wire.specs.AnyOrder.{answer_to, AreFragmentsOf, gathered_of, GathersOf, GathersWell, IsFragmentOf};
-ghost use Rattle.roam_wire.specs.Cutting.{joined, fragments_of};
+ghost use Rattle.roam_wire.specs.Cutting.{joined_fragments, fragments_of};
 ghost use Rattle.roam_wire.specs.Datagrams.{DatagramValue, IsDatagram, datagram_text};
 ghost use Rattle.roam_wire.specs.Gatherers.{gather, Gathering, nothing, FragmentValue};
 ghost use Rattle.roam_wire.specs.Instructions.{DownValue, IsDown, down_text, UpValue, IsUp, up_text};
@@ -23,7 +23,7 @@ pub fn one_up_a_text()
 
 /// The fragments of a text join to it.
 pub fn fragments_join()
-    ensures joined { (text : List ℕ) → joined (fragments_of text) ≡ text }
+    ensures joined { (text : List ℕ) → joined_fragments (fragments_of text) ≡ text }
 {}
 
 /// What a gatherer holds was cut under one id, whichever fragments arrive, how often and in which order; no fragment that was cut is

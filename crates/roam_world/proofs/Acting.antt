@@ -4,7 +4,7 @@ use Rattle.std.proofs.lemmas.Bool.{cases_Bool}
 use Rattle.std.proofs.lemmas.Bool.Decides.{nat_tests}
 use Rattle.std.proofs.lemmas.List.{drop-append-le, drop-drop, drop_all, take-append-le, take-append-drop, length-take-le}
 use Rattle.roam_acts.specs.declared.acts.Act.{Act}
-use Rattle.roam_acts.specs.Senders.{Typing, typed, acked_to, HasTyped, IsStretch}
+use Rattle.roam_acts.specs.Senders.{Typing, after_typing, acked_to, HasTyped, IsStretch}
 use Rattle.roam_acts.specs.Takers.{fresh_of}
 use Rattle.roam_acts.proofs.Stretches.{follow}
 use Rattle.roam_world.specs.Lists.{IsFront}
@@ -15,7 +15,7 @@ front_is xs all n e = (drop n all, sym (take-append-drop n all) ∙ ap (λ (t : 
 
 -- ---- at the sender
 
-pub has_typed-more : (s : Typing) (all : List Act) (act : Act) → HasTyped s all → HasTyped (typed s act) (all ++ act ∷ [])
+pub has_typed-more : (s : Typing) (all : List Act) (act : Act) → HasTyped s all → HasTyped (after_typing s act) (all ++ act ∷ [])
 has_typed-more s all act is =
     let known = is.known in
     record {

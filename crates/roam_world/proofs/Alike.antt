@@ -1,6 +1,6 @@
 -- How many starts are known that only watch, and how many others.
 use Rattle.std.proofs.Common.{◌≡◌, ℕ, ◌+◌, ◌<◌, ◌≤◌, List, [], ◌∷◌, ◌++◌, length, Bool, true, false, refl, sym, ap, ◌∙◌, subst, inl, inr, arith, cond}
-use Rattle.roam_world.specs.Lists.{IsIn, put}
+use Rattle.roam_world.specs.Lists.{IsIn, with_value}
 use Rattle.roam_world.specs.Servers.{Record}
 use Rattle.roam_world.specs.ServerArrivals.{is_same, most_of, alike_in}
 use Rattle.roam_world.proofs.Members.{on_put, put_same}
@@ -46,14 +46,14 @@ alike_more f watches (x ∷ ids) id =
 
 -- the record of a start that isn't in the list changes
 alike_put : (f : ℕ → Record) (r : Record) (watches : Bool) (ids : List ℕ) (id : ℕ) → (IsIn id ids → (f id).watches ≡ r.watches)
-    → length (alike_in (put f id r) watches ids) ≡ length (alike_in f watches ids)
+    → length (alike_in (with_value f id r) watches ids) ≡ length (alike_in f watches ids)
 alike_put f r watches ids id same =
-    alike_same (put f id r) f watches ids (on_put (λ j x. IsIn j ids → x.watches ≡ (f j).watches) f id r (λ i. sym (same i)) (λ j e i. refl))
+    alike_same (with_value f id r) f watches ids (on_put (λ j x. IsIn j ids → x.watches ≡ (f j).watches) f id r (λ i. sym (same i)) (λ j e i. refl))
 
 -- a start that is known is heard
 pub alike_known : (f : ℕ → Record) (r : Record) (ids : List ℕ) (id : ℕ) → (f id).watches ≡ r.watches
     → ((watches : Bool) → length (alike_in f watches ids) ≤ most_of watches)
-    → (watches : Bool) → length (alike_in (put f id r) watches ids) ≤ most_of watches
+    → (watches : Bool) → length (alike_in (with_value f id r) watches ids) ≤ most_of watches
 alike_known f r ids id same few watches =
     subst (λ (n : ℕ). n ≤ most_of watches) (sym (alike_put f r watches ids id (λ i. same))) (few watches)
 
@@ -61,12 +61,12 @@ alike_known f r ids id same few watches =
 pub alike_new : (f : ℕ → Record) (r : Record) (ids : List ℕ) (id : ℕ) → (IsIn id ids → ⊥)
     → length (alike_in f r.watches ids) < most_of r.watches
     → ((watches : Bool) → length (alike_in f watches ids) ≤ most_of watches)
-    → (watches : Bool) → length (alike_in (put f id r) watches (ids ++ id ∷ [])) ≤ most_of watches
+    → (watches : Bool) → length (alike_in (with_value f id r) watches (ids ++ id ∷ [])) ≤ most_of watches
 alike_new f r ids id none room few watches =
-    let more = alike_more (put f id r) watches ids id in
+    let more = alike_more (with_value f id r) watches ids id in
     let old = alike_put f r watches ids id (λ i. absurd (none i)) in
     let here = ap (λ (x : Record). is_same x.watches watches) (put_same f id r) in
-    subst (λ (n : ℕ). n ≤ most_of watches) (sym (more ∙ ap (λ (n : ℕ). n + cond (is_same (put f id r id).watches watches) 1 0) old
+    subst (λ (n : ℕ). n ≤ most_of watches) (sym (more ∙ ap (λ (n : ℕ). n + cond (is_same (with_value f id r id).watches watches) 1 0) old
     ∙ ap (λ (b : Bool). length (alike_in f watches ids) + cond b 1 0) here))
     (go (is_same r.watches watches) refl)
   where

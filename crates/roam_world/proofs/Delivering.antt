@@ -7,7 +7,7 @@ use Rattle.roam_cells.specs.declared.faults.Reason.TheVariants as reason
 use Rattle.roam_sync.specs.Senders.{newest}
 use Rattle.roam_sync.specs.Lines.{Delivers}
 use Rattle.roam_sync.proofs.Rounds.{one_round}
-use Rattle.roam_wire.specs.Cutting.{joined}
+use Rattle.roam_wire.specs.Cutting.{joined_fragments}
 use Rattle.roam_wire.specs.Gatherers.{Gathering, Answer, Part, Old, Whole, gather, fragment_of}
 use Rattle.roam_wire.specs.Fragments.{all_there}
 use Rattle.roam_wire.specs.AnyOrder.{IsFragmentOf, GathersWell, after}
@@ -22,7 +22,7 @@ use Rattle.roam_world.specs.Clients.{Client, moment_of}
 use Rattle.roam_world.specs.ClientArrivals.{Arriving, sent_back, kept, fulfilled, arriving, arriving_gathered, after_fragment, after_whole}
 use Rattle.roam_world.specs.Worlds.{World, Reply, Failed, datagram_at, with_client}
 use Rattle.roam_world.specs.Steps.{ToClientStep, empty_slot, not_sent, refused, fragment, unread, bad_change, whole, no_memory}
-use Rattle.roam_world.specs.Holds.{numbered, fragments_by, cuts_of, Tells, Acks, Holds}
+use Rattle.roam_world.specs.Holds.{instruction_of, fragments_by, cuts_of, Tells, Acks, Holds}
 use Rattle.roam_world.proofs.Members.{put_same}
 use Rattle.roam_world.proofs.Fragments.{numbered-is_in}
 use Rattle.roam_world.proofs.Comes.{says_down}
@@ -47,7 +47,7 @@ pub record IsOne (w : World) (id n : ℕ) (d : DatagramValue) : Type 0 where
 
 -- instruction n to this start is v, which tells of the newest number m
 pub record IsTop (w : World) (id n m : ℕ) (v : DownValue) : Type 0 where
-  pub told : numbered (w.server.records id).instructions n ≡ Some v
+  pub told : instruction_of (w.server.records id).instructions n ≡ Some v
   pub new : v.new ≡ m
   pub top : m ≡ (newest (w.server.records id).sender).number
 
@@ -66,9 +66,9 @@ gathered_leaves w id n m shown v d t is None g p s = absurd g
 gathered_leaves w id n m shown v d t is (Some (Part, h)) g p s = (refl, (λ o a b. absurd (let f : true ≡ false = sym b ∙ p in cc)))
 gathered_leaves w id n m shown v d t is (Some (Old, h)) g p s = (refl, (λ o. subst (λ (k : Gathering). Shows n m k shown) (sym s) o))
 gathered_leaves w id n m shown v d t is (Some (Whole text, h)) g p s =
-    let told : numbered (w.server.records id).instructions d.id ≡ Some v = ap (numbered (w.server.records id).instructions) is.number_is
+    let told : instruction_of (w.server.records id).instructions d.id ≡ Some v = ap (instruction_of (w.server.records id).instructions) is.number_is
     ∙ t.told in
-    (refl, g.2 ∙ ap (λ (o : Option DownValue). joined (fragments_by down_text o)) told ∙ joined-fragments (down_text v))
+    (refl, g.2 ∙ ap (λ (o : Option DownValue). joined_fragments (fragments_by down_text o)) told ∙ joined-fragments (down_text v))
 
 arriving_leaves : (w : World) (id n m shown : ℕ) (v : DownValue) (d : DatagramValue) → Holds w → IsTop w id n m v → IsOne w id n d
     → Leaves n m shown (w.clients id).gathering (after (w.clients id).gathering (gather (w.clients id).gathering (fragment_of d))) v

@@ -2,32 +2,32 @@
 use Rattle.std.proofs.Common.{◌≡◌, ℕ, zero, suc, ◌+◌, ◌≤◌, List, [], ◌∷◌, ◌++◌, length, Option, Some, None, refl, sym, ap, ◌∙◌, subst, arith, length-append}
 use Rattle.std.specs.Prelude.{slice_get}
 use Rattle.std.specs.List.{enumerate_from}
-use Rattle.roam_wire.specs.Cutting.{fragments_of, joined}
+use Rattle.roam_wire.specs.Cutting.{fragments_of, joined_fragments}
 use Rattle.roam_wire.specs.Gatherers.{FragmentValue, Gathering, nothing, fragment_of}
 use Rattle.roam_wire.specs.AnyOrder.{IsFragmentOf}
 use Rattle.roam_wire.proofs.Cuts.{joined-fragments}
 use Rattle.roam_world.specs.Lists.{IsIn}
 use Rattle.roam_world.specs.Texts.{datagram_with, datagrams_of}
-use Rattle.roam_world.specs.Holds.{numbered, fragments_by, cuts_of, Gathers}
+use Rattle.roam_world.specs.Holds.{instruction_of, fragments_by, cuts_of, Gathers}
 use Rattle.roam_world.proofs.Members.{IsIn-map, IsIn-enumerate, IsIn-slice_get, slice_get-within, slice_get-more, slice_get-last}
 use Rattle.roam_wire.specs.declared.versions.Version.{Version}
 use Rattle.roam_wire.specs.declared.datagrams.Kind.{Kind}
 use Rattle.roam_wire.specs.Datagrams.{DatagramValue}
 
-numbered-within : {V : Type 0} (vs : List V) (n : ℕ) (v : V) → numbered vs n ≡ Some v → n ≤ length vs
+numbered-within : {V : Type 0} (vs : List V) (n : ℕ) (v : V) → instruction_of vs n ≡ Some v → n ≤ length vs
 numbered-within vs zero v e = omega arith
 numbered-within vs (suc n) v e = let lt = slice_get-within vs n v e in omega arith
 
-pub numbered-is_in : {V : Type 0} (vs : List V) (n : ℕ) (v : V) → numbered vs n ≡ Some v → IsIn v vs
+pub numbered-is_in : {V : Type 0} (vs : List V) (n : ℕ) (v : V) → instruction_of vs n ≡ Some v → IsIn v vs
 numbered-is_in vs zero v e = absurd (cc)
 numbered-is_in vs (suc n) v e = IsIn-slice_get v n vs e
 
-numbered-more : {V : Type 0} (vs ws : List V) (n : ℕ) → n ≤ length vs → numbered (vs ++ ws) n ≡ numbered vs n
+numbered-more : {V : Type 0} (vs ws : List V) (n : ℕ) → n ≤ length vs → instruction_of (vs ++ ws) n ≡ instruction_of vs n
 numbered-more vs ws zero le = refl
 numbered-more vs ws (suc n) le = slice_get-more vs ws n (omega arith)
 
-pub numbered-last : {V : Type 0} (vs : List V) (v : V) → numbered (vs ++ v ∷ []) (length vs + 1) ≡ Some v
-numbered-last vs v = let n : length vs + 1 ≡ suc (length vs) = omega arith in ap (numbered (vs ++ v ∷ [])) n ∙ slice_get-last vs v
+pub numbered-last : {V : Type 0} (vs : List V) (v : V) → instruction_of (vs ++ v ∷ []) (length vs + 1) ≡ Some v
+numbered-last vs v = let n : length vs + 1 ≡ suc (length vs) = omega arith in ap (instruction_of (vs ++ v ∷ [])) n ∙ slice_get-last vs v
 
 pub cuts-more : {V : Type 0} (text_of : V → List ℕ) (vs ws : List V) (n : ℕ) → n ≤ length vs
     → cuts_of text_of (vs ++ ws) n ≡ cuts_of text_of vs n
@@ -39,11 +39,11 @@ cuts-last text_of vs v = ap (fragments_by text_of) (numbered-last vs v)
 
 -- an instruction that a fragment is of
 pub fragment_is : {V : Type 0} (text_of : V → List ℕ) (vs : List V) (p : FragmentValue) → IsFragmentOf (cuts_of text_of vs) p
-    → (v : V) × (numbered vs p.id ≡ Some v)
-fragment_is {V} text_of vs p is = go (numbered vs p.id) refl is.there
+    → (v : V) × (instruction_of vs p.id ≡ Some v)
+fragment_is {V} text_of vs p is = go (instruction_of vs p.id) refl is.there
   where
-    go : (o : Option V) → numbered vs p.id ≡ o → slice_get (fragments_by text_of o) p.index ≡ Some p.payload
-        → (v : V) × (numbered vs p.id ≡ Some v)
+    go : (o : Option V) → instruction_of vs p.id ≡ o → slice_get (fragments_by text_of o) p.index ≡ Some p.payload
+        → (v : V) × (instruction_of vs p.id ≡ Some v)
     go None e f = absurd (cc)
     go (Some v) e f = (v, e)
 
@@ -81,14 +81,14 @@ pub record IsTextOf {V : Type 0} (text_of : V → List ℕ) (vs : List V) (text 
 
 -- a text that comes whole is that of an instruction
 pub whole_is : {V : Type 0} (text_of : V → List ℕ) (vs : List V) (p : FragmentValue) (text : List ℕ) → IsFragmentOf (cuts_of text_of vs) p
-    → text ≡ joined (cuts_of text_of vs p.id)
+    → text ≡ joined_fragments (cuts_of text_of vs p.id)
     → IsTextOf text_of vs text
 whole_is text_of vs p text is e =
     let v = fragment_is text_of vs p is in
     record {
       value = v.0;
       there = numbered-is_in vs p.id v.0 v.1;
-      is = e ∙ ap (λ o. joined (fragments_by text_of o)) v.1
+      is = e ∙ ap (λ o. joined_fragments (fragments_by text_of o)) v.1
           ∙ joined-fragments (text_of v.0);
     }
 

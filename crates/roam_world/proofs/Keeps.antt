@@ -24,7 +24,7 @@ use Rattle.roam_wire.specs.Instructions.{DownValue, down_text, UpValue, IsUp, up
 use Rattle.roam_session.specs.Sessions.{SessionSize, Entry}
 use Rattle.roam_world.specs.Steps.{is_unfit}
 use Rattle.roam_world.specs.Versions.{applied_by}
-use Rattle.roam_world.specs.Lists.{IsIn, put}
+use Rattle.roam_world.specs.Lists.{IsIn, with_value}
 use Rattle.roam_world.specs.Moments.{is_spent}
 use Rattle.roam_world.specs.Numbers.{first_screen, IsScreenOf, acts_of}
 use Rattle.roam_world.specs.Texts.{update_in, is_to_server, is_watching, kind_from}
@@ -386,7 +386,7 @@ keeps-sending w id now made e h =
       bears = (λ d i. elim (IsIn-append_cases d w.sent (datagrams_from w.server.session id c) i) [
         | inl o ↦ on_put (λ j x. Bears d (w.clients j) → Bears d x) w.clients id c'
             (λ b. record { made = made; version = b.version; watches = b.watches }) (λ j f b. b) d.client (h.bears d o)
-        | inr n ↦ subst (λ (k : ℕ). Bears d (put w.clients id c' k)) (sym (packed d n).client_is)
+        | inr n ↦ subst (λ (k : ℕ). Bears d (with_value w.clients id c' k)) (sym (packed d n).client_is)
             (subst (λ (x : Client). Bears d x) (sym (put_same w.clients id c')) (record {
               made = made;
               version = (packed d n).version_is;
@@ -432,15 +432,15 @@ keeps-sending w id now made e h =
     like true d p = fragment-more up_text (w.clients id).instructions (up_from (w.clients id) ∷ []) (fragment_of d) p
 
     new : (d : DatagramValue) → IsIn d (datagrams_from w.server.session id (w.clients id))
-        → IsFragment (is_to_server d.kind) d (w.server.records d.client) (put w.clients id (after_sending (w.clients id) now) d.client)
+        → IsFragment (is_to_server d.kind) d (w.server.records d.client) (with_value w.clients id (after_sending (w.clients id) now) d.client)
     new d i =
         let p = packed d i in
         subst (λ (kind : Kind). IsFragment (is_to_server kind) d (w.server.records d.client)
-        (put w.clients id (after_sending (w.clients id) now) d.client))
+        (with_value w.clients id (after_sending (w.clients id) now) d.client))
         (sym p.kind_is)
-        (subst (λ (to : Bool). IsFragment to d (w.server.records d.client) (put w.clients id (after_sending (w.clients id) now) d.client))
+        (subst (λ (to : Bool). IsFragment to d (w.server.records d.client) (with_value w.clients id (after_sending (w.clients id) now) d.client))
         (sym (kind_goes (w.clients id).watches))
-        (subst (λ (k : ℕ). IsFragment true d (w.server.records d.client) (put w.clients id (after_sending (w.clients id) now) k))
+        (subst (λ (k : ℕ). IsFragment true d (w.server.records d.client) (with_value w.clients id (after_sending (w.clients id) now) k))
         (sym p.client_is)
         (subst (λ (x : Client). IsFragment true d (w.server.records d.client) x)
         (sym (put_same w.clients id (after_sending (w.clients id) now))) p.fragment)))
@@ -517,8 +517,8 @@ keeps-start w slot id v watches made fit h =
           (λ j e. h.watchers j);
       unused = on_put (λ j x. x.made ≡ false → x ≡ nobody) w.clients id (new_client v watches) (λ f. let z : true ≡ false = f in cc)
           (λ j e. h.unused j);
-      slots = (λ place j. on_put (λ k x. x ≡ Some j → (put w.clients id (new_client v watches) j).made ≡ true) w.slots slot (Some id)
-          (λ e. let same : id ≡ j = cc in subst (λ (k : ℕ). (put w.clients id (new_client v watches) k).made ≡ true) same
+      slots = (λ place j. on_put (λ k x. x ≡ Some j → (with_value w.clients id (new_client v watches) j).made ≡ true) w.slots slot (Some id)
+          (λ e. let same : id ≡ j = cc in subst (λ (k : ℕ). (with_value w.clients id (new_client v watches) k).made ≡ true) same
           (ap (λ (x : Client). x.made) (put_same w.clients id (new_client v watches))))
           (λ k f s. on_put (λ i x. w.slots k ≡ Some i → x.made ≡ true) w.clients id (new_client v watches) (λ t. refl) (λ i e. h.slots k i) j s)
           place);

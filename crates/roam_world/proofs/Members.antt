@@ -3,7 +3,7 @@ use Rattle.std.proofs.Common.{◌≡◌, ℕ, zero, suc, ◌+◌, ◌<◌, ◌�
 use Rattle.std.specs.Prelude.{nat_eq, slice_get, map}
 use Rattle.std.specs.List.{flat_map, enumerate_from}
 use Rattle.std.proofs.lemmas.Bool.Decides.{nat_tests}
-use Rattle.roam_world.specs.Lists.{IsIn, put}
+use Rattle.roam_world.specs.Lists.{IsIn, with_value}
 
 pub IsIn-append_left : {X : Type 0} (x : X) (xs ys : List X) → IsIn x xs → IsIn x (xs ++ ys)
 IsIn-append_left x [] ys h = absurd h
@@ -65,19 +65,19 @@ slice_get-last (x ∷ xs) y = slice_get-last xs y
 
 -- values of which one changes
 pub on_put : {X : Type 0} (P : ℕ → X → Type 0) (f : ℕ → X) (i : ℕ) (x : X) → P i x → ((j : ℕ) → nat_eq j i ≡ false → P j (f j)) → (j : ℕ)
-    → P j (put f i x j)
+    → P j (with_value f i x j)
 on_put P f i x here others j = go (nat_eq j i) refl
   where
     go : (b : Bool) → nat_eq j i ≡ b → P j (cond b x (f j))
     go true e = let same : i ≡ j = grind (arith, nat_tests) in subst (λ (k : ℕ). P k x) same here
     go false e = others j e
 
-pub put_other : {X : Type 0} (f : ℕ → X) (i : ℕ) (x : X) (j : ℕ) → (j ≡ i → ⊥) → put f i x j ≡ f j
+pub put_other : {X : Type 0} (f : ℕ → X) (i : ℕ) (x : X) (j : ℕ) → (j ≡ i → ⊥) → with_value f i x j ≡ f j
 put_other f i x j other = go (nat_eq j i) refl
   where
     go : (b : Bool) → nat_eq j i ≡ b → cond b x (f j) ≡ f j
     go true e = absurd (other (grind (arith, nat_tests)))
     go false e = refl
 
-pub put_same : {X : Type 0} (f : ℕ → X) (i : ℕ) (x : X) → put f i x i ≡ x
+pub put_same : {X : Type 0} (f : ℕ → X) (i : ℕ) (x : X) → with_value f i x i ≡ x
 put_same f i x = grind (arith, nat_tests)

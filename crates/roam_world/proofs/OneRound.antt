@@ -14,11 +14,11 @@ use Rattle.roam_wire.specs.Instructions.{DownValue, down_text}
 use Rattle.roam_world.specs.Lists.{IsIn}
 use Rattle.roam_world.specs.Texts.{datagram_with, datagrams_of}
 use Rattle.roam_world.specs.Servers.{Record, Server, moment}
-use Rattle.roam_world.specs.Ticks.{number_after, screen_to, holds_after, sends, down_to, fragments_to, after_sent, ticked, datagrams_to, Parcel, parcel, parcels_to, sent_by, is_tick_spent}
+use Rattle.roam_world.specs.Ticks.{number_after, screen_to, holds_after, sends, down_to, fragments_to, after_sent, ticked_record, datagrams_to, Parcel, parcel, parcels_to, sent_by, is_tick_spent}
 use Rattle.roam_world.specs.Worlds.{World, ToClient, Reply, Failed, datagram_at, after_server_tick}
 use Rattle.roam_world.specs.Steps.{ServerTickStep, spent, ticked as did_tick, no_memory, Run}
 use Rattle.roam_world.specs.Laws.{deliveries, IsFresh, DeliversAll, OneRoundSuffices}
-use Rattle.roam_world.specs.Holds.{numbered, fragments_by, cuts_of, Holds}
+use Rattle.roam_world.specs.Holds.{instruction_of, fragments_by, cuts_of, Holds}
 use Rattle.roam_world.proofs.Members.{IsIn-map, IsIn-flat_map}
 use Rattle.roam_world.proofs.Fragments.{numbered-last}
 use Rattle.roam_world.proofs.ServerKeeps.{to_record, to_known, keeps-tick}
@@ -48,7 +48,7 @@ EachIsOne w id n ks = (k later : ℕ) → IsIn (k, later) ks → (d : DatagramVa
 top_at : (w' w : World) (id n m : ℕ) (v : DownValue) → w.server ≡ w'.server → IsTop w id n m v → IsTop w' id n m v
 top_at w' w id n m v same t =
     record {
-      told = subst (λ (q : Server). numbered (q.records id).instructions n ≡ Some v) same t.told;
+      told = subst (λ (q : Server). instruction_of (q.records id).instructions n ≡ Some v) same t.told;
       new = t.new;
       top = subst (λ (q : Server). m ≡ (newest (q.records id).sender).number) same t.top;
     }
@@ -160,10 +160,10 @@ record IsRound (w w' : World) (id : ℕ) : Type 0 where
 
 -- what is true of a record that is sent to
 sent_top : (r : Record) (n : ℕ) (s : Screenshot) (now : ℕ) → sends r n s now ≡ true
-    → (numbered (ticked r n s now).instructions (length r.instructions + 1) ≡ Some (down_to r n s now))
-    × ((down_to r n s now).new ≡ (newest (ticked r n s now).sender).number)
+    → (instruction_of (ticked_record r n s now).instructions (length r.instructions + 1) ≡ Some (down_to r n s now))
+    × ((down_to r n s now).new ≡ (newest (ticked_record r n s now).sender).number)
 sent_top r n s now e =
-    subst (λ (b : Bool). (numbered (cond b (after_sent r n s now) (record r { sender = holds_after r n s now })).instructions
+    subst (λ (b : Bool). (instruction_of (cond b (after_sent r n s now) (record r { sender = holds_after r n s now })).instructions
     (length r.instructions + 1) ≡ Some (down_to r n s now))
     × ((down_to r n s now).new ≡ (newest (cond b (after_sent r n s now) (record r { sender = holds_after r n s now })).sender).number))
     (sym e)
@@ -196,7 +196,7 @@ round_of w now id unspent h k0 d0 some =
             fragment_of_it = p.fragment;
           });
       each = (λ i lt.
-          let cuts : cuts_of down_text (ticked r n s now).instructions (length r.instructions + 1) ≡ fragments_of
+          let cuts : cuts_of down_text (ticked_record r n s now).instructions (length r.instructions + 1) ≡ fragments_of
           (down_text (down_to r n s now)) = ap (λ (o : Option DownValue). fragments_by down_text o) t.0 in
           let x = some_at (fragments_of (down_text (down_to r n s now))) i (subst (λ (xs : List (List ℕ)). i < length xs) cuts lt) in
           let z : 0 + i ≡ i = omega arith in

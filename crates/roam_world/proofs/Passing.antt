@@ -9,9 +9,9 @@ use Rattle.roam_acts.specs.declared.acts.Act.{Act}
 use Rattle.roam_keys.specs.declared.keys.Key.{Key}
 use Rattle.roam_layout.specs.declared.rects.Rect.{Rect}
 use Rattle.roam_layout.specs.Rects.{rect_in}
-use Rattle.roam_layout.specs.Layouts.{Outcome, Laid, Refused, start, laid, panes}
-use Rattle.roam_session.specs.Panes.{Pane, is_same_size, moved, given, fed, keyed, drained}
-use Rattle.roam_session.specs.Sessions.{Entry, Given, Did, Drained, SessionSize, SessionState, at_pane, laid_out, key_in, acted, after_entry, first_state, session}
+use Rattle.roam_layout.specs.Layouts.{Outcome, Laid, Refused, start, outcome_of, panes}
+use Rattle.roam_session.specs.Panes.{Pane, is_same_size, after_move, pane_after_act, after_feed, after_key, after_drain}
+use Rattle.roam_session.specs.Sessions.{Entry, Given, Did, Drained, SessionSize, SessionState, at_pane, laid_out, key_in, after_act, after_entry, first_state, session}
 use Rattle.roam_session.specs.Refusals.{waiting_in, output_at}
 use Rattle.roam_session.proofs.Logs.{session-append}
 use Rattle.roam_world.specs.Outputs.{answers_in, key_bytes_in, put_by, taken_in, taken_by, all_put, all_taken, StaysThere, PassesEachByteOn, BeginsWithNoOutput}
@@ -25,10 +25,10 @@ some_map : (f : Pane → Pane) (o : Option Pane) → is_some (option_map f o) �
 some_map f None = refl
 some_map f (Some p) = refl
 
-given_some : (old new : Option Rect) (pane : Option Pane) → is_some pane ≡ is_some old → is_some (given old new pane) ≡ is_some new
+given_some : (old new : Option Rect) (pane : Option Pane) → is_some pane ≡ is_some old → is_some (pane_after_act old new pane) ≡ is_some new
 given_some old None pane e = refl
 given_some None (Some new) pane e = refl
-given_some (Some old) (Some new) pane e = some_map (moved old new) pane ∙ e
+given_some (Some old) (Some new) pane e = some_map (after_move old new) pane ∙ e
 
 agree_first : (size : SessionSize) → Agree (first_state size)
 agree_first size k = given_some None (rect_in k (panes (start size.rows size.cols))) None refl
@@ -44,14 +44,14 @@ agree_laid : (s : SessionState) (o : Outcome) → Agree s → Agree (laid_out o 
 agree_laid s (Laid plan) a = λ k. given_some (rect_in k (panes s.plan)) (rect_in k (panes plan)) (s.pane k) (a k)
 agree_laid s (Refused fault) a = a
 
-agree_acted : (s : SessionState) (key : Option Key) (act : Act) → Agree s → Agree (acted key act s)
-agree_acted s (Some key) act a = agree_at s s.plan.focus (keyed key) a
-agree_acted s None act a = agree_laid s (laid s.plan act) a
+agree_acted : (s : SessionState) (key : Option Key) (act : Act) → Agree s → Agree (after_act key act s)
+agree_acted s (Some key) act a = agree_at s s.plan.focus (after_key key) a
+agree_acted s None act a = agree_laid s (outcome_of s.plan act) a
 
 agree_after : (s : SessionState) (e : Entry) → Agree s → Agree (after_entry s e)
-agree_after s (Given p bytes) a = agree_at s p (fed bytes) a
+agree_after s (Given p bytes) a = agree_at s p (after_feed bytes) a
 agree_after s (Did client act) a = agree_acted s (key_in act) act a
-agree_after s (Drained p n) a = agree_at s p (drained n) a
+agree_after s (Drained p n) a = agree_at s p (after_drain n) a
 
 agree_from : (size : SessionSize) (log es : List Entry) → Agree (session size log) → Agree (session size (log ++ es))
 agree_from size log [] a = subst (λ (l : List Entry). Agree (session size l)) (sym (append-nil log)) a
@@ -85,22 +85,22 @@ passes_at s q p f off on here = go (nat_eq q p) refl (nat_eq p q) refl
     go true e false f = absurd (grind (arith, nat_tests))
     go false e true f = absurd (grind (arith, nat_tests))
 
-fed_passes : (o : Option Pane) (bytes : List ℕ) → Passes [] (answers_in o bytes) o (option_map (fed bytes) o)
+fed_passes : (o : Option Pane) (bytes : List ℕ) → Passes [] (answers_in o bytes) o (option_map (after_feed bytes) o)
 fed_passes None bytes = tt
 fed_passes (Some p) bytes = refl
 
-keyed_passes : (o : Option Pane) (key : Key) → Passes [] (key_bytes_in o (Some key)) o (option_map (keyed key) o)
+keyed_passes : (o : Option Pane) (key : Key) → Passes [] (key_bytes_in o (Some key)) o (option_map (after_key key) o)
 keyed_passes None key = tt
 keyed_passes (Some p) key = refl
 
-drained_passes : (o : Option Pane) (n : ℕ) → Passes (taken_in o n) [] o (option_map (drained n) o)
+drained_passes : (o : Option Pane) (n : ℕ) → Passes (taken_in o n) [] o (option_map (after_drain n) o)
 drained_passes None n = tt
 drained_passes (Some p) n = take-append-drop n p.waiting ∙ sym (append-nil p.waiting)
 
-moved_waits : (old new : Rect) (p : Pane) → (moved old new p).waiting ≡ p.waiting
+moved_waits : (old new : Rect) (p : Pane) → (after_move old new p).waiting ≡ p.waiting
 moved_waits old new p = elim (cases_Bool (is_same_size old new)) [ inl e ↦ rw e refl | inr e ↦ rw e refl ]
 
-given_passes : (old new : Option Rect) (o : Option Pane) → is_some o ≡ is_some old → Passes [] [] o (given old new o)
+given_passes : (old new : Option Rect) (o : Option Pane) → is_some o ≡ is_some old → Passes [] [] o (pane_after_act old new o)
 given_passes old None None e = tt
 given_passes old None (Some p) e = tt
 given_passes None (Some new) None e = tt
@@ -122,25 +122,25 @@ laid_passes s p (Laid plan) a = given_passes (rect_in p (panes s.plan)) (rect_in
 laid_passes s p (Refused fault) a = passes_same (s.pane p)
 
 acted_passes : (s : SessionState) (p : ℕ) (key : Option Key) (act : Act) → Agree s
-    → Passes [] (cond (nat_eq s.plan.focus p) (key_bytes_in (s.pane p) key) []) (s.pane p) ((acted key act s).pane p)
+    → Passes [] (cond (nat_eq s.plan.focus p) (key_bytes_in (s.pane p) key) []) (s.pane p) ((after_act key act s).pane p)
 acted_passes s p (Some key) act a =
     subst (λ (off : List ℕ). Passes off (cond (nat_eq s.plan.focus p) (key_bytes_in (s.pane p) (Some key)) []) (s.pane p)
-    ((at_pane s.plan.focus (keyed key) s).pane p)) (nothing_in (nat_eq s.plan.focus p))
-    (passes_at s s.plan.focus p (keyed key) [] (key_bytes_in (s.pane p) (Some key)) (keyed_passes (s.pane p) key))
+    ((at_pane s.plan.focus (after_key key) s).pane p)) (nothing_in (nat_eq s.plan.focus p))
+    (passes_at s s.plan.focus p (after_key key) [] (key_bytes_in (s.pane p) (Some key)) (keyed_passes (s.pane p) key))
 acted_passes s p None act a =
-    subst (λ (on : List ℕ). Passes [] on (s.pane p) ((laid_out (laid s.plan act) s).pane p))
-    (sym (none_in (nat_eq s.plan.focus p) (s.pane p))) (laid_passes s p (laid s.plan act) a)
+    subst (λ (on : List ℕ). Passes [] on (s.pane p) ((laid_out (outcome_of s.plan act) s).pane p))
+    (sym (none_in (nat_eq s.plan.focus p) (s.pane p))) (laid_passes s p (outcome_of s.plan act) a)
 
 entry_passes : (s : SessionState) (e : Entry) (p : ℕ) → Agree s
     → Passes (taken_by s e p) (put_by s e p) (s.pane p) ((after_entry s e).pane p)
 entry_passes s (Given q bytes) p a =
-    subst (λ (off : List ℕ). Passes off (put_by s (Given q bytes) p) (s.pane p) ((at_pane q (fed bytes) s).pane p))
+    subst (λ (off : List ℕ). Passes off (put_by s (Given q bytes) p) (s.pane p) ((at_pane q (after_feed bytes) s).pane p))
     (nothing_in (nat_eq q p))
-    (passes_at s q p (fed bytes) [] (answers_in (s.pane p) bytes) (fed_passes (s.pane p) bytes))
+    (passes_at s q p (after_feed bytes) [] (answers_in (s.pane p) bytes) (fed_passes (s.pane p) bytes))
 entry_passes s (Did client act) p a = acted_passes s p (key_in act) act a
 entry_passes s (Drained q n) p a =
-    subst (λ (on : List ℕ). Passes (taken_by s (Drained q n) p) on (s.pane p) ((at_pane q (drained n) s).pane p)) (nothing_in (nat_eq q p))
-    (passes_at s q p (drained n) (taken_in (s.pane p) n) [] (drained_passes (s.pane p) n))
+    subst (λ (on : List ℕ). Passes (taken_by s (Drained q n) p) on (s.pane p) ((at_pane q (after_drain n) s).pane p)) (nothing_in (nat_eq q p))
+    (passes_at s q p (after_drain n) (taken_in (s.pane p) n) [] (drained_passes (s.pane p) n))
 
 -- ---- entries
 
@@ -193,7 +193,7 @@ passes_on size log es p first last stays x y =
     ∙ ap (λ (xs : List ℕ). xs ++ all_put size log es p) a.2
 
 given_new : (old new : Option Rect) (pane : Option Pane) (output : List ℕ) → is_some pane ≡ is_some old → pane ≡ None
-    → waiting_in (given old new pane) ≡ Some output → output ≡ []
+    → waiting_in (pane_after_act old new pane) ≡ Some output → output ≡ []
 given_new old None pane output a e f = absurd (cc)
 given_new None (Some new) pane output a e f = cc
 given_new (Some old) (Some new) pane output a e f = absurd (let z : false ≡ true = ap is_some (sym e) ∙ a in cc)
@@ -214,15 +214,15 @@ none_laid s p (Refused fault) output a e f = absurd
     (let z : waiting_in None ≡ Some output = subst (λ (o : Option Pane). waiting_in o ≡ Some output) e f in cc)
 
 none_acted : (s : SessionState) (p : ℕ) (key : Option Key) (act : Act) (output : List ℕ) → Agree s → s.pane p ≡ None
-    → waiting_in ((acted key act s).pane p) ≡ Some output → output ≡ []
-none_acted s p (Some key) act output a e f = none_at s s.plan.focus p (keyed key) output e f
-none_acted s p None act output a e f = none_laid s p (laid s.plan act) output a e f
+    → waiting_in ((after_act key act s).pane p) ≡ Some output → output ≡ []
+none_acted s p (Some key) act output a e f = none_at s s.plan.focus p (after_key key) output e f
+none_acted s p None act output a e f = none_laid s p (outcome_of s.plan act) output a e f
 
 none_after : (s : SessionState) (entry : Entry) (p : ℕ) (output : List ℕ) → Agree s → s.pane p ≡ None
     → waiting_in ((after_entry s entry).pane p) ≡ Some output → output ≡ []
-none_after s (Given q bytes) p output a e f = none_at s q p (fed bytes) output e f
+none_after s (Given q bytes) p output a e f = none_at s q p (after_feed bytes) output e f
 none_after s (Did client act) p output a e f = none_acted s p (key_in act) act output a e f
-none_after s (Drained q n) p output a e f = none_at s q p (drained n) output e f
+none_after s (Drained q n) p output a e f = none_at s q p (after_drain n) output e f
 
 waits_none : (o : Option Pane) → waiting_in o ≡ None → o ≡ None
 waits_none None e = refl

@@ -20,12 +20,12 @@ use Rattle.roam_session.specs.Sessions.{SessionSize}
 use Rattle.roam_world.proofs.Alike.{is_same-same, alike_same, alike_known, alike_new}
 use Rattle.roam_world.specs.Versions.{is_same_version, difference_by}
 use Rattle.roam_world.proofs.Versions.{change_short}
-use Rattle.roam_world.specs.Lists.{IsIn, put}
+use Rattle.roam_world.specs.Lists.{IsIn, with_value}
 use Rattle.roam_world.specs.Moments.{is_spent}
 use Rattle.roam_world.specs.Texts.{datagram_with, datagrams_of, is_to_server, is_watching, kind_from}
 use Rattle.roam_world.specs.Servers.{Record, Server, new_server, no_record, moment}
 use Rattle.roam_world.specs.ServerArrivals.{Coming, turned_away, noted, completed, coming, coming_gathered, arrival_with, is_same, most_of, alike_in, alike}
-use Rattle.roam_world.specs.Ticks.{makes, number_after, screen_to, holds_after, sends, down_to, fragments_to, after_sent, ticked, datagrams_to, is_record_spent, Parcel, parcel, parcels_to, sent_by, is_tick_spent}
+use Rattle.roam_world.specs.Ticks.{makes, number_after, screen_to, holds_after, sends, down_to, fragments_to, after_sent, ticked_record, datagrams_to, is_record_spent, Parcel, parcel, parcels_to, sent_by, is_tick_spent}
 use Rattle.roam_world.specs.Clients.{Client, nobody, new_client, moment_of}
 use Rattle.roam_world.specs.Sendings.{up_from, fragments_from, datagrams_from, is_client_spent, after_sending}
 use Rattle.roam_world.specs.Worlds.{World, new_world, Event, PaneBytes, Typed, ServerTick, ClientTick, ToServer, ToClient, Start, Drain, Reply, with_client}
@@ -214,14 +214,14 @@ to_sendable w now e h k d i =
             (or_right (is_spent (length r.instructions + 1)) (is_spent (r.datagrams + length (fragments_to r n (s id) now))) g))
             (short (sends_known r n (s id) now f)) (λ z. absurd (cc)) y
 
-known_ticked : (r : Record) (n : ℕ) (s : Screenshot) (now : ℕ) → (ticked r n s now).known ≡ r.known
+known_ticked : (r : Record) (n : ℕ) (s : Screenshot) (now : ℕ) → (ticked_record r n s now).known ≡ r.known
 known_ticked r n s now = go (sends r n s now)
   where
     go : (b : Bool) → (cond b (after_sent r n s now) (record r { sender = holds_after r n s now })).known ≡ r.known
     go true = refl
     go false = refl
 
-watches_ticked : (r : Record) (n : ℕ) (s : Screenshot) (now : ℕ) → (ticked r n s now).watches ≡ r.watches
+watches_ticked : (r : Record) (n : ℕ) (s : Screenshot) (now : ℕ) → (ticked_record r n s now).watches ≡ r.watches
 watches_ticked r n s now = go (sends r n s now)
   where
     go : (b : Bool) → (cond b (after_sent r n s now) (record r { sender = holds_after r n s now })).watches ≡ r.watches
@@ -281,7 +281,7 @@ record IsArrival (s : Server) (id : ℕ) (r : Record) (ids : List ℕ) : Type 0 
   here : IsIn id ids
   stays : (j : ℕ) → IsIn j s.arrival → IsIn j ids
   only : (j : ℕ) → IsIn j ids → IsIn j s.arrival ⊎ (id ≡ j)
-  few : (watches : Bool) → length (alike_in (put s.records id r) watches ids) ≤ most_of watches
+  few : (watches : Bool) → length (alike_in (with_value s.records id r) watches ids) ≤ most_of watches
 
 arrival_is : (w : World) (d : DatagramValue) (r : Record) → r.watches ≡ is_watching d.kind → Enters w.server d → Counts w
     → IsArrival w.server d.client r (arrival_with w.server d.client)
@@ -309,7 +309,7 @@ arrival_is w d r watches enters k = go (w.server.records d.client).known refl
 
 -- the server hears from a start
 heard_counts : (w : World) (s : Server) (d : DatagramValue) (r : Record) → s.session ≡ w.server.session
-    → s.records ≡ put w.server.records d.client r → s.arrival ≡ arrival_with w.server d.client
+    → s.records ≡ with_value w.server.records d.client r → s.arrival ≡ arrival_with w.server d.client
     → r.known ≡ true → r.watches ≡ is_watching d.kind → d.client < 2 ^ 64 → Enters w.server d → Counts w → Counts (record w { server = s })
 heard_counts w s d r same records arrival known watches small enters k =
     let is = arrival_is w d r watches enters k in
@@ -318,17 +318,17 @@ heard_counts w s d r same records arrival known watches small enters k =
       session = subst (λ (n : ℕ). n < 2 ^ 64) (sym same) k.session;
       starts = k.starts;
       arrived = subst (λ (f : ℕ → Record). (j : ℕ) → (f j).known ≡ true → IsIn j s.arrival) (sym records)
-          (subst (λ (ids : List ℕ). (j : ℕ) → (put w.server.records d.client r j).known ≡ true → IsIn j ids) (sym arrival)
+          (subst (λ (ids : List ℕ). (j : ℕ) → (with_value w.server.records d.client r j).known ≡ true → IsIn j ids) (sym arrival)
           (on_put (λ j x. x.known ≡ true → IsIn j (arrival_with w.server d.client)) w.server.records d.client r (λ e. is.here)
           (λ j e f. is.stays j (k.arrived j f))));
       known = subst (λ (f : ℕ → Record). (j : ℕ) → IsIn j s.arrival → (f j).known ≡ true) (sym records)
-          (subst (λ (ids : List ℕ). (j : ℕ) → IsIn j ids → (put w.server.records d.client r j).known ≡ true) (sym arrival)
+          (subst (λ (ids : List ℕ). (j : ℕ) → IsIn j ids → (with_value w.server.records d.client r j).known ≡ true) (sym arrival)
           (on_put (λ j x. IsIn j (arrival_with w.server d.client) → x.known ≡ true) w.server.records d.client r (λ i. known)
           (λ j e i. elim (is.only j i) [ inl old ↦ k.known j old | inr z ↦ absurd (other j e z) ])));
       ids = subst (λ (ids : List ℕ). (j : ℕ) → IsIn j ids → j < 2 ^ 64) (sym arrival)
           (λ j i. elim (is.only j i) [ inl old ↦ k.ids j old | inr e ↦ subst (λ (n : ℕ). n < 2 ^ 64) e small ]);
       few = subst (λ (f : ℕ → Record). (b : Bool) → length (alike_in f b s.arrival) ≤ most_of b) (sym records)
-          (subst (λ (ids : List ℕ). (b : Bool) → length (alike_in (put w.server.records d.client r) b ids) ≤ most_of b) (sym arrival) is.few);
+          (subst (λ (ids : List ℕ). (b : Bool) → length (alike_in (with_value w.server.records d.client r) b ids) ≤ most_of b) (sym arrival) is.few);
       sent = k.sent;
     }
   where
@@ -377,7 +377,7 @@ counts-step w (ServerTick now) r w' i (did_tick x e is) h k =
       known = (λ id j. known_ticked (w.server.records id) (number_after w.server (moment w.server now))
           (screen_to w.server (moment w.server now) id) (moment w.server now) ∙ k.known id j);
       ids = k.ids;
-      few = (λ b. subst (λ (n : ℕ). n ≤ most_of b) (sym (alike_same (λ id. ticked (w.server.records id)
+      few = (λ b. subst (λ (n : ℕ). n ≤ most_of b) (sym (alike_same (λ id. ticked_record (w.server.records id)
           (number_after w.server (moment w.server now)) (screen_to w.server (moment w.server now) id) (moment w.server now))
           w.server.records b w.server.arrival (λ id j. watches_ticked (w.server.records id) (number_after w.server (moment w.server now))
           (screen_to w.server (moment w.server now) id) (moment w.server now)))) (k.few b));

@@ -26,7 +26,7 @@ use Rattle.roam_world.specs.Numbers.{screen, IsScreenOf, acts_of}
 use Rattle.roam_world.specs.Texts.{Address, update_in, datagrams_of, is_to_server, is_watching}
 use Rattle.roam_world.specs.Servers.{Note, Record, no_record, Server}
 use Rattle.roam_world.specs.ServerArrivals.{heard_from, informed_from, after_note, new_acts, after_acts}
-use Rattle.roam_world.specs.Ticks.{makes, cuts_after, number_after, screen_to, is_live, is_offered, holds_after, sends, down_to, fragments_to, after_sent, ticked, datagrams_to, Parcel, parcel, parcels_to, sent_by, is_tick_spent}
+use Rattle.roam_world.specs.Ticks.{makes, cuts_after, number_after, screen_to, is_live, is_offered, holds_after, sends, down_to, fragments_to, after_sent, ticked_record, datagrams_to, Parcel, parcel, parcels_to, sent_by, is_tick_spent}
 use Rattle.roam_world.specs.Clients.{Client}
 use Rattle.roam_world.specs.Worlds.{World, with_server, after_server_tick}
 use Rattle.roam_world.specs.Laws.{greatest_from, no_note}
@@ -309,7 +309,7 @@ module _ (size : SessionSize) (log : List Entry) (cuts : List ℕ) (taken : List
   tells u t = elim (IsIn-push_cases t.0 (down_to r n s now) r.instructions t.1)
       [ inl o ↦ inl (t.0, o, t.2) | inr e ↦ inr (sym t.2 ∙ ap update_in (sym e)) ]
 
-  pub line_ticked : LineOf size log cuts taken (ticked r n s now) c
+  pub line_ticked : LineOf size log cuts taken (ticked_record r n s now) c
   line_ticked = go (sends r n s now) refl
     where
       a : ActsOf taken r c
@@ -378,7 +378,7 @@ line-cut size log cuts k taken r c l =
     }
 
 fragment_ticked : (to : Bool) (d : DatagramValue) (r : Record) (c : Client) (n : ℕ) (s : Screenshot) (now : ℕ) → IsFragment to d r c
-    → IsFragment to d (ticked r n s now) c
+    → IsFragment to d (ticked_record r n s now) c
 fragment_ticked true d r c n s now p = p
 fragment_ticked false d r c n s now p = go (sends r n s now)
   where
@@ -390,7 +390,7 @@ fragment_ticked false d r c n s now p = go (sends r n s now)
 -- the datagrams of a tick to a record
 pub to_record : (session id : ℕ) (r : Record) (n : ℕ) (s : Screenshot) (now : ℕ) (d : DatagramValue)
     → IsIn d (datagrams_to session id r n s now)
-    → IsPacked down_text (ticked r n s now).instructions r.version ToClient session id d
+    → IsPacked down_text (ticked_record r n s now).instructions r.version ToClient session id d
 to_record session id r n s now d i = go (sends r n s now) i
   where
     go : (b : Bool) → IsIn d (cond b (datagrams_of r.version ToClient session id r.datagrams (length r.instructions + 1) (fragments_to r n s now)) [])
@@ -411,7 +411,7 @@ to_known session id r n s now d i = go (sends r n s now) refl i
     go false e i = absurd i
 
 -- what fits still fits after a tick, which gives nothing to a record that isn't known
-fits_ticked : (r : Record) (c : Client) (n : ℕ) (s : Screenshot) (now : ℕ) → Fits r c → Fits (ticked r n s now) c
+fits_ticked : (r : Record) (c : Client) (n : ℕ) (s : Screenshot) (now : ℕ) → Fits r c → Fits (ticked_record r n s now) c
 fits_ticked r c n s now f = go (sends r n s now) refl
   where
     go : (b : Bool) → sends r n s now ≡ b → Fits (cond b (after_sent r n s now) (record r { sender = holds_after r n s now })) c
@@ -431,7 +431,7 @@ fits_ticked r c n s now f = go (sends r n s now) refl
 -- a datagram of a tick, and where it goes
 pub record IsOfTick (s : Server) (now : ℕ) (p : Parcel) : Type 0 where
   pub known : (s.records p.datagram.client).known ≡ true
-  pub packed : IsPacked down_text (ticked (s.records p.datagram.client) (number_after s now) (screen_to s now p.datagram.client)
+  pub packed : IsPacked down_text (ticked_record (s.records p.datagram.client) (number_after s now) (screen_to s now p.datagram.client)
       now).instructions (s.records p.datagram.client).version ToClient s.session p.datagram.client p.datagram
   pub to : p.to ≡ (s.records p.datagram.client).address
 
@@ -446,10 +446,10 @@ in_tick s now p i =
     record {
       known = subst (λ (k : ℕ). (s.records k).known ≡ true) at
           (to_known s.session f.0 (s.records f.0) (number_after s now) (screen_to s now f.0) now m.0 m.1);
-      packed = subst (λ (k : ℕ). IsPacked down_text (ticked (s.records k) (number_after s now) (screen_to s now k) now).instructions
+      packed = subst (λ (k : ℕ). IsPacked down_text (ticked_record (s.records k) (number_after s now) (screen_to s now k) now).instructions
           (s.records k).version ToClient s.session k p.datagram) at
           (subst (λ (y : DatagramValue). IsPacked down_text
-          (ticked (s.records f.0) (number_after s now) (screen_to s now f.0) now).instructions (s.records f.0).version ToClient s.session f.0
+          (ticked_record (s.records f.0) (number_after s now) (screen_to s now f.0) now).instructions (s.records f.0).version ToClient s.session f.0
           y) same q);
       to = ap (λ (y : Parcel). y.to) (sym m.2) ∙ ap (λ (k : ℕ). (s.records k).address) at;
     }
@@ -529,15 +529,15 @@ keeps-tick w now spent h =
     c = cuts_hold w now spent h
 
     new : (d : DatagramValue) → IsIn d (map (λ (p : Parcel). p.datagram) (sent_by w.server now))
-        → IsFragment (is_to_server d.kind) d (ticked (w.server.records d.client) (number_after w.server now) (screen_to w.server now d.client)
+        → IsFragment (is_to_server d.kind) d (ticked_record (w.server.records d.client) (number_after w.server now) (screen_to w.server now d.client)
         now) (w.clients d.client)
     new d i =
         let m = IsIn-map (λ (p : Parcel). p.datagram) d (sent_by w.server now) i in
         let p = (in_tick w.server now m.0 m.1).packed in
         subst (λ (x : DatagramValue). IsFragment (is_to_server x.kind) x
-        (ticked (w.server.records x.client) (number_after w.server now) (screen_to w.server now x.client) now) (w.clients x.client)) m.2
+        (ticked_record (w.server.records x.client) (number_after w.server now) (screen_to w.server now x.client) now) (w.clients x.client)) m.2
         (subst (λ (kind : Kind). IsFragment (is_to_server kind) m.0.datagram
-        (ticked (w.server.records m.0.datagram.client) (number_after w.server now) (screen_to w.server now m.0.datagram.client) now)
+        (ticked_record (w.server.records m.0.datagram.client) (number_after w.server now) (screen_to w.server now m.0.datagram.client) now)
         (w.clients m.0.datagram.client)) (sym p.kind_is) p.fragment)
 
     born : (d : DatagramValue) → IsIn d (map (λ (p : Parcel). p.datagram) (sent_by w.server now)) → Bears d (w.clients d.client)

@@ -2,7 +2,7 @@
 use Rattle.std.specs.Prelude.{ℕ, max, List, [], ◌∷◌, ◌++◌, Option, None, Bool, true, false}
 use Rattle.roam_screens.specs.Screenshot.{Screenshot}
 use Rattle.roam_acts.specs.declared.acts.Act.{Act}
-use Rattle.roam_acts.specs.Senders.{Typing, typed, start as no_acts}
+use Rattle.roam_acts.specs.Senders.{Typing, after_typing, start as no_acts}
 use Rattle.roam_sync.specs.Receivers.{Receiving, start}
 use Rattle.roam_wire.specs.Gatherers.{Gathering, nothing}
 use Rattle.roam_wire.specs.Instructions.{UpValue}
@@ -17,7 +17,7 @@ pub record Client : Type 0 where
   pub version : Version
   pub watches : Bool
   -- all acts that were typed at it, as a history: no program keeps it
-  pub typed : List Act
+  pub after_typing : List Act
   -- how many of them are acknowledged, and those that aren't
   pub acts : Typing
   -- what is gathered of the newest instruction to it
@@ -72,4 +72,4 @@ shown_screen c = c.receiver.newest.state
 
 -- one more act was typed
 abbrev pub after_typed : Client → Act → Client
-after_typed c act = record c { typed = c.typed ++ act ∷ []; acts = typed c.acts act }
+after_typed c act = record c { typed = c.typed ++ act ∷ []; acts = after_typing c.acts act }

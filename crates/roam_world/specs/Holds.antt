@@ -27,9 +27,9 @@ use Rattle.roam_wire.specs.declared.versions.Version.TheVariants.{Two}
 use Rattle.roam_wire.specs.Datagrams.{DatagramValue, IsDatagram}
 
 -- the instruction of an id, of those that were sent
-abbrev pub numbered : {V : Type 0} → List V → ℕ → Option V
-numbered vs zero = None
-numbered vs (suc n) = slice_get vs n
+abbrev pub instruction_of : {V : Type 0} → List V → ℕ → Option V
+instruction_of vs zero = None
+instruction_of vs (suc n) = slice_get vs n
 
 abbrev pub fragments_by : {V : Type 0} → (V → List ℕ) → Option V → List (List ℕ)
 fragments_by text_of None = []
@@ -37,7 +37,7 @@ fragments_by text_of (Some v) = fragments_of (text_of v)
 
 -- for each id the fragments of its instruction's text
 abbrev pub cuts_of : {V : Type 0} → (V → List ℕ) → List V → ℕ → List (List ℕ)
-cuts_of text_of vs n = fragments_by text_of (numbered vs n)
+cuts_of text_of vs n = fragments_by text_of (instruction_of vs n)
 
 -- what is gathered are fragments of one of these instructions
 pub record Gathers {V : Type 0} (text_of : V → List ℕ) (vs : List V) (g : Gathering) : Type 0 where

@@ -11,5 +11,5 @@ abbrev pub IsFront : {X : Type 0} → List X → List X → Type 0
 IsFront {X} xs all = (rest : List X) × (all ≡ xs ++ rest)
 
 -- the values with another one under this number
-abbrev pub put : {X : Type 0} → (ℕ → X) → ℕ → X → ℕ → X
-put values n x m = if m == n then x else values m
+abbrev pub with_value : {X : Type 0} → (ℕ → X) → ℕ → X → ℕ → X
+with_value values n x m = if m == n then x else values m

@@ -12,12 +12,12 @@ unfoldable pub first_screen : Screenshot
 first_screen = blank_screenshot 24 80
 
 -- the length of the log at the tick that made the number; numbers are made from 1 on
-abbrev pub cut : List ℕ → ℕ → ℕ
-cut cuts n = slice_index cuts (n - 1)
+abbrev pub cut_of : List ℕ → ℕ → ℕ
+cut_of cuts n = slice_index cuts (n - 1)
 
 -- the screen of a number, as a start of a version is shown it: the session's face after the log's entries up to its cut
 abbrev pub screen : Version → SessionSize → List Entry → List ℕ → ℕ → Screenshot
-screen v size log cuts n = if n == 0 then first_screen else seen_by v (face size (take (cut cuts n) log))
+screen v size log cuts n = if n == 0 then first_screen else seen_by v (face size (take (cut_of cuts n) log))
 
 -- a number was made, and this is its screen
 pub record IsScreenOf (v : Version) (size : SessionSize) (log : List Entry) (cuts : List ℕ) (n : ℕ) (s : Screenshot) : Type 0 where

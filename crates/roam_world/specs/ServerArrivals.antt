@@ -11,7 +11,7 @@ use Rattle.roam_wire.specs.Gatherers.{Gathering, Answer, Part, Old, Whole, gathe
 use Rattle.roam_wire.specs.Instructions.{UpValue}
 use Rattle.roam_session.specs.Sessions.{SessionSize, Entry, Did}
 use Rattle.roam_session.specs.Refusals.{stops}
-use Rattle.roam_world.specs.Lists.{put}
+use Rattle.roam_world.specs.Lists.{with_value}
 use Rattle.roam_world.specs.Moments.{owed_from}
 use Rattle.roam_world.specs.Texts.{Address, is_to_server, is_watching}
 use Rattle.roam_world.specs.Versions.{is_same_version}
@@ -107,7 +107,7 @@ abbrev pub after_note : Server → DatagramValue → Address → ℕ → Gatheri
 after_note s d from now g =
     record s {
       clock = now;
-      records = put s.records d.client (heard_from (s.records d.client) d from now g);
+      records = with_value s.records d.client (heard_from (s.records d.client) d from now g);
       arrival = arrival_with s d.client;
     }
 
@@ -130,6 +130,6 @@ after_acts s d from now g u n =
       log = s.log ++ map (Did d.client) (take n (new_acts s d u));
       input = s.input || nat_lt 0 n;
       clock = now;
-      records = put s.records d.client (informed_from (s.records d.client) d from now g u n);
+      records = with_value s.records d.client (informed_from (s.records d.client) d from now g u n);
       arrival = arrival_with s d.client;
     }

@@ -78,8 +78,8 @@ after_sent r n s now =
     }
 
 -- a record after the tick
-abbrev pub ticked : Record → ℕ → Screenshot → ℕ → Record
-ticked r n s now = if sends r n s now then after_sent r n s now else record r { sender = holds_after r n s now }
+abbrev pub ticked_record : Record → ℕ → Screenshot → ℕ → Record
+ticked_record r n s now = if sends r n s now then after_sent r n s now else record r { sender = holds_after r n s now }
 
 -- the datagrams to the record of a client start
 abbrev pub datagrams_to : ℕ → ℕ → Record → ℕ → Screenshot → ℕ → List DatagramValue
@@ -128,5 +128,5 @@ after_tick s now =
       made_at = if makes s now then now else s.made_at;
       input = if makes s now then false else s.input;
       clock = now;
-      records = λ id. ticked (s.records id) (number_after s now) (screen_to s now id) now;
+      records = λ id. ticked_record (s.records id) (number_after s now) (screen_to s now id) now;
     }

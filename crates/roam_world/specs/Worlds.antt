@@ -3,7 +3,7 @@ use Rattle.std.specs.Prelude.{ℕ, ◌-◌, ◌==◌, List, [], ◌++◌, map, s
 use Rattle.roam_cells.specs.declared.faults.Fault.{Fault}
 use Rattle.roam_acts.specs.declared.acts.Act.{Act}
 use Rattle.roam_session.specs.Sessions.{SessionSize}
-use Rattle.roam_world.specs.Lists.{put}
+use Rattle.roam_world.specs.Lists.{with_value}
 use Rattle.roam_world.specs.Texts.{Address}
 use Rattle.roam_world.specs.Servers.{Server, new_server}
 use Rattle.roam_world.specs.Ticks.{Parcel, sent_by, after_tick}
@@ -67,7 +67,7 @@ abbrev pub with_server : World → Server → World
 with_server w s = record w { server = s }
 
 abbrev pub with_client : World → ℕ → Client → World
-with_client w id c = record w { clients = put w.clients id c }
+with_client w id c = record w { clients = with_value w.clients id c }
 
 -- the server ticked
 abbrev pub after_server_tick : World → ℕ → World
@@ -78,10 +78,11 @@ after_server_tick w now =
 abbrev pub after_client_sent : World → ℕ → ℕ → World
 after_client_sent w id now =
     record w {
-      clients = put w.clients id (after_sending (w.clients id) now);
+      clients = with_value w.clients id (after_sending (w.clients id) now);
       sent = w.sent ++ datagrams_from w.server.session id (w.clients id);
     }
 
 -- a client started
 abbrev pub after_start : World → ℕ → ℕ → Version → Bool → World
-after_start w slot id v watches = record w { clients = put w.clients id (new_client v watches); slots = put w.slots slot (Some id) }
+after_start w slot id v watches =
+    record w { clients = with_value w.clients id (new_client v watches); slots = with_value w.slots slot (Some id) }

@@ -6,7 +6,7 @@
 //! are removed` by the ports.
 use crate::files::{first_untrue, is_so, ports_in};
 use crate::programs::Programs;
-use roam_places::{Place, Places};
+use roam_pane_list::{ListedPane, PaneList};
 use roam_sockets::ServerPorts;
 use roam_turns::Ports;
 use std::alloc::Global;
@@ -61,12 +61,12 @@ fn is_numbered(ports: &mut ServerPorts<&HostRuntime>, words: &str) -> bool {
     false
 }
 
-fn place_of(words: &str) -> Option<Option<Place>> {
+fn pane_of(words: &str) -> Option<Option<ListedPane>> {
     if words == "none" {
         return Some(None);
     }
     let (life, rows) = words.split_once(' ')?;
-    Some(Some(Place {
+    Some(Some(ListedPane {
         life: life.parse::<u64>().ok()?,
         rows: rows.parse::<u16>().ok()?,
         cols: 80,
@@ -74,20 +74,20 @@ fn place_of(words: &str) -> Option<Option<Place>> {
 }
 
 /// Pane 1, and pane 2 where it is there, which is in focus then.
-fn places(first: Option<Place>, second: Option<Place>) -> Places {
-    let mut places = Places::unknown();
-    places.set(1, first);
-    places.set(2, second);
-    places.set_focus(if second.is_some() { 2 } else { 1 });
-    places
+fn panes(first: Option<ListedPane>, second: Option<ListedPane>) -> PaneList {
+    let mut panes = PaneList::unknown();
+    panes.set(1, first);
+    panes.set(2, second);
+    panes.set_focus(if second.is_some() { 2 } else { 1 });
+    panes
 }
 
 fn is_told(alloc: Global, ports: &mut ServerPorts<&HostRuntime>, words: &str) -> bool {
     if let Some((first, second)) = words.split_once(", ")
-        && let Some(first) = place_of(first)
-        && let Some(second) = place_of(second)
+        && let Some(first) = pane_of(first)
+        && let Some(second) = pane_of(second)
     {
-        ports.tell_panes(alloc, &places(first, second));
+        ports.tell_panes(alloc, &panes(first, second));
         return true;
     }
     false

@@ -3,7 +3,7 @@ use Rattle.roam_grid.specs.Marks.{also_marked}
 use Rattle.roam_layout.specs.Rects.{rect_in}
 use Rattle.roam_layout.specs.Layouts.{panes}
 use Rattle.roam_layout.specs.declared.rects.Rect.{Rect}
-use Rattle.roam_session.specs.Marks.{is_touched, touched, view_in}
+use Rattle.roam_session.specs.Marks.{is_touched, touched_marks, view_in}
 use Rattle.roam_session.specs.Stands.{IsPlaced}
 use Rattle.roam_session.proofs.Marked.{touched_rows}
 use Rattle.roam_session.proofs.marks.touch_pane.Goals as goal
@@ -33,6 +33,6 @@ returns-in-Some-view c =
           ∙ ap (λ n. also_marked (is_touched x v n c.marks.result.now) a.marks.now) c.rows.ensures.rows
           ∙ ap (λ named. also_marked (is_touched x v rows named) a.marks.now) (c.marks.ensures.marks ∙ ap (λ n. take n a.term.now.marks) size.0)
           ∙ touched_rows x v rows a.term.now.marks a.marks.now
-          ∙ sym (ap (λ o. touched (Some x) o rows a.term.now.marks a.marks.now) view)
-          ∙ sym (ap (λ o. touched o (view_in a.layout.now a.pane) rows a.term.now.marks a.marks.now) rect);
+          ∙ sym (ap (λ o. touched_marks (Some x) o rows a.term.now.marks a.marks.now) view)
+          ∙ sym (ap (λ o. touched_marks o (view_in a.layout.now a.pane) rows a.term.now.marks a.marks.now) rect);
     }

@@ -1,6 +1,6 @@
 use Rattle.std.proofs.Common.{◌≡◌, ◌+◌, suc, sym, ap, ◌∙◌, subst, arith}
 use Rattle.roam_cells.specs.Place.{IsWholeRow}
-use Rattle.roam_history.specs.Histories.{Scrollback, pushed}
+use Rattle.roam_history.specs.Histories.{Scrollback, after_push}
 use Rattle.roam_history.specs.Lines.{with_blanks}
 use Rattle.roam_term.specs.Leaving.{top_rows}
 use Rattle.roam_term.specs.Terminal.{with_rows}
@@ -23,8 +23,8 @@ loop-i-preserved c =
     let cols : c.loop-i.history.cols ≡ s.cols = ap (λ (h : Scrollback). h.cols) c.loop-i.invariant ∙ c.requires.cols in
     let next : suc i ≡ i + 1 = omega arith in
     c.push_front.ensures.pushed
-    ∙ ap (λ n. pushed (with_blanks n front) c.loop-i.history) cols
-    ∙ ap (λ row. pushed row c.loop-i.history) (sym c.front_of_row.ensures.row)
-    ∙ ap (pushed _) c.loop-i.invariant
+    ∙ ap (λ n. after_push (with_blanks n front) c.loop-i.history) cols
+    ∙ ap (λ row. after_push row c.loop-i.history) (sym c.front_of_row.ensures.row)
+    ∙ ap (after_push _) c.loop-i.invariant
     ∙ with_pushed (top_rows i s) _ c.args.history.now
     ∙ ap (λ n. with_rows (top_rows n s) c.args.history.now) next

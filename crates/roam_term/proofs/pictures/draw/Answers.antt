@@ -4,7 +4,7 @@ use Rattle.std.proofs.lemmas.List.{length-map}
 use Rattle.std.proofs.lemmas.List.Elements.{All-drop}
 use Rattle.roam_grid.specs.Screen.{Screen, IsFrame}
 use Rattle.roam_history.specs.Histories.{Scrollback, IsScrollback, IsRow, last}
-use Rattle.roam_term.specs.Picture.{shown, cells_in_view}
+use Rattle.roam_term.specs.Picture.{shown_glyph, cells_in_view}
 use Rattle.roam_term.proofs.Views.{view_size, view_whole}
 use Rattle.roam_term.proofs.Showing.{shown_whole, shown_unguarded}
 use Rattle.roam_term.proofs.pictures.draw.Goals as goal
@@ -83,7 +83,7 @@ new-requires c =
       size = rw (c.rows-2.ensures.rows, c.cols.ensures.cols) frame.size;
       count =
           rw (c.in_ok-cells.ensures.cells, c.rows-2.ensures.rows, c.cols.ensures.cols, c.grid-grid.ensures.screen)
-          (length-map cells (shown l.modes.reverse_screen) ∙ size);
+          (length-map cells (shown_glyph l.modes.reverse_screen) ∙ size);
       cursor = record {
         row_from = omega (arith, c.min.ensures, c.cursor-row.ensures.row, c.rows-3.ensures.rows, frame.size.least_rows);
         row_to = omega (arith, c.min.ensures, c.rows-3.ensures.rows, c.rows-2.ensures.rows);

@@ -1,12 +1,12 @@
 use Rattle.std.proofs.Common.{◌≡◌, ◌++◌, ◌*◌, map, take, ap, ◌∙◌, append_assoc, arith}
-use Rattle.roam_term.specs.Picture.{shown}
+use Rattle.roam_term.specs.Picture.{shown_glyph}
 use Rattle.roam_term.proofs.Showing.{rows-more}
 use Rattle.roam_term.proofs.pictures.show_screen.Goals as goal
 
 pub loop-i-preserved : goal.loop-i-preserved
 loop-i-preserved c =
     let screen = c.args.grid.now.screen in
-    let show = map (shown c.args.reversed) in
+    let show = map (shown_glyph c.args.reversed) in
     let before = c.args.cells.now.items in
     let seen = show (take (c.loop-i.i * screen.cols) screen.cells) in
     c.in_ok-show_row.ensures.cells
@@ -20,5 +20,5 @@ returns c =
     let screen = c.args.grid.now.screen in
     let all : c.loop-i.i ≡ c.args.count = omega (arith, c.loop-i-test.false, c.loop-i.auto) in
     record {
-      cells = c.loop-i.invariant ∙ ap (λ n. c.args.cells.now.items ++ map (shown c.args.reversed) (take (n * screen.cols) screen.cells)) all;
+      cells = c.loop-i.invariant ∙ ap (λ n. c.args.cells.now.items ++ map (shown_glyph c.args.reversed) (take (n * screen.cols) screen.cells)) all;
     }

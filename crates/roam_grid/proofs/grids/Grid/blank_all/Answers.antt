@@ -1,5 +1,5 @@
 use Rattle.std.proofs.Common.{◌∙◌, ap}
-use Rattle.roam_rows.specs.Rows.{Rows, mapped}
+use Rattle.roam_rows.specs.Rows.{Rows, mapped_rows}
 use Rattle.roam_rows.specs.Erasing.{rows_blanked}
 use Rattle.roam_grid.specs.Frames.{all_blank}
 use Rattle.roam_grid.specs.Kept.{screen_of}
@@ -12,4 +12,4 @@ returns-clause-screen c =
     let f = c.self.inside in
     rw (← c.self.view_is)
     (ap (λ (v : Rows). screen_of (record f { ring = v }))
-    (rows_all_blank f.ring c.blank_rows.new.self (c.blank_rows.ensures.ring ∙ ap (λ k. mapped (rows_blanked 0 k) f.ring) c.rows-rows.ensures.rows)))
+    (rows_all_blank f.ring c.blank_rows.new.self (c.blank_rows.ensures.ring ∙ ap (λ k. mapped_rows (rows_blanked 0 k) f.ring) c.rows-rows.ensures.rows)))

@@ -1,5 +1,5 @@
 use Rattle.std.proofs.Common.{◌∙◌, sym, ap}
-use Rattle.roam_grid.specs.Writing.{columns, advanced}
+use Rattle.roam_grid.specs.Writing.{columns, after_advance}
 use Rattle.roam_grid.proofs.MarkedRuns.{marks_inside}
 use Rattle.roam_grid.proofs.Puts.{put_inside, first_inside}
 use Rattle.roam_grid.proofs.grids.Grid.put_inside.Goals as goal
@@ -9,8 +9,8 @@ returns-clause-screen c =
     let a = c.args in
     let q = c.requires in
     let s = a.self.now.screen in
-    c.advance.ensures.screen ∙ ap (λ n. advanced n a.writing c.ink.new.self.screen) c.columns_of.ensures.columns
-    ∙ ap (advanced (columns a.cell) a.writing) c.ink.ensures.screen ∙ sym (put_inside a.cell a.writing s q.over q.settled q.room)
+    c.advance.ensures.screen ∙ ap (λ n. after_advance n a.writing c.ink.new.self.screen) c.columns_of.ensures.columns
+    ∙ ap (after_advance (columns a.cell) a.writing) c.ink.ensures.screen ∙ sym (put_inside a.cell a.writing s q.over q.settled q.room)
 
 pub returns-clause-first : goal.returns-clause-first
 returns-clause-first c =

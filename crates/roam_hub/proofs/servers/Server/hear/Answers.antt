@@ -2,8 +2,8 @@ use Rattle.std.proofs.Common.{◌≡◌, Bool, ap, ◌∙◌, sym, subst}
 use Rattle.std.specs.Prelude.{Ok, nat_lt, ◌||◌}
 use Rattle.std.proofs.lemmas.Result.{err_from_is_err_and}
 use Rattle.roam_wire.specs.Datagrams.{datagram_value}
-use Rattle.roam_hub.specs.Servers.{ServerView, Stands, Comes, address_of, stopped}
-use Rattle.roam_hub.specs.Records.{answered}
+use Rattle.roam_hub.specs.Servers.{ServerView, Stands, Comes, address_of, stop_after}
+use Rattle.roam_hub.specs.Records.{answer_to_datagram}
 use Rattle.roam_hub.proofs.Serving.{not_read_datagram, not_admitted, after_none, after_noted}
 use Rattle.roam_hub.specs.contracts.servers.Server.{the_view}
 use Rattle.roam_hub.proofs.servers.Server.hear.Goals.{then-self, else-self}
@@ -20,7 +20,7 @@ returns-in_err-admit-clause-heard c s st =
     let p = err_from_is_err_and c.from_residual-in_err-admit.result c.from_residual-in_err-admit.ensures.1 in
     let found = c.in_ok-datagram.ensures.found in
     rw (p.1, p.2) (subst (λ (v : ServerView). Comes s (address_of c.args.from) c.args.bytes.now c.args.now
-    (stopped c.in_err-admit.field-0.0 0) v)
+    (stop_after c.in_err-admit.field-0.0 0) v)
     c.self.view_is
     (not_admitted _ s (address_of c.args.from) c.args.bytes.now (datagram_value c.in_ok-datagram.datagram) c.args.now _
     (subst (λ (v : ServerView). Stands v s) (sym c.self.view_is) st) (record { is = found.0; spelled = found.1 })
@@ -46,7 +46,7 @@ returns-clause-heard c s st =
       | then-self w ↦ w.self-is ∙ w.if-self.true ∙ sym (ap (λ b. b || nat_lt 0 c.in_ok-taking.taking.taken) w.if-self.true)
       | else-self w ↦ w.self-is ∙ sym (ap (λ b. b || nat_lt 0 c.in_ok-taking.taking.taken) w.if-self.false)
     ] in
-    subst (λ (b : Bool). Comes s (address_of c.args.from) c.args.bytes.now c.args.now (answered (Ok c.in_ok-taking.taking))
+    subst (λ (b : Bool). Comes s (address_of c.args.from) c.args.bytes.now c.args.now (answer_to_datagram (Ok c.in_ok-taking.taking))
     (record (the_view c.self.inside) {
       state = c.hear_in.new.session;
       input = b;

@@ -2,7 +2,7 @@ use Rattle.std.proofs.Common.{arith, rules, ap, ◌∙◌, sym, pos, ◌+ℤ◌}
 use Rattle.std.specs.Prelude.{slice_set, slice_index}
 use Rattle.roam_layout.specs.Trees.{shape_of}
 use Rattle.roam_layout.specs.Kept.{plan_of}
-use Rattle.roam_layout.specs.Layouts.{scroll, viewed, Laid}
+use Rattle.roam_layout.specs.Layouts.{scroll, view_in_range, Laid}
 use Rattle.roam_layout.proofs.Keeping.{number_of, scroll_done}
 use Rattle.roam_layout.proofs.layouts.Layout.scroll.Goals as goal
 
@@ -20,6 +20,6 @@ pub returns : goal.returns
 returns c =
     record {
       answer = ap (scroll c.args.by) (sym c.self.view_is)
-          ∙ scroll_done c.args.by (plan_of c.self.inside) _ c.from-focus.result c.moved_view.result _ c.in_ok-tree.ensures.shape c.from-focus.ensures (c.moved_view.ensures.view ∙ ap (λ d. viewed (pos (slice_index c.self.inside.views c.from-focus.result) +ℤ d)) (search rules)) (λ _. slice_set c.self.inside.views c.from-focus.result c.moved_view.result)
+          ∙ scroll_done c.args.by (plan_of c.self.inside) _ c.from-focus.result c.moved_view.result _ c.in_ok-tree.ensures.shape c.from-focus.ensures (c.moved_view.ensures.view ∙ ap (λ d. view_in_range (pos (slice_index c.self.inside.views c.from-focus.result) +ℤ d)) (search rules)) (λ _. slice_set c.self.inside.views c.from-focus.result c.moved_view.result)
           ∙ ap Laid (sym c.in_ok-of.ensures.layout);
     }

@@ -4,10 +4,10 @@ use Rattle.std.specs.Vec.{with_items}
 use borrow.Rule.Slice.PartMut.{put_mid}
 use Rattle.roam_cells.specs.Glyph.{Glyph}
 use Rattle.roam_rows.specs.Row.{row_moved}
-use Rattle.roam_rows.specs.Places.{moved, in_row}
+use Rattle.roam_rows.specs.Places.{mapped_cells, in_row}
 use Rattle.roam_rows.specs.Turned.{IsTurned, in_order}
 use Rattle.roam_rows.specs.Rows.{Rows}
-use Rattle.roam_rows.specs.Editing.{deleted}
+use Rattle.roam_rows.specs.Editing.{deletion_source}
 use Rattle.roam_rows.specs.Kept.{AreLengths}
 use Rattle.roam_rows.proofs.Lifting.{length-slice, slice_whole}
 use Rattle.roam_rows.proofs.Written.{read_length}
@@ -63,7 +63,7 @@ done : (c : After-delete) →
     let a = c.start_of-start.result in
     let cells = (with_items f.cells (put_mid a (a + f.cols - a) f.cells.items c.delete.new.row)).items in
     (IsTurned f.rows f.cols f.first cells) × (AreLengths f.rows f.cols cells (set f.lengths.items c.place-at.result c.length_deleted.result))
-    × (in_order f.cols f.first cells ≡ moved f.rows f.cols (in_order f.cols f.first f.cells.items) (in_row c.args.row (deleted f.cols c.args.col c.args.n)))
+    × (in_order f.cols f.first cells ≡ mapped_cells f.rows f.cols (in_order f.cols f.first f.cells.items) (in_row c.args.row (deletion_source f.cols c.args.col c.args.n)))
 done c =
     let a = c.args in
     let f = c.self.inside in
@@ -76,11 +76,11 @@ done c =
     let m = start.result + f.cols - start.result in
     let m_is : m ≡ f.cols = omega arith in
     let ys = c.delete.new.row in
-    let one = deleted f.cols a.col a.n in
+    let one = deletion_source f.cols a.col a.n in
     let row = take m (drop start.result f.cells.items) in
     let size : length row ≡ f.cols = length-slice f.rows f.cols f.first a.row start.result m f.cells.items k.turned row_in
     (a_turned f.rows f.cols f.first a.row c.place-at.result start.result m f.cells.items f.lengths.items k.turned k.lengths row_in place.place place.low start.ensures.start m_is) m_is in
-    let ys_is : ys ≡ row_moved row one = (rw c.deref_mut.ensures.value at c.delete.ensures.after) ∙ ap (λ (n : ℕ). row_moved row (deleted n a.col a.n)) size in
+    let ys_is : ys ≡ row_moved row one = (rw c.deref_mut.ensures.value at c.delete.ensures.after) ∙ ap (λ (n : ℕ). row_moved row (deletion_source n a.col a.n)) size in
     let len = read_length f.lengths.items c.place-at.result c.index-len.result.now (omega (arith, k.lengths.count, place.low)) c.index-len.ensures in
     let by = c.length_deleted.ensures in
     let long : length (put_mid start.result m f.cells.items ys) ≡ f.cells.len =

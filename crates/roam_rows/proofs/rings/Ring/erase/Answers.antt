@@ -3,10 +3,10 @@ use Rattle.std.proofs.lemmas.List.{with_items_is}
 use Rattle.std.specs.Vec.{with_items}
 use borrow.Rule.Slice.PartMut.{put_mid}
 use Rattle.roam_cells.specs.Glyph.{Glyph, blank}
-use Rattle.roam_rows.specs.Places.{moved, in_row}
+use Rattle.roam_rows.specs.Places.{mapped_cells, in_row}
 use Rattle.roam_rows.specs.Turned.{IsTurned, in_order}
 use Rattle.roam_rows.specs.Rows.{Rows}
-use Rattle.roam_rows.specs.Erasing.{blanked}
+use Rattle.roam_rows.specs.Erasing.{erasure_source}
 use Rattle.roam_rows.specs.Kept.{AreLengths}
 use Rattle.roam_rows.proofs.Lifting.{slice_whole, in_row_or}
 use Rattle.roam_rows.proofs.Written.{read_length}
@@ -43,7 +43,7 @@ done : (c : After-erase) →
     let a = c.start_of-start.result in
     let cells = (with_items f.cells (put_mid a (a + f.cols - a) f.cells.items c.erase.new.row)).items in
     (IsTurned f.rows f.cols f.first cells) × (AreLengths f.rows f.cols cells (set f.lengths.items c.place-at.result c.length_after.result))
-    × (in_order f.cols f.first cells ≡ moved f.rows f.cols (in_order f.cols f.first f.cells.items) (in_row c.args.row (blanked c.args.from c.args.to)))
+    × (in_order f.cols f.first cells ≡ mapped_cells f.rows f.cols (in_order f.cols f.first f.cells.items) (in_row c.args.row (erasure_source c.args.from c.args.to)))
 done c =
     let a = c.args in
     let f = c.self.inside in
@@ -59,7 +59,7 @@ done c =
     let ys_is = rw c.deref_mut.ensures.value at c.erase.ensures.after in
     let len = get_or f.lengths.items c.place-at.result 0 in
     let few : len ≤ f.cols = k.lengths.low c.place-at.result place.low in
-    let one = blanked a.from a.to in
+    let one = erasure_source a.from a.to in
     let read = read_length f.lengths.items c.place-at.result c.index-len.result.now (omega (arith, k.lengths.count, place.low)) c.index-len.ensures in
     let long : length (put_mid start.result m f.cells.items ys) ≡ f.cells.len =
     put_long f.rows f.cols f.first a.row c.place-at.result start.result m f.cells.items f.lengths.items k.turned k.lengths row_in place.place place.low start.ensures.start m_is ys one ys_is

@@ -4,7 +4,7 @@ use Rattle.std.specs.Vec.{with_items}
 use borrow.Rule.Slice.PartMut.{put_mid}
 use Rattle.roam_cells.specs.Glyph.{Glyph}
 use Rattle.roam_cells.specs.Place.{row_of}
-use Rattle.roam_rows.specs.Places.{moved, in_row}
+use Rattle.roam_rows.specs.Places.{mapped_cells, in_row}
 use Rattle.roam_rows.specs.Turned.{IsTurned, in_order}
 use Rattle.roam_rows.specs.Rows.{Rows}
 use Rattle.roam_rows.specs.Erasing.{unguarded_blanked}
@@ -47,7 +47,7 @@ done : (c : After-erase_unguarded) →
     let cells = (with_items f.cells (put_mid a (a + f.cols - a) f.cells.items c.erase_unguarded.new.row)).items in
     let all = in_order f.cols f.first f.cells.items in
     (IsTurned f.rows f.cols f.first cells) × (AreLengths f.rows f.cols cells f.lengths.items)
-    × (in_order f.cols f.first cells ≡ moved f.rows f.cols all (in_row c.args.row (unguarded_blanked (row_of f.cols all c.args.row) c.args.from c.args.to)))
+    × (in_order f.cols f.first cells ≡ mapped_cells f.rows f.cols all (in_row c.args.row (unguarded_blanked (row_of f.cols all c.args.row) c.args.from c.args.to)))
 done c =
     let a = c.args in
     let f = c.self.inside in
@@ -73,7 +73,7 @@ done c =
     ys one (λ j q. unguarded_stays f.cols a.from a.to j row q) ys_is c.erase_unguarded.ensures.whole len (k.lengths.low c.place-at.result place.low)
     (λ j p q. unguarded_past f.cols len a.from a.to j row p q)
     _ (with_items_is f.cells (put_mid start.result m f.cells.items ys) long) f.lengths.items (sym (set_back f.lengths.items c.place-at.result (omega (arith, k.lengths.count, place.low)))) in
-    (d.0, d.1, d.2 ∙ ap (λ (l : List Glyph). moved f.rows f.cols all (in_row a.row (unguarded_blanked l a.from a.to))) row_is)
+    (d.0, d.1, d.2 ∙ ap (λ (l : List Glyph). mapped_cells f.rows f.cols all (in_row a.row (unguarded_blanked l a.from a.to))) row_is)
 
 pub invariant_of-self : goal.invariant_of-self
 invariant_of-self c =

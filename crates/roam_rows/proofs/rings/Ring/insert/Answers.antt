@@ -3,10 +3,10 @@ use Rattle.std.proofs.lemmas.List.{with_items_is}
 use Rattle.std.specs.Vec.{with_items}
 use borrow.Rule.Slice.PartMut.{put_mid}
 use Rattle.roam_cells.specs.Glyph.{Glyph}
-use Rattle.roam_rows.specs.Places.{moved, in_row}
+use Rattle.roam_rows.specs.Places.{mapped_cells, in_row}
 use Rattle.roam_rows.specs.Turned.{IsTurned, in_order}
 use Rattle.roam_rows.specs.Rows.{Rows}
-use Rattle.roam_rows.specs.Editing.{inserted}
+use Rattle.roam_rows.specs.Editing.{insertion_source}
 use Rattle.roam_rows.specs.Kept.{AreLengths}
 use Rattle.roam_rows.proofs.Lifting.{slice_whole}
 use Rattle.roam_rows.proofs.Written.{read_length}
@@ -44,7 +44,7 @@ done : (c : After-insert) →
     let a = c.start_of-start.result in
     let cells = (with_items f.cells (put_mid a (a + f.cols - a) f.cells.items c.insert.new.row)).items in
     (IsTurned f.rows f.cols f.first cells) × (AreLengths f.rows f.cols cells (set f.lengths.items c.place-at.result c.length_inserted.result))
-    × (in_order f.cols f.first cells ≡ moved f.rows f.cols (in_order f.cols f.first f.cells.items) (in_row c.args.row (inserted c.args.col c.args.n)))
+    × (in_order f.cols f.first cells ≡ mapped_cells f.rows f.cols (in_order f.cols f.first f.cells.items) (in_row c.args.row (insertion_source c.args.col c.args.n)))
 done c =
     let a = c.args in
     let f = c.self.inside in
@@ -57,7 +57,7 @@ done c =
     let m = start.result + f.cols - start.result in
     let m_is : m ≡ f.cols = omega arith in
     let ys = c.insert.new.row in
-    let one = inserted a.col a.n in
+    let one = insertion_source a.col a.n in
     let ys_is = rw c.deref_mut.ensures.value at c.insert.ensures.after in
     let len = read_length f.lengths.items c.place-at.result c.index-len.result.now (omega (arith, k.lengths.count, place.low)) c.index-len.ensures in
     let by = c.length_inserted.ensures in

@@ -6,7 +6,7 @@ use Rattle.roam_cells.specs.Place.{cell_at}
 use Rattle.roam_cells.proofs.Joining.{with_point_like}
 use Rattle.roam_rows.specs.Turned.{IsTurned, in_order, brought_back}
 use Rattle.roam_rows.specs.Rows.{Rows}
-use Rattle.roam_rows.specs.Writing.{base_column, joined}
+use Rattle.roam_rows.specs.Writing.{base_column, joined_rows}
 use Rattle.roam_rows.specs.Kept.{AreLengths}
 use Rattle.roam_rows.proofs.Turning.{turned_at}
 use Rattle.roam_rows.proofs.Lifting.{slice_whole, row_before}
@@ -34,7 +34,7 @@ done : (c : After-with_point) →
     let cells = set f.cells.items (c.start_of-start.result + base) c.with_point.result in
     let all = in_order f.cols f.first f.cells.items in
     (IsTurned f.rows f.cols f.first cells) × (AreLengths f.rows f.cols cells (with_items f.lengths c.raise.new.lengths).items)
-    × (rows_by f.rows f.cols f.first (in_order f.cols f.first cells) ≡ joined c.args.row c.args.col c.args.point (rows_by f.rows f.cols f.first all))
+    × (rows_by f.rows f.cols f.first (in_order f.cols f.first cells) ≡ joined_rows c.args.row c.args.col c.args.point (rows_by f.rows f.cols f.first all))
 done c =
     let a = c.args in
     let f = c.self.inside in

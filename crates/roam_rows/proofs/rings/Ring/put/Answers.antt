@@ -4,10 +4,10 @@ use Rattle.std.proofs.lemmas.List.{with_items_is}
 use Rattle.std.specs.Vec.{with_items}
 use borrow.Rule.Slice.PartMut.{put_mid}
 use Rattle.roam_cells.specs.Glyph.{Glyph, is_wide, right_of}
-use Rattle.roam_rows.specs.Places.{moved, in_row}
+use Rattle.roam_rows.specs.Places.{mapped_cells, in_row}
 use Rattle.roam_rows.specs.Turned.{IsTurned, in_order}
 use Rattle.roam_rows.specs.Rows.{Rows}
-use Rattle.roam_rows.specs.Writing.{written}
+use Rattle.roam_rows.specs.Writing.{writing_source}
 use Rattle.roam_rows.specs.Kept.{AreLengths}
 use Rattle.roam_rows.proofs.Lifting.{slice_whole, in_row_else}
 use Rattle.roam_rows.proofs.Edits.{a_turned, edited_by, flag, put_long, rows_by, still_column, written_past}
@@ -31,7 +31,7 @@ done : (c : After-write) →
     let a = c.start_of-start.result in
     let cells = (with_items f.cells (put_mid a (a + f.cols - a) f.cells.items c.write.new.row)).items in
     (IsTurned f.rows f.cols f.first cells) × (AreLengths f.rows f.cols cells (with_items f.lengths c.raise.new.lengths).items)
-    × (in_order f.cols f.first cells ≡ moved f.rows f.cols (in_order f.cols f.first f.cells.items) (in_row c.args.row (written c.args.cell c.args.col)))
+    × (in_order f.cols f.first cells ≡ mapped_cells f.rows f.cols (in_order f.cols f.first f.cells.items) (in_row c.args.row (writing_source c.args.cell c.args.col)))
 done c =
     let a = c.args in
     let f = c.self.inside in
@@ -47,7 +47,7 @@ done c =
     let ys_is = rw c.deref_mut.ensures.value at c.write.ensures.after in
     let len = get_or f.lengths.items c.place-at.result 0 in
     let few : len ≤ f.cols = k.lengths.low c.place-at.result place.low in
-    let one = written a.cell a.col in
+    let one = writing_source a.cell a.col in
     let end = c.end_of.ensures in
     let end_in : c.end_of.result ≤ f.cols = elim (flag (is_wide a.cell)) [
       | inl wide ↦ omega (arith, end.wide wide, c.requires.room wide)

@@ -4,7 +4,7 @@ use Rattle.std.specs.Vec.{with_items}
 use borrow.Rule.Slice.PartMut.{put_mid}
 use Rattle.roam_cells.specs.Glyph.{Glyph, inked_bytes}
 use Rattle.roam_cells.specs.Place.{glyph_at}
-use Rattle.roam_rows.specs.Places.{moved, in_row}
+use Rattle.roam_rows.specs.Places.{mapped_cells, in_row}
 use Rattle.roam_rows.specs.Turned.{IsTurned, in_order}
 use Rattle.roam_rows.specs.Rows.{Rows}
 use Rattle.roam_rows.specs.Writing.{written_run}
@@ -33,7 +33,7 @@ done : (c : After-write_run) →
     let a = c.start_of-start.result in
     let cells = (with_items f.cells (put_mid a (a + f.cols - a) f.cells.items c.write_run.new.row)).items in
     (IsTurned f.rows f.cols f.first cells) × (AreLengths f.rows f.cols cells (set f.lengths.items c.place-at.result c.max.result))
-    × (in_order f.cols f.first cells ≡ moved f.rows f.cols (in_order f.cols f.first f.cells.items) (in_row c.args.row (written_run (inked_bytes c.args.pen c.args.bytes.now) c.args.col)))
+    × (in_order f.cols f.first cells ≡ mapped_cells f.rows f.cols (in_order f.cols f.first f.cells.items) (in_row c.args.row (written_run (inked_bytes c.args.pen c.args.bytes.now) c.args.col)))
 done c =
     let a = c.args in
     let f = c.self.inside in

@@ -4,7 +4,7 @@ use Rattle.std.specs.Vec.{with_items}
 use borrow.Rule.Slice.PartMut.{put_mid}
 use Rattle.roam_cells.specs.Glyph.{Glyph}
 use Rattle.roam_cells.specs.Place.{cell_at, glyph_at}
-use Rattle.roam_rows.specs.Row.{mended}
+use Rattle.roam_rows.specs.Row.{mended_glyph}
 use Rattle.roam_rows.specs.Turned.{IsTurned, in_order}
 use Rattle.roam_rows.specs.Rows.{Rows}
 use Rattle.roam_rows.specs.Kept.{AreLengths}
@@ -64,8 +64,8 @@ done c =
     let ys = c.cut_into.new.row in
     let ys_long = rw c.deref_mut.ensures.value at c.cut_into.ensures.len in
     let size : length ys ≡ f.cols = ys_long ∙ length-slice f.rows f.cols f.first a.row start.result m f.cells.items k.turned row_in a_is m_is in
-    let each : (j : ℕ) → j < f.cols → glyph_at ys j ≡ mended (glyph_at front j) (ltb (j + 1) f.cols) true =
-    λ j q. c.cut_into.ensures.each j (omega (arith, size)) ∙ ap (λ n. mended (glyph_at front j) (ltb (j + 1) n) true) size in
+    let each : (j : ℕ) → j < f.cols → glyph_at ys j ≡ mended_glyph (glyph_at front j) (ltb (j + 1) f.cols) true =
+    λ j q. c.cut_into.ensures.each j (omega (arith, size)) ∙ ap (λ n. mended_glyph (glyph_at front j) (ltb (j + 1) n) true) size in
     let long : length (put_mid start.result m f.cells.items ys) ≡ f.cells.len =
     put_fits f.rows f.cols f.first a.row c.place-at.result start.result m f.cells.items f.lengths.items k.turned k.lengths row_in place.place place.low start.ensures.start m_is ys size
     ∙ sym (ap (length {A = Glyph}) c.deref_mut.ensures.value) ∙ c.deref_mut.ensures.len in

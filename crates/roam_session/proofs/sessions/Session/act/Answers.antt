@@ -4,7 +4,7 @@ use Rattle.std.proofs.lemmas.Bool.{false≢true}
 use Rattle.roam_cells.specs.declared.faults.Fault.TheVariants.{OutOfMemory, Busy}
 use Rattle.roam_grid.specs.Marks.{also_marked}
 use Rattle.roam_layout.specs.Rects.{rect_in}
-use Rattle.roam_layout.specs.Layouts.{Laid, Refused, laid, panes}
+use Rattle.roam_layout.specs.Layouts.{Laid, Refused, outcome_of, panes}
 use Rattle.roam_session.specs.Lives.{CountsLives}
 use Rattle.roam_session.specs.Marks.{is_concerned}
 use Rattle.roam_session.specs.Sessions.{Did, key_in}
@@ -35,7 +35,7 @@ returns-in-Some-clause-laid c =
     let new = c.type_key.new.self.plan in
     let act = c.args.act.now in
     let is : key_in act ≡ Some c.in-Some.key = sym c.key_in.ensures.key ∙ c.in-Some.is in
-    on_any c.type_key.result (laid old act ≡ Laid new)
+    on_any c.type_key.result (outcome_of old act ≡ Laid new)
     (keys_are_laid old act c.in-Some.key is ∙ ap Laid (sym c.type_key.ensures.plan))
 
 pub returns-in-Some-clause-busy : goal.returns-in-Some-clause-busy
@@ -51,7 +51,7 @@ returns-in-None-clause-done c =
     let new = c.lay_out.new.self in
     let act = c.args.act.now in
     let no_key : key_in act ≡ None = sym c.key_in.ensures.key ∙ c.in-None.is in
-    on_three c.lay_out.result (laid old.plan act ≡ Laid new.plan)
+    on_three c.lay_out.result (outcome_of old.plan act ≡ Laid new.plan)
     ((k : ℕ) → IsGiven (rect_in k (panes old.plan)) (rect_in k (panes new.plan)) (term_at old.terms k) (term_at new.terms k))
     (CountsLives old.plan new.plan old.lives new.lives) (Appends old new (Did c.args.client act))
     (λ e are lives. stands_laid old new c.args.client act no_key e are lives) c.lay_out.ensures.laid c.lay_out.ensures.given
@@ -63,7 +63,7 @@ returns-in-None-clause-refused c =
     let new = c.lay_out.new.self in
     let act = c.args.act.now in
     let no_key : key_in act ≡ None = sym c.key_in.ensures.key ∙ c.in-None.is in
-    on_errors c.lay_out.result (λ fault. (fault ≡ OutOfMemory) ⊎ (laid old.plan act ≡ Refused fault))
+    on_errors c.lay_out.result (λ fault. (fault ≡ OutOfMemory) ⊎ (outcome_of old.plan act ≡ Refused fault))
     (λ fault. fault ≢ OutOfMemory → fault ≢ Busy → Appends old new (Did c.args.client act)) (new ≡ old)
     (λ fault why same not_memory busy.
     subst (λ (s : SessionView). Appends old s (Did c.args.client act)) (sym same)
@@ -95,7 +95,7 @@ returns-in-None-clause-marks c =
     let new = c.lay_out.new.self in
     let act = c.args.act.now in
     let no_key : key_in act ≡ None = sym c.key_in.ensures.key ∙ c.in-None.is in
-    on_both c.lay_out.result (laid old.plan act ≡ Laid new.plan)
+    on_both c.lay_out.result (outcome_of old.plan act ≡ Laid new.plan)
     (new.marks ≡ also_marked (is_concerned act old.plan new.plan) old.marks) (MarksRows old new (Did c.args.client act))
     (λ e marks. marks_laid_out old new c.args.client act no_key e marks c.lay_out.ensures.kept) c.lay_out.ensures.laid c.lay_out.ensures.marks
 

@@ -6,13 +6,13 @@ use Rattle.roam_grid.specs.Marks.{marks_put, marks_joined}
 use Rattle.roam_grid.specs.Writing.{put_on, joined_on}
 use Rattle.roam_term.specs.Leaving.{left_by_put}
 use Rattle.roam_term.specs.Marks.{marks_written}
-use Rattle.roam_term.specs.Terminal.{Live, glyph_in, writing_under, written, printed_on, on_main, left_by_character, with_rows}
+use Rattle.roam_term.specs.Terminal.{Live, glyph_in, writing_under, written_on, printed_on, on_main, left_by_character, with_rows}
 use Rattle.roam_term.proofs.Prints.{inked, inkless}
 use Rattle.roam_term.proofs.Scrollback.{main_stays}
 use Rattle.roam_term.proofs.canvases.Canvas.print.Goals as goal
 
 written_wide : (c : ℕ) (s : Live) → (width_of c == 0) ≡ false
-    → written c s ≡ record s { screen = put_on (glyph_in c s.pen) (writing_under s.modes) s.screen; printed = Some c }
+    → written_on c s ≡ record s { screen = put_on (glyph_in c s.pen) (writing_under s.modes) s.screen; printed = Some c }
 written_wide c s e = rw e
 
 left_wide : (c : ℕ) (s : Live) → (width_of c == 0) ≡ false
@@ -26,7 +26,7 @@ marks_wide c s marks e = rw e
 marks_narrow : (c : ℕ) (s : Live) (marks : List Bool) → (width_of c == 0) ≡ true → marks_written c s marks ≡ marks_joined c s.screen marks
 marks_narrow c s marks e = rw e
 
-written_narrow : (c : ℕ) (s : Live) → (width_of c == 0) ≡ true → written c s ≡ record s { screen = joined_on c s.screen }
+written_narrow : (c : ℕ) (s : Live) → (width_of c == 0) ≡ true → written_on c s ≡ record s { screen = joined_on c s.screen }
 written_narrow c s e = rw e
 
 left_narrow : (c : ℕ) (s : Live) → (width_of c == 0) ≡ true → left_by_character c s ≡ []
@@ -61,7 +61,7 @@ returns-in-Some c =
           rw (← c.self.view_is)
           ((λ i. record after { screen = screen i; sets = c.map-c.ensures.spent i; printed = Some m })
           ∙ sym (written_wide m after ink.0)
-          ∙ ap (λ n. written n after) c.map-c.ensures.mapped);
+          ∙ ap (λ n. written_on n after) c.map-c.ensures.mapped);
       marks =
           rw (← c.self.view_is)
           (c.put.ensures.marks
@@ -103,7 +103,7 @@ returns-in-None c =
           rw (← c.self.view_is)
           ((λ i. record after { screen = c.join.ensures.screen i; sets = c.map-c.ensures.spent i })
           ∙ sym (written_narrow m after narrow)
-          ∙ ap (λ n. written n after) c.map-c.ensures.mapped);
+          ∙ ap (λ n. written_on n after) c.map-c.ensures.mapped);
       marks =
           rw (← c.self.view_is)
           (c.join.ensures.marks ∙ sym (marks_narrow m live f.grid.marks narrow) ∙ ap (λ n. marks_written n live f.grid.marks) c.map-c.ensures.mapped);

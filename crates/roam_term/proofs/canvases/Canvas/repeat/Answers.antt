@@ -5,7 +5,7 @@ use Rattle.roam_grid.specs.Marks.{marks_put_all}
 use Rattle.roam_grid.specs.Writing.{put_all}
 use Rattle.roam_term.specs.Leaving.{left_by_puts}
 use Rattle.roam_term.specs.Marks.{CanvasView, marks_repeated}
-use Rattle.roam_term.specs.Terminal.{Live, glyph_in, writing_under, written_again, repeated, on_main, left_by_repeat, with_rows}
+use Rattle.roam_term.specs.Terminal.{Live, glyph_in, writing_under, written_again, repeated_on, on_main, left_by_repeat, with_rows}
 use Rattle.roam_term.proofs.Prints.{inked, inkless}
 use Rattle.roam_term.proofs.Scrollback.{main_stays}
 use Rattle.roam_term.proofs.canvases.Canvas.repeat.Goals as goal
@@ -35,7 +35,7 @@ again_narrow n c s e = rw e
 left_narrow : (n c : ℕ) (s : Live) → (width_of c == 0) ≡ true → left_by_repeat n (Some c) s ≡ []
 left_narrow n c s e = rw e
 
-again_none : (n : ℕ) (kept : Option ℕ) (s : Live) → ((c : ℕ) → ¬ (kept ≡ Some c)) → repeated n kept s ≡ s
+again_none : (n : ℕ) (kept : Option ℕ) (s : Live) → ((c : ℕ) → ¬ (kept ≡ Some c)) → repeated_on n kept s ≡ s
 again_none n None s none = refl
 again_none n (Some c) s none = absurd (none c refl)
 
@@ -75,7 +75,7 @@ returns-in-Some-of_ink c =
           rw (← c.self.view_is)
           ((λ i. record live { screen = screen i })
           ∙ sym (again_wide n m live ink.0)
-          ∙ sym (ap (λ kept. repeated n kept live) c.in-Some.is));
+          ∙ sym (ap (λ kept. repeated_on n kept live) c.in-Some.is));
       marks =
           rw (← c.self.view_is)
           (c.put_times.ensures.marks
@@ -105,7 +105,7 @@ returns-in_default-of_ink c =
     let narrow = inkless m c.self.inside.pen (sym c.of_ink.ensures.cell ∙ none) in
     let left = ap (λ k. left_by_repeat n k old) kept ∙ left_narrow n m old narrow in
     record {
-      repeated = sym (ap (λ k. repeated n k old) kept ∙ again_narrow n m old narrow);
+      repeated = sym (ap (λ k. repeated_on n k old) kept ∙ again_narrow n m old narrow);
       marks = sym (ap (λ k. marks_repeated n k old on) kept ∙ marks_narrow n m old on narrow);
       history = sym (ap (λ rows. with_rows (on_main old.alternate rows) h) left ∙ main_stays old.alternate h c.stays.ensures.stays);
       size = record { rows = refl; cols = refl };

@@ -2,7 +2,7 @@ use Rattle.std.proofs.Common.{◌≡◌, ◌∙◌, List, None, false, length, r
 use Rattle.roam_cells.specs.Glyph.{Glyph, blank}
 use Rattle.roam_charset.specs.declared.sets.Sets.{Sets}
 use Rattle.roam_grid.specs.Screen.{Screen}
-use Rattle.roam_grid.specs.Frames.{all_blank, restarted}
+use Rattle.roam_grid.specs.Frames.{all_blank, after_restart}
 use Rattle.roam_controls.specs.declared.modes.Modes.{Modes}
 use Rattle.roam_cells.specs.Inks.{InkValue}
 use Rattle.roam_controls.specs.Modes.{started_modes}
@@ -25,10 +25,10 @@ returns c =
     let g = c.new-self-inside-2.result in
     record {
       reset = rw (← c.self.view_is)
-          (ap (λ s. with_all s o p m g) c.restart.ensures.screen ∙ ap (λ x. with_all (restarted f.grid.screen) x p m g) other
-          ∙ ap (λ x. with_all (restarted f.grid.screen) (replicate (length f.other.screen.cells) blank) x m g) c.plain_pen-self-inside.ensures.pen
-          ∙ ap (λ x. with_all (restarted f.grid.screen) (replicate (length f.other.screen.cells) blank) plain_pen x g) c.new-self-inside.ensures.modes
-          ∙ ap (λ x. with_all (restarted f.grid.screen) (replicate (length f.other.screen.cells) blank) plain_pen started_modes x) c.new-self-inside-2.ensures.started);
+          (ap (λ s. with_all s o p m g) c.restart.ensures.screen ∙ ap (λ x. with_all (after_restart f.grid.screen) x p m g) other
+          ∙ ap (λ x. with_all (after_restart f.grid.screen) (replicate (length f.other.screen.cells) blank) x m g) c.plain_pen-self-inside.ensures.pen
+          ∙ ap (λ x. with_all (after_restart f.grid.screen) (replicate (length f.other.screen.cells) blank) plain_pen x g) c.new-self-inside.ensures.modes
+          ∙ ap (λ x. with_all (after_restart f.grid.screen) (replicate (length f.other.screen.cells) blank) plain_pen started_modes x) c.new-self-inside-2.ensures.started);
       marks = c.restart.ensures.marks;
       size = rw (← c.self.view_is) (record { rows = c.restart.ensures.size.rows; cols = c.restart.ensures.size.cols });
     }

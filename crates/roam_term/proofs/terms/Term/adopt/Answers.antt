@@ -6,7 +6,7 @@ use Rattle.roam_text.specs.declared.functions.Function.TheVariants.{Size}
 use Rattle.roam_grid.specs.Frames.{leaving}
 use Rattle.roam_grid.specs.Screen.{Screen}
 use Rattle.roam_history.specs.Histories.{Scrollback}
-use Rattle.roam_history.specs.Fitting.{refitted}
+use Rattle.roam_history.specs.Fitting.{after_refit}
 use Rattle.roam_term.specs.Sizes.{TermSize}
 use Rattle.roam_term.specs.Leaving.{top_rows}
 use Rattle.roam_term.specs.Terminal.{Live, on_main, with_rows}
@@ -46,8 +46,8 @@ returns-clause-sized c =
     (λ log stands. subst (λ (items : List Item). Stands c.self.inside.reader (log ++ items)) resized (c.size.ensures.stands log stands))
     (λ log stands. sym (ap (λ items. functions_of (log ++ items)) resized) ∙ c.size.ensures.gained log stands ∙ ap (λ f. functions_of log ++ f ∷ []) size)
     (c.adopt.ensures.sized ∙ sym (lived-size f.shown.rows f.shown.cols live))
-    (c.adopt-2.ensures.history ∙ ap (λ n. refitted n c.leave_by_size.new.history) c.fitted.invariant.cols
-    ∙ ap (refitted f.shown.cols)
+    (c.adopt-2.ensures.history ∙ ap (λ n. after_refit n c.leave_by_size.new.history) c.fitted.invariant.cols
+    ∙ ap (after_refit f.shown.cols)
     (c.leave_by_size.ensures.history
     ∙ ap (λ (s : Screen). with_rows (on_main c.is_alternate-alternate.result (top_rows (leaving c.rows-rows.result s) s)) c.self.inside.history) c.grid.ensures.screen
     ∙ ap (λ b. with_rows (on_main b (top_rows (leaving c.rows-rows.result live.screen) live.screen)) c.self.inside.history) c.is_alternate-alternate.ensures.alternate

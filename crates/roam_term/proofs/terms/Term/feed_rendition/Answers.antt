@@ -5,7 +5,7 @@ use Rattle.roam_controls.specs.declared.settings.Setting.TheVariants.{Rendition}
 use Rattle.roam_text.specs.Dispatched.{function_of}
 use Rattle.roam_text.specs.Log.{Byte}
 use Rattle.roam_text.specs.declared.functions.Dispatch.TheVariants.{Csi}
-use Rattle.roam_term.specs.Terminal.{answer, commanded}
+use Rattle.roam_term.specs.Terminal.{answer, commanded_by}
 use Rattle.roam_term.proofs.Dispatches.{changed-dispatch, kept-dispatch, marked-dispatch}
 use Rattle.roam_term.proofs.Lists.{append-nil}
 use Rattle.roam_term.proofs.Runs.{follows-out}
@@ -23,7 +23,7 @@ returns-then-end_rendition-clause-fed c =
     rw (← c.self.view_is)
     (follows-out _ _ (Byte 0x6D ∷ []) (function_of (Csi None 0x6D) reader.parameters [] ∷ [])
     (c.if-end_rendition.ensures.stands refl) (c.if-end_rendition.ensures.gained refl)
-    (c.restyle.ensures.performed ∙ ap (λ p. commanded (Sets Rendition) p live) c.parameters.ensures.lent
+    (c.restyle.ensures.performed ∙ ap (λ p. commanded_by (Sets Rendition) p live) c.parameters.ensures.lent
     ∙ sym (changed-dispatch (Csi None 0x6D) reader.parameters [] live))
     (sym (main_stays live.alternate history c.stays.ensures.stays) ∙ sym (kept-dispatch (Csi None 0x6D) reader.parameters [] live history))
     (sym (append-nil waiting))

@@ -2,7 +2,7 @@ use Rattle.std.proofs.Common.{◌++◌, sym, ap, ◌∙◌}
 use Rattle.roam_text.specs.Dispatched.{function_of}
 use Rattle.roam_controls.specs.Commands.{command_of}
 use Rattle.roam_term.specs.Marks.{marks_performed}
-use Rattle.roam_term.specs.Terminal.{answer, answered_by, commanded, left_by, on_main, with_rows}
+use Rattle.roam_term.specs.Terminal.{answer, answered_by, commanded_by, left_by, on_main, with_rows}
 use Rattle.roam_term.proofs.Dispatches.{changed-dispatch, kept-dispatch, marked-dispatch}
 use Rattle.roam_term.proofs.terms.Term.perform.Goals as goal
 
@@ -13,8 +13,8 @@ returns-clause-live c =
     let f = function_of c.args.dispatch reader.parameters reader.intermediates in
     rw (← c.self.view_is)
     (c.perform.ensures.performed
-    ∙ ap (λ k. commanded k c.parameters_of-params.result.now live) c.requested-command.ensures.command
-    ∙ ap (λ p. commanded (command_of f) p live) c.parameters_of-params.ensures.parameters
+    ∙ ap (λ k. commanded_by k c.parameters_of-params.result.now live) c.requested-command.ensures.command
+    ∙ ap (λ p. commanded_by (command_of f) p live) c.parameters_of-params.ensures.parameters
     ∙ sym (changed-dispatch c.args.dispatch reader.parameters reader.intermediates live))
 
 pub returns-clause-marks : goal.returns-clause-marks

@@ -1,7 +1,7 @@
 use Rattle.std.proofs.Common.{◌++◌, sym, ap, ◌∙◌}
 use Rattle.roam_text.specs.Dispatched.{function_of}
-use Rattle.roam_term.specs.Marks.{marked}
-use Rattle.roam_term.specs.Terminal.{changed, kept, answer}
+use Rattle.roam_term.specs.Marks.{marked_by}
+use Rattle.roam_term.specs.Terminal.{changed_by, history_after, answer}
 use Rattle.roam_term.proofs.Marking.{marked-print}
 use Rattle.roam_term.proofs.Prints.{changed-print, kept-print, answered-after}
 use Rattle.roam_term.proofs.terms.Term.take_in.Goals as goal
@@ -11,7 +11,7 @@ returns-in-AfterReplacement-clause-live c =
     let reader = c.self.inside.reader in
     rw (← c.self.view_is, c.in-AfterReplacement.is)
     (c.perform-in-AfterReplacement.ensures.live
-    ∙ ap (changed (function_of c.in-AfterReplacement.dispatch reader.parameters reader.intermediates))
+    ∙ ap (changed_by (function_of c.in-AfterReplacement.dispatch reader.parameters reader.intermediates))
     (c.print.ensures.printed ∙ sym (changed-print 0xFFFD c.self.inside.canvas.live)))
 
 pub returns-in-AfterReplacement-clause-marks : goal.returns-in-AfterReplacement-clause-marks
@@ -22,8 +22,8 @@ returns-in-AfterReplacement-clause-marks c =
     let f = function_of c.in-AfterReplacement.dispatch reader.parameters reader.intermediates in
     rw (← c.self.view_is, c.in-AfterReplacement.is)
     (c.perform-in-AfterReplacement.ensures.marks
-    ∙ ap (λ l. marked f l c.print.new.self.marks) (c.print.ensures.printed ∙ sym (changed-print 0xFFFD live))
-    ∙ ap (marked f (changed _ live)) (c.print.ensures.marks ∙ sym (marked-print 0xFFFD live marks)))
+    ∙ ap (λ l. marked_by f l c.print.new.self.marks) (c.print.ensures.printed ∙ sym (changed-print 0xFFFD live))
+    ∙ ap (marked_by f (changed_by _ live)) (c.print.ensures.marks ∙ sym (marked-print 0xFFFD live marks)))
 
 pub returns-in-AfterReplacement-clause-history : goal.returns-in-AfterReplacement-clause-history
 returns-in-AfterReplacement-clause-history c =
@@ -31,8 +31,8 @@ returns-in-AfterReplacement-clause-history c =
     let f = function_of c.in-AfterReplacement.dispatch reader.parameters reader.intermediates in
     rw (← c.self.view_is, c.in-AfterReplacement.is)
     (c.perform-in-AfterReplacement.ensures.history
-    ∙ ap (λ l. kept f l c.print.new.history) (c.print.ensures.printed ∙ sym (changed-print 0xFFFD c.self.inside.canvas.live))
-    ∙ ap (kept f (changed _ c.self.inside.canvas.live)) (c.print.ensures.history ∙ sym (kept-print 0xFFFD c.self.inside.canvas.live c.self.inside.history)))
+    ∙ ap (λ l. history_after f l c.print.new.history) (c.print.ensures.printed ∙ sym (changed-print 0xFFFD c.self.inside.canvas.live))
+    ∙ ap (history_after f (changed_by _ c.self.inside.canvas.live)) (c.print.ensures.history ∙ sym (kept-print 0xFFFD c.self.inside.canvas.live c.self.inside.history)))
 
 pub returns-in-AfterReplacement-clause-waiting : goal.returns-in-AfterReplacement-clause-waiting
 returns-in-AfterReplacement-clause-waiting c =

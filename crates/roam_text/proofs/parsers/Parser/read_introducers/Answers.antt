@@ -2,7 +2,7 @@ use Rattle.std.proofs.Common.{take, get_or, map, sym, ap, subst, ◌∙◌, ◌+
 use Rattle.std.proofs.lemmas.List.{take_more}
 use Rattle.roam_text.specs.Log.{character}
 use Rattle.roam_text.specs.Functions.{AreAscii}
-use Rattle.roam_text.specs.Residual.{given}
+use Rattle.roam_text.specs.Residual.{outcome}
 use Rattle.roam_text.proofs.Asciis.{ascii-more, characters-more}
 use Rattle.roam_text.proofs.parsers.Parser.read_introducers.Goals as goal
 
@@ -13,7 +13,7 @@ loop-count-preserved c =
     let more = take_more piece n 0 c.loop-count-test.true in (
       omega arith,
       subst AreAscii (sym more) (ascii-more (take n piece) (get_or piece n 0) c.loop-count.invariant.1 (c.if-read_introducer.ensures.ascii refl)),
-      λ rest. ap (λ l. given c.args.self.now (map character l ++ rest)) more
+      λ rest. ap (λ l. outcome c.args.self.now (map character l ++ rest)) more
           ∙ characters-more c.args.self.now c.loop-count.self c.read_introducer.new.self (take n piece) (get_or piece n 0)
           c.loop-count.invariant.2 (c.if-read_introducer.ensures.read refl) rest,
     )

@@ -1,7 +1,7 @@
 use Rattle.std.proofs.Common.{length, ◌-◌, take, drop, map, sym, ap, subst, ◌∙◌, ◌++◌}
 use Rattle.roam_text.specs.Log.{character}
 use Rattle.roam_text.specs.Functions.{AreAscii}
-use Rattle.roam_text.specs.Residual.{given}
+use Rattle.roam_text.specs.Residual.{outcome}
 use Rattle.roam_text.proofs.Asciis.{ascii-joined, characters-joined, front-joined}
 use Rattle.roam_text.proofs.parsers.Parser.read_parameters.Goals as goal
 
@@ -17,6 +17,6 @@ returns-in-InControlSequence-clause-read c rest =
     let piece = c.args.piece.now in
     let a = c.read_introducers-begun.result in
     let b = c.read_numbers.result in
-    ap (λ l. given c.args.self.now (map character l ++ rest)) (front-joined piece a b)
+    ap (λ l. outcome c.args.self.now (map character l ++ rest)) (front-joined piece a b)
     ∙ characters-joined c.args.self.now c.read_introducers-begun.new.self c.read_numbers.new.self (take a piece) (take b (take (length piece - a) (drop a piece)))
     c.read_introducers-begun.ensures.read c.read_numbers.ensures.read rest

@@ -3,7 +3,7 @@ use Rattle.std.specs.Prelude.{None}
 use Rattle.roam_text.specs.declared.functions.Dispatch.TheVariants.{Csi}
 use Rattle.roam_text.specs.Dispatched.{function_of}
 use Rattle.roam_text.specs.Log.{character}
-use Rattle.roam_text.specs.Residual.{given}
+use Rattle.roam_text.specs.Residual.{outcome}
 use Rattle.roam_text.specs.Stands.{View}
 use Rattle.roam_text.proofs.Logs.{ascii-given, ascii-pending, bytes-stand, bytes-gained}
 use Rattle.roam_text.proofs.Empty.{empty-is}
@@ -23,7 +23,7 @@ returns-clause-stands c done log stands =
     bytes-stand c.args.self.now new (0x6D ∷ []) (function_of (Csi None 0x6D) new.parameters [] ∷ [])
     (view ∙ ascii-pending c.args.self.now.pending 0x6D empty (omega arith))
     (λ rest. ascii-given c.args.self.now.parser c.args.self.now.pending 0x6D rest empty (omega arith)
-    ∙ sym (ap (λ (v : View). given v.parser (character 0x6D ∷ rest)) c.self.view_is) ∙ c.end_rendition.ensures.given rest)
+    ∙ sym (ap (λ (v : View). outcome v.parser (character 0x6D ∷ rest)) c.self.view_is) ∙ c.end_rendition.ensures.given rest)
     log stands
 
 pub returns-clause-gained : goal.returns-clause-gained
@@ -40,5 +40,5 @@ returns-clause-gained c done log stands =
     bytes-gained c.args.self.now new (0x6D ∷ []) (function_of (Csi None 0x6D) new.parameters [] ∷ [])
     (view ∙ ascii-pending c.args.self.now.pending 0x6D empty (omega arith))
     (λ rest. ascii-given c.args.self.now.parser c.args.self.now.pending 0x6D rest empty (omega arith)
-    ∙ sym (ap (λ (v : View). given v.parser (character 0x6D ∷ rest)) c.self.view_is) ∙ c.end_rendition.ensures.given rest)
+    ∙ sym (ap (λ (v : View). outcome v.parser (character 0x6D ∷ rest)) c.self.view_is) ∙ c.end_rendition.ensures.given rest)
     log stands

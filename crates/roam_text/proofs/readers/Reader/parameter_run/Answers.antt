@@ -1,6 +1,6 @@
 use Rattle.std.proofs.Common.{take, map, sym, ap, ◌∙◌, ◌++◌}
 use Rattle.roam_text.specs.Log.{character}
-use Rattle.roam_text.specs.Residual.{given}
+use Rattle.roam_text.specs.Residual.{outcome}
 use Rattle.roam_text.specs.Stands.{View}
 use Rattle.roam_text.proofs.Asciis.{run-stands, run-gained}
 use Rattle.roam_text.proofs.Empty.{empty-is}
@@ -11,7 +11,7 @@ returns-clause-stands c log stands =
     let bytes = take c.read_parameters.result c.args.piece.now in
     let whole = empty-is c.self.inside.decoder.pending c.if-not-is_empty.ensures.empty in
     run-stands c.args.self.now _ bytes c.read_parameters.ensures.ascii (sym (ap (λ (v : View). v.pending) c.self.view_is) ∙ whole) whole
-    (λ rest. sym (ap (λ (v : View). given v.parser (map character bytes ++ rest)) c.self.view_is) ∙ c.read_parameters.ensures.read rest)
+    (λ rest. sym (ap (λ (v : View). outcome v.parser (map character bytes ++ rest)) c.self.view_is) ∙ c.read_parameters.ensures.read rest)
     log stands
 
 pub returns-clause-gained : goal.returns-clause-gained
@@ -25,5 +25,5 @@ returns-clause-gained c log stands =
       intermediates = c.read_parameters.new.self.sequence.inter;
     })
     bytes c.read_parameters.ensures.ascii (sym (ap (λ (v : View). v.pending) c.self.view_is) ∙ whole) whole
-    (λ rest. sym (ap (λ (v : View). given v.parser (map character bytes ++ rest)) c.self.view_is) ∙ c.read_parameters.ensures.read rest)
+    (λ rest. sym (ap (λ (v : View). outcome v.parser (map character bytes ++ rest)) c.self.view_is) ∙ c.read_parameters.ensures.read rest)
     log stands

@@ -1,5 +1,5 @@
 //! Laws of the definitions, each the contract of a function that does nothing when it runs.
-ghost use Rattle.roam_places.specs.Lines.{LinesArrive, LinesAreNews};
+ghost use Rattle.roam_pane_list.specs.Lines.{LinesArrive, LinesAreNews};
 
 /// Who reads the lines between what was told and what is so now knows then what is so now.
 pub fn lines_arrive()

@@ -1,25 +1,25 @@
 //! The lines that tell what is new of a session's panes.
 ghost use Rattle.std.specs.Prelude.{◌≡◌, ◌++◌, ◌<◌, IfOk, OnOk, IsOkUnless, string_bytes};
-ghost use Rattle.roam_places.specs.Known.{is_same};
-ghost use Rattle.roam_places.specs.Lines.{Line, Here, Gone, Focus, line_text, lines_text, lines_for, lines_between};
+ghost use Rattle.roam_pane_list.specs.Known.{is_same};
+ghost use Rattle.roam_pane_list.specs.Lines.{Line, Here, Gone, Focus, line_text, lines_text, lines_for, lines_between};
 
-use crate::places::{Place, Places};
+use crate::pane_list::{ListedPane, PaneList};
 use roam_cells::Fault;
 use std::alloc::Global;
 
 // Whether two panes are one, of one size.
-fn is_same(one: Place, other: Place) -> bool
+fn is_same(one: ListedPane, other: ListedPane) -> bool
     ensures same { result ≡ is_same one other }
 {
     one.life == other.life && one.rows == other.rows && one.cols == other.cols
 }
 
 // Adds the line of a pane that is there.
-fn push_here(alloc: Global, text: &mut String, pane: u8, place: Place) -> Result<(), Fault>
-    ensures line { OnOk result (string_bytes text.new ≡ string_bytes text.old ++ line_text (Here pane place)) }
+fn push_here(alloc: Global, text: &mut String, pane: u8, now: ListedPane) -> Result<(), Fault>
+    ensures line { OnOk result (string_bytes text.new ≡ string_bytes text.old ++ line_text (Here pane now)) }
     ensures fault { IsOkUnless result Fault.OutOfMemory }
 {
-    let line = format!(in alloc; "{pane} {} {} {}\n", place.rows, place.cols, place.life)?;
+    let line = format!(in alloc; "{pane} {} {} {}\n", now.rows, now.cols, now.life)?;
     text.push_str(line.as_str())?;
     Ok(())
 }
@@ -49,8 +49,8 @@ fn push_pane(
     alloc: Global,
     text: &mut String,
     pane: u8,
-    told: Option<Place>,
-    now: Option<Place>,
+    told: Option<ListedPane>,
+    now: Option<ListedPane>,
 ) -> Result<(), Fault>
     ensures lines { OnOk result (string_bytes text.new ≡ string_bytes text.old ++ lines_text (lines_for pane told now)) }
     ensures fault { IsOkUnless result Fault.OutOfMemory }
@@ -58,22 +58,22 @@ fn push_pane(
     match (told, now) {
         (None, None) => Ok(()),
         (Some(_), None) => push_gone(alloc, text, pane),
-        (None, Some(place)) => push_here(alloc, text, pane, place),
-        (Some(was), Some(place)) => {
-            if is_same(was, place) {
+        (None, Some(is)) => push_here(alloc, text, pane, is),
+        (Some(was), Some(is)) => {
+            if is_same(was, is) {
                 return Ok(());
             }
-            if was.life != place.life {
+            if was.life != is.life {
                 push_gone(alloc, text, pane)?;
             }
-            push_here(alloc, text, pane, place)
+            push_here(alloc, text, pane, is)
         }
     }
 }
 
 /// The lines that tell a follower, who was told something before, what is so now: of each pane in the order of their numbers `P ROWS COLS
 /// LIFE` where it was made or sized and `P gone` where it was closed, and then `focus P` where another is in focus. Refuses want of memory.
-pub fn lines_between(alloc: Global, told: &Places, now: &Places) -> Result<String, Fault>
+pub fn lines_between(alloc: Global, told: &PaneList, now: &PaneList) -> Result<String, Fault>
     ensures lines { IfOk result (λ text. string_bytes text ≡ lines_text (lines_between told.now now.now)) }
     ensures fault { IsOkUnless result Fault.OutOfMemory }
 {

@@ -1,21 +1,21 @@
 -- The lines that tell what is new of a session's panes (this project's profile).
 use Rattle.std.specs.Prelude.{◌≡◌, ◌≢◌, ℕ, zero, suc, ◌≤◌, ◌==◌, ◌++◌, List, [], ◌∷◌, Option, Some, None, IsSome, if◌then◌else◌, codes, decimal}
 use Rattle.std.specs.List.{flat_map, fold}
-use Rattle.roam_places.specs.Known.{place_at, is_same}
-use Rattle.roam_places.specs.declared.places.Place.{Place}
-use Rattle.roam_places.specs.declared.places.Places.{Places}
+use Rattle.roam_pane_list.specs.Known.{pane_at, is_same}
+use Rattle.roam_pane_list.specs.declared.pane_list.ListedPane.{ListedPane}
+use Rattle.roam_pane_list.specs.declared.pane_list.PaneList.{PaneList}
 
 -- a line: a pane of this number is there, of a life and a size; none is there any more; this one is in focus
 pub data Line : Type 0 where
-  Here : ℕ → Place → Line
+  Here : ℕ → ListedPane → Line
   Gone : ℕ → Line
   Focus : ℕ → Line
 
 -- a line as it is written, ended by LF
 abbrev pub line_text : Line → List ℕ
-line_text (Here p place) =
-    decimal p ++ (codes " " ++ (decimal place.rows ++ (codes " " ++ (decimal place.cols
-    ++ (codes " " ++ (decimal place.life ++ codes "\n"))))))
+line_text (Here p pane) =
+    decimal p ++ (codes " " ++ (decimal pane.rows ++ (codes " " ++ (decimal pane.cols
+    ++ (codes " " ++ (decimal pane.life ++ codes "\n"))))))
 line_text (Gone p) = decimal p ++ codes " gone\n"
 line_text (Focus p) = codes "focus " ++ (decimal p ++ codes "\n")
 
@@ -23,7 +23,7 @@ abbrev pub lines_text : List Line → List ℕ
 lines_text lines = flat_map line_text lines
 
 -- what is new of a pane: it was made, sized or closed; one of another life is another pane, and the old one is gone first
-abbrev pub lines_for : ℕ → Option Place → Option Place → List Line
+abbrev pub lines_for : ℕ → Option ListedPane → Option ListedPane → List Line
 lines_for p None None = []
 lines_for p None (Some now) = Here p now ∷ []
 lines_for p (Some told) None = Gone p ∷ []
@@ -33,7 +33,7 @@ lines_for p (Some told) (Some now) =
     else Gone p ∷ Here p now ∷ []
 
 -- what is new of the panes from 1 to n
-unfoldable pub lines_to : ℕ → (ℕ → Option Place) → (ℕ → Option Place) → List Line
+unfoldable pub lines_to : ℕ → (ℕ → Option ListedPane) → (ℕ → Option ListedPane) → List Line
 lines_to zero told now = []
 lines_to (suc n) told now = lines_to n told now ++ lines_for (suc n) (told (suc n)) (now (suc n))
 
@@ -42,29 +42,29 @@ abbrev pub lines_of_focus : ℕ → ℕ → List Line
 lines_of_focus told now = if told == now then [] else Focus now ∷ []
 
 -- what is new of all nine panes, and then the focus
-abbrev pub lines_between : Places → Places → List Line
-lines_between told now = lines_to 9 (place_at told) (place_at now) ++ lines_of_focus told.focus now.focus
+abbrev pub lines_between : PaneList → PaneList → List Line
+lines_between told now = lines_to 9 (pane_at told) (pane_at now) ++ lines_of_focus told.focus now.focus
 
 -- ---- who reads them
 
 -- what a follower knows
 pub record Known : Type 0 where
-  pub place : ℕ → Option Place
+  pub pane : ℕ → Option ListedPane
   pub focus : ℕ
 
-abbrev pub knows : Places → Known
-knows known = record { place = place_at known; focus = known.focus }
+abbrev pub knows : PaneList → Known
+knows known = record { pane = pane_at known; focus = known.focus }
 
 -- what he knows after a line
 abbrev pub after : Known → Line → Known
-after known (Here p place) = record known { place = (λ q. if q == p then Some place else known.place q) }
-after known (Gone p) = record known { place = (λ q. if q == p then None else known.place q) }
+after known (Here p pane) = record known { pane = (λ q. if q == p then Some pane else known.pane q) }
+after known (Gone p) = record known { pane = (λ q. if q == p then None else known.pane q) }
 after known (Focus p) = record known { focus = p }
 
 -- a line says what he doesn't know
 abbrev pub IsNews : Known → Line → Type 0
-IsNews known (Here p place) = known.place p ≢ Some place
-IsNews known (Gone p) = IsSome (known.place p)
+IsNews known (Here p pane) = known.pane p ≢ Some pane
+IsNews known (Gone p) = IsSome (known.pane p)
 IsNews known (Focus p) = known.focus ≢ p
 
 -- each of these lines does, after those before it
@@ -75,12 +75,12 @@ AreNews known (line ∷ lines) = IsNews known line × AreNews (after known line)
 -- ---- the laws
 
 -- he knows of each pane and of the focus what is so
-pub record Agrees (known : Known) (now : Places) : Type 0 where
-  pub places : (p : ℕ) → 1 ≤ p → p ≤ 9 → known.place p ≡ place_at now p
+pub record Agrees (known : Known) (now : PaneList) : Type 0 where
+  pub panes : (p : ℕ) → 1 ≤ p → p ≤ 9 → known.pane p ≡ pane_at now p
   pub focus : known.focus ≡ now.focus
 
 abbrev pub LinesArrive : Type 0
-LinesArrive = (told now : Places) → Agrees (fold after (knows told) (lines_between told now)) now
+LinesArrive = (told now : PaneList) → Agrees (fold after (knows told) (lines_between told now)) now
 
 abbrev pub LinesAreNews : Type 0
-LinesAreNews = (told now : Places) → AreNews (knows told) (lines_between told now)
+LinesAreNews = (told now : PaneList) → AreNews (knows told) (lines_between told now)

@@ -3,7 +3,7 @@
 
 pub mod laws;
 mod lines;
-mod places;
+mod pane_list;
 
 pub use lines::lines_between;
-pub use places::{Place, Places};
+pub use pane_list::{ListedPane, PaneList};

@@ -1,8 +1,0 @@
-use Rattle.std.proofs.Common.{◌≡◌, ◌-◌}
-use Rattle.std.specs.Prelude.{string_bytes}
-use Rattle.roam_places.specs.Known.{place_at}
-use Rattle.roam_places.specs.Lines.{lines_text, lines_to}
-use Rattle.roam_places.proofs.lines.lines_between.Given as goal
-
-abbrev pub invariant-loop-pane : goal.invariant-loop-pane
-invariant-loop-pane l = string_bytes l.text ≡ lines_text (lines_to (l.pane - 1) (place_at l.told) (place_at l.now))
