@@ -1,27 +1,27 @@
 -- A number has one spelling in decimals, and which scalar value digits write.
-use Rattle.std.proofs.Common.{◌≡◌, ℕ, zero, suc, ◌+◌, ◌*◌, ◌/◌, ◌%◌, ◌^◌, ◌<◌, ◌≤◌, Bool, true, false, cond, eqb, leb, ◌&&◌, List, [], ◌∷◌, length, get_or, take, Some, None, ℤ, pos, negsuc, neg_ℤ, refl, sym, ap, subst, ◌∙◌, arith, lit<, lit≤, add-one}
-use Rattle.std.proofs.Math.Nat.{pow-suc}
+use Rattle.std.proofs.Common.{◌≡◌, ℕ, zero, suc, ◌+◌, ◌*◌, ◌/◌, ◌%◌, ◌^◌, ◌<◌, ◌≤◌, Bool, true, false, cond, eqb, leb, ◌&&◌, List, [], ◌∷◌, length, Option, Some, None, ℤ, pos, negsuc, neg_ℤ, refl, sym, ap, subst, ◌∙◌, arith, lit<, lit≤}
+use Rattle.std.proofs.Math.Nat.{pow-le-pow_right, pow-suc}
 use Rattle.std.proofs.lemmas.Bool.{and_parts, eq-eqb}
 use Rattle.std.proofs.lemmas.Bool.Decides.{nat_tests}
 use Rattle.std.proofs.lemmas.Fmt.{decimal_is_IsNumeral, parse-signed_decimal, IsAscii-signed}
-use Rattle.std.proofs.lemmas.Int.Digits.{digits_value_more}
-use Rattle.std.proofs.lemmas.List.Folds.{list_all_more}
+use Rattle.std.proofs.lemmas.Int.Digits.{digits_value-lt}
 use Rattle.std.proofs.lemmas.Nat.{div_below}
 use Rattle.std.proofs.lemmas.Slice.Eq.{bytes_eq-Decides}
 use Rattle.std.proofs.lemmas.Str.{IsUtf8-from_ascii}
 use Rattle.std.proofs.lemmas.Str.Parse.{digit_at, without_leading_plus_none}
-use Rattle.std.specs.Char.{digit_value, IsScalar}
+use Rattle.std.specs.Char.{IsScalar}
 use Rattle.std.specs.Fmt.{decimal, digits, digit_glyph, digits_onto, signed_decimal}
 use Rattle.std.specs.Int.{w16}
-use Rattle.std.specs.List.{list_all}
 use Rattle.std.specs.Prelude.{FitsSigned, Result, Ok, Err}
 use Rattle.std.specs.Result.{MatchResult, result_ok}
 use Rattle.std.specs.Str.{bytes_eq, IsUtf8}
-use Rattle.std.specs.Str.Parse.{AllDigits, IsNumeral, ParsesSigned, digits_value, signed_digits_value, starts_with_minus, without_leading_plus}
+use Rattle.std.specs.Str.Parse.{IsNumeral, ParsesSigned, digits_value, signed_digits_value, starts_with_minus, without_leading_plus}
 use lib.Signed.{mag, le_z}
 use lib.Utf8.{scalar}
+use Rattle.roam_numbers.specs.Numbers.{id_in}
+use Rattle.roam_numbers.proofs.Spelled.{id_again, id_found}
 use Rattle.roam_acts.specs.Lines.{IsHexadecimal}
-use Rattle.roam_acts.specs.Reading.{is_hexadecimal, is_integer, integer_in, scalar_in}
+use Rattle.roam_acts.specs.Reading.{is_integer, integer_in, only_scalar, scalar_in}
 
 -- ---- decimals
 
@@ -97,43 +97,32 @@ no_parse text r none parses =
 
 -- ---- hexadecimal digits
 
-pub small_power : (i : ℕ) → i ≤ 5 → 16 ^ i ≤ 1048576
-small_power zero le = lit≤ tt
-small_power (suc zero) le = lit≤ tt
-small_power (suc (suc zero)) le = lit≤ tt
-small_power (suc (suc (suc zero))) le = lit≤ tt
-small_power (suc (suc (suc (suc zero)))) le = lit≤ tt
-small_power (suc (suc (suc (suc (suc zero))))) le = lit≤ tt
-small_power (suc (suc (suc (suc (suc (suc i)))))) le = absurd (omega arith)
-
-all_digits : (text : List ℕ) → AllDigits 16 text → list_all is_hexadecimal text ≡ true
-all_digits [] h = refl
-all_digits (d ∷ text) h = let rest = all_digits text h.1 in grind (arith, nat_tests, h.0)
-
-digits_all : (text : List ℕ) → list_all is_hexadecimal text ≡ true → AllDigits 16 text
-digits_all [] e = tt
-digits_all (d ∷ text) e =
-    let both = and_parts (is_hexadecimal d) (list_all is_hexadecimal text) e in
-    (grind (arith, nat_tests, both.0), digits_all text both.1)
-
 pub scalar_again : (text : List ℕ) (c : ℕ) → IsScalar c → IsHexadecimal text c → scalar_in text ≡ Some c
 scalar_again text c is h =
-    let value : digits_value 16 text ≡ c = h.2 in
-    let long : leb 1 (length text) ≡ true = grind (arith, nat_tests, h.0.0) in
     let short : leb (length text) 6 ≡ true = grind (arith, nat_tests, h.1) in
-    let hex : list_all is_hexadecimal text ≡ true = all_digits text h.0.1 in
-    rw (long, short, hex, value, is) refl
+    let id : id_in text ≡ Some c = id_again text c (record { digits = h.0; most = omega (arith, h.1); value = h.2 }) in
+    rw (short, id, is) refl
 
 pub scalar_found : (text : List ℕ) (c : ℕ) → scalar_in text ≡ Some c → IsScalar c × IsHexadecimal text c
-scalar_found text c e =
-    let v = digits_value 16 text in
-    let whole = chosen_some (leb 1 (length text) && leb (length text) 6 && list_all is_hexadecimal text && scalar v) v c e in
-    let last = and_parts (leb 1 (length text) && leb (length text) 6 && list_all is_hexadecimal text) (scalar v) whole.0 in
-    let hex = and_parts (leb 1 (length text) && leb (length text) 6) (list_all is_hexadecimal text) last.0 in
-    let lens = and_parts (leb 1 (length text)) (leb (length text) 6) hex.0 in
-    let low : 0 < length text = grind (arith, nat_tests, lens.0) in
-    let high : length text ≤ 6 = grind (arith, nat_tests, lens.1) in
-    (sym (ap scalar whole.1) ∙ last.1, ((low, digits_all text hex.1), high, whole.1))
+scalar_found text c e = by (leb (length text) 6) (id_in text) refl refl e
+  where
+    by : (b : Bool) (o : Option ℕ) → leb (length text) 6 ≡ b → id_in text ≡ o → cond b (only_scalar o) None ≡ Some c
+        → IsScalar c × IsHexadecimal text c
+    by true None short at f = absurd cc
+    by true (Some v) short at f =
+        let both = chosen_some (scalar v) v c f in
+        let is = id_found text v at in
+        let few : length text ≤ 6 = grind (arith, nat_tests, short) in
+        (sym (ap scalar both.1) ∙ both.0, (is.1.digits, few, is.1.value ∙ both.1))
+    by false o short at f = absurd cc
+
+-- six digits write a number of 32 bits
+pub scalar_fits : (text : List ℕ) (id : ℕ) → length text ≤ 6 → id_in text ≡ Some id → id < 2 ^ 32
+scalar_fits text id few at =
+    let is = id_found text id at in
+    let below = digits_value-lt 16 text is.1.digits.1 in
+    let least : 16 ^ length text ≤ 16 ^ 6 = pow-le-pow_right {n = 16} (lit< tt) few in
+    omega (arith, below, least, is.1.value)
 
 -- the digits that are written for a scalar value
 
@@ -159,15 +148,3 @@ onto_short (suc m) (suc k) n acc le lt =
 pub digits_short : (c : ℕ) → c < 16777216 → length (digits 16 false c) ≤ 6
 unfolding digits
 digits_short c lt = onto_short 5 63 c [] (lit≤ tt) (omega arith)
-
--- one more digit
-pub value_more : (text : List ℕ) (i n d : ℕ) → i < length text → n ≡ digits_value 16 (take i text) → d ≡ digit_value (get_or text i 0) → n * 16 + d ≡ digits_value 16 (take (i + 1) text)
-value_more text i n d lt is digit = (λ k. is k * 16 + digit k) ∙ sym (digits_value_more 16 text i lt)
-
-pub hexadecimal_more : (text : List ℕ) (i d : ℕ) → i < length text → list_all is_hexadecimal (take i text) ≡ true → d ≡ digit_value (get_or text i 0) → d < 16 → list_all is_hexadecimal (take (i + 1) text) ≡ true
-hexadecimal_more text i d lt all digit small =
-    let here : is_hexadecimal (get_or text i 0) ≡ true = grind (arith, nat_tests, digit, small) in
-    list_all_more is_hexadecimal text i 0 lt ∙ (λ k. all k && here k)
-
-pub power_more : (i n d : ℕ) → n < 16 ^ i → d < 16 → n * 16 + d < 16 ^ (i + 1)
-power_more i n d lt small = let step : 16 ^ (i + 1) ≡ 16 ^ i * 16 = ap (λ (k : ℕ). 16 ^ k) (add-one i) ∙ pow-suc 16 i in omega (arith, step)

@@ -1,14 +1,14 @@
 -- How the code reads acts, step by step. No public clause speaks of it: what reading means is said by the grammars of Bytes and Lines.
 use Rattle.std.specs.Prelude.{ℕ, ℤ, zero, suc, ◌+◌, ◌==◌, Bool, ◌&&◌, List, [], ◌∷◌, take, drop, slice_index, nat_le, nat_lt, length, int_le, pos, negsuc, Option, Some, None, if◌then◌else◌}
-use Rattle.std.specs.Char.{digit_value}
 use Rattle.std.specs.Fmt.{signed_decimal}
-use Rattle.std.specs.List.{list_all, position}
+use Rattle.std.specs.List.{position}
 use Rattle.std.specs.Option.{option_map}
 use Rattle.std.specs.Str.{bytes_eq}
-use Rattle.std.specs.Str.Parse.{digits_value, signed_digits_value}
+use Rattle.std.specs.Str.Parse.{signed_digits_value}
 use Rattle.std.specs.Int.{w16, cast_signed}
 use Rattle.byteorder.specs.Endian.{big_number}
 use lib.Utf8.{scalar}
+use Rattle.roam_numbers.specs.Numbers.{id_in}
 use Rattle.roam_acts.specs.declared.acts.Act.{Act}
 use Rattle.roam_acts.specs.declared.acts.Act.TheVariants as act
 use Rattle.roam_keys.specs.declared.keys.Key.TheVariants as key
@@ -71,15 +71,14 @@ acts_in (suc count) bytes = and_then (acts_in count) (first_act bytes)
 
 -- ---- lines
 
--- a hexadecimal digit
-abbrev pub is_hexadecimal : ℕ → Bool
-is_hexadecimal digit = nat_lt (digit_value digit) 16
+-- a number, where it is a scalar value
+abbrev pub only_scalar : Option ℕ → Option ℕ
+only_scalar None = None
+only_scalar (Some c) = if scalar c then Some c else None
 
 -- the scalar value that one to six hexadecimal digits write
 abbrev pub scalar_in : List ℕ → Option ℕ
-scalar_in text =
-    if nat_le 1 (length text) && nat_le (length text) 6 && list_all is_hexadecimal text && scalar (digits_value 16 text)
-    then Some (digits_value 16 text) else None
+scalar_in text = if nat_le (length text) 6 then only_scalar (id_in text) else None
 
 -- a number of 16 bits that is written so and not otherwise
 abbrev pub is_integer : ℤ → List ℕ → Bool

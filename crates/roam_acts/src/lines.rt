@@ -14,6 +14,7 @@ use crate::limits::MOST_PANES;
 use itoa::Buffer;
 use roam_cells::Fault;
 use roam_keys::Key;
+use roam_numbers::id;
 use std::fmt;
 
 // How many digits a code point may have.
@@ -52,14 +53,10 @@ fn write_key<W: fmt::Write>(key: Key, f: &mut fmt::Formatter<W>) -> fmt::Result
 fn scalar(text: &[u8]) -> Option<char>
     ensures scalar { result ≡ scalar_in text.now }
 {
-    if text.is_empty() || text.len() > DIGITS {
+    if text.len() > DIGITS {
         return None;
     }
-    let mut number = 0u32;
-    for digit in text {
-        number = number * 16 + (*digit as char).to_digit(16)?;
-    }
-    char::from_u32(number)
+    char::from_u32(u32::try_from(id(text)?).ok()?)
 }
 
 // The number that a text writes; a number has one spelling.

@@ -22,7 +22,8 @@ use Rattle.roam_world.specs.Moments.{owed_from}
 use Rattle.roam_world.specs.Versions.{applied_by}
 use Rattle.roam_world.specs.Texts.{SaysDown, update_in}
 use Rattle.roam_world.specs.Clients.{Client as ClientOf, moment_of}
-use Rattle.roam_world.specs.ClientArrivals.{sent_back, kept, arriving, arriving_gathered, hearing_of}
+use Rattle.roam_world.specs.ClientArrivals.{arriving, arriving_gathered, hearing_of}
+use Rattle.roam_world.specs.Arrival.{turned_away, noted}
 use Rattle.roam_hub.specs.declared.clients.Heard.{Heard}
 use Rattle.roam_hub.specs.Clients.{ClientView, Stands, hearing_in, Delivered, NotDelivered, unread as not_read, bad_change as bad_change_of, no_memory as wants_memory, IsTextOf, Hears, no_datagram, refused, fragment, unread, bad_change, whole, no_memory}
 
@@ -121,11 +122,11 @@ Admits v d = (c : ClientOf) → c.version ≡ v.version
 
 pub not_admitted : (session id : ℕ) (c : ClientOf) (bytes : List ℕ) (now : ℕ) (before : ClientView) (d : DatagramValue) (fault : Fault)
     → Stands before session id c → IsTextOf bytes d
-    → ((k : ClientOf) → k.version ≡ before.version → arriving before.session before.id k d ≡ sent_back fault)
+    → ((k : ClientOf) → k.version ≡ before.version → arriving before.session before.id k d ≡ turned_away fault)
     → Hears session id c bytes now (Err fault) before
 not_admitted session id c bytes now before d fault st is back =
     refused d fault is
-    (subst (λ (v : ClientView). arriving v.session v.id c d ≡ sent_back fault) st (back c (sym (ap (λ (v : ClientView). v.version) st))))
+    (subst (λ (v : ClientView). arriving v.session v.id c d ≡ turned_away fault) st (back c (sym (ap (λ (v : ClientView). v.version) st))))
     refl st
 
 arrives : (session id : ℕ) (c : ClientOf) (before : ClientView) (d : DatagramValue) (x : Option (Answer × Gathering))
@@ -149,12 +150,12 @@ not_gathered session id c bytes now before d fault g st is ok (inl e) bad same =
     no_memory (ap (λ f. Err f) e) (gathers_as session id c before g st same)
 not_gathered session id c bytes now before d fault g st is ok (inr e) bad same =
     refused d fault is
-    (arrives session id c before d None st ok (bad e) ∙ ap sent_back (sym e)) refl (gathers_as session id c before g st same)
+    (arrives session id c before d None st ok (bad e) ∙ ap turned_away (sym e)) refl (gathers_as session id c before g st same)
 
 pub fragment_heard : (session id : ℕ) (c : ClientOf) (bytes : List ℕ) (now : ℕ) (before : ClientView) (d : DatagramValue) (h : Heard)
     (a : Answer) (g : Gathering) (moment : ℕ)
     → Stands before session id c → IsTextOf bytes d → Admits before d → gather before.gathering (fragment_of d) ≡ Some (a, g)
-    → arriving_gathered (Some (a, g)) ≡ kept (hearing_in h) g → moment ≡ max now before.clock
+    → arriving_gathered (Some (a, g)) ≡ noted (hearing_in h) g → moment ≡ max now before.clock
     → Hears session id c bytes now (Ok h) (record before { gathering = g; clock = moment })
 fragment_heard session id c bytes now before d h a g moment st is ok e k m =
     fragment d h g is (arrives session id c before d (Some (a, g)) st ok e ∙ k) refl

@@ -26,7 +26,8 @@ use Rattle.roam_world.specs.Texts.{Address, is_to_server, is_watching}
 use Rattle.roam_world.specs.Versions.{is_same_version}
 use Rattle.roam_world.specs.Lists.{with_value}
 use Rattle.roam_world.specs.Servers.{Record, Server, new_server, moment, after_input}
-use Rattle.roam_world.specs.ServerArrivals.{turned_away, coming, coming_gathered, is_same, is_full_for, is_of_other, is_else, most_of, arrival_with, heard_from, informed_from, new_acts, after_acts, room_for}
+use Rattle.roam_world.specs.ServerArrivals.{coming, coming_gathered, is_same, is_full_for, is_of_other, is_else, most_of, arrival_with, heard_from, informed_from, new_acts, after_acts, room_for}
+use Rattle.roam_world.specs.Arrival.{turned_away}
 use Rattle.roam_hub.specs.Clients.{IsTextOf}
 use Rattle.roam_hub.specs.declared.taking.Taking.{Taking}
 use Rattle.roam_hub.specs.Servers.{RecordView, ServerView, kept_of, IsKept, Stands, Feeds, refused, taken, Drains, no_pane, gone, stop_after, Comes, no_datagram, fragment, unread, all_taken, no_room, no_memory_at_act, no_memory}

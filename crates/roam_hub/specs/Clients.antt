@@ -21,7 +21,8 @@ use Rattle.roam_world.specs.Moments.{is_spent}
 use Rattle.roam_wire.specs.declared.versions.Version.{Version}
 use Rattle.roam_world.specs.Versions.{applied_by}
 use Rattle.roam_world.specs.Clients.{Client as ClientOf, moment_of, after_typed}
-use Rattle.roam_world.specs.ClientArrivals.{Hearing, IsPart, IsOld, IsGap, IsNew, sent_back, kept, fulfilled, arriving, after_fragment, step_of, hearing_of, after_whole}
+use Rattle.roam_world.specs.ClientArrivals.{Hearing, IsPart, IsOld, IsGap, IsNew, arriving, after_fragment, step_of, hearing_of, after_whole}
+use Rattle.roam_world.specs.Arrival.{turned_away, noted, completed}
 use Rattle.roam_world.specs.Sendings.{is_client_due, is_client_spent, fragments_from, datagrams_from, after_sending, after_quiet}
 use Rattle.roam_hub.specs.declared.clients.Heard.{Heard}
 use Rattle.roam_hub.specs.declared.clients.Heard.TheVariants as heard
@@ -145,20 +146,20 @@ pub data Hears (session id : ℕ) (c : ClientOf) (bytes : List ℕ) (now : ℕ) 
     : Type 0 where
   no_datagram : (why : Reason) → IsNoDatagram bytes why → result ≡ Err (BadDatagram why) → Stands new session id c
       → Hears session id c bytes now result new
-  refused : (d : DatagramValue) (fault : Fault) → IsTextOf bytes d → arriving session id c d ≡ sent_back fault
+  refused : (d : DatagramValue) (fault : Fault) → IsTextOf bytes d → arriving session id c d ≡ turned_away fault
       → result ≡ Err fault → Stands new session id c → Hears session id c bytes now result new
-  fragment : (d : DatagramValue) (h : Heard) (g : Gathering) → IsTextOf bytes d → arriving session id c d ≡ kept (hearing_in h) g
+  fragment : (d : DatagramValue) (h : Heard) (g : Gathering) → IsTextOf bytes d → arriving session id c d ≡ noted (hearing_in h) g
       → result ≡ Ok h → Stands new session id (after_fragment c (moment_of c now) g) → Hears session id c bytes now result new
   unread : (d : DatagramValue) (g : Gathering) (text : List ℕ) (why : Reason) → IsTextOf bytes d
-      → arriving session id c d ≡ fulfilled g text → SaysNoDown text why
+      → arriving session id c d ≡ completed g text → SaysNoDown text why
       → result ≡ Err (BadDatagram why) → Stands new session id c → Hears session id c bytes now result new
   bad_change : (d : DatagramValue) (g : Gathering) (text : List ℕ) (v : DownValue) (base : Screenshot) → IsTextOf bytes d
-      → arriving session id c d ≡ fulfilled g text → SaysDown text v
+      → arriving session id c d ≡ completed g text → SaysDown text v
       → step_of c v ≡ step.New → state_at v.old (pairs c.receiver) ≡ Some base
       → applied_by c.version base v.change ≡ None
       → result ≡ Err BadChange → Stands new session id c → Hears session id c bytes now result new
   whole : (d : DatagramValue) (h : Heard) (g : Gathering) (text : List ℕ) (v : DownValue) (r : Receiving Screenshot) → IsTextOf bytes d
-      → arriving session id c d ≡ fulfilled g text → SaysDown text v
+      → arriving session id c d ≡ completed g text → SaysDown text v
       → Delivers (applied_by c.version) c.receiver (update_in v) r
       → result ≡ Ok h → hearing_in h ≡ hearing_of (step_of c v)
       → Stands new session id (after_whole c (moment_of c now) g r v) → Hears session id c bytes now result new

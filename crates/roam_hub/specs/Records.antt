@@ -24,7 +24,8 @@ use Rattle.roam_world.specs.Moments.{has_passed, is_overdue, owed_from, is_spent
 use Rattle.roam_world.specs.Texts.{Address, is_watching, SaysUp, SaysNoUp, datagrams_of}
 use Rattle.roam_world.specs.Versions.{is_same_version, seen_by}
 use Rattle.roam_world.specs.Servers.{Record, no_record}
-use Rattle.roam_world.specs.ServerArrivals.{noted, completed, coming_gathered, reach, is_same, most_of}
+use Rattle.roam_world.specs.ServerArrivals.{coming_gathered, reach, is_same, most_of}
+use Rattle.roam_world.specs.Arrival.{noted, completed}
 use Rattle.roam_world.specs.Ticks.{is_live, holds_after, down_from}
 use Rattle.roam_hub.specs.Servers.{RecordView, ServerView, kept_of, stop_after}
 use Rattle.roam_hub.specs.declared.addresses.Stop.{Stop}
@@ -113,7 +114,7 @@ informed_by v d from now g u n =
 -- before.
 pub data Notes (old : RecordView) (before : SessionView) (d : DatagramValue) (from : Address) (now : ℕ) (t : Taking) (new : RecordView)
     (after : SessionView) : Type 0 where
-  fragment : (g : Gathering) → coming_gathered (gather old.gathering (fragment_of d)) ≡ noted g → t ≡ taking 0 None
+  fragment : (g : Gathering) → coming_gathered (gather old.gathering (fragment_of d)) ≡ noted tt g → t ≡ taking 0 None
       → new ≡ heard_by old d from now g → after ≡ before → Notes old before d from now t new after
   instruction : (g : Gathering) (text : List ℕ) (u : UpValue) → coming_gathered (gather old.gathering (fragment_of d)) ≡ completed g text
       → SaysUp (is_watching d.kind) text u → new ≡ informed_by old d from now (if is_some t.stopped then old.gathering else g) u t.taken

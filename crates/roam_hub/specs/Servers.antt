@@ -22,7 +22,8 @@ use Rattle.roam_world.specs.Moments.{is_spent}
 use Rattle.roam_world.specs.Numbers.{cut_of, screen}
 use Rattle.roam_world.specs.Texts.{Address, is_watching, SaysUp, SaysNoUp}
 use Rattle.roam_world.specs.Servers.{Record, no_record, Server, moment, after_input}
-use Rattle.roam_world.specs.ServerArrivals.{turned_away, noted, completed, coming, after_note, new_acts, after_acts, room_for}
+use Rattle.roam_world.specs.ServerArrivals.{coming, after_note, new_acts, after_acts, room_for}
+use Rattle.roam_world.specs.Arrival.{turned_away, noted, completed}
 use Rattle.roam_world.specs.Ticks.{number_after, screen_to, sends, Parcel, sent_by, is_tick_spent, after_tick}
 use Rattle.roam_world.specs.Laws.{IsSameBut}
 use Rattle.roam_hub.specs.Clients.{IsTextOf, IsNoDatagram}
@@ -132,7 +133,7 @@ pub data Comes (s : Server) (from : Address) (bytes : List ℕ) (now : ℕ) (res
       → Comes s from bytes now result new
   refused : (d : DatagramValue) (fault : Fault) → IsTextOf bytes d → coming s d ≡ turned_away fault
       → result ≡ stop_after fault 0 → Stands new s → Comes s from bytes now result new
-  fragment : (d : DatagramValue) (g : Gathering) → IsTextOf bytes d → coming s d ≡ noted g
+  fragment : (d : DatagramValue) (g : Gathering) → IsTextOf bytes d → coming s d ≡ noted tt g
       → result ≡ Ok 0 → Stands new (after_note s d from (moment s now) g) → Comes s from bytes now result new
   unread : (d : DatagramValue) (g : Gathering) (text : List ℕ) (why : Reason) → IsTextOf bytes d
       → coming s d ≡ completed g text → SaysNoUp (is_watching d.kind) text why

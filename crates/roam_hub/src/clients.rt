@@ -9,7 +9,8 @@ ghost use Rattle.roam_wire.specs.declared.versions.Version.TheVariants.{One, Two
 ghost use Rattle.roam_world.specs.Sendings.{is_client_due, last_waiting};
 ghost use Rattle.roam_world.specs.Clients.{Client as ClientOf, new_client, shown_number, shown_screen};
 ghost use Rattle.roam_world.specs.Texts.{kind_from, is_to_server};
-ghost use Rattle.roam_world.specs.ClientArrivals.{sent_back, arriving, arriving_gathered, hearing_of};
+ghost use Rattle.roam_world.specs.ClientArrivals.{arriving, arriving_gathered, hearing_of};
+ghost use Rattle.roam_world.specs.Arrival.{turned_away};
 ghost use Rattle.roam_hub.specs.Ends.{version_in, receiving_in};
 ghost use Rattle.roam_hub.specs.Clients.{Stands, Types, Delivered, NotDelivered, Hears, Sends, bare, datagrams_by, hearing_in, is_view_spent};
 
@@ -131,7 +132,7 @@ fn admit(session: u64, id: u64, version: Version, datagram: &Datagram) -> Result
     ensures ok { OnOk result ((c : ClientOf) → c.version ≡ version → arriving session id c (datagram_value datagram.now)
         ≡ arriving_gathered (gather c.gathering (fragment_of (datagram_value datagram.now)))) }
     ensures err { IfErr result (λ fault. (c : ClientOf) → c.version ≡ version
-        → arriving session id c (datagram_value datagram.now) ≡ sent_back fault) }
+        → arriving session id c (datagram_value datagram.now) ≡ turned_away fault) }
 {
     if !is_to_client(datagram.kind) {
         return Err(Fault::BadDatagram(Reason::Kind));

@@ -11,7 +11,8 @@ ghost use Rattle.roam_session.specs.Refusals.{fault_of, none_refused, output_at}
 ghost use Rattle.roam_world.specs.Servers.{Server as ServerOf, new_server};
 ghost use Rattle.roam_wire.specs.Datagrams.{datagram_value};
 ghost use Rattle.roam_world.specs.Texts.{is_to_server as is_to_server_kind};
-ghost use Rattle.roam_world.specs.ServerArrivals.{coming, turned_away};
+ghost use Rattle.roam_world.specs.ServerArrivals.{coming};
+ghost use Rattle.roam_world.specs.Arrival.{turned_away};
 ghost use Rattle.roam_hub.specs.Servers.{Stands, Feeds, Drains, Comes, Ticks, ComesFromWatcher, TakesNothing, IsStopAtAct, address_of, parcels_of};
 ghost use Rattle.roam_hub.specs.Records.{answer_to_datagram, makes_at, sent_by_tick, ticked_by, is_any_spent, Numbers, is_numbering_spent};
 ghost use Rattle.roam_term.specs.Limits.{most_output};

@@ -1,4 +1,4 @@
-//! How numbers and ids are written in the lines of scripts and in the words of the command line.
+//! How numbers and ids are written in the lines of acts and scripts and in the words of the command line.
 #![tactic(auto)]
 
 mod numbers;

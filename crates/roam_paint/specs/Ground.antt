@@ -28,8 +28,8 @@ PaintedLeadsOver =
     → new.rows ≤ (term rows cols lines log).live.screen.rows → new.cols ≤ (term rows cols lines log).live.screen.cols
     → LeadsOver rows cols lines log old new
 
--- after `blanking_text` any terminal is a ground terminal of its size that shows a blank screen, of its size or of a smaller one, also where it
--- stood in a sequence, in a string or in an unfinished character
+-- after `blanking_text` any terminal is a ground terminal of its size that shows a blank screen, of its size or of a smaller one, also
+-- where it stood in a sequence, in a string or in an unfinished character
 pub record IsOpened (rows cols lines : ℕ) (log : List Item) : Type 0 where
   pub displays : (height width : ℕ)
       → height ≤ (term rows cols lines log).live.screen.rows → width ≤ (term rows cols lines log).live.screen.cols

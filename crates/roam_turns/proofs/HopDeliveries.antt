@@ -26,7 +26,8 @@ use Rattle.roam_world.specs.Lists.{IsIn}
 use Rattle.roam_world.specs.Texts.{SaysDown, update_in, is_to_server}
 use Rattle.roam_world.specs.Servers.{Record}
 use Rattle.roam_world.specs.Clients.{Client, moment_of}
-use Rattle.roam_world.specs.ClientArrivals.{Arriving, sent_back, kept, fulfilled, arriving, arriving_gathered, after_fragment, after_whole}
+use Rattle.roam_world.specs.ClientArrivals.{Hearing, arriving, arriving_gathered, after_fragment, after_whole}
+use Rattle.roam_world.specs.Arrival.{Arrival, turned_away, noted, completed}
 use Rattle.roam_world.proofs.Versions.{is_same-refl, difference_leads}
 use Rattle.roam_world.proofs.Gathered.{gathered_all, AllOf, Comes, all_gathered_anew, IsPart, IsSame, is_part}
 use Rattle.roam_hub.specs.declared.clients.Heard.{Heard}
@@ -134,10 +135,10 @@ module _ (session id n : ℕ) (c : Client) (r : Record) (shot : Screenshot) (rea
     shows : Early x ⊎ Late x
 
   -- what a fragment leaves: the gatherer h, and where it came whole the instruction's text
-  abbrev Leaves : Gathering → Gathering → Arriving → Type 0
-  Leaves old h (sent_back f) = ⊥
-  Leaves old h (kept how g) = (g ≡ h) × (is_whole old ≡ false → is_whole g ≡ false)
-  Leaves old h (fulfilled g text) = (g ≡ h) × (text ≡ down_text (told r n shot))
+  abbrev Leaves : Gathering → Gathering → Arrival Hearing → Type 0
+  Leaves old h (turned_away f) = ⊥
+  Leaves old h (noted how g) = (g ≡ h) × (is_whole old ≡ false → is_whole g ≡ false)
+  Leaves old h (completed g text) = (g ≡ h) × (text ≡ down_text (told r n shot))
 
   gathered_leaves : (old : Gathering) (d : DatagramValue) → d.id ≡ length r.instructions + 1 → (x : Option (Answer × Gathering))
       → GathersWell cuts old (fragment_of d) x → IsPart x → IsSame old x → Leaves old (after old x) (arriving_gathered x)
@@ -162,9 +163,9 @@ module _ (session id n : ℕ) (c : Client) (r : Record) (shot : Screenshot) (rea
 
       go : (a : Bool) → a ≡ false → (b : Bool) → b ≡ true → (e : Bool) → e ≡ true → (f : Bool) → f ≡ true
           → Leaves x.gathering (after x.gathering (gather x.gathering (fragment_of d)))
-          (cond a (sent_back (BadDatagram reason.Kind))
-          (cond (not b) (sent_back OtherSession) (cond (not e) (sent_back OtherClient)
-          (cond (not f) (sent_back (BadDatagram reason.Version)) (arriving_gathered (gather x.gathering (fragment_of d)))))))
+          (cond a (turned_away (BadDatagram reason.Kind))
+          (cond (not b) (turned_away OtherSession) (cond (not e) (turned_away OtherClient)
+          (cond (not f) (turned_away (BadDatagram reason.Version)) (arriving_gathered (gather x.gathering (fragment_of d)))))))
       go true z b y e w f q = absurd (cc)
       go false z false y e w f q = absurd (cc)
       go false z true y false w f q = absurd (cc)
@@ -226,7 +227,7 @@ module _ (session id n : ℕ) (c : Client) (r : Record) (shot : Screenshot) (rea
       then_of = after_gathers cuts x.gathering (fragment_of d) (gather x.gathering (fragment_of d))
           (well cuts x.gathering (fragment_of d) k.of (fragment_of_it d mine)) k.of
 
-      leaves : (d' : DatagramValue) (a : Arriving) → IsTextOf bytes d' → arriving session id x d' ≡ a
+      leaves : (d' : DatagramValue) (a : Arrival Hearing) → IsTextOf bytes d' → arriving session id x d' ≡ a
           → Leaves x.gathering (after x.gathering (gather x.gathering (fragment_of d))) a
       leaves d' a t e =
           let same : d ≡ d' = one_datagram d d' is t.is (sym spelled ∙ t.spelled) in
@@ -238,9 +239,9 @@ module _ (session id n : ℕ) (c : Client) (r : Record) (shot : Screenshot) (rea
 
       go : Hears session id x bytes now answer new → Delivered x d new
       go (no_datagram why none e st) = absurd (none.none d is spelled)
-      go (refused d' f t a e st) = absurd (leaves d' (sent_back f) t a)
+      go (refused d' f t a e st) = absurd (leaves d' (turned_away f) t a)
       go (fragment d' how g t a e st) =
-          let p = leaves d' (kept (hearing_in how) g) t a in
+          let p = leaves d' (noted (hearing_in how) g) t a in
           record {
             start = after_fragment x (moment_of x now) g;
             stands = st;
@@ -254,9 +255,9 @@ module _ (session id n : ℕ) (c : Client) (r : Record) (shot : Screenshot) (rea
             };
             gathering = p.0;
           }
-      go (unread d' g text why t a none e st) = let p = leaves d' (fulfilled g text) t a in absurd (none.none (told r n shot) down p.1)
+      go (unread d' g text why t a none e st) = let p = leaves d' (completed g text) t a in absurd (none.none (told r n shot) down p.1)
       go (bad_change d' g text u base t a says fresh at none e st) =
-          let p = leaves d' (fulfilled g text) t a in
+          let p = leaves d' (completed g text) t a in
           let same = says_it text u p.1 says in
           let fresh' : step_for x.receiver r.sender.base.number n r.sender.base.number ≡ step.New =
           subst (λ (v : DownValue). step_for x.receiver v.old v.new v.floor ≡ step.New) same fresh in
@@ -280,7 +281,7 @@ module _ (session id n : ℕ) (c : Client) (r : Record) (shot : Screenshot) (rea
                 )
           ]
       go (whole d' how g text u q t a says heard' e hearing st) =
-          let p = leaves d' (fulfilled g text) t a in
+          let p = leaves d' (completed g text) t a in
           let same = says_it text u p.1 says in
           let mine' : Delivers (applied_by x.version) x.receiver (update_in (told r n shot)) q =
           subst (λ (v : DownValue). Delivers (applied_by x.version) x.receiver (update_in v) q) same heard' in

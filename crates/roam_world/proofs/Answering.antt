@@ -20,10 +20,11 @@ use Rattle.roam_session.specs.Refusals.{refuses_bytes, output_at}
 use Rattle.roam_world.specs.Versions.{applied_by}
 use Rattle.roam_world.specs.Texts.{Address, SaysDown, SaysNoDown, SaysUp, SaysNoUp, update_in, is_watching}
 use Rattle.roam_world.specs.Servers.{moment, after_input}
-use Rattle.roam_world.specs.ServerArrivals.{Coming, turned_away, noted, completed, coming, after_note, new_acts, after_acts, room_for}
+use Rattle.roam_world.specs.ServerArrivals.{coming, after_note, new_acts, after_acts, room_for}
+use Rattle.roam_world.specs.Arrival.{Arrival, turned_away, noted, completed}
 use Rattle.roam_world.specs.Ticks.{sent_by, is_tick_spent}
 use Rattle.roam_world.specs.Clients.{moment_of, after_typed}
-use Rattle.roam_world.specs.ClientArrivals.{Arriving, sent_back, kept, fulfilled, arriving, after_fragment, step_of, hearing_of, after_whole}
+use Rattle.roam_world.specs.ClientArrivals.{arriving, after_fragment, step_of, hearing_of, after_whole}
 use Rattle.roam_world.specs.Sendings.{is_client_due, is_client_spent, datagrams_from, after_quiet}
 use Rattle.roam_world.specs.Worlds.{World, PaneBytes, Typed, ServerTick, ClientTick, ToServer, ToClient, Start, Drain, Reply, Done, Sent, Taken, Heard, Refused, Failed, Stopped, datagram_at, with_server, with_client, after_server_tick, after_client_sent, after_start}
 use Rattle.roam_world.specs.Steps.{PaneBytesStep, DrainStep, TypedStep, ServerTickStep, ClientTickStep, ToServerStep, ToClientStep, StartStep, refused, taken, no_pane, too_many, gone, empty_slot, full, spent, typed, no_memory, ticked, quiet, sent, not_sent, fragment, unread, all_taken, no_room, no_memory_at_act, bad_change, whole, used, started, watching, unfit, is_unfit}
@@ -219,9 +220,9 @@ ByText w from now d g text r v =
     ((why : Reason) × SaysNoUp (is_watching d.kind) text why × Are r v (Stopped (BadDatagram why) 0) w)
     ⊎ ((u : UpValue) × SaysUp (is_watching d.kind) text u × ByRoom w from now d g u (has_no_room w d u) r v)
 
-abbrev ByComing : World → Address → ℕ → DatagramValue → Coming → Reply → World → Type 0
+abbrev ByComing : World → Address → ℕ → DatagramValue → Arrival (Unit {0}) → Reply → World → Type 0
 ByComing w from now d (turned_away fault) r v = Are r v (Stopped fault 0) w
-ByComing w from now d (noted g) r v = Are r v (Taken 0) (with_server w (after_note w.server d from now g))
+ByComing w from now d (noted tt g) r v = Are r v (Taken 0) (with_server w (after_note w.server d from now g))
 ByComing w from now d (completed g text) r v = ByText w from now d g text r v
 
 abbrev ByServer : World → Address → ℕ → Option DatagramValue → Reply → World → Type 0
@@ -232,12 +233,12 @@ by_server : (w : World) (k : ℕ) (from : Address) (now : ℕ) (r : Reply) (v : 
     → ByServer w from (moment w.server now) (datagram_at w.sent k) r v
 by_server w k from now r v step m = go step
   where
-    at : (d : DatagramValue) (x : Coming) → datagram_at w.sent k ≡ Some d → coming w.server d ≡ x
+    at : (d : DatagramValue) (x : Arrival (Unit {0})) → datagram_at w.sent k ≡ Some d → coming w.server d ≡ x
         → ByComing w from (moment w.server now) d x r v
         → ByServer w from (moment w.server now) (datagram_at w.sent k) r v
     at d x e f b =
         subst (λ (o : Option DatagramValue). ByServer w from (moment w.server now) o r v) (sym e)
-        (subst (λ (c : Coming). ByComing w from (moment w.server now) d c r v) (sym f) b)
+        (subst (λ (c : Arrival (Unit {0})). ByComing w from (moment w.server now) d c r v) (sym f) b)
 
     level : (a b : ℕ) → a ≡ b → nat_lt a b ≡ false
     level a b z = grind (arith, nat_tests)
@@ -248,7 +249,7 @@ by_server w k from now r v step m = go step
     go : ToServerStep w k from now r v → ByServer w from (moment w.server now) (datagram_at w.sent k) r v
     go (not_sent x e is) = subst (λ (o : Option DatagramValue). ByServer w from (moment w.server now) o r v) (sym x) (e, is)
     go (refused d f x y e is) = at d (turned_away f) x y (e, is)
-    go (fragment d g x y e is) = at d (noted g) x y (e, is)
+    go (fragment d g x y e is) = at d (noted tt g) x y (e, is)
     go (unread d g text why x y z e is) = at d (completed g text) x y (inl (why, z, (e, is)))
     go (all_taken d g text u x y z a e is) =
         at d (completed g text) x y (inr (
@@ -276,10 +277,10 @@ one_room w from now d g u false r r' v v' x y =
     both r r' (Taken (length (new_acts w.server d u))) v v'
     (with_server w (after_acts w.server d from now g u (length (new_acts w.server d u)))) x y
 
-one_coming : (w : World) (from : Address) (now : ℕ) (d : DatagramValue) (c : Coming) (r r' : Reply) (v v' : World)
+one_coming : (w : World) (from : Address) (now : ℕ) (d : DatagramValue) (c : Arrival (Unit {0})) (r r' : Reply) (v v' : World)
     → ByComing w from now d c r v → ByComing w from now d c r' v' → (r ≡ r') × (v ≡ v')
 one_coming w from now d (turned_away f) r r' v v' x y = both r r' (Stopped f 0) v v' w x y
-one_coming w from now d (noted g) r r' v v' x y = both r r' (Taken 0) v v' (with_server w (after_note w.server d from now g)) x y
+one_coming w from now d (noted tt g) r r' v v' x y = both r r' (Taken 0) v v' (with_server w (after_note w.server d from now g)) x y
 one_coming w from now d (completed g text) r r' v v' x y =
     elim x [
       | inl a ↦ elim y [
@@ -337,10 +338,10 @@ ByDown w id now g u r v =
     ⊎ ((q : Receiving Screenshot) × Delivers (applied_by (w.clients id).version) (w.clients id).receiver (update_in u) q
     × Are r v (Heard (hearing_of (step_of (w.clients id) u))) (with_client w id (after_whole (w.clients id) now g q u)))
 
-abbrev ByArriving : World → ℕ → ℕ → Arriving → Reply → World → Type 0
-ByArriving w id now (sent_back fault) r v = Are r v (Failed fault) w
-ByArriving w id now (kept h g) r v = Are r v (Heard h) (with_client w id (after_fragment (w.clients id) now g))
-ByArriving w id now (fulfilled g text) r v =
+abbrev ByArriving : World → ℕ → ℕ → Arrival Hearing → Reply → World → Type 0
+ByArriving w id now (turned_away fault) r v = Are r v (Failed fault) w
+ByArriving w id now (noted h g) r v = Are r v (Heard h) (with_client w id (after_fragment (w.clients id) now g))
+ByArriving w id now (completed g text) r v =
     ((why : Reason) × SaysNoDown text why × Are r v (Failed (BadDatagram why)) w)
     ⊎ ((u : DownValue) × SaysDown text u × ByDown w id now g u r v)
 
@@ -357,24 +358,24 @@ by_client w slot k now r v step m = go step
     no_datagram None a = a
     no_datagram (Some id) a = a
 
-    at : (id : ℕ) (d : DatagramValue) (x : Arriving) → w.slots slot ≡ Some id → datagram_at w.sent k ≡ Some d
+    at : (id : ℕ) (d : DatagramValue) (x : Arrival Hearing) → w.slots slot ≡ Some id → datagram_at w.sent k ≡ Some d
         → arriving w.server.session id (w.clients id) d ≡ x
         → ByArriving w id (moment_of (w.clients id) now) x r v → ByClient w now (w.slots slot) (datagram_at w.sent k) r v
     at id d x e f g b =
         subst (λ (o : Option ℕ). ByClient w now o (datagram_at w.sent k) r v) (sym e)
         (subst (λ (o : Option DatagramValue). ByClient w now (Some id) o r v) (sym f)
-        (subst (λ (c : Arriving). ByArriving w id (moment_of (w.clients id) now) c r v) (sym g) b))
+        (subst (λ (c : Arrival Hearing). ByArriving w id (moment_of (w.clients id) now) c r v) (sym g) b))
 
     go : ToClientStep w slot k now r v → ByClient w now (w.slots slot) (datagram_at w.sent k) r v
     go (empty_slot x e is) = subst (λ (o : Option ℕ). ByClient w now o (datagram_at w.sent k) r v) (sym x) (e, is)
     go (not_sent x e is) = subst (λ (o : Option DatagramValue). ByClient w now (w.slots slot) o r v) (sym x)
         (no_datagram (w.slots slot) (e, is))
-    go (refused id d f x y z e is) = at id d (sent_back f) x y z (e, is)
-    go (fragment id d h g x y z e is) = at id d (kept h g) x y z (e, is)
-    go (unread id d g text why x y z a e is) = at id d (fulfilled g text) x y z (inl (why, a, (e, is)))
+    go (refused id d f x y z e is) = at id d (turned_away f) x y z (e, is)
+    go (fragment id d h g x y z e is) = at id d (noted h g) x y z (e, is)
+    go (unread id d g text why x y z a e is) = at id d (completed g text) x y z (inl (why, a, (e, is)))
     go (bad_change id d g text u base x y z a new there none e is) =
-        at id d (fulfilled g text) x y z (inr (u, a, inl (record { new = new; base = base; there = there; none = none }, (e, is))))
-    go (whole id d g text u q x y z a b e is) = at id d (fulfilled g text) x y z (inr (u, a, inr (q, b, (e, is))))
+        at id d (completed g text) x y z (inr (u, a, inl (record { new = new; base = base; there = there; none = none }, (e, is))))
+    go (whole id d g text u q x y z a b e is) = at id d (completed g text) x y z (inr (u, a, inr (q, b, (e, is))))
     go (no_memory e is) = absurd (m.whole e)
 
 one_down_reply : (w : World) (id now : ℕ) (g : Gathering) (u : DownValue) (r r' : Reply) (v v' : World) → ByDown w id now g u r v
@@ -398,11 +399,11 @@ one_down_reply w id now g u r r' v v' x y =
         let no : Some q.newest.state ≡ None = sym t.leads ∙ ap (λ (s : Screenshot). applied_by (w.clients id).version s u.change) base ∙ bad.none in
         cc
 
-one_arriving : (w : World) (id now : ℕ) (c : Arriving) (r r' : Reply) (v v' : World) → ByArriving w id now c r v
+one_arriving : (w : World) (id now : ℕ) (c : Arrival Hearing) (r r' : Reply) (v v' : World) → ByArriving w id now c r v
     → ByArriving w id now c r' v' → (r ≡ r') × (v ≡ v')
-one_arriving w id now (sent_back f) r r' v v' x y = both r r' (Failed f) v v' w x y
-one_arriving w id now (kept h g) r r' v v' x y = both r r' (Heard h) v v' (with_client w id (after_fragment (w.clients id) now g)) x y
-one_arriving w id now (fulfilled g text) r r' v v' x y =
+one_arriving w id now (turned_away f) r r' v v' x y = both r r' (Failed f) v v' w x y
+one_arriving w id now (noted h g) r r' v v' x y = both r r' (Heard h) v v' (with_client w id (after_fragment (w.clients id) now g)) x y
+one_arriving w id now (completed g text) r r' v v' x y =
     elim x [
       | inl a ↦ elim y [
         | inl b ↦ (let why : a.0 ≡ b.0 = a.1.reason ∙ sym b.1.reason in

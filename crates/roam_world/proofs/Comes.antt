@@ -13,9 +13,10 @@ use Rattle.roam_world.specs.Lists.{IsIn}
 use Rattle.roam_world.specs.Texts.{SaysDown, SaysUp, is_to_server, is_watching}
 use Rattle.roam_world.specs.Versions.{is_same_version}
 use Rattle.roam_world.specs.Servers.{Record, Server}
-use Rattle.roam_world.specs.ServerArrivals.{Coming, turned_away, noted, completed, coming, coming_gathered, most_of, alike, is_same, is_full_for, is_of_other, is_else}
+use Rattle.roam_world.specs.ServerArrivals.{coming, coming_gathered, most_of, alike, is_same, is_full_for, is_of_other, is_else}
+use Rattle.roam_world.specs.Arrival.{Arrival, turned_away, noted, completed}
 use Rattle.roam_world.specs.Clients.{Client}
-use Rattle.roam_world.specs.ClientArrivals.{IsGap, Arriving, sent_back, kept, fulfilled, arriving, arriving_gathered}
+use Rattle.roam_world.specs.ClientArrivals.{Hearing, IsGap, arriving, arriving_gathered}
 use Rattle.roam_world.specs.Holds.{cuts_of, Gathers, IsFragment}
 use Rattle.roam_world.proofs.Fragments.{IsTextOf, fragment_low, whole_is}
 use Rattle.roam_wire.specs.Datagrams.{DatagramValue}
@@ -33,9 +34,9 @@ says_up us text u v watches are i e says = one_up v u (are v i) says.is.is (sym 
 
 -- ---- at the server: what is gathered is of the client's instructions, and what came whole is the text of one
 
-abbrev pub ComesWell : List UpValue → Coming → Type 0
+abbrev pub ComesWell : List UpValue → Arrival (Unit {0}) → Type 0
 ComesWell us (turned_away fault) = Unit {0}
-ComesWell us (noted g) = Gathers up_text us g
+ComesWell us (noted tt g) = Gathers up_text us g
 ComesWell us (completed g text) = Gathers up_text us g × IsTextOf up_text us text
 
 gathers_then : {V : Type 0} (text_of : V → List ℕ) (vs : List V) (g h : Gathering) (p : FragmentValue) → IsFragmentOf (cuts_of text_of vs) p
@@ -78,21 +79,21 @@ coming_well s r c d same is of =
         (well (cuts_of up_text c.instructions) r.gathering (fragment_of d) of.of i)
 
 -- what isn't turned away is a datagram to the server
-abbrev pub IsTo : Bool → Coming → Type 0
+abbrev pub IsTo : Bool → Arrival (Unit {0}) → Type 0
 IsTo to (turned_away fault) = Unit {0}
-IsTo to (noted g) = to ≡ true
+IsTo to (noted tt g) = to ≡ true
 IsTo to (completed g text) = to ≡ true
 
 pub to_server : (s : Server) (d : DatagramValue) → IsTo (is_to_server d.kind) (coming s d)
 to_server s d = go (is_to_server d.kind) (not (nat_eq d.session s.session)) (is_full_for s d) (is_of_other s d) (is_else s d)
     (coming_gathered (gather (s.records d.client).gathering (fragment_of d)))
   where
-    there : (x : Coming) → IsTo true x
+    there : (x : Arrival (Unit {0})) → IsTo true x
     there (turned_away fault) = tt
-    there (noted g) = refl
+    there (noted tt g) = refl
     there (completed g text) = refl
 
-    go : (to a b e f : Bool) (x : Coming) → IsTo to (cond (not to) (turned_away (BadDatagram reason.Kind))
+    go : (to a b e f : Bool) (x : Arrival (Unit {0})) → IsTo to (cond (not to) (turned_away (BadDatagram reason.Kind))
         (cond a (turned_away OtherSession) (cond b (turned_away ClientsFull) (cond e (turned_away (BadDatagram reason.Version))
         (cond f (turned_away (BadDatagram reason.Kind)) x)))))
     go false a b e f x = tt
@@ -104,10 +105,10 @@ to_server s d = go (is_to_server d.kind) (not (nat_eq d.session s.session)) (is_
 
 -- ---- at a client start: what is gathered is of the record's instructions, and what came whole is the text of one
 
-abbrev pub ArrivesWell : List DownValue → Arriving → Type 0
-ArrivesWell vs (sent_back fault) = fault ≡ BadChange → ⊥
-ArrivesWell vs (kept h g) = (h ≡ IsGap → ⊥) × Gathers down_text vs g
-ArrivesWell vs (fulfilled g text) = Gathers down_text vs g × IsTextOf down_text vs text
+abbrev pub ArrivesWell : List DownValue → Arrival Hearing → Type 0
+ArrivesWell vs (turned_away fault) = fault ≡ BadChange → ⊥
+ArrivesWell vs (noted h g) = (h ≡ IsGap → ⊥) × Gathers down_text vs g
+ArrivesWell vs (completed g text) = Gathers down_text vs g × IsTextOf down_text vs text
 
 arrived_well : (vs : List DownValue) (g : Gathering) (p : FragmentValue) (x : Option (Answer × Gathering)) → IsFragmentOf (cuts_of down_text vs) p
     → Gathers down_text vs g
@@ -128,8 +129,8 @@ arriving_well session id r c d is of = one (is_to_server d.kind) is (not (nat_eq
         (well (cuts_of down_text r.instructions) c.gathering (fragment_of d) of.of i)
 
     one : (to : Bool) → (d.client ≡ id → IsFragment to d r c) → (a b : Bool) → nat_eq d.client id ≡ b → (o : Bool)
-        → ArrivesWell r.instructions (cond to (sent_back (BadDatagram reason.Kind))
-        (cond a (sent_back OtherSession) (cond (not b) (sent_back OtherClient) (cond o (sent_back (BadDatagram reason.Version))
+        → ArrivesWell r.instructions (cond to (turned_away (BadDatagram reason.Kind))
+        (cond a (turned_away OtherSession) (cond (not b) (turned_away OtherClient) (cond o (turned_away (BadDatagram reason.Version))
         (arriving_gathered (gather c.gathering (fragment_of d)))))))
     one true i a b e o = λ z. cc
     one false i true b e o = λ z. cc

@@ -19,7 +19,8 @@ use Rattle.roam_world.proofs.Versions.{is_same-refl}
 use Rattle.roam_world.specs.Lists.{IsIn}
 use Rattle.roam_world.specs.Texts.{update_in, SaysDown, is_to_server}
 use Rattle.roam_world.specs.Clients.{Client, moment_of}
-use Rattle.roam_world.specs.ClientArrivals.{Arriving, sent_back, kept, fulfilled, arriving, arriving_gathered, after_fragment, after_whole}
+use Rattle.roam_world.specs.ClientArrivals.{Hearing, arriving, arriving_gathered, after_fragment, after_whole}
+use Rattle.roam_world.specs.Arrival.{Arrival, turned_away, noted, completed}
 use Rattle.roam_world.specs.Worlds.{World, Reply, Failed, datagram_at, with_client}
 use Rattle.roam_world.specs.Steps.{ToClientStep, empty_slot, not_sent, refused, fragment, unread, bad_change, whole, no_memory}
 use Rattle.roam_world.specs.Holds.{instruction_of, fragments_by, cuts_of, Tells, Acks, Holds}
@@ -52,10 +53,10 @@ pub record IsTop (w : World) (id n m : ℕ) (v : DownValue) : Type 0 where
   pub top : m ≡ (newest (w.server.records id).sender).number
 
 -- what a fragment of instruction n leaves: the gatherer h, and where it came whole the text of v
-abbrev Leaves : ℕ → ℕ → ℕ → Gathering → Gathering → DownValue → Arriving → Type 0
-Leaves n m shown old h v (sent_back f) = ⊥
-Leaves n m shown old h v (kept how g) = (g ≡ h) × (Shows n m old shown → Shows n m g shown)
-Leaves n m shown old h v (fulfilled g text) = (g ≡ h) × (text ≡ down_text v)
+abbrev Leaves : ℕ → ℕ → ℕ → Gathering → Gathering → DownValue → Arrival Hearing → Type 0
+Leaves n m shown old h v (turned_away f) = ⊥
+Leaves n m shown old h v (noted how g) = (g ≡ h) × (Shows n m old shown → Shows n m g shown)
+Leaves n m shown old h v (completed g text) = (g ≡ h) × (text ≡ down_text v)
 
 gathered_leaves : (w : World) (id n m shown : ℕ) (v : DownValue) (d : DatagramValue) → IsTop w id n m v → IsOne w id n d
     → (x : Option (Answer × Gathering))
@@ -84,8 +85,8 @@ arriving_leaves w id n m shown v d h t is =
 
     go : (a : Bool) → a ≡ false → (b : Bool) → b ≡ true → (e : Bool) → e ≡ true → (f : Bool) → f ≡ true
         → Leaves n m shown (w.clients id).gathering (after (w.clients id).gathering (gather (w.clients id).gathering (fragment_of d))) v
-        (cond a (sent_back (BadDatagram reason.Kind))
-        (cond (not b) (sent_back OtherSession) (cond (not e) (sent_back OtherClient) (cond (not f) (sent_back (BadDatagram reason.Version))
+        (cond a (turned_away (BadDatagram reason.Kind))
+        (cond (not b) (turned_away OtherSession) (cond (not e) (turned_away OtherClient) (cond (not f) (turned_away (BadDatagram reason.Version))
         (arriving_gathered (gather (w.clients id).gathering (fragment_of d)))))))
     go true x b y e z f q = absurd (cc)
     go false x false y e z f q = absurd (cc)
@@ -111,7 +112,7 @@ pub some_same : {X : Type 0} (x y : X) (o : Option X) → o ≡ Some x → o ≡
 some_same x y o e f = let z : Some x ≡ Some y = sym e ∙ f in cc
 
 -- what arrives at the start in the slot is what the step tells
-same_arrival : (w : World) (id id' : ℕ) (d d' : DatagramValue) (a : Arriving) → id ≡ id' → d ≡ d'
+same_arrival : (w : World) (id id' : ℕ) (d d' : DatagramValue) (a : Arrival Hearing) → id ≡ id' → d ≡ d'
     → arriving w.server.session id' (w.clients id') d' ≡ a
     → arriving w.server.session id (w.clients id) d ≡ a
 same_arrival w id id' d d' a i j e = (λ k. arriving w.server.session (i k) (w.clients (i k)) (j k)) ∙ e
@@ -125,7 +126,7 @@ deliver w w' slot k now id n m v d r h s at t is step fine = go step
         (after (w.clients id).gathering (gather (w.clients id).gathering (fragment_of d))) v (arriving w.server.session id (w.clients id) d)
     l = arriving_leaves w id n m (w.clients id).receiver.newest.number v d h t is
 
-    leaves : (id' : ℕ) (d' : DatagramValue) (a : Arriving) → w.slots slot ≡ Some id' → datagram_at w.sent k ≡ Some d'
+    leaves : (id' : ℕ) (d' : DatagramValue) (a : Arrival Hearing) → w.slots slot ≡ Some id' → datagram_at w.sent k ≡ Some d'
         → arriving w.server.session id' (w.clients id') d' ≡ a
         → Leaves n m (w.clients id).receiver.newest.number (w.clients id).gathering
         (after (w.clients id).gathering (gather (w.clients id).gathering (fragment_of d))) v a
@@ -143,10 +144,10 @@ deliver w w' slot k now id n m v d r h s at t is step fine = go step
     go : ToClientStep w slot k now r w' → Delivered w w' id n m d
     go (empty_slot x e z) = absurd (let f : Some id ≡ None = sym s ∙ x in cc)
     go (not_sent x e z) = absurd (let f : Some d ≡ None = sym at ∙ x in cc)
-    go (refused id' d' f x y a e z) = absurd (leaves id' d' (sent_back f) x y a)
+    go (refused id' d' f x y a e z) = absurd (leaves id' d' (turned_away f) x y a)
     go (fragment id' d' how g x y a e z) =
         let i = some_same id id' (w.slots slot) s x in
-        let p = leaves id' d' (kept how g) x y a in
+        let p = leaves id' d' (noted how g) x y a in
         let z' : w' ≡ with_client w id (after_fragment (w.clients id) (moment_of (w.clients id) now) g) =
         subst (λ (q : ℕ). w' ≡ with_client w q (after_fragment (w.clients q) (moment_of (w.clients q) now) g)) (sym i) z in
         let here : w'.clients id ≡ after_fragment (w.clients id) (moment_of (w.clients id) now) g = ap (λ (q : World). q.clients id) z'
@@ -160,11 +161,11 @@ deliver w w' slot k now id n m v d r h s at t is step fine = go step
           shows = (λ old. subst (λ (q : Client). Shows n m q.gathering q.receiver.newest.number) (sym here) (p.1 old));
         }
     go (unread id' d' g text why x y a none e z) =
-        let p = leaves id' d' (fulfilled g text) x y a in
+        let p = leaves id' d' (completed g text) x y a in
         absurd (none.none v ((h.lines id).downs v sent_one) p.1)
     go (bad_change id' d' g text u base x y a says new there none e z) =
         let i = some_same id id' (w.slots slot) s x in
-        let p = leaves id' d' (fulfilled g text) x y a in
+        let p = leaves id' d' (completed g text) x y a in
         let same = says_it text u p.1 says in
         absurd (good_change w id u base (subst (λ (q : DownValue). IsIn q (w.server.records id).instructions) same sent_one)
         (subst (λ (q : ℕ). Rattle.roam_sync.specs.Receivers.state_at u.old
@@ -172,7 +173,7 @@ deliver w w' slot k now id n m v d r h s at t is step fine = go step
         (subst (λ (q : ℕ). applied_by (w.clients q).version base u.change ≡ None) (sym i) none) h)
     go (whole id' d' g text u q x y a says heard e z) =
         let i = some_same id id' (w.slots slot) s x in
-        let p = leaves id' d' (fulfilled g text) x y a in
+        let p = leaves id' d' (completed g text) x y a in
         let same = says_it text u p.1 says in
         let z' : w' ≡ with_client w id (after_whole (w.clients id) (moment_of (w.clients id) now) g q u) =
         subst (λ (j : ℕ). w' ≡ with_client w j (after_whole (w.clients j) (moment_of (w.clients j) now) g q u)) (sym i) z in

@@ -22,10 +22,11 @@ use Rattle.roam_world.specs.Lists.{IsIn}
 use Rattle.roam_world.specs.Numbers.{IsScreenOf}
 use Rattle.roam_world.specs.Texts.{Address, SaysUp, update_in, is_to_server, is_watching}
 use Rattle.roam_world.specs.Servers.{Server, moment, after_input}
-use Rattle.roam_world.specs.ServerArrivals.{Coming, turned_away, noted, completed, coming, coming_gathered, after_note, new_acts, after_acts, room_for, is_full_for, is_of_other, is_else}
+use Rattle.roam_world.specs.ServerArrivals.{coming, coming_gathered, after_note, new_acts, after_acts, room_for, is_full_for, is_of_other, is_else}
+use Rattle.roam_world.specs.Arrival.{Arrival, turned_away, noted, completed}
 use Rattle.roam_world.specs.Ticks.{sent_by, is_tick_spent}
 use Rattle.roam_world.specs.Clients.{Client, moment_of, after_typed}
-use Rattle.roam_world.specs.ClientArrivals.{Hearing, Arriving, sent_back, kept, fulfilled, arriving, arriving_gathered, after_fragment, step_of, hearing_of, after_whole}
+use Rattle.roam_world.specs.ClientArrivals.{Hearing, arriving, arriving_gathered, after_fragment, step_of, hearing_of, after_whole}
 use Rattle.roam_world.specs.Sendings.{is_client_due, is_client_spent, datagrams_from, after_quiet}
 use Rattle.roam_world.specs.Worlds.{World, PaneBytes, Typed, ServerTick, ClientTick, ToServer, ToClient, Start, Drain, Done, Sent, Taken, Heard, Refused, Failed, Stopped, datagram_at, with_server, with_client, after_server_tick, after_client_sent, after_start}
 use Rattle.roam_world.specs.Steps.{refused, taken, no_pane, too_many, gone, empty_slot, full, spent, typed, ticked, quiet, sent, not_sent, fragment, all_taken, no_room, whole, used, started, watching, unfit, is_unfit}
@@ -73,9 +74,9 @@ pane_other bytes (Some waiting) f e g = go (nat_lt 1024 (length bytes))
     go false false e = cc
 
 -- what is turned away isn't for want of memory
-IsOther : Coming → Type 0
+IsOther : Arrival (Unit {0}) → Type 0
 IsOther (turned_away f) = f ≡ OutOfMemory → ⊥
-IsOther (noted g) = Unit {0}
+IsOther (noted tt g) = Unit {0}
 IsOther (completed g text) = Unit {0}
 
 gathered_other : (x : Option (Answer × Gathering)) → IsOther (coming_gathered x)
@@ -92,7 +93,7 @@ coming_other s d =
     (not (nat_eq d.session s.session)) (is_full_for s d) (is_of_other s d) (is_else s d)
     (gathered_other (gather (s.records d.client).gathering (fragment_of d)))
   where
-    go : (x : Coming) (a b c o q : Bool) → IsOther x → IsOther
+    go : (x : Arrival (Unit {0})) (a b c o q : Bool) → IsOther x → IsOther
         (cond a (turned_away (BadDatagram reason.Kind)) (cond b (turned_away OtherSession) (cond c (turned_away ClientsFull)
         (cond o (turned_away (BadDatagram reason.Version)) (cond q (turned_away (BadDatagram reason.Kind)) x)))))
     go x true b c o q i = λ e. cc
@@ -106,10 +107,10 @@ away_other : (s : Server) (d : DatagramValue) (f : Fault) → coming s d ≡ tur
 unfolding IsOther
 away_other s d f e = subst IsOther e (coming_other s d)
 
-IsElse : Arriving → Type 0
-IsElse (sent_back f) = f ≡ OutOfMemory → ⊥
-IsElse (kept h g) = Unit {0}
-IsElse (fulfilled g text) = Unit {0}
+IsElse : Arrival Hearing → Type 0
+IsElse (turned_away f) = f ≡ OutOfMemory → ⊥
+IsElse (noted h g) = Unit {0}
+IsElse (completed g text) = Unit {0}
 
 gathered_else : (x : Option (Answer × Gathering)) → IsElse (arriving_gathered x)
 unfolding IsElse
@@ -124,16 +125,16 @@ arriving_else session id c d =
     go (arriving_gathered (gather c.gathering (fragment_of d))) (is_to_server d.kind) (not (nat_eq d.session session))
     (not (nat_eq d.client id)) (not (is_same_version c.version d.version)) (gathered_else (gather c.gathering (fragment_of d)))
   where
-    go : (x : Arriving) (a b c o : Bool) → IsElse x
-        → IsElse (cond a (sent_back (BadDatagram reason.Kind)) (cond b (sent_back OtherSession) (cond c (sent_back OtherClient)
-        (cond o (sent_back (BadDatagram reason.Version)) x))))
+    go : (x : Arrival Hearing) (a b c o : Bool) → IsElse x
+        → IsElse (cond a (turned_away (BadDatagram reason.Kind)) (cond b (turned_away OtherSession) (cond c (turned_away OtherClient)
+        (cond o (turned_away (BadDatagram reason.Version)) x))))
     go x true b c o i = λ e. cc
     go x false true c o i = λ e. cc
     go x false false true o i = λ e. cc
     go x false false false true i = λ e. cc
     go x false false false false i = i
 
-back_other : (session id : ℕ) (c : Client) (d : DatagramValue) (f : Fault) → arriving session id c d ≡ sent_back f → f ≡ OutOfMemory → ⊥
+back_other : (session id : ℕ) (c : Client) (d : DatagramValue) (f : Fault) → arriving session id c d ≡ turned_away f → f ≡ OutOfMemory → ⊥
 unfolding IsElse
 back_other session id c d f e = subst IsElse e (arriving_else session id c d)
 
@@ -289,7 +290,7 @@ server_reply w k from now h (Some d) e = go (coming w.server d) refl (comes w k 
         cases : (a b : ℕ) → a ≤ b → (a < b) ⊎ (a ≡ b)
         cases a b le = grind arith
 
-    go : (c : Coming) → coming w.server d ≡ c → ComesWell (w.clients d.client).instructions (coming w.server d)
+    go : (c : Arrival (Unit {0})) → coming w.server d ≡ c → ComesWell (w.clients d.client).instructions (coming w.server d)
         → IsAnswered w (ToServer k from now)
     go (turned_away f) x well = record {
       reply = Stopped f 0;
@@ -298,7 +299,7 @@ server_reply w k from now h (Some d) e = go (coming w.server d) refl (comes w k 
       ample =
           stopped_ample f 0 (away_other w.server d f x);
     }
-    go (noted g) x well = record {
+    go (noted tt g) x well = record {
       reply = Taken 0;
       left = with_server w (after_note w.server d from (moment w.server now) g);
       step =
@@ -384,10 +385,10 @@ client_reply w slot k now h None e p f = record { reply = Refused; left = w; ste
 client_reply w slot k now h (Some id) e None f = record { reply = Refused; left = w; step = not_sent f refl refl; ample = refused_ample }
 client_reply w slot k now h (Some id) e (Some d) f = go (arriving w.server.session id (w.clients id) d) refl (arrives w id k d f h)
   where
-    go : (c : Arriving) → arriving w.server.session id (w.clients id) d ≡ c
+    go : (c : Arrival Hearing) → arriving w.server.session id (w.clients id) d ≡ c
         → ArrivesWell (w.server.records id).instructions (arriving w.server.session id (w.clients id) d)
         → IsAnswered w (ToClient slot k now)
-    go (sent_back g) x well =
+    go (turned_away g) x well =
         record {
           reply = Failed g;
           left = w;
@@ -395,7 +396,7 @@ client_reply w slot k now h (Some id) e (Some d) f = go (arriving w.server.sessi
           ample =
               failed_ample g (back_other w.server.session id (w.clients id) d g x);
         }
-    go (kept how g) x well =
+    go (noted how g) x well =
         record {
           reply = Heard how;
           left = with_client w id (after_fragment (w.clients id) (moment_of (w.clients id) now) g);
@@ -403,7 +404,7 @@ client_reply w slot k now h (Some id) e (Some d) f = go (arriving w.server.sessi
               fragment id d how g e f x refl refl;
           ample = heard_ample how;
         }
-    go (fulfilled g text) x well =
+    go (completed g text) x well =
         let of = (subst (ArrivesWell (w.server.records id).instructions) x well).1 in
         let r = heard_by w id of.value of.there h in
         record {

@@ -24,7 +24,8 @@ use Rattle.roam_world.specs.Lists.{IsIn, with_value}
 use Rattle.roam_world.specs.Moments.{is_spent}
 use Rattle.roam_world.specs.Texts.{datagram_with, datagrams_of, is_to_server, is_watching, kind_from}
 use Rattle.roam_world.specs.Servers.{Record, Server, new_server, no_record, moment}
-use Rattle.roam_world.specs.ServerArrivals.{Coming, turned_away, noted, completed, coming, coming_gathered, arrival_with, is_same, most_of, alike_in, alike}
+use Rattle.roam_world.specs.ServerArrivals.{coming, coming_gathered, arrival_with, is_same, most_of, alike_in, alike}
+use Rattle.roam_world.specs.Arrival.{Arrival, turned_away, noted, completed}
 use Rattle.roam_world.specs.Ticks.{makes, number_after, screen_to, holds_after, sends, down_to, fragments_to, after_sent, ticked_record, datagrams_to, is_record_spent, Parcel, parcel, parcels_to, sent_by, is_tick_spent}
 use Rattle.roam_world.specs.Clients.{Client, nobody, new_client, moment_of}
 use Rattle.roam_world.specs.Sendings.{up_from, fragments_from, datagrams_from, is_client_spent, after_sending}
@@ -235,15 +236,15 @@ record Enters (s : Server) (d : DatagramValue) : Type 0 where
   room : (s.records d.client).known ≡ false → length (alike s (is_watching d.kind)) < most_of (is_watching d.kind)
   same : (s.records d.client).known ≡ true → (s.records d.client).watches ≡ is_watching d.kind
 
-IsRoom : Server → DatagramValue → Coming → Type 0
+IsRoom : Server → DatagramValue → Arrival (Unit {0}) → Type 0
 IsRoom s d (turned_away f) = Unit {0}
-IsRoom s d (noted g) = Enters s d
+IsRoom s d (noted tt g) = Enters s d
 IsRoom s d (completed g text) = Enters s d
 
-all_room : (s : Server) (d : DatagramValue) (c : Coming) → Enters s d → IsRoom s d c
+all_room : (s : Server) (d : DatagramValue) (c : Arrival (Unit {0})) → Enters s d → IsRoom s d c
 unfolding IsRoom
 all_room s d (turned_away f) room = tt
-all_room s d (noted g) room = room
+all_room s d (noted tt g) room = room
 all_room s d (completed g text) room = room
 
 room_in : (s : Server) (d : DatagramValue) → IsRoom s d (coming s d)
@@ -256,7 +257,7 @@ room_in s d = go (coming_gathered (gather (s.records d.client).gathering (fragme
     below : (a b : ℕ) → nat_le a b ≡ false → b < a
     below a b e = grind (arith, nat_tests)
 
-    go : (x : Coming) (a b k : Bool) → (s.records d.client).known ≡ k
+    go : (x : Arrival (Unit {0})) (a b k : Bool) → (s.records d.client).known ≡ k
         → (m : Bool) → nat_le (most_of (is_watching d.kind)) (length (alike s (is_watching d.kind))) ≡ m → (o : Bool)
         → (q : Bool) → is_same (s.records d.client).watches (is_watching d.kind) ≡ q
         → IsRoom s d (cond a (turned_away (BadDatagram reason.Kind))

@@ -1,6 +1,5 @@
 -- A datagram comes to a client start: what it is there, and what it leaves.
-use Rattle.std.specs.Prelude.{ℕ, List, Option, Some, None, not, nat_lt, ◌==◌, if◌then◌else◌}
-use Rattle.roam_cells.specs.declared.faults.Fault.{Fault}
+use Rattle.std.specs.Prelude.{ℕ, Option, Some, None, not, nat_lt, ◌==◌, if◌then◌else◌}
 use Rattle.roam_cells.specs.declared.faults.Fault.TheVariants.{BadDatagram, OtherSession, OtherClient}
 use Rattle.roam_cells.specs.declared.faults.Reason.TheVariants.{Fragment}
 use Rattle.roam_cells.specs.declared.faults.Reason.TheVariants as reason
@@ -11,6 +10,7 @@ use Rattle.roam_sync.specs.declared.receivers.Step.TheVariants as step
 use Rattle.roam_sync.specs.Receivers.{Receiving, step_for}
 use Rattle.roam_wire.specs.Gatherers.{Gathering, Answer, Part, Old, Whole, gather, fragment_of}
 use Rattle.roam_wire.specs.Instructions.{DownValue}
+use Rattle.roam_world.specs.Arrival.{Arrival, turned_away, noted, completed}
 use Rattle.roam_world.specs.Moments.{owed_from}
 use Rattle.roam_world.specs.Versions.{is_same_version}
 use Rattle.roam_world.specs.Texts.{is_to_server}
@@ -24,29 +24,20 @@ pub data Hearing : Type 0 where
   IsGap : Hearing
   IsNew : Hearing
 
--- what a datagram is to a client start
-pub data Arriving : Type 0 where
-  -- refused, and nothing is noted
-  sent_back : Fault → Arriving
-  -- it makes no instruction whole; what is answered, and what is gathered then
-  kept : Hearing → Gathering → Arriving
-  -- the last fragment of an instruction; what is gathered then, and the instruction's text
-  fulfilled : Gathering → List ℕ → Arriving
-
 -- by what the gatherer says
-abbrev pub arriving_gathered : Option (Answer × Gathering) → Arriving
-arriving_gathered None = sent_back (BadDatagram Fragment)
-arriving_gathered (Some (Part, g)) = kept IsPart g
-arriving_gathered (Some (Old, g)) = kept IsOld g
-arriving_gathered (Some (Whole text, g)) = fulfilled g text
+abbrev pub arriving_gathered : Option (Answer × Gathering) → Arrival Hearing
+arriving_gathered None = turned_away (BadDatagram Fragment)
+arriving_gathered (Some (Part, g)) = noted IsPart g
+arriving_gathered (Some (Old, g)) = noted IsOld g
+arriving_gathered (Some (Whole text, g)) = completed g text
 
 -- in this order: its direction, its session, its client start, its version, its fragment
-abbrev pub arriving : ℕ → ℕ → Client → DatagramValue → Arriving
+abbrev pub arriving : ℕ → ℕ → Client → DatagramValue → Arrival Hearing
 arriving session id c d =
-    if is_to_server d.kind then sent_back (BadDatagram reason.Kind)
-    else if not (d.session == session) then sent_back OtherSession
-    else if not (d.client == id) then sent_back OtherClient
-    else if not (is_same_version c.version d.version) then sent_back (BadDatagram reason.Version)
+    if is_to_server d.kind then turned_away (BadDatagram reason.Kind)
+    else if not (d.session == session) then turned_away OtherSession
+    else if not (d.client == id) then turned_away OtherClient
+    else if not (is_same_version c.version d.version) then turned_away (BadDatagram reason.Version)
     else arriving_gathered (gather c.gathering (fragment_of d))
 
 -- ---- what it leaves

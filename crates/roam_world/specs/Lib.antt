@@ -4,6 +4,7 @@ pub mod Versions
 pub mod Numbers
 pub mod Texts
 pub mod Servers
+pub mod Arrival
 pub mod ServerArrivals
 pub mod Ticks
 pub mod Clients

@@ -1,6 +1,5 @@
 -- A datagram comes to the server: what it is there, and what it leaves.
 use Rattle.std.specs.Prelude.{ℕ, ◌+◌, suc, max, filter, List, [], ◌∷◌, ◌++◌, length, take, map, Option, Some, None, Bool, true, false, not, ◌&&◌, ◌||◌, nat_le, nat_lt, ◌==◌, if◌then◌else◌}
-use Rattle.roam_cells.specs.declared.faults.Fault.{Fault}
 use Rattle.roam_cells.specs.declared.faults.Fault.TheVariants.{BadDatagram, OtherSession, ClientsFull}
 use Rattle.roam_cells.specs.declared.faults.Reason.TheVariants.{Fragment}
 use Rattle.roam_cells.specs.declared.faults.Reason.TheVariants as reason
@@ -11,6 +10,7 @@ use Rattle.roam_wire.specs.Gatherers.{Gathering, Answer, Part, Old, Whole, gathe
 use Rattle.roam_wire.specs.Instructions.{UpValue}
 use Rattle.roam_session.specs.Sessions.{SessionSize, Entry, Did}
 use Rattle.roam_session.specs.Refusals.{stops}
+use Rattle.roam_world.specs.Arrival.{Arrival, turned_away, noted, completed}
 use Rattle.roam_world.specs.Lists.{with_value}
 use Rattle.roam_world.specs.Moments.{owed_from}
 use Rattle.roam_world.specs.Texts.{Address, is_to_server, is_watching}
@@ -18,20 +18,11 @@ use Rattle.roam_world.specs.Versions.{is_same_version}
 use Rattle.roam_world.specs.Servers.{Record, Server}
 use Rattle.roam_wire.specs.Datagrams.{DatagramValue}
 
--- what a datagram is to the server
-pub data Coming : Type 0 where
-  -- refused, and nothing is noted
-  turned_away : Fault → Coming
-  -- heard, but it makes no instruction whole; what is gathered then
-  noted : Gathering → Coming
-  -- the last fragment of an instruction; what is gathered then, and the instruction's text
-  completed : Gathering → List ℕ → Coming
-
 -- by what the gatherer says
-abbrev pub coming_gathered : Option (Answer × Gathering) → Coming
+abbrev pub coming_gathered : Option (Answer × Gathering) → Arrival (Unit {0})
 coming_gathered None = turned_away (BadDatagram Fragment)
-coming_gathered (Some (Part, g)) = noted g
-coming_gathered (Some (Old, g)) = noted g
+coming_gathered (Some (Part, g)) = noted tt g
+coming_gathered (Some (Old, g)) = noted tt g
 coming_gathered (Some (Whole text, g)) = completed g text
 
 abbrev pub is_same : Bool → Bool → Bool
@@ -64,7 +55,7 @@ abbrev pub is_else : Server → DatagramValue → Bool
 is_else s d = (s.records d.client).known && not (is_same (s.records d.client).watches (is_watching d.kind))
 
 -- in this order: its direction, its session, room for one more record or the version and the kind of the one that is there, its fragment
-abbrev pub coming : Server → DatagramValue → Coming
+abbrev pub coming : Server → DatagramValue → Arrival (Unit {0})
 coming s d =
     if not (is_to_server d.kind) then turned_away (BadDatagram reason.Kind)
     else if not (d.session == s.session) then turned_away OtherSession

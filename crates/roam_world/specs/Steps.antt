@@ -17,10 +17,11 @@ use Rattle.roam_session.specs.Sessions.{Given, Drained}
 use Rattle.roam_session.specs.Refusals.{refuses_bytes, output_at}
 use Rattle.roam_world.specs.Texts.{Address, is_watching, SaysDown, SaysNoDown, SaysUp, SaysNoUp, update_in}
 use Rattle.roam_world.specs.Servers.{moment, after_input}
-use Rattle.roam_world.specs.ServerArrivals.{turned_away, noted, completed, coming, after_note, new_acts, after_acts, room_for}
+use Rattle.roam_world.specs.ServerArrivals.{coming, after_note, new_acts, after_acts, room_for}
+use Rattle.roam_world.specs.Arrival.{turned_away, noted, completed}
 use Rattle.roam_world.specs.Ticks.{sent_by, is_tick_spent}
 use Rattle.roam_world.specs.Clients.{moment_of, after_typed}
-use Rattle.roam_world.specs.ClientArrivals.{Hearing, sent_back, kept, fulfilled, arriving, after_fragment, step_of, hearing_of, after_whole}
+use Rattle.roam_world.specs.ClientArrivals.{Hearing, arriving, after_fragment, step_of, hearing_of, after_whole}
 use Rattle.roam_world.specs.Sendings.{is_client_due, is_client_spent, datagrams_from, after_quiet}
 use Rattle.roam_world.specs.Worlds.{World, Event, PaneBytes, Typed, ServerTick, ClientTick, ToServer, ToClient, Start, Drain, Reply, Done, Sent, Taken, Heard, Refused, Failed, Stopped, datagram_at, with_server, with_client, after_server_tick, after_client_sent, after_start}
 use Rattle.roam_wire.specs.declared.versions.Version.{Version}
@@ -91,7 +92,7 @@ pub data ToServerStep (w : World) (k : ℕ) (from : Address) (now : ℕ) (reply 
       → reply ≡ Refused → w' ≡ w → ToServerStep w k from now reply w'
   refused : (d : DatagramValue) (fault : Fault) → datagram_at w.sent k ≡ Some d → coming w.server d ≡ turned_away fault
       → reply ≡ Stopped fault 0 → w' ≡ w → ToServerStep w k from now reply w'
-  fragment : (d : DatagramValue) (g : Gathering) → datagram_at w.sent k ≡ Some d → coming w.server d ≡ noted g
+  fragment : (d : DatagramValue) (g : Gathering) → datagram_at w.sent k ≡ Some d → coming w.server d ≡ noted tt g
       → reply ≡ Taken 0 → w' ≡ with_server w (after_note w.server d from (moment w.server now) g)
       → ToServerStep w k from now reply w'
   unread : (d : DatagramValue) (g : Gathering) (text : List ℕ) (why : Reason) → datagram_at w.sent k ≡ Some d
@@ -123,22 +124,22 @@ pub data ToClientStep (w : World) (slot k now : ℕ) (reply : Reply) (w' : World
   not_sent : datagram_at w.sent k ≡ None
       → reply ≡ Refused → w' ≡ w → ToClientStep w slot k now reply w'
   refused : (id : ℕ) (d : DatagramValue) (fault : Fault) → w.slots slot ≡ Some id → datagram_at w.sent k ≡ Some d
-      → arriving w.server.session id (w.clients id) d ≡ sent_back fault
+      → arriving w.server.session id (w.clients id) d ≡ turned_away fault
       → reply ≡ Failed fault → w' ≡ w → ToClientStep w slot k now reply w'
   fragment : (id : ℕ) (d : DatagramValue) (h : Hearing) (g : Gathering) → w.slots slot ≡ Some id → datagram_at w.sent k ≡ Some d
-      → arriving w.server.session id (w.clients id) d ≡ kept h g
+      → arriving w.server.session id (w.clients id) d ≡ noted h g
       → reply ≡ Heard h → w' ≡ with_client w id (after_fragment (w.clients id) (moment_of (w.clients id) now) g)
       → ToClientStep w slot k now reply w'
   unread : (id : ℕ) (d : DatagramValue) (g : Gathering) (text : List ℕ) (why : Reason) → w.slots slot ≡ Some id
-      → datagram_at w.sent k ≡ Some d → arriving w.server.session id (w.clients id) d ≡ fulfilled g text → SaysNoDown text why
+      → datagram_at w.sent k ≡ Some d → arriving w.server.session id (w.clients id) d ≡ completed g text → SaysNoDown text why
       → reply ≡ Failed (BadDatagram why) → w' ≡ w → ToClientStep w slot k now reply w'
   bad_change : (id : ℕ) (d : DatagramValue) (g : Gathering) (text : List ℕ) (v : DownValue) (base : Screenshot) → w.slots slot ≡ Some id
-      → datagram_at w.sent k ≡ Some d → arriving w.server.session id (w.clients id) d ≡ fulfilled g text → SaysDown text v
+      → datagram_at w.sent k ≡ Some d → arriving w.server.session id (w.clients id) d ≡ completed g text → SaysDown text v
       → step_of (w.clients id) v ≡ step.New → state_at v.old (pairs (w.clients id).receiver) ≡ Some base
       → applied_by (w.clients id).version base v.change ≡ None
       → reply ≡ Failed BadChange → w' ≡ w → ToClientStep w slot k now reply w'
   whole : (id : ℕ) (d : DatagramValue) (g : Gathering) (text : List ℕ) (v : DownValue) (r : Receiving Screenshot) → w.slots slot ≡ Some id
-      → datagram_at w.sent k ≡ Some d → arriving w.server.session id (w.clients id) d ≡ fulfilled g text → SaysDown text v
+      → datagram_at w.sent k ≡ Some d → arriving w.server.session id (w.clients id) d ≡ completed g text → SaysDown text v
       → Delivers (applied_by (w.clients id).version) (w.clients id).receiver (update_in v) r
       → reply ≡ Heard (hearing_of (step_of (w.clients id) v))
       → w' ≡ with_client w id (after_whole (w.clients id) (moment_of (w.clients id) now) g r v) → ToClientStep w slot k now reply w'
