@@ -63,5 +63,5 @@ erased_selectively_in_page extent s =
 unfoldable pub erased_selectively_in_line : Extent → Screen → Screen
 erased_selectively_in_line extent s =
     record (mapped_screen
-        (in_row s.row (unguarded_blanked (row_of s.cols s.cells s.row) (line_from extent s.col) (line_to extent s.cols s.col))) s)
+    (in_row s.row (unguarded_blanked (row_of s.cols s.cells s.row) (line_from extent s.col) (line_to extent s.cols s.col))) s)
     { pending = false }

@@ -105,7 +105,7 @@ marks_with_room width w s marks = if ((width == 2) && (s.col + 1 == s.cols) && w
 unfoldable pub marks_put : Glyph → Writing → Screen → List Bool → List Bool
 marks_put x w s marks =
     row_marked (with_room (columns x) w (after_pending_wrap s)).row
-        (marks_with_room (columns x) w (after_pending_wrap s) (marks_settled s marks))
+    (marks_with_room (columns x) w (after_pending_wrap s) (marks_settled s marks))
 
 -- cells are written one after another
 unfoldable pub marks_put_all : List Glyph → Writing → Screen → List Bool → List Bool

@@ -148,10 +148,7 @@ impl Grid {
     }
 
     #[inline]
-    #[tactic(
-        auto,
-        unfolding(crate::specs::Writing::after_pending_wrap, crate::specs::Writing::first_settled, crate::specs::Marks::marks_settled)
-    )]
+    #[tactic(auto, unfolding(crate::specs::Writing::after_pending_wrap, crate::specs::Writing::first_settled, crate::specs::Marks::marks_settled))]
     pub(crate) fn settle(&mut self)
         ensures screen { self.new.screen ≡ after_pending_wrap self.old.screen }
         ensures first { self.new.first ≡ first_settled self.old.screen self.old.first }

@@ -71,7 +71,7 @@ same_value es k x y v w e f = let z : Some (y, w) ≡ Some (x, v) = sym f
 -- the record at a place was prepared: es are the records before, x its id, v what was kept of it, w what is
 pub record IsAt (es : List (ℕ × RecordView)) (k x : ℕ) (v w : RecordView) (n : ℕ) (s : Screenshot) (now : ℕ) : Type 0 where
   pub here : slice_get es k ≡ Some (x, v)
-  pub held_record : w ≡ held_record v n s now
+  pub held : w ≡ held_record v n s now
 
 module _ (es : List (ℕ × RecordView)) (k x : ℕ) (v w : RecordView) (n : ℕ) (s : Screenshot) (now : ℕ) (at : IsAt es k x v w n s now) where
   -- the records after the others were sent to

@@ -94,7 +94,7 @@ pub record Stands (v : ServerView) (s : Server) : Type 0 where
   pub session : v.session ≡ s.session
   pub log : SessionStands v.state s.size s.log
   pub made : v.made ≡ length s.cuts
-  pub cut_of : IsCut s
+  pub cut : IsCut s
   pub screen : v.screen ≡ screen Two s.size s.log s.cuts (length s.cuts)
   pub made_at : v.made_at ≡ s.made_at
   pub input : v.input ≡ s.input

@@ -129,7 +129,7 @@ closed_missing T p (Two w g a b) all =
 -- ---- acts
 
 pub record AtMostOne (t u : Shape) : Type 0 where
-  pub without_pane : missing u t ≤ 1
+  pub closed : missing u t ≤ 1
   pub made : missing t u ≤ 1
 
 abbrev Fine : Plan → Outcome → Type 0

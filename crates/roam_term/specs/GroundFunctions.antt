@@ -33,7 +33,7 @@ StyleIsSet = (t : Live) (g s : Style) → IsGround t → IsStyle s
 abbrev pub MixtureIsSet : Type 0
 MixtureIsSet = (t : Live) (s : Style) (layer : Layer) (r g b : ℕ) → IsGround t → IsColour (Rgb r g b)
     → changed_by (mixture (layer_code layer) r g b) (in_style s t)
-        ≡ in_style (coloured_style layer (Rgb r g b) s) (record t { printed = None })
+    ≡ in_style (coloured_style layer (Rgb r g b) s) (record t { printed = None })
 
 -- DECTCEM hides the cursor, and shows it
 abbrev pub CursorIsHidden : Type 0

@@ -103,7 +103,7 @@ first_sixteen params = take 16 params
 abbrev pub header_after : Option ℕ → List Kind → Option Header
 header_after mark body =
     with_inter mark (first_sixteen (map capped_value (digits_of_parameters (kinds_while is_numeric body))))
-        (intermediates (kinds_after is_numeric body))
+    (intermediates (kinds_after is_numeric body))
 
 -- a private marker comes first of all (ECMA-48 5.4.1); none where the sequence is recognised without effect
 abbrev pub header : List Kind → Option Header

@@ -13,7 +13,7 @@ use Rattle.roam_screens.specs.Screenshot.{Screenshot}
 abbrev pub cells_put : Form → ℕ → ℕ → List Glyph → List ℕ → Option (Front (List Glyph))
 cells_put f n first cells text =
     option_and_then (λ cs. Some (record { value = with_cells_at cells first cs.value; rest = cs.rest; form = cs.form }))
-        (cells_read f n text)
+    (cells_read f n text)
 
 -- the cells after the n runs of a text, from a least place on, replace what they name
 abbrev pub runs_put : Form → ℕ → ℕ → List Glyph → List ℕ → Option (List Glyph)

@@ -17,7 +17,7 @@ pub record Client : Type 0 where
   pub version : Version
   pub watches : Bool
   -- all acts that were typed at it, as a history: no program keeps it
-  pub after_typing : List Act
+  pub typed : List Act
   -- how many of them are acknowledged, and those that aren't
   pub acts : Typing
   -- what is gathered of the newest instruction to it
