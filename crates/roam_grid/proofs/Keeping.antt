@@ -24,7 +24,7 @@ use Rattle.roam_grid.specs.Cursor.{after_backspace, after_carriage_return, after
 use Rattle.roam_grid.specs.Editing.{cells_inserted, cells_deleted, cells_erased, lines_inserted, lines_deleted, is_between_margins}
 use Rattle.roam_grid.specs.Erasing.{line_from, line_to, is_in_page, page_blanked, erased_in_page, erased_in_line, page_unguarded_blanked, erased_selectively_in_page, erased_selectively_in_line}
 use Rattle.roam_grid.specs.Frames.{letter_e, after_alignment, all_blank, after_restart, after_resizing}
-use Rattle.roam_grid.specs.Writing.{columns, after_wrap, after_pending_wrap, with_room, made_way, after_ink, after_advance, put_on, put_all, joined_in, joined_on}
+use Rattle.roam_grid.specs.Writing.{columns, after_wrap, wrap_done, with_room, made_way, after_ink, after_advance, put_on, put_all, joined_in, joined_on}
 use Rattle.roam_grid.specs.declared.erasing.Extent.{Extent}
 use Rattle.roam_grid.specs.declared.writing.Writing.{Writing}
 use Rattle.roam_grid.proofs.Puts.{wrapped_place, settled_none}
@@ -395,11 +395,11 @@ wrapped_kept s is =
     let first = carried_kept s is in
     kept_then s (after_carriage_return s) (after_index (after_carriage_return s)) first (indexed_kept (after_carriage_return s) first.sound)
 
-settled_kept : (s : Screen) → IsSound s → Kept s (after_pending_wrap s)
-unfolding after_pending_wrap
+settled_kept : (s : Screen) → IsSound s → Kept s (wrap_done s)
+unfolding wrap_done
 settled_kept s is = either (Kept s) s.pending (after_wrap s) s (λ e. wrapped_kept s is) (λ e. kept_same s is)
 
-settled_ready : (s : Screen) → IsSound s → Ready s (after_pending_wrap s)
+settled_ready : (s : Screen) → IsSound s → Ready s (wrap_done s)
 settled_ready s is = record { kept = settled_kept s is; none = settled_none s }
 
 room_ready : (width : ℕ) (w : Writing) (s : Screen) → IsSound s → s.pending ≡ false → Ready s (with_room width w s)
@@ -444,7 +444,7 @@ pub put_on_kept : (x : Glyph) (w : Writing) (s : Screen) → IsShown x → IsSou
 unfolding put_on
 put_on_kept x w s shown is =
     let n = columns x in
-    let a = after_pending_wrap s in
+    let a = wrap_done s in
     let b = with_room n w a in
     let c = made_way n w b in
     let d = after_ink x c in

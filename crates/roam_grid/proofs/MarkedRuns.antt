@@ -6,7 +6,7 @@ use Rattle.roam_rows.specs.Editing.{insertion_source}
 use Rattle.roam_rows.specs.Places.{in_row}
 use Rattle.roam_rows.specs.Writing.{written_run}
 use Rattle.roam_grid.specs.Screen.{Screen, mapped_screen}
-use Rattle.roam_grid.specs.Writing.{columns, after_wrap, after_pending_wrap, with_room, made_way, leaves_row, put_on, put_all}
+use Rattle.roam_grid.specs.Writing.{columns, after_wrap, wrap_done, with_room, made_way, leaves_row, put_on, put_all}
 use Rattle.roam_grid.specs.Marks.{row_marked, marks_scrolled, marks_indexed, marks_settled, marks_with_room, marks_put, marks_put_all}
 use Rattle.roam_grid.specs.declared.writing.Writing.{Writing}
 use Rattle.roam_grid.proofs.Marked.{marked_twice}
@@ -32,13 +32,13 @@ unfolding marks_settled
 marks_settled_same s marks e = ap (λ b. cond b (marks_indexed s marks) marks) e
 
 -- a pending wrap may be done before
-pub marks_put_settled : (x : Glyph) (w : Writing) (s : Screen) (marks : List Bool) → marks_put x w (after_pending_wrap s) (marks_settled s marks) ≡ marks_put x w s marks
+pub marks_put_settled : (x : Glyph) (w : Writing) (s : Screen) (marks : List Bool) → marks_put x w (wrap_done s) (marks_settled s marks) ≡ marks_put x w s marks
 unfolding marks_put
 marks_put_settled x w s marks =
     let n = columns x in
     let next = marks_settled s marks in
-    ap (λ t. row_marked (with_room n w t).row (marks_with_room n w t (marks_settled (after_pending_wrap s) next))) (settled_same (after_pending_wrap s) (settled_none s))
-    ∙ ap (λ m. row_marked (with_room n w (after_pending_wrap s)).row (marks_with_room n w (after_pending_wrap s) m)) (marks_settled_same (after_pending_wrap s) next (settled_none s))
+    ap (λ t. row_marked (with_room n w t).row (marks_with_room n w t (marks_settled (wrap_done s) next))) (settled_same (wrap_done s) (settled_none s))
+    ∙ ap (λ m. row_marked (with_room n w (wrap_done s)).row (marks_with_room n w (wrap_done s) m)) (marks_settled_same (wrap_done s) next (settled_none s))
 
 -- one cell of one column, with no wrap pending
 marks_one : (g : Glyph) (w : Writing) (s : Screen) (marks : List Bool) → is_wide g ≡ false → s.pending ≡ false → marks_put g w s marks ≡ row_marked s.row marks
@@ -72,17 +72,17 @@ marks_put_all-append [] ys w s marks = refl
 marks_put_all-append (x ∷ xs) ys w s marks = marks_put_all-append xs ys w (put_on x w s) (marks_put x w s marks)
 
 -- a pending wrap may be done before a run
-pub marks_put_all_settled : (xs : List Glyph) (w : Writing) (s : Screen) (marks : List Bool) → 0 < length xs → marks_put_all xs w (after_pending_wrap s) (marks_settled s marks) ≡ marks_put_all xs w s marks
+pub marks_put_all_settled : (xs : List Glyph) (w : Writing) (s : Screen) (marks : List Bool) → 0 < length xs → marks_put_all xs w (wrap_done s) (marks_settled s marks) ≡ marks_put_all xs w s marks
 unfolding marks_put_all
 marks_put_all_settled [] w s marks pos = absurd (omega arith)
-marks_put_all_settled (x ∷ xs) w s marks pos = ap (λ t. marks_put_all xs w t (marks_put x w (after_pending_wrap s) (marks_settled s marks))) (put_settled x w s) ∙ ap (marks_put_all xs w (put_on x w s)) (marks_put_settled x w s marks)
+marks_put_all_settled (x ∷ xs) w s marks pos = ap (λ t. marks_put_all xs w t (marks_put x w (wrap_done s) (marks_settled s marks))) (put_settled x w s) ∙ ap (marks_put_all xs w (put_on x w s)) (marks_put_settled x w s marks)
 
 module _ (n : ℕ) (w : Writing) (s : Screen) (marks : List Bool) (wide : 4 ≤ s.cols) where
   abbrev tests : Bool
   tests = eqb n 2 && eqb (s.col + 1) s.cols && w.wraps
 
-  by_pending : (p : Bool) → s.pending ≡ p → marks_with_room n w (after_pending_wrap s) (marks_settled s marks) ≡ cond (leaves_row n w s) (marks_scrolled 1 s marks) marks
-  unfolding marks_settled after_pending_wrap leaves_row marks_indexed
+  by_pending : (p : Bool) → s.pending ≡ p → marks_with_room n w (wrap_done s) (marks_settled s marks) ≡ cond (leaves_row n w s) (marks_scrolled 1 s marks) marks
+  unfolding marks_settled wrap_done leaves_row marks_indexed
   by_pending true e =
       let t = after_wrap s in
       let place = wrapped_place s in
@@ -96,7 +96,7 @@ module _ (n : ℕ) (w : Writing) (s : Screen) (marks : List Bool) (wide : 4 ≤ 
       ∙ sym (ap (λ b. cond (eqb s.row s.bottom && cond b true tests) (marks_scrolled 1 s marks) marks) e)
 
   -- rows go up where one leaves
-  pub marks_steps : marks_with_room n w (after_pending_wrap s) (marks_settled s marks) ≡ cond (leaves_row n w s) (marks_scrolled 1 s marks) marks
+  pub marks_steps : marks_with_room n w (wrap_done s) (marks_settled s marks) ≡ cond (leaves_row n w s) (marks_scrolled 1 s marks) marks
   marks_steps = by_pending s.pending refl
 
 -- a cell that has room after it, with no wrap pending, marks the cursor's row
@@ -105,6 +105,6 @@ pub marks_inside : (x : Glyph) (w : Writing) (s : Screen) (marks : List Bool) �
 unfolding marks_put with_room
 marks_inside x w s marks none room wide =
     let n = columns x in
-    ap (row_marked (with_room n w (after_pending_wrap s)).row) (marks_steps n w s marks wide ∙ ap (λ b. cond b (marks_scrolled 1 s marks) marks) (leaves_inside n w s none room))
+    ap (row_marked (with_room n w (wrap_done s)).row) (marks_steps n w s marks wide ∙ ap (λ b. cond b (marks_scrolled 1 s marks) marks) (leaves_inside n w s none room))
     ∙ ap (λ t. row_marked (with_room n w t).row marks) (settled_same s none)
     ∙ ap (λ b. row_marked (cond b (cond w.wraps (after_wrap s) (record s { col = s.cols - 2 })) s).row marks) (not_edge n s.col s.cols room)

@@ -7,7 +7,7 @@ use Rattle.roam_rows.specs.Places.{in_row}
 use Rattle.roam_grid.specs.Screen.{Screen, mapped_screen}
 use Rattle.roam_grid.specs.Scrolling.{scrolled_up, first_scrolled_up}
 use Rattle.roam_grid.specs.Cursor.{after_carriage_return, after_index, first_indexed}
-use Rattle.roam_grid.specs.Writing.{columns, after_wrap, after_pending_wrap, first_settled, with_room, first_with_room, made_way, after_ink, after_advance, leaves_row, put_on, first_put}
+use Rattle.roam_grid.specs.Writing.{columns, after_wrap, wrap_done, first_settled, with_room, first_with_room, made_way, after_ink, after_advance, leaves_row, put_on, first_put}
 use Rattle.roam_grid.specs.declared.writing.Writing.{Writing}
 
 abbrev pub Placed : ℕ → Screen → Type 0
@@ -23,17 +23,17 @@ pub wrapped_place : (s : Screen) → Placed s.cols (after_wrap s)
 unfolding after_wrap after_carriage_return after_index scrolled_up
 wrapped_place s = one_of s.cols (eqb s.row s.bottom) (eqb (s.row + 1) s.rows) _ _ _ (refl, refl, refl) (refl, refl, refl) (refl, refl, refl)
 
-settled_by : (s : Screen) (p : Bool) → s.pending ≡ p → (after_pending_wrap s).pending ≡ false
-unfolding after_pending_wrap
+settled_by : (s : Screen) (p : Bool) → s.pending ≡ p → (wrap_done s).pending ≡ false
+unfolding wrap_done
 settled_by s true e = ap (λ b. (cond b (after_wrap s) s).pending) e ∙ (wrapped_place s).1
 settled_by s false e = ap (λ b. (cond b (after_wrap s) s).pending) e ∙ e
 
 -- no wrap pends once one is done
-pub settled_none : (s : Screen) → (after_pending_wrap s).pending ≡ false
+pub settled_none : (s : Screen) → (wrap_done s).pending ≡ false
 settled_none s = settled_by s s.pending refl
 
-pub settled_same : (s : Screen) → s.pending ≡ false → after_pending_wrap s ≡ s
-unfolding after_pending_wrap
+pub settled_same : (s : Screen) → s.pending ≡ false → wrap_done s ≡ s
+unfolding wrap_done
 settled_same s e = ap (λ b. cond b (after_wrap s) s) e
 
 pub first_settled_same : (s : Screen) (first : ℕ) → s.pending ≡ false → first_settled s first ≡ first
@@ -61,8 +61,8 @@ module _ (n : ℕ) (w : Writing) (s : Screen) (first : ℕ) (wide : 4 ≤ s.cols
   abbrev tests : Bool
   tests = eqb n 2 && eqb (s.col + 1) s.cols && w.wraps
 
-  by_pending : (p : Bool) → s.pending ≡ p → first_with_room n w (after_pending_wrap s) (first_settled s first) ≡ cond (leaves_row n w s) (first_scrolled_up 1 s first) first
-  unfolding first_with_room first_settled after_pending_wrap leaves_row first_indexed
+  by_pending : (p : Bool) → s.pending ≡ p → first_with_room n w (wrap_done s) (first_settled s first) ≡ cond (leaves_row n w s) (first_scrolled_up 1 s first) first
+  unfolding first_with_room first_settled wrap_done leaves_row first_indexed
   by_pending true e =
       let t = after_wrap s in
       let place = wrapped_place s in
@@ -76,31 +76,31 @@ module _ (n : ℕ) (w : Writing) (s : Screen) (first : ℕ) (wide : 4 ≤ s.cols
       ∙ sym (ap (λ b. cond (eqb s.row s.bottom && cond b true tests) (first_scrolled_up 1 s first) first) e)
 
   -- the first row goes on where a row leaves
-  pub first_steps : first_with_room n w (after_pending_wrap s) (first_settled s first) ≡ cond (leaves_row n w s) (first_scrolled_up 1 s first) first
+  pub first_steps : first_with_room n w (wrap_done s) (first_settled s first) ≡ cond (leaves_row n w s) (first_scrolled_up 1 s first) first
   first_steps = by_pending s.pending refl
 
-settled_cols_by : (s : Screen) (p : Bool) → s.pending ≡ p → (after_pending_wrap s).cols ≡ s.cols
-unfolding after_pending_wrap
+settled_cols_by : (s : Screen) (p : Bool) → s.pending ≡ p → (wrap_done s).cols ≡ s.cols
+unfolding wrap_done
 settled_cols_by s true e = ap (λ b. (cond b (after_wrap s) s).cols) e ∙ (wrapped_place s).2
 settled_cols_by s false e = ap (λ b. (cond b (after_wrap s) s).cols) e
 
 -- a pending wrap may be done before
-pub put_settled : (x : Glyph) (w : Writing) (s : Screen) → put_on x w (after_pending_wrap s) ≡ put_on x w s
+pub put_settled : (x : Glyph) (w : Writing) (s : Screen) → put_on x w (wrap_done s) ≡ put_on x w s
 unfolding put_on
-put_settled x w s = ap (λ t. after_advance (columns x) w (after_ink x (made_way (columns x) w (with_room (columns x) w t)))) (settled_same (after_pending_wrap s) (settled_none s))
+put_settled x w s = ap (λ t. after_advance (columns x) w (after_ink x (made_way (columns x) w (with_room (columns x) w t)))) (settled_same (wrap_done s) (settled_none s))
 
-pub first_put_settled : (x : Glyph) (w : Writing) (s : Screen) (first : ℕ) → 4 ≤ s.cols → first_put x w (after_pending_wrap s) (first_settled s first) ≡ first_put x w s first
+pub first_put_settled : (x : Glyph) (w : Writing) (s : Screen) (first : ℕ) → 4 ≤ s.cols → first_put x w (wrap_done s) (first_settled s first) ≡ first_put x w s first
 unfolding first_put
 first_put_settled x w s first wide =
     let n = columns x in
     let next = first_settled s first in
     let none = settled_none s in
-    sym (first_steps n w (after_pending_wrap s) next (omega (arith, settled_cols_by s s.pending refl)))
-    ∙ ap (λ t. first_with_room n w t (first_settled (after_pending_wrap s) next)) (settled_same (after_pending_wrap s) none)
-    ∙ ap (λ f. first_with_room n w (after_pending_wrap s) f) (first_settled_same (after_pending_wrap s) next none)
+    sym (first_steps n w (wrap_done s) next (omega (arith, settled_cols_by s s.pending refl)))
+    ∙ ap (λ t. first_with_room n w t (first_settled (wrap_done s) next)) (settled_same (wrap_done s) none)
+    ∙ ap (λ f. first_with_room n w (wrap_done s) f) (first_settled_same (wrap_done s) next none)
     ∙ first_steps n w s first wide
 
-pub settled_cols : (s : Screen) → (after_pending_wrap s).cols ≡ s.cols
+pub settled_cols : (s : Screen) → (wrap_done s).cols ≡ s.cols
 settled_cols s = settled_cols_by s s.pending refl
 
 pub not_edge : (n col cols : ℕ) → col + n < cols → (eqb n 2 && eqb (col + 1) cols) ≡ false

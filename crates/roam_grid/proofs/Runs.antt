@@ -14,7 +14,7 @@ use Rattle.roam_rows.specs.Places.{From, mapped_cells, moved_at, at_row, in_row}
 use Rattle.roam_rows.specs.Halves.{AreParted, cut_twice}
 use Rattle.roam_grid.specs.Screen.{Screen, mapped_screen}
 use Rattle.roam_grid.specs.Scrolling.{first_scrolled_up}
-use Rattle.roam_grid.specs.Writing.{columns, after_pending_wrap, first_settled, with_room, made_way, after_ink, after_advance, leaves_row, put_on, first_put, put_all, first_put_all}
+use Rattle.roam_grid.specs.Writing.{columns, wrap_done, first_settled, with_room, made_way, after_ink, after_advance, leaves_row, put_on, first_put, put_all, first_put_all}
 use Rattle.roam_grid.specs.declared.writing.Writing.{Writing}
 use Rattle.roam_rows.proofs.Mending.{mended_same, mended-mended, is_wide-blank}
 use Rattle.roam_rows.proofs.Columns.{row_is, row_at, length-row, in_column, agrees_there, InRow}
@@ -285,15 +285,15 @@ first_put_all-append [] ys w s first = refl
 first_put_all-append (x ∷ xs) ys w s first = first_put_all-append xs ys w (put_on x w s) (first_put x w s first)
 
 -- a pending wrap may be done before a run
-pub put_all_settled : (xs : List Glyph) (w : Writing) (s : Screen) → 0 < length xs → put_all xs w (after_pending_wrap s) ≡ put_all xs w s
+pub put_all_settled : (xs : List Glyph) (w : Writing) (s : Screen) → 0 < length xs → put_all xs w (wrap_done s) ≡ put_all xs w s
 unfolding put_all
 put_all_settled [] w s pos = absurd (omega arith)
 put_all_settled (x ∷ xs) w s pos = ap (put_all xs w) (put_settled x w s)
 
-pub first_put_all_settled : (xs : List Glyph) (w : Writing) (s : Screen) (first : ℕ) → 0 < length xs → 4 ≤ s.cols → first_put_all xs w (after_pending_wrap s) (first_settled s first) ≡ first_put_all xs w s first
+pub first_put_all_settled : (xs : List Glyph) (w : Writing) (s : Screen) (first : ℕ) → 0 < length xs → 4 ≤ s.cols → first_put_all xs w (wrap_done s) (first_settled s first) ≡ first_put_all xs w s first
 unfolding first_put_all
 first_put_all_settled [] w s first pos wide = absurd (omega arith)
-first_put_all_settled (x ∷ xs) w s first pos wide = ap (λ t. first_put_all xs w t (first_put x w (after_pending_wrap s) (first_settled s first))) (put_settled x w s) ∙ ap (first_put_all xs w (put_on x w s)) (first_put_settled x w s first wide)
+first_put_all_settled (x ∷ xs) w s first pos wide = ap (λ t. first_put_all xs w t (first_put x w (wrap_done s) (first_settled s first))) (put_settled x w s) ∙ ap (first_put_all xs w (put_on x w s)) (first_put_settled x w s first wide)
 
 -- a run of bytes in two parts
 drop_drop : (xs : List ℕ) (a m : ℕ) → drop m (drop a xs) ≡ drop (a + m) xs

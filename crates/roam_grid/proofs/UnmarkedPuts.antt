@@ -21,7 +21,7 @@ use Rattle.roam_grid.specs.Laws.{IsChanged, ShowsUnmarked}
 use Rattle.roam_grid.specs.Marks.{is_marked, row_marked, marks_scrolled, marks_indexed, marks_settled, marks_with_room, marks_put, marks_put_all, joins, marks_joined_in, marks_joined}
 use Rattle.roam_grid.specs.Screen.{Screen, IsScreen, mapped_screen}
 use Rattle.roam_grid.specs.Scrolling.{scrolled_up}
-use Rattle.roam_grid.specs.Writing.{columns, after_wrap, after_pending_wrap, with_room, made_way, after_ink, after_advance, leaves_row, put_on, put_all, joined_in, joined_on}
+use Rattle.roam_grid.specs.Writing.{columns, after_wrap, wrap_done, with_room, made_way, after_ink, after_advance, leaves_row, put_on, put_all, joined_in, joined_on}
 use Rattle.roam_grid.specs.declared.writing.Writing.{Writing}
 use Rattle.roam_grid.proofs.Marked.{marked_at, same_row}
 use Rattle.roam_grid.proofs.MarkedRuns.{made_row, marks_steps}
@@ -148,8 +148,8 @@ module _ (s : Screen) (m : List Bool) (is : IsSound s) where
   settle_by true = wrap_goes s m is
   settle_by false = goes_nowhere s m is
 
-  settle_goes : Goes s (after_pending_wrap s) m (marks_settled s m)
-  unfolding after_pending_wrap marks_settled
+  settle_goes : Goes s (wrap_done s) m (marks_settled s m)
+  unfolding wrap_done marks_settled
   settle_goes = settle_by s.pending
 
   room_by : (a b w : Bool) → Goes s (cond (a && b) (cond w (after_wrap s) (record s { col = s.cols - 2 })) s) m (cond (a && b && w) (marks_indexed s m) m)
@@ -240,7 +240,7 @@ put_goes : (x : Glyph) (w : Writing) (s : Screen) (m : List Bool) → IsSound s 
 unfolding put_on marks_put
 put_goes x w s m is no_half =
     let n = columns x in
-    let t = after_pending_wrap s in
+    let t = wrap_done s in
     let u = with_room n w t in
     let v = made_way n w u in
     let m1 = marks_settled s m in
@@ -386,7 +386,7 @@ pub put_is : (x : Glyph) (w : Writing) (s : Screen) (m : List Bool) → IsScreen
 unfolding marks_put put_on
 put_is x w s m is =
     let n = columns x in
-    let u = with_room n w (after_pending_wrap s) in
+    let u = with_room n w (wrap_done s) in
     let row : (after_advance n w (after_ink x (made_way n w u))).row ≡ u.row = advanced_row n w (after_ink x (made_way n w u)) ∙ inked_row x (made_way n w u) ∙ made_row n w u in
     ap (row_marked u.row) (marks_steps n w s m is.frame.size.least_columns)
     ∙ ap (λ r. row_marked r (cond (leaves_row n w s) (marks_scrolled 1 s m) m)) (sym row)

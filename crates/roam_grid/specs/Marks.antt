@@ -9,7 +9,7 @@ use Rattle.roam_rows.specs.Writing.{base_column}
 use Rattle.roam_grid.specs.Screen.{Screen}
 use Rattle.roam_grid.specs.Editing.{is_between_margins}
 use Rattle.roam_grid.specs.Erasing.{line_from, line_to, page_from, page_to}
-use Rattle.roam_grid.specs.Writing.{columns, after_pending_wrap, with_room, put_on}
+use Rattle.roam_grid.specs.Writing.{columns, wrap_done, with_room, put_on}
 use Rattle.roam_grid.specs.declared.erasing.Extent.{Extent}
 use Rattle.roam_grid.specs.declared.writing.Writing.{Writing}
 
@@ -104,8 +104,8 @@ marks_with_room width w s marks = if ((width == 2) && (s.col + 1 == s.cols) && w
 -- a cell is written: the rows that go up before, and the row that it is written in
 unfoldable pub marks_put : Glyph → Writing → Screen → List Bool → List Bool
 marks_put x w s marks =
-    row_marked (with_room (columns x) w (after_pending_wrap s)).row
-    (marks_with_room (columns x) w (after_pending_wrap s) (marks_settled s marks))
+    row_marked (with_room (columns x) w (wrap_done s)).row
+    (marks_with_room (columns x) w (wrap_done s) (marks_settled s marks))
 
 -- cells are written one after another
 unfoldable pub marks_put_all : List Glyph → Writing → Screen → List Bool → List Bool

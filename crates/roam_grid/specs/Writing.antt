@@ -18,8 +18,8 @@ unfoldable pub after_wrap : Screen → Screen
 after_wrap s = after_index (after_carriage_return s)
 
 -- a pending wrap is done (DECAWM, VT220 Programmer Reference)
-unfoldable pub after_pending_wrap : Screen → Screen
-after_pending_wrap s = if s.pending then after_wrap s else s
+unfoldable pub wrap_done : Screen → Screen
+wrap_done s = if s.pending then after_wrap s else s
 
 -- the place of the first row after that
 unfoldable pub first_settled : Screen → ℕ → ℕ
@@ -51,7 +51,7 @@ after_advance n w s =
 
 -- a cell of one or two columns is written
 unfoldable pub put_on : Glyph → Writing → Screen → Screen
-put_on x w s = after_advance (columns x) w (after_ink x (made_way (columns x) w (with_room (columns x) w (after_pending_wrap s))))
+put_on x w s = after_advance (columns x) w (after_ink x (made_way (columns x) w (with_room (columns x) w (wrap_done s))))
 
 -- whether writing a cell of so many columns first scrolls a row out at the top margin
 unfoldable pub leaves_row : ℕ → Writing → Screen → Bool

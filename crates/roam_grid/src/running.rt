@@ -12,7 +12,7 @@ use roam_cells::Cell;
 impl Grid {
     ghost use Rattle.roam_grid.specs.Marks.{marks_put_all, row_marked};
     ghost use Rattle.roam_grid.specs.Screen.{IsSameSize, mapped_screen};
-    ghost use Rattle.roam_grid.specs.Writing.{after_pending_wrap, put_all, first_put_all};
+    ghost use Rattle.roam_grid.specs.Writing.{wrap_done, put_all, first_put_all};
 
     /// Writes printable ASCII bytes, 20 to 7E, at the cursor in the style and guard of a pen: what `put` does with the cell of each in
     /// turn.
@@ -35,7 +35,7 @@ impl Grid {
     pub fn put_row_run(&mut self, pen: Cell, bytes: &[u8], writing: Writing)
         requires printable { ArePrintable bytes.now }
         requires some { 0 < length bytes.now }
-        requires fits { (after_pending_wrap self.old.screen).col + length bytes.now ≤ (after_pending_wrap self.old.screen).cols }
+        requires fits { (wrap_done self.old.screen).col + length bytes.now ≤ (wrap_done self.old.screen).cols }
         ensures screen { self.new.screen ≡ put_all (inked_bytes pen bytes.now) writing self.old.screen }
         ensures first { self.new.first ≡ first_put_all (inked_bytes pen bytes.now) writing self.old.screen self.old.first }
         ensures marks { self.new.marks ≡ marks_put_all (inked_bytes pen bytes.now) writing self.old.screen self.old.marks }
@@ -52,7 +52,7 @@ impl Grid {
     fn put_settled(&mut self, pen: Cell, bytes: &[u8], writing: Writing)
         requires printable { ArePrintable bytes.now }
         requires some { 0 < length bytes.now }
-        requires fits { (after_pending_wrap self.old.screen).col + length bytes.now ≤ (after_pending_wrap self.old.screen).cols }
+        requires fits { (wrap_done self.old.screen).col + length bytes.now ≤ (wrap_done self.old.screen).cols }
         requires over { writing.inserts ≡ false }
         ensures screen { self.new.screen ≡ put_all (inked_bytes pen bytes.now) writing self.old.screen }
         ensures first { self.new.first ≡ first_put_all (inked_bytes pen bytes.now) writing self.old.screen self.old.first }

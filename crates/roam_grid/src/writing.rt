@@ -30,7 +30,7 @@ fn columns_of(cell: Cell) -> usize
 impl Grid {
     ghost use Rattle.roam_grid.specs.Marks.{joins, marks_indexed, marks_joined, marks_joined_in, marks_put, marks_settled, marks_with_room, row_marked};
     ghost use Rattle.roam_grid.specs.Screen.{IsSameSize};
-    ghost use Rattle.roam_grid.specs.Writing.{after_wrap, after_pending_wrap, first_settled, with_room, first_with_room, made_way, after_ink, after_advance, put_on, leaves_row, first_put, joined_in, joined_on};
+    ghost use Rattle.roam_grid.specs.Writing.{after_wrap, wrap_done, first_settled, with_room, first_with_room, made_way, after_ink, after_advance, put_on, leaves_row, first_put, joined_in, joined_on};
     ghost use Rattle.roam_grid.specs.Cursor.{first_indexed};
 
     /// Whether a `put` of a cell of so many columns first scrolls a row out at the top margin.
@@ -148,9 +148,9 @@ impl Grid {
     }
 
     #[inline]
-    #[tactic(auto, unfolding(crate::specs::Writing::after_pending_wrap, crate::specs::Writing::first_settled, crate::specs::Marks::marks_settled))]
+    #[tactic(auto, unfolding(crate::specs::Writing::wrap_done, crate::specs::Writing::first_settled, crate::specs::Marks::marks_settled))]
     pub(crate) fn settle(&mut self)
-        ensures screen { self.new.screen ≡ after_pending_wrap self.old.screen }
+        ensures screen { self.new.screen ≡ wrap_done self.old.screen }
         ensures first { self.new.first ≡ first_settled self.old.screen self.old.first }
         ensures marks { self.new.marks ≡ marks_settled self.old.screen self.old.marks }
         ensures size { IsSameSize self.old.screen self.new.screen }

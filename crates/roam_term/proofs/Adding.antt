@@ -21,7 +21,7 @@ use Rattle.roam_grid.specs.Editing.{is_between_margins}
 use Rattle.roam_grid.specs.Erasing.{line_from, line_to, page_from, page_to}
 use Rattle.roam_grid.specs.Marks.{is_marked, all_on, all_off, also_marked, row_marked, rows_marked, moved_marked, marks_scrolled, marks_indexed, marks_reverse_indexed, marks_lines_moved, marks_erased_in_page, unguarded_marked, marks_erased_selectively_in_line, marks_erased_selectively_in_page, marks_settled, marks_with_room, marks_put, marks_put_all, joins, marks_joined_in, marks_joined, has_unguarded}
 use Rattle.roam_grid.specs.Screen.{Screen}
-use Rattle.roam_grid.specs.Writing.{columns, after_pending_wrap, with_room, put_on}
+use Rattle.roam_grid.specs.Writing.{columns, wrap_done, with_room, put_on}
 use Rattle.roam_grid.specs.declared.erasing.Extent.{Extent}
 use Rattle.roam_grid.specs.declared.writing.Writing.{Writing}
 use Rattle.roam_grid.proofs.Marked.{marked_at}
@@ -122,9 +122,9 @@ room_adds width w s =
 put_adds : (x : Glyph) (w : Writing) (s : Screen) → Adds (marks_put x w s)
 unfolding marks_put
 put_adds x w s =
-    let row = (with_room (columns x) w (after_pending_wrap s)).row in
-    then_adds (λ m. marks_with_room (columns x) w (after_pending_wrap s) (marks_settled s m)) (row_marked row)
-    (then_adds (marks_settled s) (marks_with_room (columns x) w (after_pending_wrap s)) (settled_adds s) (room_adds (columns x) w (after_pending_wrap s)))
+    let row = (with_room (columns x) w (wrap_done s)).row in
+    then_adds (λ m. marks_with_room (columns x) w (wrap_done s) (marks_settled s m)) (row_marked row)
+    (then_adds (marks_settled s) (marks_with_room (columns x) w (wrap_done s)) (settled_adds s) (room_adds (columns x) w (wrap_done s)))
     (row_adds row)
 
 put_all_adds : (xs : List Glyph) (w : Writing) (s : Screen) → Adds (marks_put_all xs w s)

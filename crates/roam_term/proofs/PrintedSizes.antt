@@ -8,7 +8,7 @@ use Rattle.roam_charset.specs.Sets.{in_use, spent}
 use Rattle.roam_grid.specs.Cursor.{after_carriage_return, after_index}
 use Rattle.roam_grid.specs.Screen.{Screen, IsSameSize}
 use Rattle.roam_grid.specs.Scrolling.{scrolled_up}
-use Rattle.roam_grid.specs.Writing.{columns, after_wrap, after_pending_wrap, with_room, made_way, after_ink, after_advance, put_on, joined_on}
+use Rattle.roam_grid.specs.Writing.{columns, after_wrap, wrap_done, with_room, made_way, after_ink, after_advance, put_on, joined_on}
 use Rattle.roam_grid.specs.declared.writing.Writing.{Writing}
 use Rattle.roam_text.specs.declared.functions.Function.TheVariants.{Print}
 use Rattle.roam_term.specs.Terminal.{Live, glyph_in, writing_under, written_on, printed_on, changed_by}
@@ -32,8 +32,8 @@ size-wrapped : (s : Screen) → IsSameSize s (after_wrap s)
 unfolding after_wrap after_carriage_return
 size-wrapped s = let h = size-indexed (after_carriage_return s) in record { rows = h.rows; cols = h.cols }
 
-size-settled : (s : Screen) → IsSameSize s (after_pending_wrap s)
-unfolding after_pending_wrap
+size-settled : (s : Screen) → IsSameSize s (wrap_done s)
+unfolding wrap_done
 size-settled s = either s (after_wrap s) s s.pending (size-wrapped s) (record { rows = refl; cols = refl })
 
 size-with_room : (n : ℕ) (w : Writing) (s : Screen) → IsSameSize s (with_room n w s)
@@ -57,7 +57,7 @@ size-advanced n w s = either s _ _ (nat_lt (s.col + n) s.cols) (record { rows = 
 size-put : (x : Glyph) (w : Writing) (s : Screen) → IsSameSize s (put_on x w s)
 unfolding put_on
 size-put x w s =
-    let a = after_pending_wrap s in
+    let a = wrap_done s in
     let b = with_room (columns x) w a in
     let c = made_way (columns x) w b in
     both s a _ (size-settled s)

@@ -8,7 +8,7 @@ use Rattle.roam_rows.proofs.Inking.{bytes_narrow, length-bytes}
 use Rattle.roam_history.specs.Histories.{Scrollback, last, after_push}
 use Rattle.roam_history.proofs.Pushing.{last_more}
 use Rattle.roam_grid.specs.Screen.{Screen}
-use Rattle.roam_grid.specs.Writing.{columns, after_wrap, after_pending_wrap, with_room, made_way, after_ink, after_advance, leaves_row, put_on, put_all}
+use Rattle.roam_grid.specs.Writing.{columns, after_wrap, wrap_done, with_room, made_way, after_ink, after_advance, leaves_row, put_on, put_all}
 use Rattle.roam_grid.specs.declared.writing.Writing.{Writing}
 use Rattle.roam_grid.proofs.Puts.{wrapped_place, settled_same, settled_none, put_settled}
 use Rattle.roam_grid.proofs.Runs.{AreNarrow}
@@ -154,22 +154,22 @@ none_by_puts (g ∷ h ∷ gs) w s narrow none room =
     ∙ none_by_puts (h ∷ gs) w (put_on g w s) (λ k. narrow (suc k)) next.pending (omega (arith, next.col, next.cols))
 
 -- of a run that fits the row that its first character is written in, this one alone makes a row leave
-pub first_alone : (g : Glyph) (gs : List Glyph) (w : Writing) (s : Screen) → AreNarrow (g ∷ gs) → (after_pending_wrap s).col + length (g ∷ gs) ≤ (after_pending_wrap s).cols
+pub first_alone : (g : Glyph) (gs : List Glyph) (w : Writing) (s : Screen) → AreNarrow (g ∷ gs) → (wrap_done s).col + length (g ∷ gs) ≤ (wrap_done s).cols
     → left_by_puts (g ∷ gs) w s ≡ left_by_put g w s
 first_alone g [] w s narrow room = append-nil (left_by_put g w s)
 first_alone g (h ∷ gs) w s narrow room =
-    let t = after_pending_wrap s in
+    let t = wrap_done s in
     let next = stepped g w t (narrow 0).0 (settled_none s) (omega arith) in
     let none : left_by_puts (h ∷ gs) w (put_on g w t) ≡ [] = none_by_puts (h ∷ gs) w (put_on g w t) (λ k. narrow (suc k)) next.pending (omega (arith, next.col, next.cols)) in
     ap (λ l. left_by_put g w s ++ l) (sym (ap (left_by_puts (h ∷ gs) w) (put_settled g w s)) ∙ none) ∙ append-nil (left_by_put g w s)
 
 -- a pending wrap begins a row
-settled_by : (s : Screen) (n : ℕ) (b : Bool) → s.pending ≡ b → (b ≡ true → n ≡ 0) → (b ≡ false → n ≡ s.col) → (after_pending_wrap s).col ≡ n
-unfolding after_pending_wrap
+settled_by : (s : Screen) (n : ℕ) (b : Bool) → s.pending ≡ b → (b ≡ true → n ≡ 0) → (b ≡ false → n ≡ s.col) → (wrap_done s).col ≡ n
+unfolding wrap_done
 settled_by s n true e wraps goes = ap (λ b. (cond b (after_wrap s) s).col) e ∙ (wrapped_place s).0 ∙ sym (wraps refl)
 settled_by s n false e wraps goes = ap (λ b. (cond b (after_wrap s) s).col) e ∙ sym (goes refl)
 
-pub settled_col : (s : Screen) (n : ℕ) → (s.pending ≡ true → n ≡ 0) → (s.pending ≡ false → n ≡ s.col) → (after_pending_wrap s).col ≡ n
+pub settled_col : (s : Screen) (n : ℕ) → (s.pending ≡ true → n ≡ 0) → (s.pending ≡ false → n ≡ s.col) → (wrap_done s).col ≡ n
 settled_col s n wraps goes = settled_by s n s.pending refl wraps goes
 
 -- ---- functions that bytes give
@@ -180,7 +180,7 @@ few_kept rows h = omega (arith, length-drop (length (h.rows ++ rows) - h.lines) 
 
 -- of a run of bytes that fits the row that its first character is written in, this one alone makes a row leave
 pub bytes_alone : (pen : Glyph) (bytes : List ℕ) (n : ℕ) (w : Writing) (s : Screen) → ArePrintable bytes → 0 < n → n ≤ length bytes
-    → (after_pending_wrap s).col + n ≤ (after_pending_wrap s).cols → left_by_puts (inked_bytes pen (take n bytes)) w s ≡ left_by_put (ascii_in (get_or bytes 0 0) pen) w s
+    → (wrap_done s).col + n ≤ (wrap_done s).cols → left_by_puts (inked_bytes pen (take n bytes)) w s ≡ left_by_put (ascii_in (get_or bytes 0 0) pen) w s
 bytes_alone pen [] n w s printable some within room = absurd (omega arith)
 bytes_alone pen (b ∷ bs) zero w s printable some within room = absurd (omega arith)
 bytes_alone pen (b ∷ bs) (suc n) w s printable some within room =

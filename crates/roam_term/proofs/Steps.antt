@@ -23,7 +23,7 @@ use Rattle.roam_grid.specs.Cursor.{moved_to}
 use Rattle.roam_grid.specs.Erasing.{page_blanked, erased_in_page}
 use Rattle.roam_grid.specs.declared.erasing.Extent.TheVariants.{All}
 use Rattle.roam_grid.specs.Screen.{Screen}
-use Rattle.roam_grid.specs.Writing.{columns, after_pending_wrap, with_room, made_way, after_wrap, after_ink, after_advance, put_on, joined_on}
+use Rattle.roam_grid.specs.Writing.{columns, wrap_done, with_room, made_way, after_wrap, after_ink, after_advance, put_on, joined_on}
 use Rattle.roam_grid.specs.declared.writing.Writing.{Writing}
 use Rattle.roam_rows.specs.Places.{in_row, mapped_cells, moved_at}
 use Rattle.roam_rows.specs.Writing.{writing_source, base_column}
@@ -156,7 +156,7 @@ module _ (k : Constants) where
         ∙ never (columns x == 2) (after_wrap s) s
 
     put_is : (is_wide x ≡ true → col + 1 < k.cols) → put_on x w s ≡ after_advance (columns x) w (after_ink x s)
-    unfolding put_on after_pending_wrap made_way
+    unfolding put_on wrap_done made_way
     put_is fits = ap (λ u. after_advance (columns x) w (after_ink x u)) (room_is (is_wide x) refl fits)
 
     abbrev inside : ℕ → Screen

@@ -3,7 +3,7 @@ ghost use Rattle.std.specs.Prelude.{◌≡◌, ◌+◌, ◌≤◌, ◌<◌, [], 
 ghost use Rattle.roam_cells.specs.Glyph.{is_right_half, inked_bytes};
 ghost use Rattle.roam_grid.specs.Marks.{marks_put, marks_put_all};
 ghost use Rattle.roam_grid.specs.Screen.{IsSameSize};
-ghost use Rattle.roam_grid.specs.Writing.{after_pending_wrap, put_on, put_all};
+ghost use Rattle.roam_grid.specs.Writing.{wrap_done, put_on, put_all};
 ghost use Rattle.roam_rows.specs.Writing.{ArePrintable};
 ghost use Rattle.roam_term.specs.Leaving.{left_by_put, left_by_puts};
 ghost use Rattle.roam_term.specs.Terminal.{on_main, with_rows};
@@ -76,7 +76,7 @@ pub fn put_times(
 
 // How many columns are left of the row that the next character of one column is written in.
 fn columns_left(grid: &Grid) -> usize
-    ensures left { (after_pending_wrap grid.now.screen).col + result ≡ (after_pending_wrap grid.now.screen).cols }
+    ensures left { (wrap_done grid.now.screen).col + result ≡ (wrap_done grid.now.screen).cols }
     ensures some { 0 < result }
 {
     grid.facts();

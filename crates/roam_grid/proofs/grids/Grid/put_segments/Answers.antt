@@ -2,7 +2,7 @@ use Rattle.std.proofs.Common.{◌≡◌, ◌∙◌, ◌++◌, ◌+◌, ◌-◌, 
 use Rattle.roam_cells.specs.Glyph.{inked_bytes}
 use Rattle.roam_grid.specs.Marks.{marks_put_all}
 use Rattle.roam_grid.proofs.MarkedRuns.{marks_put_all-append, marks_put_all_settled}
-use Rattle.roam_grid.specs.Writing.{after_pending_wrap, put_all, first_put_all}
+use Rattle.roam_grid.specs.Writing.{wrap_done, put_all, first_put_all}
 use Rattle.roam_rows.proofs.Inking.{length-bytes}
 use Rattle.roam_grid.proofs.Runs.{put_all-append, first_put_all-append, put_all_settled, first_put_all_settled, bytes_split, bytes_some, bytes_none}
 use Rattle.roam_grid.proofs.grids.Grid.put_segments.Goals as goal
@@ -27,10 +27,10 @@ loop-at-preserved c =
     c.put_segment.ensures.screen ∙ ap (put_all now w) c.settle.ensures.screen ∙ put_all_settled now w s some in
     let seg' : c.put_segment.new.self.first ≡ first_put_all now w s l.self.first =
     c.put_segment.ensures.first ∙ ap (λ t. first_put_all now w t c.settle.new.self.first) c.settle.ensures.screen
-    ∙ ap (first_put_all now w (after_pending_wrap s)) c.settle.ensures.first ∙ first_put_all_settled now w s l.self.first some wide in
+    ∙ ap (first_put_all now w (wrap_done s)) c.settle.ensures.first ∙ first_put_all_settled now w s l.self.first some wide in
     let marks : c.put_segment.new.self.marks ≡ marks_put_all now w s l.self.marks =
     c.put_segment.ensures.marks ∙ ap (λ t. marks_put_all now w t c.settle.new.self.marks) c.settle.ensures.screen
-    ∙ ap (marks_put_all now w (after_pending_wrap s)) c.settle.ensures.marks ∙ marks_put_all_settled now w s l.self.marks some in
+    ∙ ap (marks_put_all now w (wrap_done s)) c.settle.ensures.marks ∙ marks_put_all_settled now w s l.self.marks some in
     record {
       within = within;
       screen = ap (put_all rest w) seg ∙ sym (put_all-append now rest w s) ∙ sym (ap (λ xs. put_all xs w s) split) ∙ l.invariant.screen;
