@@ -1,10 +1,9 @@
 -- A number has one spelling in decimals, and which scalar value digits write.
-use Rattle.std.proofs.Common.{◌≡◌, ℕ, zero, suc, ◌+◌, ◌*◌, ◌/◌, ◌%◌, ◌^◌, ◌<◌, ◌≤◌, Bool, true, false, cond, eqb, leb, ◌&&◌, List, [], ◌∷◌, length, Option, Some, None, ℤ, pos, negsuc, neg_ℤ, refl, sym, ap, subst, ◌∙◌, arith, lit<, lit≤}
-use Rattle.std.proofs.Math.Nat.{pow-le-pow_right, pow-suc}
+use Rattle.std.proofs.Common.{◌≡◌, ℕ, zero, suc, ◌+◌, ◌/◌, ◌%◌, ◌^◌, ◌<◌, ◌≤◌, Bool, true, false, cond, eqb, leb, ◌&&◌, List, [], ◌∷◌, length, Option, Some, None, ℤ, pos, negsuc, neg_ℤ, refl, sym, ap, subst, ◌∙◌, arith, lit<, lit≤}
+use Rattle.std.proofs.Math.Nat.{pow-suc}
 use Rattle.std.proofs.lemmas.Bool.{and_parts, eq-eqb}
 use Rattle.std.proofs.lemmas.Bool.Decides.{nat_tests}
 use Rattle.std.proofs.lemmas.Fmt.{decimal_is_IsNumeral, parse-signed_decimal, IsAscii-signed}
-use Rattle.std.proofs.lemmas.Int.Digits.{digits_value-lt}
 use Rattle.std.proofs.lemmas.Nat.{div_below}
 use Rattle.std.proofs.lemmas.Slice.Eq.{bytes_eq-Decides}
 use Rattle.std.proofs.lemmas.Str.{IsUtf8-from_ascii}
@@ -115,14 +114,6 @@ scalar_found text c e = by (leb (length text) 6) (id_in text) refl refl e
         let few : length text ≤ 6 = grind (arith, nat_tests, short) in
         (sym (ap scalar both.1) ∙ both.0, (is.1.digits, few, is.1.value ∙ both.1))
     by false o short at f = absurd cc
-
--- six digits write a number of 32 bits
-pub scalar_fits : (text : List ℕ) (id : ℕ) → length text ≤ 6 → id_in text ≡ Some id → id < 2 ^ 32
-scalar_fits text id few at =
-    let is = id_found text id at in
-    let below = digits_value-lt 16 text is.1.digits.1 in
-    let least : 16 ^ length text ≤ 16 ^ 6 = pow-le-pow_right {n = 16} (lit< tt) few in
-    omega (arith, below, least, is.1.value)
 
 -- the digits that are written for a scalar value
 

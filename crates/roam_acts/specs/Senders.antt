@@ -1,5 +1,5 @@
 -- An act sender: the acts that were typed and aren't known to have arrived (this project's profile).
-use Rattle.std.specs.Prelude.{◌≡◌, ℕ, ◌+◌, ◌-◌, ◌^◌, ◌<◌, ◌≤◌, List, [], ◌∷◌, ◌++◌, length, take, drop, nat_lt, nat_le, if◌then◌else◌}
+use Rattle.std.specs.Prelude.{◌≡◌, ℕ, ◌+◌, ◌-◌, ◌<◌, ◌≤◌, List, [], ◌∷◌, ◌++◌, length, take, drop, nat_lt, nat_le, if◌then◌else◌}
 use Rattle.roam_acts.specs.Limits.{number_limit, most_unacknowledged}
 use Rattle.roam_acts.specs.declared.acts.Act.{Act}
 
