@@ -102,13 +102,13 @@ line_again a line is s =
 
 -- ---- what is read is spelled
 
-pub record Told (k : Kind) (text : List ℕ) (a : Act) : Type 0 where
+pub record ActWith (k : Kind) (text : List ℕ) (a : Act) : Type 0 where
   pub same_kind : kind_of a ≡ k
   pub has_key : HasKey a
   pub argument : IsArgument a text
 
-moved : (k : Kind) (text : List ℕ) (a b : Act) → a ≡ b → Told k text a → Told k text b
-moved k text a b e s = subst (Told k text) e s
+moved : (k : Kind) (text : List ℕ) (a b : Act) → a ≡ b → ActWith k text a → ActWith k text b
+moved k text a b e s = subst (ActWith k text) e s
 
 mapped : {X : Type 0} (f : X → Act) (r : Option X) (a : Act) → option_map f r ≡ Some a → (x : X) × (r ≡ Some x) × (f x ≡ a)
 mapped f None a e = absurd cc
@@ -139,10 +139,10 @@ size_found (Some r) (Some c) a e = (r, c, refl, refl, cc)
 size_found (Some r) None a e = absurd cc
 size_found None cols a e = absurd cc
 
-key_told : (text : List ℕ) (k : Key) → named_in named_keys text ≡ Some k → Told kind.Named text (act.Key k)
+key_told : (text : List ℕ) (k : Key) → named_in named_keys text ≡ Some k → ActWith kind.Named text (act.Key k)
 key_told text k e = let n = name_found text k e in record { same_kind = n.kind; has_key = n.is_key; argument = n.argument }
 
-bare_told : (k : Kind) (b : Act) (text : List ℕ) (a : Act) → bare b text ≡ Some a → ((t : List ℕ) → t ≡ [] → Told k t b) → Told k text a
+bare_told : (k : Kind) (b : Act) (text : List ℕ) (a : Act) → bare b text ≡ Some a → ((t : List ℕ) → t ≡ [] → ActWith k t b) → ActWith k text a
 bare_told k b text a e h = let f = bare_found b text a e in moved k text b a f.1 (h text f.0)
 
 place_found : (b : Bool) (x y : ℕ) → cond b (Some x) None ≡ Some y → (b ≡ true) × (x ≡ y)
@@ -160,7 +160,7 @@ size_split text p e =
     sym (take-append-drop place text) ∙ ap (λ (t : List ℕ). take place text ++ t) (drop-cons text place 0 lt ∙ (λ i. space i ∷ drop (sym (add-one place) i) text)) in
     cut ∙ ap (λ (n : ℕ). take n text ++ 32 ∷ drop (n + 1) text) there.1
 
-size_told : (text : List ℕ) (r : Option ℕ) (a : Act) → position (λ (b : ℕ). eqb b 32) text ≡ r → size_at r text ≡ Some a → Told kind.Size text a
+size_told : (text : List ℕ) (r : Option ℕ) (a : Act) → position (λ (b : ℕ). eqb b 32) text ≡ r → size_at r text ≡ Some a → ActWith kind.Size text a
 size_told text None a is e = absurd cc
 size_told text (Some p) a is e =
     let f = size_found (natural (integer_in (take p text))) (natural (integer_in (drop (p + 1) text))) a e in
@@ -168,7 +168,7 @@ size_told text (Some p) a is e =
     let cols = natural_found (drop (p + 1) text) f.1 f.3 in
     moved kind.Size text (Size f.0 f.1) a f.4 (record { same_kind = refl; has_key = tt; argument = size_split text p is ∙ (λ i. rows i ++ 32 ∷ cols i) })
 
-pub argument_found : (k : Kind) (text : List ℕ) (a : Act) → act_of_argument k text ≡ Some a → Told k text a
+pub argument_found : (k : Kind) (text : List ℕ) (a : Act) → act_of_argument k text ≡ Some a → ActWith k text a
 argument_found kind.Char text a e =
     let m = mapped (λ (c : ℕ). act.Key (Char c)) (scalar_in text) a e in
     let s = scalar_found text m.0 m.1 in

@@ -22,7 +22,7 @@ use Rattle.roam_play.specs.Asked.{asked_in}
 use Rattle.roam_play.specs.Replies.{reply_line}
 use Rattle.roam_play.specs.Scripts.{Stage, Before, Within, AnswersLine, AreLines, BeginsWith, Ends, IsBadSession, IsEvent, IsOneLine, IsReason, Plays, Prints, Stopped, ended_line, event_in, is_in_place, size_of}
 use Rattle.roam_play.specs.Scripts as script
-use Rattle.roam_play.specs.Played.{Fails, Fed, HasAnswer, IsAt, Told}
+use Rattle.roam_play.specs.Played.{Fails, Fed, HasAnswer, IsAt, HasPlayed}
 use Rattle.roam_play.specs.Played as played
 
 -- a question was answered
@@ -98,7 +98,7 @@ misplaced_at (Ok None) o v l is h = within
 -- ---- lines
 
 pub told_skipped : (stage : Stage) (line : List ℕ) (known : Option (List ℕ)) (world : Option WorldView) → is_skipped line ≡ true
-    → IsAt world stage → Told stage line known known world
+    → IsAt world stage → HasPlayed stage line known known world
 told_skipped stage line known world is at = record {
   answer = [];
   left = stage;
@@ -110,7 +110,7 @@ told_skipped stage line known world is at = record {
 
 pub told_said : (stage : Stage) (line : List ℕ) (l : LineValue) (answer : List ℕ) (before after : Option (List ℕ)) (world : Option
     WorldView) → IsEvent line l
-    → HasAnswer stage l answer world → Appends before after answer → Told stage line before after world
+    → HasAnswer stage l answer world → Appends before after answer → HasPlayed stage line before after world
 told_said stage line l answer before after world is h written =
     record { answer = answer; left = h.left; answers = script.said l is h.answers; at = h.at; written = written }
 
@@ -151,7 +151,7 @@ one_played stage line answer left a = (answer, left, [], a, (refl, refl), sym (a
 -- one more line was played
 pub one_more : (stage mid : Stage) (lines : List (List ℕ)) (line text : List ℕ) (before between after : Option (List ℕ)) (world : Option
     WorldView) → Plays stage lines text mid
-    → Appends before between text → (t : Told mid line between after world)
+    → Appends before between text → (t : HasPlayed mid line between after world)
     → Plays stage (lines ++ line ∷ []) (text ++ t.answer) t.left × Appends before after (text ++ t.answer)
 one_more stage mid lines line text before between after world p w t = (
   plays_append stage mid t.left lines (line ∷ []) text t.answer p (one_played mid line t.answer t.left t.answers),
@@ -212,7 +212,7 @@ ends_line old piece begun lines a = record {
 -- the end of a line
 pub fed_line : (stage : Stage) (old piece begun : List ℕ) (before between after : Option (List ℕ)) (world world' : Option WorldView)
     (number counted : ℕ)
-    → (f : Fed stage old piece begun before between world number counted) → Told f.left begun between after world'
+    → (f : Fed stage old piece begun before between world number counted) → HasPlayed f.left begun between after world'
     → Fed stage old (piece ++ 10 ∷ []) [] before after world' number (counted + 1)
 fed_line stage old piece begun before between after world world' number counted f t =
     let more = one_more stage f.left f.lines begun f.text before between after world' f.plays f.written t in
@@ -364,7 +364,7 @@ module _ (log begun : List ℕ) (before between : Option (List ℕ)) (world : Op
     why = script.unread refl;
   }
 
-  pub prints_all : (after : Option (List ℕ)) (world' : Option WorldView) → Told f.left begun between after world' → Prints before after log
+  pub prints_all : (after : Option (List ℕ)) (world' : Option WorldView) → HasPlayed f.left begun between after world' → Prints before after log
   prints_all after world' t =
       let more = one_more Before f.left f.lines begun f.text before between after world' f.plays f.written t in
       record { lines = f.lines; last = begun; are = f.are; left = t.left; text = f.text ++ t.answer; plays = more.0; written = more.1 }

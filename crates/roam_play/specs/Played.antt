@@ -22,7 +22,7 @@ pub record HasAnswer (stage : Stage) (l : LineValue) (answer : List ℕ) (new : 
   pub at : IsAt new left
 
 -- a line was played: its answer was written, and the world is at the stage after it
-pub record Told (stage : Stage) (line : List ℕ) (before after : Option (List ℕ)) (new : Option WorldView) : Type 0 where
+pub record HasPlayed (stage : Stage) (line : List ℕ) (before after : Option (List ℕ)) (new : Option WorldView) : Type 0 where
   pub answer : List ℕ
   pub left : Stage
   pub answers : AnswersLine stage line answer left

@@ -10,7 +10,7 @@ ghost use Rattle.roam_simulation.specs.Events.{IsHandedIn, event_of};
 ghost use Rattle.roam_simulation.specs.Worlds.{StandsFor};
 ghost use Rattle.roam_play.specs.Replies.{reply_line};
 ghost use Rattle.roam_play.specs.Scripts.{Stage, Before, Within, IsBadSession, IsOneLine, Prints, Stopped, event_in, is_in_place};
-ghost use Rattle.roam_play.specs.Played.{Fails, Fed, HasAnswer, IsAt, Told};
+ghost use Rattle.roam_play.specs.Played.{Fails, Fed, HasAnswer, IsAt, HasPlayed};
 
 use crate::asked::asked;
 use crate::replies::push_reply;
@@ -137,7 +137,7 @@ impl Play {
     fn line<W: Write>(&mut self, alloc: Global, line: &[u8], writer: &mut W) -> Result<(), RunFault>
         requires room { self.old.lines + 1 < 2 ^ 64 }
         ensures told { OnOk result ((stage : Stage) → IsAt self.old.world stage
-            → Told stage line.now (W.contents writer.old) (W.contents writer.new) self.new.world) }
+            → HasPlayed stage line.now (W.contents writer.old) (W.contents writer.new) self.new.world) }
         ensures lines { self.new.lines ≡ self.old.lines + 1 }
         ensures fails { IfErr result (λ fault. (stage : Stage) → IsAt self.old.world stage
             → Fails stage (self.old.lines + 1) line.now (W.contents writer.old) (W.contents writer.new) fault) }

@@ -16,7 +16,7 @@ use Rattle.roam_script.specs.Values.{LineValue, IsLine}
 use Rattle.roam_script.specs.Kinds.{head_of, headed_in, kind_of, kinds}
 use Rattle.roam_script.specs.Lines.{IsArgument, Says, value_of}
 use Rattle.roam_script.specs.Reading.{byte_in, bytes_in, each_of, first_word, pair_of, plain_in, two_in}
-use Rattle.roam_script.specs.Told.{IsRead, Tells, TellsNothing}
+use Rattle.roam_script.specs.Arguments.{IsRead, IsLineWith, IsNoLineWith}
 use Rattle.roam_script.proofs.Telling.{IsPlain, OneAct, one_line, pane_bytes_none, plain_again, plain_found}
 
 chosen : {X : Type 0} (b : Bool) (y x : X) (r : Option X) → cond b (Some y) r ≡ Some x → ((b ≡ true) × (y ≡ x)) ⊎ (r ≡ Some x)
@@ -64,7 +64,7 @@ said line l s =
 
 -- a line of a kind that is read tells what stands behind its head
 tells : (line : List ℕ) (k : Kind) (l : LineValue) → headed_in kinds line ≡ Some k → IsLine l → Says line l
-    → Tells k (drop (length (head_of k)) line) l
+    → IsLineWith k (drop (length (head_of k)) line) l
 tells line k l e is s =
     let both = said line l s in
     let one : Some k ≡ Some (kind_of l) = sym e ∙ both.0 in
@@ -76,7 +76,7 @@ pub plain_read : (k : Kind) (text : List ℕ) (r : Option Line) → ((k ≡ kind
 plain_read k text (Some m) no_bytes no_act e = plain_found k text (value_of m) (sym e)
 plain_read k text None no_bytes no_act e = inr (refl, nothing)
   where
-    nothing : TellsNothing k text
+    nothing : IsNoLineWith k text
     nothing l t =
         let plain : IsPlain (kind_of l) = (λ p. no_bytes (sym t.same_kind ∙ p), λ p. no_act (sym t.same_kind ∙ p)) in
         let read : plain_in k text ≡ Some l = sym (ap (λ (x : Kind). plain_in x text) t.same_kind)
@@ -93,10 +93,10 @@ pub is_only : (line text : List ℕ) (k : Kind) (r : Result Line LineFault) → 
     → text ≡ drop (length (head_of k)) line → IsRead k text r
     → (l : LineValue) → IsLine l → Says line l → MatchResult r (λ m. value_of m ≡ l) (λ e. e ≡ OutOfMemory)
 is_only line text k (Ok m) one e is h l in_range s =
-    one_line one k text (value_of m) l h (subst (λ (t : List ℕ). Tells k t l) (sym is) (tells line k l e in_range s))
+    one_line one k text (value_of m) l h (subst (λ (t : List ℕ). IsLineWith k t l) (sym is) (tells line k l e in_range s))
 is_only line text k (Err fault) one e is (inl full) l in_range s = full
 is_only line text k (Err fault) one e is (inr bad) l in_range s =
-    absurd (bad.1 l (subst (λ (t : List ℕ). Tells k t l) (sym is) (tells line k l e in_range s)))
+    absurd (bad.1 l (subst (λ (t : List ℕ). IsLineWith k t l) (sym is) (tells line k l e in_range s)))
 
 -- no bytes were read, or memory is wanting for them
 pub bytes_unread : (text : List ℕ) (words : List ℕ × List ℕ) (pane : ℕ) (fault : LineFault) (r : Result Line LineFault)

@@ -21,7 +21,7 @@ use Rattle.roam_script.specs.Kinds.{kind_of}
 use Rattle.roam_numbers.specs.Numbers.{IsId, id_in, number_in}
 use Rattle.roam_script.specs.Lines.{AreBytes, IsArgument, IsStart}
 use Rattle.roam_script.specs.Reading.{byte_in, bytes_in, face_in, first_word, long_in, pair_of, plain_in, short_in, slot_in, start_at, start_in, two_in, version_in}
-use Rattle.roam_script.specs.Told.{Tells, TellsNothing}
+use Rattle.roam_script.specs.Arguments.{IsLineWith, IsNoLineWith}
 use Rattle.roam_numbers.proofs.Spelled.{id_again, id_found, number_again, number_found}
 use Rattle.roam_script.proofs.Wording.{digits_are_word, pair_found, two_again, two_found, word_again, word_alone, word_found, IsWord}
 
@@ -113,8 +113,8 @@ plain_again (Output pane) text plain is h = ap (plain_in kind.Output) h ∙ ap (
 
 -- ---- what is read is said
 
-moved : (k : Kind) (text : List ℕ) (a b : LineValue) → a ≡ b → Tells k text a → Tells k text b
-moved k text a b e t = subst (Tells k text) e t
+moved : (k : Kind) (text : List ℕ) (a b : LineValue) → a ≡ b → IsLineWith k text a → IsLineWith k text b
+moved k text a b e t = subst (IsLineWith k text) e t
 
 mapped : {X : Type 0} (f : X → LineValue) (r : Option X) (l : LineValue) → option_map f r ≡ Some l → (x : X) × (r ≡ Some x) × (f x ≡ l)
 mapped f None l e = absurd cc
@@ -129,7 +129,7 @@ number_is : (most : ℕ) (text : List ℕ) (n : ℕ) → number_in most text ≡
 number_is most text n e = let f = number_found most text n e in record { most_of = f.0; text_is = f.1 }
 
 session_found : (text : List ℕ) (p : ℕ × (ℕ × ℕ)) → two_in id_in (two_in short_in short_in) text ≡ Some p
-    → Tells kind.Session text (Session p.0 p.1.0 p.1.1)
+    → IsLineWith kind.Session text (Session p.0 p.1.0 p.1.1)
 session_found text p e =
     let t = two_found id_in (two_in short_in short_in) text p e in
     let u = two_found short_in short_in t.rest p.1 t.second in
@@ -183,7 +183,7 @@ started_found text p e = by (first_word text) refl e
         told words (byte_in words.1) refl is both.0 both.1
 
 start_found : (text : List ℕ) (p : ℕ × (ℕ × Version)) → two_in slot_in start_in text ≡ Some p
-    → Tells kind.Start text (Start p.0 p.1.0 p.1.1)
+    → IsLineWith kind.Start text (Start p.0 p.1.0 p.1.1)
 start_found text p e =
     let t = two_found slot_in start_in text p e in
     let slot = number_is 7 t.word p.0 t.first in
@@ -194,7 +194,7 @@ start_found text p e =
       argument = (t.rest, start.1, t.is ∙ ap (λ (w : List ℕ). w ++ 0x20 ∷ t.rest) slot.text_is);
     }
 
-watch_found : (text : List ℕ) (p : ℕ × ℕ) → two_in slot_in id_in text ≡ Some p → Tells kind.Watch text (Watch p.0 p.1)
+watch_found : (text : List ℕ) (p : ℕ × ℕ) → two_in slot_in id_in text ≡ Some p → IsLineWith kind.Watch text (Watch p.0 p.1)
 watch_found text p e =
     let t = two_found slot_in id_in text p e in
     let slot = number_is 7 t.word p.0 t.first in
@@ -237,11 +237,11 @@ three_are l m n text p e =
       text_is = t.is ∙ (λ i. first.text_is i ++ 0x20 ∷ rest.text_is i);
     }
 
-face_found : (text : List ℕ) (l : LineValue) → face_in text ≡ Some l → Tells kind.Face text l
+face_found : (text : List ℕ) (l : LineValue) → face_in text ≡ Some l → IsLineWith kind.Face text l
 face_found [] l e = moved kind.Face [] Face l (cc) (record { same_kind = refl; in_range = tt; argument = refl })
 face_found (b ∷ text) l e = absurd cc
 
-pub plain_found : (k : Kind) (text : List ℕ) (l : LineValue) → plain_in k text ≡ Some l → Tells k text l
+pub plain_found : (k : Kind) (text : List ℕ) (l : LineValue) → plain_in k text ≡ Some l → IsLineWith k text l
 plain_found kind.Session text l e =
     let m = mapped (λ (p : ℕ × (ℕ × ℕ)). Session p.0 p.1.0 p.1.1) (two_in id_in (two_in short_in short_in) text) l e in
     moved kind.Session text (Session m.0.0 m.0.1.0 m.0.1.1) l m.2 (session_found text m.0 m.1)
@@ -329,7 +329,7 @@ bytes_again [] bytes h = absurd (omega (arith, h.some))
 bytes_again (d ∷ ds) bytes h = ap (λ (r : Result (List ℕ) FromHexError). result_ok r) h.pairs
 
 pub pane_bytes_found : (text : List ℕ) (p : ℕ × List ℕ) → two_in byte_in bytes_in text ≡ Some p
-    → Tells kind.PaneBytes text (PaneBytes p.0 p.1)
+    → IsLineWith kind.PaneBytes text (PaneBytes p.0 p.1)
 pane_bytes_found text p e =
     let t = two_found byte_in bytes_in text p e in
     let pane = number_is 255 t.word p.0 t.first in
@@ -378,10 +378,10 @@ typed_is text Face k is h = absurd cc
 typed_is text (Output pane) k is h = absurd cc
 
 -- no word, no slot in it, or no act behind it
-pub typed_no_word : (text : List ℕ) → first_word text ≡ None → TellsNothing kind.Typed text
+pub typed_no_word : (text : List ℕ) → first_word text ≡ None → IsNoLineWith kind.Typed text
 typed_no_word text e l t = let p = typed_is text l t.same_kind t.in_range t.argument in let is = p.2.is in absurd cc
 
-pub typed_no_slot : (text : List ℕ) (p : List ℕ × List ℕ) → first_word text ≡ Some p → slot_in p.0 ≡ None → TellsNothing kind.Typed text
+pub typed_no_slot : (text : List ℕ) (p : List ℕ × List ℕ) → first_word text ≡ Some p → slot_in p.0 ≡ None → IsNoLineWith kind.Typed text
 typed_no_slot text p e none l t =
     let q = typed_is text l t.same_kind t.in_range t.argument in
     let words : List ℕ × List ℕ = (decimal q.0, q.2.words) in
@@ -391,7 +391,7 @@ typed_no_slot text p e none l t =
     absurd cc
 
 pub typed_no_act : (text : List ℕ) (p : List ℕ × List ℕ) → first_word text ≡ Some p → ((act : Act) → IsAct act → SpellsAct p.1 act → ⊥)
-    → TellsNothing kind.Typed text
+    → IsNoLineWith kind.Typed text
 typed_no_act text p e none l t =
     let q = typed_is text l t.same_kind t.in_range t.argument in
     let words : List ℕ × List ℕ = (decimal q.0, q.2.words) in
@@ -400,7 +400,7 @@ typed_no_act text p e none l t =
     none q.1 q.2.act_is (subst (λ (w : List ℕ × List ℕ). SpellsAct w.1 q.1) (sym same) q.2.spells)
 
 pub typed_found : (text : List ℕ) (p : List ℕ × List ℕ) (slot : ℕ) (act : Act) → first_word text ≡ Some p → slot_in p.0 ≡ Some slot
-    → IsAct act → SpellsAct p.1 act → Tells kind.Typed text (Typed slot act)
+    → IsAct act → SpellsAct p.1 act → IsLineWith kind.Typed text (Typed slot act)
 typed_found text p slot act e s is spells =
     let n = number_is 7 p.0 slot s in
     record {
@@ -415,7 +415,7 @@ typed_found text p slot act e s is spells =
 abbrev pub OneAct : Type 0
 OneAct = (line : List ℕ) (a b : Act) → IsAct a → IsAct b → SpellsAct line a → SpellsAct line b → a ≡ b
 
-both_plain : (k : Kind) (text : List ℕ) (a b : LineValue) → IsPlain k → Tells k text a → Tells k text b → a ≡ b
+both_plain : (k : Kind) (text : List ℕ) (a b : LineValue) → IsPlain k → IsLineWith k text a → IsLineWith k text b → a ≡ b
 both_plain k text a b plain s t =
     let first : IsPlain (kind_of a) = (λ p. plain.0 (sym s.same_kind ∙ p), λ p. plain.1 (sym s.same_kind ∙ p)) in
     let second : IsPlain (kind_of b) = (λ p. plain.0 (sym t.same_kind ∙ p), λ p. plain.1 (sym t.same_kind ∙ p)) in
@@ -475,7 +475,7 @@ both_typed one text s a t b p q =
     let act : a ≡ b = one q.words a b p.act_is q.act_is (subst (λ (w : List ℕ). SpellsAct w a) words p.spells) q.spells in
     (λ i. Typed (slot i) (act i))
 
-pub one_line : OneAct → (k : Kind) (text : List ℕ) (a b : LineValue) → Tells k text a → Tells k text b → a ≡ b
+pub one_line : OneAct → (k : Kind) (text : List ℕ) (a b : LineValue) → IsLineWith k text a → IsLineWith k text b → a ≡ b
 one_line one kind.PaneBytes text a b s t = both_given text a b (are_given text a s.same_kind s.in_range s.argument) (are_given text b
     t.same_kind t.in_range t.argument)
 one_line one kind.Typed text a b s t =
@@ -494,5 +494,5 @@ one_line one kind.Show text a b s t = both_plain kind.Show text a b (λ e. absur
 one_line one kind.Face text a b s t = both_plain kind.Face text a b (λ e. absurd cc, λ e. absurd cc) s t
 one_line one kind.Output text a b s t = both_plain kind.Output text a b (λ e. absurd cc, λ e. absurd cc) s t
 
-pub pane_bytes_none : (text : List ℕ) → two_in byte_in bytes_in text ≡ None → TellsNothing kind.PaneBytes text
+pub pane_bytes_none : (text : List ℕ) → two_in byte_in bytes_in text ≡ None → IsNoLineWith kind.PaneBytes text
 pane_bytes_none text e l t = let given = (are_given text l t.same_kind t.in_range t.argument).read in absurd cc

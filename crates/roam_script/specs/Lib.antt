@@ -3,4 +3,4 @@ pub mod Kinds
 pub mod Lines
 pub mod Skipped
 pub mod Reading
-pub mod Told
+pub mod Arguments

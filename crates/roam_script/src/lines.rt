@@ -5,7 +5,7 @@ ghost use Rattle.roam_script.specs.Values.{LineValue, IsLine};
 ghost use Rattle.roam_script.specs.Lines.{Says, value_of};
 ghost use Rattle.roam_script.specs.Skipped.{is_skipped};
 ghost use Rattle.roam_script.specs.Reading.{bytes_in, plain_in, start_in, version_in};
-ghost use Rattle.roam_script.specs.Told.{IsRead};
+ghost use Rattle.roam_script.specs.Arguments.{IsRead};
 
 use crate::kinds::Kind;
 use crate::numbers::{byte, long, short, slot};

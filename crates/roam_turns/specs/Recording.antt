@@ -1,14 +1,14 @@
 -- What ports over memory tell.
 use Rattle.std.specs.Prelude.{ℕ, List, map, Option, Some, None, if◌then◌else◌}
 use Rattle.roam_hub.specs.declared.addresses.Addr.{Addr}
-use Rattle.roam_turns.specs.declared.memory.Told.{Told}
-use Rattle.roam_turns.specs.declared.memory.Told.TheVariants as wrote
+use Rattle.roam_turns.specs.declared.memory.RecordedCall.{RecordedCall}
+use Rattle.roam_turns.specs.declared.memory.RecordedCall.TheVariants as wrote
 use Rattle.roam_turns.specs.declared.memory.MemoryPorts.{MemoryPorts}
 use Rattle.roam_turns.specs.Calls.{PortCall}
 use Rattle.roam_turns.specs.Calls.PortCall.{Now, Received, NothingReceived, Sent, PaneLives, PaneGave, PaneGaveNothing, PaneTook, Showed}
 
 -- a call as it was written down
-abbrev pub call_of : Told → PortCall
+abbrev pub call_of : RecordedCall → PortCall
 call_of (wrote.Now moment) = Now moment
 call_of (wrote.Received room from bytes) = Received room from bytes.items
 call_of (wrote.NothingReceived room) = NothingReceived room

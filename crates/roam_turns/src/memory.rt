@@ -12,7 +12,7 @@ use std::collections::VecDeque;
 
 /// A call of a port, and what it gave.
 #[derive(Debug, Drop)]
-pub enum Told {
+pub enum RecordedCall {
     /// The moment.
     Now(u64),
 
@@ -49,7 +49,7 @@ pub struct MemoryPorts {
     datagrams: VecDeque<(Addr, Vec<u8>)>,
     pieces: VecDeque<(u8, Vec<u8>)>,
     appetite: usize,
-    told: Vec<Told>,
+    told: Vec<RecordedCall>,
     is_lost: bool,
     calls: u64,
     fails_at: u64,
@@ -141,7 +141,7 @@ impl MemoryPorts {
     }
 
     /// The calls so far, in their order, up to one for which there was no memory.
-    pub fn told(&self) -> &[Told]
+    pub fn told(&self) -> &[RecordedCall]
         ensures told { result.now ≡ self.now.told.items }
     {
         &self.told
@@ -167,7 +167,7 @@ impl MemoryPorts {
     }
 
     // Writes a call down. From one that can't be, the ports tell nothing.
-    fn record(&mut self, call: Result<Told, AllocError>)
+    fn record(&mut self, call: Result<RecordedCall, AllocError>)
         ensures told { IfOk call (λ it. Tells (told_of self.old) (told_of self.new) (call_of it ∷ [])) }
         ensures lost { OnErr call (told_of self.new ≡ None) }
         ensures notes { Notes self.old self.new }
@@ -193,7 +193,7 @@ impl Ports for MemoryPorts {
     {
         let _ = self.is_failing();
         let moment = self.moment;
-        self.record(Ok(Told::Now(moment)));
+        self.record(Ok(RecordedCall::Now(moment)));
         moment
     }
 
@@ -209,13 +209,13 @@ impl Ports for MemoryPorts {
         let goes = !self.is_failing();
         match pop_where(goes, &mut self.datagrams) {
             None => {
-                self.record(Ok(Told::NothingReceived(room)));
+                self.record(Ok(RecordedCall::NothingReceived(room)));
                 None
             }
             Some((from, bytes)) => {
                 let len = copy_front(&bytes, buf);
                 let text = Vec::from_slice(self.alloc, &buf[..len]);
-                self.record(text.map(|text| Told::Received(room, from, text)));
+                self.record(text.map(|text| RecordedCall::Received(room, from, text)));
                 Some((from, len))
             }
         }
@@ -228,7 +228,7 @@ impl Ports for MemoryPorts {
     {
         let went = !self.is_failing();
         let text = Vec::from_slice(self.alloc, bytes);
-        self.record(text.map(|text| Told::Sent(to, text, went)));
+        self.record(text.map(|text| RecordedCall::Sent(to, text, went)));
         went
     }
 
@@ -236,7 +236,7 @@ impl Ports for MemoryPorts {
         ensures notes { Notes self.old self.new }
         ensures tells { Tells (told_of self.old) (told_of self.new) (PaneLives pane life ∷ []) }
     {
-        self.record(Ok(Told::PaneLives(pane, life)));
+        self.record(Ok(RecordedCall::PaneLives(pane, life)));
     }
 
     fn pane_in(&mut self, pane: u8, buf: &mut [u8]) -> Option<usize>
@@ -251,13 +251,13 @@ impl Ports for MemoryPorts {
         let gives = !self.is_failing() && self.is_next(pane);
         match pop_where(gives, &mut self.pieces) {
             None => {
-                self.record(Ok(Told::PaneGaveNothing(pane, room)));
+                self.record(Ok(RecordedCall::PaneGaveNothing(pane, room)));
                 None
             }
             Some((_, bytes)) => {
                 let len = copy_front(&bytes, buf);
                 let text = Vec::from_slice(self.alloc, &buf[..len]);
-                self.record(text.map(|text| Told::PaneGave(pane, room, text)));
+                self.record(text.map(|text| RecordedCall::PaneGave(pane, room, text)));
                 Some(len)
             }
         }
@@ -275,7 +275,7 @@ impl Ports for MemoryPorts {
             bytes.len().min(self.appetite)
         };
         let text = Vec::from_slice(self.alloc, bytes);
-        self.record(text.map(|text| Told::PaneTook(pane, text, took)));
+        self.record(text.map(|text| RecordedCall::PaneTook(pane, text, took)));
         took
     }
 
@@ -286,7 +286,7 @@ impl Ports for MemoryPorts {
     {
         let is_shown = !self.is_failing();
         let text = Vec::from_slice(self.alloc, bytes);
-        self.record(text.map(|text| Told::Showed(text, is_shown)));
+        self.record(text.map(|text| RecordedCall::Showed(text, is_shown)));
         is_shown
     }
 }

@@ -4,7 +4,7 @@ use anyhow::bail;
 use roam_acts::read_act;
 use roam_cells::Fault;
 use roam_hub::{Addr, Client, Server};
-use roam_turns::memory::Told;
+use roam_turns::memory::RecordedCall;
 use roam_turns::{MemoryPorts, Outer, attach_turn, serve_turn};
 use std::alloc::Global;
 use std::env::Args;
@@ -185,7 +185,7 @@ fn answer(
 ) -> Result<u64, Fault> {
     let mut bytes: u64 = 0;
     for call in ports.told().iter().skip(seen) {
-        if let Told::Sent(_, text, _) = call {
+        if let RecordedCall::Sent(_, text, _) = call {
             pair.client.datagram(alloc, text, pair.now)?;
             bytes = bytes.wrapping_add(text.len() as u64);
         }

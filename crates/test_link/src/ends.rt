@@ -119,9 +119,9 @@ fn a_sender_of_screens(rt: HostRuntime) -> Result<(), Fail> {
 }
 
 /// An instruction's old number, new number and floor, and what a receiver makes of it.
-type Told = (u64, u64, u64, Step);
+type Take = (u64, u64, u64, Step);
 
-static FEW: [Told; 5] = [
+static FEW: [Take; 5] = [
     (0, 3, 0, Step::New),
     (0, 3, 0, Step::Old),
     (2, 5, 0, Step::Gap),
@@ -130,7 +130,7 @@ static FEW: [Told; 5] = [
 ];
 
 // Eight states are held after the seventh; a floor of 1 makes room for the next.
-static MANY: [Told; 10] = [
+static MANY: [Take; 10] = [
     (0, 1, 0, Step::New),
     (0, 2, 0, Step::New),
     (0, 3, 0, Step::New),
@@ -147,7 +147,7 @@ static MANY: [Told; 10] = [
 fn takes<S: Numbered>(
     alloc: Global,
     receiver: &mut Receiver<S>,
-    told: Told,
+    told: Take,
 ) -> Result<bool, Fault> {
     let (old, new, floor, wanted) = told;
     if old < floor || new < old {
@@ -160,7 +160,7 @@ fn takes<S: Numbered>(
     Ok(step == wanted && state.is(number) && (step != Step::New || number == new))
 }
 
-fn takes_all<S: Numbered>(alloc: Global, rows: &[Told]) -> Result<bool, Fault> {
+fn takes_all<S: Numbered>(alloc: Global, rows: &[Take]) -> Result<bool, Fault> {
     let mut receiver = Receiver::new(alloc, S::of(alloc, 0)?)?;
     for told in rows {
         if !takes(alloc, &mut receiver, *told)? {

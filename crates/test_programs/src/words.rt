@@ -5,37 +5,37 @@ use std::alloc::{AllocError, Global};
 use std::test::*;
 
 /// Words that ask for a text or are refused, the exit status, and the text.
-struct Told {
+struct Case {
     words: &'static [&'static str],
     status: i32,
     text: &'static str,
 }
 
-static TOLD: [Told; 10] = [
-    Told {
+static TOLD: [Case; 10] = [
+    Case {
         words: &["roam", "show", "--rows", "x"],
         status: 2,
         text: "error: invalid value 'x' for '--rows <R>': invalid digit found in string\n\nFor more information, try '--help'.\n",
     },
-    Told {
+    Case {
         words: &["roam", "show", "--rows", "70000", "--cols", "8"],
         status: 2,
         text: "error: invalid value '70000' for '--rows <R>': 70000 is not in 0..=65535\n\nFor more information, try '--help'.\n",
     },
-    Told {
+    Case {
         words: &["roam", "show", "--rows", "2"],
         status: 2,
         text: "error: the following required arguments were not provided:\n  --cols <C>\n\nUsage: roam show --rows <R> --cols <C>\n\n\
              For more information, try '--help'.\n",
     },
-    Told {
+    Case {
         words: &["roam", "show", "--help"],
         status: 0,
         text: "Feeds standard input to a terminal and prints the screen that it makes\n\nUsage: roam show --rows <R> --cols <C>\n\n\
              Options:\n      --rows <R>  Rows of the screen, 2 to 200\n      --cols <C>  Columns of the screen, 4 to 500\n  \
              -h, --help      Print help\n",
     },
-    Told {
+    Case {
         words: &["roam", "--help"],
         status: 0,
         text: "A roaming terminal multiplexer\n\nUsage: roam <COMMAND>\n\nCommands:\n  \
@@ -46,27 +46,27 @@ static TOLD: [Told; 10] = [
              help    Print this message or the help of the given subcommand(s)\n\nOptions:\n  -h, --help     Print help\n  \
              -V, --version  Print version\n",
     },
-    Told {
+    Case {
         words: &["roam", "--version"],
         status: 0,
         text: "roam 0.1.0\n",
     },
-    Told {
+    Case {
         words: &["roam", "world", "script"],
         status: 2,
         text: "error: unexpected argument 'script' found\n\nUsage: roam world\n\nFor more information, try '--help'.\n",
     },
-    Told {
+    Case {
         words: &["roam", "serve", "--dir", "d", "--port", "65536"],
         status: 2,
         text: "error: invalid value '65536' for '--port <P>': 65536 is not in 0..=65535\n\nFor more information, try '--help'.\n",
     },
-    Told {
+    Case {
         words: &["roam", "attach", "--wire", "3"],
         status: 2,
         text: "error: invalid value '3' for '--wire <V>': 3 is not in 1..=2\n\nFor more information, try '--help'.\n",
     },
-    Told {
+    Case {
         words: &["elsewhere/program", "attach", "--help"],
         status: 0,
         text: "Follows a session and paints it on standard output\n\n\
@@ -87,7 +87,7 @@ static TOLD: [Told; 10] = [
     },
 ];
 
-fn is_told(alloc: Global, told: &Told) -> bool {
+fn is_told(alloc: Global, told: &Case) -> bool {
     match read_words(alloc, told.words) {
         Err(Refusal::Clap(error)) => match error.to_string(alloc) {
             Ok(text) => error.exit_code() == told.status && text.as_str() == told.text,

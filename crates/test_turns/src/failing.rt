@@ -9,7 +9,7 @@ use roam_cells::Fault;
 use roam_screens::{Seen, Shot, row_text};
 use roam_term::Term;
 use roam_turns::MemoryPorts;
-use roam_turns::memory::Told;
+use roam_turns::memory::RecordedCall;
 use std::alloc::Global;
 use std::test::*;
 
@@ -131,7 +131,7 @@ fn has_top<S: Seen>(alloc: Global, shot: &S) -> Result<bool, Fault> {
 fn terminal(alloc: Global, ports: &MemoryPorts) -> Result<Shot, Fault> {
     let mut term = Term::new(alloc, 24, 80, 0)?;
     for call in ports.told() {
-        if let Told::Showed(bytes, true) = call {
+        if let RecordedCall::Showed(bytes, true) = call {
             for piece in bytes.chunks(1024) {
                 term.feed(piece)?;
             }
@@ -150,7 +150,7 @@ fn taken(ports: &MemoryPorts) -> (usize, bool) {
     let mut count: usize = 0;
     let mut are_typed = true;
     for call in ports.told() {
-        if let Told::PaneTook(2, bytes, n) = call {
+        if let RecordedCall::PaneTook(2, bytes, n) = call {
             count = count.saturating_add(*n);
             are_typed = are_typed && bytes.as_slice() == b"x".as_slice();
         }

@@ -5,33 +5,33 @@ ghost use Rattle.roam_turns.specs.Painting.{IsBehind};
 use crate::stage::{End, SERVER, Stage, carry_down, carry_up};
 use roam_cells::Fault;
 use roam_hub::Server;
-use roam_turns::memory::Told;
+use roam_turns::memory::RecordedCall;
 use roam_turns::{MemoryPorts, serve_turn};
 use std::alloc::{AllocError, Global};
 use std::str::Split;
 use std::test::*;
 
 // A call as a letter; a capital brought or took something.
-fn letter(call: &Told) -> char {
+fn letter(call: &RecordedCall) -> char {
     match call {
-        Told::Now(_) => 'N',
-        Told::Received(_, _, _) => 'R',
-        Told::NothingReceived(_) => 'r',
-        Told::Sent(_, _, true) => 'S',
-        Told::Sent(_, _, false) => 's',
-        Told::PaneLives(_, Some(_)) => 'L',
-        Told::PaneLives(_, None) => 'l',
-        Told::PaneGave(_, _, _) => 'G',
-        Told::PaneGaveNothing(_, _) => 'g',
-        Told::PaneTook(_, _, 0) => 't',
-        Told::PaneTook(_, _, _) => 'T',
-        Told::Showed(_, true) => 'W',
-        Told::Showed(_, false) => 'w',
+        RecordedCall::Now(_) => 'N',
+        RecordedCall::Received(_, _, _) => 'R',
+        RecordedCall::NothingReceived(_) => 'r',
+        RecordedCall::Sent(_, _, true) => 'S',
+        RecordedCall::Sent(_, _, false) => 's',
+        RecordedCall::PaneLives(_, Some(_)) => 'L',
+        RecordedCall::PaneLives(_, None) => 'l',
+        RecordedCall::PaneGave(_, _, _) => 'G',
+        RecordedCall::PaneGaveNothing(_, _) => 'g',
+        RecordedCall::PaneTook(_, _, 0) => 't',
+        RecordedCall::PaneTook(_, _, _) => 'T',
+        RecordedCall::Showed(_, true) => 'W',
+        RecordedCall::Showed(_, false) => 'w',
     }
 }
 
 /// The calls as letters.
-pub fn letters(alloc: Global, calls: &[Told]) -> Result<String, AllocError> {
+pub fn letters(alloc: Global, calls: &[RecordedCall]) -> Result<String, AllocError> {
     let mut text = String::new(alloc);
     for call in calls {
         text.push(letter(call))?;
@@ -129,7 +129,7 @@ fn a_turn_makes_its_calls_in_order(rt: HostRuntime) -> Result<(), Fail> {
 fn showed(ports: &MemoryPorts, text: &str) -> bool {
     let mut is_shown = false;
     for call in ports.told() {
-        if let Told::Showed(bytes, true) = call {
+        if let RecordedCall::Showed(bytes, true) = call {
             is_shown = bytes.as_slice() == text.as_bytes();
         }
     }
@@ -140,7 +140,7 @@ fn showed(ports: &MemoryPorts, text: &str) -> bool {
 fn lengths(alloc: Global, ports: &MemoryPorts) -> Result<Vec<usize>, AllocError> {
     let mut lengths = Vec::new(alloc);
     for call in ports.told() {
-        if let Told::Sent(_, bytes, true) = call {
+        if let RecordedCall::Sent(_, bytes, true) = call {
             lengths.push(bytes.len())?;
         }
     }

@@ -7,7 +7,7 @@ use roam_acts::Act;
 use roam_cells::Fault;
 use roam_hub::{Addr, Client, Server};
 use roam_screens::Shown;
-use roam_turns::memory::Told;
+use roam_turns::memory::RecordedCall;
 use roam_turns::{MemoryPorts, Outer, attach_turn, serve_turn};
 use std::alloc::Global;
 
@@ -30,7 +30,7 @@ pub fn carry(
     to: &mut MemoryPorts,
 ) -> Result<usize, Fault> {
     for call in from.told().iter().skip(seen) {
-        if let Told::Sent(address, bytes, true) = call {
+        if let RecordedCall::Sent(address, bytes, true) = call {
             if port == 0 || address.port == port {
                 to.deliver(source, bytes)?;
             }

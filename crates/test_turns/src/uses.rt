@@ -3,7 +3,7 @@
 // README: begin
 use roam_acts::Act;
 use roam_hub::{Addr, Client};
-use roam_turns::memory::Told;
+use roam_turns::memory::RecordedCall;
 use roam_turns::{MemoryPorts, Outer, Ports, attach_turn};
 use std::alloc::Global;
 
@@ -28,8 +28,8 @@ pub fn is_begun(alloc: Global, client: &mut Client, server: Addr) -> bool {
     let is_taken = begin(alloc, client, &mut ports, server);
     for call in ports.told() {
         match call {
-            Told::Sent(to, _, true) => is_sent = *to == server,
-            Told::Showed(bytes, true) => is_opened = bytes.starts_with(b"\x1Bc"),
+            RecordedCall::Sent(to, _, true) => is_sent = *to == server,
+            RecordedCall::Showed(bytes, true) => is_opened = bytes.starts_with(b"\x1Bc"),
             _ => {}
         }
     }

@@ -1,5 +1,5 @@
 use Rattle.std.proofs.Common.{subst, sym}
-use Rattle.roam_script.specs.Told.{IsRead}
+use Rattle.roam_script.specs.Arguments.{IsRead}
 use Rattle.roam_script.proofs.Heads.{plain_read}
 use Rattle.roam_script.proofs.lines.argument.Goals as goal
 

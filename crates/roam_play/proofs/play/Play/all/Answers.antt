@@ -4,7 +4,7 @@ use Rattle.std.specs.Io.KnownBytes.{Consumes}
 use Rattle.std.proofs.KnownBytes.{Consumes-nil, Consumes-trans, Consumes-kept}
 use Rattle.roam_faults.specs.declared.faults.RunFault.TheVariants as run
 use Rattle.roam_play.specs.Scripts.{Before, Stopped}
-use Rattle.roam_play.specs.Played.{Fails, Told}
+use Rattle.roam_play.specs.Played.{Fails, HasPlayed}
 use Rattle.roam_play.proofs.Asking.{ok_then}
 use Rattle.roam_play.proofs.Playing.{consumes_nothing, fed_as, fed_more, fed_nothing, if_err_then, no_bytes, passed, prints_all, stopped_in, stopped_last, stopped_unread, with_log}
 use Rattle.roam_play.proofs.play.Play.all.Goals as goal
@@ -35,7 +35,7 @@ returns-then-count-eq0-clause-played g c = ok_then c.line.result c.line.ensures.
     let f = c.loop.invariant.2 in
     let between = g.W.Write.contents c.loop.writer in
     let after = g.W.Write.contents c.line.new.writer in
-    let line = subst (λ t. Told f.left t between after c.line.new.self.world) c.as_slice.ensures.value (told f.left f.at) in (
+    let line = subst (λ t. HasPlayed f.left t between after c.line.new.self.world) c.as_slice.ensures.value (told f.left f.at) in (
       log,
       consumes_nothing _ _ _ log c.read.new.buf c.in-Ok.count c.if-count-eq0.true c.loop.invariant.1 c.in-Ok.ensures.bytes.0,
       c.in-Ok.ensures.bytes.1 c.if-count-eq0.true (omega (arith, c.read.auto.buf)),

@@ -3,7 +3,7 @@ use Rattle.std.proofs.KnownBytes.{Keeps-refl}
 use Rattle.roam_faults.specs.declared.faults.RunFault.TheVariants as run
 use Rattle.roam_play.specs.Scripts.{Stage, IsOneLine, Stopped}
 use Rattle.roam_play.specs.Scripts as script
-use Rattle.roam_play.specs.Played.{Fails, IsAt, Told}
+use Rattle.roam_play.specs.Played.{Fails, IsAt, HasPlayed}
 use Rattle.roam_play.proofs.Playing.{cut_at, fed_as, fed_byte, fed_line, fed_nothing, has_end, more_at, passed, stopped, stopped_at}
 use Rattle.roam_play.proofs.play.Play.piece.Goals.{then-byte-eq10+in_ok-line, else-byte-eq10+in_ok-push}
 use Rattle.roam_play.proofs.play.Play.piece.Goals as goal
@@ -76,7 +76,7 @@ loop-byte-preserved g c =
             fed = λ stage at one.
                 let f = c.loop-byte.invariant.fed stage at one in
                 let after = g.W.Write.contents w.line.new.writer in
-                let told = subst (λ t. Told f.left t between after w.line.new.self.world) w.as_slice.ensures.value
+                let told = subst (λ t. HasPlayed f.left t between after w.line.new.self.world) w.as_slice.ensures.value
                 (w.in_ok-line.ensures.told f.left f.at) in
                 fed_as stage old (take i text ++ 10 ∷ []) (take (i + 1) text) [] w.clear.new.self.items before after
                 w.line.new.self.world n (counted + 1) w.line.new.self.lines

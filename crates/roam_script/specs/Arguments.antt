@@ -9,16 +9,16 @@ use Rattle.roam_script.specs.Kinds.{kind_of}
 use Rattle.roam_script.specs.Lines.{IsArgument, value_of}
 
 -- a line of this kind that has these bytes after its head
-pub record Tells (kind : Kind) (text : List ℕ) (l : LineValue) : Type 0 where
+pub record IsLineWith (kind : Kind) (text : List ℕ) (l : LineValue) : Type 0 where
   pub same_kind : kind_of l ≡ kind
   pub in_range : IsLine l
   pub argument : IsArgument l text
 
 -- no line of this kind has them
-abbrev pub TellsNothing : Kind → List ℕ → Type 0
-TellsNothing kind text = (l : LineValue) → Tells kind text l → ⊥
+abbrev pub IsNoLineWith : Kind → List ℕ → Type 0
+IsNoLineWith kind text = (l : LineValue) → IsLineWith kind text l → ⊥
 
 -- a line of this kind was read, or there is none, or memory is wanting
 abbrev pub IsRead : Kind → List ℕ → Result Line LineFault → Type 0
 IsRead kind text r =
-    MatchResult r (λ l. Tells kind text (value_of l)) (λ e. (e ≡ OutOfMemory) ⊎ ((e ≡ BadEvent) × TellsNothing kind text))
+    MatchResult r (λ l. IsLineWith kind text (value_of l)) (λ e. (e ≡ OutOfMemory) ⊎ ((e ≡ BadEvent) × IsNoLineWith kind text))
