@@ -55,9 +55,13 @@ pub fn feed(
     ensures err { OnErr result (terms.new.items ≡ terms.old.items) }
     ensures same { OnErr result (marks.new ≡ marks.old) }
 {
-    match terms.get_mut(usize::from(pane)) {
-        Some(Some(term)) => read(term, pane, piece, layout, marks),
-        _ => Err(Fault::NoPane),
+    let number = usize::from(pane);
+    if terms.len() <= number {
+        return Err(Fault::NoPane);
+    }
+    match &mut terms[number] {
+        None => Err(Fault::NoPane),
+        Some(term) => read(term, pane, piece, layout, marks),
     }
 }
 
@@ -67,9 +71,13 @@ pub fn type_key(terms: &mut Vec<Option<Term>>, pane: u8, key: &Key) -> Result<()
     ensures keyed { OnOk result (ChangesAt pane (IsKeyed key.now) terms.old.items terms.new.items) }
     ensures err { OnErr result (terms.new.items ≡ terms.old.items) }
 {
-    match terms.get_mut(usize::from(pane)) {
-        Some(Some(term)) => term.key(key),
-        _ => Ok(()),
+    let pane = usize::from(pane);
+    if terms.len() <= pane {
+        return Ok(());
+    }
+    match &mut terms[pane] {
+        None => Ok(()),
+        Some(term) => term.key(key),
     }
 }
 
@@ -80,12 +88,16 @@ pub fn drain(terms: &mut Vec<Option<Term>>, pane: u8, n: usize) -> Result<(), Fa
     ensures drained { OnOk result (ChangesAt pane (IsDrained n) terms.old.items terms.new.items) }
     ensures err { OnErr result (terms.new.items ≡ terms.old.items) }
 {
-    match terms.get_mut(usize::from(pane)) {
-        Some(Some(term)) => {
+    let pane = usize::from(pane);
+    if terms.len() <= pane {
+        return Err(Fault::NoPane);
+    }
+    match &mut terms[pane] {
+        None => Err(Fault::NoPane),
+        Some(term) => {
             term.take_output(n);
             Ok(())
         }
-        _ => Err(Fault::NoPane),
     }
 }
 
