@@ -24,7 +24,7 @@ use Rattle.roam_world.specs.ServerArrivals.{coming, after_note, new_acts, after_
 use Rattle.roam_world.specs.Arrival.{Arrival, turned_away, noted, completed}
 use Rattle.roam_world.specs.Ticks.{sent_by, is_tick_spent}
 use Rattle.roam_world.specs.Clients.{moment_of, after_typed}
-use Rattle.roam_world.specs.ClientArrivals.{arriving, after_fragment, step_of, hearing_of, after_whole}
+use Rattle.roam_world.specs.ClientArrivals.{Hearing, arriving, after_fragment, step_of, hearing_of, after_whole}
 use Rattle.roam_world.specs.Sendings.{is_client_due, is_client_spent, datagrams_from, after_quiet}
 use Rattle.roam_world.specs.Worlds.{World, PaneBytes, Typed, ServerTick, ClientTick, ToServer, ToClient, Start, Drain, Reply, Done, Sent, Taken, Heard, Refused, Failed, Stopped, datagram_at, with_server, with_client, after_server_tick, after_client_sent, after_start}
 use Rattle.roam_world.specs.Steps.{PaneBytesStep, DrainStep, TypedStep, ServerTickStep, ClientTickStep, ToServerStep, ToClientStep, StartStep, refused, taken, no_pane, too_many, gone, empty_slot, full, spent, typed, no_memory, ticked, quiet, sent, not_sent, fragment, unread, all_taken, no_room, no_memory_at_act, bad_change, whole, used, started, watching, unfit, is_unfit}

@@ -1,5 +1,5 @@
 -- Moments, in milliseconds, and what is owed.
-use Rattle.std.specs.Prelude.{ℕ, ◌+◌, ◌^◌, Bool, false, Option, Some, None, nat_le}
+use Rattle.std.specs.Prelude.{ℕ, ◌+◌, Bool, false, Option, Some, None, nat_le}
 use Rattle.roam_acts.specs.Limits.{number_limit}
 
 -- the least time from one number to the next
