@@ -18,7 +18,7 @@ HEADER = struct.Struct(">HH")
 COUNT = struct.Struct(">cQ")
 
 # The kinds of what the ends tell each other.
-HAD, ENDED, PLACES = b"h", b"e", b"p"
+HAD, ENDED, RECTS = b"h", b"e", b"p"
 
 # So many bytes at most are on their way, and what came is told after so many.
 WINDOW = 1 << 17

@@ -1,7 +1,8 @@
 """Where the panes of a session are, as far as their sizes tell.
 
 D/panes tells sizes alone. A split puts the new pane to the right of the one that had the focus or below it, and a close gives a pane's
-place to the other part of its split: so whoever has followed a session from one pane on knows the tree, and with it each place.
+rectangle to the other part of its split: so whoever has followed a session from one pane on knows the tree, and with it each
+rectangle.
 """
 import os
 from typing import NamedTuple
@@ -9,7 +10,7 @@ from typing import NamedTuple
 BESIDE = {"left": (0, -1), "right": (0, 1), "up": (-1, 0), "down": (1, 0)}
 
 
-class Place(NamedTuple):
+class Rect(NamedTuple):
     """A pane's first row and column, from 1, and its rows and columns."""
 
     row: int
@@ -26,11 +27,11 @@ MOST_JOINS = 2
 class Tree:
     """The tree of a session's panes: a number, or a way and two trees. It isn't known for sure before sizes fit together.
 
-    It begins with the places that another told before, or with none.
+    It begins with the rectangles that another told before, or with none.
     """
 
-    def __init__(self, places):
-        self.shape = shape_of(places) if places else None
+    def __init__(self, rects):
+        self.shape = shape_of(rects) if rects else None
         self.lives = {}
         self.is_known = False
 
@@ -50,20 +51,20 @@ class Tree:
         if found:
             self.shape, self.lives = found, dict(lives)
 
-    def places(self, sizes):
-        """Each pane's place, by number; none where the tree isn't known."""
-        return placed(self.shape, 1, 1, sizes) if self.is_known else {}
+    def rects(self, sizes):
+        """Each pane's rectangle, by number; none where the tree isn't known."""
+        return rects_of(self.shape, 1, 1, sizes) if self.is_known else {}
 
 
-def shape_of(places):
-    """A tree that has these places; None where no border goes through between them."""
-    if len(places) == 1:
-        return next(iter(places))
+def shape_of(rects):
+    """A tree that has these rectangles; None where no border goes through between them."""
+    if len(rects) == 1:
+        return next(iter(rects))
     for way, start, length in (("right", 1, 3), ("down", 0, 2)):
-        for end in sorted(place[start] + place[length] for place in places.values()):
-            first = {pane: place for pane, place in places.items() if place[start] + place[length] <= end}
-            rest = {pane: place for pane, place in places.items() if place[start] > end}
-            if rest and len(first) + len(rest) == len(places):
+        for end in sorted(rect[start] + rect[length] for rect in rects.values()):
+            first = {pane: rect for pane, rect in rects.items() if rect[start] + rect[length] <= end}
+            rest = {pane: rect for pane, rect in rects.items() if rect[start] > end}
+            if rest and len(first) + len(rest) == len(rects):
                 parts = shape_of(first), shape_of(rest)
                 return None if None in parts else (way, *parts)
     return None
@@ -125,42 +126,42 @@ def joins(shape, new):
     return beside + [(way, tree, second) for tree in joins(first, new)] + [(way, first, tree) for tree in joins(second, new)]
 
 
-def placed(shape, row, col, sizes):
-    """The places of a tree's panes, by number, from its first row and column on."""
+def rects_of(shape, row, col, sizes):
+    """The rectangles of a tree's panes, by number, from its first row and column on."""
     if isinstance(shape, int):
-        return {shape: Place(row, col, *sizes[shape])}
+        return {shape: Rect(row, col, *sizes[shape])}
     rows, cols = extent(shape[1], sizes)
     second = (row, col + cols + 1) if shape[0] == "right" else (row + rows + 1, col)
-    return {**placed(shape[1], row, col, sizes), **placed(shape[2], *second, sizes)}
+    return {**rects_of(shape[1], row, col, sizes), **rects_of(shape[2], *second, sizes)}
 
 
-def neighbour(places, focus, way):
+def neighbour(rects, focus, way):
     """The pane that touches the one in focus on that side, nearest to its middle; None where none does."""
-    here = places[focus]
+    here = rects[focus]
     down, right = BESIDE[way]
     middle = (here.row + (here.rows - 1) / 2, here.col + (here.cols - 1) / 2)
     row = middle[0] if not down else here.row + (here.rows + 1 if down > 0 else -2)
     col = middle[1] if not right else here.col + (here.cols + 1 if right > 0 else -2)
-    found = [(distance(place, row, col), pane) for pane, place in places.items() if pane != focus and covers(place, row, col, right)]
+    found = [(distance(rect, row, col), pane) for pane, rect in rects.items() if pane != focus and covers(rect, row, col, right)]
     return min(found)[1] if found else None
 
 
-def covers(place, row, col, is_beside):
+def covers(rect, row, col, is_beside):
     """Whether a pane has the column to a side, or the row above or below."""
     if is_beside:
-        return place.col <= col < place.col + place.cols
-    return place.row <= row < place.row + place.rows
+        return rect.col <= col < rect.col + rect.cols
+    return rect.row <= row < rect.row + rect.rows
 
 
-def distance(place, row, col):
+def distance(rect, row, col):
     """How far a pane is from a point, along the side that it may lie off."""
-    below, beside = place.row + place.rows - 1, place.col + place.cols - 1
-    return max(place.row - row, row - below, 0) + max(place.col - col, col - beside, 0)
+    below, beside = rect.row + rect.rows - 1, rect.col + rect.cols - 1
+    return max(rect.row - row, row - below, 0) + max(rect.col - col, col - beside, 0)
 
 
-def write_places(path, places, focus):
+def write_rects(path, rects, focus):
     """Writes where the panes are: a line each, in the tree's order, and the focus."""
-    lines = [f"{pane} {place.row} {place.col} {place.rows} {place.cols}\n" for pane, place in places.items()]
+    lines = [f"{pane} {rect.row} {rect.col} {rect.rows} {rect.cols}\n" for pane, rect in rects.items()]
     replace_text(path, "".join(lines) + f"focus {focus}\n")
 
 
@@ -172,13 +173,13 @@ def replace_text(path, text):
     os.replace(new, path)
 
 
-def read_places(path):
-    """The places by number and the focus; none and 0 where they aren't told."""
+def read_rects(path):
+    """The rectangles by number and the focus; none and 0 where they aren't told."""
     try:
         with open(path, encoding="utf-8") as text:
             *lines, last = [line.split() for line in text]
-        places = {int(words[0]): Place(*map(int, words[1:])) for words in lines}
+        rects = {int(words[0]): Rect(*map(int, words[1:])) for words in lines}
         focus = int(last[1])
     except (OSError, ValueError):
         return {}, 0
-    return (places, focus) if focus in places else ({}, 0)
+    return (rects, focus) if focus in rects else ({}, 0)
