@@ -1,0 +1,3 @@
+pub mod Carriers
+pub mod Frames
+pub mod Queues

@@ -1,0 +1,13 @@
+//! Datagrams over a stream: each behind its length. What came and isn't given yet, what waits to be written, and both round a stream.
+#![tactic(auto)]
+
+mod carriers;
+mod frames;
+pub mod laws;
+mod outbox;
+mod queues;
+
+pub use carriers::Carrier;
+pub use frames::{Frames, Front, LONGEST_DATAGRAM};
+pub use outbox::Outbox;
+pub use queues::Queue;

@@ -1,0 +1,123 @@
+//! What waits for who reads at the other end of a stream.
+ghost use Rattle.std.specs.Prelude.{◌≡◌, ◌+◌, ◌++◌, ◌≤◌, true, false, length, drop, IfOk, OnOk, OnErr, IsOkUnless};
+ghost use Rattle.roam_frames.specs.Frames.{IsCarried, framed};
+ghost use Rattle.roam_frames.specs.Queues.{IsLost, IsQueued, index_of, may_queue, most_waiting, nothing_queued};
+
+use crate::frames::LONGEST_DATAGRAM;
+use crate::outbox::Outbox;
+use byteorder::{BigEndian, ByteOrder};
+use roam_cells::Fault;
+use std::alloc::Global;
+use std::marker::Model;
+
+/// While so little waits, an instruction more is queued.
+const LITTLE: usize = 65_536;
+
+/// The most that waits: behind that little the largest instruction, which is 2,755 datagrams of 3,421,092 bytes, each behind its length.
+const MOST_WAITING: usize = LITTLE + 3_421_092 + 2 * 2_755;
+
+/// How many bytes a datagram's header has, and at which of them its fragment's place in the instruction stands.
+const HEADER: usize = 42;
+
+const INDEX_AT: usize = 36;
+
+/// Datagrams that wait for who reads at the other end of a stream. They are kept by instruction: the datagrams of one are queued all, while
+/// little waits, or none of them is. At most 3,492,138 bytes wait.
+#[derive(Drop)]
+pub struct Queue {
+    outbox: Outbox,
+    takes: bool,
+}
+
+impl Model for Queue {
+    ghost use Rattle.std.specs.Prelude.{◌≤◌, length};
+    ghost use Rattle.roam_frames.specs.Queues.{Queued, most_waiting};
+
+    ghost Value = { Queued };
+
+    ghost view = { λ q. record { waiting = q.outbox; takes = q.takes } };
+
+    ghost invariant = { λ q. length q.outbox ≤ most_waiting };
+}
+
+// The place of a datagram's fragment in its instruction, from 0.
+fn index_of(datagram: &[u8]) -> u16
+    ensures index { result ≡ index_of datagram.now }
+{
+    if datagram.len() < HEADER {
+        return 0;
+    }
+    BigEndian::read_u16(datagram.split_at(INDEX_AT).1)
+}
+
+// Whether a datagram has a length that one may have.
+fn is_carried(datagram: &[u8]) -> bool
+    ensures carried { result ≡ true → IsCarried datagram.now }
+{
+    !datagram.is_empty() && datagram.len() <= LONGEST_DATAGRAM
+}
+
+// Adds a datagram behind its length, whole or not at all. Refuses want of memory.
+fn push(outbox: &mut Outbox, datagram: &[u8]) -> Result<(), Fault>
+    requires carried { IsCarried datagram.now }
+    ensures pushed { OnOk result (outbox.new ≡ outbox.old ++ framed datagram.now) }
+    ensures err { OnErr result (outbox.new ≡ outbox.old) }
+    ensures fault { IsOkUnless result Fault.OutOfMemory }
+{
+    let mut framed = [0u8; LONGEST_DATAGRAM + 2];
+    let len = datagram.len();
+    BigEndian::write_u16(&mut framed, len as u16);
+    framed[2..2 + len].copy_from_slice(datagram);
+    outbox.push(&framed[..2 + len])
+}
+
+impl Queue {
+    /// Nothing waits.
+    pub fn new(alloc: Global) -> Queue
+        ensures none { result ≡ nothing_queued }
+    {
+        Queue {
+            outbox: Outbox::new(alloc),
+            takes: false,
+        }
+    }
+
+    /// What waits.
+    pub fn as_slice(&self) -> &[u8]
+        ensures bytes { result.now ≡ self.now.waiting }
+        ensures most { length self.now.waiting ≤ most_waiting }
+    {
+        self.outbox.as_slice()
+    }
+
+    // Whether a datagram may be queued.
+    fn may_queue(&self, datagram: &[u8]) -> bool
+        ensures may { result ≡ may_queue self.now datagram.now }
+    {
+        if index_of(datagram) == 0 {
+            self.outbox.len() <= LITTLE
+        } else {
+            self.takes && self.outbox.len() + (datagram.len() + 2) <= MOST_WAITING
+        }
+    }
+
+    /// Queues a datagram, and tells whether it did. The first of an instruction is queued while at most 65,536 bytes wait, each later one
+    /// where those before it were: where one isn't, or there is no memory for it, it is lost, and so are those that follow it.
+    pub fn push(&mut self, datagram: &[u8]) -> bool
+        ensures queued { result ≡ true → IsQueued self.old datagram.now self.new }
+        ensures lost { result ≡ false → IsLost self.old self.new }
+    {
+        self.takes = is_carried(datagram)
+            && self.may_queue(datagram)
+            && push(&mut self.outbox, datagram).is_ok();
+        self.takes
+    }
+
+    /// The first so many bytes were written.
+    pub fn took(&mut self, count: usize)
+        requires within { count ≤ length self.old.waiting }
+        ensures left { self.new ≡ record self.old { waiting = drop count self.old.waiting } }
+    {
+        self.outbox.took(count);
+    }
+}
