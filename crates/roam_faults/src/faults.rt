@@ -25,6 +25,10 @@ pub enum RunFault {
     #[error("cannot bind")]
     Bind,
 
+    /// Nobody listens at a server's socket.
+    #[error("cannot connect")]
+    Connect,
+
     /// The line of this number, from 1, of a file of acts is no act.
     #[error("line {0}: bad act")]
     Act(u64),

@@ -64,8 +64,8 @@ fn front_in(kept: &[u8]) -> Front
     front_by(usize::from(BigEndian::read_u16(kept)), kept.len())
 }
 
-// The datagram that stands first of these bytes, where a whole one does.
-fn first(kept: &[u8]) -> Option<&[u8]>
+/// The datagram that stands first of these bytes, where a whole one does.
+pub fn first_in(kept: &[u8]) -> Option<&[u8]>
     ensures first { IfSome result (λ d. IsFirst kept.now d.now) }
     ensures none { result ≡ None → (n : ℕ) → front_of kept.now ≢ Front.Whole n }
 {
@@ -129,7 +129,7 @@ impl Frames {
         ensures within { IfSome result (λ n. n ≤ length buf.new) }
         ensures none { result ≡ None → (self.new ≡ self.old) × ((n : ℕ) → front_of self.old ≢ Front.Whole n) }
     {
-        let datagram = first(self.kept.as_slice())?;
+        let datagram = first_in(self.kept.as_slice())?;
         let framed = LENGTH + datagram.len();
         let count = fill(datagram, buf);
         drop_front(&mut self.kept, framed);

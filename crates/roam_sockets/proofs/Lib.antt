@@ -1,7 +1,2 @@
 mod Bound
-mod Cutting
-mod Lengths
-mod Reading
 mod Running
-mod Standing
-mod Streams

@@ -10,10 +10,10 @@ use Rattle.roam_faults.specs.declared.faults.RunFault.TheVariants as run
 use Rattle.roam_hub.specs.Clients.{ClientView}
 use Rattle.roam_hub.specs.declared.addresses.Addr.{Addr}
 use Rattle.roam_turns.specs.Turns.{Types}
-use Rattle.roam_sockets.specs.declared.typing.ActLines.{ActLines}
-use Rattle.roam_sockets.specs.declared.typing.Stream.{Stream}
-use Rattle.roam_sockets.specs.declared.typing.Stream.TheVariants.{Absent, Open, Ended, Spoiled, SpoiledLast}
-use Rattle.roam_sockets.specs.Typing.{HasCome, Reads, Stands, longest_piece, refused_at}
+use Rattle.roam_typing.specs.declared.typing.ActLines.{ActLines}
+use Rattle.roam_typing.specs.declared.typing.Stream.{Stream}
+use Rattle.roam_typing.specs.declared.typing.Stream.TheVariants.{Absent, Open, Ended, Spoiled, SpoiledLast}
+use Rattle.roam_typing.specs.Typing.{HasCome, Reads, Stands, longest_piece, refused_at}
 use Rattle.roam_sockets.specs.Runs.{IsHanded, IsOver, IsPending, RunsOn, TakesTurn, TakesTurns, Turn, longest_end, taken_in, taken_of}
 
 abbrev pub turn_of : Option Act → Bool → Turn
@@ -162,12 +162,20 @@ module _ (to to' : Addr) (before between after : Option (List ℕ)) (old mid new
       (runs_both to before between after old mid new client client' client'' m 1 so_far one)
 
   -- the run is over after it, however it ends
-  pub ends_well : {A : Type 0} (r : Result A RunFault) (all since moment : ℕ) → RunsOn to between after mid new client' client'' 1
+  pub ends_well : {A : Type 0} (r : Result A RunFault) (Ended : Type 0) (all since moment : ℕ) → RunsOn to between after mid new client' client'' 1
       → IsOver new client'' since moment
       → IfOk r (λ _. (turns : ℕ) × RunsOn to' before after old new client client'' turns
-      × ((turns ≡ all) ⊎ ((seen : ℕ) × IsOver new client'' seen moment)))
-  ends_well (Ok a) all since moment one over = (m + 1, more_runs one, inr (since, over))
-  ends_well (Err e) all since moment one over = tt
+      × ((turns ≡ all) ⊎ ((seen : ℕ) × IsOver new client'' seen moment) ⊎ Ended))
+  ends_well (Ok a) Ended all since moment one over = (m + 1, more_runs one, inr (inl (since, over)))
+  ends_well (Err e) Ended all since moment one over = tt
+
+  -- the same where the server has ended
+  pub ends_with_server : {A : Type 0} (r : Result A RunFault) (Ended : Type 0) (all moment : ℕ) → RunsOn to between after mid new client' client'' 1
+      → Ended
+      → IfOk r (λ _. (turns : ℕ) × RunsOn to' before after old new client client'' turns
+      × ((turns ≡ all) ⊎ ((seen : ℕ) × IsOver new client'' seen moment) ⊎ Ended))
+  ends_with_server (Ok a) Ended all moment one ended = (m + 1, more_runs one, inr (inr ended))
+  ends_with_server (Err e) Ended all moment one ended = tt
 
   pub ends_badly : {A : Type 0} (r : Result A RunFault) → RunsOn to between after mid new client' client'' 1
       → IfErr r (λ fault. (fault ≡ run.Core OutOfMemory) ⊎ ((turns : ℕ) × RunsOn to' before after old new client client'' turns))
@@ -212,10 +220,10 @@ pub told : {A : Type 0} (to : Addr) (before after : Option (List ℕ)) (old new 
     × (refused_at new.stream new.waiting.items ≡ Some k)))
     → IfErr r (IsBrokenOff to before after old new client client')
     → IfErr r (λ fault. (fault ≡ run.Core OutOfMemory) ⊎ (fault ≡ run.Read) ⊎ ((k : ℕ) × (fault ≡ run.Act (k + 1)))
-    ⊎ (fault ≡ run.Bind) ⊎ (fault ≡ run.Write))
+    ⊎ (fault ≡ run.Bind) ⊎ (fault ≡ run.Write) ⊎ (fault ≡ run.Connect))
 told to before after old new client client' first (Ok a) stands why broken = tt
 told to before after old new client client' first (Err e) stands (inl full) broken = inl full
-told to before after old new client client' first (Err e) stands (inr (inl unwritten)) broken = inr (inr (inr (inr unwritten)))
+told to before after old new client client' first (Err e) stands (inr (inl unwritten)) broken = inr (inr (inr (inr (inl unwritten))))
 told to before after old new client client' first (Err e) stands (inr (inr (k, is, refused))) (inl full) = inl full
 told to before after old new client client' first (Err e) stands (inr (inr (k, is, refused))) (inr (turns, so_far)) =
     let n = numbered new first so_far.bytes (taken_in so_far.turns) k (so_far.stands first [] [] stands) refused in

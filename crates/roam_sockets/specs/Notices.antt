@@ -2,7 +2,7 @@
 use Rattle.std.specs.Prelude.{ℕ, ◌-◌, ◌/◌, ◌&&◌, ◌==◌, not, nat_le, nat_lt, Bool, true, false, List, ◌∷◌, ◌++◌, Option, Some, None, is_some, if◌then◌else◌, codes, decimal}
 use Rattle.roam_sockets.specs.declared.silence.Silence.{Silence}
 use Rattle.roam_sockets.specs.declared.silence.End.{End}
-use Rattle.roam_sockets.specs.declared.silence.End.TheVariants.{Heard, Silent, Unheard}
+use Rattle.roam_sockets.specs.declared.silence.End.TheVariants.{Gone, Heard, Silent, Unheard}
 
 -- when something was heard last, or the beginning where nothing was
 abbrev pub last_heard : Option ℕ → ℕ
@@ -33,6 +33,10 @@ ends_after seconds = if nat_lt seconds 10 then Heard else Silent seconds
 -- what was heard of the server at the end
 abbrev pub end_of : Silence → End
 end_of s = if is_some s.heard then ends_after (seconds_of s) else Unheard
+
+-- what was heard of it where it is seen to have ended, or not
+abbrev pub end_by : Bool → Silence → End
+end_by ended s = if ended then Gone else end_of s
 
 -- since when writing fails: since the first of the failures in a row
 abbrev pub failing_after : Option ℕ → Bool → ℕ → Option ℕ

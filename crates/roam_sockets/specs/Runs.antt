@@ -8,14 +8,24 @@ use Rattle.roam_turns.specs.Cores.{client_step}
 use Rattle.roam_turns.specs.Parts.{Makes}
 use Rattle.roam_turns.specs.Turns.{AttachTurn}
 use Rattle.roam_turns.specs.declared.outer.Noted.{Noted}
-use Rattle.roam_sockets.specs.declared.typing.ActLines.{ActLines}
-use Rattle.roam_sockets.specs.declared.typing.Stream.{Stream}
-use Rattle.roam_sockets.specs.declared.typing.Stream.TheVariants.{Absent, Open, Ended, Spoiled, SpoiledLast}
-use Rattle.roam_sockets.specs.Typing.{Stands}
+use Rattle.roam_wire.specs.declared.versions.Version.{Version}
+use Rattle.roam_wire.specs.declared.versions.Version.TheVariants.{One, Two}
+use Rattle.roam_sockets.specs.declared.attaching.Home.{Home}
+use Rattle.roam_sockets.specs.declared.attaching.Home.TheVariants.{Port, Folder}
+use Rattle.roam_typing.specs.declared.typing.ActLines.{ActLines}
+use Rattle.roam_typing.specs.declared.typing.Stream.{Stream}
+use Rattle.roam_typing.specs.declared.typing.Stream.TheVariants.{Absent, Open, Ended, Spoiled, SpoiledLast}
+use Rattle.roam_typing.specs.Typing.{Stands}
 
--- a port of this machine
-abbrev pub home_of : ℕ → Addr
-home_of port = record { host = 127 ∷ 0 ∷ 0 ∷ 1 ∷ []; port = port }
+-- where a server is reached: at a port of this machine, or at the other end of a stream
+abbrev pub home_of : Home → Addr
+home_of (Port port) = record { host = 127 ∷ 0 ∷ 0 ∷ 1 ∷ []; port = port }
+home_of (Folder folder) = record { host = 0 ∷ 0 ∷ 0 ∷ 0 ∷ []; port = 0 }
+
+-- a start only watches in version 2
+abbrev pub is_two : Version → Bool
+is_two One = false
+is_two Two = true
 
 -- which act a turn was handed, if any, and whether it took it
 pub record Turn : Type 0 where

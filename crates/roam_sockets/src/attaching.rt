@@ -1,24 +1,24 @@
 //! `roam attach`: a client start round its socket and the outer terminal.
-ghost use Rattle.std.specs.Prelude.{◌≡◌, ◌⊎◌, ◌+◌, ◌-◌, ◌<◌, [], ℕ, true, false, None, Some, All, IfErr, IfOk, OnOk, IsOkUnless};
+ghost use Rattle.std.specs.Prelude.{◌≡◌, ◌⊎◌, ◌+◌, ◌-◌, ◌<◌, [], ◌&&◌, ℕ, true, false, None, Some, Ok, All, IfErr, IfOk, OnOk, IsOkUnless};
 ghost use Rattle.roam_acts.specs.Acts.{IsInRange};
 ghost use Rattle.roam_turns.specs.Painting.{IsBehind};
-ghost use Rattle.roam_sockets.specs.Notices.{end_of};
-ghost use Rattle.roam_sockets.specs.Runs.{IsHanded, IsOver, IsPending, IsSettled, RunsOn, TakesTurn, Turn, home_of, longest_end, seen_at};
-ghost use Rattle.roam_sockets.specs.Typing.{refused_at};
-ghost use Rattle.roam_sockets.specs.declared.typing.Stream.TheVariants.{Ended};
+ghost use Rattle.roam_sockets.specs.Notices.{end_by};
+ghost use Rattle.roam_sockets.specs.Runs.{IsHanded, IsOver, IsPending, IsSettled, RunsOn, TakesTurn, Turn, home_of, is_two, longest_end, seen_at};
+ghost use Rattle.roam_sockets.specs.Ways.{has_ended};
+ghost use Rattle.roam_typing.specs.Typing.{refused_at};
+ghost use Rattle.roam_typing.specs.declared.typing.Stream.TheVariants.{Ended};
 
-use crate::keys::acts_of;
-use crate::links::loopback;
-use crate::moments::Moments;
-use crate::ports::ClientPorts;
+use crate::client_ports::{ClientPorts, OTHER_END};
 use crate::silence::End;
-use crate::typing::Typist;
 use mio::net::UnixStream;
 use roam_acts::Act;
 use roam_cells::Fault;
 use roam_faults::RunFault;
 use roam_hub::{Addr, Client};
+use roam_links::{Moments, loopback};
+use roam_numbers::id;
 use roam_turns::{Outer, attach_turn};
+use roam_typing::{Typist, acts_of};
 use roam_wire::Version;
 use std::alloc::Global;
 use std::fs;
@@ -26,6 +26,7 @@ use std::fs::Files;
 use std::io::{ErrorKind, Read, Write};
 use std::net::Net;
 use std::os::fd::RawFd;
+use std::random::RandomSource;
 use std::time::Clock;
 
 /// How many milliseconds a run goes on at most after the end of the stream of its acts was seen.
@@ -44,15 +45,25 @@ pub enum Typed<'a> {
     Socket(&'a str),
 }
 
+/// Where a server is reached.
+#[derive(Clone, Copy, Debug, PartialEq, Eq)]
+pub enum Home<'a> {
+    /// At a port on loopback.
+    Port(u16),
+
+    /// At the socket for client starts in its folder.
+    Folder(&'a str),
+}
+
 /// What `roam attach` is asked for.
 #[derive(Clone, Copy, Debug, PartialEq, Eq)]
 pub struct Attach<'a> {
-    /// The server's port on loopback.
-    pub port: u16,
-    /// The session's id.
-    pub session: u64,
-    /// The id of this client start.
-    pub client: u64,
+    /// Where the server is reached.
+    pub home: Home<'a>,
+    /// The session's id; where it isn't given, that of the file `session` in the server's folder.
+    pub session: Option<u64>,
+    /// The id of this client start; where it isn't given, one by chance.
+    pub client: Option<u64>,
     /// Where the acts to type come from.
     pub typed: Typed<'a>,
     /// The version that this client start speaks.
@@ -92,15 +103,79 @@ fn acts_for<R: Files + AllocGlobal>(rt: &R, attach: &Attach<'_>) -> Result<Vec<A
     }
 }
 
-// The start of a client that is asked for.
-fn client_for(alloc: Global, attach: &Attach<'_>) -> Result<Client, Fault>
-    ensures fault { IsOkUnless result Fault.OutOfMemory }
+// The address of the server that is asked for.
+fn home_of(home: Home<'_>) -> Addr
+    ensures home { result ≡ home_of home.entry }
 {
-    match attach.version {
-        Version::One => Client::old(alloc, attach.session, attach.client),
-        Version::Two if attach.watches => Client::watching(alloc, attach.session, attach.client),
-        Version::Two => Client::new(alloc, attach.session, attach.client),
+    match home {
+        Home::Port(port) => loopback(port),
+        Home::Folder(_) => OTHER_END,
     }
+}
+
+// The id that the file `session` in a server's folder has.
+fn session_in<R: Files + AllocGlobal>(rt: &R, folder: &str) -> Result<u64, RunFault>
+    ensures faults { IfErr result (λ fault. (fault ≡ RunFault.Core Fault.OutOfMemory) ⊎ (fault ≡ RunFault.Read)) }
+{
+    let Ok(path) = format!(in rt.alloc(); "{folder}/session") else {
+        return Err(RunFault::Core(Fault::OutOfMemory));
+    };
+    let Ok(text) = fs::read(rt, path.as_str()) else {
+        return Err(RunFault::Read);
+    };
+    id(text.trim_ascii_end()).ok_or(RunFault::Read)
+}
+
+// The session that is asked for.
+fn session_for<R: Files + AllocGlobal>(rt: &R, attach: &Attach<'_>) -> Result<u64, RunFault>
+    ensures given { (id : ℕ) → attach.now.session ≡ Some id → result ≡ Ok id }
+    ensures faults { IfErr result (λ fault. (fault ≡ RunFault.Core Fault.OutOfMemory) ⊎ (fault ≡ RunFault.Read)) }
+{
+    match (attach.session, attach.home) {
+        (Some(session), _) => Ok(session),
+        (None, Home::Folder(folder)) => session_in(rt, folder),
+        (None, Home::Port(_)) => Err(RunFault::Read),
+    }
+}
+
+/// An id by chance. `Read` where the system has none to offer.
+pub(crate) fn random_id(chance: &impl RandomSource) -> Result<u64, RunFault>
+    ensures fault { IsOkUnless result RunFault.Read }
+{
+    let mut bytes = [0u8; 8];
+    match chance.fill_bytes(&mut bytes) {
+        Ok(()) => Ok(u64::from_be_bytes(bytes)),
+        Err(_) => Err(RunFault::Read),
+    }
+}
+
+// The id of the client start that is asked for.
+fn id_for(chance: &impl RandomSource, attach: &Attach<'_>) -> Result<u64, RunFault>
+    ensures given { (id : ℕ) → attach.now.client ≡ Some id → result ≡ Ok id }
+    ensures fault { IsOkUnless result RunFault.Read }
+{
+    match attach.client {
+        Some(id) => Ok(id),
+        None => random_id(chance),
+    }
+}
+
+// The start of a client that is asked for.
+fn client_for<R: Files + RandomSource + AllocGlobal>(rt: &R, attach: &Attach<'_>) -> Result<Client, RunFault>
+    ensures session { IfOk result (λ client. (id : ℕ) → attach.now.session ≡ Some id → client.session ≡ id) }
+    ensures id { IfOk result (λ client. (id : ℕ) → attach.now.client ≡ Some id → client.id ≡ id) }
+    ensures version { IfOk result (λ client. client.version ≡ attach.now.version) }
+    ensures watches { IfOk result (λ client. client.watches ≡ (attach.now.watches && is_two attach.now.version)) }
+    ensures faults { IfErr result (λ fault. (fault ≡ RunFault.Core Fault.OutOfMemory) ⊎ (fault ≡ RunFault.Read)) }
+{
+    let session = session_for(rt, attach)?;
+    let id = id_for(rt, attach)?;
+    let client = match attach.version {
+        Version::One => Client::old(rt.alloc(), session, id)?,
+        Version::Two if attach.watches => Client::watching(rt.alloc(), session, id)?,
+        Version::Two => Client::new(rt.alloc(), session, id)?,
+    };
+    Ok(client)
 }
 
 // The act that waits next is handed to a turn of a start, where one waits; where nothing is taken the program rests. `Act` where none waits
@@ -132,6 +207,7 @@ fn type_turn<C: Clock + Drop, W: Write + Drop, T: Read>(
     }
     if attach_turn(alloc, client, shown, ports, to, typist.next()) {
         typist.took();
+        ports.flush();
         return Ok(());
     }
     ports.rest();
@@ -173,11 +249,14 @@ fn is_over<C: Clock + Drop, W: Write + Drop, T: Read>(
 // How a run ends that was not broken off.
 fn ended<C: Clock + Drop, W: Write + Drop>(ports: &ClientPorts<C, W>) -> Result<End, RunFault>
     ensures fault { IsOkUnless result RunFault.Write }
-    ensures well { IfOk result (λ _. (ports.now.failing ≡ None) × (ports.now.link.unread ≡ false)) }
-    ensures heard { IfOk result (λ end. end ≡ end_of ports.now.silence) }
+    ensures well { IfOk result (λ _. (ports.now.failing ≡ None) × (ports.now.waits.unread ≡ false)) }
+    ensures heard { IfOk result (λ end. end ≡ end_by (has_ended ports.now.way) ports.now.silence) }
 {
     if ports.is_unread() || ports.has_failed() {
         return Err(RunFault::Write);
+    }
+    if ports.has_ended() {
+        return Ok(End::Gone);
     }
     Ok(ports.end())
 }
@@ -193,22 +272,23 @@ fn follow<C: Clock + Drop, W: Write + Drop, T: Read>(
     ports: &mut ClientPorts<C, W>,
 ) -> Result<End, RunFault>
     requires in_range { All IsInRange typist.old.lines.waiting.items }
-    ensures well { IfOk result (λ _. (ports.new.failing ≡ None) × (ports.new.link.unread ≡ false)) }
-    ensures heard { IfOk result (λ end. end ≡ end_of ports.new.silence) }
-    // All turns were taken, or the stream's acts are over.
-    ensures typed { IfOk result (λ _. (turns : ℕ) × RunsOn (home_of attach.now.port) (T.remaining typist.old.reader)
+    ensures well { IfOk result (λ _. (ports.new.failing ≡ None) × (ports.new.waits.unread ≡ false)) }
+    ensures heard { IfOk result (λ end. end ≡ end_by (has_ended ports.new.way) ports.new.silence) }
+    // All turns were taken, or the stream's acts are over, or the server has ended.
+    ensures typed { IfOk result (λ _. (turns : ℕ) × RunsOn (home_of attach.now.home) (T.remaining typist.old.reader)
         (T.remaining typist.new.reader) typist.old.lines typist.new.lines client.old client.new turns
-        × ((turns ≡ attach.now.turns) ⊎ ((since : ℕ) × IsOver typist.new.lines client.new since ports.new.silence.moment))) }
+        × ((turns ≡ attach.now.turns) ⊎ ((since : ℕ) × IsOver typist.new.lines client.new since ports.new.silence.moment)
+        ⊎ (has_ended ports.new.way ≡ true))) }
     ensures faults { IfErr result (λ fault. (fault ≡ RunFault.Core Fault.OutOfMemory) ⊎ (fault ≡ RunFault.Write)
         ⊎ ((k : ℕ) × (fault ≡ RunFault.Act k)
         × (refused_at typist.new.lines.stream typist.new.lines.waiting.items ≡ Some k))) }
     ensures broken_off { IfErr result (λ fault. (fault ≡ RunFault.Core Fault.OutOfMemory) ⊎ ((turns : ℕ)
-        × RunsOn (home_of attach.now.port) (T.remaining typist.old.reader) (T.remaining typist.new.reader)
+        × RunsOn (home_of attach.now.home) (T.remaining typist.old.reader) (T.remaining typist.new.reader)
         typist.old.lines typist.new.lines client.old client.new turns)) }
 {
     let mut shown = Outer::new();
     let mut since = None;
-    let to = loopback(attach.port);
+    let to = home_of(attach.home);
     for _ in 0..attach.turns {
         type_turn(alloc, typist, client, &mut shown, ports, to)?;
         if ports.tell_silence(alloc) {
@@ -216,6 +296,9 @@ fn follow<C: Clock + Drop, W: Write + Drop, T: Read>(
         }
         if ports.is_unread() || ports.has_given_up() {
             return Err(RunFault::Write);
+        }
+        if ports.has_ended() {
+            return ended(ports);
         }
         if is_over(typist, client, ports, &mut since) {
             return ended(ports);
@@ -230,9 +313,14 @@ fn ports_for<'r, R: Net + Clock + AllocGlobal, W: Write + Drop>(
     attach: &Attach<'_>,
     outer: W,
 ) -> Result<ClientPorts<&'r R, W>, RunFault>
-    ensures faults { IfErr result (λ fault. (fault ≡ RunFault.Core Fault.OutOfMemory) ⊎ (fault ≡ RunFault.Bind)) }
+    ensures faults { IfErr result (λ fault. (fault ≡ RunFault.Core Fault.OutOfMemory) ⊎ (fault ≡ RunFault.Bind)
+        ⊎ (fault ≡ RunFault.Connect)) }
 {
-    let mut ports = ClientPorts::bind(rt, rt.alloc(), Moments::real(rt), outer)?;
+    let moments = Moments::real(rt);
+    let mut ports = match attach.home {
+        Home::Port(_) => ClientPorts::bind(rt, rt.alloc(), moments, outer)?,
+        Home::Folder(folder) => ClientPorts::connect(rt, rt.alloc(), folder, moments, outer)?,
+    };
     if let Some(descriptor) = attach.painted_to {
         ports.watch(descriptor);
     }
@@ -240,35 +328,37 @@ fn ports_for<'r, R: Net + Clock + AllocGlobal, W: Write + Drop>(
 }
 
 // Types the acts of a file, or none.
-fn follow_file<R: Files + Net + Clock + AllocGlobal, W: Write + Drop>(
+fn follow_file<R: Files + Net + Clock + RandomSource + AllocGlobal, W: Write + Drop>(
     rt: &R,
     attach: &Attach<'_>,
     outer: W,
 ) -> Result<End, RunFault>
     ensures faults { IfErr result (λ fault. (fault ≡ RunFault.Core Fault.OutOfMemory) ⊎ (fault ≡ RunFault.Read)
-        ⊎ ((k : ℕ) × (fault ≡ RunFault.Act (k + 1))) ⊎ (fault ≡ RunFault.Bind) ⊎ (fault ≡ RunFault.Write)) }
+        ⊎ ((k : ℕ) × (fault ≡ RunFault.Act (k + 1))) ⊎ (fault ≡ RunFault.Bind) ⊎ (fault ≡ RunFault.Write)
+        ⊎ (fault ≡ RunFault.Connect)) }
 {
     let acts = acts_for(rt, attach)?;
-    let mut client = client_for(rt.alloc(), attach)?;
+    let mut client = client_for(rt, attach)?;
     let mut ports = ports_for(rt, attach, outer)?;
     let mut typist = Typist::holding(rt.alloc(), acts);
     follow(rt.alloc(), attach, &mut typist, &mut client, &mut ports)
 }
 
 // Types the acts that come over a Unix socket.
-fn follow_socket<R: Net + Clock + AllocGlobal, W: Write + Drop>(
+fn follow_socket<R: Files + Net + Clock + RandomSource + AllocGlobal, W: Write + Drop>(
     rt: &R,
     attach: &Attach<'_>,
     path: &str,
     outer: W,
 ) -> Result<End, RunFault>
     ensures faults { IfErr result (λ fault. (fault ≡ RunFault.Core Fault.OutOfMemory) ⊎ (fault ≡ RunFault.Read)
-        ⊎ ((k : ℕ) × (fault ≡ RunFault.Act (k + 1))) ⊎ (fault ≡ RunFault.Bind) ⊎ (fault ≡ RunFault.Write)) }
+        ⊎ ((k : ℕ) × (fault ≡ RunFault.Act (k + 1))) ⊎ (fault ≡ RunFault.Bind) ⊎ (fault ≡ RunFault.Write)
+        ⊎ (fault ≡ RunFault.Connect)) }
 {
     let Ok(mut stream) = UnixStream::connect(rt, path) else {
         return Err(RunFault::Read);
     };
-    let mut client = client_for(rt.alloc(), attach)?;
+    let mut client = client_for(rt, attach)?;
     let mut ports = ports_for(rt, attach, outer)?;
     ports.watch_stream(&mut stream);
     let mut typist = Typist::of(rt.alloc(), stream);
@@ -284,15 +374,17 @@ fn follow_socket<R: Net + Clock + AllocGlobal, W: Write + Drop>(
 /// ended by LF but maybe the last. A line that is no act, or has more than 64 bytes, is `Act` once all acts before it were taken. Where the
 /// stream is at its end, or reading it fails, the run ends as soon as all acts were taken and are acknowledged, or after a second.
 ///
-/// `Bind` where no port can be bound, `Write` where nobody reads what is painted any more, showing it has failed for half a second, or the
+/// `Bind` where no port can be bound, `Connect` where nobody listens in the server's folder, `Read` where its file `session` has no id and
+/// none was given, `Write` where nobody reads what is painted any more, showing it has failed for half a second, or the
 /// outer terminal took not all of what was last shown; `OutOfMemory`.
-pub fn follow_session<R: Files + Net + Clock + AllocGlobal, W: Write + Drop>(
+pub fn follow_session<R: Files + Net + Clock + RandomSource + AllocGlobal, W: Write + Drop>(
     rt: &R,
     attach: &Attach<'_>,
     outer: W,
 ) -> Result<End, RunFault>
     ensures faults { IfErr result (λ fault. (fault ≡ RunFault.Core Fault.OutOfMemory) ⊎ (fault ≡ RunFault.Read)
-        ⊎ ((k : ℕ) × (fault ≡ RunFault.Act (k + 1))) ⊎ (fault ≡ RunFault.Bind) ⊎ (fault ≡ RunFault.Write)) }
+        ⊎ ((k : ℕ) × (fault ≡ RunFault.Act (k + 1))) ⊎ (fault ≡ RunFault.Bind) ⊎ (fault ≡ RunFault.Write)
+        ⊎ (fault ≡ RunFault.Connect)) }
 {
     match attach.typed {
         Typed::Socket(path) if !attach.watches => follow_socket(rt, attach, path, outer),
@@ -302,13 +394,14 @@ pub fn follow_session<R: Files + Net + Clock + AllocGlobal, W: Write + Drop>(
 
 /// Follows a session as `follow_session` does, and tells on standard error how that ended where it took all its turns, or its stream of
 /// acts was over.
-pub fn run_attach<R: Files + Net + Clock + Eprint + AllocGlobal, W: Write + Drop>(
+pub fn run_attach<R: Files + Net + Clock + RandomSource + Eprint + AllocGlobal, W: Write + Drop>(
     rt: &R,
     attach: &Attach<'_>,
     outer: W,
 ) -> Result<(), RunFault>
     ensures faults { IfErr result (λ fault. (fault ≡ RunFault.Core Fault.OutOfMemory) ⊎ (fault ≡ RunFault.Read)
-        ⊎ ((k : ℕ) × (fault ≡ RunFault.Act (k + 1))) ⊎ (fault ≡ RunFault.Bind) ⊎ (fault ≡ RunFault.Write)) }
+        ⊎ ((k : ℕ) × (fault ≡ RunFault.Act (k + 1))) ⊎ (fault ≡ RunFault.Bind) ⊎ (fault ≡ RunFault.Write)
+        ⊎ (fault ≡ RunFault.Connect)) }
 {
     let end = follow_session(rt, attach, outer)?;
     // There is nowhere else to say it.

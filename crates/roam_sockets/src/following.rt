@@ -3,12 +3,12 @@ ghost use Rattle.std.specs.Prelude.{◌≡◌, ◌⊎◌, ◌++◌, ◌≤◌, �
 ghost use Rattle.roam_pane_list.specs.Known.{nothing};
 ghost use Rattle.roam_sockets.specs.Following.{IsFresh, Tells, news, panes_path, room};
 
-use crate::files::listen;
 use crate::peers::Peer;
 use mio::net::UnixListener;
 use mio::{Interest, Registry, Token};
 use roam_cells::Fault;
 use roam_faults::RunFault;
+use roam_links::listen;
 use roam_pane_list::{PaneList, lines_between};
 use std::alloc::Global;
 use std::fs::{Files, remove_file};

@@ -2,23 +2,16 @@
 #![tactic(auto)]
 
 mod attaching;
-mod files;
+mod client_ports;
 mod following;
-mod keys;
-mod links;
-mod moments;
 mod panes;
 mod peers;
-mod ports;
+mod server_ports;
 mod serving;
 mod silence;
-mod typing;
 
-pub use attaching::{Attach, Typed, follow_session, run_attach};
-pub use keys::acts_of;
-pub use links::loopback;
-pub use moments::Moments;
-pub use ports::{ClientPorts, ServerPorts};
+pub use attaching::{Attach, Home, Typed, follow_session, run_attach};
+pub use client_ports::ClientPorts;
+pub use server_ports::ServerPorts;
 pub use serving::{Serve, run_serve};
 pub use silence::End;
-pub use typing::Typist;

@@ -4,12 +4,12 @@ ghost use Rattle.std.specs.List.{All};
 ghost use Rattle.roam_sockets.specs.Panes.{path_of, paths_of};
 ghost use Rattle.roam_sockets.specs.Peers.{Changes, Lives, Asks};
 
-use crate::files::listen;
 use crate::peers::{Making, live, read, write};
 use mio::net::UnixListener;
 use mio::{Interest, Registry, Token};
 use roam_cells::Fault;
 use roam_faults::RunFault;
+use roam_links::listen;
 use std::alloc::Global;
 use std::fs::{Files, remove_file};
 use std::net::Net;

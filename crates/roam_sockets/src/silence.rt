@@ -27,6 +27,9 @@ pub enum End {
 
     /// It never heard anything.
     Unheard,
+
+    /// The server has ended.
+    Gone,
 }
 
 impl Display for End {
@@ -35,6 +38,7 @@ impl Display for End {
             End::Heard => write!(f, "the turns are over"),
             End::Silent(seconds) => write!(f, "the turns are over, no answer for {seconds} s"),
             End::Unheard => write!(f, "the turns are over, no server answered"),
+            End::Gone => write!(f, "the server has ended"),
         }
     }
 }

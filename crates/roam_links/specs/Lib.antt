@@ -1,0 +1,4 @@
+pub mod Addresses
+pub mod Clients
+pub mod Pace
+pub mod Waits

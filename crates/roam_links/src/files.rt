@@ -1,0 +1,65 @@
+//! The files of sockets, the folder that they lie in, and what its user alone may read.
+use mio::net::{UnixListener, UnixStream};
+use std::fs::{Files, OpenOptions, metadata, remove_file, rename, symlink_metadata};
+use std::io;
+use std::io::{ErrorKind, Write};
+use std::net::Net;
+use std::os::unix::fs::{FileTypeExt, MetadataExt, OpenOptionsExt};
+
+/// What the system tells of this process, whose owner its user is.
+const PROCESS: &str = "/proc/self";
+
+/// The permissions of a file that its owner alone may read and write, and those of a folder that concern others.
+const OWN_FILE: u32 = 0o600;
+
+const OTHERS: u32 = 0o077;
+
+// Whether nobody listens at a socket's file.
+fn is_refused(net: &impl Net, path: &str) -> bool {
+    match UnixStream::connect(net, path) {
+        Ok(_) => false,
+        Err(error) => error.kind() == ErrorKind::ConnectionRefused,
+    }
+}
+
+// Whether a file is a socket's to which nobody listens. A file of any other kind is none, though a call to it is refused too.
+fn is_left_behind<R: Files + Net>(rt: &R, path: &str) -> bool {
+    match symlink_metadata(rt, path) {
+        Ok(metadata) => metadata.file_type().is_socket() && is_refused(rt, path),
+        Err(_) => false,
+    }
+}
+
+/// A listener at a path, where one can be bound. A socket's file to which nobody listens, as a server leaves it that was ended from
+/// outside, is removed first; any other file stays, and nothing is bound.
+pub fn listen<R: Files + Net>(rt: &R, path: &str) -> Option<UnixListener> {
+    if let Ok(listener) = UnixListener::bind(rt, path) {
+        return Some(listener);
+    }
+    if !is_left_behind(rt, path) {
+        return None;
+    }
+    remove_file(rt, path).ok()?;
+    UnixListener::bind(rt, path).ok()
+}
+
+/// Whether a folder is this user's own, and no link to one; where it has to be theirs alone, whether nobody else may enter it.
+pub fn is_own(files: &impl Files, folder: &str, is_alone: bool) -> bool {
+    let (Ok(found), Ok(process)) = (symlink_metadata(files, folder), metadata(files, PROCESS))
+    else {
+        return false;
+    };
+    found.is_dir() && found.uid() == process.uid() && (!is_alone || found.mode() & OTHERS == 0)
+}
+
+/// Writes a file that this user alone may read, whole or not at all: it is written under another name beside, and renamed.
+pub fn write_alone(files: &impl Files, beside: &str, path: &str, text: &[u8]) -> io::Result<()> {
+    // What an earlier run left there is no matter.
+    let _ = remove_file(files, beside);
+    let mut options = OpenOptions::new();
+    options.write(true).create_new(true).mode(OWN_FILE);
+    let mut file = options.open(files, beside)?;
+    file.write_all(text)?;
+    drop(file);
+    rename(files, beside, path)
+}

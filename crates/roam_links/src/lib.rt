@@ -1,0 +1,16 @@
+//! How programs of one machine reach each other: UDP on loopback, streams that carry datagrams, the files of sockets; and how they wait.
+#![tactic(auto)]
+
+mod clients;
+mod files;
+pub mod laws;
+mod moments;
+mod pace;
+mod udp;
+mod waits;
+
+pub use clients::{Clients, address_of};
+pub use files::{is_own, listen, write_alone};
+pub use moments::Moments;
+pub use udp::{Udp, loopback};
+pub use waits::Waits;

@@ -1,0 +1,53 @@
+//! Moments in milliseconds.
+ghost use Rattle.std.specs.Prelude.{◌≡◌, ℕ, Option, None};
+
+use std::time::{Clock, Instant};
+
+/// Where moments come from: a clock, or a caller who sets them.
+#[derive(Drop)]
+pub enum Moments<R> {
+    Real {
+        clock: R,
+        start: Option<Instant>,
+        last: u64,
+    },
+    Set(u64),
+}
+
+impl<R: Clock + Drop> Moments<R> {
+    /// Moments of a clock, from 0 where it is asked first on.
+    pub fn real(clock: R) -> Moments<R>
+        ensures real { result ≡ Moments.Real clock None 0 }
+    {
+        Moments::Real {
+            clock,
+            start: None,
+            last: 0,
+        }
+    }
+
+    /// The moment now, or the one before where the clock fails.
+    pub fn now(&mut self) -> u64
+        ensures set { (moment : ℕ) → self.old ≡ Moments.Set moment → result ≡ moment }
+        ensures stays { (moment : ℕ) → self.old ≡ Moments.Set moment → self.new ≡ self.old }
+        ensures last { (clock : R) (start : Option Instant) (last : ℕ) → self.new ≡ Moments.Real clock start last → result ≡ last }
+    {
+        match self {
+            Moments::Set(moment) => *moment,
+            Moments::Real { clock, start, last } => {
+                if start.is_none() {
+                    *start = Instant::now(clock).ok();
+                } else if let Some(moment) = passed(clock, start) {
+                    *last = moment;
+                }
+                *last
+            }
+        }
+    }
+}
+
+// How many milliseconds passed since the start, where the clock tells.
+fn passed<R: Clock>(clock: &R, start: &Option<Instant>) -> Option<u64> {
+    let passed = start.as_ref()?.elapsed(clock).ok()?;
+    u64::try_from(passed.as_millis()).ok()
+}

@@ -1,0 +1,43 @@
+-- What a line of an outer terminal asks for (this project's profile): a word of its connection, or acts, with ` ; ` between them.
+use Rattle.std.specs.Prelude.{◌≡◌, ◌≢◌, ℕ, zero, suc, ◌+◌, ◌==◌, ◌&&◌, Bool, List, [], ◌∷◌, take, drop, slice_index, Option, Some, None, codes, if◌then◌else◌}
+use Rattle.std.specs.Option.{option_map}
+use Rattle.roam_acts.specs.declared.acts.Act.{Act}
+use Rattle.roam_typing.specs.Keys.{AreLinesOf}
+use Rattle.roam_typing.specs.declared.entries.Entry.{Entry}
+use Rattle.roam_typing.specs.declared.entries.Entry.TheVariants.{Acts, Repaint, Watch, End}
+
+-- a line has at most so many acts: as many as one instruction
+abbrev pub most_cuts : ℕ
+most_cuts = 63
+
+-- ` ; ` stands first
+abbrev pub begins_separator : List ℕ → Bool
+begins_separator text = slice_index text 0 == 0x20 && (slice_index text 1 == 0x3B && slice_index text 2 == 0x20)
+
+-- where it stands first
+abbrev pub cut_of : List ℕ → Option ℕ
+cut_of [] = None
+cut_of (byte ∷ bytes) = if begins_separator (byte ∷ bytes) then Some 0 else option_map suc (cut_of bytes)
+
+-- what stands before the first separator and the parts of what follows it, or all where there is none
+abbrev pub cut_by : (List ℕ → List (List ℕ)) → List ℕ → Option ℕ → List (List ℕ)
+cut_by parts text None = text ∷ []
+cut_by parts text (Some at) = take at text ∷ parts (drop (at + 3) text)
+
+-- the parts of a text that is cut so many times at most
+unfoldable pub parts_of : ℕ → List ℕ → List (List ℕ)
+parts_of zero text = text ∷ []
+parts_of (suc n) text = cut_by (parts_of n) text (cut_of text)
+
+-- a line is no word
+pub record IsNoWord (line : List ℕ) : Type 0 where
+  pub repaint : line ≢ codes "repaint"
+  pub watch : line ≢ codes "watch"
+  pub end : line ≢ codes "end"
+
+-- a line says an entry
+abbrev pub Says : List ℕ → Entry → Type 0
+Says line Repaint = line ≡ codes "repaint"
+Says line Watch = line ≡ codes "watch"
+Says line End = line ≡ codes "end"
+Says line (Acts acts) = IsNoWord line × AreLinesOf (parts_of most_cuts line) acts.items

@@ -1,0 +1,119 @@
+//! What a line of an outer terminal asks for.
+ghost use Rattle.std.specs.Prelude.{◌≡◌, ◌⊎◌, ◌+◌, ◌<◌, ◌≤◌, ◌++◌, ◌∷◌, [], List, true, length, None, IfErr, IfOk, IfSome, ◌-◌, MatchResult, OnOk, OnErr, IsTrue, ◌↔◌, codes};
+ghost use Rattle.std.specs.List.{All};
+ghost use Rattle.roam_acts.specs.declared.acts.Act.{Act as ActOf};
+ghost use Rattle.roam_acts.specs.Acts.{IsInRange};
+ghost use Rattle.roam_typing.specs.Keys.{AreLinesOf, IsLineOf};
+ghost use Rattle.roam_typing.specs.Entries.{Says, begins_separator, cut_of, most_cuts, parts_of};
+ghost use Rattle.roam_typing.specs.declared.entries.Entry.{Entry as EntryOf};
+
+use roam_acts::{Act, read_act};
+use roam_cells::Fault;
+use std::alloc::Global;
+
+/// How many times a line is cut at most: it has one act more.
+const MOST_CUTS: u8 = 63;
+
+/// How many bytes a separator has.
+const SEPARATOR: usize = 3;
+
+/// What a line of an outer terminal asks for.
+#[derive(Drop)]
+pub enum Entry {
+    /// These acts are typed, 1 to 64, with nothing between them.
+    Acts(Vec<Act>),
+
+    /// What is shown there isn't known any more: all is painted anew.
+    Repaint,
+
+    /// None of its acts is taken; the first line alone says so.
+    Watch,
+
+    /// The client start ends.
+    End,
+}
+
+// Whether ` ; ` stands first.
+fn begins_separator(text: &[u8]) -> bool
+    ensures begins { result ≡ begins_separator text.now }
+    ensures within { result ≡ true → 3 ≤ length text.now }
+{
+    text.len() >= SEPARATOR && text[0] == b' ' && text[1] == b';' && text[2] == b' '
+}
+
+// Where ` ; ` stands first.
+fn cut_of(text: &[u8]) -> Option<usize>
+    ensures cut { result ≡ cut_of text.now }
+    ensures within { IfSome result (λ at. at + 3 ≤ length text.now) }
+{
+    for at in 0..text.len() {
+        if begins_separator(text.split_at(at).1) {
+            return Some(at);
+        }
+    }
+    None
+}
+
+// The first part of a text that is cut so many times at most, and what follows its separator, where there is one.
+fn first_part(text: &[u8], cuts: u8) -> (&[u8], Option<&[u8]>)
+    ensures some { IfSome result.1 (λ rest. (0 < cuts) × (parts_of cuts text.now ≡ result.0.now ∷ parts_of (cuts - 1) rest.now)) }
+    ensures none { result.1 ≡ None → parts_of cuts text.now ≡ result.0.now ∷ [] }
+{
+    if cuts == 0 {
+        return (text, None);
+    }
+    match cut_of(text) {
+        Some(at) => (text.split_at(at).0, Some(text.split_at(at + SEPARATOR).1)),
+        None => (text, None),
+    }
+}
+
+// Adds the act that a text spells. `BadAct` where it spells none, `OutOfMemory`.
+fn push_act(acts: &mut Vec<Act>, text: &[u8]) -> Result<(), Fault>
+    ensures found { OnOk result ((act : ActOf) × IsLineOf text.now act × IsInRange act × (acts.new.items ≡ acts.old.items ++ act ∷ [])) }
+    ensures only { (act : ActOf) → IsLineOf text.now act
+        → MatchResult result (λ _. acts.new.items ≡ acts.old.items ++ act ∷ []) (λ fault. fault ≡ Fault.OutOfMemory) }
+    ensures fault { IfErr result (λ fault. (fault ≡ Fault.BadAct) ⊎ (fault ≡ Fault.OutOfMemory)) }
+{
+    let act = read_act(text)?;
+    acts.push(act)?;
+    Ok(())
+}
+
+// Adds the acts of a text that is cut so many times at most. `BadAct` where a part spells none, `OutOfMemory`.
+fn push_acts(acts: &mut Vec<Act>, text: &[u8], cuts: u8) -> Result<(), Fault>
+    ensures found { OnOk result ((more : List ActOf) × AreLinesOf (parts_of cuts text.now) more × All IsInRange more
+        × (acts.new.items ≡ acts.old.items ++ more)) }
+    ensures only { (more : List ActOf) → AreLinesOf (parts_of cuts text.now) more
+        → MatchResult result (λ _. acts.new.items ≡ acts.old.items ++ more) (λ fault. fault ≡ Fault.OutOfMemory) }
+    ensures fault { IfErr result (λ fault. (fault ≡ Fault.BadAct) ⊎ (fault ≡ Fault.OutOfMemory)) }
+{
+    let (first, rest) = first_part(text, cuts);
+    push_act(acts, first)?;
+    match rest {
+        Some(rest) => push_acts(acts, rest, cuts - 1),
+        None => Ok(()),
+    }
+}
+
+/// What a line without its end asks for. `BadAct` where it asks for nothing, `OutOfMemory`.
+pub fn read_entry(alloc: Global, line: &[u8]) -> Result<Entry, Fault>
+    // What is read is said so.
+    ensures found { IfOk result (λ entry. Says line.now entry) }
+    // What is said so is read.
+    ensures only { (entry : EntryOf) → Says line.now entry → MatchResult result (λ e. Says line.now e) (λ fault. fault ≡ Fault.OutOfMemory) }
+    ensures fault { IfErr result (λ fault. (fault ≡ Fault.BadAct) ⊎ (fault ≡ Fault.OutOfMemory)) }
+{
+    if line == b"repaint".as_slice() {
+        return Ok(Entry::Repaint);
+    }
+    if line == b"watch".as_slice() {
+        return Ok(Entry::Watch);
+    }
+    if line == b"end".as_slice() {
+        return Ok(Entry::End);
+    }
+    let mut acts = Vec::new(alloc);
+    push_acts(&mut acts, line, MOST_CUTS)?;
+    Ok(Entry::Acts(acts))
+}

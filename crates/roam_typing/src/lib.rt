@@ -1,0 +1,10 @@
+//! What types: the acts of a file, those that come over a stream while a start runs, and the lines of an outer terminal.
+#![tactic(auto)]
+
+mod entries;
+mod keys;
+mod typing;
+
+pub use entries::{Entry, read_entry};
+pub use keys::acts_of;
+pub use typing::{ActLines, Stream, Typist};
