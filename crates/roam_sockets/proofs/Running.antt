@@ -162,20 +162,20 @@ module _ (to to' : Addr) (before between after : Option (List ℕ)) (old mid new
       (runs_both to before between after old mid new client client' client'' m 1 so_far one)
 
   -- the run is over after it, however it ends
-  pub ends_well : {A : Type 0} (r : Result A RunFault) (Ended : Type 0) (all since moment : ℕ) → RunsOn to between after mid new client' client'' 1
+  pub ends_well : {A : Type 0} (r : Result A RunFault) (Gone : Type 0) (all since moment : ℕ) → RunsOn to between after mid new client' client'' 1
       → IsOver new client'' since moment
       → IfOk r (λ _. (turns : ℕ) × RunsOn to' before after old new client client'' turns
-      × ((turns ≡ all) ⊎ ((seen : ℕ) × IsOver new client'' seen moment) ⊎ Ended))
-  ends_well (Ok a) Ended all since moment one over = (m + 1, more_runs one, inr (inl (since, over)))
-  ends_well (Err e) Ended all since moment one over = tt
+      × ((turns ≡ all) ⊎ ((seen : ℕ) × IsOver new client'' seen moment) ⊎ Gone))
+  ends_well (Ok a) Gone all since moment one over = (m + 1, more_runs one, inr (inl (since, over)))
+  ends_well (Err e) Gone all since moment one over = tt
 
   -- the same where the server has ended
-  pub ends_with_server : {A : Type 0} (r : Result A RunFault) (Ended : Type 0) (all moment : ℕ) → RunsOn to between after mid new client' client'' 1
-      → Ended
+  pub ends_with_server : {A : Type 0} (r : Result A RunFault) (Gone : Type 0) (all moment : ℕ) → RunsOn to between after mid new client' client'' 1
+      → Gone
       → IfOk r (λ _. (turns : ℕ) × RunsOn to' before after old new client client'' turns
-      × ((turns ≡ all) ⊎ ((seen : ℕ) × IsOver new client'' seen moment) ⊎ Ended))
-  ends_with_server (Ok a) Ended all moment one ended = (m + 1, more_runs one, inr (inr ended))
-  ends_with_server (Err e) Ended all moment one ended = tt
+      × ((turns ≡ all) ⊎ ((seen : ℕ) × IsOver new client'' seen moment) ⊎ Gone))
+  ends_with_server (Ok a) Gone all moment one ended = (m + 1, more_runs one, inr (inr ended))
+  ends_with_server (Err e) Gone all moment one ended = tt
 
   pub ends_badly : {A : Type 0} (r : Result A RunFault) → RunsOn to between after mid new client' client'' 1
       → IfErr r (λ fault. (fault ≡ run.Core OutOfMemory) ⊎ ((turns : ℕ) × RunsOn to' before after old new client client'' turns))

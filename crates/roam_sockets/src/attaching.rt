@@ -161,7 +161,10 @@ fn id_for(chance: &impl RandomSource, attach: &Attach<'_>) -> Result<u64, RunFau
 }
 
 // The start of a client that is asked for.
-fn client_for<R: Files + RandomSource + AllocGlobal>(rt: &R, attach: &Attach<'_>) -> Result<Client, RunFault>
+fn client_for<R: Files + RandomSource + AllocGlobal>(
+    rt: &R,
+    attach: &Attach<'_>,
+) -> Result<Client, RunFault>
     ensures session { IfOk result (λ client. (id : ℕ) → attach.now.session ≡ Some id → client.session ≡ id) }
     ensures id { IfOk result (λ client. (id : ℕ) → attach.now.client ≡ Some id → client.id ≡ id) }
     ensures version { IfOk result (λ client. client.version ≡ attach.now.version) }

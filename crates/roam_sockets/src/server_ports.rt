@@ -69,7 +69,12 @@ fn bind_others<R: Files + Net>(
 }
 
 // Binds a UDP port where one is asked for.
-fn bind_udp(net: &impl Net, alloc: Global, waits: &Waits, port: Option<u16>) -> Result<Option<Udp>, RunFault>
+fn bind_udp(
+    net: &impl Net,
+    alloc: Global,
+    waits: &Waits,
+    port: Option<u16>,
+) -> Result<Option<Udp>, RunFault>
     ensures port { IfOk result (λ udp. IsPortOf port udp) }
     ensures faults { IfErr result (λ fault. fault ≡ RunFault.Bind) }
 {
@@ -188,7 +193,8 @@ impl<R: Clock + Drop> ServerPorts<R> {
         }
         let is_paced = !flush_udp(&mut self.udp, self.moment);
         let waits = self.waits.is_quiet();
-        self.waits.rest(if is_paced { PACE_WAIT } else { LONGEST_WAIT });
+        self.waits
+            .rest(if is_paced { PACE_WAIT } else { LONGEST_WAIT });
         self.look(alloc, waits);
     }
 

@@ -1,8 +1,8 @@
-use Rattle.std.proofs.Common.{◌≡◌, ◌+◌, ◌⊎◌, ℕ, inr, refl}
+use Rattle.std.proofs.Common.{◌≡◌, ◌+◌, ◌⊎◌, ℕ, inr, refl, sym, ◌∙◌}
 use Rattle.roam_cells.specs.declared.faults.Fault.TheVariants.{OutOfMemory}
 use Rattle.roam_faults.specs.declared.faults.RunFault.TheVariants as run
 use Rattle.roam_sockets.specs.Runs.{RunsOn, home_of}
-use Rattle.roam_sockets.proofs.Running.{broken_off, ends_badly, ends_well, more_runs, passed, runs_nothing}
+use Rattle.roam_sockets.proofs.Running.{broken_off, ends_badly, ends_well, ends_with_server, more_runs, passed, runs_nothing}
 use Rattle.roam_sockets.proofs.attaching.follow.Goals.{then-tell_silence, else-tell_silence}
 use Rattle.roam_sockets.proofs.attaching.follow.Goals as goal
 
@@ -34,12 +34,27 @@ returns-then-is_unread-clause-broken_off g c =
           c.loop.client _ c.loop.counter c.home_of-to.ensures.home c.loop.invariant.runs c.in_ok-type_turn.ensures.typed,
     )
 
+pub returns-then-has_ended-clause-typed : goal.returns-then-has_ended-clause-typed
+returns-then-has_ended-clause-typed g c =
+    ends_with_server c.home_of-to.result (home_of c.args.attach.now.home) (g.T.Read.remaining c.args.typist.now.reader)
+    (g.T.Read.remaining c.loop.typist.reader) (g.T.Read.remaining c.type_turn.new.typist.reader) c.args.typist.now.lines
+    c.loop.typist.lines c.type_turn.new.typist.lines c.args.client.now c.loop.client c.type_turn.new.client c.loop.counter
+    c.home_of-to.ensures.home c.loop.invariant.runs c.ended.result _ _ _ c.in_ok-type_turn.ensures.typed
+    (sym c.has_ended.ensures.ended ∙ c.if-has_ended.true)
+
+pub returns-then-has_ended-clause-broken_off : goal.returns-then-has_ended-clause-broken_off
+returns-then-has_ended-clause-broken_off g c =
+    ends_badly c.home_of-to.result (home_of c.args.attach.now.home) (g.T.Read.remaining c.args.typist.now.reader)
+    (g.T.Read.remaining c.loop.typist.reader) (g.T.Read.remaining c.type_turn.new.typist.reader) c.args.typist.now.lines
+    c.loop.typist.lines c.type_turn.new.typist.lines c.args.client.now c.loop.client c.type_turn.new.client c.loop.counter
+    c.home_of-to.ensures.home c.loop.invariant.runs c.ended.result c.in_ok-type_turn.ensures.typed
+
 pub returns-then-is_over-clause-typed : goal.returns-then-is_over-clause-typed
 returns-then-is_over-clause-typed g c =
     ends_well c.home_of-to.result (home_of c.args.attach.now.home) (g.T.Read.remaining c.args.typist.now.reader)
     (g.T.Read.remaining c.loop.typist.reader) (g.T.Read.remaining c.type_turn.new.typist.reader) c.args.typist.now.lines
     c.loop.typist.lines c.type_turn.new.typist.lines c.args.client.now c.loop.client c.type_turn.new.client c.loop.counter
-    c.home_of-to.ensures.home c.loop.invariant.runs c.ended.result _ _ _ _ c.in_ok-type_turn.ensures.typed
+    c.home_of-to.ensures.home c.loop.invariant.runs c.ended-then-is_over.result _ _ _ _ c.in_ok-type_turn.ensures.typed
     (c.is_over.ensures.over c.if-is_over.true).2
 
 pub returns-then-is_over-clause-broken_off : goal.returns-then-is_over-clause-broken_off
@@ -47,7 +62,7 @@ returns-then-is_over-clause-broken_off g c =
     ends_badly c.home_of-to.result (home_of c.args.attach.now.home) (g.T.Read.remaining c.args.typist.now.reader)
     (g.T.Read.remaining c.loop.typist.reader) (g.T.Read.remaining c.type_turn.new.typist.reader) c.args.typist.now.lines
     c.loop.typist.lines c.type_turn.new.typist.lines c.args.client.now c.loop.client c.type_turn.new.client c.loop.counter
-    c.home_of-to.ensures.home c.loop.invariant.runs c.ended.result c.in_ok-type_turn.ensures.typed
+    c.home_of-to.ensures.home c.loop.invariant.runs c.ended-then-is_over.result c.in_ok-type_turn.ensures.typed
 
 pub loop-preserved : goal.loop-preserved
 loop-preserved g c =
