@@ -78,7 +78,17 @@ def connected(path):
         time.sleep(0.02)
 
 
-def is_served(port):
+def is_listened(path):
+    """Whether somebody listens at a Unix socket."""
+    with socket.socket(socket.AF_UNIX, socket.SOCK_STREAM) as probe:
+        try:
+            probe.connect(str(path))
+        except OSError:
+            return False
+        return True
+
+
+def is_port_served(port):
     """Whether somebody has this UDP port of loopback. One byte goes there, which is no datagram to a server."""
     with socket.socket(socket.AF_INET, socket.SOCK_DGRAM) as probe:
         probe.connect(("127.0.0.1", port))
@@ -128,7 +138,7 @@ def noted_client(folder, kind="edits"):
     """The file by which `tools/mux ls` counts this process as a client; None where no session's folder is named."""
     if not folder:
         return None
-    clients = pathlib.Path(folder) / "clients"
+    clients = pathlib.Path(folder) / "attached"
     clients.mkdir(exist_ok=True)
     path = clients / str(os.getpid())
     path.write_text(f"{begun(os.getpid())} {kind}\n", encoding="utf-8")
@@ -176,9 +186,36 @@ class Lines:
         return [line.decode("utf-8", "replace") for line in lines]
 
 
-def attach_words(port, session, more):
-    """The words of a client start under an id of its own."""
-    return [program(), "attach", "--port", str(port), "--session", session, "--client", random_id(), *more]
+class Home:
+    """Where a server is reached: in its folder, or at a UDP port of loopback, where the session's id has to be known."""
+
+    def __init__(self, folder=None, port=None, session=None):
+        self.folder, self.port, self.session = folder, port, session
+
+    @classmethod
+    def of(cls, words):
+        """That of the words of a command line: DIR, or PORT SESSION; None where they are neither."""
+        if len(words) == 1:
+            return cls(folder=os.path.abspath(words[0]))
+        if len(words) == 2 and words[0].isdigit() and 1 <= int(words[0]) <= 65535 and is_id(words[1]):
+            return cls(port=int(words[0]), session=words[1])
+        return None
+
+    def __str__(self):
+        return f"in {self.folder}" if self.folder else f"at port {self.port}"
+
+    def is_served(self):
+        """Whether a server is there."""
+        return is_listened(f"{self.folder}/clients") if self.folder else is_port_served(self.port)
+
+    def attach_words(self, more):
+        """The words of a client start; no id stands in them where the folder keeps others out."""
+        if self.folder:
+            return [program(), "attach", "--dir", self.folder, *more]
+        return [program(), "attach", "--port", str(self.port), "--session", self.session, "--client", random_id(), *more]
+
+
+HOME = "a server is named by its folder, or by its port, 1 to 65535, and the session's id, 1 to 16 hexadecimal digits"
 
 
 def read(source):

@@ -10,6 +10,7 @@ import struct
 import time
 from collections import deque
 
+from roam_live.carriers import LETTERS
 from roam_live.program import Fault, read, write
 
 VERSION = 1
@@ -33,8 +34,7 @@ NOISE_LIMIT = 1 << 16
 # So many seconds an end says nothing at most.
 HEARTBEAT = 3.0
 
-# A datagram begins with these letters, and names its instruction in these bytes.
-LETTERS = b"RM"
+# A datagram names its instruction in these bytes.
 INSTRUCTION = slice(28, 36)
 
 

@@ -5,11 +5,12 @@
 //! `roam serve` serves a session whose panes are reached at sockets; `roam attach` follows one and paints it.
 #![tactic(auto)]
 
-use roam_command::{Request, asked, words_of};
+use roam_command::{Request, Server, Wire, asked, words_of};
 use roam_faults::{RunFault, end};
 use roam_play::run_world;
 use roam_show::run_show;
-use roam_sockets::{Attach, Serve, Typed, run_attach, run_serve};
+use roam_sockets::{Attach, Home, Serve, Typed, run_attach, run_serve};
+use roam_wire::Version;
 use std::io;
 use std::os::fd::RawFd;
 use std::process::ExitCode;
@@ -34,6 +35,22 @@ fn typed<'a>(keys: Option<&'a str>, acts: Option<&'a str>) -> Typed<'a> {
         (_, Some(socket)) => Typed::Socket(socket),
         (Some(path), None) => Typed::File(path),
         (None, None) => Typed::Nothing,
+    }
+}
+
+// Where the server is reached.
+fn home(server: Server<'_>) -> Home<'_> {
+    match server {
+        Server::Folder(folder) => Home::Folder(folder),
+        Server::Port(port) => Home::Port(port),
+    }
+}
+
+// The version of the protocol that is spoken.
+fn version(wire: Wire) -> Version {
+    match wire {
+        Wire::One => Version::One,
+        Wire::Two => Version::Two,
     }
 }
 
@@ -62,22 +79,22 @@ fn run(rt: &HostRuntime, request: Request<'_>) -> Result<(), RunFault> {
             },
         ),
         Request::Attach {
-            port,
+            server,
             session,
             client,
             keys,
             acts,
-            version,
+            wire,
             watches,
             turns,
         } => run_attach(
             rt,
             &Attach {
-                port,
+                home: home(server),
                 session,
                 client,
                 typed: typed(keys, acts),
-                version,
+                version: version(wire),
                 watches,
                 turns,
                 painted_to: Some(STANDARD_OUTPUT),

@@ -1,5 +1,5 @@
 //! The subcommands, with their options and their helps.
-use crate::options::{Choice, Reads};
+use crate::options::{Choice, Needed, Reads};
 use clap::Command;
 use std::alloc::{AllocError, Global};
 
@@ -56,7 +56,8 @@ const SHOW: Subcommand = Subcommand {
             value: "R",
             help: "Rows of the screen, 2 to 200",
             reads: Reads::Small,
-            needed: true,
+            needed: Needed::Always,
+            needs: &[],
             excludes: &[],
         },
         Choice {
@@ -64,7 +65,8 @@ const SHOW: Subcommand = Subcommand {
             value: "C",
             help: "Columns of the screen, 4 to 500",
             reads: Reads::Small,
-            needed: true,
+            needed: Needed::Always,
+            needs: &[],
             excludes: &[],
         },
     ],
@@ -80,9 +82,11 @@ const WORLD: Subcommand = Subcommand {
 const SESSION: Choice<'static> = Choice {
     name: "session",
     value: "H",
-    help: "The session's id, 1 to 16 hexadecimal digits; each run of serve needs one of its own, as 5e55",
+    help: "The session's id, 1 to 16 hexadecimal digits; each run of serve needs one of its own. Without a port it may be left out: \
+           serve makes one by chance, and tells it in the file session of its folder, where attach reads it",
     reads: Reads::Word,
-    needed: true,
+    needed: Needed::Never,
+    needs: &[],
     excludes: &[],
 };
 
@@ -92,30 +96,34 @@ const TURNS: Choice<'static> = Choice {
     help: "How many turns the run takes, 18446744073709551615 where it isn't given. One that brings nothing waits up to 10 milliseconds; \
            a busy pane takes thousands a second",
     reads: Reads::Large,
-    needed: false,
+    needed: Needed::Never,
+    needs: &[],
     excludes: &[],
 };
 
 const SERVE: Subcommand = Subcommand {
     name: "serve",
     about: "Serves a session of 24 rows and 80 columns, whose panes are reached at sockets",
-    more: Some("Example: roam serve --dir /tmp/roam --port 4000 --session 5e55"),
+    more: Some("Example: roam serve --dir ~/.roam"),
     options: &[
         Choice {
             name: "dir",
             value: "D",
-            help: "The folder of the panes' sockets p1 to p9 and of panes, which tells what panes there are, as /tmp/roam; \
-                   what a killed server left there is made anew",
+            help: "The folder of its sockets: p1 to p9 of the panes, panes, which tells what panes there are, and clients, for attach --dir. \
+                   It is your own, and without a port nobody else may enter it; what a killed server left there is made anew",
             reads: Reads::Word,
-            needed: true,
+            needed: Needed::Always,
+            needs: &[],
             excludes: &[],
         },
         Choice {
             name: "port",
             value: "P",
-            help: "The UDP port on 127.0.0.1 at which clients reach it, as 4000; with 0 any that is free, which is told on standard error",
+            help: "A UDP port on 127.0.0.1 at which clients reach it too, as 4000; with 0 any that is free, which is told on standard \
+                   error. Whoever is on this machine reaches it there and can guess the session's id",
             reads: Reads::Small,
-            needed: true,
+            needed: Needed::Never,
+            needs: &["session"],
             excludes: &[],
         },
         SESSION,
@@ -126,23 +134,35 @@ const SERVE: Subcommand = Subcommand {
 const ATTACH: Subcommand = Subcommand {
     name: "attach",
     about: "Follows a session and paints it on standard output",
-    more: Some("Example: roam attach --port 4000 --session 5e55 --client c1 --keys keys"),
+    more: Some("Example: roam attach --dir ~/.roam --keys keys"),
     options: &[
+        Choice {
+            name: "dir",
+            value: "D",
+            help: "The folder of the server, whose socket clients it connects to; it ends where the server does",
+            reads: Reads::Word,
+            needed: Needed::Unless("port"),
+            needs: &[],
+            excludes: &[],
+        },
         Choice {
             name: "port",
             value: "P",
-            help: "The UDP port on 127.0.0.1 of the server, as 4000",
+            help: "The UDP port on 127.0.0.1 of the server, as 4000, in place of its folder",
             reads: Reads::Small,
-            needed: true,
-            excludes: &[],
+            needed: Needed::Unless("dir"),
+            needs: &["session", "client"],
+            excludes: &["dir"],
         },
         SESSION,
         Choice {
             name: "client",
             value: "H",
-            help: "The id of this start of a client, 1 to 16 hexadecimal digits; each start needs one of its own, as c1",
+            help: "The id of this start of a client, 1 to 16 hexadecimal digits; each start needs one of its own. With --dir it may be left \
+                   out, and is one by chance then",
             reads: Reads::Word,
-            needed: true,
+            needed: Needed::Never,
+            needs: &[],
             excludes: &[],
         },
         Choice {
@@ -150,7 +170,8 @@ const ATTACH: Subcommand = Subcommand {
             value: "PATH",
             help: "A file with the acts to type, one a line, as `char 61`, `key return` or `split right`; without it none are typed",
             reads: Reads::Word,
-            needed: false,
+            needed: Needed::Never,
+            needs: &[],
             excludes: &[],
         },
         Choice {
@@ -158,7 +179,8 @@ const ATTACH: Subcommand = Subcommand {
             value: "SOCKET",
             help: "A Unix socket from which such lines come as they are typed; the run ends with them, once they are done",
             reads: Reads::Word,
-            needed: false,
+            needed: Needed::Never,
+            needs: &[],
             excludes: &["keys"],
         },
         Choice {
@@ -166,7 +188,8 @@ const ATTACH: Subcommand = Subcommand {
             value: "V",
             help: "The version of the protocol, 1 or 2; 2 where it isn't given",
             reads: Reads::Version,
-            needed: false,
+            needed: Needed::Never,
+            needs: &[],
             excludes: &[],
         },
         Choice {
@@ -174,7 +197,8 @@ const ATTACH: Subcommand = Subcommand {
             value: "",
             help: "Only watches: no act is typed",
             reads: Reads::Nothing,
-            needed: false,
+            needed: Needed::Never,
+            needs: &[],
             excludes: &["wire", "acts"],
         },
         TURNS,

@@ -2,15 +2,24 @@
 use clap::{Arg, ArgAction, value_parser};
 use std::alloc::{AllocError, Global};
 
-/// An option: its long name, what its value is called, its help, how the value is read, whether it has to be given, and which others
-/// can't be given beside it.
+/// An option: its long name, what its value is called, its help, how the value is read, whether it has to be given, which others have to be
+/// given beside it, and which can't be.
 pub struct Choice<'a> {
     pub name: &'a str,
     pub value: &'a str,
     pub help: &'a str,
     pub reads: Reads,
-    pub needed: bool,
+    pub needed: Needed<'a>,
+    pub needs: &'a [&'a str],
     pub excludes: &'a [&'a str],
+}
+
+/// Whether an option has to be given: always, never, or where another isn't.
+#[derive(Clone, Copy)]
+pub enum Needed<'a> {
+    Always,
+    Never,
+    Unless(&'a str),
 }
 
 /// How the value of an option is read: as a word, as a number up to 65,535 or to 2^64 - 1, as a version, 1 or 2; or it has none.
@@ -29,7 +38,13 @@ impl<'a> Choice<'a> {
         let mut arg = Arg::new(alloc, self.name)
             .long(self.name)
             .help(self.help)
-            .required(self.needed);
+            .required(matches!(self.needed, Needed::Always));
+        if let Needed::Unless(other) = self.needed {
+            arg = arg.required_unless_present(other)?;
+        }
+        for other in self.needs {
+            arg = arg.requires_arg(*other)?;
+        }
         for other in self.excludes {
             arg = arg.conflicts_with(*other)?;
         }

@@ -3,7 +3,6 @@ use crate::commands::program;
 use clap::error::ErrorKind;
 use clap::{ArgMatches, Error};
 use roam_numbers::id;
-use roam_wire::Version;
 use std::alloc::Global;
 use std::convert::AsStr;
 
@@ -20,27 +19,42 @@ pub enum Request<'a> {
     /// `roam world`: a script is played.
     World,
 
-    /// `roam serve`: a server of this session for so many turns (2^64 - 1 where the words name none), on this port of loopback, with its
-    /// panes' sockets in this folder.
+    /// `roam serve`: a server of this session, or of one by chance, for so many turns (2^64 - 1 where the words name none), with its sockets
+    /// in this folder, and on this port of loopback where there is one.
     Serve {
         folder: &'a str,
-        port: u16,
-        session: u64,
+        port: Option<u16>,
+        session: Option<u64>,
         turns: u64,
     },
 
-    /// `roam attach`: a client start with this id for so many turns, of the session that is served on this port of loopback, with the
-    /// acts of the file `keys` or of the socket `acts` where there is one; it speaks this version, and may only watch.
+    /// `roam attach`: a client start with this id, or one by chance, for so many turns, of the session that is served in this folder or on
+    /// this port of loopback, with the acts of the file `keys` or of the socket `acts` where there is one; it speaks this version, and may
+    /// only watch.
     Attach {
-        port: u16,
-        session: u64,
-        client: u64,
+        server: Server<'a>,
+        session: Option<u64>,
+        client: Option<u64>,
         keys: Option<&'a str>,
         acts: Option<&'a str>,
-        version: Version,
+        wire: Wire,
         watches: bool,
         turns: u64,
     },
+}
+
+/// Where `roam attach` reaches its server: in a folder, or on a port of loopback.
+#[derive(Clone, Copy, Debug, PartialEq, Eq)]
+pub enum Server<'a> {
+    Folder(&'a str),
+    Port(u16),
+}
+
+/// The version of the protocol that a client start speaks.
+#[derive(Clone, Copy, Debug, PartialEq, Eq)]
+pub enum Wire {
+    One,
+    Two,
 }
 
 /// Why the words ask for nothing: want of memory; words that are no text; an id that is none; or `clap`'s answer, a refusal or a text
@@ -53,11 +67,14 @@ pub enum Refusal {
     Clap(Error),
 }
 
-// The id that a word writes.
-fn id_in(matches: &ArgMatches<'_>, name: &str) -> Result<u64, Refusal> {
+// The id that a word writes, where there is one.
+fn id_in(matches: &ArgMatches<'_>, name: &str) -> Result<Option<u64>, Refusal> {
     match matches.get_str(name) {
-        Some(word) => id(word.as_bytes()).ok_or(Refusal::BadId),
-        None => Err(Refusal::NoText),
+        Some(word) => match id(word.as_bytes()) {
+            Some(id) => Ok(Some(id)),
+            None => Err(Refusal::BadId),
+        },
+        None => Ok(None),
     }
 }
 
@@ -69,46 +86,48 @@ fn turns_in(matches: &ArgMatches<'_>) -> u64 {
 // What `roam serve` is asked for. `BadId` where an id is none.
 fn serve_of<'a>(matches: &ArgMatches<'a>) -> Result<Request<'a>, Refusal> {
     let session = id_in(matches, "session")?;
-    if let Some(folder) = matches.get_str("dir")
-        && let Some(port) = matches.get_one::<u16>("port")
-    {
-        return Ok(Request::Serve {
+    match matches.get_str("dir") {
+        Some(folder) => Ok(Request::Serve {
             folder,
-            port,
+            port: matches.get_one::<u16>("port"),
             session,
             turns: turns_in(matches),
-        });
+        }),
+        // Not reached: clap takes no words without it.
+        None => Err(Refusal::NoText),
     }
-    // Not reached: clap takes no words without them.
-    Err(Refusal::NoText)
 }
 
 // The version that a client start speaks: the second, where the first isn't asked for.
-fn version_in(matches: &ArgMatches<'_>) -> Version {
+fn wire_in(matches: &ArgMatches<'_>) -> Wire {
     match matches.get_one::<u16>("wire") {
-        Some(1) => Version::One,
-        _ => Version::Two,
+        Some(1) => Wire::One,
+        _ => Wire::Two,
+    }
+}
+
+// Where the server is reached.
+fn server_in<'a>(matches: &ArgMatches<'a>) -> Result<Server<'a>, Refusal> {
+    match (matches.get_str("dir"), matches.get_one::<u16>("port")) {
+        (Some(folder), _) => Ok(Server::Folder(folder)),
+        (None, Some(port)) => Ok(Server::Port(port)),
+        // Not reached: clap takes no words without one of them.
+        (None, None) => Err(Refusal::NoText),
     }
 }
 
 // What `roam attach` is asked for. `BadId` where an id is none.
 fn attach_of<'a>(matches: &ArgMatches<'a>) -> Result<Request<'a>, Refusal> {
-    let session = id_in(matches, "session")?;
-    let client = id_in(matches, "client")?;
-    if let Some(port) = matches.get_one::<u16>("port") {
-        return Ok(Request::Attach {
-            port,
-            session,
-            client,
-            keys: matches.get_str("keys"),
-            acts: matches.get_str("acts"),
-            version: version_in(matches),
-            watches: matches.get_flag("watch"),
-            turns: turns_in(matches),
-        });
-    }
-    // Not reached: clap takes no words without them.
-    Err(Refusal::NoText)
+    Ok(Request::Attach {
+        server: server_in(matches)?,
+        session: id_in(matches, "session")?,
+        client: id_in(matches, "client")?,
+        keys: matches.get_str("keys"),
+        acts: matches.get_str("acts"),
+        wire: wire_in(matches),
+        watches: matches.get_flag("watch"),
+        turns: turns_in(matches),
+    })
 }
 
 // What the words ask for, as they were matched.

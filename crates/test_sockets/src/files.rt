@@ -4,7 +4,8 @@
 //! `gone PATH` see whether there is one; `bound FOLDER` binds the sockets of a server there, and leaves their files; `refused FOLDER` may
 //! not bind them.
 use roam_faults::RunFault;
-use roam_sockets::{Moments, ServerPorts};
+use roam_links::Moments;
+use roam_sockets::ServerPorts;
 use std::fs::{create_dir, exists, remove_file, write};
 use std::os::unix::fs::symlink;
 use std::test::*;
@@ -14,7 +15,7 @@ pub fn ports_in<'a>(
     rt: &'a HostRuntime,
     folder: &str,
 ) -> Result<ServerPorts<&'a HostRuntime>, RunFault> {
-    ServerPorts::bind(rt, rt.alloc(), folder, 0, Moments::Set(0))
+    ServerPorts::bind(rt, rt.alloc(), folder, Some(0), Moments::Set(0))
 }
 
 fn is_refused(rt: &HostRuntime, folder: &str) -> bool {

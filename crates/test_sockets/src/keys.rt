@@ -2,7 +2,7 @@
 use roam_acts::Act;
 use roam_cells::Fault;
 use roam_faults::RunFault;
-use roam_sockets::acts_of;
+use roam_typing::acts_of;
 use std::alloc::Global;
 use std::test::*;
 

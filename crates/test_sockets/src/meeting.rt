@@ -1,4 +1,4 @@
-//! Both programs in one process: a server with panes' programs at Unix sockets, and a client start, over UDP on loopback.
+//! Both programs in one process: a server with panes' programs at Unix sockets, and a client start, over UDP on loopback or over a stream.
 //!
 //! What happens is text: `first` or `second`, a pane's program, and what it does; `turns MOMENT`, one turn of each end; `types MOMENT ACT,
 //! ACT`: both are typed, and the server takes them in one turn; `pane N`, which is there.
@@ -8,9 +8,10 @@ ghost use Rattle.roam_turns.specs.Painting.{IsBehind};
 
 use crate::programs::Programs;
 use roam_acts::{Act, Key, read_act};
-use roam_hub::{Client, Server};
+use roam_hub::{Addr, Client, Server};
+use roam_links::{Moments, loopback};
 use roam_screens::Seen;
-use roam_sockets::{ClientPorts, Moments, ServerPorts, loopback};
+use roam_sockets::{ClientPorts, ServerPorts};
 use roam_turns::{Outer, attach_turn, serve_turn};
 use std::alloc::Global;
 use std::fs::create_dir;
@@ -23,6 +24,7 @@ struct Meeting<'a> {
     server_ports: ServerPorts<&'a HostRuntime>,
     client: Client,
     client_ports: ClientPorts<&'a HostRuntime, Vec<u8>>,
+    home: Addr,
     outer: Outer,
 }
 
@@ -42,14 +44,17 @@ impl<'a> Meeting<'a> {
         ensures behind { IsBehind self.new.outer self.new.client.receiver.newest.number self.new.client.receiver.newest.state }
     {
         self.client_ports.set_moment(moment);
-        attach_turn(
+        let home = self.home;
+        let taken = attach_turn(
             alloc,
             &mut self.client,
             &mut self.outer,
             &mut self.client_ports,
-            loopback(self.server_ports.port()),
+            home,
             next,
-        )
+        );
+        self.client_ports.flush();
+        taken
     }
 
     fn serves(&mut self, alloc: Global, moment: u64)
@@ -58,6 +63,7 @@ impl<'a> Meeting<'a> {
     {
         self.server_ports.set_moment(moment);
         serve_turn(alloc, &mut self.server, &mut self.server_ports);
+        self.server_ports.rest(alloc);
     }
 
     // One turn of each end.
@@ -168,16 +174,32 @@ impl<'a> Meeting<'a> {
     }
 }
 
-/// A server whose panes are in a folder, and a client start.
-fn meeting_of<'a>(rt: &'a HostRuntime, folder: &str) -> Result<Meeting<'a>, Fail>
+// The ports of a client start that reaches a server at its UDP port, or at its socket in a folder.
+fn client_ports<'a>(
+    rt: &'a HostRuntime,
+    folder: &str,
+    is_stream: bool,
+) -> Result<ClientPorts<&'a HostRuntime, Vec<u8>>, Fail> {
+    let painted = Vec::new(rt.alloc());
+    if is_stream {
+        return Ok(ClientPorts::connect(rt, rt.alloc(), folder, Moments::Set(0), painted)?);
+    }
+    Ok(ClientPorts::bind(rt, rt.alloc(), Moments::Set(0), painted)?)
+}
+
+/// A server whose panes are in a folder, and a client start, which reaches it by UDP or over a stream.
+fn meeting_of<'a>(rt: &'a HostRuntime, folder: &str, is_stream: bool) -> Result<Meeting<'a>, Fail>
     ensures behind { IfOk result (λ m. IsBehind m.outer m.client.receiver.newest.number m.client.receiver.newest.state) }
 {
     let alloc = rt.alloc();
+    let server_ports = ServerPorts::bind(rt, alloc, folder, Some(0), Moments::Set(0))?;
+    let home = loopback(server_ports.port().unwrap_or(0));
     Ok(Meeting {
         server: Server::new(alloc, 0x5E55, 24, 80)?,
-        server_ports: ServerPorts::bind(rt, alloc, folder, 0, Moments::Set(0))?,
+        server_ports,
         client: Client::new(alloc, 0x5E55, 0xC1)?,
-        client_ports: ClientPorts::bind(rt, alloc, Moments::Set(0), Vec::new(alloc))?,
+        client_ports: client_ports(rt, folder, is_stream)?,
+        home,
         outer: Outer::new(),
     })
 }
@@ -194,15 +216,18 @@ fn meets_after(rt: &HostRuntime, meeting: &mut Meeting<'_>, lines: &str) -> Resu
     Ok(meeting.meets(rt.alloc(), &mut programs))
 }
 
-fn meet(rt: &HostRuntime) -> Result<bool, Fail> {
-    create_dir(rt, "panes")?;
-    let mut meeting = meeting_of(rt, "panes")?;
+fn meet(rt: &HostRuntime, is_stream: bool) -> Result<bool, Fail> {
+    let mut meeting = meeting_of(rt, "panes", is_stream)?;
     meets_after(rt, &mut meeting, "first connects panes/p1\nfirst writes a")
 }
 
 #[test]
 fn a_byte_is_shown_and_a_key_is_read(rt: HostRuntime) -> Result<(), Fail> {
-    assert!(rt; meet(&rt)?);
+    create_dir(&rt, "panes")?;
+    for is_stream in [false, true] {
+        let met = meet(&rt, is_stream)?;
+        assert!(rt; met, "over a stream: {is_stream}");
+    }
     Ok(())
 }
 
@@ -225,7 +250,7 @@ second waits";
 
 fn first_wrong<'t>(rt: &HostRuntime, lines: &'t str) -> Result<Option<&'t str>, Fail> {
     create_dir(rt, "anew")?;
-    let mut meeting = meeting_of(rt, "anew")?;
+    let mut meeting = meeting_of(rt, "anew", false)?;
     let mut programs = Programs::new();
     meeting.first_undone(rt, &mut programs, lines)
 }

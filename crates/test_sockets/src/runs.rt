@@ -1,12 +1,13 @@
 //! Runs of `roam serve` and `roam attach`: what ends them, and what stays.
 use crate::files::ports_in;
 use roam_faults::RunFault;
-use roam_sockets::{Attach, End, Serve, Typed, follow_session, run_attach, run_serve};
+use roam_sockets::{Attach, End, Home, Serve, Typed, follow_session, run_attach, run_serve};
 use roam_wire::Version;
-use std::fs::{create_dir, remove_file, write};
+use std::fs::{DirBuilder, create_dir, remove_file, write};
 use std::io;
 use std::io::{ErrorKind, Write, pipe};
 use std::os::fd::{AsRawFd, RawFd};
+use std::os::unix::fs::{DirBuilderExt, symlink};
 use std::test::*;
 
 /// An outer terminal that is closed.
@@ -27,8 +28,8 @@ impl Write for Closed {
 fn serves(rt: &HostRuntime, folder: &str, wanted: Result<(), RunFault>) -> bool {
     let serve = Serve {
         folder,
-        port: 0,
-        session: 1,
+        port: Some(0),
+        session: Some(1),
         turns: 3,
     };
     run_serve(rt, &serve) == wanted
@@ -48,12 +49,34 @@ fn the_sockets_files_are_removed(rt: HostRuntime) -> Result<(), Fail> {
     Ok(())
 }
 
+/// A run of `serve` without a port, in a folder, ends so.
+fn serves_alone(rt: &HostRuntime, folder: &str, wanted: Result<(), RunFault>) -> bool {
+    let serve = Serve {
+        folder,
+        port: None,
+        session: None,
+        turns: 3,
+    };
+    run_serve(rt, &serve) == wanted
+}
+
+#[test]
+fn without_a_port_the_folder_keeps_others_out(rt: HostRuntime) -> Result<(), Fail> {
+    DirBuilder::new().mode(0o700).create(&rt, "own")?;
+    assert!(rt; serves_alone(&rt, "own", Ok(())));
+    DirBuilder::new().mode(0o750).create(&rt, "entered")?;
+    assert!(rt; serves_alone(&rt, "entered", Err(RunFault::Bind)));
+    symlink(&rt, "own", "link")?;
+    assert!(rt; serves_alone(&rt, "link", Err(RunFault::Bind)));
+    Ok(())
+}
+
 // Whether a port that is bound is refused to another server, whose files go.
-fn is_bound_once(rt: &HostRuntime, port: u16) -> bool {
+fn is_bound_once(rt: &HostRuntime, port: Option<u16>) -> bool {
     let serve = Serve {
         folder: "second",
         port,
-        session: 1,
+        session: Some(1),
         turns: 3,
     };
     run_serve(rt, &serve) == Err(RunFault::Bind) && serves(rt, "second", Ok(()))
@@ -76,9 +99,9 @@ fn attaches<W: Write + Drop>(
     wanted: Result<(), RunFault>,
 ) -> bool {
     let attach = Attach {
-        port: 9,
-        session: 1,
-        client: 0xC1,
+        home: Home::Port(9),
+        session: Some(1),
+        client: Some(0xC1),
         typed: Typed::File(keys),
         version: Version::Two,
         watches: false,
@@ -103,15 +126,38 @@ fn files_of_acts_and_outer_terminals(rt: HostRuntime) -> Result<(), Fail> {
 /// A start that watches and whose turns are few, or would take a quarter of an hour.
 fn watching<'a>(turns: u64, painted_to: Option<RawFd>) -> Attach<'a> {
     Attach {
-        port: 9,
-        session: 1,
-        client: 0xC1,
+        home: Home::Port(9),
+        session: Some(1),
+        client: Some(0xC1),
         typed: Typed::Nothing,
         version: Version::Two,
         watches: true,
         turns,
         painted_to,
     }
+}
+
+// How a run ends that reaches its server in a folder.
+fn end_in(rt: &HostRuntime, folder: &str) -> Result<End, RunFault> {
+    let attach = Attach {
+        home: Home::Folder(folder),
+        session: None,
+        ..watching(3, None)
+    };
+    follow_session(rt, &attach, Vec::new(rt.alloc()))
+}
+
+#[test]
+fn runs_that_reach_a_server_in_a_folder(rt: HostRuntime) -> Result<(), Fail> {
+    create_dir(&rt, "reached")?;
+    assert!(rt; end_in(&rt, "reached") == Err(RunFault::Read));
+    write(&rt, "reached/session", b"5e55\n")?;
+    assert!(rt; end_in(&rt, "reached") == Err(RunFault::Connect));
+    let _bound = ports_in(&rt, "reached")?;
+    assert!(rt; end_in(&rt, "reached") == Ok(End::Unheard));
+    write(&rt, "reached/session", b"5e5g\n")?;
+    assert!(rt; end_in(&rt, "reached") == Err(RunFault::Read));
+    Ok(())
 }
 
 #[test]

@@ -4,7 +4,8 @@
 //! not (`unknown`); or with `shows TEXT` or `shows nothing for TEXT`; `reads TEXT`, which the outer terminal reads next, where `10 s` and
 //! `11 s` stand for the notices of as many seconds; `hears`: a datagram comes to the client start; `is` and what is so then.
 use mio::net::UdpSocket;
-use roam_sockets::{ClientPorts, End, Moments, loopback};
+use roam_links::{Moments, loopback};
+use roam_sockets::{ClientPorts, End};
 use roam_turns::Ports;
 use std::alloc::Global;
 use std::io::{PipeReader, PipeWriter, Read, pipe};
