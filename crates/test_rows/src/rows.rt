@@ -9,12 +9,12 @@
 ghost use Rattle.std.specs.Prelude.{IsTrue};
 ghost use Rattle.roam_rows.specs.Writing.{ArePrintable};
 
+use crate::words::{looks, number, numbers, parts_of, reads};
 use roam_cells::limits::is_size;
 use roam_cells::{Cell, Style, width};
 use roam_rows::{Fitted, Ring, laws};
 use std::alloc::{AllocError, Global};
-use std::str::Lines;
-use std::test::Fail;
+use std::test::*;
 
 fn is_printable(bytes: &[u8]) -> bool
     ensures printable { IsTrue result → ArePrintable bytes.now }
@@ -33,8 +33,9 @@ fn style_of(pen: u8) -> Style {
     style
 }
 
-/// Blank rows of a size; of two by four where it is out of the limits.
-fn made(alloc: Global, rows: u16, cols: u16) -> Result<Ring, AllocError> {
+// Blank rows of a size; of two by four where it is out of the limits.
+fn made(alloc: Global, rows: usize, cols: usize) -> Result<Ring, AllocError> {
+    let (rows, cols) = (rows.min(999) as u16, cols.min(999) as u16);
     if is_size(rows, cols) {
         Ring::new(alloc, rows as usize, cols as usize)
     } else {
@@ -42,7 +43,16 @@ fn made(alloc: Global, rows: u16, cols: u16) -> Result<Ring, AllocError> {
     }
 }
 
-fn put(ring: &mut Ring, row: usize, col: usize, text: &str, pen: u8) {
+// Memory for rows of a size; none where it is out of the limits.
+fn fitted(alloc: Global, rows: usize, cols: usize) -> Result<Option<Fitted>, AllocError> {
+    let (rows, cols) = (rows.min(999) as u16, cols.min(999) as u16);
+    if is_size(rows, cols) {
+        return Ok(Some(Fitted::new(alloc, rows as usize, cols as usize)?));
+    }
+    Ok(None)
+}
+
+fn put(ring: &mut Ring, row: usize, col: usize, text: &str, pen: u8) -> bool {
     let mut at = col;
     for c in text.chars() {
         if let Some(cell) = Cell::of(&[c], style_of(pen), 2 <= pen) {
@@ -55,9 +65,10 @@ fn put(ring: &mut Ring, row: usize, col: usize, text: &str, pen: u8) {
             at = at.saturating_add(columns);
         }
     }
+    true
 }
 
-fn run(ring: &mut Ring, row: usize, col: usize, text: &str, pen: u8) {
+fn run(ring: &mut Ring, row: usize, col: usize, text: &str, pen: u8) -> bool {
     let bytes = text.as_bytes();
     let cell = Cell::ascii(b' ', style_of(pen), 2 <= pen);
     if row < ring.rows() && col <= ring.cols() && bytes.len() <= ring.cols() - col {
@@ -65,34 +76,7 @@ fn run(ring: &mut Ring, row: usize, col: usize, text: &str, pen: u8) {
             ring.put_run(row, col, cell, bytes);
         }
     }
-}
-
-fn number(word: &str) -> Option<usize> {
-    word.parse::<usize>().ok()
-}
-
-fn pair(words: &str) -> Option<(usize, usize)> {
-    let (first, second) = words.split_once(' ')?;
-    Some((number(first)?, number(second)?))
-}
-
-fn three(words: &str) -> Option<(usize, usize, usize)> {
-    let (first, rest) = words.split_once(' ')?;
-    let (second, third) = pair(rest)?;
-    Some((number(first)?, second, third))
-}
-
-// The row and the column that words begin with, and what is behind them.
-fn placed(words: &str) -> Option<(usize, usize, &str)> {
-    let (row, rest) = words.split_once(' ')?;
-    let (col, rest) = rest.split_once(' ')?;
-    Some((number(row)?, number(col)?, rest))
-}
-
-// The pen that words begin with, and the text behind it.
-fn penned(words: &str) -> Option<(u8, &str)> {
-    let (pen, text) = words.split_once(' ')?;
-    Some((pen.parse::<u8>().ok()?, text))
+    true
 }
 
 // Each of these answers whether it knows the act and does it.
@@ -115,21 +99,16 @@ fn join_one(ring: &mut Ring, row: usize, col: usize, point: char) -> bool {
 }
 
 fn write(ring: &mut Ring, name: &str, words: &str) -> bool {
-    let Some((row, col, rest)) = placed(words) else {
+    let [row, col, pen, text, _] = parts_of(words, ' ');
+    let (Some(row), Some(col)) = (number(row), number(col)) else {
         return false;
     };
-    if name == "join" {
-        return join(ring, row, col, rest);
+    match (name, pen.parse::<u8>()) {
+        ("join", _) => join(ring, row, col, pen),
+        ("put", Ok(pen)) => put(ring, row, col, text, pen),
+        ("run", Ok(pen)) => run(ring, row, col, text, pen),
+        _ => false,
     }
-    let Some((pen, text)) = penned(rest) else {
-        return false;
-    };
-    match name {
-        "put" => put(ring, row, col, text, pen),
-        "run" => run(ring, row, col, text, pen),
-        _ => return false,
-    }
-    true
 }
 
 fn edit(ring: &mut Ring, name: &str, row: usize, from: usize, last: usize) -> bool {
@@ -184,27 +163,35 @@ fn fill(ring: &mut Ring, text: &str) -> bool {
     }
 }
 
-fn size(alloc: Global, ring: &mut Ring, words: &str) -> Result<bool, AllocError> {
-    if let Some((rows, cols, off)) = three(words)
-        && let Ok(rows) = u16::try_from(rows)
-        && let Ok(cols) = u16::try_from(cols)
-        && is_size(rows, cols)
-    {
-        ring.adopt(Fitted::new(alloc, rows as usize, cols as usize)?, off);
-        return Ok(true);
+fn take_size(
+    alloc: Global,
+    ring: &mut Ring,
+    rows: usize,
+    cols: usize,
+    off: usize,
+) -> Result<bool, AllocError> {
+    match fitted(alloc, rows, cols)? {
+        Some(fitted) => ring.adopt(fitted, off),
+        None => return Ok(false),
     }
-    Ok(false)
+    Ok(true)
+}
+
+fn size(alloc: Global, ring: &mut Ring, words: &str) -> Result<bool, AllocError> {
+    match numbers(words) {
+        Some((3, rows, cols, off, _)) => take_size(alloc, ring, rows, cols, off),
+        _ => Ok(false),
+    }
 }
 
 fn change(ring: &mut Ring, name: &str, words: &str) -> bool {
-    if let Some((first, second, third)) = three(words) {
-        return edit(ring, name, first, second, third)
-            || scroll_region(ring, name, first, second, third);
+    match numbers(words) {
+        Some((3, first, second, third, _)) => edit(ring, name, first, second, third)
+            || scroll_region(ring, name, first, second, third),
+        Some((2, from, to, _, _)) => blank(ring, name, from, to),
+        Some((1, n, _, _, _)) => scroll(ring, name, n),
+        _ => false,
     }
-    if let Some((from, to)) = pair(words) {
-        return blank(ring, name, from, to);
-    }
-    matches!(number(words), Some(n) if scroll(ring, name, n))
 }
 
 fn act(alloc: Global, ring: &mut Ring, words: &str) -> Result<bool, AllocError> {
@@ -553,63 +540,42 @@ another size of rows that go round
 |     |00000|
 |e    |00000|";
 
-fn sign_of(cell: &Cell) -> char {
-    match (cell.style().bold, cell.guard()) {
-        (false, false) => '0',
-        (true, false) => '1',
-        (false, true) => '2',
-        (true, true) => '3',
-    }
-}
-
-fn first_of(cell: &Cell) -> char {
-    match cell.chars().as_slice() {
-        [] => '~',
-        [first, ..] => *first,
-    }
-}
-
-fn reads(row: &[Cell], wanted: &str) -> bool {
-    row.iter().map(|cell| first_of(cell)).eq(wanted.chars())
-}
-
 // Whether a row is that of a line, `|text|pens|`.
 fn is_row(cells: &[Cell], line: &str) -> bool {
-    let mut parts = line.split('|').skip(1);
-    matches!(parts.next(), Some(text) if reads(cells, text))
-        && matches!(parts.next(), Some(pens) if cells.iter().map(|cell| sign_of(cell)).eq(pens.chars()))
+    let [_, text, pens, ..] = parts_of(line, '|');
+    looks(cells, text, pens)
 }
 
-fn shows(ring: &Ring, lines: Lines<'_>) -> bool {
-    let mut lines = lines;
+fn shows(ring: &Ring, rows: &str) -> bool {
+    let mut lines = rows.lines();
     for i in 0..ring.rows() {
-        if !matches!(lines.next(), Some(line) if is_row(ring.row(i), line)) {
+        if !is_row(ring.row(i), lines.next().unwrap_or("")) {
             return false;
         }
     }
     lines.next().is_none()
 }
 
+fn shows_after(alloc: Global, ring: &mut Ring, acts: &str, rows: &str) -> Result<bool, AllocError> {
+    Ok(play(alloc, ring, acts)? && shows(ring, rows))
+}
+
 // A case on rows that begin so many rows later in the buffer.
 fn holds(alloc: Global, case: &str, turned: usize) -> Result<bool, AllocError> {
-    let mut lines = case.lines();
-    lines.next();
-    if let Some(line) = lines.next()
-        && let Some((sized, acts)) = line.split_once(": ")
-        && let Some((rows, cols)) = sized.split_once(' ')
-        && let Ok(rows) = rows.parse::<u16>()
-        && let Ok(cols) = cols.parse::<u16>()
-    {
-        let mut ring = made(alloc, rows, cols)?;
-        ring.scroll_up(turned);
-        return Ok(play(alloc, &mut ring, acts)? && shows(&ring, lines));
-    }
-    Ok(false)
+    let (_, rest) = case.split_once('\n').unwrap_or((case, ""));
+    let (line, rows) = rest.split_once('\n').unwrap_or((rest, ""));
+    let (size, acts) = line.split_once(": ").unwrap_or((line, ""));
+    let Some((2, height, width, _, _)) = numbers(size) else {
+        return Ok(false);
+    };
+    let mut ring = made(alloc, height, width)?;
+    ring.scroll_up(turned);
+    shows_after(alloc, &mut ring, acts, rows)
 }
 
 // The first case that doesn't hold, on rows as they are made or on rows that begin later in the buffer.
-fn first_wrong<'a>(alloc: Global, cases: &'a str) -> Result<Option<&'a str>, AllocError> {
-    for case in cases.split("\n\n") {
+fn first_wrong(alloc: Global) -> Result<Option<&'static str>, AllocError> {
+    for case in CASES.split("\n\n") {
         for turned in 0..2usize {
             if !holds(alloc, case, turned)? {
                 return Ok(Some(case));
@@ -620,9 +586,8 @@ fn first_wrong<'a>(alloc: Global, cases: &'a str) -> Result<Option<&'a str>, All
 }
 
 #[test]
-fn acts_leave_their_rows(rt: HostRuntime) -> Result<(), Fail> {
-    assert_eq!(rt; first_wrong(rt.alloc(), CASES)?, None);
-    Ok(())
+fn acts_leave_their_rows(rt: HostRuntime) {
+    assert_eq!(rt; first_wrong(rt.alloc()), Ok(None));
 }
 
 // The length of the columns of the first row that are in use, and what is done: no contract tells that, and scrolls and erasures cost it.
@@ -642,21 +607,10 @@ const FRONTS: &str = "\
 0: run 0 0 0 abcdefgh, region-up 0 1 1
 5: run 0 0 0 abcdefgh, size 3 5 0";
 
-fn is_front(alloc: Global, line: &str) -> Result<bool, AllocError> {
-    let Some((wanted, acts)) = line.split_once(": ") else {
-        return Ok(false);
-    };
+fn is_front(alloc: Global, wanted: &str, acts: &str) -> Result<bool, AllocError> {
     let mut ring = Ring::new(alloc, 2, 8)?;
     let played = play(alloc, &mut ring, acts)?;
     Ok(played && 0 < ring.rows() && number(wanted) == Some(ring.front_of_row(0).len()))
-}
-
-#[test]
-fn a_row_is_lent_up_to_where_it_is_written(rt: HostRuntime) -> Result<(), Fail> {
-    for line in FRONTS.lines() {
-        assert!(rt; is_front(rt.alloc(), line)?, "{line}");
-    }
-    Ok(())
 }
 
 // What is put into a row; a column, and code points that join its character; and what stands in the row's columns then.
@@ -682,36 +636,45 @@ fn has_cells(row: &[Cell], wanted: &str) -> bool {
 }
 
 // Whether code points join so, and all becomes blank after.
+fn are_joined(ring: &mut Ring, text: &str, col: usize, points: &str, cells: &str) -> bool {
+    put(ring, 1, 0, text, 3)
+        && join(ring, 1, col, points)
+        && 1 < ring.rows()
+        && has_cells(ring.row(1), cells)
+        && blank(ring, "blank", 0, 2)
+        && reads(ring.buffer(), "                ")
+}
+
 fn joins(alloc: Global, line: &str) -> Result<bool, AllocError> {
+    let [text, col, points, cells, _] = parts_of(line, '|');
     let mut ring = Ring::new(alloc, 2, 8)?;
-    let mut parts = line.split('|');
-    if let Some(text) = parts.next()
-        && let Some(col) = parts.next()
-        && let Some(col) = number(col)
-        && let Some(points) = parts.next()
-        && let Some(cells) = parts.next()
-    {
-        put(&mut ring, 1, 0, text, 3);
-        let joined = join(&mut ring, 1, col, points)
-            && 1 < ring.rows()
-            && has_cells(ring.row(1), cells);
-        return Ok(
-            joined && blank(&mut ring, "blank", 0, 2) && reads(ring.buffer(), "                "),
-        );
+    Ok(matches!(number(col), Some(col) if are_joined(&mut ring, text, col, points, cells)))
+}
+
+// The first line of either table that doesn't hold.
+fn first_wrong_line(alloc: Global) -> Result<Option<&'static str>, AllocError> {
+    for line in FRONTS.lines() {
+        let (wanted, acts) = line.split_once(": ").unwrap_or((line, ""));
+        if !is_front(alloc, wanted, acts)? {
+            return Ok(Some(line));
+        }
     }
-    Ok(false)
+    for line in JOINS.lines() {
+        if !joins(alloc, line)? {
+            return Ok(Some(line));
+        }
+    }
+    Ok(None)
 }
 
 #[test]
-fn code_points_join_the_character_of_a_column(rt: HostRuntime) -> Result<(), Fail> {
-    for line in JOINS.lines() {
-        assert!(rt; joins(rt.alloc(), line)?, "{line}");
-    }
-    Ok(())
+fn fronts_and_joins(rt: HostRuntime) {
+    assert_eq!(rt; first_wrong_line(rt.alloc()), Ok(None));
 }
 
 // What is done to three rows, one after the other; where the first row begins then, and the buffer.
 const ROUND: &str = "\
+put 0 0 0 a, put 1 0 0 b, put 2 0 0 c|0|a       b       c       
 up 1|1|        b       c       
 put 2 0 0 d|1|d       b       c       
 up 1|2|d               c       
@@ -722,50 +685,43 @@ up 9999|2|
 size 3 8 0|0|                        ";
 
 fn goes_round(alloc: Global, ring: &mut Ring, line: &str) -> Result<bool, AllocError> {
-    let mut parts = line.split('|');
-    if let Some(words) = parts.next()
-        && let Some(first) = parts.next()
-        && let Some(buffer) = parts.next()
-    {
-        let played = act(alloc, ring, words)?;
-        return Ok(played && number(first) == Some(ring.first()) && reads(ring.buffer(), buffer));
-    }
-    Ok(false)
+    let [acts, first, buffer, ..] = parts_of(line, '|');
+    let played = play(alloc, ring, acts)?;
+    Ok(played && number(first) == Some(ring.first()) && reads(ring.buffer(), buffer))
 }
 
-#[test]
-fn the_first_row_goes_round(rt: HostRuntime) -> Result<(), Fail> {
-    let mut ring = Ring::new(rt.alloc(), 3, 8)?;
-    assert!(rt;
-        play(
-            rt.alloc(),
-            &mut ring,
-            "put 0 0 0 a, put 1 0 0 b, put 2 0 0 c"
-        )?
-    );
+// The first line after which the rows lie otherwise.
+fn first_astray(alloc: Global) -> Result<Option<&'static str>, AllocError> {
+    let mut ring = Ring::new(alloc, 3, 8)?;
     for line in ROUND.lines() {
-        assert!(rt; goes_round(rt.alloc(), &mut ring, line)?, "{line}");
+        if !goes_round(alloc, &mut ring, line)? {
+            return Ok(Some(line));
+        }
     }
-    Ok(())
-}
-
-fn is_made(alloc: Global, rows: u16, cols: u16) -> Result<bool, AllocError> {
-    let size = (rows as usize, cols as usize);
-    if !is_size(rows, cols) {
-        return Ok(false);
-    }
-    let fitted = Fitted::new(alloc, size.0, size.1)?;
-    let ring = Ring::new(alloc, size.0, size.1)?;
-    Ok((fitted.rows(), fitted.cols()) == size && (ring.rows(), ring.cols()) == size)
+    Ok(None)
 }
 
 #[test]
-fn memory_is_made_for_a_size(rt: HostRuntime) -> Result<(), Fail> {
+fn the_first_row_goes_round(rt: HostRuntime) {
+    assert_eq!(rt; first_astray(rt.alloc()), Ok(None));
+}
+
+// Whether rows, and memory for rows, are made of a size.
+fn is_made(alloc: Global, rows: usize, cols: usize) -> Result<bool, AllocError> {
+    let fitted = fitted(alloc, rows, cols)?;
+    let ring = made(alloc, rows, cols)?;
+    Ok(
+        matches!(&fitted, Some(fitted) if (fitted.rows(), fitted.cols()) == (rows, cols))
+            && (ring.rows(), ring.cols()) == (rows, cols),
+    )
+}
+
+#[test]
+fn memory_is_made_for_a_size(rt: HostRuntime) {
     for (rows, cols) in [(2, 4), (24, 80), (200, 500)] {
-        assert!(rt; is_made(rt.alloc(), rows, cols)?);
+        assert_eq!(rt; is_made(rt.alloc(), rows, cols), Ok(true));
     }
     laws::rows_of_the_buffer();
     laws::rows_stay_where_all_go_up();
     laws::rows_stay_where_all_go_down();
-    Ok(())
 }
