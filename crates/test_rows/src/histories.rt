@@ -26,20 +26,14 @@ fn add(cells: &mut Vec<Cell>, c: char, pen: char) -> Result<(), AllocError> {
     Ok(())
 }
 
+// The pens of eight columns, all plain.
+const PLAIN: &str = "00000000";
+
 // The cells of these characters, each with its pen.
 fn cells_of(alloc: Global, text: &str, pens: &str) -> Result<Vec<Cell>, AllocError> {
     let mut cells = Vec::new(alloc);
     for (c, pen) in text.chars().zip(pens.chars()) {
         add(&mut cells, c, pen)?;
-    }
-    Ok(cells)
-}
-
-// The cells of these characters, all plain.
-fn plain_cells(alloc: Global, text: &str) -> Result<Vec<Cell>, AllocError> {
-    let mut cells = Vec::new(alloc);
-    for c in text.chars() {
-        add(&mut cells, c, '0')?;
     }
     Ok(cells)
 }
@@ -64,7 +58,7 @@ fn push(history: &mut History, front: &[Cell]) {
 // The cells of a number, in all eight columns or in those that it takes.
 fn numbered(alloc: Global, number: usize, is_whole: bool) -> Result<Vec<Cell>, AllocError> {
     let text = format!(in alloc; "{number}")?;
-    let mut cells = plain_cells(alloc, text.as_str())?;
+    let mut cells = cells_of(alloc, text.as_str(), PLAIN)?;
     if is_whole {
         cells.resize(8, Cell::blank())?;
     }
@@ -94,16 +88,19 @@ fn counts(alloc: Global, history: &History, first: usize, len: usize) -> Result<
     for i in 0..len {
         let number = first.saturating_add(i);
         let text = format!(in alloc; "{number:<8}")?;
-        if !shows(history, i, text.as_str(), "00000000") {
+        if !shows(history, i, text.as_str(), PLAIN) {
             return Ok(false);
         }
     }
     Ok(true)
 }
 
-// What a line says: `kept`, of so many lines and rows pushed, the number of the oldest that is kept, and how many are; `made` and
-// `refused`, lines and columns; `stays`, columns that are refused to a history, which stays as it was.
-const SIZES: &str = "\
+// What a line says. `kept`: of so many lines and rows pushed, the number of the oldest that is kept, and how many are. `made` and
+// `refused`: lines and columns. `stays`: columns that are refused to a history, which stays as it was. `front`: the columns to which a
+// history of one line of 8 columns comes, the length of its row in use then, and the fronts that were pushed: no contract tells that, and a
+// push and a copy cost it. `cut`: from how many columns to how many; a row's characters and their pens; what it shows then, each column, a
+// right half as `~`, and its pen. A pen is plain (0), bold (1), guarded (2) or both (3).
+const ROWS: &str = "\
 kept 0 0 1 0
 kept 0 3 1 0
 kept 1 0 1 0
@@ -132,7 +129,30 @@ refused 0 max
 stays 0
 stays 3
 stays 501
-stays max";
+stays max
+front 8 3|abc
+front 8 2|abcdefgh,ab
+front 8 8|ab,abcdefgh
+front 8 0|abcdefgh,
+front 4 4|abcdef
+front 250 6|abcdef
+cut 8 4|\u{4E2D}cdefgh|3000000|\u{4E2D}~cd|3300
+cut 8 4|a\u{4E2D}defgh|0300000|a\u{4E2D}~d|0330
+cut 8 4|ab\u{4E2D}efgh|0030000|ab\u{4E2D}~|0033
+cut 8 4|abc\u{4E2D}fgh|0003000|abc |0003
+cut 8 4|abcd\u{4E2D}gh|0000300|abcd|0000
+cut 8 4|abcde\u{4E2D}h|0000030|abcd|0000
+cut 8 4|abcdef\u{4E2D}|0000003|abcd|0000
+cut 8 4|abc\u{4E2D}|1111|abc |1111
+cut 5 4|abc\u{4E2D}|3332|abc |3332
+cut 8 7|abcdef\u{4E2D}|0000001|abcdef |0000001
+cut 8 8|abcdef\u{4E2D}|0000001|abcdef\u{4E2D}~|00000011
+cut 8 10|abcdef\u{4E2D}|2222221|abcdef\u{4E2D}~  |2222221100
+cut 8 5|\u{4E2D}\u{4E2D}\u{4E2D}\u{4E2D}|2222|\u{4E2D}~\u{4E2D}~ |22222
+cut 8 5|ab|11|ab   |11000
+cut 4 9|ab|11|ab       |110000000
+cut 4 5|abcd|3333|abcd |33330
+cut 6 4|||    |0000";
 
 fn are_kept(
     alloc: Global,
@@ -151,48 +171,20 @@ fn is_made(alloc: Global, lines: usize, cols: usize) -> Result<bool, Fault> {
     Ok(history.lines() == lines && history.cols() == cols)
 }
 
-fn stays(alloc: Global, cols: usize) -> Result<bool, Fault> {
-    let mut history = counted(alloc, 2, 3)?;
-    let refused = history.refit(alloc, cols) == Err(Fault::BadSize)
-        && matches!(history.fit(alloc, cols), Err(Fault::BadSize));
-    Ok(refused && counts(alloc, &history, 2, 2)?)
+fn refuses(alloc: Global, history: &mut History, cols: usize) -> bool {
+    history.refit(alloc, cols) == Err(Fault::BadSize)
+        && matches!(history.fit(alloc, cols), Err(Fault::BadSize))
+        && counts(alloc, history, 2, 2) == Ok(true)
 }
 
-fn is_sized(alloc: Global, line: &str) -> Result<bool, Fault> {
-    let (word, rest) = line.split_once(' ').unwrap_or((line, ""));
-    match (word, numbers(rest)) {
-        ("kept", Some((4, lines, rows, first, len))) => are_kept(alloc, lines, rows, first, len),
-        ("made", Some((2, lines, cols, _, _))) => is_made(alloc, lines, cols),
-        ("refused", Some((2, lines, cols, _, _))) => Ok(
-            is_made(alloc, lines, cols) == Err(Fault::BadSize),
-        ),
-        ("stays", Some((1, cols, _, _, _))) => stays(alloc, cols),
-        _ => Ok(false),
+fn stays(alloc: Global, cols: usize) -> bool {
+    match counted(alloc, 2, 3) {
+        Ok(mut history) => refuses(alloc, &mut history, cols),
+        Err(_) => false,
     }
 }
 
-// A row of a history, and what it shows at other columns: from how many columns to how many; its characters and their pens; each column, a
-// right half as `~`, and its pen. A pen is plain (0), bold (1), guarded (2) or both (3).
-const REFITTED: &str = "\
-8 4|\u{4E2D}cdefgh|3000000|\u{4E2D}~cd|3300
-8 4|a\u{4E2D}defgh|0300000|a\u{4E2D}~d|0330
-8 4|ab\u{4E2D}efgh|0030000|ab\u{4E2D}~|0033
-8 4|abc\u{4E2D}fgh|0003000|abc |0003
-8 4|abcd\u{4E2D}gh|0000300|abcd|0000
-8 4|abcde\u{4E2D}h|0000030|abcd|0000
-8 4|abcdef\u{4E2D}|0000003|abcd|0000
-8 4|abc\u{4E2D}|1111|abc |1111
-5 4|abc\u{4E2D}|3332|abc |3332
-8 7|abcdef\u{4E2D}|0000001|abcdef |0000001
-8 8|abcdef\u{4E2D}|0000001|abcdef\u{4E2D}~|00000011
-8 10|abcdef\u{4E2D}|2222221|abcdef\u{4E2D}~  |2222221100
-8 5|\u{4E2D}\u{4E2D}\u{4E2D}\u{4E2D}|2222|\u{4E2D}~\u{4E2D}~ |22222
-8 5|ab|11|ab   |11000
-4 9|ab|11|ab       |110000000
-4 5|abcd|3333|abcd |33330
-6 4|||    |0000";
-
-// Columns to which a history of two rows comes, by `refit`, or by `fit` and `adopt`.
+// Columns to which a history comes, by `refit`, or by `fit` and `adopt`.
 fn refit(alloc: Global, history: &mut History, cols: usize, in_parts: bool) -> Result<(), Fault> {
     if !in_parts {
         return history.refit(alloc, cols);
@@ -219,103 +211,117 @@ fn shows_both(history: &History, cols: usize, text: &str, pens: &str) -> bool {
     sized && shows(history, 0, text, pens) && shows(history, 1, text, pens)
 }
 
-fn is_refitted(alloc: Global, line: &str, in_parts: bool) -> Result<bool, Fault> {
-    let [columns, row, row_pens, text, pens] = parts_of(line, '|');
-    let Some((2, from, to, _, _)) = numbers(columns) else {
-        return Ok(false);
-    };
-    let cells = cells_of(alloc, row, row_pens)?;
-    let mut history = full_of(alloc, from, &cells)?;
+fn refitted(
+    alloc: Global,
+    from: usize,
+    to: usize,
+    row: &[Cell],
+    in_parts: bool,
+) -> Result<History, Fault> {
+    let mut history = full_of(alloc, from, row)?;
     refit(alloc, &mut history, to, in_parts)?;
-    Ok(shows_both(&history, to, text, pens))
+    Ok(history)
 }
 
-// The columns to which a history of one line of 8 columns comes, the length of its row in use then, and the fronts that were pushed: no
-// contract tells that, and a push and a copy cost it.
-const FRONTS: &str = "\
-8 3|abc
-8 2|abcdefgh,ab
-8 8|ab,abcdefgh
-8 0|abcdefgh,
-4 4|abcdef
-250 6|abcdef";
+fn is_cut(alloc: Global, line: &str, in_parts: bool) -> bool {
+    let [columns, row, row_pens, text, pens] = parts_of(line, '|');
+    match (numbers(columns), cells_of(alloc, row, row_pens)) {
+        (Some((2, from, to, _, _)), Ok(cells)) =>
+            matches!(refitted(alloc, from, to, &cells, in_parts), Ok(history) if shows_both(&history, to, text, pens)),
+        _ => false,
+    }
+}
 
-fn length_in_use(alloc: Global, fronts: &str, cols: usize) -> Result<usize, Fault> {
-    let mut history = History::new(alloc, 1, 8)?;
+fn push_fronts(alloc: Global, history: &mut History, fronts: &str) -> Result<(), AllocError> {
     for front in fronts.split(',') {
-        let cells = plain_cells(alloc, front)?;
-        push(&mut history, &cells);
+        let cells = cells_of(alloc, front, PLAIN)?;
+        push(history, &cells);
     }
-    history.refit(alloc, cols)?;
-    if history.len() == 0 {
-        return Ok(usize::MAX);
-    }
-    Ok(history.front_of_row(0).len())
+    Ok(())
 }
 
-fn is_lent(alloc: Global, line: &str) -> Result<bool, Fault> {
+fn fronts_refitted(alloc: Global, fronts: &str, cols: usize) -> Result<History, Fault> {
+    let mut history = History::new(alloc, 1, 8)?;
+    push_fronts(alloc, &mut history, fronts)?;
+    history.refit(alloc, cols)?;
+    Ok(history)
+}
+
+fn has_front(history: &History, length: usize) -> bool {
+    history.len() != 0 && history.front_of_row(0).len() == length
+}
+
+fn is_lent(alloc: Global, line: &str) -> bool {
     let (columns, fronts) = line.split_once('|').unwrap_or((line, ""));
     match numbers(columns) {
-        Some((2, cols, length, _, _)) => Ok(length_in_use(alloc, fronts, cols)? == length),
-        _ => Ok(false),
+        Some((2, cols, length, _, _)) =>
+            matches!(fronts_refitted(alloc, fronts, cols), Ok(history) if has_front(&history, length)),
+        _ => false,
     }
 }
 
-// The first line of any table that doesn't hold.
-fn first_wrong(alloc: Global) -> Result<Option<&'static str>, Fault> {
-    for line in SIZES.lines() {
-        if !is_sized(alloc, line)? {
-            return Ok(Some(line));
-        }
+fn is_sized(alloc: Global, word: &str, rest: &str) -> bool {
+    match (word, numbers(rest)) {
+        ("kept", Some((4, lines, rows, first, len))) => are_kept(alloc, lines, rows, first, len)
+            == Ok(true),
+        ("made", Some((2, lines, cols, _, _))) => is_made(alloc, lines, cols) == Ok(true),
+        ("refused", Some((2, lines, cols, _, _))) => is_made(alloc, lines, cols)
+            == Err(Fault::BadSize),
+        ("stays", Some((1, cols, _, _, _))) => stays(alloc, cols),
+        _ => false,
     }
-    for line in REFITTED.lines() {
-        if !is_refitted(alloc, line, false)? || !is_refitted(alloc, line, true)? {
-            return Ok(Some(line));
-        }
+}
+
+fn holds(alloc: Global, line: &str) -> bool {
+    let (word, rest) = line.split_once(' ').unwrap_or((line, ""));
+    match word {
+        "front" => is_lent(alloc, rest),
+        "cut" => is_cut(alloc, rest, false) && is_cut(alloc, rest, true),
+        _ => is_sized(alloc, word, rest),
     }
-    for line in FRONTS.lines() {
-        if !is_lent(alloc, line)? {
-            return Ok(Some(line));
-        }
-    }
-    Ok(None)
 }
 
 #[test]
-fn lines_of_the_tables(rt: HostRuntime) {
-    assert_eq!(rt; first_wrong(rt.alloc()), Ok(None));
-}
-
-fn takes_a_size(alloc: Global, history: &mut History, cols: usize) -> Result<bool, Fault> {
-    let fitted = history.fit(alloc, cols)?;
-    history.refit(alloc, cols)?;
-    Ok(
-        (fitted.lines(), fitted.cols()) == (3, cols)
-            && (history.len(), history.lines(), history.cols()) == (3, 3, cols),
-    )
-}
-
-// Whether a history of four rows that took three sizes goes on with a fifth.
-fn goes_on(alloc: Global, history: &mut History) -> Result<bool, Fault> {
-    for cols in [4, 500, 8] {
-        if !takes_a_size(alloc, history, cols)? {
-            return Ok(false);
-        }
+fn rows_of_histories(rt: HostRuntime) {
+    for line in ROWS.lines() {
+        assert!(rt; holds(rt.alloc(), line), "{line}");
     }
-    let counted = counts(alloc, history, 2, 3)?;
-    push(history, &numbered(alloc, 5, false)?);
-    Ok(counted && counts(alloc, history, 3, 3)?)
 }
 
-fn four_go_on(alloc: Global) -> Result<bool, Fault> {
-    let mut history = counted(alloc, 3, 4)?;
-    goes_on(alloc, &mut history)
+fn takes_a_size(alloc: Global, history: &mut History, cols: usize) -> bool {
+    matches!(history.fit(alloc, cols), Ok(fitted) if (fitted.lines(), fitted.cols()) == (3, cols))
+        && history.refit(alloc, cols) == Ok(())
+        && (history.len(), history.lines(), history.cols()) == (3, 3, cols)
+}
+
+fn push_number(alloc: Global, history: &mut History, number: usize) -> bool {
+    match numbered(alloc, number, false) {
+        Ok(cells) => push(history, &cells),
+        Err(_) => return false,
+    }
+    true
+}
+
+// Whether a history of four rows that takes three sizes goes on with a fifth.
+fn goes_on(alloc: Global, history: &mut History) -> bool {
+    takes_a_size(alloc, history, 4)
+        && takes_a_size(alloc, history, 500)
+        && takes_a_size(alloc, history, 8)
+        && counts(alloc, history, 2, 3) == Ok(true)
+        && push_number(alloc, history, 5)
+        && counts(alloc, history, 3, 3) == Ok(true)
+}
+
+fn four_go_on(alloc: Global) -> bool {
+    match counted(alloc, 3, 4) {
+        Ok(mut history) => goes_on(alloc, &mut history),
+        Err(_) => false,
+    }
 }
 
 #[test]
 fn rows_go_on_after_a_size(rt: HostRuntime) {
-    assert_eq!(rt; four_go_on(rt.alloc()), Ok(true));
-    assert_eq!(rt; MOST_LINES, 500);
+    assert!(rt; four_go_on(rt.alloc()) && MOST_LINES == 500);
     laws::nothing_was_pushed();
     laws::one_more_was_pushed();
     laws::all_were_refitted();

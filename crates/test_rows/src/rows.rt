@@ -44,12 +44,12 @@ fn made(alloc: Global, rows: usize, cols: usize) -> Result<Ring, AllocError> {
 }
 
 // Memory for rows of a size; none where it is out of the limits.
-fn fitted(alloc: Global, rows: usize, cols: usize) -> Result<Option<Fitted>, AllocError> {
+fn fitted(alloc: Global, rows: usize, cols: usize) -> Option<Fitted> {
     let (rows, cols) = (rows.min(999) as u16, cols.min(999) as u16);
     if is_size(rows, cols) {
-        return Ok(Some(Fitted::new(alloc, rows as usize, cols as usize)?));
+        return Fitted::new(alloc, rows as usize, cols as usize).ok();
     }
-    Ok(None)
+    None
 }
 
 fn put(ring: &mut Ring, row: usize, col: usize, text: &str, pen: u8) -> bool {
@@ -163,24 +163,18 @@ fn fill(ring: &mut Ring, text: &str) -> bool {
     }
 }
 
-fn take_size(
-    alloc: Global,
-    ring: &mut Ring,
-    rows: usize,
-    cols: usize,
-    off: usize,
-) -> Result<bool, AllocError> {
-    match fitted(alloc, rows, cols)? {
+fn take_size(ring: &mut Ring, fitted: Option<Fitted>, off: usize) -> bool {
+    match fitted {
         Some(fitted) => ring.adopt(fitted, off),
-        None => return Ok(false),
+        None => return false,
     }
-    Ok(true)
+    true
 }
 
-fn size(alloc: Global, ring: &mut Ring, words: &str) -> Result<bool, AllocError> {
+fn size(alloc: Global, ring: &mut Ring, words: &str) -> bool {
     match numbers(words) {
-        Some((3, rows, cols, off, _)) => take_size(alloc, ring, rows, cols, off),
-        _ => Ok(false),
+        Some((3, rows, cols, off, _)) => take_size(ring, fitted(alloc, rows, cols), off),
+        _ => false,
     }
 }
 
@@ -194,25 +188,23 @@ fn change(ring: &mut Ring, name: &str, words: &str) -> bool {
     }
 }
 
-fn act(alloc: Global, ring: &mut Ring, words: &str) -> Result<bool, AllocError> {
-    let Some((name, rest)) = words.split_once(' ') else {
-        return Ok(false);
-    };
+fn act(alloc: Global, ring: &mut Ring, words: &str) -> bool {
+    let (name, rest) = words.split_once(' ').unwrap_or((words, ""));
     match name {
-        "put" | "run" | "join" => Ok(write(ring, name, rest)),
-        "fill" => Ok(fill(ring, rest)),
+        "put" | "run" | "join" => write(ring, name, rest),
+        "fill" => fill(ring, rest),
         "size" => size(alloc, ring, rest),
-        _ => Ok(change(ring, name, rest)),
+        _ => change(ring, name, rest),
     }
 }
 
-fn play(alloc: Global, ring: &mut Ring, acts: &str) -> Result<bool, AllocError> {
+fn play(alloc: Global, ring: &mut Ring, acts: &str) -> bool {
     for words in acts.split(", ") {
-        if !act(alloc, ring, words)? {
-            return Ok(false);
+        if !act(alloc, ring, words) {
+            return false;
         }
     }
-    Ok(true)
+    true
 }
 
 // What acts leave of blank rows.
@@ -556,70 +548,65 @@ fn shows(ring: &Ring, rows: &str) -> bool {
     lines.next().is_none()
 }
 
-fn shows_after(alloc: Global, ring: &mut Ring, acts: &str, rows: &str) -> Result<bool, AllocError> {
-    Ok(play(alloc, ring, acts)? && shows(ring, rows))
+// A case on rows that begin so many rows later in the buffer.
+fn plays(alloc: Global, ring: &mut Ring, turned: usize, acts: &str, rows: &str) -> bool {
+    ring.scroll_up(turned);
+    play(alloc, ring, acts) && shows(ring, rows)
 }
 
-// A case on rows that begin so many rows later in the buffer.
-fn holds(alloc: Global, case: &str, turned: usize) -> Result<bool, AllocError> {
+fn is_played(alloc: Global, size: &str, turned: usize, acts: &str, rows: &str) -> bool {
+    let Some((2, height, width, _, _)) = numbers(size) else {
+        return false;
+    };
+    match made(alloc, height, width) {
+        Ok(mut ring) => plays(alloc, &mut ring, turned, acts, rows),
+        Err(_) => false,
+    }
+}
+
+// Whether a case holds on rows as they are made, and on rows that begin later in the buffer.
+fn holds(alloc: Global, case: &str) -> bool {
     let (_, rest) = case.split_once('\n').unwrap_or((case, ""));
     let (line, rows) = rest.split_once('\n').unwrap_or((rest, ""));
     let (size, acts) = line.split_once(": ").unwrap_or((line, ""));
-    let Some((2, height, width, _, _)) = numbers(size) else {
-        return Ok(false);
-    };
-    let mut ring = made(alloc, height, width)?;
-    ring.scroll_up(turned);
-    shows_after(alloc, &mut ring, acts, rows)
-}
-
-// The first case that doesn't hold, on rows as they are made or on rows that begin later in the buffer.
-fn first_wrong(alloc: Global) -> Result<Option<&'static str>, AllocError> {
-    for case in CASES.split("\n\n") {
-        for turned in 0..2usize {
-            if !holds(alloc, case, turned)? {
-                return Ok(Some(case));
-            }
-        }
-    }
-    Ok(None)
+    is_played(alloc, size, 0, acts, rows) && is_played(alloc, size, 1, acts, rows)
 }
 
 #[test]
 fn acts_leave_their_rows(rt: HostRuntime) {
-    assert_eq!(rt; first_wrong(rt.alloc()), Ok(None));
+    for case in CASES.split("\n\n") {
+        assert!(rt; holds(rt.alloc(), case), "{case}");
+    }
 }
 
-// The length of the columns of the first row that are in use, and what is done: no contract tells that, and scrolls and erasures cost it.
-const FRONTS: &str = "\
-0: up 0
-2: put 0 0 0 ab
-5: put 0 3 0 \u{4E2D}
-4: run 0 1 0 abc, put 0 0 0 x
-3: run 0 0 0 abcdefgh, erase 0 3 8
-8: run 0 0 0 abcdefgh, erase 0 3 6
-3: run 0 0 0 abc, erase-unguarded 0 0 8
-5: run 0 0 0 abc, insert 0 1 2
-3: run 0 0 0 abc, insert 0 3 2
-1: run 0 0 0 abc, delete 0 0 2
-6: run 0 0 0 abc, join 0 5 \u{301}
-3: run 1 0 0 abc, up 1
-0: run 0 0 0 abcdefgh, region-up 0 1 1
-5: run 0 0 0 abcdefgh, size 3 5 0";
+// What is done to blank rows of 2 by 8, a line each. `front`: the length of the columns of the first row that are in use then, and what is
+// done: no contract tells that, and scrolls and erasures cost it. `join`: what is put into a row; a column, and code points that join its
+// character; and what stands in the row's columns then.
+const LINES: &str = "\
+front 0: up 0
+front 2: put 0 0 0 ab
+front 5: put 0 3 0 \u{4E2D}
+front 4: run 0 1 0 abc, put 0 0 0 x
+front 3: run 0 0 0 abcdefgh, erase 0 3 8
+front 8: run 0 0 0 abcdefgh, erase 0 3 6
+front 3: run 0 0 0 abc, erase-unguarded 0 0 8
+front 5: run 0 0 0 abc, insert 0 1 2
+front 3: run 0 0 0 abc, insert 0 3 2
+front 1: run 0 0 0 abc, delete 0 0 2
+front 6: run 0 0 0 abc, join 0 5 \u{301}
+front 3: run 1 0 0 abc, up 1
+front 0: run 0 0 0 abcdefgh, region-up 0 1 1
+front 5: run 0 0 0 abcdefgh, size 3 5 0
+join ab|0|\u{301}|a\u{301}/b
+join \u{4E2D}b|1|\u{301}|\u{4E2D}\u{301}//b
+join a|0|\u{301}\u{302}\u{303}|a\u{301}\u{302}
+join a|0|b|a
+join a|7|\u{301}|a/ / / / / / / \u{301}";
 
-fn is_front(alloc: Global, wanted: &str, acts: &str) -> Result<bool, AllocError> {
-    let mut ring = Ring::new(alloc, 2, 8)?;
-    let played = play(alloc, &mut ring, acts)?;
-    Ok(played && 0 < ring.rows() && number(wanted) == Some(ring.front_of_row(0).len()))
+fn is_front(alloc: Global, ring: &mut Ring, line: &str) -> bool {
+    let (wanted, acts) = line.split_once(": ").unwrap_or((line, ""));
+    play(alloc, ring, acts) && 0 < ring.rows() && number(wanted) == Some(ring.front_of_row(0).len())
 }
-
-// What is put into a row; a column, and code points that join its character; and what stands in the row's columns then.
-const JOINS: &str = "\
-ab|0|\u{301}|a\u{301}/b
-\u{4E2D}b|1|\u{301}|\u{4E2D}\u{301}//b
-a|0|\u{301}\u{302}\u{303}|a\u{301}\u{302}
-a|0|b|a
-a|7|\u{301}|a/ / / / / / / \u{301}";
 
 fn has_cells(row: &[Cell], wanted: &str) -> bool {
     let is_cell = |cell: &Cell, points: &str| cell
@@ -645,31 +632,25 @@ fn are_joined(ring: &mut Ring, text: &str, col: usize, points: &str, cells: &str
         && reads(ring.buffer(), "                ")
 }
 
-fn joins(alloc: Global, line: &str) -> Result<bool, AllocError> {
+fn joins(ring: &mut Ring, line: &str) -> bool {
     let [text, col, points, cells, _] = parts_of(line, '|');
-    let mut ring = Ring::new(alloc, 2, 8)?;
-    Ok(matches!(number(col), Some(col) if are_joined(&mut ring, text, col, points, cells)))
+    matches!(number(col), Some(col) if are_joined(ring, text, col, points, cells))
 }
 
-// The first line of either table that doesn't hold.
-fn first_wrong_line(alloc: Global) -> Result<Option<&'static str>, AllocError> {
-    for line in FRONTS.lines() {
-        let (wanted, acts) = line.split_once(": ").unwrap_or((line, ""));
-        if !is_front(alloc, wanted, acts)? {
-            return Ok(Some(line));
-        }
+fn is_line(alloc: Global, ring: &mut Ring, line: &str) -> bool {
+    let (word, rest) = line.split_once(' ').unwrap_or((line, ""));
+    match word {
+        "front" => is_front(alloc, ring, rest),
+        "join" => joins(ring, rest),
+        _ => false,
     }
-    for line in JOINS.lines() {
-        if !joins(alloc, line)? {
-            return Ok(Some(line));
-        }
-    }
-    Ok(None)
 }
 
-#[test]
-fn fronts_and_joins(rt: HostRuntime) {
-    assert_eq!(rt; first_wrong_line(rt.alloc()), Ok(None));
+fn is_line_on_blank(alloc: Global, line: &str) -> bool {
+    match Ring::new(alloc, 2, 8) {
+        Ok(mut ring) => is_line(alloc, &mut ring, line),
+        Err(_) => false,
+    }
 }
 
 // What is done to three rows, one after the other; where the first row begins then, and the buffer.
@@ -684,42 +665,43 @@ down 1|2|
 up 9999|2|                        
 size 3 8 0|0|                        ";
 
-fn goes_round(alloc: Global, ring: &mut Ring, line: &str) -> Result<bool, AllocError> {
-    let [acts, first, buffer, ..] = parts_of(line, '|');
-    let played = play(alloc, ring, acts)?;
-    Ok(played && number(first) == Some(ring.first()) && reads(ring.buffer(), buffer))
-}
-
-// The first line after which the rows lie otherwise.
-fn first_astray(alloc: Global) -> Result<Option<&'static str>, AllocError> {
-    let mut ring = Ring::new(alloc, 3, 8)?;
+fn goes_round(alloc: Global, ring: &mut Ring) -> bool {
     for line in ROUND.lines() {
-        if !goes_round(alloc, &mut ring, line)? {
-            return Ok(Some(line));
+        let [acts, first, buffer, ..] = parts_of(line, '|');
+        let played = play(alloc, ring, acts);
+        if !played || number(first) != Some(ring.first()) || !reads(ring.buffer(), buffer) {
+            return false;
         }
     }
-    Ok(None)
+    true
+}
+
+fn three_go_round(alloc: Global) -> bool {
+    match Ring::new(alloc, 3, 8) {
+        Ok(mut ring) => goes_round(alloc, &mut ring),
+        Err(_) => false,
+    }
 }
 
 #[test]
-fn the_first_row_goes_round(rt: HostRuntime) {
-    assert_eq!(rt; first_astray(rt.alloc()), Ok(None));
+fn fronts_joins_and_the_first_row(rt: HostRuntime) {
+    for line in LINES.lines() {
+        assert!(rt; is_line_on_blank(rt.alloc(), line), "{line}");
+    }
+    assert!(rt; three_go_round(rt.alloc()));
 }
 
 // Whether rows, and memory for rows, are made of a size.
-fn is_made(alloc: Global, rows: usize, cols: usize) -> Result<bool, AllocError> {
-    let fitted = fitted(alloc, rows, cols)?;
-    let ring = made(alloc, rows, cols)?;
-    Ok(
-        matches!(&fitted, Some(fitted) if (fitted.rows(), fitted.cols()) == (rows, cols))
-            && (ring.rows(), ring.cols()) == (rows, cols),
-    )
+fn is_made(alloc: Global, rows: usize, cols: usize) -> bool {
+    let size = (rows, cols);
+    matches!(fitted(alloc, rows, cols), Some(fitted) if (fitted.rows(), fitted.cols()) == size)
+        && matches!(made(alloc, rows, cols), Ok(ring) if (ring.rows(), ring.cols()) == size)
 }
 
 #[test]
 fn memory_is_made_for_a_size(rt: HostRuntime) {
     for (rows, cols) in [(2, 4), (24, 80), (200, 500)] {
-        assert_eq!(rt; is_made(rt.alloc(), rows, cols), Ok(true));
+        assert!(rt; is_made(rt.alloc(), rows, cols), "{rows}");
     }
     laws::rows_of_the_buffer();
     laws::rows_stay_where_all_go_up();
