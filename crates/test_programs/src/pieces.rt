@@ -96,78 +96,63 @@ fn is_drawn(shot: &Shot, style: Style) -> bool {
     }
 }
 
-fn draws(alloc: Global, term: &mut Term, before: &str, style: Style) -> Result<bool, Fail> {
+fn draws(alloc: Global, term: &mut Term, before: &str, style: Style) -> Result<bool, Fault> {
     term.feed(before.as_bytes())?;
     term.feed(b"a")?;
     Ok(is_drawn(&term.shot(alloc, 0)?, style))
 }
 
-fn is_rendered(alloc: Global, line: &str) -> Result<bool, Fail> {
-    let Some((before, words)) = line.split_once('|') else {
-        return Ok(false);
-    };
-    let Some(style) = style_of(words) else {
-        return Ok(false);
-    };
-    let mut term = Term::new(alloc, 2, 8, 0)?;
-    draws(alloc, &mut term, before, style)
+fn is_rendered(alloc: Global, line: &str) -> bool {
+    let (before, words) = line.split_once('|').unwrap_or((line, ""));
+    match (style_of(words), Term::new(alloc, 2, 8, 0)) {
+        (Some(style), Ok(mut term)) => matches!(draws(alloc, &mut term, before, style), Ok(true)),
+        _ => false,
+    }
 }
 
 #[test]
-fn renditions(rt: HostRuntime) -> Result<(), Fail> {
+fn renditions(rt: HostRuntime) {
     for line in RENDERED.lines() {
-        assert!(rt; is_rendered(rt.alloc(), line)?, "{line:?}");
+        assert!(rt; is_rendered(rt.alloc(), line), "{line:?}");
     }
-    Ok(())
 }
 
-fn reverses(alloc: Global, term: &mut Term, input: &str) -> Result<Option<bool>, Fail> {
+// Inputs, and whether they leave the first character in reverse: DECSCNM turns the reverse flag of each cell, twice the same as once.
+const REVERSED: &str = "\
+\x1B[?5ha|yes
+\x1B[?5h\x1B[?5ha|yes
+\x1B[?25;5ha|yes
+\x1B[7m\x1B[?5ha|no
+\x1B[?5ha\x1B[?5l|no";
+
+fn is_in_reverse(alloc: Global, term: &mut Term, input: &str) -> Result<Option<bool>, Fault> {
     term.feed(input.as_bytes())?;
     let shot = term.shot(alloc, 0)?;
-    Ok(shot.at(1, 1).map(|cell| cell.style().reverse))
-}
-
-fn is_reversed(alloc: Global, input: &str) -> Result<Option<bool>, Fail> {
-    let mut term = Term::new(alloc, 2, 8, 0)?;
-    reverses(alloc, &mut term, input)
-}
-
-// Inputs that leave the first character in reverse, and one that doesn't.
-const REVERSED: &str = "\
-\x1B[?5ha
-\x1B[?5h\x1B[?5ha
-\x1B[?25;5ha";
-
-const REVERSED_TWICE: &str = "\x1B[7m\x1B[?5ha";
-
-const REVERSED_AND_BACK: &str = "\x1B[?5ha\x1B[?5l";
-
-// The whole screen in reverse: DECSCNM turns the reverse flag of each cell, twice the same as once.
-#[test]
-fn a_reversed_screen(rt: HostRuntime) -> Result<(), Fail> {
-    for input in REVERSED.lines() {
-        assert!(rt; is_reversed(rt.alloc(), input)? == Some(true), "{input:?}");
+    match shot.at(1, 1) {
+        Some(cell) => Ok(Some(cell.style().reverse)),
+        None => Ok(None),
     }
-    assert!(rt; is_reversed(rt.alloc(), REVERSED_TWICE)? == Some(false));
-    assert!(rt; is_reversed(rt.alloc(), REVERSED_AND_BACK)? == Some(false));
-    Ok(())
+}
+
+fn is_reversed(alloc: Global, line: &str) -> bool {
+    let (input, answer) = line.split_once('|').unwrap_or((line, ""));
+    match Term::new(alloc, 2, 8, 0) {
+        Ok(mut term) => is_in_reverse(alloc, &mut term, input) == Ok(Some(answer == "yes")),
+        Err(_) => false,
+    }
+}
+
+#[test]
+fn a_reversed_screen(rt: HostRuntime) {
+    for line in REVERSED.lines() {
+        assert!(rt; is_reversed(rt.alloc(), line), "{line:?}");
+    }
 }
 
 fn size_shown(alloc: Global, term: &Term) -> Result<(u16, u16), Fault> {
     let shot = term.shot(alloc, 0)?;
     Ok((shot.rows(), shot.cols()))
 }
-
-static MADE: [(u16, u16, u16); 3] = [(2, 4, 0), (200, 500, 500), (24, 80, 1)];
-
-static REFUSED: [(u16, u16, u16); 6] = [
-    (1, 8, 0),
-    (201, 8, 0),
-    (2, 3, 0),
-    (2, 501, 0),
-    (2, 8, 501),
-    (0, 0, 65535),
-];
 
 fn size_made(alloc: Global, rows: u16, cols: u16, lines: u16) -> Result<(u16, u16), Fault> {
     let term = Term::new(alloc, rows, cols, lines)?;
@@ -176,71 +161,46 @@ fn size_made(alloc: Global, rows: u16, cols: u16, lines: u16) -> Result<(u16, u1
 
 #[test]
 fn sizes_and_lines(rt: HostRuntime) {
-    for (rows, cols, lines) in MADE.iter() {
-        assert!(rt; size_made(rt.alloc(), *rows, *cols, *lines) == Ok((*rows, *cols)));
+    for (rows, cols, lines) in [(2, 4, 0), (200, 500, 500), (24, 80, 1)] {
+        assert!(rt;
+            size_made(rt.alloc(), rows, cols, lines) == Ok((rows, cols)),
+            "{rows}"
+        );
     }
-    for (rows, cols, lines) in REFUSED.iter() {
-        assert!(rt; size_made(rt.alloc(), *rows, *cols, *lines) == Err(Fault::BadSize));
+    for (rows, cols, lines) in [
+        (1, 8, 0),
+        (201, 8, 0),
+        (2, 3, 0),
+        (2, 501, 0),
+        (2, 8, 501),
+        (0, 0, 65535),
+    ] {
+        assert!(rt;
+            size_made(rt.alloc(), rows, cols, lines) == Err(Fault::BadSize),
+            "{rows}"
+        );
     }
 }
 
-// What a screen shows in its first row.
-fn shows_first(alloc: Global, term: &Term, view: u16, wanted: &str) -> Result<bool, Fail> {
+// Whether the first row of a view is this one.
+fn shows_first(alloc: Global, term: &Term, view: u16, wanted: &str) -> Result<bool, Fault> {
     let shot = term.shot(alloc, view)?;
-    let mut text = String::new(alloc);
-    for c in shot.row_text(alloc, 0)? {
-        text.push(c)?;
-    }
-    Ok(text.as_str() == wanted)
+    let text = shot.row_text(alloc, 0)?;
+    Ok(text.iter().copied().eq(wanted.chars()))
 }
 
-// How a terminal takes a piece of so many letters, and what its first row shows then.
-fn takes_letters(
-    alloc: Global,
-    term: &mut Term,
-    count: usize,
-    taken: Result<(), Fault>,
-    wanted: &str,
-) -> Result<bool, Fail> {
+fn feed_letters(term: &mut Term, count: usize) -> Result<(), Fault> {
     let letters = [b'a'; MOST_PIECE + 1];
-    let fed = term.feed(&letters[..count.min(MOST_PIECE + 1)]);
-    Ok(fed == taken && shows_first(alloc, term, 0, wanted)?)
+    term.feed(&letters[..count.min(MOST_PIECE + 1)])
 }
 
 // One letter more than a piece may have, then as many as it may.
-fn takes_the_longest(alloc: Global, term: &mut Term) -> Result<bool, Fail> {
-    let refused = takes_letters(alloc, term, MOST_PIECE + 1, Err(Fault::TooLong), "        ")?;
-    let taken = takes_letters(alloc, term, MOST_PIECE, Ok(()), "aaaaaaaa")?;
+fn takes_the_longest(alloc: Global, term: &mut Term) -> Result<bool, Fault> {
+    let refused = feed_letters(term, MOST_PIECE + 1) == Err(Fault::TooLong)
+        && shows_first(alloc, term, 0, "        ")?;
+    let taken = feed_letters(term, MOST_PIECE) == Ok(())
+        && shows_first(alloc, term, 0, "aaaaaaaa")?;
     Ok(refused && taken && shows_first(alloc, term, 500, "aaaaaaaa")?)
-}
-
-/// What is tried of a terminal.
-#[derive(Clone, Copy)]
-enum Trial {
-    LongestPiece,
-    FullQueue,
-    NothingWaits,
-    AnyBytes,
-}
-
-fn tries(alloc: Global, term: &mut Term, trial: Trial) -> Result<bool, Fail> {
-    match trial {
-        Trial::LongestPiece => takes_the_longest(alloc, term),
-        Trial::FullQueue => Ok(fills(term) && empties(term)),
-        Trial::NothingWaits => Ok(term.output_len() == 0 && has_nothing(term)),
-        Trial::AnyBytes => stays_at_size(alloc, term),
-    }
-}
-
-fn is_tried(alloc: Global, rows: u16, cols: u16, trial: Trial) -> Result<bool, Fail> {
-    let mut term = Term::new(alloc, rows, cols, 0)?;
-    tries(alloc, &mut term, trial)
-}
-
-#[test]
-fn the_longest_piece(rt: HostRuntime) -> Result<(), Fail> {
-    assert!(rt; is_tried(rt.alloc(), 2, 8, Trial::LongestPiece)?);
-    Ok(())
 }
 
 // The answers of a VT220 with selective erasure, one for each byte `c` of these.
@@ -252,12 +212,6 @@ fn takes(term: &mut Term, wanted: &[u8]) -> bool {
 }
 
 // Each of these answers has 8 bytes. A piece needs 12 free bytes for each of its own.
-#[test]
-fn a_full_queue_refuses_a_piece_and_loses_nothing(rt: HostRuntime) -> Result<(), Fail> {
-    assert!(rt; is_tried(rt.alloc(), 2, 8, Trial::FullQueue)?);
-    Ok(())
-}
-
 // It takes 8,188 questions and no more, and an answer's last bytes only in two pieces.
 fn fills(term: &mut Term) -> bool {
     let mut answers = 0u32;
@@ -289,12 +243,6 @@ fn has_nothing(term: &mut Term) -> bool {
     count == 0 && out == [7; 3] && term.output_len() == 0
 }
 
-#[test]
-fn nothing_waits(rt: HostRuntime) -> Result<(), Fail> {
-    assert!(rt; is_tried(rt.alloc(), 2, 8, Trial::NothingWaits)?);
-    Ok(())
-}
-
 fn feed_any(term: &mut Term, state: &mut u32) -> bool {
     let mut piece = [0; MOST_PIECE];
     for byte in piece.iter_mut() {
@@ -313,14 +261,42 @@ fn takes_any(term: &mut Term) -> bool {
     fed
 }
 
-fn stays_at_size(alloc: Global, term: &mut Term) -> Result<bool, Fail> {
-    Ok(takes_any(term) && size_shown(alloc, term)? == (24, 80))
+fn stays_at_size(alloc: Global, term: &mut Term) -> bool {
+    takes_any(term) && size_shown(alloc, term) == Ok((24, 80))
 }
 
+/// What is tried of a terminal.
+#[derive(Clone, Copy)]
+enum Trial {
+    LongestPiece,
+    FullQueue,
+    NothingWaits,
+    AnyBytes,
+}
+
+fn tries(alloc: Global, term: &mut Term, trial: Trial) -> bool {
+    match trial {
+        Trial::LongestPiece => matches!(takes_the_longest(alloc, term), Ok(true)),
+        Trial::FullQueue => fills(term) && empties(term),
+        Trial::NothingWaits => term.output_len() == 0 && has_nothing(term),
+        Trial::AnyBytes => stays_at_size(alloc, term),
+    }
+}
+
+fn is_tried(alloc: Global, rows: u16, cols: u16, trial: Trial) -> bool {
+    match Term::new(alloc, rows, cols, 0) {
+        Ok(mut term) => tries(alloc, &mut term, trial),
+        Err(_) => false,
+    }
+}
+
+// The longest piece; a full queue refuses a piece and loses nothing; nothing waits at first; any bytes are read.
 #[test]
-fn any_bytes_are_read(rt: HostRuntime) -> Result<(), Fail> {
-    assert!(rt; is_tried(rt.alloc(), 24, 80, Trial::AnyBytes)?);
-    Ok(())
+fn pieces_and_the_queue(rt: HostRuntime) {
+    assert!(rt; is_tried(rt.alloc(), 2, 8, Trial::LongestPiece), "piece");
+    assert!(rt; is_tried(rt.alloc(), 2, 8, Trial::FullQueue), "queue");
+    assert!(rt; is_tried(rt.alloc(), 2, 8, Trial::NothingWaits), "nothing");
+    assert!(rt; is_tried(rt.alloc(), 24, 80, Trial::AnyBytes), "bytes");
 }
 
 // Whether the cursor is behind two letters, or memory is refused.
