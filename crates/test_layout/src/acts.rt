@@ -5,65 +5,61 @@ use roam_keys::KeyModes;
 use std::alloc::Global;
 use std::test::*;
 
-// What keys send, with a bar behind each line but the last. `sends` has a key's name, and what it sends: where no mode changes it, under
-// DECCKM, in the application mode of the keypad, under LNM (nothing where the mode doesn't change it); `utf8` a character that is sent as
-// it is.
-const KEYS: &str = "\
-sends find|\x1B[1~||||
-sends insert|\x1B[2~||||
-sends remove|\x1B[3~||||
-sends select|\x1B[4~||||
-sends prev|\x1B[5~||||
-sends next|\x1B[6~||||
-sends f6|\x1B[17~||||
-sends f7|\x1B[18~||||
-sends f8|\x1B[19~||||
-sends f9|\x1B[20~||||
-sends f10|\x1B[21~||||
-sends f11|\x1B[23~||||
-sends f12|\x1B[24~||||
-sends f13|\x1B[25~||||
-sends f14|\x1B[26~||||
-sends f15|\x1B[28~||||
-sends f16|\x1B[29~||||
-sends f17|\x1B[31~||||
-sends f18|\x1B[32~||||
-sends f19|\x1B[33~||||
-sends f20|\x1B[34~||||
-sends pf1|\x1BOP||||
-sends pf2|\x1BOQ||||
-sends pf3|\x1BOR||||
-sends pf4|\x1BOS||||
-sends backspace|\x7F||||
-sends up|\x1B[A|\x1BOA|||
-sends down|\x1B[B|\x1BOB|||
-sends right|\x1B[C|\x1BOC|||
-sends left|\x1B[D|\x1BOD|||
-sends pad0|0||\x1BOp||
-sends pad1|1||\x1BOq||
-sends pad2|2||\x1BOr||
-sends pad3|3||\x1BOs||
-sends pad4|4||\x1BOt||
-sends pad5|5||\x1BOu||
-sends pad6|6||\x1BOv||
-sends pad7|7||\x1BOw||
-sends pad8|8||\x1BOx||
-sends pad9|9||\x1BOy||
-sends padminus|-||\x1BOm||
-sends padcomma|,||\x1BOl||
-sends padperiod|.||\x1BOn||
-sends return|\r|||\r\n|
-sends padenter|\r||\x1BOM|\r\n|
+// Keys and acts, with a bar behind each line but the last. `key` has the key's name and number, and what it sends: where no mode changes
+// it, under DECCKM, in the application mode of the keypad, under LNM (nothing where the mode doesn't change it); `utf8` a character that is
+// sent as it is; `act` an act's line and its bytes; `spelled` another spelling of a character, and the character; `no-act` a line that
+// spells none; `no-text` how many acts are wanted, and bytes that are not so many.
+const ROWS: &str = "\
+key up|1|\x1B[A|\x1BOA|||
+key down|2|\x1B[B|\x1BOB|||
+key right|3|\x1B[C|\x1BOC|||
+key left|4|\x1B[D|\x1BOD|||
+key pf1|5|\x1BOP||||
+key pf2|6|\x1BOQ||||
+key pf3|7|\x1BOR||||
+key pf4|8|\x1BOS||||
+key find|9|\x1B[1~||||
+key insert|10|\x1B[2~||||
+key remove|11|\x1B[3~||||
+key select|12|\x1B[4~||||
+key prev|13|\x1B[5~||||
+key next|14|\x1B[6~||||
+key f6|15|\x1B[17~||||
+key f7|16|\x1B[18~||||
+key f8|17|\x1B[19~||||
+key f9|18|\x1B[20~||||
+key f10|19|\x1B[21~||||
+key f11|20|\x1B[23~||||
+key f12|21|\x1B[24~||||
+key f13|22|\x1B[25~||||
+key f14|23|\x1B[26~||||
+key f15|24|\x1B[28~||||
+key f16|25|\x1B[29~||||
+key f17|26|\x1B[31~||||
+key f18|27|\x1B[32~||||
+key f19|28|\x1B[33~||||
+key f20|29|\x1B[34~||||
+key pad0|30|0||\x1BOp||
+key pad1|31|1||\x1BOq||
+key pad2|32|2||\x1BOr||
+key pad3|33|3||\x1BOs||
+key pad4|34|4||\x1BOt||
+key pad5|35|5||\x1BOu||
+key pad6|36|6||\x1BOv||
+key pad7|37|7||\x1BOw||
+key pad8|38|8||\x1BOx||
+key pad9|39|9||\x1BOy||
+key padminus|40|-||\x1BOm||
+key padcomma|41|,||\x1BOl||
+key padperiod|42|.||\x1BOn||
+key padenter|43|\r||\x1BOM|\r\n|
+key return|44|\r|||\r\n|
+key backspace|45|\x7F||||
 utf8 \0|
 utf8 A|
 utf8 \u{E9}|
 utf8 \u{4E2D}|
-utf8 \u{10FFFF}";
-
-// Acts, with a bar behind each line but the last. `act` has an act's line and its bytes; `spelled` another spelling of a character, and the
-// character; `no-act` a line that spells none; `no-text` how many acts are wanted, and bytes that are not so many; `range` an act, and
-// whether it is in range.
-const ACTS: &str = "\
+utf8 \u{10FFFF}|
 act char 41: 01 00 00 00 41|
 act char 0: 01 00 00 00 00|
 act char d7ff: 01 00 00 d7 ff|
@@ -177,72 +173,7 @@ no-text 1: 17 01 f5|
 no-text 1: 17 fe 0b|
 no-text 1: 18|
 no-text 0: 10|
-no-text 2: 10|
-range focus 0: no|
-range focus 1: yes|
-range focus 9: yes|
-range focus 10: no|
-range grow -100: no|
-range grow -99: yes|
-range grow 99: yes|
-range grow 100: no|
-range size 9999 9999: yes|
-range size 10000 1: no|
-range size 1 10000: no|
-range view -501: no|
-range view -500: yes|
-range view 500: yes|
-range view 501: no|
-range key up: yes|
-range next: yes";
-
-// The names of the keys in the order of their numbers, from 1.
-const NAMES: &str = "\
-up
-down
-right
-left
-pf1
-pf2
-pf3
-pf4
-find
-insert
-remove
-select
-prev
-next
-f6
-f7
-f8
-f9
-f10
-f11
-f12
-f13
-f14
-f15
-f16
-f17
-f18
-f19
-f20
-pad0
-pad1
-pad2
-pad3
-pad4
-pad5
-pad6
-pad7
-pad8
-pad9
-padminus
-padcomma
-padperiod
-padenter
-return
-backspace";
+no-text 2: 10";
 
 // The bytes of pairs of hexadecimal digits with a space between them.
 fn bytes_of(alloc: Global, text: &str) -> Result<Vec<u8>, Fault> {
@@ -254,16 +185,6 @@ fn bytes_of(alloc: Global, text: &str) -> Result<Vec<u8>, Fault> {
         }
     }
     Ok(bytes)
-}
-
-fn key_named(alloc: Global, name: &str) -> Option<Key> {
-    let Ok(line) = format!(in alloc; "key {name}") else {
-        return None;
-    };
-    match read_act(line.as_bytes()) {
-        Ok(Act::Key(key)) => Some(key),
-        _ => None,
-    }
 }
 
 fn modes_of(number: u8) -> KeyModes {
@@ -302,12 +223,6 @@ fn sends(key: &Key, plain: &str, rest: &str) -> bool {
     true
 }
 
-fn is_sent(alloc: Global, line: &str) -> bool {
-    let (name, rest) = line.split_once('|').unwrap_or((line, ""));
-    let (plain, rest) = rest.split_once('|').unwrap_or((rest, ""));
-    matches!(key_named(alloc, name), Some(key) if sends(&key, plain, rest))
-}
-
 fn is_sent_as_it_is(text: &str) -> bool {
     match text.chars().next() {
         Some(c) => Key::Char(c).sent(modes_of(0)).as_slice() == text.as_bytes(),
@@ -327,20 +242,28 @@ fn is_printed(alloc: Global, act: Act, line: &str) -> bool {
     matches!(act.to_string(alloc), Ok(text) if text.as_str() == line)
 }
 
-// Whether a key has this name in its act's line, and this number.
-fn is_named(alloc: Global, name: &str, number: usize) -> bool {
-    let Some(key) = key_named(alloc, name) else {
-        return false;
-    };
-    let line = Act::Key(key).to_string(alloc);
-    matches!(&line, Ok(line) if line.as_str().strip_prefix("key ") == Some(name))
-        && has_bytes(alloc, Act::Key(key), &[2, number.min(255) as u8])
+fn has_number(alloc: Global, key: Key, number: &str) -> bool {
+    matches!(number.parse::<u8>(), Ok(number) if has_bytes(alloc, Act::Key(key), &[2, number]))
+}
+
+fn is_key(alloc: Global, row: &str) -> bool {
+    let (line, rest) = row.split_once('|').unwrap_or((row, ""));
+    let (number, rest) = rest.split_once('|').unwrap_or((rest, ""));
+    let (plain, rest) = rest.split_once('|').unwrap_or((rest, ""));
+    match read_act(line.as_bytes()) {
+        Ok(Act::Key(key)) => is_printed(alloc, Act::Key(key), line)
+            && has_number(alloc, key, number)
+            && sends(&key, plain, rest),
+        _ => false,
+    }
 }
 
 fn is_act(alloc: Global, row: &str) -> bool {
     let (line, digits) = row.split_once(": ").unwrap_or((row, ""));
     match (read_act(line.as_bytes()), bytes_of(alloc, digits)) {
-        (Ok(act), Ok(bytes)) => is_printed(alloc, act, line) && has_bytes(alloc, act, &bytes),
+        (Ok(act), Ok(bytes)) => act.in_range()
+            && is_printed(alloc, act, line)
+            && has_bytes(alloc, act, &bytes),
         _ => false,
     }
 }
@@ -368,78 +291,62 @@ fn is_no_text(alloc: Global, row: &str) -> bool {
     }
 }
 
-// The act of a line whose numbers may be out of range.
-fn act_of(line: &str) -> Option<Act> {
-    let (word, rest) = line.split_once(' ').unwrap_or((line, ""));
-    let (first, second) = rest.split_once(' ').unwrap_or((rest, ""));
-    match word {
-        "focus" => Some(Act::Focus(first.parse::<u8>().ok()?)),
-        "grow" => Some(Act::Grow(first.parse::<i16>().ok()?)),
-        "size" => Some(Act::Size(first.parse::<u16>().ok()?, second.parse::<u16>().ok()?)),
-        "view" => Some(Act::View(first.parse::<i16>().ok()?)),
-        _ => read_act(line.as_bytes()).ok(),
-    }
-}
-
-fn is_ranged(row: &str) -> bool {
-    let (line, answer) = row.split_once(": ").unwrap_or((row, ""));
-    match act_of(line) {
-        Some(act) => act.in_range() == (answer == "yes"),
-        None => false,
-    }
-}
-
 fn holds(alloc: Global, line: &str) -> bool {
     let (kind, rest) = line.split_once(' ').unwrap_or((line, ""));
     match kind {
-        "sends" => is_sent(alloc, rest),
+        "key" => is_key(alloc, line),
         "utf8" => is_sent_as_it_is(rest),
         "act" => is_act(alloc, rest),
         "spelled" => is_spelled(rest),
         "no-act" => read_act(rest.as_bytes()) == Err(Fault::BadAct),
         "no-text" => is_no_text(alloc, rest),
-        "range" => is_ranged(rest),
         _ => false,
     }
 }
 
 #[test]
 fn keys_and_acts_have_their_texts(rt: HostRuntime) {
-    for lines in [KEYS, ACTS] {
-        for line in lines.split("|\n") {
-            assert!(rt; holds(rt.alloc(), line), "{line:?}");
+    for line in ROWS.split("|\n") {
+        assert!(rt; holds(rt.alloc(), line), "{line:?}");
+    }
+}
+
+// Acts of the rows are in range; these are out of it, and two lines with other bytes than text are none.
+fn are_none() -> bool {
+    for act in [
+        Act::Focus(0),
+        Act::Focus(10),
+        Act::Grow(-100),
+        Act::Grow(100),
+        Act::Size(10000, 1),
+        Act::Size(1, 10000),
+        Act::View(-501),
+        Act::View(501),
+    ] {
+        if act.in_range() {
+            return false;
         }
     }
-    assert!(rt; read_act(b"char \xFF") == Err(Fault::BadAct));
-    assert!(rt; read_act(b"\xFFclose") == Err(Fault::BadAct));
+    read_act(b"char \xFF") == Err(Fault::BadAct) && read_act(b"\xFFclose") == Err(Fault::BadAct)
 }
 
-#[test]
-fn keys_have_names_and_numbers(rt: HostRuntime) {
-    for (place, name) in NAMES.lines().enumerate() {
-        assert!(rt;
-            is_named(rt.alloc(), name, place.saturating_add(1)),
-            "{name}"
-        );
-    }
-}
+// The text of a key, of `close`, of a size and of `grow -3`.
+const FOUR: [u8; 11] = [2, 1, 0x12, 0x16, 0, 24, 0, 80, 0x15, 0xFF, 0xFD];
 
-// Whether acts become one text behind what stands there, and come out of it; and no bytes are no act.
-fn are_added(alloc: Global) -> Result<bool, Fault> {
+// Whether four acts become this text behind what stands there, and come out of it; and no bytes are no act.
+fn are_added(alloc: Global) -> bool {
     let acts = [
         Act::Key(Key::Up),
         Act::Close,
         Act::Size(24, 80),
         Act::Grow(-3),
     ];
-    let mut out = bytes_of(alloc, "07")?;
-    write_acts(&acts, &mut out)?;
-    let texts = bytes_of(alloc, "02 01 12 16 00 18 00 50 15 ff fd")?;
-    Ok(
-        out.as_slice().strip_prefix(b"\x07".as_slice()) == Some(texts.as_slice())
-            && read_acts(alloc, 4, &texts)?.as_slice() == acts.as_slice()
-            && read_acts(alloc, 0, &[])?.is_empty(),
-    )
+    let mut out = Vec::new(alloc);
+    out.push(7).is_ok()
+        && write_acts(&acts, &mut out).is_ok()
+        && out.as_slice().strip_prefix(b"\x07".as_slice()) == Some(FOUR.as_slice())
+        && matches!(read_acts(alloc, 4, &FOUR), Ok(read) if read.as_slice() == acts.as_slice())
+        && matches!(read_acts(alloc, 0, &[]), Ok(read) if read.is_empty())
 }
 
 fn type_acts(sender: &mut ActSender, count: u16) -> bool {
@@ -498,7 +405,8 @@ fn takes_what_follows() -> bool {
 
 #[test]
 fn texts_and_ends(rt: HostRuntime) {
-    assert!(rt; matches!(are_added(rt.alloc()), Ok(true)));
+    assert!(rt; are_none());
+    assert!(rt; are_added(rt.alloc()));
     assert!(rt; sends_until_acknowledged(rt.alloc()));
     assert!(rt; is_full(rt.alloc()));
     assert!(rt; takes_what_follows());

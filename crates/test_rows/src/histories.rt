@@ -95,11 +95,20 @@ fn counts(alloc: Global, history: &History, first: usize, len: usize) -> Result<
     Ok(true)
 }
 
+// The columns to which a history of one line of 8 columns comes, the length of its row in use then, and the fronts that were pushed: no
+// contract tells that, and a push and a copy cost it.
+const FRONTS: &str = "\
+front 8 3|abc
+front 8 2|abcdefgh,ab
+front 8 8|ab,abcdefgh
+front 8 0|abcdefgh,
+front 4 4|abcdef
+front 250 6|abcdef";
+
 // What a line says. `kept`: of so many lines and rows pushed, the number of the oldest that is kept, and how many are. `made` and
-// `refused`: lines and columns. `stays`: columns that are refused to a history, which stays as it was. `front`: the columns to which a
-// history of one line of 8 columns comes, the length of its row in use then, and the fronts that were pushed: no contract tells that, and a
-// push and a copy cost it. `cut`: from how many columns to how many; a row's characters and their pens; what it shows then, each column, a
-// right half as `~`, and its pen. A pen is plain (0), bold (1), guarded (2) or both (3).
+// `refused`: lines and columns. `stays`: columns that are refused to a history, which stays as it was. `cut`: from how many columns to how
+// many; a row's characters and their pens; what it shows then, each column, a right half as `~`, and its pen. A pen is plain (0), bold (1),
+// guarded (2) or both (3).
 const ROWS: &str = "\
 kept 0 0 1 0
 kept 0 3 1 0
@@ -130,12 +139,6 @@ stays 0
 stays 3
 stays 501
 stays max
-front 8 3|abc
-front 8 2|abcdefgh,ab
-front 8 8|ab,abcdefgh
-front 8 0|abcdefgh,
-front 4 4|abcdef
-front 250 6|abcdef
 cut 8 4|\u{4E2D}cdefgh|3000000|\u{4E2D}~cd|3300
 cut 8 4|a\u{4E2D}defgh|0300000|a\u{4E2D}~d|0330
 cut 8 4|ab\u{4E2D}efgh|0030000|ab\u{4E2D}~|0033
@@ -278,6 +281,13 @@ fn holds(alloc: Global, line: &str) -> bool {
         "front" => is_lent(alloc, rest),
         "cut" => is_cut(alloc, rest, false) && is_cut(alloc, rest, true),
         _ => is_sized(alloc, word, rest),
+    }
+}
+
+#[test]
+fn a_row_is_lent_up_to_where_it_is_written(rt: HostRuntime) {
+    for line in FRONTS.lines() {
+        assert!(rt; holds(rt.alloc(), line), "{line}");
     }
 }
 

@@ -579,10 +579,9 @@ fn acts_leave_their_rows(rt: HostRuntime) {
     }
 }
 
-// What is done to blank rows of 2 by 8, a line each. `front`: the length of the columns of the first row that are in use then, and what is
-// done: no contract tells that, and scrolls and erasures cost it. `join`: what is put into a row; a column, and code points that join its
-// character; and what stands in the row's columns then.
-const LINES: &str = "\
+// What is done to blank rows of 2 by 8: the length of the columns of the first row that are in use then, and what is done. No contract
+// tells that, and scrolls and erasures cost it.
+const FRONTS: &str = "\
 front 0: up 0
 front 2: put 0 0 0 ab
 front 5: put 0 3 0 \u{4E2D}
@@ -596,7 +595,10 @@ front 1: run 0 0 0 abc, delete 0 0 2
 front 6: run 0 0 0 abc, join 0 5 \u{301}
 front 3: run 1 0 0 abc, up 1
 front 0: run 0 0 0 abcdefgh, region-up 0 1 1
-front 5: run 0 0 0 abcdefgh, size 3 5 0
+front 5: run 0 0 0 abcdefgh, size 3 5 0";
+
+// What is put into a row; a column, and code points that join its character; and what stands in the row's columns then.
+const JOINS: &str = "\
 join ab|0|\u{301}|a\u{301}/b
 join \u{4E2D}b|1|\u{301}|\u{4E2D}\u{301}//b
 join a|0|\u{301}\u{302}\u{303}|a\u{301}\u{302}
@@ -684,8 +686,15 @@ fn three_go_round(alloc: Global) -> bool {
 }
 
 #[test]
-fn fronts_joins_and_the_first_row(rt: HostRuntime) {
-    for line in LINES.lines() {
+fn a_row_is_lent_up_to_where_it_is_written(rt: HostRuntime) {
+    for line in FRONTS.lines() {
+        assert!(rt; is_line_on_blank(rt.alloc(), line), "{line}");
+    }
+}
+
+#[test]
+fn code_points_join_and_the_first_row_goes_round(rt: HostRuntime) {
+    for line in JOINS.lines() {
         assert!(rt; is_line_on_blank(rt.alloc(), line), "{line}");
     }
     assert!(rt; three_go_round(rt.alloc()));

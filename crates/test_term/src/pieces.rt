@@ -1,4 +1,7 @@
-//! The terminal of a pane, fed by pieces: sizes, the queue of answers, renditions. What text and moves make of a screen stands in `shows`.
+//! The terminal of a pane, fed by pieces: renditions, sizes, the queue of answers. What text and moves make of a screen stands with what
+//! `roam show` prints.
+use crate::rows::shows;
+use crate::trials::{Trial, stands};
 use roam_cells::{Colour, Fault, Style};
 use roam_screens::Shot;
 use roam_term::{MOST_PIECE, Term};
@@ -96,25 +99,16 @@ fn is_drawn(shot: &Shot, style: Style) -> bool {
     }
 }
 
-fn draws(alloc: Global, term: &mut Term, before: &str, style: Style) -> Result<bool, Fault> {
-    term.feed(before.as_bytes())?;
-    term.feed(b"a")?;
-    Ok(is_drawn(&term.shot(alloc, 0)?, style))
+/// Whether a character stands in a style after what was fed before.
+pub fn draws(alloc: Global, term: &mut Term, before: &str, style: Style) -> bool {
+    term.feed(before.as_bytes()).is_ok()
+        && term.feed(b"a").is_ok()
+        && matches!(term.shot(alloc, 0), Ok(shot) if is_drawn(&shot, style))
 }
 
 fn is_rendered(alloc: Global, line: &str) -> bool {
     let (before, words) = line.split_once('|').unwrap_or((line, ""));
-    match (style_of(words), Term::new(alloc, 2, 8, 0)) {
-        (Some(style), Ok(mut term)) => matches!(draws(alloc, &mut term, before, style), Ok(true)),
-        _ => false,
-    }
-}
-
-#[test]
-fn renditions(rt: HostRuntime) {
-    for line in RENDERED.lines() {
-        assert!(rt; is_rendered(rt.alloc(), line), "{line:?}");
-    }
+    matches!(style_of(words), Some(style) if stands(alloc, 2, 8, 0, Trial::Rendition(before, style)))
 }
 
 // Inputs, and whether they leave the first character in reverse: DECSCNM turns the reverse flag of each cell, twice the same as once.
@@ -125,68 +119,29 @@ const REVERSED: &str = "\
 \x1B[7m\x1B[?5ha|no
 \x1B[?5ha\x1B[?5l|no";
 
-fn is_in_reverse(alloc: Global, term: &mut Term, input: &str) -> Result<Option<bool>, Fault> {
-    term.feed(input.as_bytes())?;
-    let shot = term.shot(alloc, 0)?;
-    match shot.at(1, 1) {
-        Some(cell) => Ok(Some(cell.style().reverse)),
-        None => Ok(None),
-    }
+fn has_reverse(shot: &Shot, reverse: bool) -> bool {
+    matches!(shot.at(1, 1), Some(cell) if cell.style().reverse == reverse)
+}
+
+/// Whether an input leaves the first character in reverse, or not.
+pub fn reverses(alloc: Global, term: &mut Term, input: &str, reverse: bool) -> bool {
+    term.feed(input.as_bytes()).is_ok()
+        && matches!(term.shot(alloc, 0), Ok(shot) if has_reverse(&shot, reverse))
 }
 
 fn is_reversed(alloc: Global, line: &str) -> bool {
     let (input, answer) = line.split_once('|').unwrap_or((line, ""));
-    match Term::new(alloc, 2, 8, 0) {
-        Ok(mut term) => is_in_reverse(alloc, &mut term, input) == Ok(Some(answer == "yes")),
-        Err(_) => false,
-    }
+    stands(alloc, 2, 8, 0, Trial::Reverse(input, answer == "yes"))
 }
 
 #[test]
-fn a_reversed_screen(rt: HostRuntime) {
+fn renditions_and_a_reversed_screen(rt: HostRuntime) {
+    for line in RENDERED.lines() {
+        assert!(rt; is_rendered(rt.alloc(), line), "{line:?}");
+    }
     for line in REVERSED.lines() {
         assert!(rt; is_reversed(rt.alloc(), line), "{line:?}");
     }
-}
-
-fn size_shown(alloc: Global, term: &Term) -> Result<(u16, u16), Fault> {
-    let shot = term.shot(alloc, 0)?;
-    Ok((shot.rows(), shot.cols()))
-}
-
-fn size_made(alloc: Global, rows: u16, cols: u16, lines: u16) -> Result<(u16, u16), Fault> {
-    let term = Term::new(alloc, rows, cols, lines)?;
-    size_shown(alloc, &term)
-}
-
-#[test]
-fn sizes_and_lines(rt: HostRuntime) {
-    for (rows, cols, lines) in [(2, 4, 0), (200, 500, 500), (24, 80, 1)] {
-        assert!(rt;
-            size_made(rt.alloc(), rows, cols, lines) == Ok((rows, cols)),
-            "{rows}"
-        );
-    }
-    for (rows, cols, lines) in [
-        (1, 8, 0),
-        (201, 8, 0),
-        (2, 3, 0),
-        (2, 501, 0),
-        (2, 8, 501),
-        (0, 0, 65535),
-    ] {
-        assert!(rt;
-            size_made(rt.alloc(), rows, cols, lines) == Err(Fault::BadSize),
-            "{rows}"
-        );
-    }
-}
-
-// Whether the first row of a view is this one.
-fn shows_first(alloc: Global, term: &Term, view: u16, wanted: &str) -> Result<bool, Fault> {
-    let shot = term.shot(alloc, view)?;
-    let text = shot.row_text(alloc, 0)?;
-    Ok(text.iter().copied().eq(wanted.chars()))
 }
 
 fn feed_letters(term: &mut Term, count: usize) -> Result<(), Fault> {
@@ -194,13 +149,14 @@ fn feed_letters(term: &mut Term, count: usize) -> Result<(), Fault> {
     term.feed(&letters[..count.min(MOST_PIECE + 1)])
 }
 
-// One letter more than a piece may have, then as many as it may.
-fn takes_the_longest(alloc: Global, term: &mut Term) -> Result<bool, Fault> {
-    let refused = feed_letters(term, MOST_PIECE + 1) == Err(Fault::TooLong)
-        && shows_first(alloc, term, 0, "        ")?;
-    let taken = feed_letters(term, MOST_PIECE) == Ok(())
-        && shows_first(alloc, term, 0, "aaaaaaaa")?;
-    Ok(refused && taken && shows_first(alloc, term, 500, "aaaaaaaa")?)
+/// Whether one letter more than a piece may have is refused, and then as many as it may have fill the screen.
+pub fn takes_the_longest(alloc: Global, term: &mut Term) -> bool {
+    let full = "aaaaaaaa|aaaaaaaa|2 8 shown";
+    feed_letters(term, MOST_PIECE + 1) == Err(Fault::TooLong)
+        && shows(alloc, term, 0, "        |        |1 1 shown")
+        && feed_letters(term, MOST_PIECE) == Ok(())
+        && shows(alloc, term, 0, full)
+        && shows(alloc, term, 500, full)
 }
 
 // The answers of a VT220 with selective erasure, one for each byte `c` of these.
@@ -209,6 +165,11 @@ fn takes(term: &mut Term, wanted: &[u8]) -> bool {
     let count = term.copy_output(&mut out[..wanted.len().min(16)]);
     term.take_output(count);
     &out[..count] == wanted
+}
+
+/// Whether a full queue refuses a piece and loses nothing.
+pub fn fills_and_empties(term: &mut Term) -> bool {
+    fills(term) && empties(term)
 }
 
 // Each of these answers has 8 bytes. A piece needs 12 free bytes for each of its own.
@@ -236,11 +197,13 @@ fn empties(term: &mut Term) -> bool {
     told && term.output_len() == 0
 }
 
-fn has_nothing(term: &mut Term) -> bool {
+/// Whether nothing waits.
+pub fn has_nothing(term: &mut Term) -> bool {
+    let waiting = term.output_len();
     let mut out = [7; 3];
     let count = term.copy_output(&mut out);
     term.take_output(0);
-    count == 0 && out == [7; 3] && term.output_len() == 0
+    waiting == 0 && count == 0 && out == [7; 3] && term.output_len() == 0
 }
 
 fn feed_any(term: &mut Term, state: &mut u32) -> bool {
@@ -252,7 +215,8 @@ fn feed_any(term: &mut Term, state: &mut u32) -> bool {
     term.feed(&piece) == Ok(())
 }
 
-fn takes_any(term: &mut Term) -> bool {
+/// Whether any bytes are read.
+pub fn takes_any(term: &mut Term) -> bool {
     let mut state: u32 = 1;
     let mut fed = true;
     for _ in 0..200 {
@@ -261,42 +225,34 @@ fn takes_any(term: &mut Term) -> bool {
     fed
 }
 
-fn stays_at_size(alloc: Global, term: &mut Term) -> bool {
-    takes_any(term) && size_shown(alloc, term) == Ok((24, 80))
+fn is_refused(alloc: Global, rows: u16, cols: u16, lines: u16) -> bool {
+    matches!(Term::new(alloc, rows, cols, lines), Err(Fault::BadSize))
 }
 
-/// What is tried of a terminal.
-#[derive(Clone, Copy)]
-enum Trial {
-    LongestPiece,
-    FullQueue,
-    NothingWaits,
-    AnyBytes,
-}
-
-fn tries(alloc: Global, term: &mut Term, trial: Trial) -> bool {
-    match trial {
-        Trial::LongestPiece => matches!(takes_the_longest(alloc, term), Ok(true)),
-        Trial::FullQueue => fills(term) && empties(term),
-        Trial::NothingWaits => term.output_len() == 0 && has_nothing(term),
-        Trial::AnyBytes => stays_at_size(alloc, term),
+#[test]
+fn sizes_and_lines(rt: HostRuntime) {
+    for (rows, cols, lines) in [(2, 4, 0), (200, 500, 500), (24, 80, 1)] {
+        assert!(rt; stands(rt.alloc(), rows, cols, lines, Trial::Whole(rows, cols)), "{rows}");
     }
-}
-
-fn is_tried(alloc: Global, rows: u16, cols: u16, trial: Trial) -> bool {
-    match Term::new(alloc, rows, cols, 0) {
-        Ok(mut term) => tries(alloc, &mut term, trial),
-        Err(_) => false,
+    for (rows, cols, lines) in [
+        (1, 8, 0),
+        (201, 8, 0),
+        (2, 3, 0),
+        (2, 501, 0),
+        (2, 8, 501),
+        (0, 0, 65535),
+    ] {
+        assert!(rt; is_refused(rt.alloc(), rows, cols, lines), "{rows}");
     }
 }
 
 // The longest piece; a full queue refuses a piece and loses nothing; nothing waits at first; any bytes are read.
 #[test]
 fn pieces_and_the_queue(rt: HostRuntime) {
-    assert!(rt; is_tried(rt.alloc(), 2, 8, Trial::LongestPiece), "piece");
-    assert!(rt; is_tried(rt.alloc(), 2, 8, Trial::FullQueue), "queue");
-    assert!(rt; is_tried(rt.alloc(), 2, 8, Trial::NothingWaits), "nothing");
-    assert!(rt; is_tried(rt.alloc(), 24, 80, Trial::AnyBytes), "bytes");
+    assert!(rt; stands(rt.alloc(), 2, 8, 0, Trial::LongestPiece), "piece");
+    assert!(rt; stands(rt.alloc(), 2, 8, 0, Trial::FullAnswers), "queue");
+    assert!(rt; stands(rt.alloc(), 2, 8, 0, Trial::NothingWaits), "nothing");
+    assert!(rt; stands(rt.alloc(), 24, 80, 0, Trial::AnyBytes), "bytes");
 }
 
 // Whether the cursor is behind two letters, or memory is refused.
