@@ -307,13 +307,14 @@ fn goes(alloc: Global, old: &RowShot1, new: &RowShot1, text: &[u8]) -> bool {
         && matches!(made(alloc, old, text), Ok(made) if is_same(&made, new))
 }
 
-fn is_hop(alloc: Global, blank: &RowShot1, hop: &str) -> Result<bool, Fault> {
+fn is_hop(alloc: Global, blank: &RowShot1, hop: &str) -> bool {
     let (old, rest) = hop.split_once('>').unwrap_or((hop, ""));
-    let (new, text) = rest.split_once('>').unwrap_or((rest, ""));
-    let old = made_by(alloc, blank, old)?;
-    let new = made_by(alloc, blank, new)?;
-    let text = bytes_of(alloc, text)?;
-    Ok(goes(alloc, &old, &new, &text))
+    let (new, words) = rest.split_once('>').unwrap_or((rest, ""));
+    match (made_by(alloc, blank, old), made_by(alloc, blank, new)) {
+        (Ok(old), Ok(new)) =>
+            matches!(bytes_of(alloc, words), Ok(text) if goes(alloc, &old, &new, &text)),
+        _ => false,
+    }
 }
 
 // A blank screen.
@@ -329,7 +330,7 @@ fn holds_from_blank(alloc: Global, table: Table, case: &str) -> bool {
     match table {
         Table::Rows => holds(alloc, &blank, TWO, case),
         Table::Screens => reaches(alloc, &blank, case, SCREENS),
-        Table::Hops => matches!(is_hop(alloc, &blank, case), Ok(true)),
+        Table::Hops => is_hop(alloc, &blank, case),
     }
 }
 
@@ -444,11 +445,19 @@ fn wide_at(alloc: Global, col: u8, flags: u8) -> Result<RowShot1, Fault> {
     made(alloc, &blank, &text)
 }
 
-// How long the change is from a wide character in 8 columns to a blank screen of fewer.
-fn cut_len(alloc: Global, cols: u16, col: u8, flags: u8) -> Result<usize, Fault> {
-    let base = wide_at(alloc, col, flags)?;
-    let blank = blank_of(alloc, cols)?;
-    Ok(change(alloc, &base, &blank)?.len())
+fn change_len(alloc: Global, base: &RowShot1, shot: &RowShot1) -> usize {
+    match change(alloc, base, shot) {
+        Ok(text) => text.len(),
+        Err(_) => 0,
+    }
+}
+
+// How long the change is from a wide character in 8 columns to a blank screen of fewer; 0 where there is no memory.
+fn cut_len(alloc: Global, cols: u16, col: u8, flags: u8) -> usize {
+    match (wide_at(alloc, col, flags), blank_of(alloc, cols)) {
+        (Ok(base), Ok(blank)) => change_len(alloc, &base, &blank),
+        _ => 0,
+    }
 }
 
 // Both halves, below `cols`, differ from blanks; the left one alone, cut, where its style does; beyond the last column none is named.
@@ -467,8 +476,8 @@ fn named_len(cols: u16, col: u8, is_plain: bool) -> usize {
 fn are_cuts_spaces(alloc: Global) -> bool {
     for cols in 4..8u16 {
         for col in 0..7u8 {
-            if cut_len(alloc, cols, col, 0) != Ok(named_len(cols, col, true))
-                || cut_len(alloc, cols, col, 1) != Ok(named_len(cols, col, false))
+            if cut_len(alloc, cols, col, 0) != named_len(cols, col, true)
+                || cut_len(alloc, cols, col, 1) != named_len(cols, col, false)
             {
                 return false;
             }

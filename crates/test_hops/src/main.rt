@@ -26,12 +26,17 @@ use std::str::SplitWhitespace;
 /// How many bytes a terminal is fed at once.
 const PIECE: usize = 1024;
 
-// Takes bytes in pieces; what it answers goes.
+// Takes a piece; what it answers goes.
+fn take_piece(term: &mut Term, piece: &[u8]) -> Result<(), Fault> {
+    term.feed(piece)?;
+    let answered = term.output_len();
+    term.take_output(answered);
+    Ok(())
+}
+
 fn take(term: &mut Term, bytes: &[u8]) -> Result<(), Fault> {
     for piece in bytes.chunks(PIECE) {
-        term.feed(piece)?;
-        let answered = term.output_len();
-        term.take_output(answered);
+        take_piece(term, piece)?;
     }
     Ok(())
 }
@@ -53,24 +58,21 @@ fn number(words: &mut SplitWhitespace<'_>) -> anyhow::Result<u16> {
     Ok(number)
 }
 
-fn bytes_of(alloc: Global, words: &mut SplitWhitespace<'_>) -> anyhow::Result<Vec<u8>> {
-    let Some(word) = words.next() else {
-        bail!("bytes are wanted");
-    };
-    if word == "-" {
-        return Ok(Vec::new(alloc));
+fn bytes_of(alloc: Global, word: Option<&str>) -> anyhow::Result<Vec<u8>> {
+    match word {
+        None => bail!("bytes are wanted"),
+        Some("-") => Ok(Vec::new(alloc)),
+        Some(digits) => hex::decode(alloc, digits)
+            .ok()
+            .context("bytes are pairs of digits"),
     }
-    let bytes = hex::decode(alloc, word)
-        .ok()
-        .context("bytes are pairs of digits")?;
-    Ok(bytes)
 }
 
 // The screen that the next three words give.
 fn next_screen(alloc: Global, words: &mut SplitWhitespace<'_>) -> anyhow::Result<RowShot> {
     let rows = number(words)?;
     let cols = number(words)?;
-    let bytes = bytes_of(alloc, words)?;
+    let bytes = bytes_of(alloc, words.next())?;
     let shot = RowShot::of(alloc, &screen(alloc, rows, cols, &bytes)?)?;
     Ok(shot)
 }
