@@ -232,7 +232,10 @@ fn is_refused(alloc: Global, rows: u16, cols: u16, lines: u16) -> bool {
 #[test]
 fn sizes_and_lines(rt: HostRuntime) {
     for (rows, cols, lines) in [(2, 4, 0), (200, 500, 500), (24, 80, 1)] {
-        assert!(rt; stands(rt.alloc(), rows, cols, lines, Trial::Whole(rows, cols)), "{rows}");
+        assert!(rt;
+            stands(rt.alloc(), rows, cols, lines, Trial::Whole(rows, cols)),
+            "{rows}"
+        );
     }
     for (rows, cols, lines) in [
         (1, 8, 0),

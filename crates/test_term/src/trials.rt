@@ -44,8 +44,8 @@ pub enum Trial<'a> {
 
 fn tries(alloc: Global, term: &mut Term, trial: Trial<'_>) -> bool {
     match trial {
-        Trial::Pieces(first, rest, size, wanted) =>
-            feeds(term, first, rest, size) && shows(alloc, term, 0, wanted),
+        Trial::Pieces(first, rest, size, wanted) => feeds(term, first, rest, size)
+            && shows(alloc, term, 0, wanted),
         Trial::Wrap(bytes, wanted) => leaves_cursor(alloc, term, bytes, wanted),
         Trial::Steps(view, steps) => shows_after(alloc, term, view, steps),
         Trial::SizeInside => takes_a_size_inside(alloc, term),
