@@ -5,8 +5,6 @@
 //! and the text: `kept`, written again as it was read; `beginnings`, each proper one refused; `refused`, and why. A hop has three texts
 //! with `>` between them: those that lead from a blank screen to two others, and the one that leads from the first to the second.
 
-ghost use Rattle.std.specs.Prelude.{◌<◌};
-
 use crate::change;
 use hex::FromHexError;
 use roam_cells::{Cell, Fault, Style, are_same_cells, width};
@@ -31,8 +29,10 @@ const CORNERS: &str =
     "0003 0005 0003 0005 00 00000004 00000000 00000001 010000000000 00000078 00000004 00000001 010000000000 00000078 \
     0000000a 00000001 010000000000 00000078 0000000e 00000001 010000000000 00000078";
 
-// How many other values each byte of ONE before its code point may have, by a reader of the grammar that shares no code with this crate.
-const OTHER_VALUES: &str = "0 98 0 246 0 1 0 7 1 0 0 0 0 0 0 0 15 0 0 0 0 0 255 1 0 1 0";
+// How many other values each byte of ONE may have, by a reader of the grammar that shares no code with this crate; those of the code point
+// may have the values that make a character of one column.
+const OTHER_VALUES: &str =
+    "0 98 0 246 0 1 0 7 1 0 0 0 0 0 0 0 15 0 0 0 0 0 255 1 0 1 0 narrow narrow narrow narrow";
 
 const ROWS: &str = "\
 kept: 0002 0008 0001 0001 01 00000000
@@ -368,14 +368,19 @@ fn is_added_at_the_end(alloc: Global, blank: &RowShot1) -> Result<bool, Fault> {
     Ok(text.as_slice() == bytes_of(alloc, ONE_AND_NONE)?.as_slice())
 }
 
-// Whether a text, ONE with a byte changed, is taken for what it says: it is written again, but for a space, which is no difference.
-fn is_taken(alloc: Global, blank: &RowShot1, text: &[u8]) -> bool {
-    let Ok(shot) = made(alloc, blank, text) else {
-        return false;
-    };
-    match change(alloc, blank, &shot) {
+fn is_kept_but_for_a_space(alloc: Global, blank: &RowShot1, shot: &RowShot1, text: &[u8]) -> bool {
+    match change(alloc, blank, shot) {
         Ok(kept) => kept.as_slice() == text || (text.last() == Some(&b' ') && kept.len() == 13),
         Err(_) => false,
+    }
+}
+
+// Whether a text, ONE with a byte changed, is taken for what it says: it is written again, but for a space, which is no difference.
+fn is_taken(alloc: Global, blank: &RowShot1, text: &[u8]) -> Result<bool, Fault> {
+    match made(alloc, blank, text) {
+        Ok(shot) => Ok(is_kept_but_for_a_space(alloc, blank, &shot, text)),
+        Err(Fault::BadChange) => Ok(false),
+        Err(fault) => Err(fault),
     }
 }
 
@@ -388,26 +393,30 @@ fn text_with(alloc: Global, one: &[u8], place: usize, value: u8) -> Result<Vec<u
     Ok(text)
 }
 
-// How many other values are taken at a place.
+// How many other values are taken at a place; more than there are where one is refused otherwise.
 fn count_taken(alloc: Global, blank: &RowShot1, one: &[u8], place: usize) -> usize {
     let mut count = 0usize;
     for value in 0..=255u8 {
-        let text = text_with(alloc, one, place, value);
-        if matches!(&text, Ok(text) if text.as_slice() != one && is_taken(alloc, blank, text)) {
-            count = count.saturating_add(1);
+        match text_with(alloc, one, place, value) {
+            Ok(text) if text.as_slice() == one => (),
+            Ok(text) => match is_taken(alloc, blank, &text) {
+                Ok(is_taken) => count = count.saturating_add(usize::from(is_taken)),
+                Err(_) => return usize::MAX,
+            },
+            Err(_) => return usize::MAX,
         }
     }
     count
 }
 
 // How many other values one byte of the code point may have: those that make a character of one column.
-fn count_narrow(place: usize) -> usize
-    requires inside { place < 4 }
-{
+fn count_narrow(place: usize) -> usize {
     let mut count = 0usize;
     for value in 0..=255u8 {
         let mut point = [0, 0, 0, 0x61];
-        point[place] = value;
+        if let Some(byte) = point.get_mut(place) {
+            *byte = value;
+        }
         if let Some(c) = char::from_u32(u32::from_be_bytes(point)) {
             if c != 'a' && width(c) == 1 {
                 count = count.saturating_add(1);
@@ -417,19 +426,14 @@ fn count_narrow(place: usize) -> usize
     count
 }
 
-// Whether just those other values are taken at each place of ONE that may be.
-fn are_others_taken(alloc: Global, blank: &RowShot1, one: &[u8]) -> bool {
-    for (place, count) in OTHER_VALUES.split(' ').enumerate() {
-        if count.parse::<usize>() != Ok(count_taken(alloc, blank, one, place)) {
-            return false;
-        }
-    }
-    for place in 0..4usize {
-        if count_narrow(place) != count_taken(alloc, blank, one, 27 + place) {
-            return false;
-        }
-    }
-    true
+// Whether so many other values are taken at a place of ONE.
+fn takes_others(alloc: Global, blank: &RowShot1, place: usize, wanted: &str) -> bool {
+    let wanted = if wanted == "narrow" {
+        Ok(count_narrow(place.saturating_sub(27)))
+    } else {
+        wanted.parse::<usize>()
+    };
+    matches!(bytes_of(alloc, ONE), Ok(one) if Ok(count_taken(alloc, blank, &one, place)) == wanted)
 }
 
 // A wide character in the first row of 2 by 8, with its left half in a column from 0 and one byte of flags.
@@ -472,18 +476,10 @@ fn named_len(cols: u16, col: u8, is_plain: bool) -> usize {
     }
 }
 
-// Whether a wide character that is cut is a space in its style, at each column of each width.
-fn are_cuts_spaces(alloc: Global) -> bool {
-    for cols in 4..8u16 {
-        for col in 0..7u8 {
-            if cut_len(alloc, cols, col, 0) != named_len(cols, col, true)
-                || cut_len(alloc, cols, col, 1) != named_len(cols, col, false)
-            {
-                return false;
-            }
-        }
-    }
-    true
+// Whether a wide character that is cut is a space in its style.
+fn is_cut_a_space(alloc: Global, cols: u16, col: u8) -> bool {
+    cut_len(alloc, cols, col, 0) == named_len(cols, col, true)
+        && cut_len(alloc, cols, col, 1) == named_len(cols, col, false)
 }
 
 fn is_x(shot: &RowShot1, row: u16, col: u16) -> bool {
@@ -508,32 +504,44 @@ fn has_corners(shot: &RowShot1) -> bool {
 
 /// What is tried of a blank screen.
 #[derive(Clone, Copy)]
-enum Trial {
+enum Trial<'a> {
     AddedAtTheEnd,
-    ChangedByte,
+    ChangedByte(usize, &'a str),
     Corners,
 }
 
-fn tries(alloc: Global, blank: &RowShot1, trial: Trial) -> bool {
+fn tries(alloc: Global, blank: &RowShot1, trial: Trial<'_>) -> bool {
     match trial {
         Trial::AddedAtTheEnd => matches!(is_added_at_the_end(alloc, blank), Ok(true)),
-        Trial::ChangedByte =>
-            matches!(bytes_of(alloc, ONE), Ok(one) if are_others_taken(alloc, blank, &one)),
+        Trial::ChangedByte(place, wanted) => takes_others(alloc, blank, place, wanted),
         Trial::Corners => matches!(made_by(alloc, blank, CORNERS), Ok(shot) if has_corners(&shot)),
     }
 }
 
-fn is_tried(alloc: Global, trial: Trial) -> bool {
+fn is_tried(alloc: Global, trial: Trial<'_>) -> bool {
     matches!(blank_of(alloc, 8), Ok(blank) if tries(alloc, &blank, trial))
 }
 
-// A change is added at the end; each changed byte is refused or exact; a change turns each corner; a wide cell that is cut is a space.
 #[test]
-fn ends_bytes_corners_and_cuts(rt: HostRuntime) {
+fn each_changed_byte_is_refused_or_exact(rt: HostRuntime) {
+    for (place, wanted) in OTHER_VALUES.split(' ').enumerate() {
+        assert!(rt;
+            is_tried(rt.alloc(), Trial::ChangedByte(place, wanted)),
+            "at {place}"
+        );
+    }
+}
+
+// A change is added at the end, and turns each corner; a wide cell that is cut is a space in its style, at each column of each width.
+#[test]
+fn ends_corners_and_cuts(rt: HostRuntime) {
     assert!(rt; is_tried(rt.alloc(), Trial::AddedAtTheEnd), "end");
-    assert!(rt; is_tried(rt.alloc(), Trial::ChangedByte), "bytes");
     assert!(rt; is_tried(rt.alloc(), Trial::Corners), "corners");
-    assert!(rt; are_cuts_spaces(rt.alloc()), "cuts");
+    for cols in 4..8u16 {
+        for col in 0..7u8 {
+            assert!(rt; is_cut_a_space(rt.alloc(), cols, col), "{col} of {cols}");
+        }
+    }
 }
 
 // Whether a call succeeded and did what it is to do, or failed for want of memory and left what stood there.
