@@ -6,26 +6,48 @@ use roam_cells::limits::is_size;
 use roam_cells::*;
 use roam_screens::*;
 use std::alloc::{AllocError, Global};
-use std::test::Fail;
+use std::test::*;
 
-// The texts of the refusals.
-const FAULTS: &str = "\
-out of memory
-bad size
-too small
-no such pane
-too many panes
-only one pane
-queue is full
-too long
-bad datagram
-other session
-other client
-too many clients
-bad change
-too many states
-numbers spent
-bad act";
+// Lines of cells. `fault` has the text of a refusal; `width` a character, its columns, and what it does (`unicode_width` gives U+17D8 three
+// columns); `cell` code points, and the cell that they make in a style and with a guard, or none.
+const LINES: &str = "\
+fault out of memory
+fault bad size
+fault too small
+fault no such pane
+fault too many panes
+fault only one pane
+fault queue is full
+fault too long
+fault bad datagram
+fault other session
+fault other client
+fault too many clients
+fault bad change
+fault too many states
+fault numbers spent
+fault bad act
+fault only watching
+width A 1 stands
+width \u{4E2D} 2 stands
+width \u{301} 0 joins
+width \u{200B} 0 joins
+width \x07 0 stands
+width \u{AD} 0 joins
+width \u{1F600} 2 stands
+width \u{FE0F} 0 joins
+width \u{17D8} 2 stands
+cell |none
+cell a|narrow
+cell a\u{301}|narrow
+cell a\u{301}\u{301}|narrow
+cell a\u{301}\u{301}\u{301}|none
+cell \u{4E2D}|wide
+cell \u{4E2D}\u{301}|wide
+cell ab|none
+cell \u{301}|none
+cell \x07|none
+cell a\x07|none";
 
 fn fault_of_a_screen(text: &str) -> Option<Fault> {
     match text {
@@ -51,42 +73,21 @@ fn fault_of_a_link(text: &str) -> Option<Fault> {
         "too many states" => Some(Fault::SendFull),
         "numbers spent" => Some(Fault::Spent),
         "bad act" => Some(Fault::BadAct),
+        "only watching" => Some(Fault::Watching),
         _ => None,
     }
 }
 
-fn is_text(alloc: Global, text: &str) -> Result<bool, AllocError> {
-    let Some(fault) = fault_of_a_screen(text).or(fault_of_a_link(text)) else {
-        return Ok(false);
-    };
-    Ok(format!(in alloc; "{fault}")?.as_str() == text)
-}
-
-#[test]
-fn each_fault_has_its_text(rt: HostRuntime) -> Result<(), Fail> {
-    for text in FAULTS.lines() {
-        assert!(rt; is_text(rt.alloc(), text)?, "{text}");
+fn is_text(alloc: Global, text: &str) -> bool {
+    match fault_of_a_screen(text).or(fault_of_a_link(text)) {
+        Some(fault) => matches!(fault.to_string(alloc), Ok(told) if told.as_str() == text),
+        None => false,
     }
-    Ok(())
 }
-
-// A character, its columns, and what it does. `unicode_width` gives U+17D8 three columns.
-const WIDTHS: &str = "\
-A 1 stands
-\u{4E2D} 2 stands
-\u{301} 0 joins
-\u{200B} 0 joins
-\x07 0 stands
-\u{AD} 0 joins
-\u{1F600} 2 stands
-\u{FE0F} 0 joins
-\u{17D8} 2 stands";
 
 fn has_width(line: &str) -> bool {
-    let Some((c, rest)) = line.split_once(' ') else {
-        return false;
-    };
-    let Some(c) = c.chars().next() else {
+    let (text, rest) = line.split_once(' ').unwrap_or((line, ""));
+    let Some(c) = text.chars().next() else {
         return false;
     };
     let wanted = match rest {
@@ -98,27 +99,6 @@ fn has_width(line: &str) -> bool {
     };
     (width(c), is_joiner(c)) == wanted
 }
-
-#[test]
-fn widths_of_characters(rt: HostRuntime) {
-    for line in WIDTHS.lines() {
-        assert!(rt; has_width(line), "{line:?}");
-    }
-}
-
-// Code points, and the cell that they make in a style and with a guard, or none.
-const TEXTS: &str = "\
-|none
-a|narrow
-a\u{301}|narrow
-a\u{301}\u{301}|narrow
-a\u{301}\u{301}\u{301}|none
-\u{4E2D}|wide
-\u{4E2D}\u{301}|wide
-ab|none
-\u{301}|none
-\x07|none
-a\x07|none";
 
 fn bold() -> Style {
     let mut style = Style::default();
@@ -145,23 +125,34 @@ fn kind_made(points: &[char]) -> Option<&'static str> {
     }
 }
 
-fn makes(alloc: Global, line: &str) -> Result<bool, AllocError> {
-    let Some((text, kind)) = line.split_once('|') else {
-        return Ok(false);
-    };
+fn points_of(alloc: Global, text: &str) -> Result<Vec<char>, AllocError> {
     let mut points = Vec::new(alloc);
     for c in text.chars() {
         points.push(c)?;
     }
-    Ok(kind_made(&points) == Some(kind))
+    Ok(points)
+}
+
+fn makes(alloc: Global, line: &str) -> bool {
+    let (text, kind) = line.split_once('|').unwrap_or((line, ""));
+    matches!(points_of(alloc, text), Ok(points) if kind_made(&points) == Some(kind))
+}
+
+fn holds(alloc: Global, line: &str) -> bool {
+    let (word, rest) = line.split_once(' ').unwrap_or((line, ""));
+    match word {
+        "fault" => is_text(alloc, rest),
+        "width" => has_width(rest),
+        "cell" => makes(alloc, rest),
+        _ => false,
+    }
 }
 
 #[test]
-fn cells_of_code_points(rt: HostRuntime) -> Result<(), Fail> {
-    for line in TEXTS.lines() {
-        assert!(rt; makes(rt.alloc(), line)?, "{line:?}");
+fn faults_widths_and_cells(rt: HostRuntime) {
+    for line in LINES.lines() {
+        assert!(rt; holds(rt.alloc(), line), "{line:?}");
     }
-    Ok(())
 }
 
 fn halves_become_spaces() -> bool {
@@ -190,13 +181,6 @@ fn styles_are_told_apart() -> bool {
         && three.is_same(Colour::Index(3))
         && !three.is_same(Colour::Index(4))
         && !Colour::Index(0).is_same(Colour::Default)
-}
-
-#[test]
-fn cells_made_from_cells(rt: HostRuntime) {
-    assert!(rt; halves_become_spaces());
-    assert!(rt; cells_take_characters());
-    assert!(rt; styles_are_told_apart());
 }
 
 fn wide() -> Cell {
@@ -255,8 +239,12 @@ fn guards_are_found() -> bool {
     are_unguarded(&[s, wide(), r]) && !are_unguarded(&[s, wide(), guarded])
 }
 
+// Cells that are made from cells, and lists of cells.
 #[test]
-fn well_formed_cells(rt: HostRuntime) {
+fn cells_from_cells_and_well_formed_cells(rt: HostRuntime) {
+    assert!(rt; halves_become_spaces());
+    assert!(rt; cells_take_characters());
+    assert!(rt; styles_are_told_apart());
     assert!(rt; blanks_are_whole());
     assert!(rt; halves_want_each_other());
     assert!(rt; halves_are_in_one_row());
@@ -364,14 +352,6 @@ fn is_wider_blank(alloc: Global) -> Result<bool, Fault> {
     is_blank(alloc, &wider)
 }
 
-// A lone half makes no screen; another size is another screen.
-#[test]
-fn other_screens(rt: HostRuntime) -> Result<(), Fail> {
-    assert!(rt; is_lone_half_blank(rt.alloc())?);
-    assert!(rt; !is_wider_blank(rt.alloc())?);
-    Ok(())
-}
-
 static OUTSIDE: [(u16, u16); 5] = [(0, 1), (1, 0), (3, 1), (1, 9), (65_535, 65_535)];
 
 static INSIDE: [(u16, u16, char); 6] = [
@@ -420,11 +400,13 @@ fn is_told(alloc: Global, shot: &Shot) -> Result<bool, Fault> {
     Ok(placed && has_rows(alloc, shot)? && is_copied(alloc, shot)?)
 }
 
+// A lone half makes no screen; another size is another screen.
 #[test]
-fn a_screen_of_cells(rt: HostRuntime) -> Result<(), Fail> {
-    let shot = sample(rt.alloc())?;
-    assert!(rt; is_told(rt.alloc(), &shot)?);
-    Ok(())
+fn a_screen_of_cells_and_others(rt: HostRuntime) {
+    let alloc = rt.alloc();
+    assert!(rt; matches!(sample(alloc), Ok(shot) if is_told(alloc, &shot) == Ok(true)));
+    assert!(rt; is_lone_half_blank(alloc) == Ok(true));
+    assert!(rt; is_wider_blank(alloc) == Ok(false));
 }
 
 // Whether a call answered this, or wanted memory.

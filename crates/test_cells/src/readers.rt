@@ -7,7 +7,10 @@ use std::fmt::Write;
 /// but `␊` LF, `␍` CR, and `⇕` no byte: there a new size of 3 rows by 8 columns falls. Functions are written with all numbers but
 /// parameters and sizes in hexadecimal: `Print(41)`, `C0(0A)`, `C1(85)`, `Esc(28 30)` for intermediate bytes and final byte,
 /// `Csi(3F 2;4 20 71)` for private marker, parameters, intermediate bytes and final byte, `Size(3 8)`; `-` is none.
-const GRAPHIC_CHARACTERS_AND_CONTROLS: &str = "\
+///
+/// First come graphic characters and controls, then escape sequences, control sequences, control strings, characters of bytes, and sizes
+/// among bytes.
+const ROWS: &str = "\
 printable ASCII and U+00A0 up are printed
  ~\u{C2}\u{A0}\u{C3}\u{A9}
 Print(20) Print(7E) Print(A0) Print(E9)
@@ -26,9 +29,8 @@ C1(85) C1(9C)
 
 a C1 control as ESC and a byte of 40 to 5F
 \x1BE\x1BM\x1B\\
-C1(85) C1(8D) C1(9C)";
+C1(85) C1(8D) C1(9C)
 
-const ESCAPE_SEQUENCES: &str = "\
 a final byte alone
 \x1B7\x1Bc\x1B=\x1B~
 Esc(37) Esc(63) Esc(3D) Esc(7E)
@@ -71,9 +73,8 @@ Esc(37)
 
 a character from U+0080 up ends it and is read
 \x1B(\u{C3}\u{A9}0
-Print(E9) Print(30)";
+Print(E9) Print(30)
 
-const CONTROL_SEQUENCES: &str = "\
 a line feed inside acts before its sequence
 \x1B[2␊C
 C0(0A) Csi(2 43)
@@ -148,9 +149,8 @@ Print(E9) Print(43) C1(85) Print(78)
 
 ill-formed bytes end it and are printed
 \x1B[2\u{E4}C
-Print(FFFD) Print(43)";
+Print(FFFD) Print(43)
 
-const CONTROL_STRINGS: &str = "\
 OSC to BEL, DCS to ST
 \x1B]0;t\x07y\x1BPqq\x1B\\z
 Print(79) C1(9C) Print(7A)
@@ -193,9 +193,8 @@ Print(78)
 
 ill-formed bytes before the end
 \x1B]\u{E4}\x07x\x1BP\u{E4}\x1B\\y
-Print(78) C1(9C) Print(79)";
+Print(78) C1(9C) Print(79)
 
-const CHARACTERS_OF_BYTES: &str = "\
 two, three and four bytes
 \u{C3}\u{A9}\u{E4}\u{B8}\u{AD}\u{F0}\u{9F}\u{98}\u{80}\u{F4}\u{8F}\u{BF}\u{BF}
 Print(E9) Print(4E2D) Print(1F600) Print(10FFFF)
@@ -246,9 +245,8 @@ Print(FFFD) C0(0A) Print(78)
 
 ill-formed bytes before another character
 \u{E4}\u{C3}\u{A9}
-Print(FFFD) Print(E9)";
+Print(FFFD) Print(E9)
 
-const SIZES_AMONG_BYTES: &str = "\
 a size comes before the character in which it falls
 \u{E4}⇕\u{B8}\u{AD}
 Size(3 8) Print(4E2D)
@@ -475,91 +473,41 @@ fn are_wanted(read: &str, wanted: &str) -> bool {
     functions == wanted || functions.is_empty() && wanted == "-"
 }
 
-fn holds_by(alloc: Global, row: &Row<'_>, way: Way) -> Result<bool, AllocError> {
+fn holds_by(alloc: Global, row: &Row<'_>, way: Way) -> bool {
     let mut text = String::new(alloc);
-    read_row(&mut text, row, way)?;
-    Ok(are_wanted(text.as_str(), row.functions))
+    read_row(&mut text, row, way).is_ok() && are_wanted(text.as_str(), row.functions)
 }
 
 // Whether a row's bytes ask for its functions however they are handed over.
-fn is_read(alloc: Global, row: &Row<'_>) -> Result<bool, AllocError> {
-    for way in [Way::Next, Way::Pieces(1), Way::Pieces(row.bytes.len())] {
-        if !holds_by(alloc, row, way)? {
-            return Ok(false);
-        }
-    }
+fn is_read(alloc: Global, row: &Row<'_>) -> bool {
     for at in 0..row.bytes.len() {
-        if !holds_by(alloc, row, Way::Cut(at))? {
-            return Ok(false);
+        if !holds_by(alloc, row, Way::Cut(at)) {
+            return false;
         }
     }
-    Ok(true)
+    holds_by(alloc, row, Way::Next)
+        && holds_by(alloc, row, Way::Pieces(1))
+        && holds_by(alloc, row, Way::Pieces(row.bytes.len()))
 }
 
-fn holds(alloc: Global, block: &str) -> Result<bool, AllocError> {
-    let mut lines = block.split('\n').skip(1);
-    if let Some(line) = lines.next()
-        && let Some(functions) = lines.next()
-    {
-        return is_read(alloc, &row_of(alloc, line, functions)?);
-    }
-    Ok(false)
-}
-
-// The first row that doesn't hold, or nothing.
-fn first_wrong(alloc: Global, rows: &'static str) -> &'static str {
-    for block in rows.split("\n\n") {
-        match holds(alloc, block) {
-            Ok(true) => (),
-            Ok(false) => return block,
-            Err(_) => return "there was no memory",
-        }
-    }
-    ""
+fn holds(alloc: Global, block: &str) -> bool {
+    let (_, rest) = block.split_once('\n').unwrap_or((block, ""));
+    let (line, functions) = rest.split_once('\n').unwrap_or((rest, ""));
+    matches!(row_of(alloc, line, functions), Ok(row) if is_read(alloc, &row))
 }
 
 #[test]
 fn rows_of_the_reader(rt: HostRuntime) {
-    for rows in [
-        GRAPHIC_CHARACTERS_AND_CONTROLS,
-        ESCAPE_SEQUENCES,
-        CONTROL_SEQUENCES,
-        CONTROL_STRINGS,
-        CHARACTERS_OF_BYTES,
-        SIZES_AMONG_BYTES,
-    ] {
-        assert_eq!(rt; first_wrong(rt.alloc(), rows), "");
+    for block in ROWS.split("\n\n") {
+        assert!(rt; holds(rt.alloc(), block), "{block}");
     }
 }
 
-/// What begins something long, a byte that goes on with it a million times, what ends it, and the functions that all ask for.
-struct Long {
-    first: &'static [u8],
-    byte: u8,
-    last: &'static [u8],
-    functions: &'static str,
-}
-
-static LONG: [Long; 3] = [
-    Long {
-        first: b"\x1BP",
-        byte: b'a',
-        last: b"\xC2\x9Cx",
-        functions: "Print(78) ",
-    },
-    Long {
-        first: b"\x1B[",
-        byte: b'9',
-        last: b"m",
-        functions: "Csi(9999 6D) ",
-    },
-    Long {
-        first: b"\x1B[7",
-        byte: b';',
-        last: b"m",
-        functions: "Csi(7;0;0;0;0;0;0;0;0;0;0;0;0;0;0;0 6D) ",
-    },
-];
+// What begins something long, a byte that goes on with it a million times, what ends it, and the functions that all ask for.
+const LONG: &str = "\
+\x1BP|a|\u{C2}\u{9C}x|Print(78)
+\x1B[|9|m|Csi(9999 6D)
+\x1B[7|;|m|Csi(7;0;0;0;0;0;0;0;0;0;0;0;0;0;0;0 6D)";
 
 // Whether a byte, read a million times, completes nothing.
 fn completes_nothing(reader: &mut Reader, byte: u8) -> bool {
@@ -573,22 +521,35 @@ fn completes_nothing(reader: &mut Reader, byte: u8) -> bool {
     true
 }
 
-fn read_long(text: &mut String, long: &Long) -> Result<bool, AllocError> {
+fn read_long(text: &mut String, first: &[u8], byte: u8, last: &[u8]) -> bool {
     let mut reader = Reader::new();
-    read_by_next(text, &mut reader, long.first)?;
-    let completed = !completes_nothing(&mut reader, long.byte);
-    read_by_next(text, &mut reader, long.last)?;
-    Ok(!completed)
+    read_by_next(text, &mut reader, first).is_ok()
+        && completes_nothing(&mut reader, byte)
+        && read_by_next(text, &mut reader, last).is_ok()
 }
 
-fn is_long_read(alloc: Global, long: &Long) -> bool {
+fn asks_for(alloc: Global, first: &[u8], byte: u8, last: &[u8], functions: &str) -> bool {
     let mut text = String::new(alloc);
-    read_long(&mut text, long) == Ok(true) && text.as_str() == long.functions
+    read_long(&mut text, first, byte, last) && are_wanted(text.as_str(), functions)
+}
+
+fn is_long_read(alloc: Global, line: &str) -> bool {
+    let (first, rest) = line.split_once('|').unwrap_or((line, ""));
+    let (byte, rest) = rest.split_once('|').unwrap_or((rest, ""));
+    let (last, functions) = rest.split_once('|').unwrap_or((rest, ""));
+    match (
+        bytes_of(alloc, first),
+        byte.as_bytes(),
+        bytes_of(alloc, last),
+    ) {
+        (Ok(first), [byte], Ok(last)) => asks_for(alloc, &first, *byte, &last, functions),
+        _ => false,
+    }
 }
 
 #[test]
 fn a_million_bytes(rt: HostRuntime) {
-    for long in LONG.iter() {
-        assert!(rt; is_long_read(rt.alloc(), long), "{}", long.functions);
+    for line in LONG.lines() {
+        assert!(rt; is_long_read(rt.alloc(), line), "{line:?}");
     }
 }

@@ -27,40 +27,18 @@ fn keeps_others() -> bool {
     below && ascii && outside
 }
 
-#[test]
-fn special_graphics(rt: HostRuntime) {
-    assert!(rt; maps_special_graphics());
-    assert!(rt; keeps_others());
-}
-
-#[test]
-fn united_kingdom(rt: HostRuntime) {
-    for code in '!'..='~' {
+fn maps_united_kingdom() -> bool {
+    ('!'..='~').all(|code| {
         let shown = if code == '#' { '\u{A3}' } else { code };
-        assert!(rt; Charset::UnitedKingdom.map(code) == shown);
-    }
+        Charset::UnitedKingdom.map(code) == shown
+    })
 }
 
-#[test]
-fn no_set_touches_other_characters(rt: HostRuntime) {
-    for c in [
-        '\u{0}',
-        ' ',
-        '\u{7F}',
-        '\u{A0}',
-        '\u{A3}',
-        '\u{4E2D}',
-        '\u{FFFD}',
-        '\u{10FFFF}',
-    ] {
-        for set in [
-            Charset::Ascii,
-            Charset::UnitedKingdom,
-            Charset::DecSpecialGraphics,
-        ] {
-            assert!(rt; set.map(c) == c);
-        }
-    }
+// Characters that no set touches.
+const OTHERS: &str = "\0 \u{7F}\u{A0}\u{A3}\u{4E2D}\u{FFFD}\u{10FFFF}";
+
+fn leaves_others(set: Charset) -> bool {
+    OTHERS.chars().all(|c| set.map(c) == c)
 }
 
 fn locks() -> bool {
@@ -72,11 +50,6 @@ fn locks() -> bool {
     let locked = !sets.is_ascii() && sets.map('q') == '\u{2500}' && sets.map('x') == '\u{2502}';
     sets.shift(Element::G0);
     fresh && designated && locked && sets.map('q') == 'q'
-}
-
-#[test]
-fn a_locking_shift_stays(rt: HostRuntime) {
-    assert!(rt; locks());
 }
 
 // The second of two single shifts counts.
@@ -91,11 +64,6 @@ fn shifts_once() -> bool {
     sets.single_shift(Element::G2);
     sets.single_shift(Element::G3);
     spent && by_any && sets.map('q') == '\u{2500}' && sets.is_ascii()
-}
-
-#[test]
-fn a_single_shift_is_spent_by_any_character(rt: HostRuntime) {
-    assert!(rt; shifts_once());
 }
 
 // Whether an element has a set of its own, which goes back to ASCII.
@@ -113,7 +81,24 @@ fn is_designated(element: Element) -> bool {
 }
 
 #[test]
-fn each_element_has_its_own_set(rt: HostRuntime) {
+fn sets_map_their_codes(rt: HostRuntime) {
+    assert!(rt; maps_special_graphics());
+    assert!(rt; keeps_others());
+    assert!(rt; maps_united_kingdom());
+    for set in [
+        Charset::Ascii,
+        Charset::UnitedKingdom,
+        Charset::DecSpecialGraphics,
+    ] {
+        assert!(rt; leaves_others(set));
+    }
+}
+
+// A locking shift stays; a single shift is spent by any character; each element has its own set.
+#[test]
+fn designations_and_shifts(rt: HostRuntime) {
+    assert!(rt; locks());
+    assert!(rt; shifts_once());
     for element in [Element::G0, Element::G1, Element::G2, Element::G3] {
         assert!(rt; is_designated(element));
     }

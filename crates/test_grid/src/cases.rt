@@ -4,10 +4,10 @@
 //! each row, beside what its cells look like (`.` plain, `b` bold, `g` guarded, `B` both; nothing where all are plain), and the cursor,
 //! `pending` where a wrap is.
 use crate::operations::{pair, play};
-use roam_cells::{Cell, Fault};
+use crate::trials::{Trial, stands};
+use roam_cells::Cell;
 use roam_grid::Grid;
 use std::alloc::Global;
-use std::str::Lines;
 
 const MIXED: &str =
     "text ab, bold on, guard on, text \u{4E2D}, guard off, text e\u{301}, bold off, guard on, text fgh, guard off";
@@ -63,84 +63,45 @@ fn looks(row: &[Cell], wanted: &str) -> bool {
 // Whether a row is that of a line, `|text|signs|`.
 fn is_row(cells: &[Cell], line: &str) -> bool {
     let mut parts = line.split('|').skip(1);
-    matches!(parts.next(), Some(text) if reads(cells, text))
-        && matches!(parts.next(), Some(signs) if looks(cells, signs))
+    reads(cells, parts.next().unwrap_or("?")) && looks(cells, parts.next().unwrap_or("?"))
 }
 
 fn is_cursor(grid: &Grid, line: &str) -> bool {
-    let (place, pending) = match line.strip_suffix(" pending") {
-        Some(place) => (place, true),
-        None => (line, false),
-    };
-    pair(place) == Some(grid.cursor()) && grid.pending() == pending
+    let place = line.strip_suffix(" pending");
+    pair(place.unwrap_or(line)) == Some(grid.cursor()) && grid.pending() == place.is_some()
 }
 
 // Whether the grid has these rows, and then this cursor.
-fn shows(grid: &Grid, lines: Lines<'_>) -> bool {
-    let mut lines = lines;
+fn shows(grid: &Grid, text: &str) -> bool {
+    let mut lines = text.lines();
     for i in 0..grid.rows() {
-        if !matches!(lines.next(), Some(line) if is_row(grid.row(i), line)) {
+        if !is_row(grid.row(i), lines.next().unwrap_or("")) {
             return false;
         }
     }
-    matches!(lines.next(), Some(line) if is_cursor(grid, line)) && lines.next().is_none()
+    is_cursor(grid, lines.next().unwrap_or("")) && lines.next().is_none()
 }
 
-/// A blank grid of a size whose buffer begins with a later row of the screen, as many rows later as were turned.
-pub fn turned_grid(alloc: Global, size: (usize, usize), turned: usize) -> Result<Grid, Fault> {
-    let mut grid = Grid::new(alloc, size.0, size.1)?;
-    grid.scroll_up(turned);
-    Ok(grid)
-}
-
-/// What a case begins with: a size, and what is done before its own operations.
-#[derive(Clone, Copy)]
-struct Start {
-    size: (usize, usize),
-    before: &'static str,
-}
-
-fn start_of(words: &str) -> Option<Start> {
-    let (size, start) = words.rsplit_once(' ')?;
-    Some(Start {
-        size: pair(size)?,
-        before: operations_before(start)?,
-    })
-}
-
-// Whether the operations of a case, done after those before them, leave what its last lines show.
-fn shows_after(
+/// Whether operations, done after those before them, leave what a text shows.
+pub fn shows_after(
     alloc: Global,
     grid: &mut Grid,
     before: &str,
     operations: &str,
-    lines: Lines<'_>,
-) -> Result<bool, Fault> {
-    Ok(play(alloc, grid, before)? && play(alloc, grid, operations)? && shows(grid, lines))
+    text: &str,
+) -> bool {
+    play(alloc, grid, before) && play(alloc, grid, operations) && shows(grid, text)
 }
 
-// A case on a grid whose rows were turned so often.
-fn holds(alloc: Global, case: &str, turned: usize) -> Result<bool, Fault> {
-    let mut lines = case.lines();
-    lines.next();
-    if let Some(line) = lines.next()
-        && let Some((start, operations)) = line.split_once(": ")
-        && let Some(start) = start_of(start)
-    {
-        let mut grid = turned_grid(alloc, start.size, turned)?;
-        return shows_after(alloc, &mut grid, start.before, operations, lines);
-    }
-    Ok(false)
-}
-
-/// The first case that doesn't hold, on a grid as it is made or on one whose first row was turned.
-pub fn first_wrong<'a>(alloc: Global, cases: &'a str) -> Result<Option<&'a str>, Fault> {
-    for case in cases.split("\n\n") {
-        for turned in 0..2usize {
-            if !holds(alloc, case, turned)? {
-                return Ok(Some(case));
-            }
-        }
-    }
-    Ok(None)
+/// Whether a case holds, on a grid as it is made and on one whose first row was turned.
+pub fn holds(alloc: Global, case: &str) -> bool {
+    let (_, rest) = case.split_once('\n').unwrap_or((case, ""));
+    let (line, text) = rest.split_once('\n').unwrap_or((rest, ""));
+    let (start, operations) = line.split_once(": ").unwrap_or((line, ""));
+    let (size, start) = start.rsplit_once(' ').unwrap_or((start, ""));
+    let (Some(size), Some(before)) = (pair(size), operations_before(start)) else {
+        return false;
+    };
+    stands(alloc, size, 0, Trial::Case(before, operations, text))
+        && stands(alloc, size, 1, Trial::Case(before, operations, text))
 }

@@ -1,13 +1,15 @@
 //! Each operation of a grid at the edges, at the margins and outside them, for counts from none to the largest, on rows of narrow, wide and
 //! joined cells in two styles and guards; cells are compared with style and guard.
-use crate::cases::first_wrong;
+use crate::cases::holds;
+use crate::trials::{Trial, stands};
 use roam_cells::Fault;
 use roam_grid::Grid;
 use std::alloc::Global;
-use std::test::Fail;
+use std::test::*;
 
-// ICH and DCH.
-const CELLS: &str = "\
+// ICH and DCH; ECH, EL, ED and their selective forms; IL and DL; SU, SD, IND and RI; IRM, joining, whole screens and other sizes; HT, CHT,
+// CBT, HTS and TBC.
+const CASES: &str = "\
 ICH of no cell
 2 8 mixed: CUP 1 1, ICH 0
 |ab\u{4E2D}e\u{301}fgh|..BBbggg|
@@ -132,10 +134,8 @@ DCH clears a pending wrap
 2 8 mixed: DCH 0
 |ab\u{4E2D}e\u{301}fgh|..BBbggg|
 |        |........|
-1 8";
+1 8
 
-// ECH, EL, ED and their selective forms.
-const ERASURES: &str = "\
 ECH in the first column
 2 8 mixed: CUP 1 1, ECH 1
 | b\u{4E2D}e\u{301}fgh|..BBbggg|
@@ -266,10 +266,8 @@ DECSED to the start leaves what stands behind
 2 8 two: CUP 1 1, DECSED start
 | b      |.g......|
 |cd      |.g......|
-1 1";
+1 1
 
-// IL and DL.
-const LINES: &str = "\
 IL of no line
 4 8 four: CUP 2 3, IL 0
 |a       |........|
@@ -452,10 +450,8 @@ DL outside the margins clears a pending wrap
 |b       |........|
 |c       |........|
 |d      z|........|
-4 8";
+4 8
 
-// SU, SD, IND and RI.
-const SCROLLS: &str = "\
 SU by 0
 4 8 four: CUP 2 2, SU 0
 |a       |........|
@@ -606,10 +602,8 @@ IND in the last row below the margin
 |b       |........|
 |c       |........|
 |d       |........|
-4 4";
+4 4
 
-// IRM, joining, whole screens and other sizes.
-const SCREENS: &str = "\
 IRM: a narrow character
 2 8 mixed: insert on, CUP 1 1, text x
 |xab\u{4E2D}e\u{301}fg|...BBbgg|
@@ -701,10 +695,8 @@ fewer rows, cut at the bottom
 4 8 four: CUP 1 2, size 2 8 0
 |a       |........|
 |b       |........|
-1 2";
+1 2
 
-// HT, CHT, CBT, HTS and TBC.
-const TABS: &str = "\
 HT
 2 20 blank: CHT 1
 |                    |....................|
@@ -808,50 +800,18 @@ stops are kept for columns that are not there
 1 20";
 
 #[test]
-fn cells_come_in_and_go_out(rt: HostRuntime) -> Result<(), Fail> {
-    assert_eq!(rt; first_wrong(rt.alloc(), CELLS)?, None);
-    Ok(())
+fn operations_at_the_edges(rt: HostRuntime) {
+    for case in CASES.split("\n\n") {
+        assert!(rt; holds(rt.alloc(), case), "{case}");
+    }
 }
 
-#[test]
-fn cells_become_blank(rt: HostRuntime) -> Result<(), Fail> {
-    assert_eq!(rt; first_wrong(rt.alloc(), ERASURES)?, None);
-    Ok(())
-}
-
-#[test]
-fn lines_come_in_and_go_out(rt: HostRuntime) -> Result<(), Fail> {
-    assert_eq!(rt; first_wrong(rt.alloc(), LINES)?, None);
-    Ok(())
-}
-
-#[test]
-fn rows_scroll(rt: HostRuntime) -> Result<(), Fail> {
-    assert_eq!(rt; first_wrong(rt.alloc(), SCROLLS)?, None);
-    Ok(())
-}
-
-#[test]
-fn characters_make_way_and_screens_change(rt: HostRuntime) -> Result<(), Fail> {
-    assert_eq!(rt; first_wrong(rt.alloc(), SCREENS)?, None);
-    Ok(())
-}
-
-#[test]
-fn tabs_stop(rt: HostRuntime) -> Result<(), Fail> {
-    assert_eq!(rt; first_wrong(rt.alloc(), TABS)?, None);
-    Ok(())
-}
-
-// Of three rows, scrolled up by one five times, the buffer begins with the third.
-#[test]
-fn the_first_row_goes_round(rt: HostRuntime) -> Result<(), Fail> {
-    let mut grid = Grid::new(rt.alloc(), 3, 8)?;
+/// Whether of three rows, scrolled up by one five times, the buffer begins with the third.
+pub fn goes_round_by_fives(grid: &mut Grid) -> bool {
     for _ in 0..5 {
         grid.scroll_up(1);
     }
-    assert_eq!(rt; grid.first(), 2);
-    Ok(())
+    grid.first() == 2
 }
 
 fn is_refused(alloc: Global, grid: &mut Grid, rows: usize, cols: usize) -> bool {
@@ -862,15 +822,22 @@ fn is_at(grid: &Grid, size: (usize, usize), cursor: (usize, usize)) -> bool {
     (grid.rows(), grid.cols()) == size && grid.cursor() == cursor
 }
 
-// The cursor in the last row of four: two rows leave at the top, and its column is pushed into the screen.
-#[test]
-fn a_size_is_taken_or_refused(rt: HostRuntime) -> Result<(), Fail> {
-    let alloc = rt.alloc();
-    let mut grid = Grid::new(alloc, 4, 8)?;
+/// Whether sizes out of the limits are refused, and another is taken: with the cursor in the last row of four two rows leave at the top,
+/// and its column is pushed into the screen.
+pub fn takes_or_refuses(alloc: Global, grid: &mut Grid) -> bool {
     grid.move_to(3, 5);
-    assert!(rt; is_refused(alloc, &mut grid, 1, 8) && is_refused(alloc, &mut grid, 2, 501));
-    assert!(rt; is_at(&grid, (4, 8), (4, 6)));
-    grid.resize(alloc, 2, 4)?;
-    assert!(rt; is_at(&grid, (2, 4), (2, 4)));
-    Ok(())
+    is_refused(alloc, grid, 1, 8)
+        && is_refused(alloc, grid, 2, 501)
+        && is_at(grid, (4, 8), (4, 6))
+        && grid.resize(alloc, 2, 4) == Ok(())
+        && is_at(grid, (2, 4), (2, 4))
+}
+
+#[test]
+fn the_first_row_goes_round_and_a_size_is_taken_or_refused(rt: HostRuntime) {
+    assert!(rt;
+        stands(rt.alloc(), (3, 8), 0, Trial::FirstRowByFives),
+        "first row"
+    );
+    assert!(rt; stands(rt.alloc(), (4, 8), 0, Trial::Sizes), "sizes");
 }

@@ -1,11 +1,12 @@
 //! What is written, moved, erased and scrolled on a grid, as cases of a text, on grids as made and with the first row turned; and how a
 //! grid is made.
-use crate::cases::{first_wrong, reads};
-use crate::operations::play;
+use crate::cases::{holds, reads};
+use crate::operations::{number, play};
+use crate::trials::{Trial, stands};
 use roam_cells::{Cell, Fault};
 use roam_grid::{Grid, Writing};
 use std::alloc::Global;
-use std::test::Fail;
+use std::test::*;
 
 const WRITING: &str = "\
 two lines
@@ -217,28 +218,27 @@ in the last column without DECAWM it joins the column before
 1 4";
 
 #[test]
-fn acts_leave_their_screens(rt: HostRuntime) -> Result<(), Fail> {
-    assert_eq!(rt; first_wrong(rt.alloc(), WRITING)?, None);
-    Ok(())
-}
-
-fn is_refused(alloc: Global, rows: usize, cols: usize) -> bool {
-    match Grid::new(alloc, rows, cols) {
-        Ok(_) => false,
-        Err(fault) => fault == Fault::BadSize,
+fn acts_leave_their_screens(rt: HostRuntime) {
+    for case in WRITING.split("\n\n") {
+        assert!(rt; holds(rt.alloc(), case), "{case}");
     }
 }
 
-fn is_made(alloc: Global, rows: usize, cols: usize) -> Result<bool, Fault> {
-    let grid = Grid::new(alloc, rows, cols)?;
-    let sized = (grid.rows(), grid.cols()) == (rows, cols);
-    let counted = grid.buffer().len() == rows.saturating_mul(cols);
-    let placed = grid.cursor() == (1, 1) && grid.margins() == (0, rows.saturating_sub(1));
-    Ok(sized && counted && placed && grid.first() == 0)
+fn is_refused(alloc: Global, rows: usize, cols: usize) -> bool {
+    matches!(Grid::new(alloc, rows, cols), Err(Fault::BadSize))
+}
+
+/// Whether a new grid is of this size.
+pub fn is_made(grid: &Grid, rows: usize, cols: usize) -> bool {
+    (grid.rows(), grid.cols()) == (rows, cols)
+        && grid.buffer().len() == rows.saturating_mul(cols)
+        && grid.cursor() == (1, 1)
+        && grid.margins() == (0, rows.saturating_sub(1))
+        && grid.first() == 0
 }
 
 #[test]
-fn sizes_in_the_limits_alone_are_made(rt: HostRuntime) -> Result<(), Fail> {
+fn sizes_in_the_limits_alone_are_made(rt: HostRuntime) {
     for (rows, cols) in [
         (1, 8),
         (201, 8),
@@ -250,9 +250,15 @@ fn sizes_in_the_limits_alone_are_made(rt: HostRuntime) -> Result<(), Fail> {
         assert!(rt; is_refused(rt.alloc(), rows, cols), "{rows}");
     }
     for (rows, cols) in [(2, 4), (24, 80), (200, 500)] {
-        assert!(rt; is_made(rt.alloc(), rows, cols)?, "{rows}");
+        assert!(rt;
+            stands(rt.alloc(), (rows, cols), 0, Trial::Made(rows, cols)),
+            "{rows}"
+        );
+        assert!(rt;
+            stands(rt.alloc(), (rows, cols), 0, Trial::BeginsMarked),
+            "{rows}"
+        );
     }
-    Ok(())
 }
 
 // Ten lines on three rows: seven scroll.
@@ -282,50 +288,46 @@ fn first_rows(grid: &mut Grid) -> [usize; 3] {
     [up, down, grid.first()]
 }
 
-// Rows that scroll between margins leave the first row where it is.
-fn goes_round(alloc: Global, grid: &mut Grid) -> Result<bool, Fault> {
-    let turned = first_rows(grid) == [2, 1, 2] && reads(grid.buffer(), "8       9       7       ");
-    Ok(turned && play(alloc, grid, "DECSTBM 1 2, SU 1")? && grid.first() == 2)
+/// Whether the first row goes round; rows that scroll between margins leave it where it is.
+pub fn goes_round(alloc: Global, grid: &mut Grid) -> bool {
+    first_rows(grid) == [2, 1, 2]
+        && reads(grid.buffer(), "8       9       7       ")
+        && play(alloc, grid, "DECSTBM 1 2, SU 1")
+        && grid.first() == 2
 }
 
-#[test]
-fn the_first_row_goes_round(rt: HostRuntime) -> Result<(), Fail> {
-    let mut grid = Grid::new(rt.alloc(), 3, 8)?;
-    assert!(rt; goes_round(rt.alloc(), &mut grid)?);
-    Ok(())
+// What is done after the lines before; the columns of a character that comes next, whether it wraps (DECAWM), and whether a row leaves: in
+// the row above the bottom margin; where one column is left; where two are wanted; without DECAWM; with a wrap pending.
+const LEAVES: &str = "\
+CUP 1 8|2|wraps|stays
+CUP 2 7, text a|1|wraps|stays
+|2|wraps|leaves
+|2|stands|stays
+text b|1|wraps|leaves";
+
+fn leaves_so(alloc: Global, grid: &mut Grid, line: &str) -> bool {
+    let (operations, rest) = line.split_once('|').unwrap_or((line, ""));
+    let (columns, rest) = rest.split_once('|').unwrap_or((rest, ""));
+    let writing = Writing {
+        wraps: rest.starts_with("wraps|"),
+        inserts: false,
+    };
+    play(alloc, grid, operations)
+        && matches!(number(columns), Some(columns) if grid.leaves(columns, writing) == rest.ends_with("|leaves"))
 }
 
-/// Acts after those of the rows before, the columns of a character that comes next, whether it wraps (DECAWM), and whether a row leaves.
-static LEAVES: [(&str, usize, bool, bool); 5] = [
-    // In the row above the bottom margin.
-    ("CUP 1 8", 2, true, false),
-    // Where one column is left.
-    ("CUP 2 7, text a", 1, true, false),
-    // Where two are wanted.
-    ("", 2, true, true),
-    // Without DECAWM.
-    ("", 2, false, false),
-    // With a wrap pending.
-    ("text b", 1, true, true),
-];
-
-// The first row that doesn't hold.
-fn first_wrong_row(alloc: Global, grid: &mut Grid) -> Result<Option<&'static str>, Fault> {
-    for (operations, columns, wraps, leaves) in LEAVES.iter() {
-        let writing = Writing {
-            wraps: *wraps,
-            inserts: false,
-        };
-        if !play(alloc, grid, *operations)? || grid.leaves(*columns, writing) != *leaves {
-            return Ok(Some(*operations));
+/// Whether a row leaves where a character scrolls.
+pub fn leave_so(alloc: Global, grid: &mut Grid) -> bool {
+    for line in LEAVES.lines() {
+        if !leaves_so(alloc, grid, line) {
+            return false;
         }
     }
-    Ok(None)
+    true
 }
 
 #[test]
-fn a_row_leaves_where_a_character_scrolls(rt: HostRuntime) -> Result<(), Fail> {
-    let mut grid = Grid::new(rt.alloc(), 2, 8)?;
-    assert_eq!(rt; first_wrong_row(rt.alloc(), &mut grid)?, None);
-    Ok(())
+fn the_first_row_goes_round_and_a_row_leaves(rt: HostRuntime) {
+    assert!(rt; stands(rt.alloc(), (3, 8), 0, Trial::FirstRow), "first row");
+    assert!(rt; stands(rt.alloc(), (2, 8), 0, Trial::Leaving), "leaving");
 }

@@ -13,3 +13,5 @@ mod grids;
 mod marks;
 #[cfg(test)]
 mod operations;
+#[cfg(test)]
+mod trials;

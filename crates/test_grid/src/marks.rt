@@ -2,14 +2,14 @@
 //!
 //! A line has a name; what is done to a grid of 5 rows and 8 columns before its marks are cleared, and after; and the rows, from 1, that
 //! are marked then.
-use crate::cases::turned_grid;
 use crate::operations::{number, play};
-use roam_cells::Fault;
+use crate::trials::{Trial, stands};
 use roam_grid::Grid;
 use std::alloc::Global;
-use std::test::Fail;
+use std::test::*;
 
-const WRITING: &str = "\
+// Writing, joining, moves, scrolls, edits, and changes of the whole screen.
+const LINES: &str = "\
 nothing|||
 a character||CUP 3 1, text a|3
 the same character again|text a|CUP 1 1, text a|1
@@ -26,16 +26,12 @@ a run||CUP 2 3, run abc|2
 a run up to the last column||CUP 2 1, run abcdefgh|2
 a run over two rows||CUP 2 7, run abc|2 3
 a run that scrolls|DECSTBM 1 3|CUP 3 7, run abc|1 2 3
-a run under IRM||wraps on, insert on, CUP 4 7, run abc|4 5";
-
-const JOINING: &str = "\
+a run under IRM||wraps on, insert on, CUP 4 7, run abc|4 5
 a joiner|CUP 2 1, text e|text \u{301}|2
 a joiner in the first column||text \u{301}|
 a joiner of a wide character|CUP 3 1, text \u{5168}|text \u{301}|3
 a fourth code point|text e\u{301}\u{302}|text \u{303}|
-a joiner where a wrap pends|CUP 2 8, text e|text \u{301}|2";
-
-const MOVES: &str = "\
+a joiner where a wrap pends|CUP 2 8, text e|text \u{301}|2
 moves of the cursor|text abc|moves, CUP 9999 9999|
 margins and tab stops|text abc|DECSTBM 2 4, HTS, TBC 0, TBC 3|
 IND above the bottom margin||IND|
@@ -44,9 +40,7 @@ IND on the bottom margin|DECSTBM 2 4, CUP 4 1|IND|2 3 4
 IND on the last row below the margins|DECSTBM 2 4, CUP 5 1|IND|
 RI below the top margin|CUP 2 1|RI|
 RI on the top margin|DECSTBM 2 4, CUP 2 1|RI|2 3 4
-RI on the first row above the margins|DECSTBM 2 4, CUP 1 1|RI|";
-
-const SCROLLS: &str = "\
+RI on the first row above the margins|DECSTBM 2 4, CUP 1 1|RI|
 SU with full margins||SU 1|1 2 3 4 5
 SU within margins|DECSTBM 2 3|SU 1|2 3
 SU by more rows than there are|DECSTBM 2 4|SU 9999|2 3 4
@@ -56,9 +50,7 @@ SD by none||SD 0|
 IL between the margins|DECSTBM 2 4, CUP 3 1|IL 1|3 4
 IL above the margins|DECSTBM 2 4, CUP 1 1|IL 1|
 DL on the bottom margin|DECSTBM 2 4, CUP 4 1|DL 9999|4
-DL below the margins|DECSTBM 2 4, CUP 5 1|DL 1|";
-
-const EDITS: &str = "\
+DL below the margins|DECSTBM 2 4, CUP 5 1|DL 1|
 ICH|CUP 2 8|ICH 1|2
 ICH of none|CUP 2 8|ICH 0|
 DCH|CUP 3 1|DCH 9999|3
@@ -70,9 +62,7 @@ ED of all|CUP 3 4|ED all|1 2 3 4 5
 DECSEL where all cells are guarded|text ab, guard on, text cdefgh, guard off, CUP 1 3|DECSEL end|
 DECSEL where one isn't|text ab, guard on, text cdefgh, guard off, CUP 1 2|DECSEL end|1
 DECSED round a guarded row|CUP 2 1, guard on, text abcdefgh, guard off, CUP 1 8|DECSED end|1 3 4 5
-DECSED to the start, of a row guarded up to the cursor|CUP 3 1, guard on, text abcd, guard off, CUP 3 4|DECSED start|1 2";
-
-const SCREENS: &str = "\
+DECSED to the start, of a row guarded up to the cursor|CUP 3 1, guard on, text abcd, guard off, CUP 3 4|DECSED start|1 2
 DECALN||DECALN|1 2 3 4 5
 every cell blanked||blank|1 2 3 4 5
 RIS||restart|1 2 3 4 5
@@ -97,94 +87,54 @@ fn marks_are(grid: &Grid, marked: &str) -> bool {
     true
 }
 
-fn marks(alloc: Global, grid: &mut Grid, before: &str, operations: &str) -> Result<bool, Fault> {
-    if !play(alloc, grid, before)? {
-        return Ok(false);
-    }
+/// Whether operations mark these rows, done after those before them.
+pub fn marks_so(
+    alloc: Global,
+    grid: &mut Grid,
+    before: &str,
+    operations: &str,
+    marked: &str,
+) -> bool {
+    let played = play(alloc, grid, before);
     grid.clear_marks();
-    play(alloc, grid, operations)
+    played && play(alloc, grid, operations) && marks_are(grid, marked)
 }
 
-// A line on a grid whose rows were turned so often.
-fn holds(alloc: Global, line: &str, turned: usize) -> Result<bool, Fault> {
-    let mut parts = line.split('|').skip(1);
-    if let Some(before) = parts.next()
-        && let Some(operations) = parts.next()
-        && let Some(marked) = parts.next()
-    {
-        let mut grid = turned_grid(alloc, (5, 8), turned)?;
-        return Ok(marks(alloc, &mut grid, before, operations)? && marks_are(&grid, marked));
-    }
-    Ok(false)
-}
-
-// The first line whose operations mark other rows than it says: on a grid as it is made, and again on ones whose first row is turned, since
-// marks are of rows of the screen.
-fn first_wrong<'a>(alloc: Global, lines: &'a str) -> Result<Option<&'a str>, Fault> {
-    for line in lines.lines() {
-        for turned in 0..3usize {
-            if !holds(alloc, line, turned)? {
-                return Ok(Some(line));
-            }
+// Whether a line holds on a grid as it is made, and again on ones whose first row is turned, since marks are of rows of the screen.
+fn holds(alloc: Global, line: &str) -> bool {
+    let (_, rest) = line.split_once('|').unwrap_or((line, ""));
+    let (before, rest) = rest.split_once('|').unwrap_or((rest, ""));
+    let (operations, marked) = rest.split_once('|').unwrap_or((rest, "?"));
+    for turned in 0..3usize {
+        if !stands(
+            alloc,
+            (5, 8),
+            turned,
+            Trial::Marks(before, operations, marked),
+        ) {
+            return false;
         }
     }
-    Ok(None)
+    true
 }
 
 #[test]
-fn writing_marks_its_rows(rt: HostRuntime) -> Result<(), Fail> {
-    assert_eq!(rt; first_wrong(rt.alloc(), WRITING)?, None);
-    Ok(())
-}
-
-#[test]
-fn joining_marks_its_row(rt: HostRuntime) -> Result<(), Fail> {
-    assert_eq!(rt; first_wrong(rt.alloc(), JOINING)?, None);
-    Ok(())
-}
-
-#[test]
-fn moves_mark_what_scrolls(rt: HostRuntime) -> Result<(), Fail> {
-    assert_eq!(rt; first_wrong(rt.alloc(), MOVES)?, None);
-    Ok(())
-}
-
-#[test]
-fn scrolls_mark_the_rows_that_go(rt: HostRuntime) -> Result<(), Fail> {
-    assert_eq!(rt; first_wrong(rt.alloc(), SCROLLS)?, None);
-    Ok(())
-}
-
-#[test]
-fn edits_mark_their_rows(rt: HostRuntime) -> Result<(), Fail> {
-    assert_eq!(rt; first_wrong(rt.alloc(), EDITS)?, None);
-    Ok(())
-}
-
-#[test]
-fn changes_of_the_whole_screen_mark_all_rows(rt: HostRuntime) -> Result<(), Fail> {
-    assert_eq!(rt; first_wrong(rt.alloc(), SCREENS)?, None);
-    Ok(())
+fn operations_mark_their_rows(rt: HostRuntime) {
+    for line in LINES.lines() {
+        assert!(rt; holds(rt.alloc(), line), "{line}");
+    }
+    assert!(rt; stands(rt.alloc(), (5, 8), 0, Trial::AllMarks));
 }
 
 fn all_are(grid: &Grid, on: bool) -> bool {
     grid.marks().len() == grid.rows() && grid.marks().iter().all(|marked| *marked == on)
 }
 
-// Whether all marks of a new grid are on, and off once they are cleared.
-fn begins_marked(alloc: Global, rows: usize, cols: usize) -> Result<bool, Fault> {
-    let mut grid = Grid::new(alloc, rows, cols)?;
-    let marked = all_are(&grid, true);
+/// Whether all marks of a new grid are on, and off once they are cleared.
+pub fn begins_marked(grid: &mut Grid) -> bool {
+    let marked = all_are(grid, true);
     grid.clear_marks();
-    Ok(grid.rows() == rows && marked && all_are(&grid, false))
-}
-
-#[test]
-fn all_marks_are_on_at_first(rt: HostRuntime) -> Result<(), Fail> {
-    for (rows, cols) in [(2, 4), (24, 80), (200, 500)] {
-        assert!(rt; begins_marked(rt.alloc(), rows, cols)?);
-    }
-    Ok(())
+    marked && all_are(grid, false)
 }
 
 fn frame_marks(grid: &mut Grid, other: &Grid) -> bool {
@@ -195,19 +145,19 @@ fn frame_marks(grid: &mut Grid, other: &Grid) -> bool {
     all_are(grid, true)
 }
 
-fn size_marks(alloc: Global, grid: &mut Grid, rows: usize, cols: usize) -> Result<bool, Fault> {
+fn size_marks(alloc: Global, grid: &mut Grid, rows: usize, cols: usize) -> bool {
     grid.clear_marks();
-    let fitted = Grid::fit(alloc, rows, cols)?;
-    grid.adopt(fitted, 0);
-    Ok(grid.rows() == rows && all_are(grid, true))
+    match Grid::fit(alloc, rows, cols) {
+        Ok(fitted) => grid.adopt(fitted, 0),
+        Err(_) => return false,
+    }
+    grid.rows() == rows && all_are(grid, true)
 }
 
-#[test]
-fn another_frame_and_another_size_mark_all_rows(rt: HostRuntime) -> Result<(), Fail> {
-    let mut grid = Grid::new(rt.alloc(), 5, 8)?;
-    assert!(rt; frame_marks(&mut grid, &Grid::new(rt.alloc(), 5, 8)?));
-    for (rows, cols) in [(3, 8), (7, 8), (5, 4)] {
-        assert!(rt; size_marks(rt.alloc(), &mut grid, rows, cols)?);
-    }
-    Ok(())
+/// Whether another frame and another size mark all rows of a grid of 5 by 8.
+pub fn are_all_after(alloc: Global, grid: &mut Grid) -> bool {
+    matches!(Grid::new(alloc, 5, 8), Ok(other) if frame_marks(grid, &other))
+        && size_marks(alloc, grid, 3, 8)
+        && size_marks(alloc, grid, 7, 8)
+        && size_marks(alloc, grid, 5, 4)
 }

@@ -7,7 +7,7 @@
 ghost use Rattle.std.specs.Prelude.{IsTrue};
 ghost use Rattle.roam_rows.specs.Writing.{ArePrintable};
 
-use roam_cells::{Cell, Fault, Style, width};
+use roam_cells::{Cell, Style, width};
 use roam_grid::{Extent, Grid, Writing};
 use std::alloc::Global;
 
@@ -227,40 +227,38 @@ fn do_with(grid: &mut Grid, name: &str, rest: &str) -> bool {
     matches!(number(rest), Some(n) if move_by(grid, name, n) || edit(grid, name, n))
 }
 
-fn fit(alloc: Global, grid: &mut Grid, words: &str) -> Result<bool, Fault> {
-    if let Some((rows, rest)) = words.split_once(' ')
-        && let Some(rows) = number(rows)
-        && let Some((cols, off)) = pair(rest)
-    {
-        let fitted = Grid::fit(alloc, rows, cols)?;
-        grid.adopt(fitted, off);
-        return Ok(true);
+fn fit(alloc: Global, grid: &mut Grid, words: &str) -> bool {
+    let (rows, rest) = words.split_once(' ').unwrap_or((words, ""));
+    let (Some(rows), Some((cols, off))) = (number(rows), pair(rest)) else {
+        return false;
+    };
+    match Grid::fit(alloc, rows, cols) {
+        Ok(fitted) => grid.adopt(fitted, off),
+        Err(_) => return false,
     }
-    Ok(false)
+    true
 }
 
-fn operate(alloc: Global, grid: &mut Grid, pen: &mut Pen, words: &str) -> Result<bool, Fault> {
+fn operate(alloc: Global, grid: &mut Grid, pen: &mut Pen, words: &str) -> bool {
     if set_pen(pen, words) || follow(grid, words) || change_all(grid, words) {
-        return Ok(true);
+        return true;
     }
-    let Some((name, rest)) = words.split_once(' ') else {
-        return Ok(false);
-    };
+    let (name, rest) = words.split_once(' ').unwrap_or((words, ""));
     match name {
-        "text" => Ok(type_text(grid, pen, rest)),
-        "run" => Ok(run_text(grid, pen, rest)),
+        "text" => type_text(grid, pen, rest),
+        "run" => run_text(grid, pen, rest),
         "size" => fit(alloc, grid, rest),
-        _ => Ok(do_with(grid, name, rest)),
+        _ => do_with(grid, name, rest),
     }
 }
 
 /// Whether all operations are known; they are done up to the first that is not. No text is no act.
-pub fn play(alloc: Global, grid: &mut Grid, operations: &str) -> Result<bool, Fault> {
+pub fn play(alloc: Global, grid: &mut Grid, operations: &str) -> bool {
     let mut pen = Pen::new();
     for words in operations.split(", ") {
-        if !words.is_empty() && !operate(alloc, grid, &mut pen, words)? {
-            return Ok(false);
+        if !words.is_empty() && !operate(alloc, grid, &mut pen, words) {
+            return false;
         }
     }
-    Ok(true)
+    true
 }

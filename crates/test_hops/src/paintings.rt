@@ -1,4 +1,8 @@
 //! Paintings, each shown by a terminal that stood in the middle of a sequence before it was opened.
+//!
+//! Tables are texts, a case after the other with an empty line between them: what is written to two terminals, with a bar between, and in
+//! `TEXTS` a name before and the text between their screens behind.
+use crate::screen;
 use roam_cells::{Cell, Fault};
 use roam_paint::{open, paint};
 use roam_screens::Shot;
@@ -6,282 +10,147 @@ use roam_term::Term;
 use std::alloc::Global;
 use std::test::*;
 
-// What is written to two terminals of 2 by 8, and the text between their screens.
-struct Text {
-    old: &'static str,
-    new: &'static str,
-    text: &'static str,
+// Two terminals of 2 by 8: a name, and in the next line what is written to both, and the text.
+const TEXTS: &str = "\
+nothing
+||\x1B[?25l\x1B[0m\x1B[1;1H\x1B[?25h
+
+a default cell behind one in bold
+|\x1B[1ma\x1B[0mb|\x1B[?25l\x1B[1;1H\x1B[0;1ma\x1B[0mb\x1B[0m\x1B[1;3H\x1B[?25h
+
+a bold cell alone
+|\x1B[1ma|\x1B[?25l\x1B[1;1H\x1B[0;1ma\x1B[0m\x1B[1;2H\x1B[?25h
+
+half of an old pair is written over, and its other half is painted too
+a中|abc|\x1B[?25l\x1B[1;2Hbc\x1B[0m\x1B[1;4H\x1B[?25h
+
+the left half alone differs: the run is widened to the whole cell, and the next run touches it and stays apart
+中b|文c|\x1B[?25l\x1B[1;1H文\x1B[1;3Hc\x1B[0m\x1B[1;4H\x1B[?25h
+
+a wide cell that doesn't differ stands between two runs
+a中z|b中y|\x1B[?25l\x1B[1;1Hb\x1B[1;4Hy\x1B[0m\x1B[1;5H\x1B[?25h
+
+a wide cell over two narrow ones
+xx\x1B[1;3H\x1B[7mc|x中d|\x1B[?25l\x1B[1;2H中d\x1B[0m\x1B[1;5H\x1B[?25h
+
+the last column, and then the next row: the cursor is placed anew
+|abcdefgh\r\ni\x1B[?25l|\x1B[?25l\x1B[1;1Habcdefgh\x1B[2;1Hi\x1B[0m\x1B[2;2H
+
+a wide cell in the last two columns
+|\x1B[1;7H中\r\ni|\x1B[?25l\x1B[1;7H中\x1B[2;1Hi\x1B[0m\x1B[2;2H\x1B[?25h
+
+mixtures have sequences of their own behind the cell's SGR; an empty number is 0
+|\x1B[1;38;2;10;20;30;48;2;;0;255ma|\x1B[?25l\x1B[1;1H\x1B[0;1m\x1B[38;2;10;20;30m\x1B[48;2;0;0;255ma\x1B[0m\x1B[1;2H\x1B[?25h
+
+a style stays set over places that don't differ, and over rows
+|\x1B[31;1ma\x1B[1;4Hb\x1B[2;1Hc|\x1B[?25l\x1B[1;1H\x1B[0;1;38;5;1ma\x1B[1;4Hb\x1B[2;1Hc\x1B[0m\x1B[2;2H\x1B[?25h
+
+another style behind the same
+\x1B[31;1mabc|\x1B[31;1mabc\x1B[44md|\x1B[?25l\x1B[1;4H\x1B[0;1;38;5;1;48;5;4md\x1B[0m\x1B[1;5H\x1B[?25h
+
+a cell of three code points
+e|e\u{301}\u{302}|\x1B[?25l\x1B[1;1He\u{301}\u{302}\x1B[0m\x1B[1;2H\x1B[?25h
+
+every flag and both colours
+|\x1B[1;2;3;4;5;7;8;9;38;5;255;48;5;15mx|\x1B[?25l\x1B[1;1H\x1B[0;1;2;3;4;5;7;8;9;38;5;255;48;5;15mx\x1B[0m\x1B[1;2H\x1B[?25h";
+
+// Terminals of these rows and columns: a wide cell over two narrow ones at each column, and back; styles, each flag alone, all, and
+// colours; other sizes, joined cells, the last column, a hidden cursor.
+const PAIRS: &str = "\
+2 8 abcdefgh|2 8 abcdefgh\x1B[1;1H中
+
+2 8 abcdefgh|2 8 abcdefgh\x1B[1;2H中
+
+2 8 abcdefgh|2 8 abcdefgh\x1B[1;3H中
+
+2 8 abcdefgh|2 8 abcdefgh\x1B[1;4H中
+
+2 8 abcdefgh|2 8 abcdefgh\x1B[1;5H中
+
+2 8 abcdefgh|2 8 abcdefgh\x1B[1;6H中
+
+2 8 abcdefgh|2 8 abcdefgh\x1B[1;7H中
+
+2 8 中文中文|2 8 a中文中
+
+2 8 abc|2 8 a\x1B[1mb\x1B[0mc
+
+2 8 abc|2 8 a\x1B[2mb\x1B[0mc
+
+2 8 abc|2 8 a\x1B[3mb\x1B[0mc
+
+2 8 abc|2 8 a\x1B[4mb\x1B[0mc
+
+2 8 abc|2 8 a\x1B[5mb\x1B[0mc
+
+2 8 abc|2 8 a\x1B[7mb\x1B[0mc
+
+2 8 abc|2 8 a\x1B[8mb\x1B[0mc
+
+2 8 abc|2 8 a\x1B[9mb\x1B[0mc
+
+2 8 abc|2 8 a\x1B[1;2;3;4;5;7;8;9mb\x1B[0mc
+
+2 8 \x1B[1;2;3;4;5;7;8;9;31;42mabc|2 8 abd
+
+2 8 |2 8 \x1B[38;5;0ma
+
+2 8 |2 8 \x1B[38;5;7ma
+
+2 8 |2 8 \x1B[38;5;8ma
+
+2 8 |2 8 \x1B[38;5;15ma
+
+2 8 |2 8 \x1B[38;5;255ma
+
+2 8 |2 8 \x1B[48;5;0ma
+
+2 8 |2 8 \x1B[48;5;7ma
+
+2 8 |2 8 \x1B[48;5;8ma
+
+2 8 |2 8 \x1B[48;5;15ma
+
+2 8 |2 8 \x1B[48;5;255ma
+
+4 10 abcdefghij\r\nklmn\r\n\r\nxyz|2 8 abc
+
+2 8 abc\r\ndef|4 10 abc\r\n\r\n\r\n中文中文中
+
+2 10 abc|4 8 abc
+
+4 8 \x1B[7mabc|4 10 \x1B[7mabc
+
+2 8 e|2 8 e\u{301}
+
+2 8 中\u{301}\u{302}|2 8 中
+
+2 8 |2 8 abcdefgh\u{301}\r\nx
+
+2 8 |2 8 \x1B[1;7H中\u{301}\u{302}
+
+2 8 |2 8 abcdefghijklmnop
+
+2 8 abcdefghijklmnop|2 8 abcdefgX\r\nY
+
+2 8 abc|2 8 abc\x1B[?25l
+
+2 8 abc\x1B[?25l|2 8 abd
+
+2 8 abc\x1B[?5h|2 8 abc";
+
+// The screen of a text such as `2 8 abc`: rows, columns, and what is written.
+fn shown_by(alloc: Global, text: &str) -> Result<Shot, Fault> {
+    let (rows, rest) = text.split_once(' ').unwrap_or((text, ""));
+    let (cols, input) = rest.split_once(' ').unwrap_or((rest, ""));
+    let rows = rows.parse::<u16>().unwrap_or(0);
+    let cols = cols.parse::<u16>().unwrap_or(0);
+    screen(alloc, rows, cols, input.as_bytes())
 }
 
-// What is written to two terminals of these sizes.
-struct Pair {
-    old: (u16, u16, &'static str),
-    new: (u16, u16, &'static str),
-}
-
-static TEXTS: [Text; 14] = [
-    Text {
-        old: "",
-        new: "",
-        text: "\x1B[?25l\x1B[0m\x1B[1;1H\x1B[?25h",
-    },
-    Text {
-        old: "",
-        new: "\x1B[1ma\x1B[0mb",
-        text: "\x1B[?25l\x1B[1;1H\x1B[0;1ma\x1B[0mb\x1B[0m\x1B[1;3H\x1B[?25h",
-    },
-    Text {
-        old: "",
-        new: "\x1B[1ma",
-        text: "\x1B[?25l\x1B[1;1H\x1B[0;1ma\x1B[0m\x1B[1;2H\x1B[?25h",
-    },
-    // One half of an old pair is written over, and its other half is painted too.
-    Text {
-        old: "a中",
-        new: "abc",
-        text: "\x1B[?25l\x1B[1;2Hbc\x1B[0m\x1B[1;4H\x1B[?25h",
-    },
-    // The left half alone differs, and the run is widened to the whole cell; the next run touches it and stays apart.
-    Text {
-        old: "中b",
-        new: "文c",
-        text: "\x1B[?25l\x1B[1;1H文\x1B[1;3Hc\x1B[0m\x1B[1;4H\x1B[?25h",
-    },
-    // A wide cell that doesn't differ stands between two runs.
-    Text {
-        old: "a中z",
-        new: "b中y",
-        text: "\x1B[?25l\x1B[1;1Hb\x1B[1;4Hy\x1B[0m\x1B[1;5H\x1B[?25h",
-    },
-    // A wide cell over two narrow ones.
-    Text {
-        old: "xx\x1B[1;3H\x1B[7mc",
-        new: "x中d",
-        text: "\x1B[?25l\x1B[1;2H中d\x1B[0m\x1B[1;5H\x1B[?25h",
-    },
-    // The last column, and then the next row: the cursor is placed anew.
-    Text {
-        old: "",
-        new: "abcdefgh\r\ni\x1B[?25l",
-        text: "\x1B[?25l\x1B[1;1Habcdefgh\x1B[2;1Hi\x1B[0m\x1B[2;2H",
-    },
-    // A wide cell in the last two columns.
-    Text {
-        old: "",
-        new: "\x1B[1;7H中\r\ni",
-        text: "\x1B[?25l\x1B[1;7H中\x1B[2;1Hi\x1B[0m\x1B[2;2H\x1B[?25h",
-    },
-    // Mixtures have sequences of their own behind the cell's SGR; an empty number is 0.
-    Text {
-        old: "",
-        new: "\x1B[1;38;2;10;20;30;48;2;;0;255ma",
-        text: "\x1B[?25l\x1B[1;1H\x1B[0;1m\x1B[38;2;10;20;30m\x1B[48;2;0;0;255ma\x1B[0m\x1B[1;2H\x1B[?25h",
-    },
-    // A style stays set over places that don't differ, and over rows.
-    Text {
-        old: "",
-        new: "\x1B[31;1ma\x1B[1;4Hb\x1B[2;1Hc",
-        text: "\x1B[?25l\x1B[1;1H\x1B[0;1;38;5;1ma\x1B[1;4Hb\x1B[2;1Hc\x1B[0m\x1B[2;2H\x1B[?25h",
-    },
-    Text {
-        old: "\x1B[31;1mabc",
-        new: "\x1B[31;1mabc\x1B[44md",
-        text: "\x1B[?25l\x1B[1;4H\x1B[0;1;38;5;1;48;5;4md\x1B[0m\x1B[1;5H\x1B[?25h",
-    },
-    // A cell of three code points.
-    Text {
-        old: "e",
-        new: "e\u{301}\u{302}",
-        text: "\x1B[?25l\x1B[1;1He\u{301}\u{302}\x1B[0m\x1B[1;2H\x1B[?25h",
-    },
-    // Every flag and both colours.
-    Text {
-        old: "",
-        new: "\x1B[1;2;3;4;5;7;8;9;38;5;255;48;5;15mx",
-        text: "\x1B[?25l\x1B[1;1H\x1B[0;1;2;3;4;5;7;8;9;38;5;255;48;5;15mx\x1B[0m\x1B[1;2H\x1B[?25h",
-    },
-];
-
-// A wide cell over two narrow ones at each column, and back.
-static WIDE: [Pair; 8] = [
-    Pair {
-        old: (2, 8, "abcdefgh"),
-        new: (2, 8, "abcdefgh\x1B[1;1H中"),
-    },
-    Pair {
-        old: (2, 8, "abcdefgh"),
-        new: (2, 8, "abcdefgh\x1B[1;2H中"),
-    },
-    Pair {
-        old: (2, 8, "abcdefgh"),
-        new: (2, 8, "abcdefgh\x1B[1;3H中"),
-    },
-    Pair {
-        old: (2, 8, "abcdefgh"),
-        new: (2, 8, "abcdefgh\x1B[1;4H中"),
-    },
-    Pair {
-        old: (2, 8, "abcdefgh"),
-        new: (2, 8, "abcdefgh\x1B[1;5H中"),
-    },
-    Pair {
-        old: (2, 8, "abcdefgh"),
-        new: (2, 8, "abcdefgh\x1B[1;6H中"),
-    },
-    Pair {
-        old: (2, 8, "abcdefgh"),
-        new: (2, 8, "abcdefgh\x1B[1;7H中"),
-    },
-    Pair {
-        old: (2, 8, "中文中文"),
-        new: (2, 8, "a中文中"),
-    },
-];
-
-// Styles: each flag alone, all, and colours.
-static STYLES: [Pair; 20] = [
-    Pair {
-        old: (2, 8, "abc"),
-        new: (2, 8, "a\x1B[1mb\x1B[0mc"),
-    },
-    Pair {
-        old: (2, 8, "abc"),
-        new: (2, 8, "a\x1B[2mb\x1B[0mc"),
-    },
-    Pair {
-        old: (2, 8, "abc"),
-        new: (2, 8, "a\x1B[3mb\x1B[0mc"),
-    },
-    Pair {
-        old: (2, 8, "abc"),
-        new: (2, 8, "a\x1B[4mb\x1B[0mc"),
-    },
-    Pair {
-        old: (2, 8, "abc"),
-        new: (2, 8, "a\x1B[5mb\x1B[0mc"),
-    },
-    Pair {
-        old: (2, 8, "abc"),
-        new: (2, 8, "a\x1B[7mb\x1B[0mc"),
-    },
-    Pair {
-        old: (2, 8, "abc"),
-        new: (2, 8, "a\x1B[8mb\x1B[0mc"),
-    },
-    Pair {
-        old: (2, 8, "abc"),
-        new: (2, 8, "a\x1B[9mb\x1B[0mc"),
-    },
-    Pair {
-        old: (2, 8, "abc"),
-        new: (2, 8, "a\x1B[1;2;3;4;5;7;8;9mb\x1B[0mc"),
-    },
-    Pair {
-        old: (2, 8, "\x1B[1;2;3;4;5;7;8;9;31;42mabc"),
-        new: (2, 8, "abd"),
-    },
-    Pair {
-        old: (2, 8, ""),
-        new: (2, 8, "\x1B[38;5;0ma"),
-    },
-    Pair {
-        old: (2, 8, ""),
-        new: (2, 8, "\x1B[38;5;7ma"),
-    },
-    Pair {
-        old: (2, 8, ""),
-        new: (2, 8, "\x1B[38;5;8ma"),
-    },
-    Pair {
-        old: (2, 8, ""),
-        new: (2, 8, "\x1B[38;5;15ma"),
-    },
-    Pair {
-        old: (2, 8, ""),
-        new: (2, 8, "\x1B[38;5;255ma"),
-    },
-    Pair {
-        old: (2, 8, ""),
-        new: (2, 8, "\x1B[48;5;0ma"),
-    },
-    Pair {
-        old: (2, 8, ""),
-        new: (2, 8, "\x1B[48;5;7ma"),
-    },
-    Pair {
-        old: (2, 8, ""),
-        new: (2, 8, "\x1B[48;5;8ma"),
-    },
-    Pair {
-        old: (2, 8, ""),
-        new: (2, 8, "\x1B[48;5;15ma"),
-    },
-    Pair {
-        old: (2, 8, ""),
-        new: (2, 8, "\x1B[48;5;255ma"),
-    },
-];
-
-// Other sizes, joined cells, the last column, a hidden cursor.
-static OTHERS: [Pair; 13] = [
-    Pair {
-        old: (4, 10, "abcdefghij\r\nklmn\r\n\r\nxyz"),
-        new: (2, 8, "abc"),
-    },
-    Pair {
-        old: (2, 8, "abc\r\ndef"),
-        new: (4, 10, "abc\r\n\r\n\r\n中文中文中"),
-    },
-    Pair {
-        old: (2, 10, "abc"),
-        new: (4, 8, "abc"),
-    },
-    Pair {
-        old: (4, 8, "\x1B[7mabc"),
-        new: (4, 10, "\x1B[7mabc"),
-    },
-    Pair {
-        old: (2, 8, "e"),
-        new: (2, 8, "e\u{301}"),
-    },
-    Pair {
-        old: (2, 8, "中\u{301}\u{302}"),
-        new: (2, 8, "中"),
-    },
-    Pair {
-        old: (2, 8, ""),
-        new: (2, 8, "abcdefgh\u{301}\r\nx"),
-    },
-    Pair {
-        old: (2, 8, ""),
-        new: (2, 8, "\x1B[1;7H中\u{301}\u{302}"),
-    },
-    Pair {
-        old: (2, 8, ""),
-        new: (2, 8, "abcdefghijklmnop"),
-    },
-    Pair {
-        old: (2, 8, "abcdefghijklmnop"),
-        new: (2, 8, "abcdefgX\r\nY"),
-    },
-    Pair {
-        old: (2, 8, "abc"),
-        new: (2, 8, "abc\x1B[?25l"),
-    },
-    Pair {
-        old: (2, 8, "abc\x1B[?25l"),
-        new: (2, 8, "abd"),
-    },
-    Pair {
-        old: (2, 8, "abc\x1B[?5h"),
-        new: (2, 8, "abc"),
-    },
-];
-
-fn screen(alloc: Global, side: (u16, u16, &str)) -> Result<Shot, Fail> {
-    let mut term = Term::new(alloc, side.0, side.1, 0)?;
-    term.feed(side.2.as_bytes())?;
-    Ok(term.shot(alloc, 0)?)
+// The screen of 2 by 8 that these bytes make.
+fn small(alloc: Global, input: &str) -> Result<Shot, Fault> {
+    screen(alloc, 2, 8, input.as_bytes())
 }
 
 fn has_cell(shown: &Shot, screen: &Shot, row: u16, col: u16) -> bool {
@@ -297,20 +166,18 @@ fn has_cell(shown: &Shot, screen: &Shot, row: u16, col: u16) -> bool {
 
 // Whether what is shown is a screen, with blanks outside it.
 fn is_shown(shown: &Shot, screen: &Shot) -> bool {
-    for row in 0..shown.rows() {
-        for col in 0..shown.cols() {
-            if row == u16::MAX || col == u16::MAX || !has_cell(shown, screen, row + 1, col + 1) {
+    for row in 1..=shown.rows() {
+        for col in 1..=shown.cols() {
+            if !has_cell(shown, screen, row, col) {
                 return false;
             }
         }
     }
-    let here = shown.cursor();
-    let there = screen.cursor();
-    here.0 == there.0 && here.1 == there.1 && shown.visible() == screen.visible()
+    shown.cursor() == screen.cursor() && shown.visible() == screen.visible()
 }
 
 // The text that opens a terminal and leads it to a screen.
-fn opening_to(alloc: Global, screen: &Shot) -> Result<Vec<u8>, Fail> {
+fn opening_to(alloc: Global, screen: &Shot) -> Result<Vec<u8>, Fault> {
     let mut text = Vec::new(alloc);
     open(&mut text)?;
     let blank = Shot::blank(alloc, screen.rows(), screen.cols())?;
@@ -319,110 +186,99 @@ fn opening_to(alloc: Global, screen: &Shot) -> Result<Vec<u8>, Fail> {
 }
 
 // Whether a terminal shows a screen once a text was written to it.
-fn shows_after(alloc: Global, term: &mut Term, text: &[u8], screen: &Shot) -> Result<bool, Fail> {
-    term.feed(text)?;
-    let shown = term.shot(alloc, 0)?;
-    Ok(is_shown(&shown, screen))
+fn shows_after(alloc: Global, term: &mut Term, text: &[u8], screen: &Shot) -> bool {
+    term.feed(text).is_ok() && matches!(term.shot(alloc, 0), Ok(shown) if is_shown(&shown, screen))
 }
 
-// A terminal of 4 by 10 to which something was written.
-fn terminal(alloc: Global, before: &str) -> Result<Term, Fail> {
-    let mut term = Term::new(alloc, 4, 10, 0)?;
-    term.feed(before.as_bytes())?;
-    Ok(term)
-}
-
-fn goes_over(alloc: Global, term: &mut Term, old: &Shot, new: &Shot) -> Result<bool, Fail> {
-    let mut text = Vec::new(alloc);
+// The text between two screens, behind `before`.
+fn text_between(alloc: Global, old: &Shot, new: &Shot) -> Result<Vec<u8>, Fault> {
+    let mut text = Vec::from_slice(alloc, b"before")?;
     paint(old, new, &mut text)?;
-    shows_after(alloc, term, &text, new)
+    Ok(text)
+}
+
+fn goes_over(alloc: Global, term: &mut Term, old: &Shot, new: &Shot) -> bool {
+    match text_between(alloc, old, new) {
+        Ok(text) => shows_after(
+            alloc,
+            term,
+            text.as_slice()
+                .strip_prefix(b"before".as_slice())
+                .unwrap_or(b""),
+            new,
+        ),
+        Err(_) => false,
+    }
 }
 
 // A terminal that stands anywhere is opened and goes by an old screen to a new one.
-fn leads(alloc: Global, old: &Shot, new: &Shot, before: &str) -> Result<bool, Fail> {
-    let mut term = terminal(alloc, before)?;
-    let text = opening_to(alloc, old)?;
-    if !shows_after(alloc, &mut term, &text, old)? {
-        return Ok(false);
+fn goes_by(alloc: Global, term: &mut Term, before: &str, old: &Shot, new: &Shot) -> bool {
+    term.feed(before.as_bytes()).is_ok()
+        && matches!(opening_to(alloc, old), Ok(text) if shows_after(alloc, term, &text, old))
+        && goes_over(alloc, term, old, new)
+}
+
+fn leads(alloc: Global, before: &str, old: &Shot, new: &Shot) -> bool {
+    match Term::new(alloc, 4, 10, 0) {
+        Ok(mut term) => goes_by(alloc, &mut term, before, old, new),
+        Err(_) => false,
     }
-    goes_over(alloc, &mut term, old, new)
 }
 
 // There and back.
-fn both_lead(alloc: Global, pair: &Pair) -> Result<bool, Fail> {
-    let old = screen(alloc, pair.old)?;
-    let new = screen(alloc, pair.new)?;
-    if !leads(alloc, &old, &new, "abc\x1B[?1049h\x1B[3;4r\x1B[1;31")? {
-        return Ok(false);
-    }
-    leads(
-        alloc,
-        &new,
-        &old,
-        "\x1B[5mxyz\x0E\x1B(0\x1B[4h\x1B[?6h\x1B]0;a",
-    )
+fn both_lead(alloc: Global, old: &Shot, new: &Shot) -> bool {
+    leads(alloc, "abc\x1B[?1049h\x1B[3;4r\x1B[1;31", old, new)
+        && leads(
+            alloc,
+            "\x1B[5mxyz\x0E\x1B(0\x1B[4h\x1B[?6h\x1B]0;a",
+            new,
+            old,
+        )
 }
 
-fn all_lead(alloc: Global, pairs: &[Pair]) -> Result<bool, Fail> {
-    for pair in pairs {
-        if !both_lead(alloc, pair)? {
-            return Ok(false);
-        }
-    }
-    Ok(true)
-}
-
-// Whether a text is this one behind `before`.
-fn is_behind(text: &[u8], wanted: &str) -> bool {
-    match text.strip_prefix(b"before".as_slice()) {
-        Some(rest) => rest == wanted.as_bytes(),
-        None => false,
+fn is_led(alloc: Global, pair: &str) -> bool {
+    let (old, new) = pair.split_once('|').unwrap_or((pair, ""));
+    match (shown_by(alloc, old), shown_by(alloc, new)) {
+        (Ok(old), Ok(new)) => both_lead(alloc, &old, &new),
+        _ => false,
     }
 }
 
-fn has_text(alloc: Global, row: &Text) -> Result<bool, Fail> {
-    let old = screen(alloc, (2, 8, row.old))?;
-    let new = screen(alloc, (2, 8, row.new))?;
-    let mut text = Vec::from_slice(alloc, b"before")?;
-    paint(&old, &new, &mut text)?;
-    if !is_behind(&text, row.text) {
-        return Ok(false);
+#[test]
+fn pairs_of_screens(rt: HostRuntime) {
+    for pair in PAIRS.split("\n\n") {
+        assert!(rt; is_led(rt.alloc(), pair), "{pair:?}");
     }
-    leads(alloc, &old, &new, "")
 }
 
-#[test]
-fn texts(rt: HostRuntime) -> Result<(), Fail> {
-    for row in &TEXTS {
-        assert!(rt; has_text(rt.alloc(), row)?);
+fn is_written(alloc: Global, old: &Shot, new: &Shot, wanted: &str) -> bool {
+    match text_between(alloc, old, new) {
+        Ok(text) => text.as_slice().strip_prefix(b"before".as_slice()) == Some(wanted.as_bytes()),
+        Err(_) => false,
     }
-    Ok(())
+}
+
+fn holds(alloc: Global, case: &str) -> bool {
+    let (_, rest) = case.split_once('\n').unwrap_or((case, ""));
+    let (old, rest) = rest.split_once('|').unwrap_or((rest, ""));
+    let (new, text) = rest.split_once('|').unwrap_or((rest, ""));
+    match (small(alloc, old), small(alloc, new)) {
+        (Ok(old), Ok(new)) => is_written(alloc, &old, &new, text) && leads(alloc, "", &old, &new),
+        _ => false,
+    }
+}
+
+fn opens_behind(alloc: Global) -> bool {
+    let mut text = Vec::new(alloc);
+    text.push(b'a').is_ok() && open(&mut text).is_ok() && text.as_slice() == b"a\x1Bc".as_slice()
 }
 
 #[test]
-fn wide_cells(rt: HostRuntime) -> Result<(), Fail> {
-    assert!(rt; all_lead(rt.alloc(), &WIDE)?);
-    Ok(())
-}
-
-#[test]
-fn styles(rt: HostRuntime) -> Result<(), Fail> {
-    assert!(rt; all_lead(rt.alloc(), &STYLES)?);
-    Ok(())
-}
-
-#[test]
-fn others(rt: HostRuntime) -> Result<(), Fail> {
-    assert!(rt; all_lead(rt.alloc(), &OTHERS)?);
-    Ok(())
-}
-
-#[test]
-fn opens_text(rt: HostRuntime) -> Result<(), Fail> {
-    let mut text = Vec::from_slice(rt.alloc(), b"a")?;
-    open(&mut text)?;
-    assert!(rt; text.as_slice() == b"a\x1Bc".as_slice());
-    Ok(())
+fn texts(rt: HostRuntime) {
+    for case in TEXTS.split("\n\n") {
+        assert!(rt; holds(rt.alloc(), case), "{case:?}");
+    }
+    assert!(rt; opens_behind(rt.alloc()));
 }
 
 // Whether a text is painted behind what stands there; where memory is refused nothing is added, and the same call then adds it.
@@ -434,16 +290,9 @@ fn is_painted_or_kept(old: &Shot, new: &Shot, out: &mut Vec<u8>, text: &str) -> 
     out.len() == before + text.len() && out.as_slice().ends_with(text.as_bytes())
 }
 
-// The screen of 2 by 8 that these bytes make.
-fn shown(alloc: Global, input: &[u8]) -> Result<Shot, Fault> {
-    let mut term = Term::new(alloc, 2, 8, 0)?;
-    term.feed(input)?;
-    term.shot(alloc, 0)
-}
-
 fn is_painted_or_nothing(alloc: Global) -> Result<bool, Fault> {
-    let old = shown(alloc, b"a")?;
-    let new = shown(alloc, b"\x1B[1mb\x1B[2;1H\x1B[38;5;9mc")?;
+    let old = small(alloc, "a")?;
+    let new = small(alloc, "\x1B[1mb\x1B[2;1H\x1B[38;5;9mc")?;
     let mut out = Vec::from_slice(alloc, b"before")?;
     let text = "\x1B[?25l\x1B[1;1H\x1B[0;1mb\x1B[2;1H\x1B[0;1;38;5;9mc\x1B[0m\x1B[2;2H\x1B[?25h";
     Ok(is_painted_or_kept(&old, &new, &mut out, text))

@@ -5,421 +5,275 @@ use roam_keys::KeyModes;
 use std::alloc::Global;
 use std::test::*;
 
-// What keys send whatever the modes are.
-static FIXED: [(&str, &str); 26] = [
-    ("find", "\x1B[1~"),
-    ("insert", "\x1B[2~"),
-    ("remove", "\x1B[3~"),
-    ("select", "\x1B[4~"),
-    ("prev", "\x1B[5~"),
-    ("next", "\x1B[6~"),
-    ("f6", "\x1B[17~"),
-    ("f7", "\x1B[18~"),
-    ("f8", "\x1B[19~"),
-    ("f9", "\x1B[20~"),
-    ("f10", "\x1B[21~"),
-    ("f11", "\x1B[23~"),
-    ("f12", "\x1B[24~"),
-    ("f13", "\x1B[25~"),
-    ("f14", "\x1B[26~"),
-    ("f15", "\x1B[28~"),
-    ("f16", "\x1B[29~"),
-    ("f17", "\x1B[31~"),
-    ("f18", "\x1B[32~"),
-    ("f19", "\x1B[33~"),
-    ("f20", "\x1B[34~"),
-    ("pf1", "\x1BOP"),
-    ("pf2", "\x1BOQ"),
-    ("pf3", "\x1BOR"),
-    ("pf4", "\x1BOS"),
-    ("backspace", "\x7F"),
-];
+// Keys and acts, with a bar behind each line but the last. `key` has the key's name and number, and what it sends: where no mode changes
+// it, under DECCKM, in the application mode of the keypad, under LNM (nothing where the mode doesn't change it); `utf8` a character that is
+// sent as it is; `act` an act's line and its bytes; `spelled` another spelling of a character, and the character; `no-act` a line that
+// spells none; `no-text` how many acts are wanted, and bytes that are not so many.
+const ROWS: &str = "\
+key up|1|\x1B[A|\x1BOA|||
+key down|2|\x1B[B|\x1BOB|||
+key right|3|\x1B[C|\x1BOC|||
+key left|4|\x1B[D|\x1BOD|||
+key pf1|5|\x1BOP||||
+key pf2|6|\x1BOQ||||
+key pf3|7|\x1BOR||||
+key pf4|8|\x1BOS||||
+key find|9|\x1B[1~||||
+key insert|10|\x1B[2~||||
+key remove|11|\x1B[3~||||
+key select|12|\x1B[4~||||
+key prev|13|\x1B[5~||||
+key next|14|\x1B[6~||||
+key f6|15|\x1B[17~||||
+key f7|16|\x1B[18~||||
+key f8|17|\x1B[19~||||
+key f9|18|\x1B[20~||||
+key f10|19|\x1B[21~||||
+key f11|20|\x1B[23~||||
+key f12|21|\x1B[24~||||
+key f13|22|\x1B[25~||||
+key f14|23|\x1B[26~||||
+key f15|24|\x1B[28~||||
+key f16|25|\x1B[29~||||
+key f17|26|\x1B[31~||||
+key f18|27|\x1B[32~||||
+key f19|28|\x1B[33~||||
+key f20|29|\x1B[34~||||
+key pad0|30|0||\x1BOp||
+key pad1|31|1||\x1BOq||
+key pad2|32|2||\x1BOr||
+key pad3|33|3||\x1BOs||
+key pad4|34|4||\x1BOt||
+key pad5|35|5||\x1BOu||
+key pad6|36|6||\x1BOv||
+key pad7|37|7||\x1BOw||
+key pad8|38|8||\x1BOx||
+key pad9|39|9||\x1BOy||
+key padminus|40|-||\x1BOm||
+key padcomma|41|,||\x1BOl||
+key padperiod|42|.||\x1BOn||
+key padenter|43|\r||\x1BOM|\r\n|
+key return|44|\r|||\r\n|
+key backspace|45|\x7F||||
+utf8 \0|
+utf8 A|
+utf8 \u{E9}|
+utf8 \u{4E2D}|
+utf8 \u{10FFFF}|
+act char 41: 01 00 00 00 41|
+act char 0: 01 00 00 00 00|
+act char d7ff: 01 00 00 d7 ff|
+act char e000: 01 00 00 e0 00|
+act char 10ffff: 01 00 10 ff ff|
+act key up: 02 01|
+act key backspace: 02 2d|
+act split right: 10|
+act split down: 11|
+act close: 12|
+act focus 1: 13 01|
+act focus 9: 13 09|
+act next: 14|
+act grow -99: 15 ff 9d|
+act grow -1: 15 ff ff|
+act grow 0: 15 00 00|
+act grow 99: 15 00 63|
+act size 0 0: 16 00 00 00 00|
+act size 24 80: 16 00 18 00 50|
+act size 9999 9999: 16 27 0f 27 0f|
+act view -500: 17 fe 0c|
+act view 500: 17 01 f4|
+spelled char 000041: A|
+spelled char 4a: J|
+spelled char 4A: J|
+spelled char 4E2d: \u{4E2D}|
+spelled char 00004e: N|
+spelled char 10FfFf: \u{10FFFF}|
+no-act |
+no-act  |
+no-act close |
+no-act  close|
+no-act close\r|
+no-act close\n|
+no-act Close|
+no-act clos|
+no-act closed|
+no-act next |
+no-act next 1|
+no-act split|
+no-act split |
+no-act split left|
+no-act split  right|
+no-act split\tright|
+no-act split right |
+no-act split right\r|
+no-act splitright|
+no-act char|
+no-act char |
+no-act char  41|
+no-act char\t41|
+no-act char 41 |
+no-act char +41|
+no-act char -41|
+no-act char 0x41|
+no-act char g|
+no-act char 0000041|
+no-act char 110000|
+no-act char d800|
+no-act char dfff|
+no-act char ffffff|
+no-act char \u{E9}|
+no-act key|
+no-act key |
+no-act key Up|
+no-act key up |
+no-act key  up|
+no-act key f5|
+no-act key f21|
+no-act key pad10|
+no-act key 1|
+no-act focus|
+no-act focus 0|
+no-act focus 10|
+no-act focus 01|
+no-act focus +1|
+no-act focus -1|
+no-act focus 1 |
+no-act grow -100|
+no-act grow 100|
+no-act grow -0|
+no-act grow +1|
+no-act grow 01|
+no-act size 24|
+no-act size 24  80|
+no-act size 10000 1|
+no-act view -501|
+no-act view 501|
+no-text 1: |
+no-text 1: 00|
+no-text 1: 01|
+no-text 1: 01 00 00 00|
+no-text 1: 01 00 00 d8 00|
+no-text 1: 01 00 11 00 00|
+no-text 1: 01 00 00 00 41 00|
+no-text 1: 02|
+no-text 1: 02 00|
+no-text 1: 02 2e|
+no-text 1: 03|
+no-text 1: 0f|
+no-text 1: 10 00|
+no-text 1: 10 10|
+no-text 1: 13 00|
+no-text 1: 13 0a|
+no-text 1: 15 00|
+no-text 1: 15 00 64|
+no-text 1: 15 ff 9c|
+no-text 1: 16 27 10 00 01|
+no-text 1: 16 00 01 27 10|
+no-text 1: 17 01 f5|
+no-text 1: 17 fe 0b|
+no-text 1: 18|
+no-text 0: 10|
+no-text 2: 10";
 
-// What the cursor keys send, and what they send under DECCKM.
-static CURSOR: [(&str, &str, &str); 4] = [
-    ("up", "\x1B[A", "\x1BOA"),
-    ("down", "\x1B[B", "\x1BOB"),
-    ("right", "\x1B[C", "\x1BOC"),
-    ("left", "\x1B[D", "\x1BOD"),
-];
-
-// What the keypad sends, and what it sends in application mode.
-static KEYPAD: [(&str, &str, &str); 13] = [
-    ("pad0", "0", "\x1BOp"),
-    ("pad1", "1", "\x1BOq"),
-    ("pad2", "2", "\x1BOr"),
-    ("pad3", "3", "\x1BOs"),
-    ("pad4", "4", "\x1BOt"),
-    ("pad5", "5", "\x1BOu"),
-    ("pad6", "6", "\x1BOv"),
-    ("pad7", "7", "\x1BOw"),
-    ("pad8", "8", "\x1BOx"),
-    ("pad9", "9", "\x1BOy"),
-    ("padminus", "-", "\x1BOm"),
-    ("padcomma", ",", "\x1BOl"),
-    ("padperiod", ".", "\x1BOn"),
-];
-
-// The names of the keys in the order of their numbers, from 1.
-static NAMES: [&str; 45] = [
-    "up",
-    "down",
-    "right",
-    "left",
-    "pf1",
-    "pf2",
-    "pf3",
-    "pf4",
-    "find",
-    "insert",
-    "remove",
-    "select",
-    "prev",
-    "next",
-    "f6",
-    "f7",
-    "f8",
-    "f9",
-    "f10",
-    "f11",
-    "f12",
-    "f13",
-    "f14",
-    "f15",
-    "f16",
-    "f17",
-    "f18",
-    "f19",
-    "f20",
-    "pad0",
-    "pad1",
-    "pad2",
-    "pad3",
-    "pad4",
-    "pad5",
-    "pad6",
-    "pad7",
-    "pad8",
-    "pad9",
-    "padminus",
-    "padcomma",
-    "padperiod",
-    "padenter",
-    "return",
-    "backspace",
-];
-
-// Lines of acts, and the bytes of each.
-static ACTS: [(&str, &[u8]); 22] = [
-    ("char 41", &[0x01, 0, 0, 0, 0x41]),
-    ("char 0", &[0x01, 0, 0, 0, 0]),
-    ("char d7ff", &[0x01, 0, 0, 0xD7, 0xFF]),
-    ("char e000", &[0x01, 0, 0, 0xE0, 0]),
-    ("char 10ffff", &[0x01, 0, 0x10, 0xFF, 0xFF]),
-    ("key up", &[0x02, 1]),
-    ("key backspace", &[0x02, 45]),
-    ("split right", &[0x10]),
-    ("split down", &[0x11]),
-    ("close", &[0x12]),
-    ("focus 1", &[0x13, 1]),
-    ("focus 9", &[0x13, 9]),
-    ("next", &[0x14]),
-    ("grow -99", &[0x15, 0xFF, 0x9D]),
-    ("grow -1", &[0x15, 0xFF, 0xFF]),
-    ("grow 0", &[0x15, 0, 0]),
-    ("grow 99", &[0x15, 0, 99]),
-    ("size 0 0", &[0x16, 0, 0, 0, 0]),
-    ("size 24 80", &[0x16, 0, 24, 0, 80]),
-    ("size 9999 9999", &[0x16, 0x27, 0x0F, 0x27, 0x0F]),
-    ("view -500", &[0x17, 0xFE, 0x0C]),
-    ("view 500", &[0x17, 0x01, 0xF4]),
-];
-
-// Other spellings of a character.
-static SPELLINGS: [(&str, char); 6] = [
-    ("char 000041", 'A'),
-    ("char 4a", 'J'),
-    ("char 4A", 'J'),
-    ("char 4E2d", '\u{4E2D}'),
-    ("char 00004e", 'N'),
-    ("char 10FfFf", '\u{10FFFF}'),
-];
-
-// Lines that spell no act.
-static NO_ACTS: [&str; 60] = [
-    "",
-    " ",
-    "close ",
-    " close",
-    "close\r",
-    "close\n",
-    "Close",
-    "clos",
-    "closed",
-    "next ",
-    "next 1",
-    "split",
-    "split ",
-    "split left",
-    "split  right",
-    "split\tright",
-    "split right ",
-    "split right\r",
-    "splitright",
-    "char",
-    "char ",
-    "char  41",
-    "char\t41",
-    "char 41 ",
-    "char +41",
-    "char -41",
-    "char 0x41",
-    "char g",
-    "char 0000041",
-    "char 110000",
-    "char d800",
-    "char dfff",
-    "char ffffff",
-    "char \u{E9}",
-    "key",
-    "key ",
-    "key Up",
-    "key up ",
-    "key  up",
-    "key f5",
-    "key f21",
-    "key pad10",
-    "key 1",
-    "focus",
-    "focus 0",
-    "focus 10",
-    "focus 01",
-    "focus +1",
-    "focus -1",
-    "focus 1 ",
-    "grow -100",
-    "grow 100",
-    "grow -0",
-    "grow +1",
-    "grow 01",
-    "size 24",
-    "size 24  80",
-    "size 10000 1",
-    "view -501",
-    "view 501",
-];
-
-// Bytes that are no single act.
-static NO_TEXTS: [&[u8]; 24] = [
-    &[],
-    &[0x00],
-    &[0x01],
-    &[0x01, 0, 0, 0],
-    &[0x01, 0, 0, 0xD8, 0],
-    &[0x01, 0, 0x11, 0, 0],
-    &[0x01, 0, 0, 0, 0x41, 0],
-    &[0x02],
-    &[0x02, 0],
-    &[0x02, 46],
-    &[0x03],
-    &[0x0F],
-    &[0x10, 0],
-    &[0x10, 0x10],
-    &[0x13, 0],
-    &[0x13, 10],
-    &[0x15, 0],
-    &[0x15, 0, 100],
-    &[0x15, 0xFF, 0x9C],
-    &[0x16, 0x27, 0x10, 0, 1],
-    &[0x16, 0, 1, 0x27, 0x10],
-    &[0x17, 0x01, 0xF5],
-    &[0x17, 0xFE, 0x0B],
-    &[0x18],
-];
-
-fn key_named(name: &str) -> Option<Key> {
-    let mut line = *b"key          ";
-    let room = line.split_at_mut(4).1;
-    if name.len() > room.len() {
-        return None;
+// The bytes of pairs of hexadecimal digits with a space between them.
+fn bytes_of(alloc: Global, text: &str) -> Result<Vec<u8>, Fault> {
+    let mut bytes = Vec::new(alloc);
+    for word in text.split_whitespace() {
+        match u8::from_str_radix(word, 16) {
+            Ok(byte) => bytes.push(byte)?,
+            Err(_) => return Err(Fault::BadAct),
+        }
     }
-    room.split_at_mut(name.len())
-        .0
-        .copy_from_slice(name.as_bytes());
-    match read_act(line.split_at(4 + name.len()).0) {
-        Ok(Act::Key(key)) => Some(key),
-        _ => None,
+    Ok(bytes)
+}
+
+fn modes_of(number: u8) -> KeyModes {
+    KeyModes {
+        application_cursor: number % 2 == 1,
+        application_keypad: number / 2 % 2 == 1,
+        new_line: number / 4 == 1,
     }
 }
 
-// Whether the key of this name sends this under each of the eight settings of the modes, where a mode changes it so.
-fn sends(name: &str, plain: &str, by: KeyModes, changed: &str) -> bool {
-    let Some(key) = key_named(name) else {
-        return false;
-    };
+// What a line says that a key sends under the modes.
+fn sent_under<'a>(modes: KeyModes, plain: &'a str, rest: &'a str) -> &'a str {
+    let mut parts = rest.split('|');
+    let cursor = parts.next().unwrap_or("");
+    let keypad = parts.next().unwrap_or("");
+    let new_line = parts.next().unwrap_or("");
+    if modes.application_keypad && !keypad.is_empty() {
+        keypad
+    } else if modes.application_cursor && !cursor.is_empty() {
+        cursor
+    } else if modes.new_line && !new_line.is_empty() {
+        new_line
+    } else {
+        plain
+    }
+}
+
+// Whether a key sends what its line says under each of the eight settings of the modes.
+fn sends(key: &Key, plain: &str, rest: &str) -> bool {
     for number in 0..8u8 {
-        let modes = KeyModes {
-            application_cursor: number % 2 == 1,
-            application_keypad: number / 2 % 2 == 1,
-            new_line: number / 4 == 1,
-        };
-        let is_changed = (modes.application_cursor && by.application_cursor)
-            || (modes.application_keypad && by.application_keypad)
-            || (modes.new_line && by.new_line);
-        let sent = if is_changed { changed } else { plain };
-        if key.sent(modes).as_slice() != sent.as_bytes() {
+        let modes = modes_of(number);
+        if key.sent(modes).as_slice() != sent_under(modes, plain, rest).as_bytes() {
             return false;
         }
     }
     true
 }
 
-const NORMAL: KeyModes = KeyModes {
-    application_cursor: false,
-    application_keypad: false,
-    new_line: false,
-};
-
-#[test]
-fn keys_send_their_bytes(rt: HostRuntime) -> Result<(), Fail> {
-    for (name, sent) in &FIXED {
-        assert!(rt; sends(name, sent, NORMAL, sent), "{name}");
-    }
-    let cursor = KeyModes {
-        application_cursor: true,
-        ..NORMAL
-    };
-    for (name, sent, changed) in &CURSOR {
-        assert!(rt; sends(name, sent, cursor, changed), "{name}");
-    }
-    let keypad = KeyModes {
-        application_keypad: true,
-        ..NORMAL
-    };
-    for (name, sent, changed) in &KEYPAD {
-        assert!(rt; sends(name, sent, keypad, changed), "{name}");
-    }
-    Ok(())
-}
-
-fn enters(key: &str, application_keypad: bool, new_line: bool, sent: &str) -> bool {
-    match key_named(key) {
-        Some(key) => key
-            .sent(KeyModes {
-                application_keypad,
-                new_line,
-                ..NORMAL
-            })
-            .as_slice()
-            == sent.as_bytes(),
+fn is_sent_as_it_is(text: &str) -> bool {
+    match text.chars().next() {
+        Some(c) => Key::Char(c).sent(modes_of(0)).as_slice() == text.as_bytes(),
         None => false,
     }
-}
-
-#[test]
-fn return_and_enter_follow_the_modes(rt: HostRuntime) -> Result<(), Fail> {
-    for (name, application, new_line, sent) in [
-        ("return", false, false, "\r"),
-        ("return", true, false, "\r"),
-        ("return", false, true, "\r\n"),
-        ("return", true, true, "\r\n"),
-        ("padenter", false, false, "\r"),
-        ("padenter", false, true, "\r\n"),
-        ("padenter", true, false, "\x1BOM"),
-        ("padenter", true, true, "\x1BOM"),
-    ] {
-        assert!(rt;
-            enters(name, application, new_line, sent),
-            "{name} {sent:?}"
-        );
-    }
-    Ok(())
-}
-
-#[test]
-fn characters_send_their_utf8(rt: HostRuntime) -> Result<(), Fail> {
-    for (c, sent) in [
-        ('\0', "\0"),
-        ('A', "A"),
-        ('\u{E9}', "\u{E9}"),
-        ('\u{4E2D}', "\u{4E2D}"),
-        ('\u{10FFFF}', "\u{10FFFF}"),
-    ] {
-        assert!(rt;
-            Key::Char(c).sent(NORMAL).as_slice() == sent.as_bytes(),
-            "{sent}"
-        );
-    }
-    Ok(())
-}
-
-fn is_printed(alloc: Global, act: Act, line: &str) -> bool {
-    match act.to_string(alloc) {
-        Ok(text) => text.as_str() == line,
-        Err(_) => false,
-    }
-}
-
-fn is_line_of(alloc: Global, line: &str, bytes: &[u8]) -> bool {
-    let Ok(act) = read_act(line.as_bytes()) else {
-        return false;
-    };
-    is_printed(alloc, act, line) && has_bytes(alloc, act, bytes)
 }
 
 // Whether the act has these bytes, and they are read as this act alone.
 fn has_bytes(alloc: Global, act: Act, bytes: &[u8]) -> bool {
     let mut out = Vec::new(alloc);
-    if write_acts(&[act], &mut out).is_err() || out.as_slice() != bytes {
-        return false;
-    }
-    match read_acts(alloc, 1, bytes) {
-        Ok(acts) => acts.as_slice() == [act].as_slice(),
-        Err(_) => false,
+    write_acts(&[act], &mut out).is_ok()
+        && out.as_slice() == bytes
+        && matches!(read_acts(alloc, 1, bytes), Ok(acts) if acts.as_slice() == [act].as_slice())
+}
+
+fn is_printed(alloc: Global, act: Act, line: &str) -> bool {
+    matches!(act.to_string(alloc), Ok(text) if text.as_str() == line)
+}
+
+fn has_number(alloc: Global, key: Key, number: &str) -> bool {
+    matches!(number.parse::<u8>(), Ok(number) if has_bytes(alloc, Act::Key(key), &[2, number]))
+}
+
+fn is_key(alloc: Global, row: &str) -> bool {
+    let (line, rest) = row.split_once('|').unwrap_or((row, ""));
+    let (number, rest) = rest.split_once('|').unwrap_or((rest, ""));
+    let (plain, rest) = rest.split_once('|').unwrap_or((rest, ""));
+    match read_act(line.as_bytes()) {
+        Ok(Act::Key(key)) => is_printed(alloc, Act::Key(key), line)
+            && has_number(alloc, key, number)
+            && sends(&key, plain, rest),
+        _ => false,
     }
 }
 
-#[test]
-fn acts_have_lines_and_bytes(rt: HostRuntime) -> Result<(), Fail> {
-    for (line, bytes) in &ACTS {
-        assert!(rt; is_line_of(rt.alloc(), line, bytes), "{line}");
+fn is_act(alloc: Global, row: &str) -> bool {
+    let (line, digits) = row.split_once(": ").unwrap_or((row, ""));
+    match (read_act(line.as_bytes()), bytes_of(alloc, digits)) {
+        (Ok(act), Ok(bytes)) => act.in_range()
+            && is_printed(alloc, act, line)
+            && has_bytes(alloc, act, &bytes),
+        _ => false,
     }
-    Ok(())
 }
 
-#[test]
-fn keys_have_names_and_numbers(rt: HostRuntime) -> Result<(), Fail> {
-    for (place, name) in NAMES.iter().enumerate() {
-        let key = key_named(name).ok_or("no key")?;
-        assert!(rt;
-            has_bytes(rt.alloc(), Act::Key(key), &[2, place as u8 + 1]),
-            "{name}"
-        );
-        let line = Act::Key(key).to_string(rt.alloc())?;
-        assert!(rt; line.as_str().strip_prefix("key ") == Some(name), "{name}");
+fn is_spelled(row: &str) -> bool {
+    let (line, spelled) = row.split_once(": ").unwrap_or((row, ""));
+    match spelled.chars().next() {
+        Some(c) => read_act(line.as_bytes()) == Ok(Act::Key(Key::Char(c))),
+        None => false,
     }
-    Ok(())
-}
-
-#[test]
-fn code_points_have_several_spellings(rt: HostRuntime) -> Result<(), Fail> {
-    for (line, c) in &SPELLINGS {
-        assert!(rt;
-            read_act(line.as_bytes()) == Ok(Act::Key(Key::Char(*c))),
-            "{line}"
-        );
-    }
-    Ok(())
-}
-
-#[test]
-fn other_lines_are_no_acts(rt: HostRuntime) -> Result<(), Fail> {
-    for line in &NO_ACTS {
-        assert!(rt; read_act(line.as_bytes()) == Err(Fault::BadAct), "{line:?}");
-    }
-    assert!(rt; read_act(b"char \xFF") == Err(Fault::BadAct));
-    assert!(rt; read_act(b"\xFFclose") == Err(Fault::BadAct));
-    Ok(())
 }
 
 fn is_refused(alloc: Global, count: usize, bytes: &[u8]) -> bool {
@@ -429,63 +283,70 @@ fn is_refused(alloc: Global, count: usize, bytes: &[u8]) -> bool {
     )
 }
 
-#[test]
-fn other_bytes_are_no_acts(rt: HostRuntime) -> Result<(), Fail> {
-    for bytes in &NO_TEXTS {
-        assert!(rt; is_refused(rt.alloc(), 1, bytes), "{bytes:?}");
+fn is_no_text(alloc: Global, row: &str) -> bool {
+    let (count, digits) = row.split_once(':').unwrap_or((row, ""));
+    match (count.parse::<usize>(), bytes_of(alloc, digits)) {
+        (Ok(count), Ok(bytes)) => is_refused(alloc, count, &bytes),
+        _ => false,
     }
-    assert!(rt; is_refused(rt.alloc(), 0, &[0x10]));
-    assert!(rt; is_refused(rt.alloc(), 2, &[0x10]));
-    assert!(rt; read_acts(rt.alloc(), 0, &[])?.is_empty());
-    Ok(())
+}
+
+fn holds(alloc: Global, line: &str) -> bool {
+    let (kind, rest) = line.split_once(' ').unwrap_or((line, ""));
+    match kind {
+        "key" => is_key(alloc, line),
+        "utf8" => is_sent_as_it_is(rest),
+        "act" => is_act(alloc, rest),
+        "spelled" => is_spelled(rest),
+        "no-act" => read_act(rest.as_bytes()) == Err(Fault::BadAct),
+        "no-text" => is_no_text(alloc, rest),
+        _ => false,
+    }
 }
 
 #[test]
-fn texts_stand_one_after_the_other(rt: HostRuntime) -> Result<(), Fail> {
+fn keys_and_acts_have_their_texts(rt: HostRuntime) {
+    for line in ROWS.split("|\n") {
+        assert!(rt; holds(rt.alloc(), line), "{line:?}");
+    }
+}
+
+// Acts of the rows are in range; these are out of it, and two lines with other bytes than text are none.
+fn are_none() -> bool {
+    for act in [
+        Act::Focus(0),
+        Act::Focus(10),
+        Act::Grow(-100),
+        Act::Grow(100),
+        Act::Size(10000, 1),
+        Act::Size(1, 10000),
+        Act::View(-501),
+        Act::View(501),
+    ] {
+        if act.in_range() {
+            return false;
+        }
+    }
+    read_act(b"char \xFF") == Err(Fault::BadAct) && read_act(b"\xFFclose") == Err(Fault::BadAct)
+}
+
+// The text of a key, of `close`, of a size and of `grow -3`.
+const FOUR: [u8; 11] = [2, 1, 0x12, 0x16, 0, 24, 0, 80, 0x15, 0xFF, 0xFD];
+
+// Whether four acts become this text behind what stands there, and come out of it; and no bytes are no act.
+fn are_added(alloc: Global) -> bool {
     let acts = [
         Act::Key(Key::Up),
         Act::Close,
         Act::Size(24, 80),
         Act::Grow(-3),
     ];
-    let mut out = Vec::new(rt.alloc());
-    out.push(7)?;
-    write_acts(&acts, &mut out)?;
-    assert_eq!(rt;
-        out.as_slice(),
-        [7, 2, 1, 0x12, 0x16, 0, 24, 0, 80, 0x15, 0xFF, 0xFD].as_slice()
-    );
-    assert_eq!(rt;
-        read_acts(rt.alloc(), 4, out.as_slice().split_at(1).1)?.as_slice(),
-        acts.as_slice()
-    );
-    Ok(())
-}
-
-#[test]
-fn ranges_have_their_ends(rt: HostRuntime) -> Result<(), Fail> {
-    for (act, is_in) in [
-        (Act::Focus(0), false),
-        (Act::Focus(1), true),
-        (Act::Focus(9), true),
-        (Act::Focus(10), false),
-        (Act::Grow(-100), false),
-        (Act::Grow(-99), true),
-        (Act::Grow(99), true),
-        (Act::Grow(100), false),
-        (Act::Size(9999, 9999), true),
-        (Act::Size(10000, 1), false),
-        (Act::Size(1, 10000), false),
-        (Act::View(-501), false),
-        (Act::View(-500), true),
-        (Act::View(500), true),
-        (Act::View(501), false),
-        (Act::Key(Key::Up), true),
-        (Act::Next, true),
-    ] {
-        assert!(rt; act.in_range() == is_in, "{act}");
-    }
-    Ok(())
+    let mut out = Vec::new(alloc);
+    out.push(7).is_ok()
+        && write_acts(&acts, &mut out).is_ok()
+        && out.as_slice().strip_prefix(b"\x07".as_slice()) == Some(FOUR.as_slice())
+        && matches!(read_acts(alloc, 4, &FOUR), Ok(read) if read.as_slice() == acts.as_slice())
+        && matches!(read_acts(alloc, 0, &[]), Ok(read) if read.is_empty())
 }
 
 fn type_acts(sender: &mut ActSender, count: u16) -> bool {
@@ -502,46 +363,51 @@ fn waits(sender: &ActSender, first: u64, count: usize) -> bool {
     number == first && acts.len() == count
 }
 
-#[test]
-fn a_sender_sends_until_acknowledged(rt: HostRuntime) -> Result<(), Fail> {
-    let mut sender = ActSender::new(rt.alloc());
-    assert!(rt; waits(&sender, 1, 0));
-    assert!(rt; type_acts(&mut sender, 70));
-    assert!(rt; waits(&sender, 1, 64));
-    sender.acked(10);
-    assert!(rt; waits(&sender, 11, 60));
-    sender.acked(71);
-    assert!(rt; waits(&sender, 11, 60));
-    sender.acked(9);
-    assert!(rt; waits(&sender, 11, 60));
-    Ok(())
+// Whether so many wait from a number on once a number is acknowledged.
+fn waits_after(sender: &mut ActSender, acked: u64, first: u64, count: usize) -> bool {
+    sender.acked(acked);
+    waits(sender, first, count)
 }
 
-#[test]
-fn the_1025th_act_finds_the_sender_full(rt: HostRuntime) -> Result<(), Fail> {
-    let mut sender = ActSender::new(rt.alloc());
-    assert!(rt; type_acts(&mut sender, 1024));
-    assert!(rt; sender.typed(Act::Close) == Err(Fault::Busy));
-    sender.acked(1);
-    sender.typed(Act::Close)?;
-    Ok(())
+fn sends_until_acknowledged(alloc: Global) -> bool {
+    let mut sender = ActSender::new(alloc);
+    waits(&sender, 1, 0)
+        && type_acts(&mut sender, 70)
+        && waits(&sender, 1, 64)
+        && waits_after(&mut sender, 10, 11, 60)
+        && waits_after(&mut sender, 71, 11, 60)
+        && waits_after(&mut sender, 9, 11, 60)
 }
 
-#[test]
-fn a_taker_takes_what_follows(rt: HostRuntime) -> Result<(), Fail> {
+// Whether the 1025th act finds no room, and finds it once one is acknowledged.
+fn is_full(alloc: Global) -> bool {
+    let mut sender = ActSender::new(alloc);
+    type_acts(&mut sender, 1024)
+        && sender.typed(Act::Close) == Err(Fault::Busy)
+        && waits_after(&mut sender, 1, 2, 64)
+        && sender.typed(Act::Close) == Ok(())
+}
+
+// Whether a taker that took three acts takes those that follow.
+fn takes_what_follows() -> bool {
     let mut taker = ActTaker::new();
     for _ in 0..3u8 {
         if taker.taken() < 3 {
             taker.took();
         }
     }
-    assert_eq!(rt; taker.taken(), 3);
     let acts = [Act::Focus(3), Act::Focus(4), Act::Focus(5)];
-    assert_eq!(rt;
-        taker.fresh(3, &acts),
-        [Act::Focus(4), Act::Focus(5)].as_slice()
-    );
-    assert!(rt; taker.fresh(5, acts.split_at(1).0).is_empty());
-    assert!(rt; taker.fresh(1, acts.split_at(2).0).is_empty());
-    Ok(())
+    taker.taken() == 3
+        && taker.fresh(3, &acts) == &acts[1..]
+        && taker.fresh(5, &acts[..1]).is_empty()
+        && taker.fresh(1, &acts[..2]).is_empty()
+}
+
+#[test]
+fn texts_and_ends(rt: HostRuntime) {
+    assert!(rt; are_none());
+    assert!(rt; are_added(rt.alloc()));
+    assert!(rt; sends_until_acknowledged(rt.alloc()));
+    assert!(rt; is_full(rt.alloc()));
+    assert!(rt; takes_what_follows());
 }

@@ -1,160 +1,107 @@
-//! Rows of faces: a session's size, acts one after another, what the panes show, and then each row, the cursor and whether it is visible.
+//! Faces: what the panes of a layout show, and then each row, the cursor and whether it is visible.
+//!
+//! A case is a session's rows and columns, whether the cursor of the pane in focus is shown, and acts with a comma between; then what panes
+//! 1 to 3 show, with bars between; each row of the face; and its cursor.
 ghost use Rattle.std.specs.Prelude.{◌≡◌, length, IfOk};
 ghost use Rattle.roam_layout.specs.Layouts.{panes};
 ghost use Rattle.roam_layout.specs.Faces.{ArePictures};
 
-use roam_acts::read_act;
+use crate::words::{are_numbers, number};
+use roam_acts::{Act, read_act};
 use roam_cells::{Cell, Fault, Style, are_same_cells, are_unguarded, is_well_formed};
 use roam_layout::{Layout, Rect, face, face_over, push_row};
 use roam_screens::{RowShot, Seen, Shot};
 use std::alloc::Global;
-use std::test::Fail;
+use std::test::*;
 
-/// A face: the session's size, the acts, what panes 1 to 3 show, whether their cursors are hidden, then the rows and the cursor.
-struct Row {
-    size: (u16, u16),
-    acts: &'static [&'static str],
-    panes: [&'static str; 3],
-    hidden: bool,
-    rows: &'static [&'static str],
-    cursor: (u16, u16),
-}
+const CASES: &str = "\
+4 17 shown: split right
+ab|cd|
+ab      │cd      
+        │        
+        │        
+ 1 [2]           
+1 12
 
-static ROWS: [Row; 9] = [
-    Row {
-        size: (4, 17),
-        acts: &["split right"],
-        panes: ["ab", "cd", ""],
-        hidden: false,
-        rows: &[
-            "ab      │cd      ",
-            "        │        ",
-            "        │        ",
-            " 1 [2]           ",
-        ],
-        cursor: (1, 12),
-    },
-    Row {
-        size: (4, 17),
-        acts: &["split right", "view 1"],
-        panes: ["ab", "cd", ""],
-        hidden: true,
-        rows: &[
-            "ab      │cd      ",
-            "        │        ",
-            "        │        ",
-            " 1 [2] ^1        ",
-        ],
-        cursor: (1, 12),
-    },
-    Row {
-        size: (4, 17),
-        acts: &["split right", "focus 1"],
-        panes: ["ab", "cd", ""],
-        hidden: false,
-        rows: &[
-            "ab      │cd      ",
-            "        │        ",
-            "        │        ",
-            "[1] 2            ",
-        ],
-        cursor: (1, 3),
-    },
-    Row {
-        size: (4, 17),
-        acts: &["split right", "close"],
-        panes: ["ab", "", ""],
-        hidden: false,
-        rows: &[
-            "ab               ",
-            "                 ",
-            "                 ",
-            "[1]              ",
-        ],
-        cursor: (1, 3),
-    },
-    Row {
-        size: (6, 8),
-        acts: &["split down"],
-        panes: ["12345678", "x", ""],
-        hidden: false,
-        rows: &[
-            "12345678",
-            "        ",
-            "────────",
-            "x       ",
-            "        ",
-            " 1 [2]  ",
-        ],
-        cursor: (4, 2),
-    },
-    Row {
-        size: (6, 17),
-        acts: &["split right", "focus 1", "split down"],
-        panes: ["123456中", "中b", "c"],
-        hidden: false,
-        rows: &[
-            "123456中│中b     ",
-            "        │        ",
-            "────────│        ",
-            "c       │        ",
-            "        │        ",
-            " 1 [3] 2         ",
-        ],
-        cursor: (4, 2),
-    },
-    Row {
-        size: (6, 17),
-        acts: &["split down", "focus 1", "split right", "grow 2"],
-        panes: ["a", "b", "c"],
-        hidden: false,
-        rows: &[
-            "a     │c         ",
-            "      │          ",
-            "─────────────────",
-            "b                ",
-            "                 ",
-            " 1 [3] 2         ",
-        ],
-        cursor: (1, 9),
-    },
-    Row {
-        size: (12, 8),
-        acts: &["split down", "split down"],
-        panes: ["a", "b", "c"],
-        hidden: true,
-        rows: &[
-            "a       ",
-            "        ",
-            "        ",
-            "        ",
-            "        ",
-            "────────",
-            "b       ",
-            "        ",
-            "────────",
-            "c       ",
-            "        ",
-            " 1  2 [3",
-        ],
-        cursor: (10, 2),
-    },
-    Row {
-        size: (6, 8),
-        acts: &["split down", "view 12"],
-        panes: ["", "中", ""],
-        hidden: false,
-        rows: &[
-            "        ",
-            "        ",
-            "────────",
-            "中      ",
-            "        ",
-            " 1 [2] ^",
-        ],
-        cursor: (4, 2),
-    },
-];
+4 17 hidden: split right, view 1
+ab|cd|
+ab      │cd      
+        │        
+        │        
+ 1 [2] ^1        
+1 12
+
+4 17 shown: split right, focus 1
+ab|cd|
+ab      │cd      
+        │        
+        │        
+[1] 2            
+1 3
+
+4 17 shown: split right, close
+ab||
+ab               
+                 
+                 
+[1]              
+1 3
+
+6 8 shown: split down
+12345678|x|
+12345678
+        
+────────
+x       
+        
+ 1 [2]  
+4 2
+
+6 17 shown: split right, focus 1, split down
+123456中|中b|c
+123456中│中b     
+        │        
+────────│        
+c       │        
+        │        
+ 1 [3] 2         
+4 2
+
+6 17 shown: split down, focus 1, split right, grow 2
+a|b|c
+a     │c         
+      │          
+─────────────────
+b                
+                 
+ 1 [3] 2         
+1 9
+
+12 8 hidden: split down, split down
+a|b|c
+a       
+        
+        
+        
+        
+────────
+b       
+        
+────────
+c       
+        
+ 1  2 [3
+10 2
+
+6 8 shown: split down, view 12
+|中|
+        
+        
+────────
+中      
+        
+ 1 [2] ^
+4 2";
 
 // The cells of a text and spaces after it, so many in all.
 fn cells_of(alloc: Global, text: &str, count: usize) -> Result<Vec<Cell>, Fault>
@@ -190,7 +137,7 @@ fn picture(alloc: Global, rect: Rect, text: &str, visible: bool) -> Result<Shot,
 fn pictures(
     alloc: Global,
     layout: &Layout,
-    texts: &[&str],
+    texts: &str,
     visible: bool,
 ) -> Result<Vec<(u8, Shot)>, Fault>
     ensures pictures { IfOk result (λ shots. ArePictures (panes layout.now) shots.items) }
@@ -199,69 +146,74 @@ fn pictures(
     let rects = layout.rects();
     for k in 0..rects.len() {
         let (pane, rect) = rects[k];
-        let text = match texts.get(usize::from(pane).saturating_sub(1)) {
-            Some(text) => *text,
-            None => "",
-        };
+        let before = usize::from(pane).saturating_sub(1);
+        let text = texts.split('|').nth(before).unwrap_or("");
         shots.push((pane, picture(alloc, rect, text, visible)?))?;
     }
     Ok(shots)
 }
 
+fn take_act(alloc: Global, layout: &mut Layout, line: &str) -> Result<(), Fault> {
+    let act = read_act(line.as_bytes())?;
+    layout.apply(alloc, &act)?;
+    Ok(())
+}
+
 // The layout of a size after acts.
-fn layout_after(alloc: Global, size: (u16, u16), acts: &[&str]) -> Result<Layout, Fault> {
-    let mut layout = Layout::new(alloc, size.0, size.1)?;
-    for line in acts {
-        let act = read_act(line.as_bytes())?;
-        layout.apply(alloc, &act)?;
+fn layout_after(alloc: Global, rows: u16, cols: u16, acts: &str) -> Result<Layout, Fault> {
+    let mut layout = Layout::new(alloc, rows, cols)?;
+    for line in acts.split(", ") {
+        take_act(alloc, &mut layout, line)?;
     }
     Ok(layout)
 }
 
-fn face_of(alloc: Global, layout: &Layout, texts: &[&str], visible: bool) -> Result<Shot, Fault> {
+fn face_of(alloc: Global, layout: &Layout, texts: &str, visible: bool) -> Result<Shot, Fault> {
     let shots = pictures(alloc, layout, texts, visible)?;
     face(alloc, layout, &shots)
 }
 
-fn is_row(alloc: Global, shot: &Shot, i: u16, text: &str) -> Result<bool, Fault> {
-    if shot.rows() <= i {
-        return Ok(false);
+// Whether a face has these rows, and then this cursor.
+fn shows(alloc: Global, shot: &Shot, rows: &str) -> Result<bool, Fault> {
+    let mut lines = rows.lines();
+    let mut same = true;
+    for i in 0..shot.rows() {
+        let points = shot.row_text(alloc, i)?;
+        same = same
+            && points
+                .iter()
+                .copied()
+                .eq(lines.next().unwrap_or("").chars());
     }
-    let points = shot.row_text(alloc, i)?;
-    Ok(points.iter().copied().eq(text.chars()))
+    let (row, col) = shot.cursor();
+    Ok(same && are_numbers(&[row, col], lines.next().unwrap_or("")) && lines.next().is_none())
 }
 
-// The number of the first row, from 0, that a face shows otherwise; the number of rows where none does.
-fn first_other(alloc: Global, shot: &Shot, rows: &[&str]) -> Result<usize, Fault> {
-    for i in 0..rows.len().min(100) {
-        if !is_row(alloc, shot, i as u16, rows[i])? {
-            return Ok(i);
-        }
+fn is_shown(alloc: Global, layout: &Layout, state: &str, rest: &str) -> bool {
+    let (texts, rows) = rest.split_once('\n').unwrap_or((rest, ""));
+    let visible = state == "shown";
+    match face_of(alloc, layout, texts, visible) {
+        Ok(shot) => shot.visible() == visible && matches!(shows(alloc, &shot, rows), Ok(true)),
+        Err(_) => false,
     }
-    Ok(rows.len())
 }
 
-fn shown(alloc: Global, row: &Row) -> Result<(usize, (u16, u16), bool), Fault> {
-    let layout = layout_after(alloc, row.size, row.acts)?;
-    let shot = face_of(alloc, &layout, &row.panes, !row.hidden)?;
-    Ok((
-        first_other(alloc, &shot, row.rows)?,
-        shot.cursor(),
-        shot.visible(),
-    ))
+fn holds(alloc: Global, case: &str) -> bool {
+    let (line, rest) = case.split_once('\n').unwrap_or((case, ""));
+    let (start, acts) = line.split_once(": ").unwrap_or((line, ""));
+    let (size, state) = start.rsplit_once(' ').unwrap_or((start, ""));
+    let (rows, cols) = size.split_once(' ').unwrap_or((size, ""));
+    match layout_after(alloc, number(rows), number(cols), acts) {
+        Ok(layout) => is_shown(alloc, &layout, state, rest),
+        Err(_) => false,
+    }
 }
 
 #[test]
-fn faces_show_their_rows(rt: HostRuntime) -> Result<(), Fail> {
-    for k in 0..ROWS.len() {
-        let row = &ROWS[k];
-        assert_eq!(rt;
-            shown(rt.alloc(), row)?,
-            (row.rows.len(), row.cursor, !row.hidden),
-            "at {k}"
-        );
+fn faces_show_their_rows(rt: HostRuntime) {
+    for case in CASES.split("\n\n") {
+        assert!(rt; holds(rt.alloc(), case), "{case}");
     }
-    Ok(())
 }
 
 // Whether a cell is drawn in the default style, but for the reverse flag in the last row.
@@ -287,31 +239,16 @@ fn are_drawn(shot: &Shot) -> bool {
     true
 }
 
-#[test]
-fn only_the_status_text_is_in_reverse(rt: HostRuntime) -> Result<(), Fail> {
-    let layout = layout_after(rt.alloc(), (6, 17), &["split right", "split down"])?;
-    let shot = face_of(rt.alloc(), &layout, &["a", "b", "c"], true)?;
-    assert!(rt; are_drawn(&shot));
-    Ok(())
+// Whether only the status text is in reverse.
+fn is_status_in_reverse(alloc: Global, layout: &mut Layout) -> bool {
+    matches!(face_of(alloc, layout, "a|b|c", true), Ok(shot) if are_drawn(&shot))
 }
 
-// Eight splits of 24 by 80, and a ninth that is refused.
-static NINE: [&str; 12] = [
-    "split right",
-    "split down",
-    "split down",
-    "focus 1",
-    "split down",
-    "split down",
-    "focus 2",
-    "split right",
-    "focus 1",
-    "split right",
-    "focus 3",
-    "split right",
-];
+// Eight splits of 24 by 80.
+const NINE: &str = "split right, split down, split down, focus 1, split down, split down, focus 2, \
+    split right, focus 1, split right, focus 3, split right";
 
-static DIGITS: [&str; 9] = ["1", "2", "3", "4", "5", "6", "7", "8", "9"];
+const DIGITS: &str = "1|2|3|4|5|6|7|8|9";
 
 fn begins_with(shot: &Shot, rect: Rect, digit: u8) -> bool {
     match shot.at(rect.row, rect.col) {
@@ -329,46 +266,33 @@ fn is_each_in_its_corner(layout: &Layout, shot: &Shot) -> bool {
     true
 }
 
-#[test]
-fn nine_panes_show_and_a_tenth_changes_nothing(rt: HostRuntime) -> Result<(), Fail> {
-    let mut layout = layout_after(rt.alloc(), (24, 80), &NINE)?;
-    let shot = face_of(rt.alloc(), &layout, &DIGITS, true)?;
-    assert_eq!(rt; layout.rects().len(), 9);
-    assert!(rt; is_each_in_its_corner(&layout, &shot));
-    let refused = layout.apply(rt.alloc(), &read_act(b"split down")?);
-    assert!(rt; refused.is_err());
-    assert!(rt; face_of(rt.alloc(), &layout, &DIGITS, true)?.is_same(&shot));
-    Ok(())
+// Whether nine panes show their numbers, and a tenth is refused and changes nothing.
+fn keeps_nine(alloc: Global, layout: &mut Layout) -> bool {
+    let before = face_of(alloc, layout, DIGITS, true);
+    let refused = layout.apply(alloc, &Act::SplitDown).is_err();
+    match (before, face_of(alloc, layout, DIGITS, true)) {
+        (Ok(shot), Ok(again)) => refused
+            && again.is_same(&shot)
+            && layout.rects().len() == 9
+            && is_each_in_its_corner(layout, &shot),
+        _ => false,
+    }
 }
 
-// The rows of a face one by one.
-fn is_row_by_row(alloc: Global, layout: &Layout, shots: &[(u8, Shot)]) -> Result<bool, Fault>
+// Whether the rows of a face one by one are its cells.
+fn is_row_by_row(
+    alloc: Global,
+    layout: &Layout,
+    shots: &[(u8, Shot)],
+    whole: &Shot,
+) -> Result<bool, Fault>
     requires pictures { ArePictures (panes layout.now) shots.now }
 {
-    let whole = face(alloc, layout, shots)?;
     let mut cells = Vec::new(alloc);
     for above in 0..layout.rows() {
         push_row(alloc, layout, shots, above + 1, &mut cells)?;
     }
-    Ok(is_well_formed(&cells, usize::from(layout.cols())) && are_cells(&whole, &cells))
-}
-
-fn are_cells(shot: &Shot, cells: &[Cell]) -> bool {
-    if shot.cells().len() != cells.len() {
-        return false;
-    }
-    shot.cells()
-        .iter()
-        .zip(cells.iter())
-        .all(|(a, b)| a.is_same(b))
-}
-
-#[test]
-fn rows_one_by_one_make_the_face(rt: HostRuntime) -> Result<(), Fail> {
-    let layout = layout_after(rt.alloc(), (24, 80), &NINE)?;
-    let shots = pictures(rt.alloc(), &layout, &DIGITS, true)?;
-    assert!(rt; is_row_by_row(rt.alloc(), &layout, &shots)?);
-    Ok(())
+    Ok(is_well_formed(&cells, usize::from(layout.cols())) && are_same_cells(whole.cells(), &cells))
 }
 
 // The face over a blank screen of which each row is marked.
@@ -393,13 +317,47 @@ fn is_face(shot: &RowShot, whole: &Shot) -> bool {
     shot.cursor() == whole.cursor() && shot.visible() == whole.visible()
 }
 
+// Whether the face of nine panes comes row by row, and over marked rows, as it comes at once.
+fn is_one_face(alloc: Global, layout: &Layout) -> Result<bool, Fault> {
+    let shots = pictures(alloc, layout, DIGITS, true)?;
+    let whole = face(alloc, layout, &shots)?;
+    Ok(
+        is_row_by_row(alloc, layout, &shots, &whole)?
+            && is_face(&made_anew(alloc, layout, &shots)?, &whole),
+    )
+}
+
+/// What is tried of a layout.
+#[derive(Clone, Copy)]
+enum Trial {
+    Status,
+    Nine,
+    OneFace,
+}
+
+fn tries(alloc: Global, layout: &mut Layout, trial: Trial) -> bool {
+    match trial {
+        Trial::Status => is_status_in_reverse(alloc, layout),
+        Trial::Nine => keeps_nine(alloc, layout),
+        Trial::OneFace => matches!(is_one_face(alloc, layout), Ok(true)),
+    }
+}
+
+fn is_tried(alloc: Global, rows: u16, cols: u16, acts: &str, trial: Trial) -> bool {
+    match layout_after(alloc, rows, cols, acts) {
+        Ok(mut layout) => tries(alloc, &mut layout, trial),
+        Err(_) => false,
+    }
+}
+
+// Only the status text is in reverse; a tenth pane changes nothing; rows one by one and marked rows make the face.
 #[test]
-fn a_face_over_marked_rows(rt: HostRuntime) -> Result<(), Fail> {
-    let alloc = rt.alloc();
-    let layout = layout_after(alloc, (24, 80), &NINE)?;
-    let shots = pictures(alloc, &layout, &DIGITS, true)?;
-    let whole = face(alloc, &layout, &shots)?;
-    let made = made_anew(alloc, &layout, &shots)?;
-    assert!(rt; is_face(&made, &whole));
-    Ok(())
+fn faces_of_three_and_of_nine_panes(rt: HostRuntime) {
+    let three = "split right, split down";
+    assert!(rt; is_tried(rt.alloc(), 6, 17, three, Trial::Status), "status");
+    assert!(rt; is_tried(rt.alloc(), 24, 80, NINE, Trial::Nine), "nine");
+    assert!(rt;
+        is_tried(rt.alloc(), 24, 80, NINE, Trial::OneFace),
+        "one face"
+    );
 }

@@ -11,3 +11,5 @@ mod faces;
 mod layouts;
 #[cfg(test)]
 mod uses;
+#[cfg(test)]
+mod words;

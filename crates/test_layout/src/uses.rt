@@ -33,8 +33,7 @@ pub fn has_the_right_half(layout: &Layout) -> bool {
 use std::test::*;
 
 #[test]
-fn two_panes_stand_beside_one_another(rt: HostRuntime) -> Result<(), Fail> {
-    let layout = two_panes(rt.alloc(), 24, 80)?;
-    assert!(rt; has_the_right_half(&layout));
-    Ok(())
+fn two_panes_stand_beside_one_another(rt: HostRuntime) {
+    let layout = two_panes(rt.alloc(), 24, 80);
+    assert!(rt; matches!(&layout, Ok(layout) if has_the_right_half(layout)));
 }

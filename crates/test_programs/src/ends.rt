@@ -8,7 +8,32 @@ use std::io;
 use std::process::ExitCode;
 use std::test::*;
 
-/// Standard error that knows the one line which it is to hear.
+// The texts of faults.
+const FAULTS: &str = "\
+bad size
+out of memory
+read failed
+write failed
+cannot bind
+line 12: bad act
+line 12: bad event
+line 3: bad event";
+
+fn fault_of(text: &str) -> Option<RunFault> {
+    match text {
+        "bad size" => Some(RunFault::Core(Fault::BadSize)),
+        "out of memory" => Some(RunFault::Core(Fault::OutOfMemory)),
+        "read failed" => Some(RunFault::Read),
+        "write failed" => Some(RunFault::Write),
+        "cannot bind" => Some(RunFault::Bind),
+        "line 12: bad act" => Some(RunFault::Act(12)),
+        "line 12: bad event" => Some(RunFault::Event(12)),
+        "line 3: bad event" => Some(RunFault::Event(3)),
+        _ => None,
+    }
+}
+
+/// Standard error that knows what it is to hear behind `roam: `.
 #[derive(Drop)]
 struct Ear {
     alloc: Global,
@@ -23,7 +48,8 @@ impl Eprint for Ear {
 
     fn eprintln<D: Display + Drop>(&self, value: D) -> io::Result<()> {
         if let Ok(line) = value.to_string(self.alloc) {
-            self.heard.set(line.as_str() == self.wanted);
+            self.heard
+                .set(line.as_str().strip_prefix("roam: ") == Some(self.wanted));
         }
         Ok(())
     }
@@ -37,25 +63,25 @@ fn ear_for(alloc: Global, wanted: &'static str) -> Ear {
     }
 }
 
-/// A run with this fault ends with status 1 and says so.
-fn is_told(alloc: Global, fault: RunFault, wanted: &'static str) -> bool {
-    let ear = ear_for(alloc, wanted);
-    end(&ear, Err(fault)) == ExitCode::FAILURE && ear.heard.get()
+fn has_text(alloc: Global, fault: &RunFault, wanted: &str) -> bool {
+    matches!(fault.to_string(alloc), Ok(text) if text.as_str() == wanted)
+}
+
+// Whether a fault has a text, and a run with it ends with status 1 and says so.
+fn is_told(alloc: Global, text: &'static str) -> bool {
+    let ear = ear_for(alloc, text);
+    match fault_of(text) {
+        Some(fault) => has_text(alloc, &fault, text)
+            && end(&ear, Err(fault)) == ExitCode::FAILURE
+            && ear.heard.get(),
+        None => false,
+    }
 }
 
 #[test]
 fn a_fault_is_told_with_status_1(rt: HostRuntime) {
-    let faults = [
-        (RunFault::Core(Fault::BadSize), "roam: bad size"),
-        (RunFault::Core(Fault::OutOfMemory), "roam: out of memory"),
-        (RunFault::Read, "roam: read failed"),
-        (RunFault::Write, "roam: write failed"),
-        (RunFault::Bind, "roam: cannot bind"),
-        (RunFault::Act(12), "roam: line 12: bad act"),
-        (RunFault::Event(3), "roam: line 3: bad event"),
-    ];
-    for (fault, wanted) in faults {
-        assert!(rt; is_told(rt.alloc(), fault, wanted), "{wanted}");
+    for text in FAULTS.lines() {
+        assert!(rt; is_told(rt.alloc(), text), "{text}");
     }
 }
 

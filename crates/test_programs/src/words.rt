@@ -4,252 +4,187 @@ use roam_wire::Version;
 use std::alloc::{AllocError, Global};
 use std::test::*;
 
-/// Words that ask for a text or are refused, the exit status, and the text.
-struct Case {
-    words: &'static [&'static str],
-    status: i32,
-    text: &'static str,
+// Words that ask for a text or are refused, each case after `> `: the exit status and the words, and then the text.
+const TOLD: &str = "\
+2 roam show --rows x
+error: invalid value 'x' for '--rows <R>': invalid digit found in string
+
+For more information, try '--help'.
+> 2 roam show --rows 70000 --cols 8
+error: invalid value '70000' for '--rows <R>': 70000 is not in 0..=65535
+
+For more information, try '--help'.
+> 2 roam show --rows 2
+error: the following required arguments were not provided:
+  --cols <C>
+
+Usage: roam show --rows <R> --cols <C>
+
+For more information, try '--help'.
+> 0 roam show --help
+Feeds standard input to a terminal and prints the screen that it makes
+
+Usage: roam show --rows <R> --cols <C>
+
+Options:
+      --rows <R>  Rows of the screen, 2 to 200
+      --cols <C>  Columns of the screen, 4 to 500
+  -h, --help      Print help
+> 0 roam --help
+A roaming terminal multiplexer
+
+Usage: roam <COMMAND>
+
+Commands:
+  show    Feeds standard input to a terminal and prints the screen that it makes
+  world   Plays a script from standard input and prints the answer to each of its lines
+  serve   Serves a session of 24 rows and 80 columns, whose panes are reached at sockets
+  attach  Follows a session and paints it on standard output
+  help    Print this message or the help of the given subcommand(s)
+
+Options:
+  -h, --help     Print help
+  -V, --version  Print version
+> 0 roam --version
+roam 0.1.0
+> 2 roam world script
+error: unexpected argument 'script' found
+
+Usage: roam world
+
+For more information, try '--help'.
+> 2 roam serve --dir d --port 65536
+error: invalid value '65536' for '--port <P>': 65536 is not in 0..=65535
+
+For more information, try '--help'.
+> 2 roam attach --wire 3
+error: invalid value '3' for '--wire <V>': 3 is not in 1..=2
+
+For more information, try '--help'.
+> 0 elsewhere/program attach --help
+Follows a session and paints it on standard output
+
+Usage: roam attach [OPTIONS] --port <P> --session <H> --client <H>
+
+Options:
+      --port <P>       The UDP port on 127.0.0.1 of the server, as 4000
+      --session <H>    The session's id, 1 to 16 hexadecimal digits; each run of serve needs one of its own, as 5e55
+      --client <H>     The id of this start of a client, 1 to 16 hexadecimal digits; each start needs one of its own, as c1
+      --keys <PATH>    A file with the acts to type, one a line, as `char 61`, `key return` or `split right`; without it none are typed
+      --acts <SOCKET>  A Unix socket from which such lines come as they are typed; the run ends with them, once they are done
+      --wire <V>       The version of the protocol, 1 or 2; 2 where it isn't given
+      --watch          Only watches: no act is typed
+      --turns <N>      How many turns the run takes, 18446744073709551615 where it isn't given. One that brings nothing waits up to 10 \
+    milliseconds; a busy pane takes thousands a second
+  -h, --help           Print help
+
+Example: roam attach --port 4000 --session 5e55 --client c1 --keys keys";
+
+// The words of a line.
+fn words_of<'a>(alloc: Global, line: &'a str) -> Result<Vec<&'a str>, AllocError> {
+    let mut words = Vec::new(alloc);
+    for word in line.split(' ') {
+        words.push(word)?;
+    }
+    Ok(words)
 }
 
-static TOLD: [Case; 10] = [
-    Case {
-        words: &["roam", "show", "--rows", "x"],
-        status: 2,
-        text: "error: invalid value 'x' for '--rows <R>': invalid digit found in string\n\nFor more information, try '--help'.\n",
-    },
-    Case {
-        words: &["roam", "show", "--rows", "70000", "--cols", "8"],
-        status: 2,
-        text: "error: invalid value '70000' for '--rows <R>': 70000 is not in 0..=65535\n\nFor more information, try '--help'.\n",
-    },
-    Case {
-        words: &["roam", "show", "--rows", "2"],
-        status: 2,
-        text: "error: the following required arguments were not provided:\n  --cols <C>\n\nUsage: roam show --rows <R> --cols <C>\n\n\
-             For more information, try '--help'.\n",
-    },
-    Case {
-        words: &["roam", "show", "--help"],
-        status: 0,
-        text: "Feeds standard input to a terminal and prints the screen that it makes\n\nUsage: roam show --rows <R> --cols <C>\n\n\
-             Options:\n      --rows <R>  Rows of the screen, 2 to 200\n      --cols <C>  Columns of the screen, 4 to 500\n  \
-             -h, --help      Print help\n",
-    },
-    Case {
-        words: &["roam", "--help"],
-        status: 0,
-        text: "A roaming terminal multiplexer\n\nUsage: roam <COMMAND>\n\nCommands:\n  \
-             show    Feeds standard input to a terminal and prints the screen that it makes\n  \
-             world   Plays a script from standard input and prints the answer to each of its lines\n  \
-             serve   Serves a session of 24 rows and 80 columns, whose panes are reached at sockets\n  \
-             attach  Follows a session and paints it on standard output\n  \
-             help    Print this message or the help of the given subcommand(s)\n\nOptions:\n  -h, --help     Print help\n  \
-             -V, --version  Print version\n",
-    },
-    Case {
-        words: &["roam", "--version"],
-        status: 0,
-        text: "roam 0.1.0\n",
-    },
-    Case {
-        words: &["roam", "world", "script"],
-        status: 2,
-        text: "error: unexpected argument 'script' found\n\nUsage: roam world\n\nFor more information, try '--help'.\n",
-    },
-    Case {
-        words: &["roam", "serve", "--dir", "d", "--port", "65536"],
-        status: 2,
-        text: "error: invalid value '65536' for '--port <P>': 65536 is not in 0..=65535\n\nFor more information, try '--help'.\n",
-    },
-    Case {
-        words: &["roam", "attach", "--wire", "3"],
-        status: 2,
-        text: "error: invalid value '3' for '--wire <V>': 3 is not in 1..=2\n\nFor more information, try '--help'.\n",
-    },
-    Case {
-        words: &["elsewhere/program", "attach", "--help"],
-        status: 0,
-        text: "Follows a session and paints it on standard output\n\n\
-             Usage: roam attach [OPTIONS] --port <P> --session <H> --client <H>\n\nOptions:\n      \
-             --port <P>       The UDP port on 127.0.0.1 of the server, as 4000\n      \
-             --session <H>    The session's id, 1 to 16 hexadecimal digits; each run of serve needs one of its own, as 5e55\n      \
-             --client <H>     The id of this start of a client, 1 to 16 hexadecimal digits; each start needs one of its own, as c1\n      \
-             --keys <PATH>    A file with the acts to type, one a line, as `char 61`, `key return` or `split right`; \
-             without it none are typed\n      \
-             --acts <SOCKET>  A Unix socket from which such lines come as they are typed; \
-             the run ends with them, once they are done\n      \
-             --wire <V>       The version of the protocol, 1 or 2; 2 where it isn't given\n      \
-             --watch          Only watches: no act is typed\n      \
-             --turns <N>      How many turns the run takes, 18446744073709551615 where it isn't given. \
-             One that brings nothing waits up to 10 milliseconds; a busy pane takes thousands a second\n  \
-             -h, --help           Print help\n\n\
-             Example: roam attach --port 4000 --session 5e55 --client c1 --keys keys\n",
-    },
-];
+// Whether words are answered by this text, which has a line feed more, and this status.
+fn is_answered(alloc: Global, words: &[&str], status: &str, text: &str) -> bool {
+    let Err(Refusal::Clap(error)) = read_words(alloc, words) else {
+        return false;
+    };
+    status.parse::<i32>() == Ok(error.exit_code())
+        && matches!(error.to_string(alloc), Ok(told) if told.as_str().strip_suffix('\n') == Some(text))
+}
 
-fn is_told(alloc: Global, told: &Case) -> bool {
-    match read_words(alloc, told.words) {
-        Err(Refusal::Clap(error)) => match error.to_string(alloc) {
-            Ok(text) => error.exit_code() == told.status && text.as_str() == told.text,
-            Err(_) => false,
-        },
-        _ => false,
-    }
+fn is_told(alloc: Global, case: &str) -> bool {
+    let (line, text) = case.split_once('\n').unwrap_or((case, ""));
+    let (status, line) = line.split_once(' ').unwrap_or((line, ""));
+    matches!(words_of(alloc, line), Ok(words) if is_answered(alloc, &words, status, text))
 }
 
 #[test]
 fn texts_of_words(rt: HostRuntime) {
-    for told in &TOLD {
-        assert!(rt; is_told(rt.alloc(), told), "{}", told.text);
+    for case in TOLD.split("\n> ") {
+        assert!(rt; is_told(rt.alloc(), case), "{case}");
     }
 }
 
-#[test]
-fn words_of_show_and_world(rt: HostRuntime) {
-    let asked = read_words(rt.alloc(), &["roam", "show", "--rows", "2", "--cols", "8"]);
-    assert!(rt; matches!(asked, Ok(Request::Show { rows: 2, cols: 8 })));
-    let asked = read_words(rt.alloc(), &["roam", "world"]);
-    assert!(rt; matches!(asked, Ok(Request::World)));
-}
+// Words, and what they ask for: of `serve` the folder, the port, the session and the turns; of `attach` the port, the session, the client,
+// the keys, the acts (`-` is none), the version, whether it watches, and the turns. Numbers are decimal. Words that exclude one another,
+// and a version that is none, ask for nothing.
+const ASKED: &str = "\
+roam show --rows 2 --cols 8|show 2 8
+roam world|world
+roam serve --dir d --port 4000 --session 5E55 --turns 9|serve d 4000 24149 9
+roam serve --dir d --port 4000 --session 5E55|serve d 4000 24149 18446744073709551615
+roam attach --turns 18446744073709551615 --keys k --client ffffffffffffffff --session 0 --port 1|\
+attach 1 0 18446744073709551615 k - 2 types 18446744073709551615
+roam attach --client ffffffffffffffff --session 0 --port 1|\
+attach 1 0 18446744073709551615 - - 2 types 18446744073709551615
+roam attach --client ffffffffffffffff --session 0 --port 1 --wire 1|\
+attach 1 0 18446744073709551615 - - 1 types 18446744073709551615
+roam attach --client ffffffffffffffff --session 0 --port 1 --watch|\
+attach 1 0 18446744073709551615 - - 2 watches 18446744073709551615
+roam attach --client ffffffffffffffff --session 0 --port 1 --watch --keys k --turns 7|\
+attach 1 0 18446744073709551615 k - 2 watches 7
+roam attach --client ffffffffffffffff --session 0 --port 1 --wire 0|nothing
+roam attach --client ffffffffffffffff --session 0 --port 1 --watch --wire 2|nothing
+roam attach --client ffffffffffffffff --session 0 --port 1 --acts s --keys k|nothing
+roam attach --client ffffffffffffffff --session 0 --port 1 --watch --acts s|nothing";
 
-static SERVE: [&str; 10] = [
-    "roam",
-    "serve",
-    "--dir",
-    "d",
-    "--port",
-    "4000",
-    "--session",
-    "5E55",
-    "--turns",
-    "9",
-];
-
-static ATTACH: [&str; 12] = [
-    "roam",
-    "attach",
-    "--turns",
-    "18446744073709551615",
-    "--keys",
-    "k",
-    "--client",
-    "ffffffffffffffff",
-    "--session",
-    "0",
-    "--port",
-    "1",
-];
-
-#[test]
-fn words_of_serve(rt: HostRuntime) {
-    let served = match read_words(rt.alloc(), &SERVE) {
-        Ok(
-            Request::Serve {
-                folder,
-                port,
-                session,
-                turns,
-            },
-        ) => folder == "d" && port == 4000 && session == 0x5E55 && turns == 9,
-        _ => false,
-    };
-    assert!(rt; served);
-}
-
-#[test]
-fn words_of_attach(rt: HostRuntime) {
-    let attached = match read_words(rt.alloc(), &ATTACH) {
-        Ok(
-            Request::Attach {
-                port,
-                session,
-                client,
-                keys,
-                acts,
-                version,
-                watches,
-                turns,
-            },
-        ) => {
-            port == 1
-                && session == 0
-                && client == u64::MAX
-                && keys == Some("k")
-                && acts == None
-                && version == Version::Two
-                && !watches
-                && turns == u64::MAX
+fn text_of(alloc: Global, request: &Request<'_>) -> Result<String, AllocError> {
+    match request {
+        Request::Show { rows, cols } => format!(in alloc; "show {rows} {cols}"),
+        Request::World => String::from_str(alloc, "world"),
+        Request::Serve {
+            folder,
+            port,
+            session,
+            turns,
+        } => format!(in alloc; "serve {folder} {port} {session} {turns}"),
+        Request::Attach {
+            port,
+            session,
+            client,
+            keys,
+            acts,
+            version,
+            watches,
+            turns,
+        } => {
+            let keys = keys.unwrap_or("-");
+            let acts = acts.unwrap_or("-");
+            let version = if *version == Version::One { 1 } else { 2 };
+            let how = if *watches { "watches" } else { "types" };
+            format!(in alloc;
+                "attach {port} {session} {client} {keys} {acts} {version} {how} {turns}"
+            )
         }
-        _ => false,
-    };
-    assert!(rt; attached);
-}
-
-/// What `attach` asks for with these words beside those that it needs: the version, whether it watches, the turns, whether keys are named.
-fn attaches(
-    alloc: Global,
-    more: &[&'static str],
-) -> Result<Option<(Version, bool, u64, bool)>, AllocError> {
-    let mut words = Vec::from_slice(alloc, &ATTACH)?;
-    words.truncate(2);
-    words.extend_from_slice(&ATTACH[6..])?;
-    words.extend_from_slice(more)?;
-    Ok(match read_words(alloc, &words) {
-        Ok(
-            Request::Attach {
-                version,
-                watches,
-                turns,
-                keys,
-                ..
-            },
-        ) => Some((version, watches, turns, keys.is_some())),
-        _ => None,
-    })
-}
-
-/// Words that can't be given beside one another.
-static EXCLUDED: [&[&str]; 3] = [
-    &["--watch", "--wire", "2"],
-    &["--acts", "s", "--keys", "k"],
-    &["--watch", "--acts", "s"],
-];
-
-#[test]
-fn words_that_exclude_one_another(rt: HostRuntime) -> Result<(), Fail> {
-    for more in &EXCLUDED {
-        assert!(rt; attaches(rt.alloc(), more)? == None);
     }
-    Ok(())
+}
+
+fn ask_for(alloc: Global, words: &[&str], text: &str) -> bool {
+    match read_words(alloc, words) {
+        Ok(request) => matches!(text_of(alloc, &request), Ok(told) if told.as_str() == text),
+        Err(_) => text == "nothing",
+    }
+}
+
+fn is_asked(alloc: Global, line: &str) -> bool {
+    let (line, text) = line.split_once('|').unwrap_or((line, ""));
+    matches!(words_of(alloc, line), Ok(words) if ask_for(alloc, &words, text))
 }
 
 #[test]
-fn words_that_may_be_left_out(rt: HostRuntime) -> Result<(), Fail> {
-    let most = u64::MAX;
-    assert!(rt; attaches(rt.alloc(), &[])? == Some((Version::Two, false, most, false)));
-    assert!(rt;
-        attaches(rt.alloc(), &["--wire", "1"])? == Some((Version::One, false, most, false))
-    );
-    assert!(rt; attaches(rt.alloc(), &["--watch"])? == Some((Version::Two, true, most, false)));
-    assert!(rt;
-        attaches(rt.alloc(), &["--watch", "--keys", "k", "--turns", "7"])?
-            == Some((Version::Two, true, 7, true))
-    );
-    assert!(rt; attaches(rt.alloc(), &["--wire", "0"])? == None);
-    let served = read_words(rt.alloc(), &SERVE[..8]);
-    assert!(rt;
-        matches!(
-            served,
-            Ok(Request::Serve {
-                turns: u64::MAX,
-                ..
-            })
-        )
-    );
-    Ok(())
+fn words_and_what_they_ask_for(rt: HostRuntime) {
+    for line in ASKED.lines() {
+        assert!(rt; is_asked(rt.alloc(), line), "{line}");
+    }
 }
 
-/// The words of `serve` with this id are refused for it.
+// The words of `serve` with this id are refused for it.
 fn is_no_id(alloc: Global, id: &str) -> bool {
     let words = [
         "roam",

@@ -2,10 +2,11 @@
 ghost use Rattle.std.specs.Prelude.{IsTrue};
 ghost use Rattle.roam_cells.specs.Place.{IsWholeRow};
 
+use crate::words::{looks, numbers, parts_of};
 use roam_cells::{Cell, Fault, Style, is_well_formed};
-use roam_history::{Fitted, History, MOST_LINES, laws};
+use roam_history::{History, MOST_LINES, laws};
 use std::alloc::{AllocError, Global};
-use std::test::Fail;
+use std::test::*;
 
 // The style and the guard of a pen.
 fn ink_of(pen: char) -> (Style, bool) {
@@ -25,20 +26,14 @@ fn add(cells: &mut Vec<Cell>, c: char, pen: char) -> Result<(), AllocError> {
     Ok(())
 }
 
+// The pens of eight columns, all plain.
+const PLAIN: &str = "00000000";
+
 // The cells of these characters, each with its pen.
 fn cells_of(alloc: Global, text: &str, pens: &str) -> Result<Vec<Cell>, AllocError> {
     let mut cells = Vec::new(alloc);
     for (c, pen) in text.chars().zip(pens.chars()) {
         add(&mut cells, c, pen)?;
-    }
-    Ok(cells)
-}
-
-// The cells of these characters, all plain.
-fn plain_cells(alloc: Global, text: &str) -> Result<Vec<Cell>, AllocError> {
-    let mut cells = Vec::new(alloc);
-    for c in text.chars() {
-        add(&mut cells, c, '0')?;
     }
     Ok(cells)
 }
@@ -49,7 +44,7 @@ fn is_whole_row(row: &[Cell]) -> bool
     row.is_empty() || is_well_formed(row, row.len())
 }
 
-/// Pushes a row, or the front of one; nothing where it doesn't fit or is cut in a wide cell.
+// Pushes a row, or the front of one; nothing where it doesn't fit or is cut in a wide cell.
 fn push(history: &mut History, front: &[Cell]) {
     if front.len() <= history.cols() && is_whole_row(front) {
         if front.len() == history.cols() {
@@ -60,61 +55,32 @@ fn push(history: &mut History, front: &[Cell]) {
     }
 }
 
-/// Rows of 8 columns with the numbers from 1 on, whole ones and fronts in turn.
-fn counted(alloc: Global, lines: usize, rows: u16) -> Result<History, Fault> {
+// The cells of a number, in all eight columns or in those that it takes.
+fn numbered(alloc: Global, number: usize, is_whole: bool) -> Result<Vec<Cell>, AllocError> {
+    let text = format!(in alloc; "{number}")?;
+    let mut cells = cells_of(alloc, text.as_str(), PLAIN)?;
+    if is_whole {
+        cells.resize(8, Cell::blank())?;
+    }
+    Ok(cells)
+}
+
+// Rows of 8 columns with the numbers from 1 on, whole ones and fronts in turn.
+fn counted(alloc: Global, lines: usize, rows: usize) -> Result<History, Fault> {
     let mut history = History::new(alloc, lines, 8)?;
     for k in 0..rows {
-        let number = u32::from(k) + 1;
-        let mut cells = plain_cells(alloc, format!(in alloc; "{number}")?.as_str())?;
-        if k % 2 == 0 {
-            for _ in cells.len()..8 {
-                cells.push(Cell::blank())?;
-            }
-        }
+        let cells = numbered(alloc, k.saturating_add(1), k % 2 == 0)?;
         push(&mut history, &cells);
     }
     Ok(history)
 }
 
-/// A row by its columns, a right half as `~`, and the pens of those.
-fn shown(alloc: Global, row: &[Cell]) -> Result<(String, String), AllocError> {
-    let mut text = String::new(alloc);
-    let mut pens = String::new(alloc);
-    for cell in row {
-        let chars = cell.chars();
-        let first = chars.as_slice().first();
-        text.push(match first {
-            None => '~',
-            Some(first) => *first,
-        })?;
-        let pen = match (cell.style().bold, cell.guard()) {
-            (false, false) => '0',
-            (true, false) => '1',
-            (false, true) => '2',
-            (true, true) => '3',
-        };
-        pens.push(pen)?;
-    }
-    Ok((text, pens))
+// Whether a row shows these characters with these pens.
+fn shows(history: &History, i: usize, text: &str, pens: &str) -> bool {
+    matches!(history.row(i), Some(row) if looks(row, text, pens))
 }
 
-fn shows(
-    alloc: Global,
-    history: &History,
-    i: usize,
-    text: &str,
-    pens: &str,
-) -> Result<bool, AllocError> {
-    match history.row(i) {
-        Some(row) => {
-            let (chars, kinds) = shown(alloc, row)?;
-            Ok(chars.as_str() == text && kinds.as_str() == pens)
-        }
-        None => Ok(false),
-    }
-}
-
-/// Whether the history has so many rows, with the numbers from one on, in 8 columns.
+// Whether the history has so many rows, with the numbers from one on, in 8 columns.
 fn counts(alloc: Global, history: &History, first: usize, len: usize) -> Result<bool, AllocError> {
     if history.len() != len || history.row(len).is_some() {
         return Ok(false);
@@ -122,254 +88,272 @@ fn counts(alloc: Global, history: &History, first: usize, len: usize) -> Result<
     for i in 0..len {
         let number = first.saturating_add(i);
         let text = format!(in alloc; "{number:<8}")?;
-        if !shows(alloc, history, i, text.as_str(), "00000000")? {
+        if !shows(history, i, text.as_str(), PLAIN) {
             return Ok(false);
         }
     }
     Ok(true)
 }
 
-#[test]
-fn the_last_rows_are_kept(rt: HostRuntime) -> Result<(), Fail> {
-    // The lines of a history, the rows that are pushed, the number of the oldest that is kept, and how many are.
-    for (lines, rows, first, len) in [
-        (0, 0, 1, 0),
-        (0, 3, 1, 0),
-        (1, 0, 1, 0),
-        (1, 1, 1, 1),
-        (1, 3, 3, 1),
-        (2, 1, 1, 1),
-        (2, 2, 1, 2),
-        (2, 3, 2, 2),
-        (2, 6, 5, 2),
-        (500, 0, 1, 0),
-        (500, 499, 1, 499),
-        (500, 500, 1, 500),
-        (500, 501, 2, 500),
-        (500, 502, 3, 500),
-    ] {
-        let history = counted(rt.alloc(), lines, rows)?;
-        assert_eq!(rt; (history.lines(), history.cols()), (lines, 8));
-        assert!(rt;
-            counts(rt.alloc(), &history, first, len)?,
-            "{lines} lines, {rows} rows"
-        );
+// The columns to which a history of one line of 8 columns comes, the length of its row in use then, and the fronts that were pushed: no
+// contract tells that, and a push and a copy cost it.
+const FRONTS: &str = "\
+front 8 3|abc
+front 8 2|abcdefgh,ab
+front 8 8|ab,abcdefgh
+front 8 0|abcdefgh,
+front 4 4|abcdef
+front 250 6|abcdef";
+
+// What a line says. `kept`: of so many lines and rows pushed, the number of the oldest that is kept, and how many are. `made` and
+// `refused`: lines and columns. `stays`: columns that are refused to a history, which stays as it was. `cut`: from how many columns to how
+// many; a row's characters and their pens; what it shows then, each column, a right half as `~`, and its pen. A pen is plain (0), bold (1),
+// guarded (2) or both (3).
+const ROWS: &str = "\
+kept 0 0 1 0
+kept 0 3 1 0
+kept 1 0 1 0
+kept 1 1 1 1
+kept 1 3 3 1
+kept 2 1 1 1
+kept 2 2 1 2
+kept 2 3 2 2
+kept 2 6 5 2
+kept 500 0 1 0
+kept 500 499 1 499
+kept 500 500 1 500
+kept 500 501 2 500
+kept 500 502 3 500
+made 0 4
+made 1 4
+made 500 4
+made 500 500
+refused 500 3
+refused 500 501
+refused 501 80
+refused 0 0
+refused 501 3
+refused max 80
+refused 0 max
+stays 0
+stays 3
+stays 501
+stays max
+cut 8 4|\u{4E2D}cdefgh|3000000|\u{4E2D}~cd|3300
+cut 8 4|a\u{4E2D}defgh|0300000|a\u{4E2D}~d|0330
+cut 8 4|ab\u{4E2D}efgh|0030000|ab\u{4E2D}~|0033
+cut 8 4|abc\u{4E2D}fgh|0003000|abc |0003
+cut 8 4|abcd\u{4E2D}gh|0000300|abcd|0000
+cut 8 4|abcde\u{4E2D}h|0000030|abcd|0000
+cut 8 4|abcdef\u{4E2D}|0000003|abcd|0000
+cut 8 4|abc\u{4E2D}|1111|abc |1111
+cut 5 4|abc\u{4E2D}|3332|abc |3332
+cut 8 7|abcdef\u{4E2D}|0000001|abcdef |0000001
+cut 8 8|abcdef\u{4E2D}|0000001|abcdef\u{4E2D}~|00000011
+cut 8 10|abcdef\u{4E2D}|2222221|abcdef\u{4E2D}~  |2222221100
+cut 8 5|\u{4E2D}\u{4E2D}\u{4E2D}\u{4E2D}|2222|\u{4E2D}~\u{4E2D}~ |22222
+cut 8 5|ab|11|ab   |11000
+cut 4 9|ab|11|ab       |110000000
+cut 4 5|abcd|3333|abcd |33330
+cut 6 4|||    |0000";
+
+fn are_kept(
+    alloc: Global,
+    lines: usize,
+    rows: usize,
+    first: usize,
+    len: usize,
+) -> Result<bool, Fault> {
+    let history = counted(alloc, lines, rows)?;
+    Ok((history.lines(), history.cols()) == (lines, 8) && counts(alloc, &history, first, len)?)
+}
+
+fn is_made(alloc: Global, lines: usize, cols: usize) -> Result<bool, Fault> {
+    let history = History::new(alloc, lines, cols)?;
+    history.facts();
+    Ok(history.lines() == lines && history.cols() == cols)
+}
+
+fn refuses(alloc: Global, history: &mut History, cols: usize) -> bool {
+    history.refit(alloc, cols) == Err(Fault::BadSize)
+        && matches!(history.fit(alloc, cols), Err(Fault::BadSize))
+        && counts(alloc, history, 2, 2) == Ok(true)
+}
+
+fn stays(alloc: Global, cols: usize) -> bool {
+    match counted(alloc, 2, 3) {
+        Ok(mut history) => refuses(alloc, &mut history, cols),
+        Err(_) => false,
+    }
+}
+
+// Columns to which a history comes, by `refit`, or by `fit` and `adopt`.
+fn refit(alloc: Global, history: &mut History, cols: usize, in_parts: bool) -> Result<(), Fault> {
+    if !in_parts {
+        return history.refit(alloc, cols);
+    }
+    let fitted = history.fit(alloc, cols)?;
+    if fitted.lines() == history.lines() {
+        history.adopt(fitted);
     }
     Ok(())
 }
 
-// A row of a history, and what it shows at other columns: from how many columns to how many; its characters and their pens; each column, a
-// right half as `~`, and its pen. A pen is plain (0), bold (1), guarded (2) or both (3).
-const REFITTED: &str = "\
-8 to 4|\u{4E2D}cdefgh|3000000|\u{4E2D}~cd|3300
-8 to 4|a\u{4E2D}defgh|0300000|a\u{4E2D}~d|0330
-8 to 4|ab\u{4E2D}efgh|0030000|ab\u{4E2D}~|0033
-8 to 4|abc\u{4E2D}fgh|0003000|abc |0003
-8 to 4|abcd\u{4E2D}gh|0000300|abcd|0000
-8 to 4|abcde\u{4E2D}h|0000030|abcd|0000
-8 to 4|abcdef\u{4E2D}|0000003|abcd|0000
-8 to 4|abc\u{4E2D}|1111|abc |1111
-5 to 4|abc\u{4E2D}|3332|abc |3332
-8 to 7|abcdef\u{4E2D}|0000001|abcdef |0000001
-8 to 8|abcdef\u{4E2D}|0000001|abcdef\u{4E2D}~|00000011
-8 to 10|abcdef\u{4E2D}|2222221|abcdef\u{4E2D}~  |2222221100
-8 to 5|\u{4E2D}\u{4E2D}\u{4E2D}\u{4E2D}|2222|\u{4E2D}~\u{4E2D}~ |22222
-8 to 5|ab|11|ab   |11000
-4 to 9|ab|11|ab       |110000000
-4 to 5|abcd|3333|abcd |33330
-6 to 4|||    |0000";
-
-/// A line of these.
-#[derive(Clone, Copy)]
-struct Case<'a> {
-    from: usize,
-    to: usize,
-    row: &'a str,
-    row_pens: &'a str,
-    text: &'a str,
-    pens: &'a str,
-}
-
-fn case_of(line: &str) -> Option<Case<'_>> {
-    let mut parts = line.split('|');
-    let (from, to) = parts.next()?.split_once(" to ")?;
-    let case = Case {
-        from: from.parse::<usize>().ok()?,
-        to: to.parse::<usize>().ok()?,
-        row: parts.next()?,
-        row_pens: parts.next()?,
-        text: parts.next()?,
-        pens: parts.next()?,
-    };
-    if case.row.chars().count() == case.row_pens.chars().count() {
-        Some(case)
-    } else {
-        None
-    }
-}
-
-// A full history of two of these rows at other columns, by `refit`, or by `fit` and `adopt`.
-fn refitted(alloc: Global, case: &Case<'_>, in_parts: bool) -> Result<History, Fault> {
-    let mut history = History::new(alloc, 2, case.from)?;
-    let cells = cells_of(alloc, case.row, case.row_pens)?;
+// Full of rows like this one, of which it keeps two.
+fn full_of(alloc: Global, cols: usize, row: &[Cell]) -> Result<History, Fault> {
+    let mut history = History::new(alloc, 2, cols)?;
     for _ in 0..3 {
-        push(&mut history, &cells);
-    }
-    if in_parts {
-        let fitted = history.fit(alloc, case.to)?;
-        if fitted.lines() == history.lines() {
-            history.adopt(fitted);
-        }
-    } else {
-        history.refit(alloc, case.to)?;
+        push(&mut history, row);
     }
     Ok(history)
 }
 
-// Whether both rows show what the case says.
-fn is_refitted(alloc: Global, case: &Case<'_>, in_parts: bool) -> Result<bool, Fault> {
-    let history = refitted(alloc, case, in_parts)?;
-    let sized = history.len() == 2 && history.cols() == case.to && history.lines() == 2;
-    Ok(
-        sized
-            && shows(alloc, &history, 0, case.text, case.pens)?
-            && shows(alloc, &history, 1, case.text, case.pens)?,
-    )
+// Whether both rows show a text with its pens, in so many columns.
+fn shows_both(history: &History, cols: usize, text: &str, pens: &str) -> bool {
+    let sized = history.len() == 2 && history.cols() == cols && history.lines() == 2;
+    sized && shows(history, 0, text, pens) && shows(history, 1, text, pens)
 }
 
-fn holds(alloc: Global, line: &str) -> Result<bool, Fault> {
-    match case_of(line) {
-        Some(case) => Ok(is_refitted(alloc, &case, false)? && is_refitted(alloc, &case, true)?),
-        None => Ok(false),
+fn refitted(
+    alloc: Global,
+    from: usize,
+    to: usize,
+    row: &[Cell],
+    in_parts: bool,
+) -> Result<History, Fault> {
+    let mut history = full_of(alloc, from, row)?;
+    refit(alloc, &mut history, to, in_parts)?;
+    Ok(history)
+}
+
+fn is_cut(alloc: Global, line: &str, in_parts: bool) -> bool {
+    let [columns, row, row_pens, text, pens] = parts_of(line, '|');
+    match (numbers(columns), cells_of(alloc, row, row_pens)) {
+        (Some((2, from, to, _, _)), Ok(cells)) =>
+            matches!(refitted(alloc, from, to, &cells, in_parts), Ok(history) if shows_both(&history, to, text, pens)),
+        _ => false,
     }
 }
 
-#[test]
-fn rows_are_cut_and_padded(rt: HostRuntime) -> Result<(), Fail> {
-    for line in REFITTED.lines() {
-        assert!(rt; holds(rt.alloc(), line)?, "{line:?}");
-    }
-    Ok(())
-}
-
-#[test]
-fn sizes_are_refused(rt: HostRuntime) -> Result<(), Fail> {
-    for (lines, cols, is_size) in [
-        (0, 4, true),
-        (1, 4, true),
-        (MOST_LINES, 4, true),
-        (500, 500, true),
-        (500, 3, false),
-        (500, 501, false),
-        (501, 80, false),
-        (0, 0, false),
-        (501, 3, false),
-        (usize::MAX, 80, false),
-        (0, usize::MAX, false),
-    ] {
-        match History::new(rt.alloc(), lines, cols) {
-            Ok(history) => {
-                history.facts();
-                assert!(rt; is_size && history.lines() == lines && history.cols() == cols)
-            }
-            Err(fault) => assert!(rt; !is_size && fault == Fault::BadSize, "{lines} by {cols}"),
-        }
-    }
-    for cols in [0, 3, 501, usize::MAX] {
-        let mut history = counted(rt.alloc(), 2, 3)?;
-        assert!(rt;
-            history.refit(rt.alloc(), cols) == Err(Fault::BadSize),
-            "to {cols}"
-        );
-        assert!(rt; counts(rt.alloc(), &history, 2, 2)?, "to {cols}");
-        match history.fit(rt.alloc(), cols) {
-            Ok(_) => assert!(rt; false, "to {cols}"),
-            Err(fault) => assert!(rt; fault == Fault::BadSize, "to {cols}"),
-        }
+fn push_fronts(alloc: Global, history: &mut History, fronts: &str) -> Result<(), AllocError> {
+    for front in fronts.split(',') {
+        let cells = cells_of(alloc, front, PLAIN)?;
+        push(history, &cells);
     }
     Ok(())
 }
 
-/// Whether memory for a history can be made, of its lines and of these columns.
-fn is_fitted(fitted: &Fitted, lines: usize, cols: usize) -> bool {
-    fitted.lines() == lines && fitted.cols() == cols
+fn fronts_refitted(alloc: Global, fronts: &str, cols: usize) -> Result<History, Fault> {
+    let mut history = History::new(alloc, 1, 8)?;
+    push_fronts(alloc, &mut history, fronts)?;
+    history.refit(alloc, cols)?;
+    Ok(history)
+}
+
+fn has_front(history: &History, length: usize) -> bool {
+    history.len() != 0 && history.front_of_row(0).len() == length
+}
+
+fn is_lent(alloc: Global, line: &str) -> bool {
+    let (columns, fronts) = line.split_once('|').unwrap_or((line, ""));
+    match numbers(columns) {
+        Some((2, cols, length, _, _)) =>
+            matches!(fronts_refitted(alloc, fronts, cols), Ok(history) if has_front(&history, length)),
+        _ => false,
+    }
+}
+
+fn is_sized(alloc: Global, word: &str, rest: &str) -> bool {
+    match (word, numbers(rest)) {
+        ("kept", Some((4, lines, rows, first, len))) => are_kept(alloc, lines, rows, first, len)
+            == Ok(true),
+        ("made", Some((2, lines, cols, _, _))) => is_made(alloc, lines, cols) == Ok(true),
+        ("refused", Some((2, lines, cols, _, _))) => is_made(alloc, lines, cols)
+            == Err(Fault::BadSize),
+        ("stays", Some((1, cols, _, _, _))) => stays(alloc, cols),
+        _ => false,
+    }
+}
+
+fn holds(alloc: Global, line: &str) -> bool {
+    let (word, rest) = line.split_once(' ').unwrap_or((line, ""));
+    match word {
+        "front" => is_lent(alloc, rest),
+        "cut" => is_cut(alloc, rest, false) && is_cut(alloc, rest, true),
+        _ => is_sized(alloc, word, rest),
+    }
 }
 
 #[test]
-fn rows_go_on_after_a_size(rt: HostRuntime) -> Result<(), Fail> {
-    let mut history = counted(rt.alloc(), 3, 4)?;
-    for cols in [4, 500, 8] {
-        assert!(rt; is_fitted(&history.fit(rt.alloc(), cols)?, 3, cols));
-        history.refit(rt.alloc(), cols)?;
-        assert_eq!(rt;
-            (history.len(), history.lines(), history.cols()),
-            (3, 3, cols)
-        );
+fn a_row_is_lent_up_to_where_it_is_written(rt: HostRuntime) {
+    for line in FRONTS.lines() {
+        assert!(rt; holds(rt.alloc(), line), "{line}");
     }
-    assert!(rt; counts(rt.alloc(), &history, 2, 3)?);
-    push(&mut history, &plain_cells(rt.alloc(), "5")?);
-    assert!(rt; counts(rt.alloc(), &history, 3, 3)?);
+}
+
+#[test]
+fn rows_of_histories(rt: HostRuntime) {
+    for line in ROWS.lines() {
+        assert!(rt; holds(rt.alloc(), line), "{line}");
+    }
+}
+
+fn takes_a_size(alloc: Global, history: &mut History, cols: usize) -> bool {
+    matches!(history.fit(alloc, cols), Ok(fitted) if (fitted.lines(), fitted.cols()) == (3, cols))
+        && history.refit(alloc, cols) == Ok(())
+        && (history.len(), history.lines(), history.cols()) == (3, 3, cols)
+}
+
+fn push_number(alloc: Global, history: &mut History, number: usize) -> bool {
+    match numbered(alloc, number, false) {
+        Ok(cells) => push(history, &cells),
+        Err(_) => return false,
+    }
+    true
+}
+
+// Whether a history of four rows that takes three sizes goes on with a fifth.
+fn goes_on(alloc: Global, history: &mut History) -> bool {
+    takes_a_size(alloc, history, 4)
+        && takes_a_size(alloc, history, 500)
+        && takes_a_size(alloc, history, 8)
+        && counts(alloc, history, 2, 3) == Ok(true)
+        && push_number(alloc, history, 5)
+        && counts(alloc, history, 3, 3) == Ok(true)
+}
+
+fn four_go_on(alloc: Global) -> bool {
+    match counted(alloc, 3, 4) {
+        Ok(mut history) => goes_on(alloc, &mut history),
+        Err(_) => false,
+    }
+}
+
+#[test]
+fn rows_go_on_after_a_size(rt: HostRuntime) {
+    assert!(rt; four_go_on(rt.alloc()) && MOST_LINES == 500);
     laws::nothing_was_pushed();
     laws::one_more_was_pushed();
     laws::all_were_refitted();
-    Ok(())
 }
 
-// Fronts that are pushed into a history of one line of 8 columns, its columns afterwards, and the length of its row in use: no contract
-// tells that, and a push and a copy cost it.
-const FRONTS: &str = "\
-abc to 8: 3
-abcdefgh,ab to 8: 2
-ab,abcdefgh to 8: 8
-abcdefgh, to 8: 0
-abcdef to 4: 4
-abcdef to 250: 6";
-
-fn length_in_use(alloc: Global, fronts: &str, cols: usize) -> Result<Option<usize>, Fault> {
-    let mut history = History::new(alloc, 1, 8)?;
-    for front in fronts.split(',') {
-        push(&mut history, &plain_cells(alloc, front)?);
+// Whether a history of two rows takes a size, or wants memory and stays.
+fn is_refitted_or_stays(alloc: Global, history: &mut History) -> bool {
+    match history.refit(alloc, 4) {
+        Ok(()) => history.cols() == 4 && history.len() == 2,
+        Err(fault) => fault == Fault::OutOfMemory && counts(alloc, history, 2, 2) == Ok(true),
     }
-    history.refit(alloc, cols)?;
-    if history.len() == 0 {
-        return Ok(None);
-    }
-    Ok(Some(history.front_of_row(0).len()))
 }
 
-fn is_lent(alloc: Global, line: &str) -> Result<bool, Fault> {
-    if let Some((fronts, rest)) = line.split_once(" to ")
-        && let Some((cols, length)) = rest.split_once(": ")
-        && let Ok(cols) = cols.parse::<usize>()
-        && let Ok(length) = length.parse::<usize>()
-    {
-        return Ok(length_in_use(alloc, fronts, cols)? == Some(length));
+fn survives(alloc: Global) -> bool {
+    match counted(alloc, 2, 3) {
+        Ok(mut history) => is_refitted_or_stays(alloc, &mut history),
+        Err(fault) => fault == Fault::OutOfMemory,
     }
-    Ok(false)
-}
-
-#[test]
-fn a_row_is_lent_up_to_where_it_is_written(rt: HostRuntime) -> Result<(), Fail> {
-    for line in FRONTS.lines() {
-        assert!(rt; is_lent(rt.alloc(), line)?, "{line:?}");
-    }
-    Ok(())
 }
 
 // Each allocation refused in turn: the only fault is want of memory, and the rows stay.
 #[test]
 fn refused_memory_leaves_a_history(rt: HostRuntime) {
-    match counted(rt.alloc(), 2, 3) {
-        Ok(history) => {
-            let mut history = history;
-            match history.refit(rt.alloc(), 4) {
-                Ok(()) => assert!(rt; history.cols() == 4 && history.len() == 2),
-                Err(fault) => {
-                    assert_eq!(rt; fault, Fault::OutOfMemory);
-                    assert!(rt; counts(rt.alloc(), &history, 2, 2) == Ok(true));
-                }
-            }
-        }
-        Err(fault) => assert_eq!(rt; fault, Fault::OutOfMemory),
-    }
+    assert!(rt; survives(rt.alloc()));
 }

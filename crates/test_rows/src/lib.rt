@@ -7,3 +7,5 @@
 mod histories;
 #[cfg(test)]
 mod rows;
+#[cfg(test)]
+mod words;

@@ -9,12 +9,12 @@
 ghost use Rattle.std.specs.Prelude.{IsTrue};
 ghost use Rattle.roam_rows.specs.Writing.{ArePrintable};
 
+use crate::words::{looks, number, numbers, parts_of, reads};
 use roam_cells::limits::is_size;
 use roam_cells::{Cell, Style, width};
 use roam_rows::{Fitted, Ring, laws};
 use std::alloc::{AllocError, Global};
-use std::str::Lines;
-use std::test::Fail;
+use std::test::*;
 
 fn is_printable(bytes: &[u8]) -> bool
     ensures printable { IsTrue result → ArePrintable bytes.now }
@@ -33,8 +33,9 @@ fn style_of(pen: u8) -> Style {
     style
 }
 
-/// Blank rows of a size; of two by four where it is out of the limits.
-fn made(alloc: Global, rows: u16, cols: u16) -> Result<Ring, AllocError> {
+// Blank rows of a size; of two by four where it is out of the limits.
+fn made(alloc: Global, rows: usize, cols: usize) -> Result<Ring, AllocError> {
+    let (rows, cols) = (rows.min(999) as u16, cols.min(999) as u16);
     if is_size(rows, cols) {
         Ring::new(alloc, rows as usize, cols as usize)
     } else {
@@ -42,7 +43,16 @@ fn made(alloc: Global, rows: u16, cols: u16) -> Result<Ring, AllocError> {
     }
 }
 
-fn put(ring: &mut Ring, row: usize, col: usize, text: &str, pen: u8) {
+// Memory for rows of a size; none where it is out of the limits.
+fn fitted(alloc: Global, rows: usize, cols: usize) -> Option<Fitted> {
+    let (rows, cols) = (rows.min(999) as u16, cols.min(999) as u16);
+    if is_size(rows, cols) {
+        return Fitted::new(alloc, rows as usize, cols as usize).ok();
+    }
+    None
+}
+
+fn put(ring: &mut Ring, row: usize, col: usize, text: &str, pen: u8) -> bool {
     let mut at = col;
     for c in text.chars() {
         if let Some(cell) = Cell::of(&[c], style_of(pen), 2 <= pen) {
@@ -55,9 +65,10 @@ fn put(ring: &mut Ring, row: usize, col: usize, text: &str, pen: u8) {
             at = at.saturating_add(columns);
         }
     }
+    true
 }
 
-fn run(ring: &mut Ring, row: usize, col: usize, text: &str, pen: u8) {
+fn run(ring: &mut Ring, row: usize, col: usize, text: &str, pen: u8) -> bool {
     let bytes = text.as_bytes();
     let cell = Cell::ascii(b' ', style_of(pen), 2 <= pen);
     if row < ring.rows() && col <= ring.cols() && bytes.len() <= ring.cols() - col {
@@ -65,34 +76,7 @@ fn run(ring: &mut Ring, row: usize, col: usize, text: &str, pen: u8) {
             ring.put_run(row, col, cell, bytes);
         }
     }
-}
-
-fn number(word: &str) -> Option<usize> {
-    word.parse::<usize>().ok()
-}
-
-fn pair(words: &str) -> Option<(usize, usize)> {
-    let (first, second) = words.split_once(' ')?;
-    Some((number(first)?, number(second)?))
-}
-
-fn three(words: &str) -> Option<(usize, usize, usize)> {
-    let (first, rest) = words.split_once(' ')?;
-    let (second, third) = pair(rest)?;
-    Some((number(first)?, second, third))
-}
-
-// The row and the column that words begin with, and what is behind them.
-fn placed(words: &str) -> Option<(usize, usize, &str)> {
-    let (row, rest) = words.split_once(' ')?;
-    let (col, rest) = rest.split_once(' ')?;
-    Some((number(row)?, number(col)?, rest))
-}
-
-// The pen that words begin with, and the text behind it.
-fn penned(words: &str) -> Option<(u8, &str)> {
-    let (pen, text) = words.split_once(' ')?;
-    Some((pen.parse::<u8>().ok()?, text))
+    true
 }
 
 // Each of these answers whether it knows the act and does it.
@@ -115,21 +99,16 @@ fn join_one(ring: &mut Ring, row: usize, col: usize, point: char) -> bool {
 }
 
 fn write(ring: &mut Ring, name: &str, words: &str) -> bool {
-    let Some((row, col, rest)) = placed(words) else {
+    let [row, col, pen, text, _] = parts_of(words, ' ');
+    let (Some(row), Some(col)) = (number(row), number(col)) else {
         return false;
     };
-    if name == "join" {
-        return join(ring, row, col, rest);
+    match (name, pen.parse::<u8>()) {
+        ("join", _) => join(ring, row, col, pen),
+        ("put", Ok(pen)) => put(ring, row, col, text, pen),
+        ("run", Ok(pen)) => run(ring, row, col, text, pen),
+        _ => false,
     }
-    let Some((pen, text)) = penned(rest) else {
-        return false;
-    };
-    match name {
-        "put" => put(ring, row, col, text, pen),
-        "run" => run(ring, row, col, text, pen),
-        _ => return false,
-    }
-    true
 }
 
 fn edit(ring: &mut Ring, name: &str, row: usize, from: usize, last: usize) -> bool {
@@ -184,48 +163,48 @@ fn fill(ring: &mut Ring, text: &str) -> bool {
     }
 }
 
-fn size(alloc: Global, ring: &mut Ring, words: &str) -> Result<bool, AllocError> {
-    if let Some((rows, cols, off)) = three(words)
-        && let Ok(rows) = u16::try_from(rows)
-        && let Ok(cols) = u16::try_from(cols)
-        && is_size(rows, cols)
-    {
-        ring.adopt(Fitted::new(alloc, rows as usize, cols as usize)?, off);
-        return Ok(true);
+fn take_size(ring: &mut Ring, fitted: Option<Fitted>, off: usize) -> bool {
+    match fitted {
+        Some(fitted) => ring.adopt(fitted, off),
+        None => return false,
     }
-    Ok(false)
+    true
+}
+
+fn size(alloc: Global, ring: &mut Ring, words: &str) -> bool {
+    match numbers(words) {
+        Some((3, rows, cols, off, _)) => take_size(ring, fitted(alloc, rows, cols), off),
+        _ => false,
+    }
 }
 
 fn change(ring: &mut Ring, name: &str, words: &str) -> bool {
-    if let Some((first, second, third)) = three(words) {
-        return edit(ring, name, first, second, third)
-            || scroll_region(ring, name, first, second, third);
+    match numbers(words) {
+        Some((3, first, second, third, _)) => edit(ring, name, first, second, third)
+            || scroll_region(ring, name, first, second, third),
+        Some((2, from, to, _, _)) => blank(ring, name, from, to),
+        Some((1, n, _, _, _)) => scroll(ring, name, n),
+        _ => false,
     }
-    if let Some((from, to)) = pair(words) {
-        return blank(ring, name, from, to);
-    }
-    matches!(number(words), Some(n) if scroll(ring, name, n))
 }
 
-fn act(alloc: Global, ring: &mut Ring, words: &str) -> Result<bool, AllocError> {
-    let Some((name, rest)) = words.split_once(' ') else {
-        return Ok(false);
-    };
+fn act(alloc: Global, ring: &mut Ring, words: &str) -> bool {
+    let (name, rest) = words.split_once(' ').unwrap_or((words, ""));
     match name {
-        "put" | "run" | "join" => Ok(write(ring, name, rest)),
-        "fill" => Ok(fill(ring, rest)),
+        "put" | "run" | "join" => write(ring, name, rest),
+        "fill" => fill(ring, rest),
         "size" => size(alloc, ring, rest),
-        _ => Ok(change(ring, name, rest)),
+        _ => change(ring, name, rest),
     }
 }
 
-fn play(alloc: Global, ring: &mut Ring, acts: &str) -> Result<bool, AllocError> {
+fn play(alloc: Global, ring: &mut Ring, acts: &str) -> bool {
     for words in acts.split(", ") {
-        if !act(alloc, ring, words)? {
-            return Ok(false);
+        if !act(alloc, ring, words) {
+            return false;
         }
     }
-    Ok(true)
+    true
 }
 
 // What acts leave of blank rows.
@@ -553,37 +532,16 @@ another size of rows that go round
 |     |00000|
 |e    |00000|";
 
-fn sign_of(cell: &Cell) -> char {
-    match (cell.style().bold, cell.guard()) {
-        (false, false) => '0',
-        (true, false) => '1',
-        (false, true) => '2',
-        (true, true) => '3',
-    }
-}
-
-fn first_of(cell: &Cell) -> char {
-    match cell.chars().as_slice() {
-        [] => '~',
-        [first, ..] => *first,
-    }
-}
-
-fn reads(row: &[Cell], wanted: &str) -> bool {
-    row.iter().map(|cell| first_of(cell)).eq(wanted.chars())
-}
-
 // Whether a row is that of a line, `|text|pens|`.
 fn is_row(cells: &[Cell], line: &str) -> bool {
-    let mut parts = line.split('|').skip(1);
-    matches!(parts.next(), Some(text) if reads(cells, text))
-        && matches!(parts.next(), Some(pens) if cells.iter().map(|cell| sign_of(cell)).eq(pens.chars()))
+    let [_, text, pens, ..] = parts_of(line, '|');
+    looks(cells, text, pens)
 }
 
-fn shows(ring: &Ring, lines: Lines<'_>) -> bool {
-    let mut lines = lines;
+fn shows(ring: &Ring, rows: &str) -> bool {
+    let mut lines = rows.lines();
     for i in 0..ring.rows() {
-        if !matches!(lines.next(), Some(line) if is_row(ring.row(i), line)) {
+        if !is_row(ring.row(i), lines.next().unwrap_or("")) {
             return false;
         }
     }
@@ -591,81 +549,66 @@ fn shows(ring: &Ring, lines: Lines<'_>) -> bool {
 }
 
 // A case on rows that begin so many rows later in the buffer.
-fn holds(alloc: Global, case: &str, turned: usize) -> Result<bool, AllocError> {
-    let mut lines = case.lines();
-    lines.next();
-    if let Some(line) = lines.next()
-        && let Some((sized, acts)) = line.split_once(": ")
-        && let Some((rows, cols)) = sized.split_once(' ')
-        && let Ok(rows) = rows.parse::<u16>()
-        && let Ok(cols) = cols.parse::<u16>()
-    {
-        let mut ring = made(alloc, rows, cols)?;
-        ring.scroll_up(turned);
-        return Ok(play(alloc, &mut ring, acts)? && shows(&ring, lines));
-    }
-    Ok(false)
+fn plays(alloc: Global, ring: &mut Ring, turned: usize, acts: &str, rows: &str) -> bool {
+    ring.scroll_up(turned);
+    play(alloc, ring, acts) && shows(ring, rows)
 }
 
-// The first case that doesn't hold, on rows as they are made or on rows that begin later in the buffer.
-fn first_wrong<'a>(alloc: Global, cases: &'a str) -> Result<Option<&'a str>, AllocError> {
-    for case in cases.split("\n\n") {
-        for turned in 0..2usize {
-            if !holds(alloc, case, turned)? {
-                return Ok(Some(case));
-            }
-        }
-    }
-    Ok(None)
-}
-
-#[test]
-fn acts_leave_their_rows(rt: HostRuntime) -> Result<(), Fail> {
-    assert_eq!(rt; first_wrong(rt.alloc(), CASES)?, None);
-    Ok(())
-}
-
-// The length of the columns of the first row that are in use, and what is done: no contract tells that, and scrolls and erasures cost it.
-const FRONTS: &str = "\
-0: up 0
-2: put 0 0 0 ab
-5: put 0 3 0 \u{4E2D}
-4: run 0 1 0 abc, put 0 0 0 x
-3: run 0 0 0 abcdefgh, erase 0 3 8
-8: run 0 0 0 abcdefgh, erase 0 3 6
-3: run 0 0 0 abc, erase-unguarded 0 0 8
-5: run 0 0 0 abc, insert 0 1 2
-3: run 0 0 0 abc, insert 0 3 2
-1: run 0 0 0 abc, delete 0 0 2
-6: run 0 0 0 abc, join 0 5 \u{301}
-3: run 1 0 0 abc, up 1
-0: run 0 0 0 abcdefgh, region-up 0 1 1
-5: run 0 0 0 abcdefgh, size 3 5 0";
-
-fn is_front(alloc: Global, line: &str) -> Result<bool, AllocError> {
-    let Some((wanted, acts)) = line.split_once(": ") else {
-        return Ok(false);
+fn is_played(alloc: Global, size: &str, turned: usize, acts: &str, rows: &str) -> bool {
+    let Some((2, height, width, _, _)) = numbers(size) else {
+        return false;
     };
-    let mut ring = Ring::new(alloc, 2, 8)?;
-    let played = play(alloc, &mut ring, acts)?;
-    Ok(played && 0 < ring.rows() && number(wanted) == Some(ring.front_of_row(0).len()))
+    match made(alloc, height, width) {
+        Ok(mut ring) => plays(alloc, &mut ring, turned, acts, rows),
+        Err(_) => false,
+    }
+}
+
+// Whether a case holds on rows as they are made, and on rows that begin later in the buffer.
+fn holds(alloc: Global, case: &str) -> bool {
+    let (_, rest) = case.split_once('\n').unwrap_or((case, ""));
+    let (line, rows) = rest.split_once('\n').unwrap_or((rest, ""));
+    let (size, acts) = line.split_once(": ").unwrap_or((line, ""));
+    is_played(alloc, size, 0, acts, rows) && is_played(alloc, size, 1, acts, rows)
 }
 
 #[test]
-fn a_row_is_lent_up_to_where_it_is_written(rt: HostRuntime) -> Result<(), Fail> {
-    for line in FRONTS.lines() {
-        assert!(rt; is_front(rt.alloc(), line)?, "{line}");
+fn acts_leave_their_rows(rt: HostRuntime) {
+    for case in CASES.split("\n\n") {
+        assert!(rt; holds(rt.alloc(), case), "{case}");
     }
-    Ok(())
 }
+
+// What is done to blank rows of 2 by 8: the length of the columns of the first row that are in use then, and what is done. No contract
+// tells that, and scrolls and erasures cost it.
+const FRONTS: &str = "\
+front 0: up 0
+front 2: put 0 0 0 ab
+front 5: put 0 3 0 \u{4E2D}
+front 4: run 0 1 0 abc, put 0 0 0 x
+front 3: run 0 0 0 abcdefgh, erase 0 3 8
+front 8: run 0 0 0 abcdefgh, erase 0 3 6
+front 3: run 0 0 0 abc, erase-unguarded 0 0 8
+front 5: run 0 0 0 abc, insert 0 1 2
+front 3: run 0 0 0 abc, insert 0 3 2
+front 1: run 0 0 0 abc, delete 0 0 2
+front 6: run 0 0 0 abc, join 0 5 \u{301}
+front 3: run 1 0 0 abc, up 1
+front 0: run 0 0 0 abcdefgh, region-up 0 1 1
+front 5: run 0 0 0 abcdefgh, size 3 5 0";
 
 // What is put into a row; a column, and code points that join its character; and what stands in the row's columns then.
 const JOINS: &str = "\
-ab|0|\u{301}|a\u{301}/b
-\u{4E2D}b|1|\u{301}|\u{4E2D}\u{301}//b
-a|0|\u{301}\u{302}\u{303}|a\u{301}\u{302}
-a|0|b|a
-a|7|\u{301}|a/ / / / / / / \u{301}";
+join ab|0|\u{301}|a\u{301}/b
+join \u{4E2D}b|1|\u{301}|\u{4E2D}\u{301}//b
+join a|0|\u{301}\u{302}\u{303}|a\u{301}\u{302}
+join a|0|b|a
+join a|7|\u{301}|a/ / / / / / / \u{301}";
+
+fn is_front(alloc: Global, ring: &mut Ring, line: &str) -> bool {
+    let (wanted, acts) = line.split_once(": ").unwrap_or((line, ""));
+    play(alloc, ring, acts) && 0 < ring.rows() && number(wanted) == Some(ring.front_of_row(0).len())
+}
 
 fn has_cells(row: &[Cell], wanted: &str) -> bool {
     let is_cell = |cell: &Cell, points: &str| cell
@@ -682,36 +625,39 @@ fn has_cells(row: &[Cell], wanted: &str) -> bool {
 }
 
 // Whether code points join so, and all becomes blank after.
-fn joins(alloc: Global, line: &str) -> Result<bool, AllocError> {
-    let mut ring = Ring::new(alloc, 2, 8)?;
-    let mut parts = line.split('|');
-    if let Some(text) = parts.next()
-        && let Some(col) = parts.next()
-        && let Some(col) = number(col)
-        && let Some(points) = parts.next()
-        && let Some(cells) = parts.next()
-    {
-        put(&mut ring, 1, 0, text, 3);
-        let joined = join(&mut ring, 1, col, points)
-            && 1 < ring.rows()
-            && has_cells(ring.row(1), cells);
-        return Ok(
-            joined && blank(&mut ring, "blank", 0, 2) && reads(ring.buffer(), "                "),
-        );
-    }
-    Ok(false)
+fn are_joined(ring: &mut Ring, text: &str, col: usize, points: &str, cells: &str) -> bool {
+    put(ring, 1, 0, text, 3)
+        && join(ring, 1, col, points)
+        && 1 < ring.rows()
+        && has_cells(ring.row(1), cells)
+        && blank(ring, "blank", 0, 2)
+        && reads(ring.buffer(), "                ")
 }
 
-#[test]
-fn code_points_join_the_character_of_a_column(rt: HostRuntime) -> Result<(), Fail> {
-    for line in JOINS.lines() {
-        assert!(rt; joins(rt.alloc(), line)?, "{line}");
+fn joins(ring: &mut Ring, line: &str) -> bool {
+    let [text, col, points, cells, _] = parts_of(line, '|');
+    matches!(number(col), Some(col) if are_joined(ring, text, col, points, cells))
+}
+
+fn is_line(alloc: Global, ring: &mut Ring, line: &str) -> bool {
+    let (word, rest) = line.split_once(' ').unwrap_or((line, ""));
+    match word {
+        "front" => is_front(alloc, ring, rest),
+        "join" => joins(ring, rest),
+        _ => false,
     }
-    Ok(())
+}
+
+fn is_line_on_blank(alloc: Global, line: &str) -> bool {
+    match Ring::new(alloc, 2, 8) {
+        Ok(mut ring) => is_line(alloc, &mut ring, line),
+        Err(_) => false,
+    }
 }
 
 // What is done to three rows, one after the other; where the first row begins then, and the buffer.
 const ROUND: &str = "\
+put 0 0 0 a, put 1 0 0 b, put 2 0 0 c|0|a       b       c       
 up 1|1|        b       c       
 put 2 0 0 d|1|d       b       c       
 up 1|2|d               c       
@@ -721,51 +667,52 @@ down 1|2|
 up 9999|2|                        
 size 3 8 0|0|                        ";
 
-fn goes_round(alloc: Global, ring: &mut Ring, line: &str) -> Result<bool, AllocError> {
-    let mut parts = line.split('|');
-    if let Some(words) = parts.next()
-        && let Some(first) = parts.next()
-        && let Some(buffer) = parts.next()
-    {
-        let played = act(alloc, ring, words)?;
-        return Ok(played && number(first) == Some(ring.first()) && reads(ring.buffer(), buffer));
-    }
-    Ok(false)
-}
-
-#[test]
-fn the_first_row_goes_round(rt: HostRuntime) -> Result<(), Fail> {
-    let mut ring = Ring::new(rt.alloc(), 3, 8)?;
-    assert!(rt;
-        play(
-            rt.alloc(),
-            &mut ring,
-            "put 0 0 0 a, put 1 0 0 b, put 2 0 0 c"
-        )?
-    );
+fn goes_round(alloc: Global, ring: &mut Ring) -> bool {
     for line in ROUND.lines() {
-        assert!(rt; goes_round(rt.alloc(), &mut ring, line)?, "{line}");
+        let [acts, first, buffer, ..] = parts_of(line, '|');
+        let played = play(alloc, ring, acts);
+        if !played || number(first) != Some(ring.first()) || !reads(ring.buffer(), buffer) {
+            return false;
+        }
     }
-    Ok(())
+    true
 }
 
-fn is_made(alloc: Global, rows: u16, cols: u16) -> Result<bool, AllocError> {
-    let size = (rows as usize, cols as usize);
-    if !is_size(rows, cols) {
-        return Ok(false);
+fn three_go_round(alloc: Global) -> bool {
+    match Ring::new(alloc, 3, 8) {
+        Ok(mut ring) => goes_round(alloc, &mut ring),
+        Err(_) => false,
     }
-    let fitted = Fitted::new(alloc, size.0, size.1)?;
-    let ring = Ring::new(alloc, size.0, size.1)?;
-    Ok((fitted.rows(), fitted.cols()) == size && (ring.rows(), ring.cols()) == size)
 }
 
 #[test]
-fn memory_is_made_for_a_size(rt: HostRuntime) -> Result<(), Fail> {
+fn a_row_is_lent_up_to_where_it_is_written(rt: HostRuntime) {
+    for line in FRONTS.lines() {
+        assert!(rt; is_line_on_blank(rt.alloc(), line), "{line}");
+    }
+}
+
+#[test]
+fn code_points_join_and_the_first_row_goes_round(rt: HostRuntime) {
+    for line in JOINS.lines() {
+        assert!(rt; is_line_on_blank(rt.alloc(), line), "{line}");
+    }
+    assert!(rt; three_go_round(rt.alloc()));
+}
+
+// Whether rows, and memory for rows, are made of a size.
+fn is_made(alloc: Global, rows: usize, cols: usize) -> bool {
+    let size = (rows, cols);
+    matches!(fitted(alloc, rows, cols), Some(fitted) if (fitted.rows(), fitted.cols()) == size)
+        && matches!(made(alloc, rows, cols), Ok(ring) if (ring.rows(), ring.cols()) == size)
+}
+
+#[test]
+fn memory_is_made_for_a_size(rt: HostRuntime) {
     for (rows, cols) in [(2, 4), (24, 80), (200, 500)] {
-        assert!(rt; is_made(rt.alloc(), rows, cols)?);
+        assert!(rt; is_made(rt.alloc(), rows, cols), "{rows}");
     }
     laws::rows_of_the_buffer();
     laws::rows_stay_where_all_go_up();
     laws::rows_stay_where_all_go_down();
-    Ok(())
 }

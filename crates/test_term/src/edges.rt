@@ -3,13 +3,15 @@
 //!
 //! A row has the bytes, then the three rows of the screen and its cursor after them, on a screen of 3 by 8 that was full of letters with
 //! the cursor in its first place. Control characters are written as their pictures (U+2400 to U+2421).
-use crate::rows::{bytes_of, text_of};
+use crate::rows::bytes_of;
+use crate::trials::{Trial, stands};
 use roam_term::Term;
 use std::alloc::Global;
 use std::test::*;
 
-/// Motions, at the edges of the screen and of the margins.
-static MOTIONS: &str = r##"␈|abcdefgh|ijklmnop|qrstuvwx|1 1 shown
+// Motions, at the edges of the screen and of the margins; feeds, lines and scrolls, at and outside the margins; edits and erasures within a
+// row and the screen; modes that are set twice and reset twice; saved states, resets and sets.
+const ROWS: &str = r##"␈|abcdefgh|ijklmnop|qrstuvwx|1 1 shown
 ␍|abcdefgh|ijklmnop|qrstuvwx|1 1 shown
 ␛[2;5H␍|abcdefgh|ijklmnop|qrstuvwx|2 1 shown
 ␛[2;3r␛[3;2H␛[9A|abcdefgh|ijklmnop|qrstuvwx|2 2 shown
@@ -38,10 +40,7 @@ static MOTIONS: &str = r##"␈|abcdefgh|ijklmnop|qrstuvwx|1 1 shown
 ␛[1;4H␛H␛[1;6H␛[9Z|abcdefgh|ijklmnop|qrstuvwx|1 1 shown
 ␛[1;4H␛H␛[g␛[H␉|abcdefgh|ijklmnop|qrstuvwx|1 8 shown
 ␛[1;4H␛H␛[3g␛[H␉|abcdefgh|ijklmnop|qrstuvwx|1 8 shown
-"##;
-
-/// Feeds, lines and scrolls, at and outside the margins.
-static SCROLLS: &str = r##"␛[3;5H␊|ijklmnop|qrstuvwx|        |3 5 shown
+␛[3;5H␊|ijklmnop|qrstuvwx|        |3 5 shown
 ␛[2;3H␋|abcdefgh|ijklmnop|qrstuvwx|3 3 shown
 ␛[2;3H␌|abcdefgh|ijklmnop|qrstuvwx|3 3 shown
 ␛[1;2r␛[3;4H␛D|abcdefgh|ijklmnop|qrstuvwx|3 4 shown
@@ -66,10 +65,7 @@ static SCROLLS: &str = r##"␛[3;5H␊|ijklmnop|qrstuvwx|        |3 5 shown
 ␛[2;3r␛#8␛[3;1H␊|EEEEEEEE|EEEEEEEE|        |3 1 shown
 ␛[2;3r␛[1;8HX␛[LY|abcdefgY|ijklmnop|qrstuvwx|1 8 shown
 ␛[2;3r␛[1;8HX␛[MY|abcdefgY|ijklmnop|qrstuvwx|1 8 shown
-"##;
-
-/// Edits and erasures within a row and the screen.
-static EDITS: &str = r##"␛[1;8H␛[9@|abcdefg |ijklmnop|qrstuvwx|1 8 shown
+␛[1;8H␛[9@|abcdefg |ijklmnop|qrstuvwx|1 8 shown
 ␛[1;7H␛[@|abcdef g|ijklmnop|qrstuvwx|1 7 shown
 ␛[1;7H␛[9P|abcdef  |ijklmnop|qrstuvwx|1 7 shown
 ␛[P|bcdefgh |ijklmnop|qrstuvwx|1 1 shown
@@ -92,10 +88,7 @@ z␛[5z␛[3b|zbcdefgh|ijklmnop|qrstuvwx|1 2 shown
 ␛[3b|abcdefgh|ijklmnop|qrstuvwx|1 1 shown
 ␛[4hZ|Zabcdefg|ijklmnop|qrstuvwx|1 2 shown
 ␛[4h␛[1;8HZ|abcdefgZ|ijklmnop|qrstuvwx|1 8 shown
-"##;
-
-/// Modes that are set twice and reset twice.
-static MODES: &str = r##"␛[4h␛[4hZ␛[4l␛[4lY|ZYbcdefg|ijklmnop|qrstuvwx|1 3 shown
+␛[4h␛[4hZ␛[4l␛[4lY|ZYbcdefg|ijklmnop|qrstuvwx|1 3 shown
 ␛[20h␛[20h␛[1;4H␊|abcdefgh|ijklmnop|qrstuvwx|2 1 shown
 ␛[20h␛[20l␛[20l␛[1;4H␊|abcdefgh|ijklmnop|qrstuvwx|2 4 shown
 ␛[?1h␛[?1h␛[?1l␛[?1l|abcdefgh|ijklmnop|qrstuvwx|1 1 shown
@@ -121,10 +114,7 @@ static MODES: &str = r##"␛[4h␛[4hZ␛[4l␛[4lY|ZYbcdefg|ijklmnop|qrstuvwx|1
 ␛[2;3H␛[?1049h␛[Hxyz␛[?1049l|abcdefgh|ijklmnop|qrstuvwx|2 3 shown
 ␛[?1049hZ␛[?1049h|Z       |        |        |1 2 shown
 ␛[2;3H␛[?1049l|abcdefgh|ijklmnop|qrstuvwx|2 3 shown
-"##;
-
-/// Saved states, resets and sets.
-static STATES: &str = r##"␛[2;3H␛8|abcdefgh|ijklmnop|qrstuvwx|1 1 shown
+␛[2;3H␛8|abcdefgh|ijklmnop|qrstuvwx|1 1 shown
 ␛[2;3H␛7␛[H␛8|abcdefgh|ijklmnop|qrstuvwx|2 3 shown
 ␛[2;3H␛7␛[?47h␛8|        |        |        |1 1 shown
 ␛[2;3H␛7␛[?47h␛[3;5H␛7␛[?47l␛8|abcdefgh|ijklmnop|qrstuvwx|2 3 shown
@@ -145,74 +135,47 @@ static STATES: &str = r##"␛[2;3H␛8|abcdefgh|ijklmnop|qrstuvwx|1 1 shown
 ␛(A#␛(B#|£#cdefgh|ijklmnop|qrstuvwx|1 3 shown
 ␛(0_␛(B_| _cdefgh|ijklmnop|qrstuvwx|1 3 shown
 ␇␀␚␡|abcdefgh|ijklmnop|qrstuvwx|1 1 shown
-␛[38;5mZ|Zbcdefgh|ijklmnop|qrstuvwx|1 2 shown
-"##;
+␛[38;5mZ|Zbcdefgh|ijklmnop|qrstuvwx|1 2 shown"##;
 
-fn full(alloc: Global) -> Result<Term, Fail> {
-    let mut term = Term::new(alloc, 3, 8, 0)?;
-    term.feed(b"abcdefghijklmnopqrstuvwx\x1B[H")?;
-    Ok(term)
-}
-
-// The text of the screen after some bytes, in pieces of a size but for the first.
-fn text_after(alloc: Global, bytes: &[u8], first: usize, size: usize) -> Result<String, Fail> {
-    let mut term = full(alloc)?;
-    let (begin, rest) = bytes.split_at(first.min(bytes.len()));
-    term.feed(begin)?;
-    for piece in rest.chunks(size.max(1)) {
-        term.feed(piece)?;
-    }
-    text_of(alloc, &term)
-}
-
-fn is_so(alloc: Global, row: &str) -> Result<bool, Fail> {
-    let Some((spelled, wanted)) = row.split_once('|') else {
-        return Ok(false);
-    };
-    let bytes = bytes_of(alloc, spelled)?;
-    let mut so = text_after(alloc, bytes.as_bytes(), 0, 1)?.as_str() == wanted;
-    for first in 0..bytes.len() {
-        so = so && text_after(alloc, bytes.as_bytes(), first, 1024)?.as_str() == wanted;
-    }
-    Ok(so)
-}
-
-// The first row of a table that isn't so.
-fn wrong<'a>(alloc: Global, table: &'a str) -> Result<Option<&'a str>, Fail> {
-    for row in table.lines() {
-        if !is_so(alloc, row)? {
-            return Ok(Some(row));
+fn feed_pieces(term: &mut Term, bytes: &[u8], size: usize) -> bool {
+    for piece in bytes.chunks(size.max(1)) {
+        if term.feed(piece).is_err() {
+            return false;
         }
     }
-    Ok(None)
+    true
+}
+
+/// Whether letters for every cell are taken, and then bytes in two parts, each in pieces of a size.
+pub fn feeds(term: &mut Term, first: &[u8], rest: &[u8], size: usize) -> bool {
+    term.feed(b"abcdefghijklmnopqrstuvwx\x1B[H").is_ok()
+        && feed_pieces(term, first, size)
+        && feed_pieces(term, rest, size)
+}
+
+fn leave_cut_at(alloc: Global, bytes: &[u8], place: usize, wanted: &str) -> bool {
+    let (first, rest) = bytes.split_at(place.min(bytes.len()));
+    stands(alloc, 3, 8, 0, Trial::Pieces(first, rest, 1024, wanted))
+}
+
+// Whether bytes leave a screen, byte by byte, whole, and cut at each place.
+fn leave(alloc: Global, bytes: &[u8], wanted: &str) -> bool {
+    for place in 0..bytes.len() {
+        if !leave_cut_at(alloc, bytes, place, wanted) {
+            return false;
+        }
+    }
+    stands(alloc, 3, 8, 0, Trial::Pieces(bytes, b"", 1, wanted))
+}
+
+fn holds(alloc: Global, row: &str) -> bool {
+    let (spelled, wanted) = row.split_once('|').unwrap_or((row, ""));
+    matches!(bytes_of(alloc, spelled), Ok(bytes) if leave(alloc, bytes.as_bytes(), wanted))
 }
 
 #[test]
-fn motions(rt: HostRuntime) -> Result<(), Fail> {
-    assert_eq!(rt; wrong(rt.alloc(), MOTIONS)?, None);
-    Ok(())
-}
-
-#[test]
-fn feeds_lines_and_scrolls(rt: HostRuntime) -> Result<(), Fail> {
-    assert_eq!(rt; wrong(rt.alloc(), SCROLLS)?, None);
-    Ok(())
-}
-
-#[test]
-fn edits_and_erasures(rt: HostRuntime) -> Result<(), Fail> {
-    assert_eq!(rt; wrong(rt.alloc(), EDITS)?, None);
-    Ok(())
-}
-
-#[test]
-fn modes_twice(rt: HostRuntime) -> Result<(), Fail> {
-    assert_eq!(rt; wrong(rt.alloc(), MODES)?, None);
-    Ok(())
-}
-
-#[test]
-fn saved_states_resets_and_sets(rt: HostRuntime) -> Result<(), Fail> {
-    assert_eq!(rt; wrong(rt.alloc(), STATES)?, None);
-    Ok(())
+fn rows_of_the_profile(rt: HostRuntime) {
+    for row in ROWS.lines() {
+        assert!(rt; holds(rt.alloc(), row), "{row}");
+    }
 }

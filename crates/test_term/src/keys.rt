@@ -1,8 +1,8 @@
 //! Keys: what each kind sends under the modes of a terminal, and a queue that is full.
+use crate::trials::{Trial, stands};
 use roam_acts::{Act, Key, read_act};
 use roam_cells::Fault;
 use roam_term::Term;
-use std::alloc::Global;
 use std::test::*;
 
 // What was read before, the act, and the bytes that its key sends then; a bar ends each.
@@ -24,61 +24,26 @@ const SENT: &str = "\
 |key backspace|\x7F|
 \x1B[20h\x1B=\x1B[?1h|char 4e2d|\u{4E2D}";
 
-fn key_of(line: &str) -> Option<Key> {
-    match read_act(line.as_bytes()) {
-        Ok(Act::Key(key)) => Some(key),
-        _ => None,
-    }
-}
-
 fn is_waiting(term: &mut Term, sent: &str) -> bool {
     let mut out = [0; 8];
     let count = term.copy_output(&mut out);
     &out[..count] == sent.as_bytes()
 }
 
-fn sends_after(term: &mut Term, before: &str, key: Key, sent: &str) -> Result<bool, Fault> {
-    term.feed(before.as_bytes())?;
-    term.key(&key)?;
-    Ok(is_waiting(term, sent))
-}
-
-fn sends(alloc: Global, before: &str, key: Key, sent: &str) -> Result<bool, Fault> {
-    let mut term = Term::new(alloc, 2, 8, 0)?;
-    sends_after(&mut term, before, key, sent)
-}
-
-fn holds(alloc: Global, case: &str) -> Result<bool, Fault> {
-    if let Some((before, rest)) = case.split_once('|')
-        && let Some((line, sent)) = rest.split_once('|')
-        && let Some(key) = key_of(line)
-    {
-        return sends(alloc, before, key, sent);
+/// Whether a case holds of a terminal.
+pub fn sends(term: &mut Term, case: &str) -> bool {
+    let (before, rest) = case.split_once('|').unwrap_or((case, ""));
+    let (line, sent) = rest.split_once('|').unwrap_or((rest, ""));
+    match read_act(line.as_bytes()) {
+        Ok(Act::Key(key)) => term.feed(before.as_bytes()).is_ok()
+            && term.key(&key).is_ok()
+            && is_waiting(term, sent),
+        _ => false,
     }
-    Ok(false)
 }
 
-#[test]
-fn keys_under_their_modes(rt: HostRuntime) -> Result<(), Fail> {
-    for case in SENT.split("|\n") {
-        assert!(rt; holds(rt.alloc(), case)?, "{case:?}");
-    }
-    Ok(())
-}
-
-// Five bytes each, up to the last but one of the queue.
-#[test]
-fn a_key_that_does_not_fit_is_refused(rt: HostRuntime) -> Result<(), Fail> {
-    assert!(rt; is_refused_when_full(rt.alloc())?);
-    Ok(())
-}
-
-fn is_refused_when_full(alloc: Global) -> Result<bool, Fault> {
-    let mut term = Term::new(alloc, 2, 8, 0)?;
-    Ok(is_filled(&mut term))
-}
-
-fn is_filled(term: &mut Term) -> bool {
+/// Whether a key that doesn't fit is refused: five bytes each, up to the last but one of the queue.
+pub fn is_filled(term: &mut Term) -> bool {
     let mut taken = true;
     for _ in 0..13_107 {
         taken = taken && term.key(&Key::F20) == Ok(());
@@ -89,4 +54,12 @@ fn is_filled(term: &mut Term) -> bool {
         && term.key(&Key::Char('a')) == Ok(())
         && term.key(&Key::Char('a')) == Err(Fault::Busy)
         && term.output_len() == 65_536
+}
+
+#[test]
+fn keys_under_their_modes_and_in_a_full_queue(rt: HostRuntime) {
+    for case in SENT.split("|\n") {
+        assert!(rt; stands(rt.alloc(), 2, 8, 0, Trial::Sent(case)), "{case:?}");
+    }
+    assert!(rt; stands(rt.alloc(), 2, 8, 0, Trial::FullQueue));
 }

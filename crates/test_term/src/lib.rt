@@ -1,5 +1,5 @@
-//! Tests of the terminal by its public calls alone: keys, the history, views and sizes, and the profile's control functions at edges, at
-//! margins and with a pending wrap. Pieces and the queue of answers stand with the program.
+//! Tests of the terminal by its public calls alone: keys, pieces and the queue of answers, the history, views and sizes, and the profile's
+//! control functions at edges, at margins and with a pending wrap.
 //!
 //! They lie here and not beside the code, since a crate with tests is proved twice by the gate.
 #![tactic(auto)]
@@ -9,13 +9,15 @@ mod edges;
 #[cfg(test)]
 mod keys;
 #[cfg(test)]
-mod pairs;
+mod pieces;
 #[cfg(test)]
 mod rows;
 #[cfg(test)]
 mod scrollback;
 #[cfg(test)]
 mod sizes;
+#[cfg(test)]
+mod trials;
 #[cfg(test)]
 mod uses;
 #[cfg(test)]

@@ -1,7 +1,8 @@
 //! How rows of tables are written and read.
+use roam_cells::Fault;
+use roam_screens::Shot;
 use roam_term::Term;
 use std::alloc::Global;
-use std::test::*;
 
 // The character of a control picture; any other character is itself.
 fn character_of(c: char) -> char {
@@ -13,7 +14,7 @@ fn character_of(c: char) -> char {
 }
 
 /// The bytes of a text with pictures of control characters.
-pub fn bytes_of(alloc: Global, spelled: &str) -> Result<String, Fail> {
+pub fn bytes_of(alloc: Global, spelled: &str) -> Result<String, Fault> {
     let mut bytes = String::new(alloc);
     for c in spelled.chars() {
         bytes.push(character_of(c))?;
@@ -21,26 +22,45 @@ pub fn bytes_of(alloc: Global, spelled: &str) -> Result<String, Fail> {
     Ok(bytes)
 }
 
-/// The rows of a screen, each with a line behind it, then row and column of the cursor from 1 and whether it is shown.
-pub fn text_of(alloc: Global, term: &Term) -> Result<String, Fail> {
-    let shot = term.shot(alloc, 0)?;
-    let mut text = String::new(alloc);
-    for row in 0..shot.rows() {
-        for c in shot.row_text(alloc, row)? {
-            text.push(c)?;
-        }
-        text.push('|')?;
+/// The numbers of a text such as `2 8`.
+pub fn pair(text: &str) -> Option<(u16, u16)> {
+    let (first, second) = text.split_once(' ')?;
+    match (first.parse::<u16>(), second.parse::<u16>()) {
+        (Ok(first), Ok(second)) => Some((first, second)),
+        _ => None,
     }
-    let (row, col) = shot.cursor();
-    let seen = if shot.visible() { "shown" } else { "hidden" };
-    write!(text, "{row} {col} {seen}")?;
-    Ok(text)
 }
 
-/// Row and column of the cursor, from 1.
-pub fn cursor_of(alloc: Global, term: &Term) -> Result<String, Fail> {
-    let (row, col) = term.shot(alloc, 0)?.cursor();
-    let mut text = String::new(alloc);
-    write!(text, "{row} {col}")?;
-    Ok(text)
+// Whether the cursor is that of a text such as `2 8 shown`.
+fn is_cursor(shot: &Shot, text: &str) -> bool {
+    let (place, state) = text.rsplit_once(' ').unwrap_or((text, ""));
+    let wanted = if shot.visible() { "shown" } else { "hidden" };
+    pair(place) == Some(shot.cursor()) && state == wanted
+}
+
+// Whether a screen is that of a text: its rows, each with a bar behind it, and then its cursor.
+fn is_shown(alloc: Global, shot: &Shot, wanted: &str) -> Result<bool, Fault> {
+    let mut parts = wanted.split('|');
+    let mut same = true;
+    for row in 0..shot.rows() {
+        let text = shot.row_text(alloc, row)?;
+        same = same && text.iter().copied().eq(parts.next().unwrap_or("").chars());
+    }
+    Ok(same && is_cursor(shot, parts.next().unwrap_or("")) && parts.next().is_none())
+}
+
+/// Whether a view shows the screen of a text; refuses want of memory.
+pub fn shown(alloc: Global, term: &Term, view: u16, wanted: &str) -> Result<bool, Fault> {
+    let shot = term.shot(alloc, view)?;
+    is_shown(alloc, &shot, wanted)
+}
+
+/// Whether a view shows the screen of a text.
+pub fn shows(alloc: Global, term: &Term, view: u16, wanted: &str) -> bool {
+    shown(alloc, term, view, wanted) == Ok(true)
+}
+
+/// Whether the cursor is at a place such as `2 8`.
+pub fn is_at(alloc: Global, term: &Term, wanted: &str) -> bool {
+    matches!(term.shot(alloc, 0), Ok(shot) if pair(wanted) == Some(shot.cursor()))
 }

@@ -1,5 +1,7 @@
 //! Sizes from each to each: which rows leave, what is cut, where the cursor goes, on the main and on the alternate screen.
+use crate::trials::{Trial, stands};
 use roam_cells::Fault;
+use roam_screens::Shot;
 use roam_term::Term;
 use std::alloc::Global;
 use std::test::*;
@@ -8,7 +10,7 @@ static SIZES: [(u16, u16); 6] = [(2, 4), (2, 8), (3, 5), (4, 8), (5, 12), (4, 4)
 
 /// A size, the next one, the cursor's row in the first, from 0, and the screen.
 #[derive(Clone, Copy)]
-struct Case {
+pub struct Case {
     old: (u16, u16),
     new: (u16, u16),
     row: u16,
@@ -48,7 +50,7 @@ impl Case {
 }
 
 // A control sequence of one number.
-fn control(alloc: Global, term: &mut Term, number: u16, end: &[u8]) -> Result<(), Fail> {
+fn control(alloc: Global, term: &mut Term, number: u16, end: &[u8]) -> Result<(), Fault> {
     let start = format!(in alloc; "\x1B[{number}")?;
     term.feed(start.as_bytes())?;
     term.feed(end)?;
@@ -56,7 +58,7 @@ fn control(alloc: Global, term: &mut Term, number: u16, end: &[u8]) -> Result<()
 }
 
 // A row's letter, and where columns are cut a wide character across the edge.
-fn lay_row(alloc: Global, term: &mut Term, case: &Case, row: u16) -> Result<(), Fail> {
+fn lay_row(alloc: Global, term: &mut Term, case: &Case, row: u16) -> Result<(), Fault> {
     control(alloc, term, row.saturating_add(1), b"H")?;
     term.feed(&[case.letter(row)])?;
     if case.new.1 < case.old.1 {
@@ -72,7 +74,7 @@ fn lay_row(alloc: Global, term: &mut Term, case: &Case, row: u16) -> Result<(), 
 }
 
 // Each row; then the cursor in its row.
-fn lay(alloc: Global, term: &mut Term, case: Case) -> Result<(), Fail> {
+fn lay(alloc: Global, term: &mut Term, case: Case) -> Result<(), Fault> {
     if case.alternate {
         term.feed(b"\x1B[?1047h")?;
     }
@@ -87,68 +89,55 @@ fn has(row: &[char], letter: u8) -> bool {
     row.first() == Some(&(letter as char)) && row.iter().skip(1).all(|c| *c == ' ')
 }
 
-// The screen of a view whose first row is this row of the old screen.
-fn shows(alloc: Global, term: &Term, case: Case, view: u16, first: u16) -> Result<bool, Fault> {
-    let shot = term.shot(alloc, view)?;
-    let mut same = (shot.rows(), shot.cols()) == case.new;
+// Whether a screen's first row is this row of the old screen, and the others follow.
+fn has_rows(alloc: Global, shot: &Shot, case: Case, first: u16) -> bool {
     for row in 0..shot.rows() {
-        let text = shot.row_text(alloc, row)?;
-        same = same && has(&text, case.letter(first.saturating_add(row)));
+        let letter = case.letter(first.saturating_add(row));
+        if !matches!(shot.row_text(alloc, row), Ok(text) if has(&text, letter)) {
+            return false;
+        }
     }
-    Ok(same)
+    (shot.rows(), shot.cols()) == case.new
+}
+
+fn shows(alloc: Global, term: &Term, case: Case, view: u16, first: u16) -> bool {
+    matches!(term.shot(alloc, view), Ok(shot) if has_rows(alloc, &shot, case, first))
 }
 
 // The cursor's row, from 1, and whether it is visible.
-fn cursor_is(
-    alloc: Global,
-    term: &Term,
-    view: u16,
-    row: u16,
-    visible: bool,
-) -> Result<bool, Fault> {
-    let shot = term.shot(alloc, view)?;
-    Ok(shot.cursor() == (row, 1) && shot.visible() == visible)
+fn cursor_is(alloc: Global, term: &Term, view: u16, row: u16, visible: bool) -> bool {
+    matches!(term.shot(alloc, view), Ok(shot) if shot.cursor() == (row, 1) && shot.visible() == visible)
 }
 
 // The screen after the new size, and its cursor.
-fn shows_the_screen(alloc: Global, term: &Term, case: Case) -> Result<bool, Fault> {
-    let off = case.leaving();
-    Ok(shows(alloc, term, case, 0, off)? && cursor_is(alloc, term, 0, case.place(), true)?)
+fn shows_the_screen(alloc: Global, term: &Term, case: Case) -> bool {
+    shows(alloc, term, case, 0, case.leaving()) && cursor_is(alloc, term, 0, case.place(), true)
 }
 
 // A view of all that left, and of one row more.
-fn shows_what_left(alloc: Global, term: &Term, case: Case) -> Result<bool, Fault> {
+fn shows_what_left(alloc: Global, term: &Term, case: Case) -> bool {
     let off = case.leaving();
     let first = off.saturating_sub(case.kept());
-    Ok(
-        shows(alloc, term, case, off, first)?
-            && shows(alloc, term, case, off.saturating_add(1), first)?,
-    )
+    shows(alloc, term, case, off, first) && shows(alloc, term, case, off.saturating_add(1), first)
 }
 
 // The cursor in the view of all that left.
-fn moves_the_cursor(alloc: Global, term: &Term, case: Case) -> Result<bool, Fault> {
+fn moves_the_cursor(alloc: Global, term: &Term, case: Case) -> bool {
     let below = case.place().saturating_add(case.kept());
     let row = below.min(case.new.0);
     cursor_is(alloc, term, case.leaving(), row, below <= case.new.0)
 }
 
-fn takes_its_size(alloc: Global, term: &mut Term, case: Case) -> Result<bool, Fail> {
-    lay(alloc, term, case)?;
-    term.resize(alloc, case.new.0, case.new.1)?;
-    Ok(
-        shows_the_screen(alloc, term, case)?
-            && shows_what_left(alloc, term, case)?
-            && moves_the_cursor(alloc, term, case)?,
-    )
+/// Whether a terminal that is laid out takes the size.
+pub fn takes_its_size(alloc: Global, term: &mut Term, case: Case) -> bool {
+    lay(alloc, term, case).is_ok()
+        && term.resize(alloc, case.new.0, case.new.1).is_ok()
+        && shows_the_screen(alloc, term, case)
+        && shows_what_left(alloc, term, case)
+        && moves_the_cursor(alloc, term, case)
 }
 
-fn holds(alloc: Global, case: Case) -> Result<bool, Fail> {
-    let mut term = Term::new(alloc, case.old.0, case.old.1, 500)?;
-    takes_its_size(alloc, &mut term, case)
-}
-
-fn each_to(alloc: Global, old: (u16, u16), new: (u16, u16), alternate: bool) -> Result<bool, Fail> {
+fn each_row(alloc: Global, old: (u16, u16), new: (u16, u16), alternate: bool) -> bool {
     for row in 0..old.0 {
         let case = Case {
             old,
@@ -156,26 +145,25 @@ fn each_to(alloc: Global, old: (u16, u16), new: (u16, u16), alternate: bool) -> 
             row,
             alternate,
         };
-        if !holds(alloc, case)? {
-            return Ok(false);
+        if !stands(alloc, old.0, old.1, 500, Trial::Size(case)) {
+            return false;
         }
     }
-    Ok(true)
+    true
 }
 
-fn each_from(alloc: Global, old: (u16, u16)) -> Result<bool, Fail> {
+fn each_from(alloc: Global, old: (u16, u16)) -> bool {
     for new in SIZES.iter() {
-        if !each_to(alloc, old, *new, false)? || !each_to(alloc, old, *new, true)? {
-            return Ok(false);
+        if !each_row(alloc, old, *new, false) || !each_row(alloc, old, *new, true) {
+            return false;
         }
     }
-    Ok(true)
+    true
 }
 
 #[test]
-fn from_each_size_to_each(rt: HostRuntime) -> Result<(), Fail> {
+fn from_each_size_to_each(rt: HostRuntime) {
     for old in SIZES.iter() {
-        assert!(rt; each_from(rt.alloc(), *old)?);
+        assert!(rt; each_from(rt.alloc(), *old));
     }
-    Ok(())
 }

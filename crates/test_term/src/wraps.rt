@@ -2,13 +2,14 @@
 //!
 //! A row has bytes and the cursor that shows their effect: on a screen of 3 by 8 an X is written in the last column of the first row, then
 //! the bytes, then a Y. Where the wrap still pends, Y goes to the second row. Control characters are written as their pictures.
-use crate::rows::{bytes_of, cursor_of};
+use crate::rows::{bytes_of, is_at};
+use crate::trials::{Trial, stands};
 use roam_term::Term;
 use std::alloc::Global;
 use std::test::*;
 
-/// Motions, feeds and edits clear it.
-static CLEARS_BY_MOVES: &str = r##"␈|1 8
+// Motions, feeds and edits clear it; so do erasures, accepted margins, some modes, another screen, and resets.
+const CLEARS: &str = r##"␈|1 8
 ␉|1 8
 ␍|1 2
 ␊|2 8
@@ -37,10 +38,7 @@ static CLEARS_BY_MOVES: &str = r##"␈|1 8
 ␛[X|1 8
 ␛[L|1 2
 ␛[M|1 2
-"##;
-
-/// So do erasures, accepted margins, some modes, another screen, and resets.
-static CLEARS: &str = r##"␛[J|1 8
+␛[J|1 8
 ␛[1J|1 8
 ␛[2J|1 8
 ␛[K|1 8
@@ -56,11 +54,10 @@ static CLEARS: &str = r##"␛[J|1 8
 ␛[?1047h|1 8
 ␛[?1049h|1 8
 ␛#8|1 2
-␛c|1 2
-"##;
+␛c|1 2"##;
 
-/// All else leaves it.
-static LEAVES: &str = r##"␀|2 2
+// All else leaves it; so do shifts, what is refused or isn't listed, strings, and a state that is restored with it; REP carries it out.
+const LEAVES: &str = r##"␀|2 2
 ␇|2 2
 ␎␏|2 2
 ␚|2 2
@@ -89,10 +86,7 @@ static LEAVES: &str = r##"␀|2 2
 ␛=|2 2
 ␛>|2 2
 ␛(B|2 2
-"##;
-
-/// So do shifts, what is refused or isn't listed, strings, and a state that is restored with it; REP carries it out.
-static LEAVES_UNLISTED: &str = r##"␛n|2 2
+␛n|2 2
 ␛o|2 2
 ␛N|2 2
 ␛O|2 2
@@ -105,40 +99,27 @@ static LEAVES_UNLISTED: &str = r##"␛n|2 2
 ␛7␍␛8|2 2
 ␛]0;x␇|2 2
 ␛X␛\|2 2
-␛[b|2 3
-"##;
+␛[b|2 3"##;
 
-fn is_so(alloc: Global, row: &str) -> Result<bool, Fail> {
-    let Some((spelled, wanted)) = row.split_once('|') else {
-        return Ok(false);
-    };
-    let mut term = Term::new(alloc, 3, 8, 0)?;
-    term.feed(b"\x1B[1;8HX")?;
-    term.feed(bytes_of(alloc, spelled)?.as_bytes())?;
-    term.feed(b"Y")?;
-    Ok(cursor_of(alloc, &term)?.as_str() == wanted)
+/// Whether the cursor is there after an X in the last column, some bytes, and a Y.
+pub fn leaves_cursor(alloc: Global, term: &mut Term, bytes: &[u8], wanted: &str) -> bool {
+    term.feed(b"\x1B[1;8HX").is_ok()
+        && term.feed(bytes).is_ok()
+        && term.feed(b"Y").is_ok()
+        && is_at(alloc, term, wanted)
 }
 
-// The first row of a table that isn't so.
-fn wrong<'a>(alloc: Global, table: &'a str) -> Result<Option<&'a str>, Fail> {
-    for row in table.lines() {
-        if !is_so(alloc, row)? {
-            return Ok(Some(row));
-        }
+fn holds(alloc: Global, row: &str) -> bool {
+    let (spelled, wanted) = row.split_once('|').unwrap_or((row, ""));
+    matches!(bytes_of(alloc, spelled), Ok(bytes) if stands(alloc, 3, 8, 0, Trial::Wrap(bytes.as_bytes(), wanted)))
+}
+
+#[test]
+fn what_clears_and_what_leaves_a_pending_wrap(rt: HostRuntime) {
+    for row in CLEARS.lines() {
+        assert!(rt; holds(rt.alloc(), row), "{row}");
     }
-    Ok(None)
-}
-
-#[test]
-fn what_clears_a_pending_wrap(rt: HostRuntime) -> Result<(), Fail> {
-    assert_eq!(rt; wrong(rt.alloc(), CLEARS_BY_MOVES)?, None);
-    assert_eq!(rt; wrong(rt.alloc(), CLEARS)?, None);
-    Ok(())
-}
-
-#[test]
-fn what_leaves_a_pending_wrap(rt: HostRuntime) -> Result<(), Fail> {
-    assert_eq!(rt; wrong(rt.alloc(), LEAVES)?, None);
-    assert_eq!(rt; wrong(rt.alloc(), LEAVES_UNLISTED)?, None);
-    Ok(())
+    for row in LEAVES.lines() {
+        assert!(rt; holds(rt.alloc(), row), "{row}");
+    }
 }

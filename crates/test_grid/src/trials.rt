@@ -1,0 +1,50 @@
+//! What is tried of a grid, which is made here alone: a function that owns one is dear to prove.
+use crate::cases::shows_after;
+use crate::edges::{goes_round_by_fives, takes_or_refuses};
+use crate::grids::{goes_round, is_made, leave_so};
+use crate::marks::{are_all_after, begins_marked, marks_so};
+use roam_grid::Grid;
+use std::alloc::Global;
+
+#[derive(Clone, Copy)]
+pub enum Trial<'a> {
+    /// What is done before, what is done, and what is left.
+    Case(&'a str, &'a str, &'a str),
+    /// What is done before, what is done, and the rows that it marks.
+    Marks(&'a str, &'a str, &'a str),
+    /// A new grid of this size, by its rows, columns, cursor, margins and buffer.
+    Made(usize, usize),
+    BeginsMarked,
+    AllMarks,
+    FirstRow,
+    FirstRowByFives,
+    Leaving,
+    Sizes,
+}
+
+fn tries(alloc: Global, grid: &mut Grid, trial: Trial<'_>) -> bool {
+    match trial {
+        Trial::Case(before, operations, text) => shows_after(alloc, grid, before, operations, text),
+        Trial::Marks(before, operations, marked) => marks_so(
+            alloc, grid, before, operations, marked,
+        ),
+        Trial::Made(rows, cols) => is_made(grid, rows, cols),
+        Trial::BeginsMarked => begins_marked(grid),
+        Trial::AllMarks => are_all_after(alloc, grid),
+        Trial::FirstRow => goes_round(alloc, grid),
+        Trial::FirstRowByFives => goes_round_by_fives(grid),
+        Trial::Leaving => leave_so(alloc, grid),
+        Trial::Sizes => takes_or_refuses(alloc, grid),
+    }
+}
+
+/// Whether a blank grid of a size, whose buffer begins with a later row of the screen, as many rows later as were turned, stands the trial.
+pub fn stands(alloc: Global, size: (usize, usize), turned: usize, trial: Trial<'_>) -> bool {
+    match Grid::new(alloc, size.0, size.1) {
+        Ok(mut grid) => {
+            grid.scroll_up(turned);
+            tries(alloc, &mut grid, trial)
+        }
+        Err(_) => false,
+    }
+}

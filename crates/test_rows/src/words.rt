@@ -1,0 +1,66 @@
+//! How tables are read: the parts of a line, the numbers of a text, and the characters and the pens of cells.
+use roam_cells::Cell;
+
+/// The parts of a line, at most five; those that aren't there are empty.
+pub fn parts_of(line: &str, by: char) -> [&str; 5] {
+    let mut parts = line.split(by);
+    [
+        parts.next().unwrap_or(""),
+        parts.next().unwrap_or(""),
+        parts.next().unwrap_or(""),
+        parts.next().unwrap_or(""),
+        parts.next().unwrap_or(""),
+    ]
+}
+
+/// A number; `max` is the largest.
+pub fn number(word: &str) -> Option<usize> {
+    if word == "max" {
+        return Some(usize::MAX);
+    }
+    word.parse::<usize>().ok()
+}
+
+/// How many numbers a text has with spaces between them, four at most, and these numbers.
+pub fn numbers(words: &str) -> Option<(usize, usize, usize, usize, usize)> {
+    let mut numbers = [0; 4];
+    let mut count = 0;
+    for word in words.split(' ') {
+        let number = number(word)?;
+        if 3 < count {
+            return None;
+        }
+        numbers[count] = number;
+        count += 1;
+    }
+    let [first, second, third, fourth] = numbers;
+    Some((count, first, second, third, fourth))
+}
+
+// The pen of a cell: plain (0), bold (1), guarded (2) or both (3).
+fn pen_of(cell: &Cell) -> char {
+    match (cell.style().bold, cell.guard()) {
+        (false, false) => '0',
+        (true, false) => '1',
+        (false, true) => '2',
+        (true, true) => '3',
+    }
+}
+
+// The first code point of a cell; a right half has none.
+fn first_of(cell: &Cell) -> char {
+    match cell.chars().as_slice() {
+        [] => '~',
+        [first, ..] => *first,
+    }
+}
+
+/// Whether the columns of a row show these characters, a right half as `~`.
+pub fn reads(row: &[Cell], wanted: &str) -> bool {
+    row.iter().map(|cell| first_of(cell)).eq(wanted.chars())
+}
+
+/// Whether they show these characters, each with its pen.
+pub fn looks(row: &[Cell], wanted: &str, pens: &str) -> bool {
+    reads(row, wanted) && row.iter().map(|cell| pen_of(cell)).eq(pens.chars())
+}
