@@ -1,4 +1,4 @@
-//! The words of the command line, read one by one, and acts that make nine panes.
+//! The words of the command line, read one by one.
 use anyhow::{Context, bail};
 use std::env::Args;
 
@@ -16,20 +16,3 @@ pub fn size(words: &mut Args, name: &str) -> anyhow::Result<u16> {
     let number = number(words, name)?;
     u16::try_from(number).ok().context("a size is above 65535")
 }
-
-/// Acts that make nine panes beside and below one another, and give the focus on.
-pub static NINE_PANES: [&str; 13] = [
-    "split right",
-    "split right",
-    "split down",
-    "focus 2",
-    "split down",
-    "split down",
-    "focus 1",
-    "split right",
-    "split down",
-    "focus 1",
-    "split down",
-    "grow 1",
-    "next",
-];

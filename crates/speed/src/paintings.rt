@@ -9,9 +9,6 @@ use std::alloc::Global;
 use std::env::Args;
 use std::time::Instant;
 
-// The bytes that a cell takes in memory.
-const CELL: usize = 20;
-
 // Every place shows a letter, another one with another first letter.
 fn fill(term: &mut Term, rows: u16, cols: u16, first: u8) -> Result<(), Fault> {
     for row in 0..usize::from(rows) {
@@ -23,12 +20,23 @@ fn fill(term: &mut Term, rows: u16, cols: u16, first: u8) -> Result<(), Fault> {
     Ok(())
 }
 
-// A screen of letters after something more was written.
-fn letters(alloc: Global, rows: u16, cols: u16, first: u8, more: &[u8]) -> Result<Shot, Fault> {
-    let mut term = Term::new(alloc, rows, cols, 0)?;
-    fill(&mut term, rows, cols, first)?;
+// What a terminal shows once it is full of letters and something more was written.
+fn write(
+    alloc: Global,
+    term: &mut Term,
+    size: (u16, u16),
+    first: u8,
+    more: &[u8],
+) -> Result<Shot, Fault> {
+    fill(term, size.0, size.1, first)?;
     term.feed(more)?;
     term.shot(alloc, 0)
+}
+
+/// A screen of letters after something more was written.
+pub fn letters(alloc: Global, rows: u16, cols: u16, first: u8, more: &[u8]) -> Result<Shot, Fault> {
+    let mut term = Term::new(alloc, rows, cols, 0)?;
+    write(alloc, &mut term, (rows, cols), first, more)
 }
 
 fn paints(alloc: Global, old: &Shot, new: &Shot, times: u32) -> Result<usize, Fault> {
@@ -54,34 +62,6 @@ fn measure_one(
     Ok(())
 }
 
-// A byte is written before each comparison, so that none of them is left out.
-fn compares(one: &mut [u8], other: &[u8], times: u32) -> u32 {
-    let mut same: u32 = 0;
-    if one.is_empty() || other.is_empty() {
-        return same;
-    }
-    for _ in 0..times {
-        one[0] = other[0];
-        if &*one == other {
-            same = same.wrapping_add(1);
-        }
-    }
-    same
-}
-
-fn measure_compare(rt: &HostRuntime, bytes: usize, times: u32) -> anyhow::Result<()> {
-    let mut one = vec![in rt.alloc(); 1u8; bytes]?;
-    let other = vec![in rt.alloc(); 1u8; bytes]?;
-    let start = Instant::now(rt)?;
-    let same = compares(&mut one, &other, times);
-    let passed = start.elapsed(rt)?.as_micros();
-    if same != times {
-        bail!("the bytes differ");
-    }
-    println!(rt; "compare {bytes} {times} {passed}")?;
-    Ok(())
-}
-
 /// Paints a key.
 pub fn try_once(alloc: Global) -> anyhow::Result<()> {
     let old = letters(alloc, 24, 80, 0, b"")?;
@@ -95,7 +75,6 @@ pub fn try_once(alloc: Global) -> anyhow::Result<()> {
 fn measure_all(rt: &HostRuntime, rows: u16, cols: u16, times: u32) -> anyhow::Result<()> {
     let alloc = rt.alloc();
     let old = letters(alloc, rows, cols, 0, b"")?;
-    measure_compare(rt, CELL * old.cells().len(), times)?;
     measure_one(rt, "unchanged", &old, &old, times)?;
     let key = letters(alloc, rows, cols, 0, b"\x1B[5;5H!")?;
     measure_one(rt, "key", &old, &key, times)?;

@@ -88,9 +88,10 @@ fn server_of(alloc: Global, rows: u16, cols: u16, starts: u64) -> Result<Server,
     Ok(server)
 }
 
-fn pair_of(alloc: Global, rows: u16, cols: u16) -> Result<Pair, Fault> {
-    let mut server = server_of(alloc, rows, cols, 0)?;
-    let client = greeted(alloc, &mut server, 1)?;
+// A server that knows so many client starts, of which the last is kept.
+fn pair_of(alloc: Global, rows: u16, cols: u16, starts: u64) -> Result<Pair, Fault> {
+    let mut server = server_of(alloc, rows, cols, starts.saturating_sub(1))?;
+    let client = greeted(alloc, &mut server, starts)?;
     Ok(Pair {
         server,
         client,
@@ -151,78 +152,58 @@ fn rounds(
     Ok((passed, bytes))
 }
 
-fn report(rt: &HostRuntime, name: &str, times: u32, passed: u128, sum: u64) -> anyhow::Result<()> {
-    println!(rt; "{name} {times} {passed} {sum}")?;
-    Ok(())
+/// What is measured of a pair.
+#[derive(Clone, Copy)]
+enum What {
+    /// Copies of the face.
+    Copy,
+    /// Ticks without input.
+    Idle,
+    /// Rounds after these pieces by turns.
+    Rounds(&'static [&'static [u8]; 2]),
 }
 
-fn time_idle(rt: &HostRuntime, name: &str, server: &mut Server, times: u32) -> anyhow::Result<()> {
-    let start = Instant::now(rt)?;
-    let sum = idle_ticks(rt.alloc(), server, times)?;
-    report(rt, name, times, start.elapsed(rt)?.as_nanos(), sum)
-}
-
-fn measure_idle(
-    rt: &HostRuntime,
-    name: &str,
-    rows: u16,
-    cols: u16,
-    starts: u64,
-    times: u32,
-) -> anyhow::Result<()> {
-    let mut server = server_of(rt.alloc(), rows, cols, starts)?;
-    time_idle(rt, name, &mut server, times)
-}
-
-fn time_copies(rt: &HostRuntime, shot: &RowShot, times: u32) -> anyhow::Result<()> {
+fn measure_copies(rt: &HostRuntime, shot: &RowShot, times: u32) -> anyhow::Result<(u128, u64)> {
     let start = Instant::now(rt)?;
     let sum = copies(rt.alloc(), shot, times)?;
-    report(rt, "copy", times, start.elapsed(rt)?.as_nanos(), sum)
+    Ok((start.elapsed(rt)?.as_nanos(), sum))
 }
 
-fn face_of(alloc: Global, rows: u16, cols: u16) -> Result<RowShot, Fault> {
-    let server = server_of(alloc, rows, cols, 0)?;
-    server.face(alloc)
+// The first tick brings the last start its first screen.
+fn measure_idle(rt: &HostRuntime, server: &mut Server, times: u32) -> anyhow::Result<(u128, u64)> {
+    idle_ticks(rt.alloc(), server, 1)?;
+    let start = Instant::now(rt)?;
+    let sum = idle_ticks(rt.alloc(), server, times)?;
+    Ok((start.elapsed(rt)?.as_nanos(), sum))
 }
 
-fn measure_copy(rt: &HostRuntime, rows: u16, cols: u16, times: u32) -> anyhow::Result<()> {
-    let shot = face_of(rt.alloc(), rows, cols)?;
-    time_copies(rt, &shot, times)
-}
-
-fn time_rounds(
+fn measure_what(
     rt: &HostRuntime,
-    name: &str,
     pair: &mut Pair,
-    pieces: &[&[u8]; 2],
+    what: What,
     times: u32,
-) -> anyhow::Result<()> {
-    // The first round brings the whole screen.
-    rounds(rt, pair, pieces, 2)?;
-    let (passed, bytes) = rounds(rt, pair, pieces, times)?;
-    report(rt, name, times, passed, bytes)
+) -> anyhow::Result<(u128, u64)> {
+    match what {
+        What::Copy => measure_copies(rt, &pair.server.face(rt.alloc())?, times),
+        What::Idle => measure_idle(rt, &mut pair.server, times),
+        What::Rounds(pieces) => {
+            // The first round brings the whole screen.
+            rounds(rt, pair, pieces, 2)?;
+            rounds(rt, pair, pieces, times)
+        }
+    }
 }
 
-fn measure_rounds(
+// The nanoseconds that something takes of a new pair, and a number that depends on the work.
+fn measured(
     rt: &HostRuntime,
-    name: &str,
-    rows: u16,
-    cols: u16,
-    pieces: &[&[u8]; 2],
+    size: (u16, u16),
+    starts: u64,
+    what: What,
     times: u32,
-) -> anyhow::Result<()> {
-    let mut pair = pair_of(rt.alloc(), rows, cols)?;
-    time_rounds(rt, name, &mut pair, pieces, times)
-}
-
-fn measure_all(rt: &HostRuntime, rows: u16, cols: u16, times: u32) -> anyhow::Result<()> {
-    measure_copy(rt, rows, cols, times)?;
-    measure_idle(rt, "idle1", rows, cols, 1, times)?;
-    measure_idle(rt, "idle64", rows, cols, 64, times)?;
-    measure_rounds(rt, "row", rows, cols, &ROWS, times)?;
-    measure_rounds(rt, "scroll", rows, cols, &SCROLLS, times)?;
-    measure_rounds(rt, "redraw", rows, cols, &REDRAWS, times)?;
-    measure_rounds(rt, "echo", rows, cols, &KEYS, times)
+) -> anyhow::Result<(u128, u64)> {
+    let mut pair = pair_of(rt.alloc(), size.0, size.1, starts)?;
+    measure_what(rt, &mut pair, what, times)
 }
 
 // So many client starts, from each of which a datagram came to the server.
@@ -246,14 +227,6 @@ fn offer(alloc: Global, server: &mut Server, clients: &mut [Client], k: u64) -> 
     Ok(sum)
 }
 
-fn offer_seven(alloc: Global, server: &mut Server, clients: &mut [Client]) -> Result<u64, Fault> {
-    let mut sum: u64 = 0;
-    for k in 1..8u64 {
-        sum = sum.wrapping_add(offer(alloc, server, clients, k)?);
-    }
-    Ok(sum)
-}
-
 fn keep_for(
     alloc: Global,
     server: &mut Server,
@@ -264,7 +237,11 @@ fn keep_for(
     if !with_starts {
         clients.clear();
     }
-    offer_seven(alloc, server, &mut clients)
+    let mut sum: u64 = 0;
+    for k in 1..8u64 {
+        sum = sum.wrapping_add(offer(alloc, server, &mut clients, k)?);
+    }
+    Ok(sum)
 }
 
 // Eight screens are kept for each of so many starts, and where these are kept too, each has its eight.
@@ -273,14 +250,9 @@ fn keep(alloc: Global, starts: u64, with_starts: bool) -> Result<u64, Fault> {
     keep_for(alloc, &mut server, starts, with_starts)
 }
 
-fn try_rounds(rt: &HostRuntime) -> anyhow::Result<(u128, u64)> {
-    let mut pair = pair_of(rt.alloc(), 24, 80)?;
-    rounds(rt, &mut pair, &KEYS, 2)
-}
-
 /// Does two rounds, and keeps some screens.
 pub fn try_once(rt: &HostRuntime) -> anyhow::Result<()> {
-    try_rounds(rt)?;
+    measured(rt, (24, 80), 1, What::Rounds(&KEYS), 2)?;
     if keep(rt.alloc(), 2, true)? == 0 {
         bail!("no screen came");
     }
@@ -292,7 +264,21 @@ pub fn measure(rt: &HostRuntime, words: &mut Args) -> anyhow::Result<()> {
     let rows = words::size(words, "ROWS")?;
     let cols = words::size(words, "COLS")?;
     let times = words::number(words, "TIMES")?;
-    measure_all(rt, rows, cols, times)
+    // By name, of a server that knows so many starts.
+    let whats = [
+        ("copy", 1, What::Copy),
+        ("idle1", 1, What::Idle),
+        ("idle64", 64, What::Idle),
+        ("row", 1, What::Rounds(&ROWS)),
+        ("scroll", 1, What::Rounds(&SCROLLS)),
+        ("redraw", 1, What::Rounds(&REDRAWS)),
+        ("echo", 1, What::Rounds(&KEYS)),
+    ];
+    for (name, starts, what) in whats {
+        let (passed, sum) = measured(rt, (rows, cols), starts, what, times)?;
+        println!(rt; "{name} {times} {passed} {sum}")?;
+    }
+    Ok(())
 }
 
 /// Keeps eight screens for each of so many client starts, which are kept too or not.

@@ -1,4 +1,5 @@
 //! How fast changes of screens are written and read, in both versions.
+use crate::paintings::letters;
 use crate::words;
 use anyhow::bail;
 use roam_cells::{Fault, are_same_cells};
@@ -9,39 +10,8 @@ use std::alloc::Global;
 use std::env::Args;
 use std::time::Instant;
 
-// A terminal that shows a text.
-fn fed(alloc: Global, rows: u16, cols: u16, text: &[u8]) -> Result<RowShot, Fault> {
-    let mut term = Term::new(alloc, rows, cols, 0)?;
-    for byte in text {
-        term.feed(&[*byte])?;
-    }
-    RowShot::of(alloc, &term.shot(alloc, 0)?)
-}
-
-// A line of letters that begins with another one from row to row.
-fn add_line(text: &mut Vec<u8>, first: u32, cols: u16) -> Result<(), Fault> {
-    for col in 0..u32::from(cols) {
-        text.push(b'a' + ((first % 26 + col % 26) % 26) as u8)?;
-    }
-    Ok(())
-}
-
-// Lines of letters, and then more bytes.
-fn text_of_lines(alloc: Global, rows: u16, cols: u16, end: &[u8]) -> Result<Vec<u8>, Fault> {
-    let mut text = Vec::new(alloc);
-    for row in 0..u32::from(rows) {
-        if 0 < row {
-            text.extend_from_slice(b"\r\n")?;
-        }
-        add_line(&mut text, row * 7, cols)?;
-    }
-    text.extend_from_slice(end)?;
-    Ok(text)
-}
-
 fn lines(alloc: Global, rows: u16, cols: u16, end: &[u8]) -> Result<RowShot, Fault> {
-    let text = text_of_lines(alloc, rows, cols, end)?;
-    fed(alloc, rows, cols, &text)
+    RowShot::of(alloc, &letters(alloc, rows, cols, 0, end)?)
 }
 
 // The bytes that write a letter in the style of this number.
@@ -52,15 +22,24 @@ fn letter(alloc: Global, number: u32) -> Result<String, Fault> {
     Ok(text)
 }
 
-// A screen of so many styles.
-fn styled(alloc: Global, rows: u16, cols: u16, styles: u32) -> Result<RowShot, Fault> {
-    let mut term = Term::new(alloc, rows, cols, 0)?;
-    let cells = u32::from(rows) * u32::from(cols);
+// Writes a letter in each cell, each in another of so many styles.
+fn write_styles(alloc: Global, term: &mut Term, cells: u32, styles: u32) -> Result<(), Fault> {
     for cell in 0..cells {
         let text = letter(alloc, cell % styles.max(1))?;
         term.feed(text.as_bytes())?;
     }
+    Ok(())
+}
+
+fn styles_of(alloc: Global, term: &mut Term, cells: u32, styles: u32) -> Result<RowShot, Fault> {
+    write_styles(alloc, term, cells, styles)?;
     RowShot::of(alloc, &term.shot(alloc, 0)?)
+}
+
+// A screen of so many styles.
+fn styled(alloc: Global, rows: u16, cols: u16, styles: u32) -> Result<RowShot, Fault> {
+    let mut term = Term::new(alloc, rows, cols, 0)?;
+    styles_of(alloc, &mut term, u32::from(rows) * u32::from(cols), styles)
 }
 
 // The text of a change, written so often.
