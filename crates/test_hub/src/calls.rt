@@ -98,7 +98,7 @@ pub fn shows_face(alloc: Global, server: &Server, client: &Client, number: u64) 
 
 fn is_answered(answer: Result<usize, Stop>, before: usize, told: &str) -> bool {
     match answer {
-        Ok(taken) => told.parse::<usize>() == Ok(before.saturating_add(taken)),
+        Ok(taken) => told.parse::<usize>().ok() == Some(before.saturating_add(taken)),
         Err(stop) => stop.taken == 0 && word_of(stop.fault) == told,
     }
 }

@@ -1,13 +1,13 @@
 //! A server, client starts and the datagrams between them, played by texts.
 //!
-//! A case is a name, `session ROWS COLS`, and what is done, a line each, with what is wanted of it. Starts are numbered from 0 and datagrams
-//! from 1 on, as they come to be; T is a moment in milliseconds. `start KIND ID` makes a start, and `tick START T` has it send its only
-//! datagram; `forge BYTES` adds one that no core wrote, in hexadecimal digits, and `bytes N BYTES` says what one is. `up N PORT T` hands one
-//! to the server, from a port: the answer is how many acts are taken, or a refusal. `serve T` has the server send, to these ports. `down START
-//! N T` hands one to a start, and `all START PORT` all that went to a port. `shown START N` and `size START ROWS COLS` tell what a start
-//! shows, and `face START N` that it is the session's face. `type START` types a letter, `waits PANE TEXT` tells what waits for a pane that
-//! is there, and `lacks PANE` that there is none. `come KIND ID` hands the only datagram of a new start to the server, and `fill KIND ID
-//! COUNT` those of so many with no act, from an id on.
+//! A case is a name, `session ROWS COLS`, and what is done, a line each, with what is wanted of it. Starts are numbered from 0 and
+//! datagrams from 1 on, as they come to be; T is a moment in milliseconds. `start KIND ID` makes a start, and `tick START T` has it send
+//! its only datagram; `forge BYTES` adds one that no core wrote, in hexadecimal digits, and `bytes N BYTES` says what one is. `up N PORT
+//! T` hands one to the server, from a port: the answer is how many acts are taken, or a refusal. `serve T` has the server send, to these
+//! ports. `down START N T` hands one to a start, and `all START PORT` all that went to a port. `shown START N` and `size START ROWS COLS`
+//! tell what a start shows, and `face START N` that it is the session's face. `type START` types a letter, `waits PANE TEXT` tells what
+//! waits for a pane that is there, and `lacks PANE` that there is none. `come KIND ID` hands the only datagram of a new start to the
+//! server, and `fill KIND ID COUNT` those of so many with no act, from an id on.
 ghost use Rattle.std.specs.Prelude.{◌≤◌};
 
 use crate::calls::{answers, at, hears, only_of, sent_down, shows_face, start_of};
@@ -28,10 +28,13 @@ struct Stage {
 
 // A stage with room for what a case has, so that no memory is refused to it later.
 fn begun(alloc: Global, rows: u64, cols: u64) -> Result<Stage, Fault> {
+    let starts = Vec::with_capacity(alloc, 8)?;
+    let sent = Vec::with_capacity(alloc, 32)?;
+    let server = Server::new(alloc, 1, short(rows), short(cols))?;
     Ok(Stage {
-        server: Server::new(alloc, 1, short(rows), short(cols))?,
-        starts: Vec::with_capacity(alloc, 8)?,
-        sent: Vec::with_capacity(alloc, 32)?,
+        server,
+        starts,
+        sent,
     })
 }
 
@@ -94,7 +97,10 @@ fn fill_by(alloc: Global, server: &mut Server, words: &str) -> bool {
 fn go_to(sent: &[(Addr, Vec<u8>)], ports: &str) -> bool {
     let mut words = ports.split_whitespace();
     for (to, _) in sent {
-        if words.next().map(|word| word.parse::<u16>()) != Some(Ok(to.port)) || *to != at(to.port) {
+        let Some(port) = words.next().and_then(|word| word.parse::<u16>().ok()) else {
+            return false;
+        };
+        if *to != at(port) {
             return false;
         }
     }

@@ -66,9 +66,14 @@ struct Served {
     sends: Vec<(Addr, Vec<u8>)>,
 }
 
+fn sends_of(alloc: Global, firsts: &[Vec<u8>]) -> Result<Vec<(Addr, Vec<u8>)>, Fault> {
+    let mut server = server_of(alloc, firsts)?;
+    server.tick(alloc, 0)
+}
+
 fn served_at_first(alloc: Global) -> Result<Served, Fault> {
     let firsts = firsts_of(alloc)?;
-    let sends = server_of(alloc, &firsts)?.tick(alloc, 0)?;
+    let sends = sends_of(alloc, &firsts)?;
     Ok(Served { firsts, sends })
 }
 
@@ -100,22 +105,31 @@ struct Followed {
     face: RowShot,
 }
 
-// The last datagram that a server sends to a start that it heard, once the program of its pane wrote, and its face.
-fn sound_of(alloc: Global, server: &mut Server, first: &[u8]) -> Result<(Vec<u8>, RowShot), Fault> {
-    if let Err(stop) = server.datagram(alloc, at(5001), first, 0) {
-        return Err(stop.fault);
+fn hear_and_write(alloc: Global, server: &mut Server, first: &[u8]) -> Result<(), Fault> {
+    match server.datagram(alloc, at(5001), first, 0) {
+        Ok(_) => server.pane_bytes(1, b"ab"),
+        Err(stop) => Err(stop.fault),
     }
-    server.pane_bytes(1, b"ab")?;
+}
+
+// The last datagram that is sent.
+fn last_of(mut sends: Vec<(Addr, Vec<u8>)>) -> Result<Vec<u8>, Fault> {
+    let (_, sound) = sends.pop().ok_or(Fault::Spent)?;
+    Ok(sound)
+}
+
+// What a server sends to a start that it heard, once the program of its pane wrote.
+fn follow(alloc: Global, server: &mut Server, start: Start) -> Result<Followed, Fault> {
+    let first = first_from(alloc, start)?;
+    hear_and_write(alloc, server, &first)?;
+    let sound = last_of(server.tick(alloc, 0)?)?;
     let face = server.face(alloc)?;
-    let (_, sound) = server.tick(alloc, 0)?.pop().ok_or(Fault::Spent)?;
-    Ok((sound, face))
+    Ok(Followed { start, sound, face })
 }
 
 fn followed_by(alloc: Global, start: Start) -> Result<Followed, Fault> {
-    let first = first_from(alloc, start)?;
     let mut server = Server::new(alloc, 1, 4, 8)?;
-    let (sound, face) = sound_of(alloc, &mut server, &first)?;
-    Ok(Followed { start, sound, face })
+    follow(alloc, &mut server, start)
 }
 
 impl Followed {

@@ -1,11 +1,11 @@
 //! The two ends of a line of numbered states, over numbers and over screens: what each call leaves, and what comes over.
 //!
-//! A case is a name and what is done, a line each, with what is wanted of it. `offer N` gives the sender a state under its number; `withdraw`
-//! takes the newest back; `acked N` acknowledges a number; `sent T` tells it a moment in milliseconds, and `due T` asks whether its newest is
-//! to be sent at one; `len N` is how many states it holds, and `tells OLD NEW` the numbers that its instruction leads from and to. `send`
-//! keeps the instruction, numbered from 0; when `comes K N` it comes, the receiver shows the number N. `round N LEN` is a round, after which
-//! the receiver shows N and the sender holds so many. `take OLD NEW FLOOR` hands the receiver a change that no sender wrote; where it is
-//! `bad`, of seven bytes.
+//! A case is a name and what is done, a line each, with what is wanted of it. `offer N` gives the sender a state under its number;
+//! `withdraw` takes the newest back; `acked N` acknowledges a number; `sent T` tells it a moment in milliseconds, and `due T` asks whether
+//! its newest is to be sent at one; `len N` is how many states it holds, and `tells OLD NEW` the numbers that its instruction leads from
+//! and to. `send` keeps the instruction, numbered from 0; when `comes K N` it comes, the receiver shows the number N. `round N LEN` is a
+//! round, after which the receiver shows N and the sender holds so many. `take OLD NEW FLOOR` hands the receiver a change that no sender
+//! wrote; where it is `bad`, of seven bytes.
 ghost use Rattle.std.specs.Prelude.{◌≡◌, ◌≤◌, ℕ, List, OnOk, Ok};
 ghost use Rattle.roam_sync.specs.Senders.{acked, sent_at};
 ghost use Rattle.roam_sync.specs.Lines.{update_of, IsChange, Delivers};
