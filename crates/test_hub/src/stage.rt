@@ -7,7 +7,7 @@
 //! ports. `down START N T` hands one to a start, and `all START PORT` all that went to a port. `shown START N` and `size START ROWS COLS`
 //! tell what a start shows, and `face START N` that it is the session's face. `type START` types a letter, `waits PANE TEXT` tells what
 //! waits for a pane that is there, and `lacks PANE` that there is none. `come KIND ID` hands the only datagram of a new start to the
-//! server, and `fill KIND ID COUNT` those of so many with no act, from an id on.
+//! server, and `fill KIND ID COUNT` those of so many with no act, from an id on, here in decimal digits.
 ghost use Rattle.std.specs.Prelude.{◌≤◌};
 
 use crate::calls::{answers, at, hears, only_of, sent_down, shows_face, start_of};

@@ -13,9 +13,9 @@ use roam_wire::Version;
 use std::alloc::Global;
 use std::test::*;
 
-/// Each event done, and each refused, in a session of 4 by 8, with its bytes and its act spelled out. Datagrams come to the server from ports
-/// of one host. Those that the server sends at 20 go to the earlier start in the slot 0 and to the later one; then a watcher comes beside them,
-/// and one that would be of version 1.
+/// Each event done, and each refused, in a session of 4 by 8, with its bytes and its act spelled out. Datagrams come to the server from
+/// ports of one host. Those that the server sends at 20 go to the earlier start in the slot 0 and to the later one; then a watcher comes
+/// beside them, and one that would be of version 1.
 const EVENTS: &str = "\
 start 0 161: done
 start 1 161: refused

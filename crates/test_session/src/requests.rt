@@ -1,12 +1,13 @@
 //! What is asked of sessions, as text, and what is so then.
 //!
-//! A case is a name, a session's size, and a line for what is asked of it: `bytes PANE TEXT` (`nothing` for no byte); `long PANE a`, a piece of
-//! 1,025 letters; `drain PANE COUNT`, at most as many as wait; or an act; `times COUNT` before one asks it so often. One that is to be refused
-//! has the refusal before it, as `no pane: drain 2 0`. `kept` keeps the face, before which all rows are marked. Other lines tell what is so:
-//! `waits PANE |TEXT|`, `room PANE COUNT` and `length PANE COUNT` of its bytes that wait; `none PANE`, that there is none; `lives`, the lives of
-//! the panes from 1 on; `marked`, the rows that are marked, from 1; `digits`, that each pane of nine shows its number. Behind `shows` come rows
-//! of the face from the first, or `row NUMBER TEXT`, whose blanks at the end may be left out, and the cursor. Control characters and spaces at
-//! the end are written as their pictures (U+2400 to U+2420).
+//! A case is a name, a session's size, and a line for what is asked of it: `bytes PANE TEXT` (`nothing` for no byte); `long PANE a`, a
+//! piece of 1,025 letters; `drain PANE COUNT`, at most as many as wait; or an act; `times COUNT` before one asks it so often. One that is
+//! to be refused has the refusal before it, as `no pane: drain 2 0`. `kept` keeps the face, before which all rows are marked. Other lines
+//! tell what is so: `waits PANE |TEXT|`, `room PANE COUNT` and `length PANE COUNT` of its bytes that wait; `none PANE`, that there is
+//! none; `lives`, the lives of the panes from 1 on; `marked`, the rows that are marked, from 1; `digits`, that each pane of nine shows its
+//! number. Behind `shows` come rows of the face from the first, whose blanks at the end may be left out, the cursor, and its `extent`. A
+//! size that is refused has the refusal in its place. Control characters and spaces at the end are written as their pictures (U+2400 to
+//! U+2420).
 use crate::memory::face_of;
 use crate::words::{bytes_of, halves, reads_numbers, short, word_of};
 use roam_acts::read_act;
@@ -15,24 +16,20 @@ use roam_screens::{RowShot, Seen};
 use roam_session::Session;
 use std::alloc::Global;
 
-// Takes bytes that wait, at most all of them.
-fn drain(session: &mut Session, pane: u8, n: usize) -> Result<(), Fault> {
-    match session.output_len(pane) {
-        Some(len) => session.drain(pane, n.min(len)),
-        None => session.drain(pane, n),
-    }
-}
-
 /// Does an act, which is told as its line.
 pub fn act(alloc: Global, session: &mut Session, line: &str) -> Result<(), Fault> {
     let act = read_act(line.as_bytes())?;
     session.act(alloc, 0xA1, &act)
 }
 
-fn drain_count(session: &mut Session, pane: u8, count: &str) -> Result<(), Fault> {
-    match count.parse::<usize>() {
-        Ok(count) => drain(session, pane, count),
-        Err(_) => Err(Fault::BadAct),
+// Takes so many bytes that wait, at most all of them.
+fn drain(session: &mut Session, pane: u8, count: &str) -> Result<(), Fault> {
+    let Ok(count) = count.parse::<usize>() else {
+        return Err(Fault::BadAct);
+    };
+    match session.output_len(pane) {
+        Some(len) => session.drain(pane, count.min(len)),
+        None => session.drain(pane, count),
     }
 }
 
@@ -50,7 +47,7 @@ fn answer(alloc: Global, session: &mut Session, words: &str) -> Result<(), Fault
     match (verb, pane.parse::<u8>()) {
         ("bytes", Ok(pane)) => give_text(alloc, session, pane, rest),
         ("long", Ok(pane)) => session.pane_bytes(pane, &[b'a'; 1025]),
-        ("drain", Ok(pane)) => drain_count(session, pane, rest),
+        ("drain", Ok(pane)) => drain(session, pane, rest),
         _ => act(alloc, session, words),
     }
 }
@@ -226,15 +223,6 @@ fn has_row(alloc: Global, shot: &RowShot, row: u16, text: &str) -> bool {
     }
 }
 
-// Whether a row shows a text, `NUMBER TEXT`.
-fn has_row_by(alloc: Global, shot: &RowShot, words: &str) -> bool {
-    let (number, text) = halves(words, " ");
-    match number.parse::<u16>() {
-        Ok(number) => has_row(alloc, shot, number.saturating_sub(1), text),
-        Err(_) => false,
-    }
-}
-
 fn is_cursor(shot: &RowShot, words: &str) -> bool {
     let wanted = if shot.visible() { "shown" } else { "hidden" };
     if let Some((place, seen)) = words.rsplit_once(' ')
@@ -244,6 +232,11 @@ fn is_cursor(shot: &RowShot, words: &str) -> bool {
         return shot.cursor() == (short(row[0]), short(row[1])) && seen == wanted;
     }
     false
+}
+
+fn has_extent(shot: &RowShot, words: &str) -> bool {
+    let mut row = [0; 2];
+    reads_numbers(words, &mut row) && (shot.rows(), shot.cols()) == (short(row[0]), short(row[1]))
 }
 
 // A line of what is shown, which is the face's row of that number where it is one.
@@ -257,7 +250,7 @@ fn is_shown(alloc: Global, session: &Session, shot: &RowShot, number: usize, lin
     let (verb, words) = halves(line, " ");
     match verb {
         "cursor" => is_cursor(shot, words),
-        "row" => has_row_by(alloc, shot, words),
+        "extent" => has_extent(shot, words),
         _ => is_so(alloc, session, verb, words) == Some(true),
     }
 }
@@ -284,20 +277,20 @@ pub fn is_same_screen(one: &RowShot, other: &RowShot) -> bool {
     one.cursor() == other.cursor() && one.visible() == other.visible()
 }
 
-fn session_of(alloc: Global, size: &str) -> Option<Session> {
+fn session_of(alloc: Global, size: &str) -> Result<Session, Fault> {
     let mut row = [0; 2];
     if !reads_numbers(size, &mut row) {
-        return None;
+        return Err(Fault::BadAct);
     }
-    Session::new(alloc, short(row[0]), short(row[1])).ok()
+    Session::new(alloc, short(row[0]), short(row[1]))
 }
 
 // Whether a session that never keeps its face shows the same.
 fn is_as_whole(alloc: Global, shot: &RowShot, size: &str, lines: &str) -> bool {
     match session_of(alloc, size) {
-        Some(mut session) => does_all(alloc, &mut session, lines, false)
+        Ok(mut session) => does_all(alloc, &mut session, lines, false)
             && matches!(session.face(alloc), Ok(face) if is_same_screen(&face, shot)),
-        None => false,
+        Err(_) => false,
     }
 }
 
@@ -318,8 +311,8 @@ fn plays(alloc: Global, case: &str) -> bool {
     let (_, rest) = halves(head, "\n");
     let (size, lines) = halves(rest, "\n");
     match session_of(alloc, size) {
-        Some(mut session) => goes(alloc, &mut session, size, lines, wanted),
-        None => false,
+        Ok(mut session) => goes(alloc, &mut session, size, lines, wanted),
+        Err(fault) => lines == word_of(fault),
     }
 }
 

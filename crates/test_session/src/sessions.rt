@@ -1,8 +1,6 @@
 //! Sessions: what acts, bytes and drains make of the face and of the bytes that wait.
 use crate::memory::made;
 use crate::requests::{does_all, first_wrong, is_same_screen};
-use crate::words::{reads_numbers, short, word_of};
-use roam_screens::Seen;
 use roam_session::Session;
 use std::alloc::Global;
 use std::test::*;
@@ -235,44 +233,37 @@ drain 1 11
 busy: bytes 1 a
 drain 1 1
 bytes 1 a
-length 1 65524"##;
+length 1 65524
+
+Three rows are refused.
+3 80
+bad size
+
+201 rows are refused.
+201 80
+bad size
+
+Seven columns are refused.
+24 7
+bad size
+
+501 columns are refused.
+24 501
+bad size
+
+The smallest size.
+4 8
+shows
+extent 4 8
+
+The largest size.
+200 500
+shows
+extent 200 500"##;
 
 #[test]
 fn sessions_show_what_was_asked(rt: HostRuntime) {
     assert_eq!(rt; first_wrong(rt.alloc(), SESSIONS), None);
-}
-
-// Sizes, and whether a session has one.
-const SIZES: &str = "\
-3 80: bad size
-201 80: bad size
-24 7: bad size
-24 501: bad size
-4 8: made
-200 500: made";
-
-fn is_made(alloc: Global, rows: u16, cols: u16, told: &str) -> bool {
-    match Session::new(alloc, rows, cols) {
-        Ok(session) => told == "made"
-            && matches!(session.face(alloc), Ok(face) if (face.rows(), face.cols()) == (rows, cols)),
-        Err(fault) => word_of(fault) == told,
-    }
-}
-
-fn holds(alloc: Global, line: &str) -> bool {
-    let mut row = [0; 2];
-    match line.split_once(": ") {
-        Some((size, told)) => reads_numbers(size, &mut row)
-            && is_made(alloc, short(row[0]), short(row[1]), told),
-        None => false,
-    }
-}
-
-#[test]
-fn sizes_outside_the_limits_are_refused(rt: HostRuntime) {
-    for line in SIZES.lines() {
-        assert!(rt; holds(rt.alloc(), line), "{line}");
-    }
 }
 
 /// What makes nine panes of 24 by 80, the program of each of which writes its number and asks for the cursor.

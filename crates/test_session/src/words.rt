@@ -12,12 +12,6 @@ pub fn word_of(fault: Fault) -> &'static str {
         Fault::PanesFull => "panes full",
         Fault::TooLong => "too long",
         Fault::TooSmall => "too small",
-        _ => word_of_ends(fault),
-    }
-}
-
-fn word_of_ends(fault: Fault) -> &'static str {
-    match fault {
         Fault::BadDatagram(Reason::Kind) => "kind",
         Fault::OtherClient => "other client",
         Fault::Watching => "watching",
