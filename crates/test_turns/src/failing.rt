@@ -3,7 +3,7 @@ ghost use Rattle.std.specs.Prelude.{◌≡◌, IfSome};
 ghost use Rattle.roam_acts.specs.Acts.{IsInRange};
 ghost use Rattle.roam_turns.specs.Painting.{IsBehind};
 
-use crate::rows::first_fault;
+use crate::plays::{Play, is_played};
 use crate::stage::{End, Stage, carry_down, carry_up, serve_at};
 use roam_acts::{Act, Key};
 use roam_cells::Fault;
@@ -33,8 +33,8 @@ pub struct Failure {
     call: u64,
 }
 
-// No call.
-const NONE: Failure = Failure {
+/// No call.
+pub const NONE: Failure = Failure {
     round: 0,
     who: Who::Server,
     call: 0,
@@ -42,9 +42,9 @@ const NONE: Failure = Failure {
 
 /// Calls that fail, at most one of each turn.
 #[derive(Clone, Copy)]
-struct Failures {
-    one: Failure,
-    other: Failure,
+pub struct Failures {
+    pub one: Failure,
+    pub other: Failure,
 }
 
 impl Failure {
@@ -125,7 +125,12 @@ fn has_top<S: Seen>(alloc: Global, shot: &S) -> bool {
     if shot.rows() == 0 {
         return false;
     }
-    matches!(row_text(alloc, shot, 0), Ok(points) if points.iter().copied().eq(TOP.chars()))
+    // (once more where memory was refused)
+    let points = match row_text(alloc, shot, 0) {
+        Err(Fault::OutOfMemory) => row_text(alloc, shot, 0),
+        answer => answer,
+    };
+    matches!(points, Ok(points) if points.iter().copied().eq(TOP.chars()))
 }
 
 // Hands a terminal all that was shown.
@@ -166,8 +171,13 @@ fn taken(ports: &MemoryPorts) -> (usize, bool) {
     (count, are_typed)
 }
 
-// So many rounds.
-fn play_all(alloc: Global, stage: &mut Stage, rounds: u64, failures: Failures) -> Result<(), Fault>
+/// So many rounds.
+pub fn play_all(
+    alloc: Global,
+    stage: &mut Stage,
+    rounds: u64,
+    failures: Failures,
+) -> Result<(), Fault>
     requires first { IsBehind stage.old.first.outer stage.old.first.client.receiver.newest.number
         stage.old.first.client.receiver.newest.state }
     requires second { IsBehind stage.old.second.outer stage.old.second.client.receiver.newest.number
@@ -179,60 +189,18 @@ fn play_all(alloc: Global, stage: &mut Stage, rounds: u64, failures: Failures) -
     Ok(())
 }
 
-// Both terminals show the last screen, and the key was taken once.
-fn has_settled(alloc: Global, stage: &Stage) -> bool {
+/// Both terminals show the last screen, and the key was taken once.
+pub fn has_settled(alloc: Global, stage: &Stage) -> bool {
     is_shown(alloc, &stage.first)
         && is_shown(alloc, &stage.second)
         && taken(&stage.ports) == (1, true)
 }
 
-// Both starts show the last screen, and nothing waits for a program.
-fn is_right(alloc: Global, stage: &Stage) -> bool {
+/// Both starts show the last screen, and nothing waits for a program.
+pub fn is_right(alloc: Global, stage: &Stage) -> bool {
     has_top(alloc, &stage.first.screen())
         && has_top(alloc, &stage.second.screen())
         && stage.server.output_len(2) == Some(0)
-}
-
-// What is played on a stage.
-#[derive(Clone, Copy)]
-pub enum Play {
-    /// Fourteen rounds, in which calls fail: both terminals come to show the last screen.
-    Failures(Failure, Failure),
-    /// As many as want of memory may need.
-    Refusals,
-    /// The first three turns of a session.
-    Opening,
-}
-
-// Whether a play ends as it should.
-fn ends(alloc: Global, stage: &mut Stage, play: Play) -> Result<bool, Fault>
-    requires first { IsBehind stage.old.first.outer stage.old.first.client.receiver.newest.number
-        stage.old.first.client.receiver.newest.state }
-    requires second { IsBehind stage.old.second.outer stage.old.second.client.receiver.newest.number
-        stage.old.second.client.receiver.newest.state }
-{
-    match play {
-        Play::Failures(one, other) => {
-            play_all(alloc, stage, 14, Failures { one, other })?;
-            Ok(has_settled(alloc, stage))
-        }
-        Play::Refusals => {
-            let none = Failures {
-                one: NONE,
-                other: NONE,
-            };
-            play_all(alloc, stage, 24, none)?;
-            Ok(is_right(alloc, stage))
-        }
-        Play::Opening => Ok(first_fault(alloc, stage) == None),
-    }
-}
-
-/// Whether a play ends as it should on a new stage. What owns one does nothing else, since each way out of it is proved with all that is
-/// dropped there.
-pub fn is_played(alloc: Global, play: Play) -> Result<bool, Fault> {
-    let mut stage = Stage::new(alloc)?;
-    ends(alloc, &mut stage, play)
 }
 
 // The first call that isn't made good, of each of the first five turns of one end.
@@ -287,8 +255,8 @@ fn two_calls_that_fail_at_once_are_made_good(rt: HostRuntime) {
     assert_eq!(rt; first_lost_pair(rt.alloc(), Who::Second), None);
 }
 
-// To be run with each of its allocations refused in turn, too: what a turn has no memory for comes in a later one. What the stage itself has
-// no memory for ends it.
+// To be run with each of its allocations refused in turn, too: what a turn has no memory for comes in a later one. What the stage itself
+// has no memory for ends it.
 #[test]
 fn refused_memory_is_made_good(rt: HostRuntime) {
     let come = is_played(rt.alloc(), Play::Refusals);

@@ -2,7 +2,7 @@
 ghost use Rattle.std.specs.Prelude.{◌≡◌};
 ghost use Rattle.roam_turns.specs.Painting.{IsBehind};
 
-use crate::failing::{Play, is_played};
+use crate::plays::{Play, is_played};
 use crate::stage::{End, SERVER, Stage, carry_down, carry_up, serve_at};
 use roam_cells::Fault;
 use roam_hub::Server;
