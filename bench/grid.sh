@@ -5,7 +5,7 @@
 . "$(dirname "$0")/common.sh"
 millions=${1:-50}
 rounds=${2:-3}
-speed=$(built speed_pane)
+speed=$(built speed)
 
 # shellcheck disable=SC2086
 each_round $speed grid "$millions" | awk "$best"'

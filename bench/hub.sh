@@ -7,7 +7,7 @@
 . "$(dirname "$0")/common.sh"
 times=${1:-500}
 rounds=${2:-5}
-speed=$(built speed_session)
+speed=$(built speed)
 meter=$(compiled show_meter)
 
 printf '%-12s %8s %8s %8s %8s %8s %8s %8s %12s\n' microseconds copy idle '64 idle' row scroll redraw key 'bytes a key'

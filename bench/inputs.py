@@ -6,8 +6,6 @@ gives the same bytes on every machine.
 
 prose     words in lines of up to 120 characters, so that about a third of them wraps at 80 columns
 colours   a new rendition (SGR) every 1 to 6 characters, with 1 to 10 parameters
-cursor    full-screen drawing: cursor positions, erasures, edits and short words
-mixed     Latin with accents, Cyrillic, Greek, Chinese, box drawing and emoji in UTF-8
 cjk       Chinese, kana, Hangul, Cyrillic, and Latin with combining marks
 redraw    full-screen frames addressed by CUP, with EL and ED
 log       time, coloured level and text a line, and bursts of short lines: it scrolls all the time
@@ -22,13 +20,10 @@ WORDS = ("the of and a to in is you that it he was for on are as with his they a
          "terminal screen buffer session cursor window server client packet state sequence").split()
 LATIN = "abcdefghijklmnopqrstuvwxyzàâçéèêëîïôùûüñöä"
 CYRILLIC = [chr(c) for c in range(0x0410, 0x0450)]
-GREEK = [chr(c) for c in range(0x03B1, 0x03CA)]
 CHINESE = [chr(c) for c in range(0x4E00, 0x4E00 + 3000)]
-BOXES = [chr(c) for c in range(0x2500, 0x2580)]
 KANA = [chr(c) for c in range(0x3041, 0x3097)]
 HANGUL = [chr(c) for c in range(0xAC00, 0xAC00 + 2000)]
 MARKS = [chr(c) for c in range(0x0300, 0x0334)]
-EMOJI = [chr(c) for c in range(0x1F600, 0x1F640)]
 
 
 def words(r, width):
@@ -63,25 +58,6 @@ def colours(r):
     return "".join(rendition(r) + words(r, r.randrange(1, 7)) for _ in range(20)) + f"{ESC}[m\r\n"
 
 
-def cursor(r):
-    text = f"{ESC}[{r.randrange(1, 25)};{r.randrange(1, 81)}H"
-    kind = r.randrange(8)
-    if kind == 0:
-        return text + f"{ESC}[K"
-    if kind == 1:
-        return text + f"{ESC}[{r.randrange(1, 9)}{r.choice('@PXLM')}"
-    if kind == 2:
-        return text + f"{ESC}[7m{words(r, r.randrange(4, 40))}{ESC}[m"
-    if kind == 3:
-        return f"{ESC}[?25l{text}{words(r, 3)}{ESC}[?25h"
-    return text + words(r, r.randrange(1, 20))
-
-
-def mixed(r):
-    letters = (LATIN, CYRILLIC, GREEK, CHINESE, BOXES, EMOJI)[r.randrange(6)]
-    return "".join(r.choice(letters) if r.random() < 0.85 else " " for _ in range(r.randrange(5, 60))) + "\r\n"
-
-
 def cjk(r):
     count = r.randrange(5, 60)
     kind = r.randrange(5)
@@ -106,7 +82,7 @@ def log(r):
     return f"{burst}{time} {ESC}[{colour}m{level:5}{ESC}[0m {words(r, r.randrange(10, 110))}\r\n"
 
 
-KINDS = {kind.__name__: kind for kind in (prose, colours, cursor, mixed, cjk, redraw, log)}
+KINDS = {kind.__name__: kind for kind in (prose, colours, cjk, redraw, log)}
 
 
 def main():

@@ -8,7 +8,7 @@
 million=${1:-4}
 rounds=${2:-5}
 compare=$(compiled cells_compare)
-speed="$(built speed_pane) update"
+speed="$(built speed) update"
 
 # Rows, columns, how often.
 all() {

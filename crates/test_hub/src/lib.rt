@@ -5,14 +5,16 @@
 #![tactic(auto)]
 
 #[cfg(test)]
-mod lying;
+mod calls;
 #[cfg(test)]
 mod refused;
 #[cfg(test)]
-mod roaming;
+mod stage;
+#[cfg(test)]
+mod stories;
 #[cfg(test)]
 mod sweeps;
 #[cfg(test)]
 mod uses;
 #[cfg(test)]
-mod versions;
+mod words;

@@ -1,50 +1,45 @@
 //! Each beginning of a datagram, and each with one byte changed to every other value, to a server that knows a start of each kind and to
 //! each kind of start: a reply or a named refusal, and after a refusal all goes on as if nothing had come.
-use crate::refused::is_same;
-use crate::roaming::at;
-use crate::versions::{Kind, first_of, start};
+use crate::calls::{at, is_same, only_of, start_of};
 use roam_cells::Fault;
 use roam_hub::{Addr, Client, Heard, Server};
 use roam_screens::RowShot;
 use std::alloc::Global;
 use std::test::*;
 
-/// The kinds of starts.
-static STARTS: [Kind; 3] = [Kind::Old, Kind::New, Kind::Watching];
+/// A kind of start, and the id of one.
+type Start = (&'static str, u64);
 
-// A start of a kind, each with an id of its own.
-fn start_of(alloc: Global, kind: Kind) -> Result<Client, Fault> {
-    let id = match kind {
-        Kind::Old => 0xA1,
-        Kind::New => 0xA2,
-        Kind::Watching => 0xA3,
-    };
-    start(alloc, kind, id)
+const STARTS: [Start; 3] = [("old", 0xA1), ("new", 0xA2), ("watching", 0xA3)];
+
+// The first datagram of a start.
+fn first_from(alloc: Global, start: Start) -> Result<Vec<u8>, Fault> {
+    let mut client = start_of(alloc, start.0, start.1)?;
+    only_of(alloc, &mut client, 0)
 }
 
-// The first datagram of a start of a kind.
-fn first_from(alloc: Global, kind: Kind) -> Result<Vec<u8>, Fault> {
-    let mut client = start_of(alloc, kind)?;
-    first_of(alloc, &mut client)
+fn firsts_of(alloc: Global) -> Result<Vec<Vec<u8>>, Fault> {
+    let mut firsts = Vec::new(alloc);
+    for start in STARTS {
+        firsts.push(first_from(alloc, start)?)?;
+    }
+    Ok(firsts)
 }
 
-/// A server of 4 by 8 that heard a start of each kind.
-fn server_of(alloc: Global, firsts: &[Vec<u8>]) -> Result<Server, Fault> {
-    let mut server = Server::new(alloc, 1, 4, 8)?;
+fn hear_all(alloc: Global, server: &mut Server, firsts: &[Vec<u8>]) -> Result<(), Fault> {
     for first in firsts {
         if let Err(stop) = server.datagram(alloc, at(5001), first, 0) {
             return Err(stop.fault);
         }
     }
-    Ok(server)
+    Ok(())
 }
 
-fn firsts_of(alloc: Global) -> Result<Vec<Vec<u8>>, Fault> {
-    let mut firsts = Vec::new(alloc);
-    for kind in STARTS {
-        firsts.push(first_from(alloc, kind)?)?;
-    }
-    Ok(firsts)
+// A server of 4 by 8 that heard these datagrams.
+fn server_of(alloc: Global, firsts: &[Vec<u8>]) -> Result<Server, Fault> {
+    let mut server = Server::new(alloc, 1, 4, 8)?;
+    hear_all(alloc, &mut server, firsts)?;
+    Ok(server)
 }
 
 fn are_same(one: &[(Addr, Vec<u8>)], other: &[(Addr, Vec<u8>)]) -> bool {
@@ -61,7 +56,7 @@ fn are_same(one: &[(Addr, Vec<u8>)], other: &[(Addr, Vec<u8>)]) -> bool {
 
 /// An end to which bytes are given as it is made anew: whether it answers them, or refuses them and goes on as if nothing had come.
 trait Stands {
-    fn stands(&self, alloc: Global, bytes: &[u8]) -> Result<bool, Fault>;
+    fn stands(&self, alloc: Global, bytes: &[u8]) -> bool;
 }
 
 /// A server that heard a start of each kind, and what it sends then.
@@ -71,41 +66,45 @@ struct Served {
     sends: Vec<(Addr, Vec<u8>)>,
 }
 
-impl Served {
-    fn new(alloc: Global) -> Result<Served, Fault> {
-        let firsts = firsts_of(alloc)?;
-        let mut server = server_of(alloc, &firsts)?;
-        let sends = server.tick(alloc, 0)?;
-        Ok(Served { firsts, sends })
-    }
+fn sends_of(alloc: Global, firsts: &[Vec<u8>]) -> Result<Vec<(Addr, Vec<u8>)>, Fault> {
+    let mut server = server_of(alloc, firsts)?;
+    server.tick(alloc, 0)
+}
+
+fn served_at_first(alloc: Global) -> Result<Served, Fault> {
+    let firsts = firsts_of(alloc)?;
+    let sends = sends_of(alloc, &firsts)?;
+    Ok(Served { firsts, sends })
 }
 
 impl Served {
     // Whether a server answers bytes, or refuses them and sends what it would send without them.
-    fn is_stood_by(&self, alloc: Global, server: &mut Server, bytes: &[u8]) -> Result<bool, Fault> {
+    fn is_stood_by(&self, alloc: Global, server: &mut Server, bytes: &[u8]) -> bool {
         match server.datagram(alloc, at(5009), bytes, 0) {
-            Ok(_) => Ok(true),
-            Err(stop) => Ok(stop.taken == 0 && are_same(&server.tick(alloc, 0)?, &self.sends)),
+            Ok(_) => true,
+            Err(stop) => stop.taken == 0
+                && matches!(server.tick(alloc, 0), Ok(sends) if are_same(&sends, &self.sends)),
         }
     }
 }
 
 impl Stands for Served {
-    fn stands(&self, alloc: Global, bytes: &[u8]) -> Result<bool, Fault> {
-        let mut server = server_of(alloc, &self.firsts)?;
-        self.is_stood_by(alloc, &mut server, bytes)
+    fn stands(&self, alloc: Global, bytes: &[u8]) -> bool {
+        match server_of(alloc, &self.firsts) {
+            Ok(mut server) => self.is_stood_by(alloc, &mut server, bytes),
+            Err(_) => false,
+        }
     }
 }
 
-/// A start of a kind, the datagram that it is sent, and the screen that it shows then.
+/// A start, the datagram that it is sent, and the screen that it shows then.
 #[derive(Drop)]
 struct Followed {
-    kind: Kind,
+    start: Start,
     sound: Vec<u8>,
     face: RowShot,
 }
 
-// A server hears a start, and the program of its pane writes.
 fn hear_and_write(alloc: Global, server: &mut Server, first: &[u8]) -> Result<(), Fault> {
     match server.datagram(alloc, at(5001), first, 0) {
         Ok(_) => server.pane_bytes(1, b"ab"),
@@ -119,17 +118,18 @@ fn last_of(mut sends: Vec<(Addr, Vec<u8>)>) -> Result<Vec<u8>, Fault> {
     Ok(sound)
 }
 
-impl Followed {
-    fn new(alloc: Global, kind: Kind) -> Result<Followed, Fault> {
-        let first = first_from(alloc, kind)?;
-        let mut server = Server::new(alloc, 1, 4, 8)?;
-        hear_and_write(alloc, &mut server, &first)?;
-        Ok(Followed {
-            kind,
-            sound: last_of(server.tick(alloc, 0)?)?,
-            face: server.face(alloc)?,
-        })
-    }
+// What a server sends to a start that it heard, once the program of its pane wrote.
+fn follow(alloc: Global, server: &mut Server, start: Start) -> Result<Followed, Fault> {
+    let first = first_from(alloc, start)?;
+    hear_and_write(alloc, server, &first)?;
+    let sound = last_of(server.tick(alloc, 0)?)?;
+    let face = server.face(alloc)?;
+    Ok(Followed { start, sound, face })
+}
+
+fn followed_by(alloc: Global, start: Start) -> Result<Followed, Fault> {
+    let mut server = Server::new(alloc, 1, 4, 8)?;
+    follow(alloc, &mut server, start)
 }
 
 impl Followed {
@@ -139,78 +139,81 @@ impl Followed {
         let is_new = client.datagram(alloc, &self.sound, 0) == Ok(Heard::New);
         is_kept && is_new && is_same(&client.shown().1, &self.face)
     }
+
+    fn is_stood_by(&self, alloc: Global, client: &mut Client, bytes: &[u8]) -> bool {
+        client.datagram(alloc, bytes, 0).is_ok() || self.goes_on(alloc, client)
+    }
 }
 
 impl Stands for Followed {
-    fn stands(&self, alloc: Global, bytes: &[u8]) -> Result<bool, Fault> {
-        let mut client = start_of(alloc, self.kind)?;
-        Ok(client.datagram(alloc, bytes, 0).is_ok() || self.goes_on(alloc, &mut client))
+    fn stands(&self, alloc: Global, bytes: &[u8]) -> bool {
+        match start_of(alloc, self.start.0, self.start.1) {
+            Ok(mut client) => self.is_stood_by(alloc, &mut client, bytes),
+            Err(_) => false,
+        }
     }
 }
 
-// Whether an end stands a datagram with a byte changed to every other value.
-fn stands_at<S: Stands>(
-    alloc: Global,
-    end: &S,
-    bytes: &mut Vec<u8>,
-    place: usize,
-) -> Result<bool, Fault> {
+// Whether an end stands a datagram that ends before a place, and with each other byte there.
+fn stands_at<S: Stands>(alloc: Global, end: &S, bytes: &mut [u8], place: usize) -> bool {
     let Some(sound) = bytes.get(place).copied() else {
-        return Ok(false);
+        return false;
     };
     for value in 0..=255u8 {
         bytes[place] = value;
-        if value != sound && !end.stands(alloc, bytes)? {
-            return Ok(false);
+        if value != sound && !end.stands(alloc, bytes) {
+            return false;
         }
     }
     bytes[place] = sound;
-    Ok(true)
+    end.stands(alloc, &bytes[..place])
 }
 
-// The first place at which an end doesn't stand the beginning of a datagram, or another byte there.
-fn first_fall<S: Stands>(alloc: Global, end: &S, datagram: &[u8]) -> Result<Option<usize>, Fault> {
-    let mut bytes = Vec::from_slice(alloc, datagram)?;
+// The first place at which an end doesn't stand the beginning of a datagram, or another byte there; its length where there is no memory.
+fn first_fall<S: Stands>(alloc: Global, end: &S, datagram: &[u8]) -> Option<usize> {
+    let Ok(mut bytes) = Vec::from_slice(alloc, datagram) else {
+        return Some(datagram.len());
+    };
     for place in 0..datagram.len() {
-        if !end.stands(alloc, &datagram[..place])? || !stands_at(alloc, end, &mut bytes, place)? {
-            return Ok(Some(place));
+        if !stands_at(alloc, end, &mut bytes, place) {
+            return Some(place);
         }
     }
-    Ok(None)
+    None
 }
 
-// Whether a server stands all changes of the first datagram of a kind of start.
-fn server_stands(alloc: Global, kind: Kind) -> Result<bool, Fault> {
-    let first = first_from(alloc, kind)?;
-    let served = Served::new(alloc)?;
-    Ok(first_fall(alloc, &served, &first)? == None)
+// Whether a server stands all changes of the first datagram of a start.
+fn server_stands(alloc: Global, start: Start) -> bool {
+    match (served_at_first(alloc), first_from(alloc, start)) {
+        (Ok(served), Ok(first)) => first_fall(alloc, &served, &first) == None,
+        _ => false,
+    }
 }
 
-// Whether a kind of start stands all changes of what it is sent.
-fn start_stands(alloc: Global, kind: Kind) -> Result<bool, Fault> {
-    let followed = Followed::new(alloc, kind)?;
-    Ok(first_fall(alloc, &followed, &followed.sound)? == None)
+// Whether a start stands all changes of what it is sent.
+fn start_stands(alloc: Global, start: Start) -> bool {
+    match followed_by(alloc, start) {
+        Ok(followed) => first_fall(alloc, &followed, &followed.sound) == None,
+        Err(_) => false,
+    }
 }
 
 // Whether both ends stand all changes.
-fn both_stand(alloc: Global, kind: Kind) -> Result<bool, Fault> {
-    Ok(server_stands(alloc, kind)? && start_stands(alloc, kind)?)
+fn both_stand(alloc: Global, start: Start) -> bool {
+    server_stands(alloc, start) && start_stands(alloc, start)
 }
 
 #[test]
-fn each_changed_byte_in_version_1(rt: HostRuntime) -> Result<(), Fail> {
-    assert!(rt; both_stand(rt.alloc(), Kind::Old)?);
-    Ok(())
+fn each_changed_byte_in_version_1(rt: HostRuntime) {
+    assert!(rt; both_stand(rt.alloc(), STARTS[0]));
 }
 
 #[test]
-fn each_changed_byte_in_version_2(rt: HostRuntime) -> Result<(), Fail> {
-    assert!(rt; both_stand(rt.alloc(), Kind::New)?);
-    Ok(())
+fn each_changed_byte_in_version_2(rt: HostRuntime) {
+    assert!(rt; both_stand(rt.alloc(), STARTS[1]));
 }
 
 #[test]
-fn each_changed_byte_of_one_who_watches(rt: HostRuntime) -> Result<(), Fail> {
-    assert!(rt; both_stand(rt.alloc(), Kind::Watching)?);
-    Ok(())
+fn each_changed_byte_of_one_who_watches(rt: HostRuntime) {
+    assert!(rt; both_stand(rt.alloc(), STARTS[2]));
 }

@@ -42,10 +42,21 @@ pub fn is_followed(alloc: Global, server: &mut Server, client: &mut Client) -> R
 
 use std::test::*;
 
+fn is_followed_by_new(alloc: Global, server: &mut Server) -> bool {
+    match Client::new(alloc, 1, 0xA1) {
+        Ok(mut client) => is_followed(alloc, server, &mut client) == Ok(true),
+        Err(_) => false,
+    }
+}
+
+fn is_followed_at_first(alloc: Global) -> bool {
+    match Server::new(alloc, 1, 24, 80) {
+        Ok(mut server) => is_followed_by_new(alloc, &mut server),
+        Err(_) => false,
+    }
+}
+
 #[test]
-fn a_start_follows_a_server(rt: HostRuntime) -> Result<(), Fail> {
-    let mut server = Server::new(rt.alloc(), 1, 24, 80)?;
-    let mut client = Client::new(rt.alloc(), 1, 0xA1)?;
-    assert!(rt; is_followed(rt.alloc(), &mut server, &mut client)?);
-    Ok(())
+fn a_start_follows_a_server(rt: HostRuntime) {
+    assert!(rt; is_followed_at_first(rt.alloc()));
 }

@@ -4,7 +4,7 @@ use roam_update::Synced;
 use std::alloc::Global;
 
 /// A number, whose change is its eight bytes.
-#[derive(Clone, Copy, Debug, PartialEq, Eq)]
+#[derive(Clone, Copy)]
 pub struct Counter {
     pub value: u64,
 }

@@ -1,70 +1,256 @@
-//! The two ends of a line of numbered states: what each call leaves, over numbers and over screens.
+//! The two ends of a line of numbered states, over numbers and over screens: what each call leaves, and what comes over.
+//!
+//! A case is a name and what is done, a line each, with what is wanted of it. `offer N` gives the sender a state under its number;
+//! `withdraw` takes the newest back; `acked N` acknowledges a number; `sent T` tells it a moment in milliseconds, and `due T` asks whether
+//! its newest is to be sent at one; `len N` is how many states it holds, and `tells OLD NEW` the numbers that its instruction leads from
+//! and to. `send` keeps the instruction, numbered from 0; when `comes K N` it comes, the receiver shows the number N. `round N LEN` is a
+//! round, after which the receiver shows N and the sender holds so many. `take OLD NEW FLOOR` hands the receiver a change that no sender
+//! wrote; where it is `bad`, of seven bytes.
+ghost use Rattle.std.specs.Prelude.{◌≡◌, ◌≤◌, ℕ, List, OnOk, Ok};
+ghost use Rattle.roam_sync.specs.Senders.{acked, sent_at};
+ghost use Rattle.roam_sync.specs.Lines.{update_of, IsChange, Delivers};
+ghost use Rattle.roam_sync.specs.Laws.{EachPairIsTrue, OneRoundSuffices};
+
 use crate::counters::Counter;
 use crate::numbered::{Numbered, offer};
+use crate::texts::{halves, reads_numbers, word_of};
 use roam_cells::Fault;
 use roam_screens::RowShot;
-use roam_sync::{Receiver, Sender, Step};
+use roam_sync::{Instruction, Receiver, Sender, Step, laws};
+use roam_update::Synced;
 use std::alloc::Global;
-use std::test::Fail;
+use std::test::*;
 
-/// What is done to a sender, and what is wanted of it. Moments are milliseconds.
-#[derive(Clone, Copy, Debug)]
-enum Call {
-    Offer(u64),
-    /// An offer that finds eight states held.
-    Full(u64),
-    Withdraw,
-    Acked(u64),
-    Sent(u64),
-    Due(u64, bool),
-    Len(usize),
-    /// The numbers that an instruction leads from and to.
-    Tells(u64, u64),
+const CASES: &str = "\
+A sender holds at most eight states.
+len 1
+tells 0 0
+due 0: yes
+sent 0
+due 2999: no
+due 3000: yes
+offer 1: held
+offer 2: held
+offer 3: held
+offer 4: held
+offer 5: held
+offer 6: held
+offer 7: held
+len 8
+offer 8: full
+len 8
+tells 0 7
+due 0: yes
+acked 3
+len 5
+acked 2
+acked 9
+len 5
+tells 3 7
+sent 100
+due 349: no
+due 350: yes
+# A moment below the last sending's counts as that one.
+due 5: no
+acked 7
+len 1
+tells 7 7
+due 350: no
+due 3099: no
+due 3100: yes
+offer 8: held
+due 3099: yes
+withdraw
+due 3099: no
+due 3100: yes
+tells 7 7
+
+Updates 0 to 3 lead from 0 to 1, from 0 to 2, from 0 to 3 and from 2 to 3.
+offer 1: held
+send
+offer 2: held
+send
+comes 1 2: new
+comes 0 2: old
+comes 1 2: old
+offer 3: held
+send
+acked 2
+len 2
+send
+comes 3 3: new
+comes 2 3: old
+acked 0
+len 2
+acked 3
+len 1
+acked 2
+len 1
+round 3 1: old
+comes 0 3: old
+
+All updates are lost until the sender is full; the receiver takes a state from each, the oldest last.
+offer 2: held
+send
+offer 3: held
+offer 5: held
+offer 8: held
+offer 13: held
+offer 21: held
+offer 34: held
+offer 55: full
+round 34 1: new
+comes 0 34: old
+offer 55: held
+round 55 1: new
+
+Each update comes and no acknowledgement does: both ends hold eight, and one acknowledgement makes room at both.
+offer 1: held
+send
+comes 0 1: new
+offer 2: held
+send
+comes 1 2: new
+offer 3: held
+send
+comes 2 3: new
+offer 4: held
+send
+comes 3 4: new
+offer 5: held
+send
+comes 4 5: new
+offer 6: held
+send
+comes 5 6: new
+offer 7: held
+send
+comes 6 7: new
+offer 8: full
+acked 1
+len 7
+offer 8: held
+round 8 1: new
+
+When a newest state is due.
+# Never sent.
+due 0: yes
+sent 1000
+# Nothing is above the base.
+due 1250: no
+due 3999: no
+due 4000: yes
+offer 1: held
+offer 2: held
+due 1000: yes
+sent 5000
+due 5000: no
+due 5249: no
+due 5250: yes
+due 8000: yes
+# An acknowledgement that leaves two.
+acked 1
+due 5249: no
+due 5250: yes
+# A number that isn't held.
+acked 9
+due 5250: yes
+# A moment below the last sending's counts as that one.
+due 4000: no
+due 0: no
+sent 6000
+due 6249: no
+due 6250: yes
+# An acknowledgement of the newest.
+acked 2
+due 6250: no
+due 8999: no
+due 9000: yes
+# The last moments.
+sent 18446744073709548615
+due 18446744073709551614: no
+due 18446744073709551615: yes
+offer 3: held
+sent 18446744073709551366
+due 18446744073709551615: no
+
+A receiver takes what follows a state that it holds.
+take 0 3 0: new
+take 0 3 0: old
+take 2 5 0: gap
+take 3 5 3: new
+take 0 6 0: gap
+
+A receiver holds eight states after the seventh; a floor of 1 makes room for the next.
+take 0 1 0: new
+take 0 2 0: new
+take 0 3 0: new
+take 0 4 0: new
+take 0 5 0: new
+take 0 6 0: new
+take 0 7 0: new
+take 0 8 0: gap
+take 1 8 1: new
+take 0 9 0: gap
+
+A bad change leaves a receiver.
+take 0 5 0: new
+take 5 6 0: bad
+take 5 6 0: new
+
+A number beyond four bytes.
+offer 7: held
+acked 7
+offer 18446744069414584321: held
+tells 7 18446744069414584321";
+
+/// One round: the newest is sent, its update comes, and the answer to it comes.
+fn round<S: Synced>(
+    alloc: Global,
+    sender: &mut Sender<S>,
+    receiver: &mut Receiver<S>,
+    now: u64,
+) -> Result<Step, Fault>
+    ensures round { OnOk result ((change : List ℕ) × IsChange S.applied sender.old change
+        × Delivers S.applied receiver.old (update_of sender.old change) receiver.new
+        × (sender.new ≡ acked (sent_at sender.old now) receiver.new.newest.number)) }
+{
+    let instruction = sender.instruction(alloc)?;
+    let step = receiver.take(
+        alloc,
+        instruction.old,
+        instruction.new,
+        instruction.floor,
+        &instruction.change,
+    )?;
+    sender.sent(now);
+    sender.acked(receiver.newest().0);
+    Ok(step)
 }
 
-static SENDING: [Call; 40] = [
-    Call::Len(1),
-    Call::Tells(0, 0),
-    Call::Due(0, true),
-    Call::Sent(0),
-    Call::Due(2999, false),
-    Call::Due(3000, true),
-    Call::Offer(1),
-    Call::Offer(2),
-    Call::Offer(3),
-    Call::Offer(4),
-    Call::Offer(5),
-    Call::Offer(6),
-    Call::Offer(7),
-    Call::Len(8),
-    Call::Full(8),
-    Call::Len(8),
-    Call::Tells(0, 7),
-    Call::Due(0, true),
-    Call::Acked(3),
-    Call::Len(5),
-    Call::Acked(2),
-    Call::Acked(9),
-    Call::Len(5),
-    Call::Tells(3, 7),
-    Call::Sent(100),
-    Call::Due(349, false),
-    Call::Due(350, true),
-    // A moment below the last sending's counts as that one.
-    Call::Due(5, false),
-    Call::Acked(7),
-    Call::Len(1),
-    Call::Tells(7, 7),
-    Call::Due(350, false),
-    Call::Due(3099, false),
-    Call::Due(3100, true),
-    Call::Offer(8),
-    Call::Due(3099, true),
-    Call::Withdraw,
-    Call::Due(3099, false),
-    Call::Due(3100, true),
-    Call::Tells(7, 7),
-];
+/// Both ends, and the updates that were sent.
+#[derive(Drop)]
+struct Line<S> {
+    sender: Sender<S>,
+    receiver: Receiver<S>,
+    sent: Vec<Instruction>,
+}
+
+fn begun<S: Numbered>(alloc: Global) -> Result<Line<S>, Fault> {
+    Ok(Line {
+        sender: Sender::new(alloc, S::of(alloc, 0)?)?,
+        receiver: Receiver::new(alloc, S::of(alloc, 0)?)?,
+        sent: Vec::new(alloc),
+    })
+}
+
+fn offered<S: Numbered>(alloc: Global, sender: &mut Sender<S>, number: u64) -> &'static str {
+    match offer(alloc, sender, number) {
+        Ok(true) => "held",
+        Ok(false) => "low",
+        Err(fault) => word_of(fault),
+    }
+}
 
 // Whether an instruction leads from one number to another, and its change from the one state to the other.
 fn tells<S: Numbered>(
@@ -76,142 +262,225 @@ fn tells<S: Numbered>(
     let instruction = sender.instruction(alloc)?;
     let mut state = S::of(alloc, old)?;
     state.apply(alloc, &instruction.change)?;
-    let numbers = instruction.old == old && instruction.new == new;
-    Ok(numbers && instruction.floor == old && state.is(new))
+    let numbers = [instruction.old, instruction.new, instruction.floor];
+    Ok(numbers == [old, new, old] && state.is(new))
 }
 
-fn does<S: Numbered>(alloc: Global, sender: &mut Sender<S>, call: Call) -> Result<bool, Fault> {
-    match call {
-        Call::Offer(number) => return offer(alloc, sender, number),
-        Call::Full(number) => {
-            return Ok(offer(alloc, sender, number) == Err(Fault::SendFull));
-        }
-        Call::Withdraw => {
-            if 1 < sender.len() {
-                sender.withdraw();
-            }
-        }
-        Call::Acked(number) => sender.acked(number),
-        Call::Sent(now) => sender.sent(now),
-        Call::Due(now, due) => return Ok(sender.due(now) == due),
-        Call::Len(len) => return Ok(sender.len() == len),
-        Call::Tells(old, new) => return tells(alloc, sender, old, new),
+// Whether a sender is told or asked this, and answers so.
+fn answers<S: Numbered>(
+    alloc: Global,
+    sender: &mut Sender<S>,
+    verb: &str,
+    row: [u64; 3],
+    told: &str,
+) -> bool {
+    match verb {
+        "offer" => return offered(alloc, sender, row[0]) == told,
+        "due" => return told == if sender.due(row[0]) { "yes" } else { "no" },
+        "len" => return sender.len() as u64 == row[0],
+        "tells" => return tells(alloc, sender, row[0], row[1]) == Ok(true),
+        "acked" => sender.acked(row[0]),
+        "sent" => sender.sent(row[0]),
+        "withdraw" if 1 < sender.len() => sender.withdraw(),
+        _ => return false,
     }
-    Ok(true)
+    told.is_empty()
 }
 
-#[test]
-fn a_sender_of_numbers(rt: HostRuntime) -> Result<(), Fail> {
-    let mut sender = Sender::new(rt.alloc(), Counter { value: 0 })?;
-    for step in SENDING {
-        assert!(rt; does(rt.alloc(), &mut sender, step)?, "{step:?}");
-    }
+fn send<S: Numbered>(alloc: Global, line: &mut Line<S>) -> Result<(), Fault> {
+    let instruction = line.sender.instruction(alloc)?;
+    line.sent.push(instruction)?;
+    line.sender.sent(0);
     Ok(())
 }
 
-#[test]
-fn a_sender_of_screens(rt: HostRuntime) -> Result<(), Fail> {
-    let mut sender = Sender::new(rt.alloc(), <RowShot as Numbered>::of(rt.alloc(), 0)?)?;
-    for step in SENDING {
-        assert!(rt; does(rt.alloc(), &mut sender, step)?, "{step:?}");
+fn step_word(answer: Result<Step, Fault>) -> &'static str {
+    match answer {
+        Ok(Step::New) => "new",
+        Ok(Step::Old) => "old",
+        Ok(Step::Gap) => "gap",
+        Err(fault) => word_of(fault),
     }
-    Ok(())
 }
 
-/// An instruction's old number, new number and floor, and what a receiver makes of it.
-type Take = (u64, u64, u64, Step);
+// Whether the receiver shows this number with its state.
+fn shows<S: Numbered>(receiver: &Receiver<S>, number: u64) -> bool {
+    let (newest, state) = receiver.newest();
+    newest == number && state.is(number)
+}
 
-static FEW: [Take; 5] = [
-    (0, 3, 0, Step::New),
-    (0, 3, 0, Step::Old),
-    (2, 5, 0, Step::Gap),
-    (3, 5, 3, Step::New),
-    (0, 6, 0, Step::Gap),
-];
+// What a receiver makes of a change; no update leads from below its floor, or down.
+fn taken<S: Numbered>(
+    alloc: Global,
+    receiver: &mut Receiver<S>,
+    row: [u64; 3],
+    change: &[u8],
+) -> &'static str {
+    let [old, new, floor] = row;
+    if old < floor || new < old {
+        return "none";
+    }
+    step_word(receiver.take(alloc, old, new, floor, change))
+}
 
-// Eight states are held after the seventh; a floor of 1 makes room for the next.
-static MANY: [Take; 10] = [
-    (0, 1, 0, Step::New),
-    (0, 2, 0, Step::New),
-    (0, 3, 0, Step::New),
-    (0, 4, 0, Step::New),
-    (0, 5, 0, Step::New),
-    (0, 6, 0, Step::New),
-    (0, 7, 0, Step::New),
-    (0, 8, 0, Step::Gap),
-    (1, 8, 1, Step::New),
-    (0, 9, 0, Step::Gap),
-];
+// Whether the update of that number comes so, and this number is shown then.
+fn comes<S: Numbered>(alloc: Global, line: &mut Line<S>, row: [u64; 3], told: &str) -> bool {
+    let Some(update) = line.sent.get(row[0] as usize) else {
+        return false;
+    };
+    let numbers = [update.old, update.new, update.floor];
+    taken(alloc, &mut line.receiver, numbers, &update.change) == told
+        && shows(&line.receiver, row[1])
+}
 
-// Whether a receiver answers so, and shows the state of the newest number.
+fn goes_round<S: Numbered>(alloc: Global, line: &mut Line<S>, row: [u64; 3], told: &str) -> bool {
+    let step = round(alloc, &mut line.sender, &mut line.receiver, 0);
+    step_word(step) == told && shows(&line.receiver, row[0]) && line.sender.len() as u64 == row[1]
+}
+
+// The change that leads from the state of one number to that of another; or seven bytes, which lead nowhere.
+fn change_of<S: Numbered>(alloc: Global, old: u64, new: u64, told: &str) -> Result<Vec<u8>, Fault> {
+    let mut change = Vec::new(alloc);
+    if told == "bad" {
+        change.extend_from_slice(&[0; 7])?;
+    } else {
+        S::of(alloc, new)?.write_change(alloc, &S::of(alloc, old)?, &mut change)?;
+    }
+    Ok(change)
+}
+
+// Whether a receiver answers a change so, and shows the state of its newest number.
 fn takes<S: Numbered>(
     alloc: Global,
     receiver: &mut Receiver<S>,
-    told: Take,
+    row: [u64; 3],
+    told: &str,
 ) -> Result<bool, Fault> {
-    let (old, new, floor, wanted) = told;
-    if old < floor || new < old {
-        return Ok(false);
-    }
-    let mut change = Vec::new(alloc);
-    S::of(alloc, new)?.write_change(alloc, &S::of(alloc, old)?, &mut change)?;
-    let step = receiver.take(alloc, old, new, floor, &change)?;
-    let (number, state) = receiver.newest();
-    Ok(step == wanted && state.is(number) && (step != Step::New || number == new))
+    let change = change_of::<S>(alloc, row[0], row[1], told)?;
+    let (before, _) = receiver.newest();
+    let is_told = taken(alloc, receiver, row, &change) == told;
+    let number = if told == "new" { row[1] } else { before };
+    Ok(is_told && shows(receiver, number))
 }
 
-fn takes_all<S: Numbered>(alloc: Global, rows: &[Take]) -> Result<bool, Fault> {
-    let mut receiver = Receiver::new(alloc, S::of(alloc, 0)?)?;
-    for told in rows {
-        if !takes(alloc, &mut receiver, *told)? {
-            return Ok(false);
+fn happens<S: Numbered>(
+    alloc: Global,
+    line: &mut Line<S>,
+    verb: &str,
+    row: [u64; 3],
+    told: &str,
+) -> bool {
+    match verb {
+        "send" => send(alloc, line).is_ok(),
+        "comes" => comes(alloc, line, row, told),
+        "round" => goes_round(alloc, line, row, told),
+        "take" => takes(alloc, &mut line.receiver, row, told) == Ok(true),
+        _ => answers(alloc, &mut line.sender, verb, row, told),
+    }
+}
+
+// How many numbers stand behind a verb.
+fn count_of(verb: &str) -> usize
+    ensures most { result ≤ 3 }
+{
+    match verb {
+        "send" | "withdraw" => 0,
+        "tells" | "comes" | "round" => 2,
+        "take" => 3,
+        _ => 1,
+    }
+}
+
+// The numbers behind a verb, and zeros.
+fn numbers_of(verb: &str, text: &str) -> Option<[u64; 3]> {
+    let mut row = [0; 3];
+    let is_read = reads_numbers(text, &mut row[..count_of(verb)]);
+    if is_read { Some(row) } else { None }
+}
+
+fn holds<S: Numbered>(alloc: Global, line: &mut Line<S>, words: &str) -> bool {
+    let (asked, told) = halves(words, ": ");
+    let (verb, numbers) = halves(asked, " ");
+    match numbers_of(verb, numbers) {
+        Some(row) => happens(alloc, line, verb, row, told),
+        None => false,
+    }
+}
+
+fn all_hold<S: Numbered>(alloc: Global, line: &mut Line<S>, case: &str) -> bool {
+    for words in case.lines().skip(1) {
+        if !words.starts_with("# ") && !holds(alloc, line, words) {
+            return false;
         }
     }
-    Ok(true)
+    true
+}
+
+fn plays<S: Numbered>(alloc: Global, case: &str) -> bool {
+    match begun::<S>(alloc) {
+        Ok(mut line) => all_hold(alloc, &mut line, case),
+        Err(_) => false,
+    }
+}
+
+fn first_wrong<S: Numbered>(alloc: Global) -> Option<&'static str> {
+    for case in CASES.split("\n\n") {
+        if !plays::<S>(alloc, case) {
+            return Some(case);
+        }
+    }
+    None
 }
 
 #[test]
-fn a_receiver_of_numbers(rt: HostRuntime) -> Result<(), Fail> {
-    assert!(rt; takes_all::<Counter>(rt.alloc(), &FEW)?);
-    assert!(rt; takes_all::<Counter>(rt.alloc(), &MANY)?);
-    Ok(())
+fn lines_of_numbers_and_of_screens(rt: HostRuntime) {
+    assert_eq!(rt; first_wrong::<Counter>(rt.alloc()), None);
+    assert_eq!(rt; first_wrong::<RowShot>(rt.alloc()), None);
 }
 
-#[test]
-fn a_receiver_of_screens(rt: HostRuntime) -> Result<(), Fail> {
-    assert!(rt; takes_all::<RowShot>(rt.alloc(), &FEW)?);
-    assert!(rt; takes_all::<RowShot>(rt.alloc(), &MANY)?);
-    Ok(())
+// Whether an end that was refused memory is as before: the sender by its length, the receiver by the number that it shows.
+fn stands<S: Numbered>(line: &Line<S>, len: usize, number: u64) -> bool {
+    line.sender.len() == len && shows(&line.receiver, number)
 }
 
-#[test]
-fn a_bad_change_leaves_a_receiver(rt: HostRuntime) -> Result<(), Fail> {
-    let mut receiver = Receiver::new(rt.alloc(), Counter { value: 5 })?;
-    let short = receiver.take(rt.alloc(), 0, 1, 0, &[0; 7]);
-    assert!(rt; short == Err(Fault::BadChange));
-    let (number, state) = receiver.newest();
-    assert!(rt; number == 0 && state.value == 5);
-    Ok(())
+// Two offers and a round, stopped at the first refusal, which leaves both ends as they were.
+fn refused_leaves<S: Numbered>(alloc: Global, line: &mut Line<S>) -> bool {
+    for number in 1..3u64 {
+        if let Err(fault) = offer(alloc, &mut line.sender, number) {
+            return fault == Fault::OutOfMemory && stands(line, number as usize, 0);
+        }
+    }
+    match round(alloc, &mut line.sender, &mut line.receiver, 0) {
+        Err(fault) => fault == Fault::OutOfMemory && stands(line, 3, 0),
+        Ok(step) => step == Step::New && stands(line, 1, 2),
+    }
 }
 
+// The same of a new line; where there is no memory for it, nothing is left.
+fn refused_leaves_a_line<S: Numbered>(alloc: Global) -> bool {
+    match begun::<S>(alloc) {
+        Ok(mut line) => refused_leaves(alloc, &mut line),
+        Err(fault) => fault == Fault::OutOfMemory,
+    }
+}
+
+// To be run with each of its allocations refused in turn, too.
 #[test]
 fn refused_memory_leaves_both_ends(rt: HostRuntime) {
-    let alloc = rt.alloc();
-    let Ok(mut sender) = Sender::new(alloc, Counter { value: 0 }) else {
-        return;
-    };
-    let offered = offer(alloc, &mut sender, 1);
-    let len = if offered.is_ok() { 2 } else { 1 };
-    assert!(rt; offered.is_ok() || offered == Err(Fault::OutOfMemory));
-    assert!(rt; sender.len() == len);
-    let Ok(mut receiver) = Receiver::new(alloc, Counter { value: 0 }) else {
-        return;
-    };
-    let change = 7u64.to_be_bytes();
-    let taken = receiver.take(alloc, 0, 1, 0, &change);
-    let (number, _) = receiver.newest();
-    match taken {
-        Ok(step) => assert!(rt; step == Step::New && number == 1),
-        Err(fault) => assert!(rt; fault == Fault::OutOfMemory && number == 0),
-    }
+    assert!(rt; refused_leaves_a_line::<Counter>(rt.alloc()));
+    assert!(rt; refused_leaves_a_line::<RowShot>(rt.alloc()));
+}
+
+/// The laws at screens.
+#[test]
+fn the_laws_hold_of_screens(_rt: HostRuntime) {
+    laws_of_screens();
+}
+
+fn laws_of_screens()
+    ensures pairs { EachPairIsTrue ⟦<RowShot as Synced>⟧.applied }
+    ensures round { OneRoundSuffices ⟦<RowShot as Synced>⟧.applied }
+{
+    laws::each_pair_is_true::<RowShot>();
+    laws::one_round_suffices::<RowShot>();
 }

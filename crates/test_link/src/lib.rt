@@ -15,8 +15,6 @@ mod fragments;
 #[cfg(test)]
 mod instructions;
 #[cfg(test)]
-mod lines;
-#[cfg(test)]
 mod numbered;
 #[cfg(test)]
 mod texts;

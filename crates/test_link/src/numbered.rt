@@ -5,7 +5,6 @@ use roam_screens::{RowShot, Seen};
 use roam_sync::Sender;
 use roam_update::Synced;
 use std::alloc::Global;
-use std::test::Fail;
 
 /// A state for each number.
 pub trait Numbered: Synced {
@@ -46,26 +45,4 @@ pub fn offer<S: Numbered>(
     }
     sender.offer(number, state)?;
     Ok(true)
-}
-
-// What follows a state by changes, whatever state it is.
-fn followed<S: Synced>(alloc: Global, base: &S, state: &S) -> Result<S, Fault> {
-    let mut text = Vec::new(alloc);
-    state.write_change(alloc, base, &mut text)?;
-    let mut copy = base.copy(alloc)?;
-    copy.apply(alloc, &text)?;
-    Ok(copy)
-}
-
-// Whether the state of one number is followed to that of another.
-fn is_followed<S: Numbered>(alloc: Global, low: u64, high: u64) -> Result<bool, Fault> {
-    let copy = followed(alloc, &S::of(alloc, low)?, &S::of(alloc, high)?)?;
-    Ok(copy.is(high))
-}
-
-#[test]
-fn two_kinds_of_states_are_followed(rt: HostRuntime) -> Result<(), Fail> {
-    assert!(rt; is_followed::<Counter>(rt.alloc(), 7, 0xFFFF_FFFF_0000_0001)?);
-    assert!(rt; is_followed::<RowShot>(rt.alloc(), 7, 0xFFFF_FFFF_0000_0001)?);
-    Ok(())
 }

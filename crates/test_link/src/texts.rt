@@ -1,7 +1,6 @@
 //! Words of cases: a table that is one text is proved at once, whatever its length.
-use roam_cells::Reason;
+use roam_cells::{Fault, Reason};
 use std::alloc::Global;
-use std::test::Fail;
 
 // A number; the largest that goes over the network is below 2^62.
 fn number(word: &str) -> Option<u64> {
@@ -14,7 +13,7 @@ fn number(word: &str) -> Option<u64> {
 
 /// Whether a text is as many numbers as there is place for, which are put there.
 pub fn reads_numbers(text: &str, places: &mut [u64]) -> bool {
-    let mut words = text.split(' ');
+    let mut words = text.split_whitespace();
     for place in places.iter_mut() {
         match words.next().and_then(|word| number(word)) {
             Some(number) => *place = number,
@@ -24,29 +23,36 @@ pub fn reads_numbers(text: &str, places: &mut [u64]) -> bool {
     words.next().is_none()
 }
 
+/// What stands before a text's first mark and behind it, where nothing may stand.
+pub fn halves<'a>(text: &'a str, mark: &str) -> (&'a str, &'a str) {
+    text.split_once(mark).unwrap_or((text, ""))
+}
+
 /// A number of two bytes: that of a table, or the largest.
 pub fn short(number: u64) -> u16 {
     number.min(0xFFFF) as u16
 }
 
-/// The reason of a refusal by its name, or that there is none.
-pub fn reason(word: &str) -> Option<Option<Reason>> {
-    match word {
-        "none" => Some(None),
-        "short" => Some(Some(Reason::Short)),
-        "length" => Some(Some(Reason::Length)),
-        "magic" => Some(Some(Reason::Magic)),
-        "version" => Some(Some(Reason::Version)),
-        "kind" => Some(Some(Reason::Kind)),
-        "fragment" => Some(Some(Reason::Fragment)),
-        _ => None,
+/// The word for a refusal; no table has that for one of another kind.
+pub fn word_of(fault: Fault) -> &'static str {
+    match fault {
+        Fault::BadDatagram(Reason::Short) => "short",
+        Fault::BadDatagram(Reason::Length) => "length",
+        Fault::BadDatagram(Reason::Magic) => "magic",
+        Fault::BadDatagram(Reason::Version) => "version",
+        Fault::BadDatagram(Reason::Kind) => "kind",
+        Fault::BadDatagram(Reason::Fragment) => "fragment",
+        Fault::BadChange => "bad",
+        Fault::SendFull => "full",
+        Fault::TooLong => "too long",
+        _ => "another",
     }
 }
 
 /// The bytes of hexadecimal digits; none of `-`.
-pub fn bytes_of(alloc: Global, digits: &str) -> Result<Vec<u8>, Fail> {
+pub fn bytes_of(alloc: Global, digits: &str) -> Option<Vec<u8>> {
     if digits == "-" {
-        return Ok(Vec::new(alloc));
+        return Some(Vec::new(alloc));
     }
-    Ok(hex::decode(alloc, digits)?)
+    hex::decode(alloc, digits).ok()
 }

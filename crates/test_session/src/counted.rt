@@ -25,34 +25,51 @@ static PIECES: [&[u8]; 8] = [
     b"\xE4\xB8\xF0\x9F\x80\xFF\xC0\x1B[12\x1B[1:2C\x1B[ p\x1Bc\x1B[?7l end of the last column, and beyond",
 ];
 
-// Feeds all pieces, takes what they answer, types keys, and clears the marks.
-fn call_term(term: &mut Term) -> Result<bool, Fault> {
+// Feeds all pieces, and takes what they answer.
+fn feed_all(term: &mut Term) -> Result<(), Fault> {
     let mut out = [0; 512];
     for piece in PIECES {
         term.feed(piece)?;
         let count = term.copy_output(&mut out);
         term.take_output(count);
     }
+    Ok(())
+}
+
+// Types keys, and clears the marks.
+fn type_keys(term: &mut Term) -> Result<bool, Fault> {
     term.key(&Key::Up)?;
     term.key(&Key::Char('\u{4E2D}'))?;
     term.clear_marks();
     Ok(term.output_len() == 6 && term.marks().get(0).copied() == Some(false))
 }
 
-// A terminal of 3 rows with a history that is full, and memory for another size; brought to it, and fed again.
-fn terms(alloc: Global, called: bool) -> Result<bool, Fault> {
-    let mut term = Term::new(alloc, 3, 80, 2)?;
-    let is_fed = call_term(&mut term)?;
+fn call_term(term: &mut Term) -> Result<bool, Fault> {
+    feed_all(term)?;
+    type_keys(term)
+}
+
+// Memory for another size is taken in any case.
+fn fit_and_call(alloc: Global, term: &mut Term, called: bool) -> Result<bool, Fault> {
     let fitted = term.fit(alloc, 5, 40)?;
     if !called {
-        return Ok(is_fed);
+        return Ok(true);
     }
     term.adopt(fitted);
-    Ok(is_fed && call_term(&mut term)?)
+    call_term(term)
+}
+
+// A terminal of 3 rows with a history that is full, and memory for another size; brought to it, and fed again.
+fn is_term(alloc: Global, called: bool) -> bool {
+    match Term::new(alloc, 3, 80, 2) {
+        Ok(mut term) => call_term(&mut term) == Ok(true)
+            && fit_and_call(alloc, &mut term, called) == Ok(true),
+        Err(_) => false,
+    }
 }
 
 // Bytes of a pane, keys, what waits, marks, lives.
-fn call_session(session: &mut Session) -> Result<bool, Fault> {
+fn call_panes(session: &mut Session) -> Result<bool, Fault> {
     let mut out = [0; 64];
     for piece in PIECES {
         session.pane_bytes(1, piece)?;
@@ -67,17 +84,27 @@ fn call_session(session: &mut Session) -> Result<bool, Fault> {
     )
 }
 
-fn sessions(alloc: Global, called: bool) -> Result<bool, Fault> {
-    let mut session = Session::new(alloc, 24, 80)?;
+fn type_key(alloc: Global, session: &mut Session) -> Result<bool, Fault> {
+    session.act(alloc, 7, &Act::Key(Key::Return))?;
+    let typed = session.output_len(1).unwrap_or(0);
+    session.drain(1, typed)?;
+    Ok(typed == 1)
+}
+
+fn call_session(alloc: Global, session: &mut Session, called: bool) -> Result<bool, Fault> {
     let face = session.face(alloc)?;
     if !called {
         return Ok(true);
     }
     session.keep(face);
-    session.act(alloc, 7, &Act::Key(Key::Return))?;
-    let typed = session.output_len(1).unwrap_or(0);
-    session.drain(1, typed)?;
-    Ok(typed == 1 && call_session(&mut session)?)
+    Ok(type_key(alloc, session)? && call_panes(session)?)
+}
+
+fn is_session(alloc: Global, called: bool) -> bool {
+    match Session::new(alloc, 24, 80) {
+        Ok(mut session) => call_session(alloc, &mut session, called) == Ok(true),
+        Err(_) => false,
+    }
 }
 
 // The calls of a server that a pane's socket makes.
@@ -89,42 +116,44 @@ fn call_server(server: &mut Server) -> Result<bool, Fault> {
     Ok(count == 8 && server.room(1) == Some(65_536) && server.life(2) == None)
 }
 
-fn servers(alloc: Global, called: bool) -> Result<bool, Fault> {
-    let mut server = Server::new(alloc, 1, 24, 80)?;
-    if !called {
-        return Ok(true);
+fn is_server(alloc: Global, called: bool) -> bool {
+    match Server::new(alloc, 1, 24, 80) {
+        Ok(mut server) => !called || call_server(&mut server) == Ok(true),
+        Err(_) => false,
     }
-    call_server(&mut server)
+}
+
+// Whether the acts of these lines are read, and in range.
+fn are_read(lines: &[&str]) -> bool {
+    for line in lines {
+        if !matches!(read_act(line.as_bytes()), Ok(act) if act.in_range()) {
+            return false;
+        }
+    }
+    true
 }
 
 // Acts that are read, taken and acknowledged.
-fn call_acts(sender: &mut ActSender) -> Result<bool, Fault> {
+fn call_acts(sender: &mut ActSender) -> bool {
     let mut taker = ActTaker::new();
     let (first, waiting) = sender.waiting();
     let fresh = taker.fresh(first, waiting).len();
     taker.took();
     sender.acked(1);
-    let read = [
-        read_act(b"grow -99")?,
-        read_act(b"char 1f600")?,
-        read_act(b"key padenter")?,
-    ];
-    Ok(
-        fresh == 2
-            && read.iter().all(|act| act.in_range())
-            && sender.waiting().1.len() == 1
-            && taker.taken() == 1,
-    )
+    fresh == 2
+        && are_read(&["grow -99", "char 1f600", "key padenter"])
+        && sender.waiting().1.len() == 1
+        && taker.taken() == 1
 }
 
-fn acts(alloc: Global, called: bool) -> Result<bool, Fault> {
-    let mut sender = ActSender::new(alloc);
+fn type_two(sender: &mut ActSender) -> Result<(), Fault> {
     sender.typed(Act::Next)?;
-    sender.typed(Act::Close)?;
-    if !called {
-        return Ok(true);
-    }
-    call_acts(&mut sender)
+    sender.typed(Act::Close)
+}
+
+fn are_acts(alloc: Global, called: bool) -> bool {
+    let mut sender = ActSender::new(alloc);
+    type_two(&mut sender).is_ok() && (!called || call_acts(&mut sender))
 }
 
 // A sender's moments and what is acknowledged to it.
@@ -136,11 +165,18 @@ fn call_sender(sender: &mut Sender<RowShot>) -> bool {
     is_due && !is_over && sender.newest_number() == 2
 }
 
-fn senders(alloc: Global, called: bool) -> Result<bool, Fault> {
+fn sender_of_three(alloc: Global) -> Result<Sender<RowShot>, Fault> {
     let mut sender = Sender::new(alloc, RowShot::blank(alloc, 2, 8)?)?;
     sender.offer(1, RowShot::blank(alloc, 2, 8)?)?;
     sender.offer(2, RowShot::blank(alloc, 2, 8)?)?;
-    Ok(!called || call_sender(&mut sender))
+    Ok(sender)
+}
+
+fn is_sender(alloc: Global, called: bool) -> bool {
+    match sender_of_three(alloc) {
+        Ok(mut sender) => !called || call_sender(&mut sender),
+        Err(_) => false,
+    }
 }
 
 // The first of two fragments of an instruction.
@@ -158,38 +194,39 @@ fn first_fragment(alloc: Global) -> Result<Datagram, Fault> {
     })
 }
 
-fn gatherers(alloc: Global, called: bool) -> Result<bool, Fault> {
-    let datagram = first_fragment(alloc)?;
+fn call_gatherer(alloc: Global, datagram: &Datagram, called: bool) -> bool {
     let mut gatherer = Gatherer::new(alloc);
-    let is_part = matches!(gatherer.take(alloc, &datagram)?, Gathered::Part);
+    let is_part = matches!(gatherer.take(alloc, datagram), Ok(Gathered::Part));
     if called {
         gatherer.untake();
         gatherer.untake();
     }
-    Ok(is_part)
+    is_part
 }
 
-fn screens_are_right(alloc: Global, called: bool) -> Result<bool, Fault> {
-    Ok(terms(alloc, called)? && sessions(alloc, called)? && servers(alloc, called)?)
-}
-
-fn ends_are_right(alloc: Global, called: bool) -> Result<bool, Fault> {
-    Ok(acts(alloc, called)? && senders(alloc, called)? && gatherers(alloc, called)?)
+fn is_gatherer(alloc: Global, called: bool) -> bool {
+    match first_fragment(alloc) {
+        Ok(datagram) => call_gatherer(alloc, &datagram, called),
+        Err(_) => false,
+    }
 }
 
 // Whether all values are made, and do what they are called for.
-fn are_right(alloc: Global, called: bool) -> Result<bool, Fault> {
-    Ok(screens_are_right(alloc, called)? && ends_are_right(alloc, called)?)
+fn are_right(alloc: Global, called: bool) -> bool {
+    is_term(alloc, called)
+        && is_session(alloc, called)
+        && is_server(alloc, called)
+        && are_acts(alloc, called)
+        && is_sender(alloc, called)
+        && is_gatherer(alloc, called)
 }
 
 #[test]
-fn values_that_take_memory_once(rt: HostRuntime) -> Result<(), Fail> {
-    assert!(rt; are_right(rt.alloc(), false)?);
-    Ok(())
+fn values_that_take_memory_once(rt: HostRuntime) {
+    assert!(rt; are_right(rt.alloc(), false));
 }
 
 #[test]
-fn values_that_take_memory_once_called(rt: HostRuntime) -> Result<(), Fail> {
-    assert!(rt; are_right(rt.alloc(), true)?);
-    Ok(())
+fn values_that_take_memory_once_called(rt: HostRuntime) {
+    assert!(rt; are_right(rt.alloc(), true));
 }

@@ -16,3 +16,5 @@ mod replies;
 mod requests;
 #[cfg(test)]
 mod sessions;
+#[cfg(test)]
+mod words;

@@ -4,34 +4,39 @@
 ghost use Rattle.std.specs.Prelude.{◌≡◌, IfOk};
 ghost use Rattle.roam_session.specs.Stands.{face_now};
 
-use crate::requests::{NINE, act, with_panes};
-use crate::sessions::is_same_screen;
+use crate::requests::{act, does_all, is_same_screen};
+use crate::sessions::NINE;
 use roam_cells::Fault;
 use roam_screens::RowShot;
 use roam_session::Session;
 use std::alloc::Global;
 use std::test::*;
 
-/// How many panes a session has, and the act that is refused or done.
-static ROWS: [(u8, &str); 3] = [(1, "split right"), (2, "close"), (9, "size 40 120")];
+/// An act that is refused or done, and what is asked of the session before it.
+const CASES: [(&str, &str); 3] = [
+    ("split right", "bytes 1 1␛[6n"),
+    ("close", "split down\nbytes 1 1␛[6n\nbytes 2 2␛[6n"),
+    ("size 40 120", NINE),
+];
 
-static TWO: [&str; 1] = ["split down"];
-
-fn acts_of(panes: u8) -> &'static [&'static str] {
-    match panes {
-        1 => &[],
-        2 => &TWO,
-        _ => &NINE,
+fn made_once(alloc: Global, lines: &str) -> Option<Session> {
+    let mut session = Session::new(alloc, 24, 80).ok()?;
+    if does_all(alloc, &mut session, lines, true) {
+        Some(session)
+    } else {
+        None
     }
 }
 
-fn made(alloc: Global, acts: &[&str]) -> Result<Session, Fault> {
-    match with_panes(alloc, acts) {
-        Err(Fault::OutOfMemory) => with_panes(alloc, acts),
-        answer => answer,
+/// A session of 24 by 80 of which these lines were asked, once more where memory was refused.
+pub fn made(alloc: Global, lines: &str) -> Option<Session> {
+    match made_once(alloc, lines) {
+        None => made_once(alloc, lines),
+        session => session,
     }
 }
 
+/// The face of a session, asked for once more where memory was refused.
 pub fn face_of(alloc: Global, session: &Session) -> Result<RowShot, Fault>
     ensures now { IfOk result (λ shot. shot ≡ face_now session.now) }
 {
@@ -41,64 +46,56 @@ pub fn face_of(alloc: Global, session: &Session) -> Result<RowShot, Fault>
     }
 }
 
-// The session that a run without refusal ends with.
-fn made_and_done(alloc: Global, panes: u8, line: &str) -> Result<Session, Fault> {
-    let mut session = made(alloc, acts_of(panes))?;
-    match act(alloc, &mut session, line) {
-        Err(Fault::OutOfMemory) => act(alloc, &mut session, line)?,
-        answer => answer?,
-    }
-    Ok(session)
+fn shows(alloc: Global, session: &Session, before: &RowShot) -> bool {
+    matches!(face_of(alloc, session), Ok(face) if is_same_screen(&face, before))
 }
 
-// Does an act, once more where it was refused; tells whether a refusal left what the session shows.
-fn is_whole_or_nothing(alloc: Global, session: &mut Session, line: &str) -> Result<bool, Fault> {
-    let before = face_of(alloc, session)?;
-    if act(alloc, session, line).is_ok() {
-        return Ok(true);
-    }
-    let same = is_same_screen(&face_of(alloc, session)?, &before);
-    act(alloc, session, line)?;
-    Ok(same)
+// Does an act, once more where it was refused; whether a refusal left what the session shows.
+fn is_whole_or_nothing(alloc: Global, session: &mut Session, line: &str) -> bool {
+    let Ok(before) = face_of(alloc, session) else {
+        return false;
+    };
+    act(alloc, session, line).is_ok()
+        || shows(alloc, session, &before) && act(alloc, session, line).is_ok()
 }
 
-// Whether the same bytes wait in each pane of two sessions.
-fn wait_alike(one: &Session, other: &Session) -> bool {
+// Whether the same bytes wait in a pane of two sessions.
+fn waits_alike(one: &Session, other: &Session, pane: u8) -> bool {
+    let mut bytes = [0; 64];
+    let mut others = [0; 64];
+    let first = one.output(pane, &mut bytes);
+    first == other.output(pane, &mut others) && bytes == others
+}
+
+fn are_alike(alloc: Global, one: &Session, other: &Session) -> bool {
     for pane in 1..=9 {
-        let mut bytes = [0; 64];
-        let mut others = [0; 64];
-        let alike = match (
-            one.output(pane, &mut bytes),
-            other.output(pane, &mut others),
-        ) {
-            (Ok(n), Ok(m)) => n == m && bytes == others,
-            (Err(_), Err(_)) => true,
-            _ => false,
-        };
-        if !alike {
+        if !waits_alike(one, other, pane) {
             return false;
         }
     }
-    true
+    matches!(face_of(alloc, other), Ok(face) if shows(alloc, one, &face))
 }
 
-fn are_alike(alloc: Global, one: &Session, other: &Session) -> Result<bool, Fault> {
-    let same = is_same_screen(&face_of(alloc, one)?, &face_of(alloc, other)?);
-    Ok(same && wait_alike(one, other))
+// The same of a session that a run without refusal ends with.
+fn ends_alike(alloc: Global, session: &Session, line: &str, lines: &str) -> bool {
+    match made(alloc, lines) {
+        Some(mut other) => is_whole_or_nothing(alloc, &mut other, line)
+            && are_alike(alloc, session, &other),
+        None => false,
+    }
 }
 
-fn holds(alloc: Global, panes: u8, line: &str) -> Result<bool, Fault> {
-    let mut session = made(alloc, acts_of(panes))?;
-    let left = is_whole_or_nothing(alloc, &mut session, line)?;
-    let other = made_and_done(alloc, panes, line)?;
-    Ok(are_alike(alloc, &session, &other)? && left)
+fn holds(alloc: Global, line: &str, lines: &str) -> bool {
+    match made(alloc, lines) {
+        Some(mut session) => is_whole_or_nothing(alloc, &mut session, line)
+            && ends_alike(alloc, &session, line, lines),
+        None => false,
+    }
 }
 
 #[test]
-fn acts_are_whole_or_nothing(rt: HostRuntime) -> Result<(), Fail> {
-    for k in 0..ROWS.len() {
-        let (panes, line) = ROWS[k];
-        assert!(rt; holds(rt.alloc(), panes, line)?, "at {k}");
+fn acts_are_whole_or_nothing(rt: HostRuntime) {
+    for (line, lines) in CASES {
+        assert!(rt; holds(rt.alloc(), line, lines), "{line}");
     }
-    Ok(())
 }

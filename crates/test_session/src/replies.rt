@@ -1,171 +1,260 @@
 //! Events, each with its reply, and what is shown in the end.
-ghost use Rattle.std.specs.Prelude.{IfOk};
+ghost use Rattle.std.specs.Prelude.{◌≤◌, IfOk, OnOk};
 ghost use Rattle.std.specs.List.{All};
 ghost use Rattle.roam_simulation.specs.Events.{IsHandedIn};
 
-use roam_acts::read_act;
-use roam_cells::{Fault, Reason};
-use roam_hub::{Addr, Heard, Stop};
+use crate::words::{bytes_of, halves, reads_numbers, short, word_of};
+use roam_acts::{Act, read_act};
+use roam_cells::Fault;
+use roam_hub::{Addr, Heard};
 use roam_screens::{Seen, row_text};
 use roam_simulation::{Event, Reply, World};
 use roam_wire::Version;
 use std::alloc::Global;
 use std::test::*;
 
-/// An event, with its bytes and its act spelled out; datagrams come to the server from ports of one host.
-enum Step {
-    Bytes(u8, &'static [u8]),
-    Type(u8, &'static str),
-    ServerTick(u64),
-    ClientTick(u8, u64),
-    Up(u64, u16, u64),
-    Down(u8, u64, u64),
-    Start(u8, u64),
-    Watch(u8, u64),
-    OldWatch(u8, u64),
-    Drain(u8, u64),
+/// Each event done, and each refused, in a session of 4 by 8, with its bytes and its act spelled out. Datagrams come to the server from
+/// ports of one host. Those that the server sends at 20 go to the earlier start in the slot 0 and to the later one; then a watcher comes
+/// beside them, and one that would be of version 1.
+const EVENTS: &str = "\
+start 0 161: done
+start 1 161: refused
+type 0 char 61: done
+type 1 char 61: refused
+type 8 char 61: refused
+ctick 1 0: refused
+ctick 0 0: sent 1 1
+ctick 0 0: sent 2 0
+up 0 5001 0: refused
+up 2 5001 0: refused
+up 1 5001 0: taken 1
+up 1 5001 0: taken 0
+stick 0: sent 2 1
+up 2 5001 0: stopped kind
+down 1 2 0: refused
+down 0 3 0: refused
+down 0 1 0: kind
+down 0 2 0: new
+down 0 2 0: old
+drain 1 2: refused
+drain 1 1: done
+drain 2 0: no pane
+pane 1 x: done
+pane 2 x: no pane
+start 0 162: done
+ctick 0 10: sent 3 1
+up 3 5002 10: taken 0
+stick 20: sent 4 2
+down 0 4 20: other client
+down 0 5 20: new
+old-watch 1 163: refused
+watch 1 163: done
+type 1 char 61: watching
+ctick 1 20: sent 6 1
+up 6 5003 20: taken 0
+stick 20: sent 7 1
+down 1 7 20: new";
+
+// Where datagrams come from.
+fn from(port: u64) -> Addr {
+    Addr {
+        host: [127, 0, 0, 1],
+        port: short(port),
+    }
 }
 
-use Step::{Bytes, ClientTick, Down, Drain, OldWatch, ServerTick, Start, Type, Up, Watch};
-
-const NOT_TO_A_CLIENT: Reply = Reply::Fault(Fault::BadDatagram(Reason::Kind));
-
-const NOT_TO_THE_SERVER: Reply = Reply::Stopped(Stop {
-    fault: Fault::BadDatagram(Reason::Kind),
-    taken: 0,
-});
-
-/// Each event done, and each refused, in a session of 4 by 8.
-static KINDS: [(Step, Reply); 37] = [
-    (Start(0, 0xA1), Reply::Done),
-    (Start(1, 0xA1), Reply::Refused),
-    (Type(0, "char 61"), Reply::Done),
-    (Type(1, "char 61"), Reply::Refused),
-    (Type(8, "char 61"), Reply::Refused),
-    (ClientTick(1, 0), Reply::Refused),
-    (ClientTick(0, 0), Reply::Sent(1, 1)),
-    (ClientTick(0, 0), Reply::Sent(2, 0)),
-    (Up(0, 5001, 0), Reply::Refused),
-    (Up(2, 5001, 0), Reply::Refused),
-    (Up(1, 5001, 0), Reply::Taken(1)),
-    (Up(1, 5001, 0), Reply::Taken(0)),
-    (ServerTick(0), Reply::Sent(2, 1)),
-    (Up(2, 5001, 0), NOT_TO_THE_SERVER),
-    (Down(1, 2, 0), Reply::Refused),
-    (Down(0, 3, 0), Reply::Refused),
-    (Down(0, 1, 0), NOT_TO_A_CLIENT),
-    (Down(0, 2, 0), Reply::Heard(Heard::New)),
-    (Down(0, 2, 0), Reply::Heard(Heard::Old)),
-    (Drain(1, 2), Reply::Refused),
-    (Drain(1, 1), Reply::Done),
-    (Drain(2, 0), Reply::Fault(Fault::NoPane)),
-    (Bytes(1, b"x"), Reply::Done),
-    (Bytes(2, b"x"), Reply::Fault(Fault::NoPane)),
-    (Start(0, 0xA2), Reply::Done),
-    (ClientTick(0, 10), Reply::Sent(3, 1)),
-    (Up(3, 5002, 10), Reply::Taken(0)),
-    // One to the earlier start in the slot, and one to the later.
-    (ServerTick(20), Reply::Sent(4, 2)),
-    (Down(0, 4, 20), Reply::Fault(Fault::OtherClient)),
-    (Down(0, 5, 20), Reply::Heard(Heard::New)),
-    // A watcher beside them, and one that would be of version 1.
-    (OldWatch(1, 0xA3), Reply::Refused),
-    (Watch(1, 0xA3), Reply::Done),
-    (Type(1, "char 61"), Reply::Fault(Fault::Watching)),
-    (ClientTick(1, 20), Reply::Sent(6, 1)),
-    (Up(6, 5003, 20), Reply::Taken(0)),
-    (ServerTick(20), Reply::Sent(7, 1)),
-    (Down(1, 7, 20), Reply::Heard(Heard::New)),
-];
-
-fn event_of(alloc: Global, step: &Step) -> Result<Event, Fault>
+// A start in a slot; there are eight.
+fn start_of(verb: &str, slot: u8, id: u64) -> Result<Event, Fault>
     ensures handed_in { IfOk result IsHandedIn }
 {
-    match step {
-        Bytes(pane, piece) => Ok(Event::PaneBytes(*pane, Vec::from_slice(alloc, piece)?)),
-        Type(slot, line) => Ok(Event::Typed(*slot, read_act(line.as_bytes())?)),
-        ServerTick(now) => Ok(Event::ServerTick(*now)),
-        ClientTick(slot, now) => Ok(Event::ClientTick(*slot, *now)),
-        Up(number, port, now) => {
-            let from = Addr {
-                host: [127, 0, 0, 1],
-                port: *port,
-            };
-            Ok(Event::ToServer(*number, from, *now))
-        }
-        Down(slot, number, now) => Ok(Event::ToClient(*slot, *number, *now)),
-        Start(slot, _) | Watch(slot, _) | OldWatch(slot, _) if *slot >= 8 => Err(Fault::BadAct),
-        Start(slot, id) => Ok(Event::Start(*slot, *id, Version::One, false)),
-        Watch(slot, id) => Ok(Event::Start(*slot, *id, Version::Two, true)),
-        OldWatch(slot, id) => Ok(Event::Start(*slot, *id, Version::One, true)),
-        Drain(pane, count) => Ok(Event::Drained(*pane, *count)),
+    if slot >= 8 {
+        return Err(Fault::BadAct);
+    }
+    match verb {
+        "start" => Ok(Event::Start(slot, id, Version::One, false)),
+        "watch" => Ok(Event::Start(slot, id, Version::Two, true)),
+        "old-watch" => Ok(Event::Start(slot, id, Version::One, true)),
+        _ => Err(Fault::BadAct),
     }
 }
 
-// The first event that isn't answered as it is said, or as many as there are.
-fn plays(alloc: Global, rows: &[(Step, Reply)]) -> Result<usize, Fault> {
-    let mut world = World::new(alloc, 1, 4, 8)?;
-    for i in 0..rows.len() {
-        let (step, reply) = &rows[i];
-        let event = event_of(alloc, step)?;
-        if world.step(alloc, &event) != *reply {
-            return Ok(i);
-        }
+// An event of numbers alone.
+fn numbers_event(verb: &str, row: [u64; 3]) -> Result<Event, Fault>
+    ensures handed_in { IfOk result IsHandedIn }
+{
+    let first = row[0].min(255) as u8;
+    match verb {
+        "stick" => Ok(Event::ServerTick(row[0])),
+        "ctick" => Ok(Event::ClientTick(first, row[1])),
+        "up" => Ok(Event::ToServer(row[0], from(row[1]), row[2])),
+        "down" => Ok(Event::ToClient(first, row[1], row[2])),
+        "drain" => Ok(Event::Drained(first, row[1])),
+        _ => start_of(verb, first, row[1]),
     }
-    Ok(rows.len())
 }
 
-fn events_of(alloc: Global, rows: &[(Step, Reply)]) -> Result<Vec<Event>, Fault>
+// How many numbers stand behind a verb.
+fn count_of(verb: &str) -> usize
+    ensures most { result ≤ 3 }
+{
+    match verb {
+        "stick" => 1,
+        "up" | "down" => 3,
+        _ => 2,
+    }
+}
+
+fn piece_event(alloc: Global, pane: &str, spelled: &str) -> Result<Event, Fault>
+    ensures handed_in { IfOk result IsHandedIn }
+{
+    let Ok(pane) = pane.parse::<u8>() else {
+        return Err(Fault::BadAct);
+    };
+    let bytes = bytes_of(alloc, spelled)?;
+    Ok(Event::PaneBytes(pane, Vec::from_slice(alloc, bytes.as_bytes())?))
+}
+
+fn typed_event(slot: &str, line: &str) -> Result<Event, Fault>
+    ensures handed_in { IfOk result IsHandedIn }
+{
+    let Ok(slot) = slot.parse::<u8>() else {
+        return Err(Fault::BadAct);
+    };
+    Ok(Event::Typed(slot, read_act(line.as_bytes())?))
+}
+
+fn event_of(alloc: Global, words: &str) -> Result<Event, Fault>
+    ensures handed_in { IfOk result IsHandedIn }
+{
+    let (verb, rest) = halves(words, " ");
+    let (number, text) = halves(rest, " ");
+    let mut row = [0; 3];
+    match verb {
+        "pane" => piece_event(alloc, number, text),
+        "type" => typed_event(number, text),
+        _ if reads_numbers(rest, &mut row[..count_of(verb)]) => numbers_event(verb, row),
+        _ => Err(Fault::BadAct),
+    }
+}
+
+// Whether a reply is a word with these numbers.
+fn has_numbers(told: &str, word: &str, numbers: &[u64]) -> bool {
+    let (verb, rest) = halves(told, " ");
+    let mut row = [0; 2];
+    let places = &mut row[..numbers.len().min(2)];
+    verb == word && reads_numbers(rest, places) && &*places == numbers
+}
+
+fn is_told(reply: Reply, told: &str) -> bool {
+    match reply {
+        Reply::Done => told == "done",
+        Reply::Refused => told == "refused",
+        Reply::Sent(first, count) => has_numbers(told, "sent", &[first, count]),
+        Reply::Taken(count) => has_numbers(told, "taken", &[count as u64]),
+        Reply::Heard(Heard::New) => told == "new",
+        Reply::Heard(Heard::Old) => told == "old",
+        Reply::Heard(_) => false,
+        Reply::Fault(fault) => told == word_of(fault),
+        Reply::Stopped(stop) => stop.taken == 0
+            && told.strip_prefix("stopped ") == Some(word_of(stop.fault)),
+    }
+}
+
+// Whether an event is answered so.
+fn is_answered(alloc: Global, world: &mut World, line: &str) -> bool {
+    let (words, told) = halves(line, ": ");
+    match event_of(alloc, words) {
+        Ok(event) => is_told(world.step(alloc, &event), told),
+        Err(_) => false,
+    }
+}
+
+fn first_unanswered(alloc: Global, world: &mut World) -> Option<&'static str> {
+    for line in EVENTS.lines() {
+        if !is_answered(alloc, world, line) {
+            return Some(line);
+        }
+    }
+    None
+}
+
+fn first_wrong(alloc: Global) -> Option<&'static str> {
+    match World::new(alloc, 1, 4, 8) {
+        Ok(mut world) => first_unanswered(alloc, &mut world),
+        Err(_) => Some("no world"),
+    }
+}
+
+fn add_event(alloc: Global, events: &mut Vec<Event>, words: &str) -> Result<(), Fault>
+    requires handed_in { All IsHandedIn events.old.items }
+    ensures handed_in { OnOk result (All IsHandedIn events.new.items) }
+{
+    events.push(event_of(alloc, words)?)?;
+    Ok(())
+}
+
+fn events_of(alloc: Global) -> Result<Vec<Event>, Fault>
     ensures handed_in { IfOk result (λ events. All IsHandedIn events.items) }
 {
     let mut events = Vec::new(alloc);
-    for (step, _) in rows {
-        events.push(event_of(alloc, step)?)?;
+    for line in EVENTS.lines() {
+        add_event(alloc, &mut events, halves(line, ": ").0)?;
     }
     Ok(events)
 }
 
-fn has_first_row<S: Seen>(alloc: Global, shot: &S, text: &str) -> Result<bool, Fault> {
+fn has_first_row<S: Seen>(alloc: Global, shot: &S, text: &str) -> bool {
     if shot.rows() == 0 {
-        return Ok(false);
+        return false;
     }
-    let points = row_text(alloc, shot, 0)?;
-    Ok(points.iter().copied().eq(text.chars()))
+    matches!(row_text(alloc, shot, 0), Ok(points) if points.iter().copied().eq(text.chars()))
 }
 
 // Whether the start in slot 0 shows this number and first row, as the server does, and no slot from 2 on has one.
-fn shows(alloc: Global, world: &World, number: u64, text: &str) -> Result<bool, Fault> {
+fn shows(alloc: Global, world: &World, number: u64, text: &str) -> bool {
     let Some(client) = world.client(0) else {
-        return Ok(false);
+        return false;
     };
     let (shown, shot) = client.shown();
-    let face = world.server().face(alloc)?;
     let is_alone = world.client(2).is_none() && world.client(8).is_none();
-    Ok(
-        is_alone
-            && shown == number
-            && has_first_row(alloc, &shot, text)?
-            && has_first_row(alloc, &face, text)?,
-    )
+    is_alone
+        && shown == number
+        && has_first_row(alloc, &shot, text)
+        && matches!(world.server().face(alloc), Ok(face) if has_first_row(alloc, &face, text))
+}
+
+// Whether a world in which all happened at once shows what it should.
+fn runs(alloc: Global, events: &[Event]) -> bool
+    requires handed_in { All IsHandedIn events.now }
+{
+    match World::run(alloc, 1, 4, 8, events) {
+        Ok(world) => shows(alloc, &world, 2, "x       "),
+        Err(_) => false,
+    }
+}
+
+fn runs_all(alloc: Global) -> bool {
+    match events_of(alloc) {
+        Ok(events) => runs(alloc, events.as_slice()),
+        Err(_) => false,
+    }
+}
+
+fn makes_no_world(alloc: Global) -> bool {
+    matches!(World::run(alloc, 1, 3, 8, &[]), Err(Fault::BadSize))
 }
 
 #[test]
-fn each_event_is_answered(rt: HostRuntime) -> Result<(), Fail> {
-    assert_eq!(rt; plays(rt.alloc(), &KINDS)?, KINDS.len());
-    Ok(())
+fn each_event_is_answered(rt: HostRuntime) {
+    assert_eq!(rt; first_wrong(rt.alloc()), None);
 }
 
 #[test]
-fn a_run_is_every_event(rt: HostRuntime) -> Result<(), Fail> {
-    let events = events_of(rt.alloc(), &KINDS)?;
-    let world = World::run(rt.alloc(), 1, 4, 8, events.as_slice())?;
-    assert!(rt; shows(rt.alloc(), &world, 2, "x       ")?);
-    Ok(())
+fn a_run_is_every_event(rt: HostRuntime) {
+    assert!(rt; runs_all(rt.alloc()));
 }
 
 #[test]
-fn a_bad_size_makes_no_world(rt: HostRuntime) -> Result<(), Fail> {
-    let answer = World::run(rt.alloc(), 1, 3, 8, &[]);
-    assert!(rt; matches!(answer, Err(Fault::BadSize)));
-    Ok(())
+fn a_bad_size_makes_no_world(rt: HostRuntime) {
+    assert!(rt; makes_no_world(rt.alloc()));
 }

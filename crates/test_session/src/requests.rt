@@ -1,60 +1,35 @@
-//! What is asked of sessions, as text, and the bytes that wait in their panes.
+//! What is asked of sessions, as text, and what is so then.
 //!
-//! A request is `bytes PANE TEXT` (`nothing` for no byte); `long PANE a`, a piece of 1,025 letters; `drain PANE COUNT`, at most as many as
-//! wait; or an act. One that is to be refused has the refusal before it, as `no pane: drain 2 0`. Control characters and spaces at the end
-//! are written as their pictures (U+2400 to U+2420).
+//! A case is a name, a session's size, and a line for what is asked of it: `bytes PANE TEXT` (`nothing` for no byte); `long PANE a`, a
+//! piece of 1,025 letters; `drain PANE COUNT`, at most as many as wait; or an act; `times COUNT` before one asks it so often. One that is
+//! to be refused has the refusal before it, as `no pane: drain 2 0`. `kept` keeps the face, before which all rows are marked. Other lines
+//! tell what is so: `waits PANE |TEXT|`, `room PANE COUNT` and `length PANE COUNT` of its bytes that wait; `none PANE`, that there is
+//! none; `lives`, the lives of the panes from 1 on; `marked`, the rows that are marked, from 1; `digits`, that each pane of nine shows its
+//! number. Behind `shows` come rows of the face from the first, whose blanks at the end may be left out, the cursor, and its `extent`. A
+//! size that is refused has the refusal in its place. Control characters and spaces at the end are written as their pictures (U+2400 to
+//! U+2420).
+use crate::memory::face_of;
+use crate::words::{bytes_of, halves, reads_numbers, short, word_of};
 use roam_acts::read_act;
-use roam_cells::Fault;
+use roam_cells::{Cell, Fault, Style, are_same_cells};
+use roam_screens::{RowShot, Seen};
 use roam_session::Session;
 use std::alloc::Global;
 
-// The character of a control picture; any other character is itself.
-fn character_of(c: char) -> char {
-    match c {
-        '\u{2400}'..='\u{2420}' => char::from((c as u32 - 0x2400) as u8),
-        _ => c,
-    }
-}
-
-// The bytes of a text with pictures of control characters.
-fn bytes_of(alloc: Global, spelled: &str) -> Result<String, Fault> {
-    let mut bytes = String::new(alloc);
-    for c in spelled.chars() {
-        bytes.push(character_of(c))?;
-    }
-    Ok(bytes)
-}
-
-fn fault_of(name: &str) -> Option<Fault> {
-    match name {
-        "bad size" => Some(Fault::BadSize),
-        "busy" => Some(Fault::Busy),
-        "last pane" => Some(Fault::LastPane),
-        "no pane" => Some(Fault::NoPane),
-        "panes full" => Some(Fault::PanesFull),
-        "too long" => Some(Fault::TooLong),
-        "too small" => Some(Fault::TooSmall),
-        _ => None,
-    }
-}
-
-// Takes bytes that wait, at most all of them.
-fn drain(session: &mut Session, pane: u8, n: usize) -> Result<(), Fault> {
-    match session.output_len(pane) {
-        Some(len) => session.drain(pane, n.min(len)),
-        None => session.drain(pane, n),
-    }
-}
-
+/// Does an act, which is told as its line.
 pub fn act(alloc: Global, session: &mut Session, line: &str) -> Result<(), Fault> {
     let act = read_act(line.as_bytes())?;
     session.act(alloc, 0xA1, &act)
 }
 
-fn drain_count(session: &mut Session, pane: u8, count: &str) -> Result<(), Fault> {
-    match count.parse::<usize>() {
-        Ok(count) => drain(session, pane, count),
-        Err(_) => Err(Fault::BadAct),
+// Takes so many bytes that wait, at most all of them.
+fn drain(session: &mut Session, pane: u8, count: &str) -> Result<(), Fault> {
+    let Ok(count) = count.parse::<usize>() else {
+        return Err(Fault::BadAct);
+    };
+    match session.output_len(pane) {
+        Some(len) => session.drain(pane, count.min(len)),
+        None => session.drain(pane, count),
     }
 }
 
@@ -66,140 +41,287 @@ fn give_text(alloc: Global, session: &mut Session, pane: u8, spelled: &str) -> R
     session.pane_bytes(pane, piece.as_bytes())
 }
 
-// A request's pane and what follows it.
-fn pane_of(words: &str) -> Option<(u8, &str)> {
-    let (pane, rest) = words.split_once(' ')?;
-    Some((pane.parse::<u8>().ok()?, rest))
-}
-
 fn answer(alloc: Global, session: &mut Session, words: &str) -> Result<(), Fault> {
-    if let Some((verb, rest)) = words.split_once(' ')
-        && let Some((pane, rest)) = pane_of(rest)
-    {
-        match verb {
-            "bytes" => return give_text(alloc, session, pane, rest),
-            "long" => return session.pane_bytes(pane, &[b'a'; 1025]),
-            "drain" => return drain_count(session, pane, rest),
-            _ => {}
-        }
-    }
-    act(alloc, session, words)
-}
-
-/// Whether a request is done, or refused as it says.
-pub fn is_asked(alloc: Global, session: &mut Session, line: &str) -> bool {
-    match line.split_once(": ") {
-        Some((name, words)) => match fault_of(name) {
-            Some(fault) => answer(alloc, session, words) == Err(fault),
-            None => false,
-        },
-        None => answer(alloc, session, line).is_ok(),
+    let (verb, rest) = halves(words, " ");
+    let (pane, rest) = halves(rest, " ");
+    match (verb, pane.parse::<u8>()) {
+        ("bytes", Ok(pane)) => give_text(alloc, session, pane, rest),
+        ("long", Ok(pane)) => session.pane_bytes(pane, &[b'a'; 1025]),
+        ("drain", Ok(pane)) => drain(session, pane, rest),
+        _ => act(alloc, session, words),
     }
 }
 
-/// Whether requests, a line each, go so one after another; it ends at the first that doesn't. An empty line is none.
-pub fn are_asked(alloc: Global, session: &mut Session, lines: &str) -> bool {
-    for line in lines.lines() {
-        if !line.is_empty() && !is_asked(alloc, session, line) {
+// Whether a request is done, or refused as it says.
+fn is_asked(alloc: Global, session: &mut Session, line: &str) -> bool {
+    let (name, words) = line.split_once(": ").unwrap_or(("", line));
+    match answer(alloc, session, words) {
+        Ok(()) => name.is_empty(),
+        Err(fault) => word_of(fault) == name,
+    }
+}
+
+fn is_asked_times(alloc: Global, session: &mut Session, words: &str) -> bool {
+    let (times, words) = halves(words, " ");
+    let Ok(times) = times.parse::<u32>() else {
+        return false;
+    };
+    for _ in 0..times {
+        if !is_asked(alloc, session, words) {
             return false;
         }
     }
     true
 }
 
-fn waits(session: &Session, pane: u8, expected: Option<&[u8]>) -> bool {
+fn waits(session: &Session, pane: u8, bytes: &[u8]) -> bool {
     let mut out = [0; 64];
-    match (session.output(pane, &mut out), expected) {
-        (Ok(n), Some(bytes)) => {
-            &out[..n] == bytes
-                && session.output_len(pane) == Some(bytes.len())
-                && session.room(pane) == Some(65_536_usize.saturating_sub(bytes.len()))
-        }
-        (Err(fault), None) => {
-            fault == Fault::NoPane
-                && session.output_len(pane).is_none()
-                && session.room(pane).is_none()
-        }
-        _ => false,
+    session.output(pane, &mut out) == Ok(bytes.len())
+        && out.starts_with(bytes)
+        && session.output_len(pane) == Some(bytes.len())
+        && session.room(pane) == Some(65_536_usize.saturating_sub(bytes.len()))
+}
+
+// Whether these bytes wait, `PANE |TEXT|`.
+fn waits_by(alloc: Global, session: &Session, words: &str) -> bool {
+    if let Some((pane, text)) = words.split_once(" |")
+        && let Ok(pane) = pane.parse::<u8>()
+        && let Some(text) = text.strip_suffix('|')
+        && let Ok(bytes) = bytes_of(alloc, text)
+    {
+        return waits(session, pane, bytes.as_bytes());
     }
+    false
 }
 
-/// Whether these bytes wait in a pane.
-pub fn waits_text(
-    alloc: Global,
-    session: &Session,
-    pane: u8,
-    spelled: &str,
-) -> Result<bool, Fault> {
-    let bytes = bytes_of(alloc, spelled)?;
-    Ok(waits(session, pane, Some(bytes.as_bytes())))
+// Whether there is no such pane, in which nothing waits.
+fn is_none(session: &Session, pane: u8) -> bool {
+    session.output(pane, &mut [0; 64]) == Err(Fault::NoPane)
+        && session.output_len(pane).is_none()
+        && session.room(pane).is_none()
+        && session.life(pane).is_none()
 }
 
-/// Whether there is no such pane, in which nothing waits.
-pub fn is_none(session: &Session, pane: u8) -> bool {
-    waits(session, pane, None)
-}
-
-// Eight splits of 24 by 80.
-pub static NINE: [&str; 12] = [
-    "split right",
-    "split down",
-    "split down",
-    "focus 1",
-    "split down",
-    "split down",
-    "focus 2",
-    "split right",
-    "focus 1",
-    "split right",
-    "focus 3",
-    "split right",
-];
-
-static DIGITS: [&[u8]; 9] = [
-    b"1\x1B[6n",
-    b"2\x1B[6n",
-    b"3\x1B[6n",
-    b"4\x1B[6n",
-    b"5\x1B[6n",
-    b"6\x1B[6n",
-    b"7\x1B[6n",
-    b"8\x1B[6n",
-    b"9\x1B[6n",
-];
-
-// A session of 24 by 80 after some acts; the program of each of nine panes writes its number and asks for the cursor.
-pub fn with_panes(alloc: Global, acts: &[&str]) -> Result<Session, Fault> {
-    let mut session = Session::new(alloc, 24, 80)?;
-    for line in acts {
-        act(alloc, &mut session, line)?;
-    }
-    for k in 0..DIGITS.len() {
-        give(&mut session, k as u8 + 1, DIGITS[k])?;
-    }
-    Ok(session)
-}
-
-// Gives bytes to a pane that is there.
-fn give(session: &mut Session, pane: u8, piece: &[u8]) -> Result<(), Fault> {
-    match session.room(pane) {
-        Some(_) => session.pane_bytes(pane, piece),
-        None => Ok(()),
-    }
-}
-
-// The output of each pane, taken in two parts.
-pub fn is_each_drained(session: &mut Session) -> bool {
-    for pane in 1..=9 {
-        if !waits(session, pane, Some(b"\x1B[1;2R")) || drain(session, pane, 2).is_err() {
-            return false;
-        }
-        if !waits(session, pane, Some(b"1;2R")) || drain(session, pane, 4).is_err() {
-            return false;
-        }
-        if !waits(session, pane, Some(b"")) {
+fn live(session: &Session, words: &str) -> bool {
+    for (k, word) in words.split(' ').enumerate() {
+        if session.life((k % 9) as u8 + 1) != word.parse::<u64>().ok() {
             return false;
         }
     }
     true
+}
+
+/// Whether just the rows of these numbers are marked.
+pub fn are_marked(session: &Session, rows: &str) -> bool {
+    let mut words = rows.split_whitespace();
+    for (k, on) in session.marks().iter().enumerate() {
+        if *on && words.next().and_then(|word| word.parse::<usize>().ok()) != Some(k + 1) {
+            return false;
+        }
+    }
+    words.next().is_none()
+}
+
+// How many cells of a face show a digit in the default style.
+fn digits(shot: &RowShot, digit: u8) -> usize {
+    let cell = Cell::ascii(digit.clamp(b'0', b'9'), Style::default(), false);
+    let mut count = 0_usize;
+    for row in 0..shot.rows() {
+        let here = shot.row(row).iter().filter(|c| c.is_same(&cell)).count();
+        count = count.saturating_add(here);
+    }
+    count
+}
+
+fn has_each_digit_once(shot: &RowShot) -> bool {
+    for digit in b'1'..=b'9' {
+        if digits(shot, digit) != 1 {
+            return false;
+        }
+    }
+    true
+}
+
+// Whether a number of a pane is this one, `PANE COUNT`.
+fn has_number(session: &Session, verb: &str, words: &str) -> bool {
+    let mut row = [0; 2];
+    if !reads_numbers(words, &mut row) {
+        return false;
+    }
+    let pane = row[0].min(255) as u8;
+    let number = match verb {
+        "room" => session.room(pane),
+        _ => session.output_len(pane),
+    };
+    number == Some(row[1] as usize)
+}
+
+// Whether something is so, where the verb asks that.
+fn is_so(alloc: Global, session: &Session, verb: &str, words: &str) -> Option<bool> {
+    match verb {
+        "waits" => Some(waits_by(alloc, session, words)),
+        "none" => Some(matches!(words.parse::<u8>(), Ok(pane) if is_none(session, pane))),
+        "lives" => Some(live(session, words)),
+        "room" | "length" => Some(has_number(session, verb, words)),
+        "marked" => Some(are_marked(session, words)),
+        "digits" => Some(matches!(session.face(alloc), Ok(face) if has_each_digit_once(&face))),
+        _ => None,
+    }
+}
+
+/// Whether all rows are marked; the face is kept.
+pub fn keep(alloc: Global, session: &mut Session) -> bool {
+    let all = session.marks().iter().all(|on| *on);
+    match face_of(alloc, session) {
+        Ok(face) => session.keep(face),
+        Err(_) => return false,
+    }
+    all
+}
+
+fn does(alloc: Global, session: &mut Session, line: &str) -> bool {
+    let (verb, words) = halves(line, " ");
+    match verb {
+        "kept" => keep(alloc, session),
+        "times" => is_asked_times(alloc, session, words),
+        _ => match is_so(alloc, session, verb, words) {
+            Some(so) => so,
+            None => is_asked(alloc, session, line),
+        },
+    }
+}
+
+/// Whether lines go so one after another; it ends at the first that doesn't. Where nothing is kept, nothing is asked of marks.
+pub fn does_all(alloc: Global, session: &mut Session, lines: &str, keeps: bool) -> bool {
+    for line in lines.lines() {
+        let is_skipped = !keeps && (line == "kept" || line.starts_with("marked"));
+        if !is_skipped && !does(alloc, session, line) {
+            return false;
+        }
+    }
+    true
+}
+
+// Whether a row shows a text, and blanks behind it.
+fn is_text(points: &[char], text: &str) -> bool {
+    let mut left = points.iter().copied();
+    for c in text.chars() {
+        if left.next() != Some(c) {
+            return false;
+        }
+    }
+    left.all(|c| c == ' ')
+}
+
+fn has_row(alloc: Global, shot: &RowShot, row: u16, text: &str) -> bool {
+    if shot.rows() <= row {
+        return false;
+    }
+    match shot.row_text(alloc, row) {
+        Ok(points) => is_text(&points, text),
+        Err(_) => false,
+    }
+}
+
+fn is_cursor(shot: &RowShot, words: &str) -> bool {
+    let wanted = if shot.visible() { "shown" } else { "hidden" };
+    if let Some((place, seen)) = words.rsplit_once(' ')
+        && let mut row = [0; 2]
+        && reads_numbers(place, &mut row)
+    {
+        return shot.cursor() == (short(row[0]), short(row[1])) && seen == wanted;
+    }
+    false
+}
+
+fn has_extent(shot: &RowShot, words: &str) -> bool {
+    let mut row = [0; 2];
+    reads_numbers(words, &mut row) && (shot.rows(), shot.cols()) == (short(row[0]), short(row[1]))
+}
+
+// A line of what is shown, which is the face's row of that number where it is one.
+fn is_shown(alloc: Global, session: &Session, shot: &RowShot, number: usize, line: &str) -> bool {
+    if let Some(text) = line.strip_prefix('|') {
+        return match text.strip_suffix('|') {
+            Some(text) => has_row(alloc, shot, number.min(500) as u16, text),
+            None => false,
+        };
+    }
+    let (verb, words) = halves(line, " ");
+    match verb {
+        "cursor" => is_cursor(shot, words),
+        "extent" => has_extent(shot, words),
+        _ => is_so(alloc, session, verb, words) == Some(true),
+    }
+}
+
+fn all_shown(alloc: Global, session: &Session, shot: &RowShot, lines: &str) -> bool {
+    for (number, line) in lines.lines().enumerate() {
+        if !is_shown(alloc, session, shot, number, line) {
+            return false;
+        }
+    }
+    true
+}
+
+/// Whether two faces show the same.
+pub fn is_same_screen(one: &RowShot, other: &RowShot) -> bool {
+    if one.rows() != other.rows() || one.cols() != other.cols() {
+        return false;
+    }
+    for row in 0..one.rows() {
+        if !are_same_cells(one.row(row), other.row(row)) {
+            return false;
+        }
+    }
+    one.cursor() == other.cursor() && one.visible() == other.visible()
+}
+
+fn session_of(alloc: Global, size: &str) -> Result<Session, Fault> {
+    let mut row = [0; 2];
+    if !reads_numbers(size, &mut row) {
+        return Err(Fault::BadAct);
+    }
+    Session::new(alloc, short(row[0]), short(row[1]))
+}
+
+// Whether a session that never keeps its face shows the same.
+fn is_as_whole(alloc: Global, shot: &RowShot, size: &str, lines: &str) -> bool {
+    match session_of(alloc, size) {
+        Ok(mut session) => does_all(alloc, &mut session, lines, false)
+            && matches!(session.face(alloc), Ok(face) if is_same_screen(&face, shot)),
+        Err(_) => false,
+    }
+}
+
+// Whether a case's lines go so, and what is shown then is what it says.
+fn goes(alloc: Global, session: &mut Session, size: &str, lines: &str, wanted: &str) -> bool {
+    if !does_all(alloc, session, lines, true) {
+        return false;
+    }
+    match session.face(alloc) {
+        Ok(shot) => all_shown(alloc, session, &shot, wanted)
+            && is_as_whole(alloc, &shot, size, lines),
+        Err(_) => false,
+    }
+}
+
+fn plays(alloc: Global, case: &str) -> bool {
+    let (head, wanted) = halves(case, "\nshows\n");
+    let (_, rest) = halves(head, "\n");
+    let (size, lines) = halves(rest, "\n");
+    match session_of(alloc, size) {
+        Ok(mut session) => goes(alloc, &mut session, size, lines, wanted),
+        Err(fault) => lines == word_of(fault),
+    }
+}
+
+/// The first of these cases, with an empty line between them, that goes otherwise.
+pub fn first_wrong<'a>(alloc: Global, cases: &'a str) -> Option<&'a str> {
+    for case in cases.split("\n\n") {
+        if !plays(alloc, case) {
+            return Some(case);
+        }
+    }
+    None
 }

@@ -6,6 +6,8 @@
 #[cfg(test)]
 mod failing;
 #[cfg(test)]
+mod plays;
+#[cfg(test)]
 mod refusing;
 #[cfg(test)]
 mod rows;

@@ -2,13 +2,13 @@
 ghost use Rattle.std.specs.Prelude.{◌≡◌};
 ghost use Rattle.roam_turns.specs.Painting.{IsBehind};
 
-use crate::stage::{End, SERVER, Stage, carry_down, carry_up};
+use crate::plays::{Play, is_played};
+use crate::stage::{End, SERVER, Stage, carry_down, carry_up, serve_at};
 use roam_cells::Fault;
 use roam_hub::Server;
 use roam_turns::memory::RecordedCall;
 use roam_turns::{MemoryPorts, serve_turn};
-use std::alloc::{AllocError, Global};
-use std::str::Split;
+use std::alloc::Global;
 use std::test::*;
 
 // A call as a letter; a capital brought or took something.
@@ -30,13 +30,15 @@ fn letter(call: &RecordedCall) -> char {
     }
 }
 
-/// The calls as letters.
-pub fn letters(alloc: Global, calls: &[RecordedCall]) -> Result<String, AllocError> {
-    let mut text = String::new(alloc);
+/// Whether these are the calls, a letter each.
+pub fn are_letters(calls: &[RecordedCall], told: &str) -> bool {
+    let mut letters = told.chars();
     for call in calls {
-        text.push(letter(call))?;
+        if letters.next() != Some(letter(call)) {
+            return false;
+        }
     }
-    Ok(text)
+    letters.next().is_none()
 }
 
 /// One turn of a new server, a line each: how many datagrams come, which call fails, how many bytes the program of pane 1 takes, and how
@@ -66,19 +68,31 @@ struct Row<'a> {
     piece: &'a str,
 }
 
-fn number(words: &mut Split<'_, char>) -> Option<u64> {
-    words.next()?.parse::<u64>().ok()
+// Whether a text is as many numbers as there is place for, which are put there.
+fn reads_numbers(text: &str, places: &mut [u64]) -> bool {
+    let mut words = text.split(' ');
+    for place in places.iter_mut() {
+        match words.next().map(|word| word.parse::<u64>()) {
+            Some(Ok(number)) => *place = number,
+            _ => return false,
+        }
+    }
+    words.next().is_none()
 }
 
 fn row_of(line: &str) -> Option<Row<'_>> {
     let (numbers, rest) = line.split_once(": ")?;
     let (calls, piece) = rest.split_once('|')?;
-    let mut words = numbers.split(' ');
+    let mut row = [0; 4];
+    if !reads_numbers(numbers, &mut row) {
+        return None;
+    }
+    let [datagrams, fails, takes, waits] = row;
     Some(Row {
-        datagrams: number(&mut words)?,
-        fails: number(&mut words)?,
-        takes: number(&mut words)? as usize,
-        waits: number(&mut words)? as usize,
+        datagrams,
+        fails,
+        takes: takes as usize,
+        waits: waits as usize,
         calls,
         piece,
     })
@@ -97,32 +111,31 @@ fn prepare(ports: &mut MemoryPorts, row: Row<'_>) -> Result<(), Fault> {
     Ok(())
 }
 
-fn is_turned(
-    alloc: Global,
-    server: &mut Server,
-    ports: &mut MemoryPorts,
-    row: Row<'_>,
-) -> Result<bool, Fault> {
-    prepare(ports, row)?;
+fn is_turned(alloc: Global, server: &mut Server, ports: &mut MemoryPorts, row: Row<'_>) -> bool {
+    let is_prepared = prepare(ports, row).is_ok();
     serve_turn(alloc, server, ports);
-    let calls = letters(alloc, ports.told())?;
-    Ok(calls.as_str() == row.calls && server.output_len(1) == Some(row.waits))
+    is_prepared && are_letters(ports.told(), row.calls) && server.output_len(1) == Some(row.waits)
 }
 
-fn is_met(alloc: Global, line: &str) -> Result<bool, Fault> {
-    let Some(row) = row_of(line) else {
-        return Ok(false);
-    };
-    let mut server = Server::new(alloc, 1, 24, 80)?;
-    is_turned(alloc, &mut server, &mut MemoryPorts::new(alloc), row)
+fn turns(alloc: Global, row: Row<'_>) -> bool {
+    match Server::new(alloc, 1, 24, 80) {
+        Ok(mut server) => is_turned(alloc, &mut server, &mut MemoryPorts::new(alloc), row),
+        Err(_) => false,
+    }
+}
+
+fn is_met(alloc: Global, line: &str) -> bool {
+    match row_of(line) {
+        Some(row) => turns(alloc, row),
+        None => false,
+    }
 }
 
 #[test]
-fn a_turn_makes_its_calls_in_order(rt: HostRuntime) -> Result<(), Fail> {
+fn a_turn_makes_its_calls_in_order(rt: HostRuntime) {
     for line in TURNS.lines() {
-        assert!(rt; is_met(rt.alloc(), line)?, "{line}");
+        assert!(rt; is_met(rt.alloc(), line), "{line}");
     }
-    Ok(())
 }
 
 // Whether the last screen that was shown is this text.
@@ -136,15 +149,17 @@ fn showed(ports: &MemoryPorts, text: &str) -> bool {
     is_shown
 }
 
-// How many bytes each datagram has that was sent.
-fn lengths(alloc: Global, ports: &MemoryPorts) -> Result<Vec<usize>, AllocError> {
-    let mut lengths = Vec::new(alloc);
+// How many datagrams were sent, and how many bytes the last has.
+fn sent(ports: &MemoryPorts) -> (usize, usize) {
+    let mut count: usize = 0;
+    let mut len = 0;
     for call in ports.told() {
         if let RecordedCall::Sent(_, bytes, true) = call {
-            lengths.push(bytes.len())?;
+            count = count.saturating_add(1);
+            len = bytes.len();
         }
     }
-    Ok(lengths)
+    (count, len)
 }
 
 static OPENED: &str = "\x1Bc\x1B[?25l\x1B[0m\x1B[1;1H\x1B[?25h";
@@ -153,47 +168,43 @@ static STATUS: &str =
     "\x1B[?25l\x1B[24;1H\x1B[0;7m[1]                                                                             \x1B[0m\x1B[1;1H\x1B[?25h";
 
 // The first turn of a start opens its terminal, and sends one datagram of 60 bytes.
-fn opens(alloc: Global, end: &mut End) -> Result<bool, Fault>
+fn opens(alloc: Global, end: &mut End) -> bool
     requires behind { IsBehind end.old.outer end.old.client.receiver.newest.number end.old.client.receiver.newest.state }
     ensures behind { IsBehind end.new.outer end.new.client.receiver.newest.number end.new.client.receiver.newest.state }
 {
     end.turn(alloc, 0, 0, None);
-    let sent = lengths(alloc, end.ports())?;
-    Ok(showed(end.ports(), OPENED) && sent.as_slice() == [60].as_slice())
+    showed(end.ports(), OPENED) && sent(end.ports()) == (1, 60)
 }
 
-// The server's turn answers by one datagram.
-fn answers(alloc: Global, stage: &mut Stage) -> Result<bool, Fault>
+// What a start sent comes to the server, and what that sent comes back.
+fn carry(alloc: Global, stage: &mut Stage) -> Result<(), Fault>
     ensures client { stage.new.first.client ≡ stage.old.first.client }
     ensures outer { stage.new.first.outer ≡ stage.old.first.outer }
 {
     carry_up(&mut stage.first, &mut stage.ports)?;
-    stage.turn(alloc, 0, 0);
-    carry_down(&stage.ports, &mut stage.first)?;
-    Ok(lengths(alloc, &stage.ports)?.len() == 1)
+    serve_at(alloc, &mut stage.server, &mut stage.ports, 0, 0);
+    carry_down(&stage.ports, &mut stage.first)
 }
 
-// Which step of a session's first three turns isn't as it is worked by hand, if any.
-fn first_fault(alloc: Global, stage: &mut Stage) -> Result<Option<u8>, Fault>
+/// Which step of a session's first three turns isn't as it is worked by hand, if any.
+pub fn first_fault(alloc: Global, stage: &mut Stage) -> Option<u8>
     requires behind { IsBehind stage.old.first.outer stage.old.first.client.receiver.newest.number
         stage.old.first.client.receiver.newest.state }
 {
-    if !opens(alloc, &mut stage.first)? {
-        return Ok(Some(1));
+    if !opens(alloc, &mut stage.first) {
+        return Some(1);
     }
-    if !answers(alloc, stage)? {
-        return Ok(Some(2));
+    if carry(alloc, stage).is_err() || sent(&stage.ports).0 != 1 {
+        return Some(2);
     }
     stage.first.turn(alloc, 0, 0, None);
     if !showed(stage.first.ports(), STATUS) {
-        return Ok(Some(3));
+        return Some(3);
     }
-    Ok(None)
+    None
 }
 
 #[test]
-fn a_session_is_painted(rt: HostRuntime) -> Result<(), Fail> {
-    let mut stage = Stage::new(rt.alloc())?;
-    assert!(rt; first_fault(rt.alloc(), &mut stage)? == None);
-    Ok(())
+fn a_session_is_painted(rt: HostRuntime) {
+    assert!(rt; is_played(rt.alloc(), Play::Opening) == Ok(true));
 }

@@ -105,30 +105,38 @@ pub struct Stage {
     pub is_typed: bool,
 }
 
+fn both_ends(alloc: Global) -> Result<(End, End), Fault>
+    ensures first { IfOk result (λ ends. ends.0.outer ≡ None) }
+    ensures second { IfOk result (λ ends. ends.1.outer ≡ None) }
+{
+    let first = End::new(alloc, 0xA1, 5001)?;
+    let second = End::new(alloc, 0xB1, 5002)?;
+    Ok((first, second))
+}
+
 impl Stage {
     pub fn new(alloc: Global) -> Result<Stage, Fault>
         ensures first { IfOk result (λ stage. stage.first.outer ≡ None) }
         ensures second { IfOk result (λ stage. stage.second.outer ≡ None) }
     {
+        let server = Server::new(alloc, SESSION, 24, 80)?;
+        let (first, second) = both_ends(alloc)?;
         Ok(Stage {
-            server: Server::new(alloc, SESSION, 24, 80)?,
+            server,
             ports: MemoryPorts::new(alloc),
-            first: End::new(alloc, 0xA1, 5001)?,
-            second: End::new(alloc, 0xB1, 5002)?,
+            first,
+            second,
             is_split: false,
             is_typed: false,
         })
     }
+}
 
-    /// One turn of the server at a moment, whose call of this number fails.
-    pub fn turn(&mut self, alloc: Global, now: u64, fails: u64)
-        ensures first { self.new.first ≡ self.old.first }
-        ensures second { self.new.second ≡ self.old.second }
-    {
-        self.ports.set_moment(now);
-        self.ports.fail_at(fails);
-        serve_turn(alloc, &mut self.server, &mut self.ports);
-    }
+/// One turn of a server at a moment, whose call of this number fails.
+pub fn serve_at(alloc: Global, server: &mut Server, ports: &mut MemoryPorts, now: u64, fails: u64) {
+    ports.set_moment(now);
+    ports.fail_at(fails);
+    serve_turn(alloc, server, ports);
 }
 
 /// What a start sent comes to the server.

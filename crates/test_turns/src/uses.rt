@@ -40,9 +40,14 @@ pub fn is_begun(alloc: Global, client: &mut Client, server: Addr) -> bool {
 use crate::stage::{SERVER, SESSION};
 use std::test::*;
 
+fn is_begun_at_first(alloc: Global) -> bool {
+    match Client::new(alloc, SESSION, 0xA1) {
+        Ok(mut client) => is_begun(alloc, &mut client, SERVER),
+        Err(_) => false,
+    }
+}
+
 #[test]
-fn a_start_begins(rt: HostRuntime) -> Result<(), Fail> {
-    let mut client = Client::new(rt.alloc(), SESSION, 0xA1)?;
-    assert!(rt; is_begun(rt.alloc(), &mut client, SERVER));
-    Ok(())
+fn a_start_begins(rt: HostRuntime) {
+    assert!(rt; is_begun_at_first(rt.alloc()));
 }

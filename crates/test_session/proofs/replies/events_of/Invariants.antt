@@ -3,5 +3,5 @@ use Rattle.roam_simulation.specs.Events.{IsHandedIn}
 use Rattle.test_session.proofs.replies.events_of.Given as goal
 
 -- the events so far are handed in
-abbrev pub invariant-loop-step : goal.invariant-loop-step
-invariant-loop-step l = All IsHandedIn l.events.items
+abbrev pub invariant-loop-line : goal.invariant-loop-line
+invariant-loop-line l = All IsHandedIn l.events.items

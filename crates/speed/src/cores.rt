@@ -1,0 +1,289 @@
+//! How fast the two cores work, and how much memory they keep.
+use crate::words;
+use anyhow::bail;
+use roam_cells::Fault;
+use roam_hub::{Addr, Client, Server};
+use roam_screens::{RowShot, Seen};
+use std::alloc::Global;
+use std::env::Args;
+use std::time::Instant;
+
+const SESSION: u64 = 0x5E55;
+
+/// Where all client starts are.
+const THERE: Addr = Addr {
+    host: [127, 0, 0, 1],
+    port: 5001,
+};
+
+/// What a pane's program writes at first, so many times.
+static TEXT: &[u8] = b"the quick brown fox jumps over the lazy dog and comes back again";
+
+const PIECES: u16 = 500;
+
+/// What it writes for a changed row: the cursor home, and 64 characters.
+static ROWS: [&[u8]; 2] = [
+    b"\x1B[Habcdefghijklmnopqrstuvwxyzabcdefghijklmnopqrstuvwxyzabcdefghijkl",
+    b"\x1B[Hzyxwvutsrqponmlkjihgfedcbazyxwvutsrqponmlkjihgfedcbazyxwvutsrqpo",
+];
+
+/// What it writes for a key: the cursor home, and a character.
+static KEYS: [&[u8]; 2] = [b"\x1B[Ha", b"\x1B[Hb"];
+
+/// What it writes for a scroll: a line feed in the last row, and another line.
+static SCROLLS: [&[u8]; 2] = [
+    b"\x1B[999;1H\r\n$ cargo build",
+    b"\x1B[999;1H\r\n   Compiling roam",
+];
+
+/// What it writes for a redraw: all places at once (DECALN), and none.
+static REDRAWS: [&[u8]; 2] = [b"\x1B#8", b"\x1B[2J"];
+
+/// A server and one client start, at a moment.
+#[derive(Drop)]
+struct Pair {
+    server: Server,
+    client: Client,
+    now: u64,
+}
+
+fn heard(alloc: Global, server: &mut Server, texts: &[Vec<u8>], now: u64) -> Result<(), Fault> {
+    for text in texts {
+        if let Err(stop) = server.datagram(alloc, THERE, text, now) {
+            return Err(stop.fault);
+        }
+    }
+    Ok(())
+}
+
+fn greet(alloc: Global, server: &mut Server, client: &mut Client) -> Result<(), Fault> {
+    let texts = client.tick(alloc, 0)?;
+    heard(alloc, server, &texts, 0)
+}
+
+// A client start whose first datagram came to the server.
+fn greeted(alloc: Global, server: &mut Server, id: u64) -> Result<Client, Fault> {
+    let mut client = Client::new(alloc, SESSION, id)?;
+    greet(alloc, server, &mut client)?;
+    Ok(client)
+}
+
+// So many client starts are known, and the pane is written all over.
+fn fill(alloc: Global, server: &mut Server, starts: u64) -> Result<(), Fault> {
+    for id in 0..starts {
+        greeted(alloc, server, id)?;
+    }
+    for _ in 0..PIECES {
+        server.pane_bytes(1, TEXT)?;
+    }
+    server.tick(alloc, 0)?;
+    Ok(())
+}
+
+// A server whose pane was written all over, and that knows so many client starts. What owns one does nothing else, since each way out of
+// it is proved with all that is dropped there.
+fn server_of(alloc: Global, rows: u16, cols: u16, starts: u64) -> Result<Server, Fault> {
+    let mut server = Server::new(alloc, SESSION, rows, cols)?;
+    fill(alloc, &mut server, starts)?;
+    Ok(server)
+}
+
+// A server that knows so many client starts, of which the last is kept.
+fn pair_of(alloc: Global, rows: u16, cols: u16, starts: u64) -> Result<Pair, Fault> {
+    let mut server = server_of(alloc, rows, cols, starts.saturating_sub(1))?;
+    let client = greeted(alloc, &mut server, starts)?;
+    Ok(Pair {
+        server,
+        client,
+        now: 0,
+    })
+}
+
+// Ticks so often at one moment; no input comes.
+fn idle_ticks(alloc: Global, server: &mut Server, times: u32) -> Result<u64, Fault> {
+    let mut sum: u64 = 0;
+    for _ in 0..times {
+        sum = sum.wrapping_add(server.tick(alloc, 20)?.len() as u64);
+    }
+    Ok(sum)
+}
+
+fn copies(alloc: Global, shot: &RowShot, times: u32) -> Result<u64, Fault> {
+    let mut sum: u64 = 0;
+    for _ in 0..times {
+        sum = sum.wrapping_add(u64::from(shot.copy(alloc)?.rows()));
+    }
+    Ok(sum)
+}
+
+// The nanoseconds of a tick after these bytes and of its datagrams at the client start, and the datagrams' bytes. The answer that is owed
+// goes back unmeasured.
+fn round(rt: &HostRuntime, pair: &mut Pair, piece: &[u8]) -> anyhow::Result<(u128, u64)> {
+    let alloc = rt.alloc();
+    pair.server.pane_bytes(1, piece)?;
+    pair.now = pair.now.wrapping_add(120);
+    let mut bytes: u64 = 0;
+    let start = Instant::now(rt)?;
+    for (_, text) in pair.server.tick(alloc, pair.now)?.iter() {
+        pair.client.datagram(alloc, text, pair.now)?;
+        bytes = bytes.wrapping_add(text.len() as u64);
+    }
+    let passed = start.elapsed(rt)?.as_nanos();
+    let later = pair.now.wrapping_add(100);
+    let answers = pair.client.tick(alloc, later)?;
+    heard(alloc, &mut pair.server, &answers, later)?;
+    Ok((passed, bytes))
+}
+
+// So many rounds, with these pieces by turns.
+fn rounds(
+    rt: &HostRuntime,
+    pair: &mut Pair,
+    pieces: &[&[u8]; 2],
+    times: u32,
+) -> anyhow::Result<(u128, u64)> {
+    let mut passed: u128 = 0;
+    let mut bytes: u64 = 0;
+    for k in 0..times {
+        let one = round(rt, pair, pieces[(k % 2) as usize])?;
+        passed = passed.wrapping_add(one.0);
+        bytes = bytes.wrapping_add(one.1);
+    }
+    Ok((passed, bytes))
+}
+
+/// What is measured of a pair.
+#[derive(Clone, Copy)]
+enum What {
+    /// Copies of the face.
+    Copy,
+    /// Ticks without input.
+    Idle,
+    /// Rounds after these pieces by turns.
+    Rounds(&'static [&'static [u8]; 2]),
+}
+
+fn measure_copies(rt: &HostRuntime, shot: &RowShot, times: u32) -> anyhow::Result<(u128, u64)> {
+    let start = Instant::now(rt)?;
+    let sum = copies(rt.alloc(), shot, times)?;
+    Ok((start.elapsed(rt)?.as_nanos(), sum))
+}
+
+// The first tick brings the last start its first screen.
+fn measure_idle(rt: &HostRuntime, server: &mut Server, times: u32) -> anyhow::Result<(u128, u64)> {
+    idle_ticks(rt.alloc(), server, 1)?;
+    let start = Instant::now(rt)?;
+    let sum = idle_ticks(rt.alloc(), server, times)?;
+    Ok((start.elapsed(rt)?.as_nanos(), sum))
+}
+
+fn measure_what(
+    rt: &HostRuntime,
+    pair: &mut Pair,
+    what: What,
+    times: u32,
+) -> anyhow::Result<(u128, u64)> {
+    match what {
+        What::Copy => measure_copies(rt, &pair.server.face(rt.alloc())?, times),
+        What::Idle => measure_idle(rt, &mut pair.server, times),
+        What::Rounds(pieces) => {
+            // The first round brings the whole screen.
+            rounds(rt, pair, pieces, 2)?;
+            rounds(rt, pair, pieces, times)
+        }
+    }
+}
+
+// The nanoseconds that something takes of a new pair, and a number that depends on the work.
+fn measured(
+    rt: &HostRuntime,
+    size: (u16, u16),
+    starts: u64,
+    what: What,
+    times: u32,
+) -> anyhow::Result<(u128, u64)> {
+    let mut pair = pair_of(rt.alloc(), size.0, size.1, starts)?;
+    measure_what(rt, &mut pair, what, times)
+}
+
+// So many client starts, from each of which a datagram came to the server.
+fn starts_of(alloc: Global, server: &mut Server, starts: u64) -> Result<Vec<Client>, Fault> {
+    let mut clients = Vec::new(alloc);
+    for id in 0..starts {
+        clients.push(greeted(alloc, server, id)?)?;
+    }
+    Ok(clients)
+}
+
+// One more screen is offered; each client start takes what is its own. None is acknowledged.
+fn offer(alloc: Global, server: &mut Server, clients: &mut [Client], k: u64) -> Result<u64, Fault> {
+    server.pane_bytes(1, ROWS[(k % 2) as usize])?;
+    let mut sum: u64 = 0;
+    for (_, text) in server.tick(alloc, k.wrapping_mul(20))?.iter() {
+        for client in clients.iter_mut() {
+            sum = sum.wrapping_add(u64::from(client.datagram(alloc, text, 0).is_ok()));
+        }
+    }
+    Ok(sum)
+}
+
+fn keep_for(
+    alloc: Global,
+    server: &mut Server,
+    starts: u64,
+    with_starts: bool,
+) -> Result<u64, Fault> {
+    let mut clients = starts_of(alloc, server, starts)?;
+    if !with_starts {
+        clients.clear();
+    }
+    let mut sum: u64 = 0;
+    for k in 1..8u64 {
+        sum = sum.wrapping_add(offer(alloc, server, &mut clients, k)?);
+    }
+    Ok(sum)
+}
+
+// Eight screens are kept for each of so many starts, and where these are kept too, each has its eight.
+fn keep(alloc: Global, starts: u64, with_starts: bool) -> Result<u64, Fault> {
+    let mut server = server_of(alloc, 24, 80, 0)?;
+    keep_for(alloc, &mut server, starts, with_starts)
+}
+
+/// Does two rounds, and keeps some screens.
+pub fn try_once(rt: &HostRuntime) -> anyhow::Result<()> {
+    measured(rt, (24, 80), 1, What::Rounds(&KEYS), 2)?;
+    if keep(rt.alloc(), 2, true)? == 0 {
+        bail!("no screen came");
+    }
+    Ok(())
+}
+
+/// Ticks, and takes rounds, at the size that the words say, so often.
+pub fn measure(rt: &HostRuntime, words: &mut Args) -> anyhow::Result<()> {
+    let rows = words::size(words, "ROWS")?;
+    let cols = words::size(words, "COLS")?;
+    let times = words::number(words, "TIMES")?;
+    // By name, of a server that knows so many starts.
+    let whats = [
+        ("copy", 1, What::Copy),
+        ("idle1", 1, What::Idle),
+        ("idle64", 64, What::Idle),
+        ("row", 1, What::Rounds(&ROWS)),
+        ("scroll", 1, What::Rounds(&SCROLLS)),
+        ("redraw", 1, What::Rounds(&REDRAWS)),
+        ("echo", 1, What::Rounds(&KEYS)),
+    ];
+    for (name, starts, what) in whats {
+        let (passed, sum) = measured(rt, (rows, cols), starts, what, times)?;
+        println!(rt; "{name} {times} {passed} {sum}")?;
+    }
+    Ok(())
+}
+
+/// Keeps eight screens for each of so many client starts, which are kept too or not.
+pub fn measure_kept(rt: &HostRuntime, words: &mut Args, with_starts: bool) -> anyhow::Result<()> {
+    let starts = words::number(words, "N")?;
+    keep(rt.alloc(), u64::from(starts), with_starts)?;
+    Ok(())
+}

@@ -1,0 +1,116 @@
+//! Where a server sends to, starts of both versions and those that only watch, and datagrams that no core wrote.
+use crate::stage::first_wrong;
+use std::test::*;
+
+const STORIES: &str = "\
+Replies go to the latest number: the first datagram comes again after the second.
+session 4 8
+start new a1
+tick 0 0
+up 1 5001 0: 0
+tick 0 3000
+up 2 6001 3000: 0
+up 1 5001 3001: 0
+serve 3001: 6001
+
+A server refuses numbers that nobody made, and the sender stays: its first screen goes out.
+session 4 8
+# State 9 was never made.
+forge 524d 01 02 0000000000000001 00000000000000a1 0000000000000001 0000000000000001 0000 0001 0012 \
+0000000000000009 0000000000000001 0000
+up 1 5001 0: 0
+# No number is as great as 2^62: the acknowledged state, the first act, the datagram.
+forge 524d 01 02 0000000000000001 00000000000000a1 0000000000000002 0000000000000002 0000 0001 0012 \
+4000000000000000 0000000000000001 0000
+up 2 5001 0: length
+forge 524d 01 02 0000000000000001 00000000000000a1 0000000000000002 0000000000000002 0000 0001 0012 \
+0000000000000000 4000000000000000 0000
+up 3 5001 0: length
+forge 524d 01 02 0000000000000001 00000000000000a1 4000000000000000 0000000000000002 0000 0001 0012 \
+0000000000000000 0000000000000001 0000
+up 4 5001 0: fragment
+serve 0: 5001
+
+A client start refuses half a character, and takes a blank screen of 2 by 8 under the same id.
+session 4 8
+start old a1
+# A lone right half.
+forge 524d 01 01 0000000000000001 00000000000000a1 0000000000000001 0000000000000001 0000 0001 003b \
+0000000000000000 0000000000000005 0000000000000000 0000000000000000 00020008000100010100000001 0000000000000001 000000000000
+down 0 1 0: bad change
+shown 0 0
+forge 524d 01 01 0000000000000001 00000000000000a1 0000000000000001 0000000000000001 0000 0001 002d \
+0000000000000000 0000000000000005 0000000000000000 0000000000000000 00020008000100010100000000
+down 0 2 0: new
+shown 0 5
+
+A watcher is shown screens and types nothing.
+session 4 8
+start watching a1
+type 0: watching
+tick 0 0
+bytes 1 524d 02 03 0000000000000001 00000000000000a1 0000000000000001 0000000000000001 0000 0001 0012 \
+0000000000000000 0000000000000001 0000
+up 1 5001 0: 0
+serve 0: 5001
+down 0 2 0: new
+face 0 1
+
+A record keeps its version and its kind: starts of one id.
+session 4 8
+come old a1: 0
+come new a1: version
+come watching a1: version
+come new b1: 0
+come watching b1: kind
+come watching c1: 0
+
+A client takes its own version: what goes to the start a1, of version 1, is nobody else's.
+session 4 8
+start old a1
+tick 0 0
+up 1 5001 0: 0
+serve 0: 5001
+start new a1
+down 1 2 0: version
+start new a2
+down 2 2 0: other client
+down 0 2 0: new
+face 0 1
+
+Acts of a watcher are none: a split to the right is refused, and its datagram without one is heard.
+session 24 80
+forge 524d 02 03 0000000000000001 00000000000000a1 0000000000000001 0000000000000001 0000 0001 0013 \
+0000000000000000 0000000000000001 0001 10
+up 1 5001 0: length
+forge 524d 02 03 0000000000000001 00000000000000a1 0000000000000001 0000000000000001 0000 0001 0012 \
+0000000000000000 0000000000000001 0000
+up 2 5001 0: 0
+lacks 2
+
+Watchers and others are counted apart.
+session 4 8
+fill watching 0 16
+come watching 10: clients full
+fill new 16 64
+come old 50: clients full
+
+Version 1 is shown the first rows and columns of a session of 200 by 500, and version 2 all.
+session 200 500
+start old a1
+start new b1
+tick 0 0
+up 1 5001 0: 0
+tick 1 0
+up 2 5002 0: 0
+serve 0: any
+all 0 5001
+all 1 5002
+shown 0 1
+size 0 100 250
+face 1 1";
+
+#[test]
+fn stories_go_as_told(rt: HostRuntime) {
+    assert_eq!(rt; first_wrong(rt.alloc(), STORIES), None);
+}

@@ -1,0 +1,58 @@
+//! Words of cases: a table that is one text is proved at once, whatever its length.
+use roam_cells::{Fault, Reason};
+use std::alloc::Global;
+
+/// The word for a refusal; no case has that for one of another kind.
+pub fn word_of(fault: Fault) -> &'static str {
+    match fault {
+        Fault::BadDatagram(Reason::Length) => "length",
+        Fault::BadDatagram(Reason::Version) => "version",
+        Fault::BadDatagram(Reason::Kind) => "kind",
+        Fault::BadDatagram(Reason::Fragment) => "fragment",
+        Fault::BadChange => "bad change",
+        Fault::OtherClient => "other client",
+        Fault::ClientsFull => "clients full",
+        Fault::Watching => "watching",
+        _ => "another",
+    }
+}
+
+/// What stands before a text's first mark and behind it, where nothing may stand.
+pub fn halves<'a>(text: &'a str, mark: &str) -> (&'a str, &'a str) {
+    text.split_once(mark).unwrap_or((text, ""))
+}
+
+/// Whether a text is as many numbers as there is place for, which are put there.
+pub fn reads_numbers(text: &str, places: &mut [u64]) -> bool {
+    let mut words = text.split_whitespace();
+    for place in places.iter_mut() {
+        match words.next().map(|word| word.parse::<u64>()) {
+            Some(Ok(number)) => *place = number,
+            _ => return false,
+        }
+    }
+    words.next().is_none()
+}
+
+/// A number of two bytes: that of a case, or the largest.
+pub fn short(number: u64) -> u16 {
+    number.min(0xFFFF) as u16
+}
+
+fn bytes_once(alloc: Global, text: &str) -> Option<Vec<u8>> {
+    let mut digits = String::new(alloc);
+    for c in text.chars() {
+        if c != ' ' {
+            digits.push(c).ok()?;
+        }
+    }
+    hex::decode(alloc, digits.as_str()).ok()
+}
+
+/// The bytes of hexadecimal digits with spaces between; none of anything else. It is tried once more, as memory may be refused.
+pub fn bytes_of(alloc: Global, text: &str) -> Option<Vec<u8>> {
+    match bytes_once(alloc, text) {
+        None => bytes_once(alloc, text),
+        bytes => bytes,
+    }
+}

@@ -1,0 +1,59 @@
+//! Words of cases: a table that is one text is proved at once, whatever its length.
+use roam_cells::{Fault, Reason};
+use std::alloc::Global;
+
+/// The word for a refusal; no case has that for one of another kind.
+pub fn word_of(fault: Fault) -> &'static str {
+    match fault {
+        Fault::BadSize => "bad size",
+        Fault::Busy => "busy",
+        Fault::LastPane => "last pane",
+        Fault::NoPane => "no pane",
+        Fault::PanesFull => "panes full",
+        Fault::TooLong => "too long",
+        Fault::TooSmall => "too small",
+        Fault::BadDatagram(Reason::Kind) => "kind",
+        Fault::OtherClient => "other client",
+        Fault::Watching => "watching",
+        _ => "another",
+    }
+}
+
+/// What stands before a text's first mark and behind it, where nothing may stand.
+pub fn halves<'a>(text: &'a str, mark: &str) -> (&'a str, &'a str) {
+    text.split_once(mark).unwrap_or((text, ""))
+}
+
+/// Whether a text is as many numbers as there is place for, which are put there.
+pub fn reads_numbers(text: &str, places: &mut [u64]) -> bool {
+    let mut words = text.split_whitespace();
+    for place in places.iter_mut() {
+        match words.next().map(|word| word.parse::<u64>()) {
+            Some(Ok(number)) => *place = number,
+            _ => return false,
+        }
+    }
+    words.next().is_none()
+}
+
+/// A number of two bytes: that of a case, or the largest.
+pub fn short(number: u64) -> u16 {
+    number.min(0xFFFF) as u16
+}
+
+// The character of a control picture; any other character is itself.
+fn character_of(c: char) -> char {
+    match c {
+        '\u{2400}'..='\u{2420}' => char::from((c as u32 - 0x2400) as u8),
+        _ => c,
+    }
+}
+
+/// The bytes of a text with pictures of control characters.
+pub fn bytes_of(alloc: Global, spelled: &str) -> Result<String, Fault> {
+    let mut bytes = String::new(alloc);
+    for c in spelled.chars() {
+        bytes.push(character_of(c))?;
+    }
+    Ok(bytes)
+}

@@ -1,0 +1,49 @@
+//! What is played on a stage, which one function owns: each way out of it is proved with all that is dropped there.
+ghost use Rattle.roam_turns.specs.Painting.{IsBehind};
+
+use crate::failing::{Failure, Failures, NONE, has_settled, is_right, play_all};
+use crate::rows::first_fault;
+use crate::stage::Stage;
+use roam_cells::Fault;
+use std::alloc::Global;
+
+/// What is played on a stage.
+#[derive(Clone, Copy)]
+pub enum Play {
+    /// Fourteen rounds, in which calls fail: both terminals come to show the last screen.
+    Failures(Failure, Failure),
+    /// As many as want of memory may need.
+    Refusals,
+    /// The first three turns of a session.
+    Opening,
+}
+
+// Whether a play ends as it should.
+fn ends(alloc: Global, stage: &mut Stage, play: Play) -> Result<bool, Fault>
+    requires first { IsBehind stage.old.first.outer stage.old.first.client.receiver.newest.number
+        stage.old.first.client.receiver.newest.state }
+    requires second { IsBehind stage.old.second.outer stage.old.second.client.receiver.newest.number
+        stage.old.second.client.receiver.newest.state }
+{
+    match play {
+        Play::Failures(one, other) => {
+            play_all(alloc, stage, 14, Failures { one, other })?;
+            Ok(has_settled(alloc, stage))
+        }
+        Play::Refusals => {
+            let none = Failures {
+                one: NONE,
+                other: NONE,
+            };
+            play_all(alloc, stage, 24, none)?;
+            Ok(is_right(alloc, stage))
+        }
+        Play::Opening => Ok(first_fault(alloc, stage) == None),
+    }
+}
+
+/// Whether a play ends as it should on a new stage.
+pub fn is_played(alloc: Global, play: Play) -> Result<bool, Fault> {
+    let mut stage = Stage::new(alloc)?;
+    ends(alloc, &mut stage, play)
+}
