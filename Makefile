@@ -1,6 +1,7 @@
 # `make` proves what the program stands on and builds it; `make show` builds the program that has `roam show` alone; `make test` is the
-# whole gate; `make bench` runs the benchmarks; `make try` tries the built program as processes and as a person would, and `make install
-# PREFIX=/usr/local` puts it, its tools and their pages there. All need the kit's `rt` on the PATH; the benchmarks a C compiler and Python too.
+# whole gate; `make bench` runs the benchmarks; `make try` holds the pages against the tree and tries the built program as processes and as
+# a person would, and `make install PREFIX=/usr/local` puts it, its tools and their pages there. All need the kit's `rt` on the PATH; the
+# benchmarks a C compiler and Python too.
 # What one goal stands on, or all: a word a crate, those below it first, NAME:DEP:DEP.
 goal := $(patsubst crates/%/out/built,%,$(filter crates/%/out/built,$(MAKECMDGOALS)))
 crates := $(shell tools/crates_below $(if $(word 2,$(MAKECMDGOALS)),,$(goal)) | tr ' ' ':')
@@ -48,6 +49,8 @@ bench: all
 	bench/latency.sh
 
 try: all
+	tools/worked_callers
+	tools/names
 	tools/two_processes
 	tools/try_live
 

@@ -1,6 +1,6 @@
 //! SGR: select graphic rendition.
-ghost use Rattle.std.specs.Prelude.{◌≡◌, ◌<◌};
-ghost use Rattle.roam_controls.specs.Renditions.{coloured_style, mixed_style, with_colour, without_aspect, with_aspect, read_so_far, with_parameter, styled_by};
+ghost use Rattle.std.specs.Prelude.{◌≡◌, ◌<◌, ◌≤◌, length, take, fold};
+ghost use Rattle.roam_controls.specs.Renditions.{Rendition, coloured_style, mixed_style, with_colour, without_aspect, with_aspect, read_so_far, with_parameter, styled_by};
 
 use roam_cells::{Colour, Ink, Style};
 
@@ -122,7 +122,7 @@ fn with_aspect(ink: Ink, param: u16) -> Ink
 }
 
 impl Restyling {
-    #[inline]
+    #[inline(always)]
     fn read(&mut self, param: u16)
         ensures read { read_so_far self.new.ink.style self.new.awaited
             ≡ with_parameter (read_so_far self.old.ink.style self.old.awaited) param }
@@ -154,6 +154,39 @@ impl Restyling {
             Awaited::Nothing => {}
         }
     }
+
+    // Reads a parameter, and with it those that tell the colour which it begins, where they are there: then no test of what is awaited
+    // stands between them. It tells where the next one is.
+    #[inline]
+    fn read_some(&mut self, params: &[u16], at: usize) -> usize
+        requires at_in { at < length params.now }
+        ensures more { at < result }
+        ensures within { result ≤ length params.now }
+        ensures read { (before : Rendition) → read_so_far self.old.ink.style self.old.awaited ≡ fold with_parameter before (take at params.now)
+            → read_so_far self.new.ink.style self.new.awaited ≡ fold with_parameter before (take result params.now) }
+        ensures guard { self.new.ink.guarded ≡ self.old.ink.guarded }
+    {
+        self.read(params[at]);
+        match self.awaited {
+            Awaited::ColourSpace(_) => {}
+            _ => return at + 1,
+        }
+        if params.len() - at < 3 {
+            return at + 1;
+        }
+        self.read(params[at + 1]);
+        self.read(params[at + 2]);
+        match self.awaited {
+            Awaited::Green(_, _) => {}
+            _ => return at + 3,
+        }
+        if params.len() - at < 5 {
+            return at + 3;
+        }
+        self.read(params[at + 3]);
+        self.read(params[at + 4]);
+        at + 5
+    }
 }
 
 /// The ink that SGR's parameters make of this one (ECMA-48 8.3.117): they are read from the first on, each after what those before it
@@ -165,8 +198,9 @@ pub fn restyled(ink: Ink, params: &[u16]) -> Ink
         ink,
         awaited: Awaited::Aspect,
     };
-    for param in params {
-        restyling.read(*param);
+    let mut at = 0;
+    while at < params.len() {
+        at = restyling.read_some(params, at);
     }
     restyling.ink
 }

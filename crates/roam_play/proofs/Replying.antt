@@ -3,9 +3,6 @@ use Rattle.std.proofs.Common.{◌≡◌, ℕ, zero, suc, ◌+◌, ◌-◌, List,
 use Rattle.std.specs.Fmt.{decimal}
 use Rattle.roam_play.specs.Replies.{sent_line}
 
-together : (d e : List ℕ) → codes "sent " ++ (d ++ (45 ∷ (e ++ (10 ∷ [])))) ≡ codes "sent " ++ d ++ codes "-" ++ e ++ codes "\n"
-together d e = ap (λ t. codes "sent " ++ t) (sym (append_assoc (d ++ (45 ∷ [])) e (10 ∷ []) ∙ append_assoc d (45 ∷ []) (e ++ (10 ∷ []))))
-
 some : (first count : ℕ) → (count ≡ 0 → ⊥)
     → codes "sent " ++ decimal first ++ codes "-" ++ decimal (first + (count - 1)) ++ codes "\n" ≡ sent_line first count
 some first zero is = absurd (is refl)
@@ -14,8 +11,11 @@ some first (suc more) is =
     ap (λ n. codes "sent " ++ decimal first ++ codes "-" ++ decimal (first + n) ++ codes "\n") last
 
 -- some datagrams were sent, and the numbers of the first and the last were written
-pub some_sent : (first count : ℕ) (old new : List ℕ) → (count ≡ 0 → ⊥)
-    → new ≡ old ++ (codes "sent " ++ (decimal first ++ (45 ∷ (decimal (first + (count - 1)) ++ (10 ∷ [])))))
-    → new ≡ old ++ sent_line first count
-some_sent first count old new is e =
-    e ∙ ap (λ t. old ++ t) (together (decimal first) (decimal (first + (count - 1))) ∙ some first count is)
+pub some_sent : (first count : ℕ) (old begun new : List ℕ) → (count ≡ 0 → ⊥) → begun ≡ old ++ (codes "sent " ++ decimal first)
+    → new ≡ begun ++ (codes "-" ++ decimal (first + (count - 1)) ++ codes "\n") → new ≡ old ++ sent_line first count
+some_sent first count old begun new is b e =
+    let front = codes "sent " ++ decimal first in
+    let last = decimal (first + (count - 1)) in
+    e ∙ ap (λ t. t ++ (codes "-" ++ last ++ codes "\n")) b ∙ append_assoc old front (codes "-" ++ last ++ codes "\n")
+    ∙ ap (λ t. old ++ t) (sym (append_assoc front (codes "-" ++ last) (codes "\n"))
+    ∙ ap (λ t. t ++ codes "\n") (sym (append_assoc front (codes "-") last)) ∙ some first count is)

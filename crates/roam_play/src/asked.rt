@@ -10,7 +10,7 @@ ghost use Rattle.roam_play.specs.Asked.{asked_in, asks_nothing, bytes_line, face
 use crate::replies::number_of;
 use roam_cells::Fault;
 use roam_script::Line;
-use roam_show::push_screen;
+use roam_show::{push_numbered, push_screen};
 use roam_simulation::World;
 use std::alloc::{AllocError, Global};
 
@@ -25,7 +25,7 @@ fn push_shown(alloc: Global, text: &mut String, world: &World, slot: u8) -> Resu
         return Ok(());
     };
     let (number, shot) = client.shown();
-    write!(text, "state {number}\n")?;
+    push_numbered(text, "state ", number)?;
     push_screen(alloc, text, &shot)
 }
 
@@ -65,7 +65,7 @@ fn push_waiting(alloc: Global, text: &mut String, world: &World, pane: u8) -> Re
             Ok(())
         }
         Err(fault) => {
-            write!(text, "E{}\n", number_of(fault))?;
+            push_numbered(text, "E", number_of(fault))?;
             Ok(())
         }
     }

@@ -1,11 +1,12 @@
 //! The replies of a world, as text.
-ghost use Rattle.std.specs.Prelude.{◌≡◌, ◌++◌, OnOk, string_bytes};
+ghost use Rattle.std.specs.Prelude.{◌≡◌, ◌++◌, OnOk, codes, decimal, string_bytes};
 ghost use Rattle.roam_hub.specs.Clients.{hearing_in};
 ghost use Rattle.roam_simulation.specs.Events.{reply_of};
 ghost use Rattle.roam_play.specs.Replies.{heard_line, number_of, reply_line, sent_line, stop_line};
 
 use roam_cells::Fault;
 use roam_hub::{Heard, Stop};
+use roam_show::{push_number, push_numbered};
 use roam_simulation::Reply;
 use std::alloc::AllocError;
 
@@ -54,7 +55,17 @@ fn push_sent(text: &mut String, first: u64, count: u64) -> Result<(), AllocError
         return text.push_str("sent none\n");
     }
     let last = first as u128 + (count - 1) as u128;
-    write!(text, "sent {first}-{last}\n")
+    push_number(text, "sent ", first)?;
+    push_numbered(text, "-", last)
+}
+
+// Adds a refusal's number, and how many acts were taken before.
+fn push_counted(text: &mut String, number: u8, taken: usize) -> Result<(), AllocError>
+    ensures text { OnOk result (string_bytes text.new ≡ string_bytes text.old
+        ++ (codes "E" ++ decimal number ++ codes " " ++ decimal taken ++ codes "\n")) }
+{
+    push_number(text, "E", number)?;
+    push_numbered(text, " ", taken)
 }
 
 // Adds why a datagram to the server was refused; where it stopped at an act, how many were taken before.
@@ -63,8 +74,8 @@ fn push_stop(text: &mut String, stop: Stop) -> Result<(), AllocError>
 {
     let number = number_of(stop.fault);
     match stop.fault {
-        Fault::OutOfMemory | Fault::Busy => write!(text, "E{number} {}\n", stop.taken),
-        _ => write!(text, "E{number}\n"),
+        Fault::OutOfMemory | Fault::Busy => push_counted(text, number, stop.taken),
+        _ => push_numbered(text, "E", number),
     }
 }
 
@@ -75,10 +86,10 @@ pub(crate) fn push_reply(text: &mut String, reply: Reply) -> Result<(), AllocErr
     match reply {
         Reply::Done => text.push_str("ok\n"),
         Reply::Sent(first, count) => push_sent(text, first, count),
-        Reply::Taken(count) => write!(text, "ok {count}\n"),
+        Reply::Taken(count) => push_numbered(text, "ok ", count),
         Reply::Heard(heard) => text.push_str(heard_line(heard)),
         Reply::Refused => text.push_str("refused\n"),
-        Reply::Fault(fault) => write!(text, "E{}\n", number_of(fault)),
+        Reply::Fault(fault) => push_numbered(text, "E", number_of(fault)),
         Reply::Stopped(stop) => push_stop(text, stop),
     }
 }

@@ -5,4 +5,4 @@
 
 mod show;
 
-pub use show::{MOST_READS, push_screen, run_show};
+pub use show::{MOST_READS, push_number, push_numbered, push_screen, run_show};

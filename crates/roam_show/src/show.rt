@@ -1,5 +1,5 @@
 //! `roam show`: feeds what a reader gives to a terminal, and writes the screen that it makes and what it answered.
-ghost use Rattle.std.specs.Prelude.{◌≡◌, ◌≢◌, ◌⊎◌, ◌↔◌, ◌++◌, ℕ, List, [], OnOk, IfOk, IfErr, IsErrOf, IsOkUnless, map, string_bytes};
+ghost use Rattle.std.specs.Prelude.{◌≡◌, ◌≢◌, ◌⊎◌, ◌↔◌, ◌++◌, ℕ, List, [], OnOk, IfOk, IfErr, IsErrOf, IsOkUnless, map, codes, decimal, if◌then◌else◌, string_bytes};
 ghost use Rattle.std.specs.Io.KnownBytes.{Consumes, IsAtEnd, Appends, Keeps};
 ghost use Rattle.roam_text.specs.Log.{Item, Byte};
 ghost use Rattle.roam_term.specs.Terminal.{reports};
@@ -7,6 +7,7 @@ ghost use Rattle.roam_term.specs.Stands.{Shows, IsTermSize};
 ghost use Rattle.roam_show.specs.ShowText.{row_line, screen_text, output_line, show_text};
 ghost use Rattle.roam_term.specs.Limits.{pane_lines};
 
+use itoa::{Buffer, Integer};
 use roam_cells::Fault;
 use roam_faults::RunFault;
 use roam_screens::{Seen, row_text};
@@ -72,6 +73,32 @@ fn push_row(text: &mut String, row: &[char]) -> Result<(), AllocError>
     text.push_str("|\n")
 }
 
+/// Adds a word, a number in decimal and the end of a line.
+pub fn push_numbered<I: Integer>(text: &mut String, word: &str, number: I) -> Result<(), AllocError>
+    ensures text { OnOk result (string_bytes text.new ≡ string_bytes text.old ++ (word.now ++ I.text number ++ codes "\n")) }
+{
+    push_number(text, word, number)?;
+    text.push('\n')
+}
+
+/// Adds a word and a number in decimal.
+pub fn push_number<I: Integer>(text: &mut String, word: &str, number: I) -> Result<(), AllocError>
+    ensures text { OnOk result (string_bytes text.new ≡ string_bytes text.old ++ (word.now ++ I.text number)) }
+{
+    text.push_str(word)?;
+    text.push_str(Buffer::new().format(number))
+}
+
+// Adds the cursor's line.
+fn push_cursor(text: &mut String, row: u16, col: u16, visible: bool) -> Result<(), AllocError>
+    ensures text { OnOk result (string_bytes text.new ≡ string_bytes text.old ++ (codes "cursor " ++ decimal row ++ codes " " ++ decimal col
+        ++ (if visible then codes " shown\n" else codes " hidden\n"))) }
+{
+    push_number(text, "cursor ", row)?;
+    push_number(text, " ", col)?;
+    text.push_str(if visible { " shown\n" } else { " hidden\n" })
+}
+
 /// Adds the text of a screen: each row between bars, then the cursor's line, from row and column 1. `OutOfMemory`.
 pub fn push_screen<S: Seen>(alloc: Global, text: &mut String, shot: &S) -> Result<(), Fault>
     ensures text { OnOk result (string_bytes text.new ≡ string_bytes text.old ++ screen_text (S.screen shot.now)) }
@@ -82,8 +109,7 @@ pub fn push_screen<S: Seen>(alloc: Global, text: &mut String, shot: &S) -> Resul
         push_row(text, &chars)?;
     }
     let (row, col) = shot.cursor();
-    let state = if shot.visible() { "shown" } else { "hidden" };
-    write!(text, "cursor {row} {col} {state}\n")?;
+    push_cursor(text, row, col, shot.visible())?;
     Ok(())
 }
 

@@ -23,7 +23,7 @@ functions_with (Some d) params inter = function_of d params inter ∷ []
 
 -- the function that a parser answered, with what it keeps of the sequence
 abbrev pub answer_functions : Option Dispatch → Parser → List Function
-answer_functions d p = functions_with d p.sequence.params p.sequence.inter
+answer_functions d p = functions_with d p.sequence.params.items p.sequence.inter.items
 
 -- U+FFFD is printed, or falls into a control string
 abbrev pub replacement : Bool → List Function

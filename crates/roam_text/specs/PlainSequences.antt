@@ -8,4 +8,4 @@ pub record IsPlain (p : Parser) : Type 0 where
   pub phase : p.phase ≡ InControlSequence
   pub ignored : p.sequence.ignored ≡ false
   pub mark : p.sequence.mark ≡ None
-  pub inter : p.sequence.inter ≡ []
+  pub inter : p.sequence.inter.items ≡ []

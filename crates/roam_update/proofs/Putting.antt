@@ -205,7 +205,3 @@ begin_facts least last text e =
 
 -- the steps of the loop over the runs of a text
 pub ruleset put_steps = (runs_put_whole, runs_put_more_text, runs_put_unused, runs_put_refused, runs_put_fails, runs_put_go)
-
--- three bytes are a number of three bytes
-pub number_at : (a b c : ℕ) → a * 65536 + b * 256 + c ≡ a * 256 ^ 2 + (b * 256 ^ 1 + (c * 256 ^ 0 + 0))
-number_at a b c = omega arith

@@ -104,13 +104,12 @@ fn read_colour(kind: u8, index: u8) -> Option<Colour>
 }
 
 /// The number of a style in the second to the fourth byte of a text.
-#[tactic(auto, using(crate::proofs::Putting::number_at))]
 pub fn read_number(text: &[u8]) -> usize
     requires long { 4 ≤ length text.now }
     ensures number { result ≡ number_read text.now }
     ensures few { result < 0x1000000 }
 {
-    text[1] as usize * 65536 + text[2] as usize * 256 + text[3] as usize
+    BigEndian::read_u24(&text[1..]) as usize
 }
 
 /// A style that is said in full, in the second to the sixth byte of a text.

@@ -9,6 +9,7 @@ ghost use Rattle.roam_update.specs.Styles.{Whole, Numbered, with_style, number_i
 ghost use Rattle.roam_update.specs.TableText.{colour_text, entry_text};
 
 use crate::cell_text::{add_points, add_whole_cell, flags};
+use byteorder::{BigEndian, ByteOrder};
 use indexmap::IndexSet;
 use roam_cells::{Cell, Colour, Style};
 use std::alloc::{AllocError, Global};
@@ -106,11 +107,9 @@ pub fn add_short_number(text: &mut Vec<u8>, number: usize) -> Result<(), AllocEr
     requires few { number < 0x1000000 }
     ensures number { OnOk result (text.new.items ≡ text.old.items ++ big_bytes 3 number) }
 {
-    text.extend_from_slice(&[
-        (number / 65536) as u8,
-        (number / 256 % 256) as u8,
-        (number % 256) as u8,
-    ])
+    let mut bytes = [0u8; 3];
+    BigEndian::write_u24(&mut bytes, number as u32);
+    text.extend_from_slice(&bytes)
 }
 
 // Adds the text of a cell that says its style by its number.

@@ -1,6 +1,5 @@
 //! What the words ask for, and the texts of `clap` that a user reads.
-use roam_command::{Refusal, Request, read_words};
-use roam_wire::Version;
+use roam_command::{Refusal, Request, Server, Wire, read_words};
 use std::alloc::{AllocError, Global};
 use std::test::*;
 
@@ -64,12 +63,15 @@ For more information, try '--help'.
 > 0 elsewhere/program attach --help
 Follows a session and paints it on standard output
 
-Usage: roam attach [OPTIONS] --port <P> --session <H> --client <H>
+Usage: roam attach [OPTIONS]
 
 Options:
-      --port <P>       The UDP port on 127.0.0.1 of the server, as 4000
-      --session <H>    The session's id, 1 to 16 hexadecimal digits; each run of serve needs one of its own, as 5e55
-      --client <H>     The id of this start of a client, 1 to 16 hexadecimal digits; each start needs one of its own, as c1
+      --dir <D>        The folder of the server, whose socket clients it connects to; it ends where the server does
+      --port <P>       The UDP port on 127.0.0.1 of the server, as 4000, in place of its folder
+      --session <H>    The session's id, 1 to 16 hexadecimal digits; each run of serve needs one of its own. Without a port it may be left \
+    out: serve makes one by chance, and tells it in the file session of its folder, where attach reads it
+      --client <H>     The id of this start of a client, 1 to 16 hexadecimal digits; each start needs one of its own. With --dir it may be \
+    left out, and is one by chance then
       --keys <PATH>    A file with the acts to type, one a line, as `char 61`, `key return` or `split right`; without it none are typed
       --acts <SOCKET>  A Unix socket from which such lines come as they are typed; the run ends with them, once they are done
       --wire <V>       The version of the protocol, 1 or 2; 2 where it isn't given
@@ -78,7 +80,7 @@ Options:
     milliseconds; a busy pane takes thousands a second
   -h, --help           Print help
 
-Example: roam attach --port 4000 --session 5e55 --client c1 --keys keys";
+Example: roam attach --dir ~/.roam --keys keys";
 
 // The words of a line.
 fn words_of<'a>(alloc: Global, line: &'a str) -> Result<Vec<&'a str>, AllocError> {
@@ -111,14 +113,18 @@ fn texts_of_words(rt: HostRuntime) {
     }
 }
 
-// Words, and what they ask for: of `serve` the folder, the port, the session and the turns; of `attach` the port, the session, the client,
-// the keys, the acts (`-` is none), the version, whether it watches, and the turns. Numbers are decimal. Words that exclude one another,
-// and a version that is none, ask for nothing.
+// Words, and what they ask for: of `serve` the folder, the port, the session and the turns; of `attach` the folder or the port, the
+// session, the client, the keys, the acts (`-` is none), the version, whether it watches, and the turns. Numbers are decimal. Words that
+// exclude one another or need one another, and a version that is none, ask for nothing.
 const ASKED: &str = "\
 roam show --rows 2 --cols 8|show 2 8
 roam world|world
 roam serve --dir d --port 4000 --session 5E55 --turns 9|serve d 4000 24149 9
 roam serve --dir d --port 4000 --session 5E55|serve d 4000 24149 18446744073709551615
+roam serve --dir d|serve d - - 18446744073709551615
+roam serve --dir d --session 5E55|serve d - 24149 18446744073709551615
+roam serve --dir d --port 4000|nothing
+roam serve --port 4000 --session 5E55|nothing
 roam attach --turns 18446744073709551615 --keys k --client ffffffffffffffff --session 0 --port 1|\
 attach 1 0 18446744073709551615 k - 2 types 18446744073709551615
 roam attach --client ffffffffffffffff --session 0 --port 1|\
@@ -129,10 +135,31 @@ roam attach --client ffffffffffffffff --session 0 --port 1 --watch|\
 attach 1 0 18446744073709551615 - - 2 watches 18446744073709551615
 roam attach --client ffffffffffffffff --session 0 --port 1 --watch --keys k --turns 7|\
 attach 1 0 18446744073709551615 k - 2 watches 7
+roam attach --dir d|attach d - - - - 2 types 18446744073709551615
+roam attach --dir d --session a --client b --acts s|attach d 10 11 - s 2 types 18446744073709551615
+roam attach|nothing
+roam attach --port 1|nothing
+roam attach --port 1 --session 0|nothing
+roam attach --dir d --port 1 --session 0 --client 1|nothing
 roam attach --client ffffffffffffffff --session 0 --port 1 --wire 0|nothing
 roam attach --client ffffffffffffffff --session 0 --port 1 --watch --wire 2|nothing
 roam attach --client ffffffffffffffff --session 0 --port 1 --acts s --keys k|nothing
 roam attach --client ffffffffffffffff --session 0 --port 1 --watch --acts s|nothing";
+
+// A number that may have been left out.
+fn text_or_none(alloc: Global, number: &Option<u64>) -> Result<String, AllocError> {
+    match number {
+        Some(number) => format!(in alloc; "{number}"),
+        None => String::from_str(alloc, "-"),
+    }
+}
+
+fn text_of_home(alloc: Global, server: &Server<'_>) -> Result<String, AllocError> {
+    match server {
+        Server::Folder(folder) => String::from_str(alloc, *folder),
+        Server::Port(port) => format!(in alloc; "{port}"),
+    }
+}
 
 fn text_of(alloc: Global, request: &Request<'_>) -> Result<String, AllocError> {
     match request {
@@ -143,23 +170,30 @@ fn text_of(alloc: Global, request: &Request<'_>) -> Result<String, AllocError> {
             port,
             session,
             turns,
-        } => format!(in alloc; "serve {folder} {port} {session} {turns}"),
+        } => {
+            let port = text_or_none(alloc, &port.map(u64::from))?;
+            let session = text_or_none(alloc, session)?;
+            format!(in alloc; "serve {folder} {port} {session} {turns}")
+        }
         Request::Attach {
-            port,
+            server,
             session,
             client,
             keys,
             acts,
-            version,
+            wire,
             watches,
             turns,
         } => {
+            let home = text_of_home(alloc, server)?;
+            let session = text_or_none(alloc, session)?;
+            let client = text_or_none(alloc, client)?;
             let keys = keys.unwrap_or("-");
             let acts = acts.unwrap_or("-");
-            let version = if *version == Version::One { 1 } else { 2 };
+            let version = if *wire == Wire::One { 1 } else { 2 };
             let how = if *watches { "watches" } else { "types" };
             format!(in alloc;
-                "attach {port} {session} {client} {keys} {acts} {version} {how} {turns}"
+                "attach {home} {session} {client} {keys} {acts} {version} {how} {turns}"
             )
         }
     }

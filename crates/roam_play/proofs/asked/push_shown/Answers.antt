@@ -11,5 +11,5 @@ returns-clause-text c = ok_then c.push_screen.result c.push_screen.ensures.text 
     c.in-Some.client.now here (s.starts.filled c.args.slot) in
     let shown = c.shown-number.ensures.shown w.server.session start.id (w.clients start.id) start.stands in
     client_text w.clients (w.slots c.args.slot) start.id c.shown-number.result.0 (shown_by c.shown-number.result.1) (string_bytes
-    c.args.text.now) (string_bytes c.write.new.self) (string_bytes c.push_screen.new.text) start.is shown.0 shown.1
-    c.in_ok-write.ensures.bytes e)
+    c.args.text.now) (string_bytes c.push_numbered.new.text) (string_bytes c.push_screen.new.text) start.is shown.0 shown.1
+    c.in_ok-push_numbered.ensures.text e)

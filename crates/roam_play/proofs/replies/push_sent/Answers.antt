@@ -5,6 +5,7 @@ use Rattle.roam_play.proofs.replies.push_sent.Goals as goal
 
 pub returns : goal.returns
 returns c = record {
-  text = ok_then c.write.result c.write.ensures.bytes (λ e.
-      some_sent c.args.first c.args.count (string_bytes c.args.text.now) (string_bytes c.write.new.self) c.if-count-eq0.false e);
+  text = ok_then c.push_numbered.result c.push_numbered.ensures.text (λ e.
+      some_sent c.args.first c.args.count (string_bytes c.args.text.now) (string_bytes c.push_number.new.text)
+      (string_bytes c.push_numbered.new.text) c.if-count-eq0.false c.in_ok-push_number.ensures.text e);
 }

@@ -19,4 +19,4 @@ returns-else-not-is_empty-clause-read c done rest =
     let p = c.args.self.now in
     ap (λ phase. given_in phase p.sequence (character c.args.byte ∷ rest)) c.in-InEscapeSequence.is
     ∙ ap (λ b. given_in InEscapeSequence p.sequence (character b ∷ rest)) c.if-byte-ne91.false
-    ∙ introducer-entry p.sequence rest c.if-self.false (empty-is p.sequence.inter (c.if-not-is_empty.ensures.empty)) ∙ sym (c.begin_control_sequence.ensures.given rest)
+    ∙ introducer-entry p.sequence rest c.if-self.false (empty-is p.sequence.inter.items (c.if-not-is_empty.ensures)) ∙ sym (c.begin_control_sequence.ensures.given rest)

@@ -12,13 +12,13 @@ use Rattle.roam_text.proofs.readers.Reader.end_rendition.Goals as goal
 pub returns-clause-stands : goal.returns-clause-stands
 returns-clause-stands c done log stands =
     let view = ap (λ (v : View). v.pending) c.self.view_is in
-    let inside = empty-is c.self.inside.decoder.pending c.if-not-is_empty.ensures.empty in
+    let inside = empty-is c.self.inside.decoder.pending.items c.if-not-is_empty.ensures in
     let empty = sym view ∙ inside in
     let new : View = record {
-      pending = c.self.inside.decoder.pending;
+      pending = c.self.inside.decoder.pending.items;
       parser = c.end_rendition.new.self;
-      parameters = c.end_rendition.new.self.sequence.params;
-      intermediates = c.end_rendition.new.self.sequence.inter;
+      parameters = c.end_rendition.new.self.sequence.params.items;
+      intermediates = c.end_rendition.new.self.sequence.inter.items;
     } in
     bytes-stand c.args.self.now new (0x6D ∷ []) (function_of (Csi None 0x6D) new.parameters [] ∷ [])
     (view ∙ ascii-pending c.args.self.now.pending 0x6D empty (omega arith))
@@ -29,13 +29,13 @@ returns-clause-stands c done log stands =
 pub returns-clause-gained : goal.returns-clause-gained
 returns-clause-gained c done log stands =
     let view = ap (λ (v : View). v.pending) c.self.view_is in
-    let inside = empty-is c.self.inside.decoder.pending c.if-not-is_empty.ensures.empty in
+    let inside = empty-is c.self.inside.decoder.pending.items c.if-not-is_empty.ensures in
     let empty = sym view ∙ inside in
     let new : View = record {
-      pending = c.self.inside.decoder.pending;
+      pending = c.self.inside.decoder.pending.items;
       parser = c.end_rendition.new.self;
-      parameters = c.end_rendition.new.self.sequence.params;
-      intermediates = c.end_rendition.new.self.sequence.inter;
+      parameters = c.end_rendition.new.self.sequence.params.items;
+      intermediates = c.end_rendition.new.self.sequence.inter.items;
     } in
     bytes-gained c.args.self.now new (0x6D ∷ []) (function_of (Csi None 0x6D) new.parameters [] ∷ [])
     (view ∙ ascii-pending c.args.self.now.pending 0x6D empty (omega arith))

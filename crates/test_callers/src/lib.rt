@@ -1,0 +1,26 @@
+//! The callers that the READMEs of the libraries show, each a module here that is proved (`tools/worked_callers` compares the two).
+#![tactic(auto)]
+
+pub mod acts;
+pub mod cells;
+pub mod charset;
+pub mod controls;
+pub mod faults;
+pub mod grid;
+pub mod history;
+pub mod keys;
+pub mod numbers;
+pub mod paint;
+pub mod pane_list;
+pub mod play;
+pub mod rows;
+pub mod screens;
+pub mod script;
+pub mod session;
+pub mod show;
+pub mod simulation;
+pub mod sockets;
+pub mod sync;
+pub mod text;
+pub mod update;
+pub mod wire;
