@@ -5,16 +5,18 @@ use roam_faults::RunFault;
 use roam_sockets::{Serve, run_serve};
 use std::fs::Files;
 use std::net::Net;
+use std::random::RandomSource;
 use std::time::Clock;
 
-/// Serves a session for a thousand turns.
-pub fn serve_a_while<R: Files + Net + Clock + Eprint + AllocGlobal>(
+/// Serves a session in a folder of the user's own, for a thousand turns.
+pub fn serve_a_while<R: Files + Net + Clock + RandomSource + Eprint + AllocGlobal>(
     rt: &R,
+    folder: &str,
 ) -> Result<(), RunFault> {
     let serve = Serve {
-        folder: "/tmp/roam",
-        port: 4000,
-        session: 0x5E55,
+        folder,
+        port: None,
+        session: None,
         turns: 1000,
     };
     run_serve(rt, &serve)
