@@ -37,7 +37,7 @@ _roam() {
     local word=${COMP_WORDS[COMP_CWORD]} words
     case ${COMP_WORDS[1]} in
     serve) words="--dir --port --session --turns --help" ;;
-    attach) words="--port --session --client --keys --acts --wire --watch --turns --help" ;;
+    attach) words="--dir --port --session --client --keys --acts --wire --watch --turns --help" ;;
     show) words="--rows --cols --help" ;;
     world) words="--help" ;;
     mux) words="ls watch kill ssh --help" ;;
