@@ -296,16 +296,17 @@ pub fn goes_round(alloc: Global, grid: &mut Grid) -> bool {
         && grid.first() == 2
 }
 
-// What is done after the lines before; the columns of a character that comes next, whether it wraps (DECAWM), and whether a row leaves: in
-// the row above the bottom margin; where one column is left; where two are wanted; without DECAWM; with a wrap pending.
+// What is done on 2 by 8; the columns of a character that comes next, whether it wraps (DECAWM), and whether a row leaves: in the row above
+// the bottom margin; where one column is left; where two are wanted; without DECAWM; with a wrap pending.
 const LEAVES: &str = "\
 CUP 1 8|2|wraps|stays
-CUP 2 7, text a|1|wraps|stays
-|2|wraps|leaves
-|2|stands|stays
-text b|1|wraps|leaves";
+CUP 1 8, CUP 2 7, text a|1|wraps|stays
+CUP 1 8, CUP 2 7, text a|2|wraps|leaves
+CUP 1 8, CUP 2 7, text a|2|stands|stays
+CUP 1 8, CUP 2 7, text a, text b|1|wraps|leaves";
 
-fn leaves_so(alloc: Global, grid: &mut Grid, line: &str) -> bool {
+/// Whether a row leaves where a line says so.
+pub fn leaves_so(alloc: Global, grid: &mut Grid, line: &str) -> bool {
     let (operations, rest) = line.split_once('|').unwrap_or((line, ""));
     let (columns, rest) = rest.split_once('|').unwrap_or((rest, ""));
     let writing = Writing {
@@ -316,18 +317,13 @@ fn leaves_so(alloc: Global, grid: &mut Grid, line: &str) -> bool {
         && matches!(number(columns), Some(columns) if grid.leaves(columns, writing) == rest.ends_with("|leaves"))
 }
 
-/// Whether a row leaves where a character scrolls.
-pub fn leave_so(alloc: Global, grid: &mut Grid) -> bool {
-    for line in LEAVES.lines() {
-        if !leaves_so(alloc, grid, line) {
-            return false;
-        }
-    }
-    true
-}
-
 #[test]
 fn the_first_row_goes_round_and_a_row_leaves(rt: HostRuntime) {
     assert!(rt; stands(rt.alloc(), (3, 8), 0, Trial::FirstRow), "first row");
-    assert!(rt; stands(rt.alloc(), (2, 8), 0, Trial::Leaving), "leaving");
+    for line in LEAVES.lines() {
+        assert!(rt;
+            stands(rt.alloc(), (2, 8), 0, Trial::Leaves(line)),
+            "{line}"
+        );
+    }
 }

@@ -1,7 +1,7 @@
 //! What is tried of a grid, which is made here alone: a function that owns one is dear to prove.
 use crate::cases::shows_after;
 use crate::edges::{goes_round_by_fives, takes_or_refuses};
-use crate::grids::{goes_round, is_made, leave_so};
+use crate::grids::{goes_round, is_made, leaves_so};
 use crate::marks::{are_all_after, begins_marked, marks_so};
 use roam_grid::Grid;
 use std::alloc::Global;
@@ -18,7 +18,8 @@ pub enum Trial<'a> {
     AllMarks,
     FirstRow,
     FirstRowByFives,
-    Leaving,
+    /// What is done, a character that comes next, and whether a row leaves.
+    Leaves(&'a str),
     Sizes,
 }
 
@@ -33,7 +34,7 @@ fn tries(alloc: Global, grid: &mut Grid, trial: Trial<'_>) -> bool {
         Trial::AllMarks => are_all_after(alloc, grid),
         Trial::FirstRow => goes_round(alloc, grid),
         Trial::FirstRowByFives => goes_round_by_fives(grid),
-        Trial::Leaving => leave_so(alloc, grid),
+        Trial::Leaves(line) => leaves_so(alloc, grid, line),
         Trial::Sizes => takes_or_refuses(alloc, grid),
     }
 }

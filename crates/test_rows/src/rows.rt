@@ -667,21 +667,25 @@ down 1|2|
 up 9999|2|                        
 size 3 8 0|0|                        ";
 
-fn goes_round(alloc: Global, ring: &mut Ring) -> bool {
-    for line in ROUND.lines() {
-        let [acts, first, buffer, ..] = parts_of(line, '|');
-        let played = play(alloc, ring, acts);
-        if !played || number(first) != Some(ring.first()) || !reads(ring.buffer(), buffer) {
-            return false;
-        }
-    }
-    true
+fn goes_round(alloc: Global, ring: &mut Ring, line: &str) -> bool {
+    let [acts, first, buffer, ..] = parts_of(line, '|');
+    play(alloc, ring, acts) && number(first) == Some(ring.first()) && reads(ring.buffer(), buffer)
 }
 
-fn three_go_round(alloc: Global) -> bool {
+// The first line after which the rows lie otherwise, or nothing.
+fn first_astray(alloc: Global, ring: &mut Ring) -> &'static str {
+    for line in ROUND.lines() {
+        if !goes_round(alloc, ring, line) {
+            return line;
+        }
+    }
+    ""
+}
+
+fn first_astray_of_three(alloc: Global) -> &'static str {
     match Ring::new(alloc, 3, 8) {
-        Ok(mut ring) => goes_round(alloc, &mut ring),
-        Err(_) => false,
+        Ok(mut ring) => first_astray(alloc, &mut ring),
+        Err(_) => "no memory",
     }
 }
 
@@ -697,7 +701,8 @@ fn code_points_join_and_the_first_row_goes_round(rt: HostRuntime) {
     for line in JOINS.lines() {
         assert!(rt; is_line_on_blank(rt.alloc(), line), "{line}");
     }
-    assert!(rt; three_go_round(rt.alloc()));
+    let astray = first_astray_of_three(rt.alloc());
+    assert!(rt; astray.is_empty(), "{astray}");
 }
 
 // Whether rows, and memory for rows, are made of a size.
