@@ -6,11 +6,12 @@ use roam_screens::RowShot;
 use roam_sync::{Receiver, Sender, Step};
 use std::alloc::Global;
 
-/// Whether one delivered instruction brings a receiver to a new screen.
-pub fn one_round(alloc: Global, screen: RowShot) -> Result<bool, Fault> {
-    let mut sender = Sender::new(alloc, RowShot::blank(alloc, 4, 10)?)?;
-    let mut receiver = Receiver::new(alloc, RowShot::blank(alloc, 4, 10)?)?;
-    sender.offer(1, screen)?;
+/// Whether a receiver has the newest screen of a sender once one instruction was delivered, and the sender knows it.
+pub fn is_brought_up(
+    alloc: Global,
+    sender: &mut Sender<RowShot>,
+    receiver: &mut Receiver<RowShot>,
+) -> Result<bool, Fault> {
     let instruction = sender.instruction(alloc)?;
     sender.sent(250);
     let step = receiver.take(
