@@ -109,8 +109,8 @@ const SERVE: Subcommand = Subcommand {
         Choice {
             name: "dir",
             value: "D",
-            help: "The folder of its sockets: p1 to p9 of the panes, panes, which tells what panes there are, and clients, for attach --dir. \
-                   It is your own, and without a port nobody else may enter it; what a killed server left there is made anew",
+            help: "The folder of its sockets: p1 to p9 of the panes, panes, which tells what panes there are, and clients, for \
+                   attach --dir. It is your own, and without a port nobody else may enter it; what a killed server left there is made anew",
             reads: Reads::Word,
             needed: Needed::Always,
             needs: &[],
@@ -158,8 +158,8 @@ const ATTACH: Subcommand = Subcommand {
         Choice {
             name: "client",
             value: "H",
-            help: "The id of this start of a client, 1 to 16 hexadecimal digits; each start needs one of its own. With --dir it may be left \
-                   out, and is one by chance then",
+            help: "The id of this start of a client, 1 to 16 hexadecimal digits; each start needs one of its own. With --dir it may \
+                   be left out, and is one by chance then",
             reads: Reads::Word,
             needed: Needed::Never,
             needs: &[],

@@ -19,8 +19,8 @@ pub enum Request<'a> {
     /// `roam world`: a script is played.
     World,
 
-    /// `roam serve`: a server of this session, or of one by chance, for so many turns (2^64 - 1 where the words name none), with its sockets
-    /// in this folder, and on this port of loopback where there is one.
+    /// `roam serve`: a server of this session, or of one by chance, for so many turns (2^64 - 1 where the words name none), with its
+    /// sockets in this folder, and on this port of loopback where there is one.
     Serve {
         folder: &'a str,
         port: Option<u16>,

@@ -122,8 +122,8 @@ impl Frames {
         Ok(())
     }
 
-    /// Gives the datagram that stands first, where one does: as much of it as fits fills `buf` from the front, and the rest of it is lost, as
-    /// with a socket of datagrams. Answers how much that is. It takes no memory.
+    /// Gives the datagram that stands first, where one does: as much of it as fits fills `buf` from the front, and the rest of it is
+    /// lost, as with a socket of datagrams. Answers how much that is. It takes no memory.
     pub fn next(&mut self, buf: &mut [u8]) -> Option<usize>
         ensures gives { IfSome result (λ n. Gives self.old self.new n buf.new) }
         ensures within { IfSome result (λ n. n ≤ length buf.new) }

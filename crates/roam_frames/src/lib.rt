@@ -8,6 +8,6 @@ mod outbox;
 mod queues;
 
 pub use carriers::Carrier;
-pub use frames::{Front, Frames, LONGEST_DATAGRAM, first_in};
+pub use frames::{Frames, Front, LONGEST_DATAGRAM, first_in};
 pub use outbox::Outbox;
 pub use queues::Queue;

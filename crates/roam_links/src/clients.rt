@@ -198,8 +198,8 @@ impl Clients {
         Some((from, len))
     }
 
-    /// Queues a datagram for the one at an address, and tells whether it did: it is lost where nobody is there any more, and where much waits
-    /// for who is.
+    /// Queues a datagram for the one at an address, and tells whether it did: it is lost where nobody is there any more, and where much
+    /// waits for who is.
     pub fn send(&mut self, to: Addr, bytes: &[u8]) -> bool
         ensures stays { Stays self.old self.new }
     {
