@@ -610,18 +610,20 @@ fn is_front(alloc: Global, ring: &mut Ring, line: &str) -> bool {
     play(alloc, ring, acts) && 0 < ring.rows() && number(wanted) == Some(ring.front_of_row(0).len())
 }
 
+fn is_cell(cell: &Cell, points: &str) -> bool {
+    cell.chars().as_slice().iter().copied().eq(points.chars())
+}
+
+// Whether a row begins with cells of these code points.
 fn has_cells(row: &[Cell], wanted: &str) -> bool {
-    let is_cell = |cell: &Cell, points: &str| cell
-        .chars()
-        .as_slice()
-        .iter()
-        .copied()
-        .eq(points.chars());
-    wanted.split('/').count() <= row.len()
-        && row
-            .iter()
-            .zip(wanted.split('/'))
-            .all(|(cell, points)| is_cell(cell, points))
+    let mut cells = row.iter();
+    for points in wanted.split('/') {
+        match cells.next() {
+            Some(cell) if is_cell(cell, points) => (),
+            _ => return false,
+        }
+    }
+    true
 }
 
 // Whether code points join so, and all becomes blank after.
