@@ -13,22 +13,26 @@ use std::alloc::Global;
 use std::test::*;
 
 /// Pieces of each group of control functions: characters of all widths, moves, edits, erasures, scrolls, tabs, margins, modes, renditions,
-/// sets, reports, both screens, strings, what is broken.
-static PIECES: [&[u8]; 8] = [
-    b"plain e\xCC\x81 \xE4\xB8\xAD\xE4\xB8\xAD\xF0\x9F\x98\x80\r\n\x1B[4;80H wraps at the edge\x1B[3b\x1BD\x1BM\x1BE",
-    b"\x1B[H\x1B[2B\x1B[3C\x1B[A\x1B[D\x1B[5;7f\x1B[2d\x1B[9G\x1B[I\x1B[Z\x1BH\x1B[g\x1B[3g\t",
-    b"\x1B[2@\x1B[P\x1B[2X\x1B[L\x1B[2M\x1B[4h insert\x1B[4l\x1B[2S\x1B[T\x1B[2;6r\x1B[?6h\x1B[r\x1B[?6l",
-    b"\x1B[1\"qguarded\x1B[0\"q\x1B[?J\x1B[?2K\x1B[J\x1B[1K\x1B[2J\x1B#8",
-    b"\x1B[1;31;48;5;200;38;2;1;2;3mstyle\x1B[m\x1B(0qx\x1B(B\x0Ea\x0F\x1B*A\x1BNb\x1Bn\x1Bo",
-    b"\x1B[c\x1B[6n\x1B[?15n\x1B[>c\x1B[5n\x1B7\x1B8\x1B[?1049hother\x1B[?1049l\x1B[?5h\x1B[?5l\x1B[!p",
-    b"\x1B]0;title\x07\x1BPbody\x1B\\\x1B[999999999999999;m\x1B[?1;2;3;4;5;6;7;8;9;10;11;12;13;14;15;16;17;18l\x18",
-    b"\xE4\xB8\xF0\x9F\x80\xFF\xC0\x1B[12\x1B[1:2C\x1B[ p\x1Bc\x1B[?7l end of the last column, and beyond",
-];
+/// sets, reports, both screens, strings.
+static WHOLE: &str =
+    "plain e\u{301} \u{4E2D}\u{4E2D}\u{1F600}\r\n\x1B[4;80H wraps at the edge\x1B[3b\x1BD\x1BM\x1BE\
+\x1B[H\x1B[2B\x1B[3C\x1B[A\x1B[D\x1B[5;7f\x1B[2d\x1B[9G\x1B[I\x1B[Z\x1BH\x1B[g\x1B[3g\t\
+\x1B[2@\x1B[P\x1B[2X\x1B[L\x1B[2M\x1B[4h insert\x1B[4l\x1B[2S\x1B[T\x1B[2;6r\x1B[?6h\x1B[r\x1B[?6l\
+\x1B[1\"qguarded\x1B[0\"q\x1B[?J\x1B[?2K\x1B[J\x1B[1K\x1B[2J\x1B#8\
+\x1B[1;31;48;5;200;38;2;1;2;3mstyle\x1B[m\x1B(0qx\x1B(B\x0Ea\x0F\x1B*A\x1BNb\x1Bn\x1Bo\
+\x1B[c\x1B[6n\x1B[?15n\x1B[>c\x1B[5n\x1B7\x1B8\x1B[?1049hother\x1B[?1049l\x1B[?5h\x1B[?5l\x1B[!p\
+\x1B]0;title\x07\x1BPbody\x1B\\\x1B[999999999999999;m\x1B[?1;2;3;4;5;6;7;8;9;10;11;12;13;14;15;16;17;18l\x18";
+
+/// Characters that are cut short, and bytes that are none.
+static BROKEN: &[u8] = b"\xE4\xB8\xF0\x9F\x80\xFF\xC0";
+
+/// What is broken of control functions.
+static ENDS: &str = "\x1B[12\x1B[1:2C\x1B[ p\x1Bc\x1B[?7l end of the last column, and beyond";
 
 // Feeds all pieces, and takes what they answer.
 fn feed_all(term: &mut Term) -> Result<(), Fault> {
     let mut out = [0; 512];
-    for piece in PIECES {
+    for piece in [WHOLE.as_bytes(), BROKEN, ENDS.as_bytes()] {
         term.feed(piece)?;
         let count = term.copy_output(&mut out);
         term.take_output(count);
@@ -71,7 +75,7 @@ fn is_term(alloc: Global, called: bool) -> bool {
 // Bytes of a pane, keys, what waits, marks, lives.
 fn call_panes(session: &mut Session) -> Result<bool, Fault> {
     let mut out = [0; 64];
-    for piece in PIECES {
+    for piece in [WHOLE.as_bytes(), BROKEN, ENDS.as_bytes()] {
         session.pane_bytes(1, piece)?;
     }
     let count = session.output(1, &mut out)?;
@@ -165,16 +169,28 @@ fn call_sender(sender: &mut Sender<RowShot>) -> bool {
     is_due && !is_over && sender.newest_number() == 2
 }
 
-fn sender_of_three(alloc: Global) -> Result<Sender<RowShot>, Fault> {
-    let mut sender = Sender::new(alloc, RowShot::blank(alloc, 2, 8)?)?;
-    sender.offer(1, RowShot::blank(alloc, 2, 8)?)?;
-    sender.offer(2, RowShot::blank(alloc, 2, 8)?)?;
-    Ok(sender)
+fn offer_blank(alloc: Global, sender: &mut Sender<RowShot>, number: u64) -> Result<(), Fault> {
+    let shot = RowShot::blank(alloc, 2, 8)?;
+    if sender.newest_number() < number {
+        sender.offer(number, shot)
+    } else {
+        Err(Fault::Spent)
+    }
+}
+
+fn sender_of_one(alloc: Global) -> Result<Sender<RowShot>, Fault> {
+    Sender::new(alloc, RowShot::blank(alloc, 2, 8)?)
+}
+
+fn offer_two(alloc: Global, sender: &mut Sender<RowShot>, called: bool) -> bool {
+    offer_blank(alloc, sender, 1).is_ok()
+        && offer_blank(alloc, sender, 2).is_ok()
+        && (!called || call_sender(sender))
 }
 
 fn is_sender(alloc: Global, called: bool) -> bool {
-    match sender_of_three(alloc) {
-        Ok(mut sender) => !called || call_sender(&mut sender),
+    match sender_of_one(alloc) {
+        Ok(mut sender) => offer_two(alloc, &mut sender, called),
         Err(_) => false,
     }
 }

@@ -223,25 +223,25 @@ fn shows(alloc: Global, world: &World, number: u64, text: &str) -> bool {
         && matches!(world.server().face(alloc), Ok(face) if has_first_row(alloc, &face, text))
 }
 
-// Whether a world in which all happened at once shows what it should.
-fn runs(alloc: Global, events: &[Event]) -> bool
+// What a world of so many rows, in which all happened at once, shows; or why there is none.
+fn run_word(alloc: Global, rows: u16, events: &[Event]) -> &'static str
     requires handed_in { All IsHandedIn events.now }
 {
-    match World::run(alloc, 1, 4, 8, events) {
-        Ok(world) => shows(alloc, &world, 2, "x       "),
-        Err(_) => false,
+    match World::run(alloc, 1, rows, 8, events) {
+        Ok(world) => if shows(alloc, &world, 2, "x       ") {
+            "what it should"
+        } else {
+            "something else"
+        },
+        Err(fault) => word_of(fault),
     }
 }
 
 fn runs_all(alloc: Global) -> bool {
     match events_of(alloc) {
-        Ok(events) => runs(alloc, events.as_slice()),
+        Ok(events) => run_word(alloc, 4, events.as_slice()) == "what it should",
         Err(_) => false,
     }
-}
-
-fn makes_no_world(alloc: Global) -> bool {
-    matches!(World::run(alloc, 1, 3, 8, &[]), Err(Fault::BadSize))
 }
 
 #[test]
@@ -256,5 +256,5 @@ fn a_run_is_every_event(rt: HostRuntime) {
 
 #[test]
 fn a_bad_size_makes_no_world(rt: HostRuntime) {
-    assert!(rt; makes_no_world(rt.alloc()));
+    assert_eq!(rt; run_word(rt.alloc(), 3, &[]), "bad size");
 }
