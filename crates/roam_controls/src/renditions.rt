@@ -162,7 +162,8 @@ impl Restyling {
         requires at_in { at < length params.now }
         ensures more { at < result }
         ensures within { result ≤ length params.now }
-        ensures read { (before : Rendition) → read_so_far self.old.ink.style self.old.awaited ≡ fold with_parameter before (take at params.now)
+        ensures read { (before : Rendition)
+            → read_so_far self.old.ink.style self.old.awaited ≡ fold with_parameter before (take at params.now)
             → read_so_far self.new.ink.style self.new.awaited ≡ fold with_parameter before (take result params.now) }
         ensures guard { self.new.ink.guarded ≡ self.old.ink.guarded }
     {
