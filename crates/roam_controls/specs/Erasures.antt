@@ -1,7 +1,7 @@
 -- Erasures: which function asks for which.
 use Rattle.std.specs.Prelude.{ℕ, ◌==◌, if◌then◌else◌, List, Option, Some, None}
-use Rattle.roam_grid.specs.declared.erasing.Extent.{Extent}
-use Rattle.roam_grid.specs.declared.erasing.Extent.TheVariants.{ToEnd, ToStart, All}
+use Rattle.roam_cells.specs.declared.extents.Extent.{Extent}
+use Rattle.roam_cells.specs.declared.extents.Extent.TheVariants.{ToEnd, ToStart, All}
 use Rattle.roam_controls.specs.declared.erasures.Erasure.{Erasure}
 use Rattle.roam_controls.specs.declared.erasures.Erasure.TheVariants.{InPage, InLine, SelectivelyInPage, SelectivelyInLine, Cells}
 use Rattle.roam_controls.specs.Parameters.{first, count}

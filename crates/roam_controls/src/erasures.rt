@@ -3,7 +3,7 @@ ghost use Rattle.std.specs.Prelude.{◌≡◌};
 ghost use Rattle.roam_controls.specs.Erasures.{extent_of, erasure_of, private_erasure};
 
 use crate::parameters::{first, first_count};
-use roam_grid::Extent;
+use roam_cells::Extent;
 
 /// What becomes blank.
 #[derive(Clone, Copy)]

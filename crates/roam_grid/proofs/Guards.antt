@@ -15,7 +15,7 @@ use Rattle.roam_rows.proofs.Vertical.{row_stays}
 use Rattle.roam_rows.proofs.Lifting.{in_here, in_other}
 use Rattle.roam_rows.proofs.Pages.{erased_there}
 use Rattle.roam_grid.specs.Erasing.{line_from, line_to, page_from, page_to, is_in_page, page_unguarded_blanked}
-use Rattle.roam_grid.specs.declared.erasing.Extent.{Extent}
+use Rattle.roam_cells.specs.declared.extents.Extent.{Extent}
 use Rattle.roam_grid.proofs.Pages.{moved_same, row_agrees, outside, inside}
 
 and_of : (a b d e : Bool) → (a && b) ≡ d → (a && b && e) ≡ (d && e)

@@ -25,7 +25,7 @@ use Rattle.roam_grid.specs.Editing.{cells_inserted, cells_deleted, cells_erased,
 use Rattle.roam_grid.specs.Erasing.{line_from, line_to, is_in_page, page_blanked, erased_in_page, erased_in_line, page_unguarded_blanked, erased_selectively_in_page, erased_selectively_in_line}
 use Rattle.roam_grid.specs.Frames.{letter_e, after_alignment, all_blank, after_restart, after_resizing}
 use Rattle.roam_grid.specs.Writing.{columns, after_wrap, wrap_done, with_room, made_way, after_ink, after_advance, put_on, put_all, joined_in, joined_on}
-use Rattle.roam_grid.specs.declared.erasing.Extent.{Extent}
+use Rattle.roam_cells.specs.declared.extents.Extent.{Extent}
 use Rattle.roam_grid.specs.declared.writing.Writing.{Writing}
 use Rattle.roam_grid.proofs.Puts.{wrapped_place, settled_none}
 use Rattle.roam_grid.proofs.Starting.{length-start_stops}

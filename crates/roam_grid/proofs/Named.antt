@@ -16,8 +16,8 @@ use Rattle.roam_grid.specs.Editing.{is_between_margins}
 use Rattle.roam_grid.specs.Erasing.{line_from, line_to, page_from, page_to, is_in_page, page_blanked}
 use Rattle.roam_grid.specs.Marks.{all_on, is_marked, also_marked, row_marked, rows_marked, moved_marked, marks_scrolled, marks_cells_moved, marks_lines_moved, marks_in_line, marks_erased_in_page}
 use Rattle.roam_grid.specs.Laws.{IsNamed, AreNamedMarked}
-use Rattle.roam_grid.specs.declared.erasing.Extent.{Extent}
-use Rattle.roam_grid.specs.declared.erasing.Extent.TheVariants.{ToEnd, ToStart, All}
+use Rattle.roam_cells.specs.declared.extents.Extent.{Extent}
+use Rattle.roam_cells.specs.declared.extents.Extent.TheVariants.{ToEnd, ToStart, All}
 use Rattle.roam_grid.proofs.Marked.{marked_at, marked_twice, same_row, other_row, range_in}
 use Rattle.roam_grid.proofs.Pages.{outside, inside, row_agrees}
 

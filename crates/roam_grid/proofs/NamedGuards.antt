@@ -16,7 +16,7 @@ use Rattle.roam_grid.specs.Screen.{Screen, IsScreen}
 use Rattle.roam_grid.specs.Erasing.{line_from, line_to, page_from, page_to, is_in_page, page_unguarded_blanked}
 use Rattle.roam_grid.specs.Marks.{has_unguarded, unguarded_marked, marks_erased_selectively_in_line, marks_erased_selectively_in_page}
 use Rattle.roam_grid.specs.Laws.{IsNamed, AreNamedMarked}
-use Rattle.roam_grid.specs.declared.erasing.Extent.{Extent}
+use Rattle.roam_cells.specs.declared.extents.Extent.{Extent}
 use Rattle.roam_grid.proofs.Guards.{in_line, in_rows}
 use Rattle.roam_grid.proofs.Marked.{marked_twice, range_in}
 use Rattle.roam_grid.proofs.Named.{named_by, fresh_not, in_range, few, line_range}

@@ -10,8 +10,8 @@ use Rattle.roam_rows.specs.Row.{RowSource, mended_glyph}
 use Rattle.roam_rows.specs.Places.{Source, From, Fresh, glyph_of_source, are_joined, mapped_cells, moved_at, at_row, in_row}
 use Rattle.roam_rows.specs.Erasing.{erasure_source, rows_blanked}
 use Rattle.roam_grid.specs.Erasing.{line_from, line_to, page_from, page_to, is_in_page, page_blanked}
-use Rattle.roam_grid.specs.declared.erasing.Extent.{Extent}
-use Rattle.roam_grid.specs.declared.erasing.Extent.TheVariants.{ToEnd, ToStart, All}
+use Rattle.roam_cells.specs.declared.extents.Extent.{Extent}
+use Rattle.roam_cells.specs.declared.extents.Extent.TheVariants.{ToEnd, ToStart, All}
 use Rattle.roam_rows.specs.Rows.{Rows, AreRows, mapped_rows, with_row}
 use Rattle.roam_rows.proofs.Scrolls.{rows_are}
 use Rattle.roam_rows.proofs.Vertical.{row_blank, row_stays}

@@ -13,7 +13,7 @@ use Rattle.roam_grid.specs.Laws.{AreNamedMarked, ShowsUnmarked}
 use Rattle.roam_grid.specs.Marks.{moved_marked, marks_scrolled, marks_indexed, marks_reverse_indexed, marks_cells_moved, marks_lines_moved, marks_in_line, marks_erased_in_page, marks_erased_selectively_in_page, marks_erased_selectively_in_line}
 use Rattle.roam_grid.specs.Screen.{Screen, IsScreen, mapped_screen}
 use Rattle.roam_grid.specs.Scrolling.{scrolled_up, scrolled_down}
-use Rattle.roam_grid.specs.declared.erasing.Extent.{Extent}
+use Rattle.roam_cells.specs.declared.extents.Extent.{Extent}
 use Rattle.roam_grid.proofs.Named.{up_marks, down_marks, lines_up, lines_down, inserted_marks, deleted_marks, erased_marks, line_marks, page_marks}
 use Rattle.roam_grid.proofs.NamedGuards.{page_marks_selective, line_marks_selective}
 use Rattle.roam_grid.proofs.Pages.{moved_same}

@@ -5,8 +5,8 @@ use Rattle.roam_cells.specs.Place.{row_of, cell_at}
 use Rattle.roam_rows.specs.Erasing.{erasure_source, unguarded_blanked}
 use Rattle.roam_rows.specs.Places.{Source, From, Fresh, in_row}
 use Rattle.roam_grid.specs.Screen.{Screen, mapped_screen}
-use Rattle.roam_grid.specs.declared.erasing.Extent.{Extent}
-use Rattle.roam_grid.specs.declared.erasing.Extent.TheVariants.{ToEnd, ToStart, All}
+use Rattle.roam_cells.specs.declared.extents.Extent.{Extent}
+use Rattle.roam_cells.specs.declared.extents.Extent.TheVariants.{ToEnd, ToStart, All}
 
 -- the columns of a row, from one on and before another, that an extent round a column names
 abbrev pub line_from : Extent → ℕ → ℕ

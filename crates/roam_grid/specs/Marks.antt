@@ -10,7 +10,7 @@ use Rattle.roam_grid.specs.Screen.{Screen}
 use Rattle.roam_grid.specs.Editing.{is_between_margins}
 use Rattle.roam_grid.specs.Erasing.{line_from, line_to, page_from, page_to}
 use Rattle.roam_grid.specs.Writing.{columns, wrap_done, with_room, put_on}
-use Rattle.roam_grid.specs.declared.erasing.Extent.{Extent}
+use Rattle.roam_cells.specs.declared.extents.Extent.{Extent}
 use Rattle.roam_grid.specs.declared.writing.Writing.{Writing}
 
 -- whether a row is marked

@@ -4,42 +4,33 @@ ghost use Rattle.roam_grid.specs.Erasing.{line_from, line_to, page_from, page_to
 
 use crate::grids::Grid;
 use crate::marks::{mark_row, mark_rows, mark_unguarded};
+use roam_cells::Extent;
 
-/// What ED and EL erase: from the cursor to the end, from the start to the cursor, or all; the cursor's place too.
-#[derive(Clone, Copy)]
-pub enum Extent {
-    ToEnd,
-    ToStart,
-    All,
+/// The columns that an extent names of the row of a column, from one on and before another.
+fn columns(extent: Extent, cols: usize, col: usize) -> (usize, usize)
+    requires col_in { col < cols }
+    ensures from { result.0 ≡ line_from extent col }
+    ensures to { result.1 ≡ line_to extent cols col }
+    ensures some { (result.0 < result.1) × (result.1 ≤ cols) }
+{
+    match extent {
+        Extent::ToEnd => (col, cols),
+        Extent::ToStart => (0, col + 1),
+        Extent::All => (0, cols),
+    }
 }
 
-impl Extent {
-    /// The columns that it names of the row of a column, from one on and before another.
-    fn columns(self, cols: usize, col: usize) -> (usize, usize)
-        requires col_in { col < cols }
-        ensures from { result.0 ≡ line_from self col }
-        ensures to { result.1 ≡ line_to self cols col }
-        ensures some { (result.0 < result.1) × (result.1 ≤ cols) }
-    {
-        match self {
-            Extent::ToEnd => (col, cols),
-            Extent::ToStart => (0, col + 1),
-            Extent::All => (0, cols),
-        }
-    }
-
-    /// The rows that it names besides that row, from one on and before another; all where it names all.
-    fn rows(self, rows: usize, row: usize) -> (usize, usize)
-        requires row_in { row < rows }
-        ensures from { result.0 ≡ page_from self row }
-        ensures to { result.1 ≡ page_to self rows row }
-        ensures range { (result.0 ≤ result.1) × (result.1 ≤ rows) }
-    {
-        match self {
-            Extent::ToEnd => (row + 1, rows),
-            Extent::ToStart => (0, row),
-            Extent::All => (0, rows),
-        }
+/// The rows that an extent names besides that row, from one on and before another; all where it names all.
+fn other_rows(extent: Extent, rows: usize, row: usize) -> (usize, usize)
+    requires row_in { row < rows }
+    ensures from { result.0 ≡ page_from extent row }
+    ensures to { result.1 ≡ page_to extent rows row }
+    ensures range { (result.0 ≤ result.1) × (result.1 ≤ rows) }
+{
+    match extent {
+        Extent::ToEnd => (row + 1, rows),
+        Extent::ToStart => (0, row),
+        Extent::All => (0, rows),
     }
 }
 
@@ -60,10 +51,10 @@ impl Grid {
         let rows = self.ring.rows();
         let cols = self.ring.cols();
         self.pending = false;
-        let (left, right) = extent.columns(cols, self.col);
+        let (left, right) = columns(extent, cols, self.col);
         self.ring.erase(self.row, left, right);
         self.ring.facts();
-        let (top, bottom) = extent.rows(rows, self.row);
+        let (top, bottom) = other_rows(extent, rows, self.row);
         self.ring.blank_rows(top, bottom);
         mark_row(&mut self.marks, self.row);
         mark_rows(&mut self.marks, top, bottom);
@@ -78,7 +69,7 @@ impl Grid {
         ensures size { IsSameSize self.old.screen self.new.screen }
     {
         self.pending = false;
-        let (from, to) = extent.columns(self.ring.cols(), self.col);
+        let (from, to) = columns(extent, self.ring.cols(), self.col);
         self.ring.erase(self.row, from, to);
         mark_row(&mut self.marks, self.row);
     }
@@ -95,8 +86,8 @@ impl Grid {
         let rows = self.ring.rows();
         let cols = self.ring.cols();
         self.pending = false;
-        let (left, right) = extent.columns(cols, self.col);
-        let (top, bottom) = extent.rows(rows, self.row);
+        let (left, right) = columns(extent, cols, self.col);
+        let (top, bottom) = other_rows(extent, rows, self.row);
         mark_unguarded(
             &mut self.marks,
             &self.ring,
@@ -118,7 +109,7 @@ impl Grid {
         ensures size { IsSameSize self.old.screen self.new.screen }
     {
         self.pending = false;
-        let (from, to) = extent.columns(self.ring.cols(), self.col);
+        let (from, to) = columns(extent, self.ring.cols(), self.col);
         mark_unguarded(
             &mut self.marks,
             &self.ring,

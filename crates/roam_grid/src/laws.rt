@@ -16,7 +16,7 @@ ghost use Rattle.roam_grid.specs.Marks.{all_on, is_marked, row_marked, marks_scr
 ghost use Rattle.roam_grid.specs.Screen.{Screen, GridView, IsScreen, rows_of, has_full_margins};
 ghost use Rattle.roam_grid.specs.Scrolling.{scrolled_up, scrolled_down, first_scrolled_up, first_scrolled_down};
 ghost use Rattle.roam_grid.specs.Writing.{columns, leaves_row, put_on, put_all, joined_on};
-ghost use Rattle.roam_grid.specs.declared.erasing.Extent.{Extent};
+ghost use Rattle.roam_cells.specs.declared.extents.Extent.{Extent};
 ghost use Rattle.roam_grid.specs.declared.writing.Writing.{Writing};
 ghost use Rattle.roam_cells.specs.Limits.{most_rows};
 

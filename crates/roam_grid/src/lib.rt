@@ -14,7 +14,6 @@ mod tabbing;
 mod tabs;
 mod writing;
 
-pub use erasing::Extent;
 pub use frames::Fitted;
 pub use grids::Grid;
 pub use writing::Writing;

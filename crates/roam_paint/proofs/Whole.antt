@@ -11,7 +11,7 @@ use Rattle.roam_cells.proofs.Places.{place_below}
 use Rattle.roam_rows.specs.Places.{mapped_cells}
 use Rattle.roam_rows.proofs.Mending.{is_wide-blank}
 use Rattle.roam_grid.specs.Erasing.{page_blanked}
-use Rattle.roam_grid.specs.declared.erasing.Extent.TheVariants.{All}
+use Rattle.roam_cells.specs.declared.extents.Extent.TheVariants.{All}
 use Rattle.roam_term.specs.Terminal.{Live, changed_by}
 use Rattle.roam_term.specs.Ground.{IsGround, ShowsScreen, shown_at}
 use Rattle.roam_term.specs.ControlFunctions.{hide_cursor, show_cursor, erase_all, place_cursor, set_style}

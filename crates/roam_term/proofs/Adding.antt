@@ -22,7 +22,7 @@ use Rattle.roam_grid.specs.Erasing.{line_from, line_to, page_from, page_to}
 use Rattle.roam_grid.specs.Marks.{is_marked, all_on, all_off, also_marked, row_marked, rows_marked, moved_marked, marks_scrolled, marks_indexed, marks_reverse_indexed, marks_lines_moved, marks_erased_in_page, unguarded_marked, marks_erased_selectively_in_line, marks_erased_selectively_in_page, marks_settled, marks_with_room, marks_put, marks_put_all, joins, marks_joined_in, marks_joined, has_unguarded}
 use Rattle.roam_grid.specs.Screen.{Screen}
 use Rattle.roam_grid.specs.Writing.{columns, wrap_done, with_room, put_on}
-use Rattle.roam_grid.specs.declared.erasing.Extent.{Extent}
+use Rattle.roam_cells.specs.declared.extents.Extent.{Extent}
 use Rattle.roam_grid.specs.declared.writing.Writing.{Writing}
 use Rattle.roam_grid.proofs.Marked.{marked_at}
 use Rattle.roam_grid.proofs.Named.{all_marked}

@@ -9,7 +9,7 @@ use Rattle.roam_cells.proofs.Places.{get_or-table, length-table}
 use Rattle.roam_grid.specs.Erasing.{page_blanked}
 use Rattle.roam_grid.specs.Frames.{after_restart}
 use Rattle.roam_grid.specs.Writing.{columns, joined_on}
-use Rattle.roam_grid.specs.declared.erasing.Extent.TheVariants.{All}
+use Rattle.roam_cells.specs.declared.extents.Extent.TheVariants.{All}
 use Rattle.roam_rows.specs.Places.{Fresh, are_joined, in_row, mapped_cells, moved_at}
 use Rattle.roam_rows.specs.Writing.{writing_source}
 use Rattle.roam_rows.proofs.Mending.{mended-blank}

@@ -21,7 +21,7 @@ use Rattle.roam_charset.specs.declared.sets.Sets.{Sets}
 use Rattle.roam_controls.specs.declared.modes.Modes.{Modes}
 use Rattle.roam_grid.specs.Cursor.{moved_to}
 use Rattle.roam_grid.specs.Erasing.{page_blanked, erased_in_page}
-use Rattle.roam_grid.specs.declared.erasing.Extent.TheVariants.{All}
+use Rattle.roam_cells.specs.declared.extents.Extent.TheVariants.{All}
 use Rattle.roam_grid.specs.Screen.{Screen}
 use Rattle.roam_grid.specs.Writing.{columns, wrap_done, with_room, made_way, after_wrap, after_ink, after_advance, put_on, joined_on}
 use Rattle.roam_grid.specs.declared.writing.Writing.{Writing}

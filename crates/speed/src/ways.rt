@@ -1,6 +1,6 @@
 //! What is done to a grid, again and again.
-use roam_cells::{Cell, Style};
-use roam_grid::{Extent, Grid, Writing};
+use roam_cells::{Cell, Extent, Style};
+use roam_grid::{Grid, Writing};
 
 const WRITING: Writing = Writing {
     wraps: true,

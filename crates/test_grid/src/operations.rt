@@ -7,8 +7,8 @@
 ghost use Rattle.std.specs.Prelude.{IsTrue};
 ghost use Rattle.roam_rows.specs.Writing.{ArePrintable};
 
-use roam_cells::{Cell, Style, width};
-use roam_grid::{Extent, Grid, Writing};
+use roam_cells::{Cell, Extent, Style, width};
+use roam_grid::{Grid, Writing};
 use std::alloc::Global;
 
 /// How characters are written.
