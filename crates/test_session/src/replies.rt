@@ -55,6 +55,21 @@ up 6 5003 20: taken 0
 stick 20: sent 7 1
 down 1 7 20: new";
 
+/// A letter is written before each of three ticks; the newest datagram comes, and then the one before it.
+const LETTERS: &str = "\
+start 0 161
+ctick 0 0
+up 1 5001 0
+stick 0
+pane 1 a
+stick 20
+pane 1 b
+stick 40
+pane 1 c
+stick 60
+down 0 5 60
+down 0 4 70";
+
 // Where datagrams come from.
 fn from(port: u64) -> Addr {
     Addr {
@@ -193,42 +208,74 @@ fn add_event(alloc: Global, events: &mut Vec<Event>, words: &str) -> Result<(), 
     Ok(())
 }
 
-fn events_of(alloc: Global) -> Result<Vec<Event>, Fault>
+// The events of lines, in each of which a reply may stand behind `: `.
+fn events_of(alloc: Global, lines: &str) -> Result<Vec<Event>, Fault>
     ensures handed_in { IfOk result (λ events. All IsHandedIn events.items) }
 {
     let mut events = Vec::new(alloc);
-    for line in EVENTS.lines() {
+    for line in lines.lines() {
         add_event(alloc, &mut events, halves(line, ": ").0)?;
     }
     Ok(events)
 }
 
-fn has_first_row<S: Seen>(alloc: Global, shot: &S, text: &str) -> bool {
-    if shot.rows() == 0 {
+fn is_row<S: Seen>(alloc: Global, shot: &S, row: u16, text: &str) -> bool {
+    if row >= shot.rows() {
         return false;
     }
-    matches!(row_text(alloc, shot, 0), Ok(points) if points.iter().copied().eq(text.chars()))
+    matches!(row_text(alloc, shot, row), Ok(points) if points.iter().copied().eq(text.chars()))
 }
 
-// Whether the start in slot 0 shows this number and first row, as the server does, and no slot from 2 on has one.
-fn shows(alloc: Global, world: &World, number: u64, text: &str) -> bool {
+// Whether a screen has these rows, and its cursor, which is shown, in the first row and this column, from 1.
+fn is_shown<S: Seen>(alloc: Global, shot: &S, rows: &str, col: u16) -> bool {
+    let mut row = 0;
+    for text in rows.lines() {
+        if row >= shot.rows() || !is_row(alloc, shot, row, text) {
+            return false;
+        }
+        row += 1;
+    }
+    row == shot.rows() && shot.cursor() == (1, col) && shot.visible()
+}
+
+/// What is shown in the end: its number, its rows, and the cursor's column in the first of them, from 1.
+struct Ending {
+    number: u64,
+    rows: &'static str,
+    col: u16,
+}
+
+const OF_EACH: Ending = Ending {
+    number: 2,
+    rows: "x       \n        \n        \n[1]     ",
+    col: 2,
+};
+
+const OF_LETTERS: Ending = Ending {
+    number: 4,
+    rows: "abc     \n        \n        \n[1]     ",
+    col: 4,
+};
+
+// Whether the start in slot 0 shows this ending, as the server does, and no slot from 2 on has a start.
+fn shows(alloc: Global, world: &World, ending: &Ending) -> bool {
     let Some(client) = world.client(0) else {
         return false;
     };
-    let (shown, shot) = client.shown();
+    let (number, shot) = client.shown();
     let is_alone = world.client(2).is_none() && world.client(8).is_none();
     is_alone
-        && shown == number
-        && has_first_row(alloc, &shot, text)
-        && matches!(world.server().face(alloc), Ok(face) if has_first_row(alloc, &face, text))
+        && number == ending.number
+        && is_shown(alloc, &shot, ending.rows, ending.col)
+        && matches!(world.server().face(alloc), Ok(face) if is_shown(alloc, &face, ending.rows, ending.col))
 }
 
 // What a world of so many rows, in which all happened at once, shows; or why there is none.
-fn run_word(alloc: Global, rows: u16, events: &[Event]) -> &'static str
+fn run_word(alloc: Global, rows: u16, events: &[Event], ending: &Ending) -> &'static str
     requires handed_in { All IsHandedIn events.now }
 {
     match World::run(alloc, 1, rows, 8, events) {
-        Ok(world) => if shows(alloc, &world, 2, "x       ") {
+        Ok(world) => if shows(alloc, &world, ending) {
             "what it should"
         } else {
             "something else"
@@ -237,9 +284,9 @@ fn run_word(alloc: Global, rows: u16, events: &[Event]) -> &'static str
     }
 }
 
-fn runs_all(alloc: Global) -> bool {
-    match events_of(alloc) {
-        Ok(events) => run_word(alloc, 4, events.as_slice()) == "what it should",
+fn runs_all(alloc: Global, lines: &str, ending: &Ending) -> bool {
+    match events_of(alloc, lines) {
+        Ok(events) => run_word(alloc, 4, events.as_slice(), ending) == "what it should",
         Err(_) => false,
     }
 }
@@ -251,10 +298,11 @@ fn each_event_is_answered(rt: HostRuntime) {
 
 #[test]
 fn a_run_is_every_event(rt: HostRuntime) {
-    assert!(rt; runs_all(rt.alloc()));
+    assert!(rt; runs_all(rt.alloc(), EVENTS, &OF_EACH));
+    assert!(rt; runs_all(rt.alloc(), LETTERS, &OF_LETTERS));
 }
 
 #[test]
 fn a_bad_size_makes_no_world(rt: HostRuntime) {
-    assert_eq!(rt; run_word(rt.alloc(), 3, &[]), "bad size");
+    assert_eq!(rt; run_word(rt.alloc(), 3, &[], &OF_EACH), "bad size");
 }
