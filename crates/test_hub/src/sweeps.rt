@@ -1,5 +1,6 @@
 //! Each beginning of a datagram, and each with one byte changed to every other value, to a server that knows a start of each kind and to
-//! each kind of start: a reply or a named refusal, and after a refusal all goes on as if nothing had come.
+//! each kind of start, both to those that it is meant for and to the other end: a reply or a named refusal, and after a refusal all goes on
+//! as if nothing had come.
 use crate::calls::{at, is_same, only_of, start_of};
 use roam_cells::Fault;
 use roam_hub::{Addr, Client, Heard, Server};
@@ -182,25 +183,51 @@ fn first_fall<S: Stands>(alloc: Global, end: &S, datagram: &[u8]) -> Option<usiz
     None
 }
 
-// Whether a server stands all changes of the first datagram of a start.
-fn server_stands(alloc: Global, start: Start) -> bool {
-    match (served_at_first(alloc), first_from(alloc, start)) {
-        (Ok(served), Ok(first)) => first_fall(alloc, &served, &first) == None,
+fn add_letter(
+    alloc: Global,
+    server: &mut Server,
+    letter: &[u8],
+    datagrams: &mut Vec<Vec<u8>>,
+) -> Result<(), Fault> {
+    server.pane_bytes(1, letter)?;
+    let now = datagrams.len() as u64 * 20;
+    datagrams.push(last_of(server.tick(alloc, now)?)?)?;
+    Ok(())
+}
+
+// The first datagram of a start, and what it is sent as the program of its pane writes letter by letter.
+fn datagrams_of(alloc: Global, start: Start) -> Result<Vec<Vec<u8>>, Fault> {
+    let first = first_from(alloc, start)?;
+    let mut server = server_of(alloc, core::slice::from_ref(&first))?;
+    let mut datagrams = Vec::new(alloc);
+    datagrams.push(first)?;
+    for letter in ["", "a", "b", "c"] {
+        add_letter(alloc, &mut server, letter.as_bytes(), &mut datagrams)?;
+    }
+    Ok(datagrams)
+}
+
+// Whether an end stands all changes of each of these.
+fn stands_all<S: Stands>(alloc: Global, end: &S, datagrams: &[Vec<u8>]) -> bool {
+    for datagram in datagrams {
+        if first_fall(alloc, end, datagram) != None {
+            return false;
+        }
+    }
+    true
+}
+
+// Whether both ends stand all changes of what a start sends and is sent.
+fn both_stand(alloc: Global, start: Start) -> bool {
+    match (
+        served_at_first(alloc),
+        followed_by(alloc, start),
+        datagrams_of(alloc, start),
+    ) {
+        (Ok(served), Ok(followed), Ok(datagrams)) => stands_all(alloc, &served, &datagrams)
+            && stands_all(alloc, &followed, &datagrams),
         _ => false,
     }
-}
-
-// Whether a start stands all changes of what it is sent.
-fn start_stands(alloc: Global, start: Start) -> bool {
-    match followed_by(alloc, start) {
-        Ok(followed) => first_fall(alloc, &followed, &followed.sound) == None,
-        Err(_) => false,
-    }
-}
-
-// Whether both ends stand all changes.
-fn both_stand(alloc: Global, start: Start) -> bool {
-    server_stands(alloc, start) && start_stands(alloc, start)
 }
 
 #[test]
