@@ -35,17 +35,11 @@ test:
 	RT_JOBS=$$(nproc | awk '{ print ($$1 < 4 ? $$1 : 4) }') rt ci
 
 bench: all
-	bench/text.sh
 	bench/grid.sh
 	bench/show.sh
-	bench/wire.sh
-	bench/face.sh
-	bench/history.sh
 	bench/update.sh
 	bench/paint.sh
-	bench/session.sh
 	bench/hub.sh
-	bench/turns.sh
 	bench/latency.sh
 
 try: all

@@ -11,7 +11,7 @@ returns-clause-screen c =
     let f = c.self.inside in
     let e = c.args.extent in
     let line = c.columns-left in
-    let page = c.rows-top in
+    let page = c.other_rows-top in
     rw (← c.self.view_is)
     (ap (λ (v : Rows). screen_of (record f { ring = v; pending = false }))
     (page_erased_selectively e f.row f.col line.result.0 line.result.1 page.result.0 page.result.1 f.ring c.erase_unguarded.new.self c.blank_unguarded_rows.new.self
