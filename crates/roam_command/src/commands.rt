@@ -134,7 +134,10 @@ const SERVE: Subcommand = Subcommand {
 const ATTACH: Subcommand = Subcommand {
     name: "attach",
     about: "Follows a session and paints it on standard output",
-    more: Some("Example: roam attach --dir ~/.roam --keys keys"),
+    more: Some(
+        "Where it ends by itself it tells why on standard error, as [the turns are over], and its status is 0.\n\n\
+         Example: roam attach --dir ~/.roam --keys keys",
+    ),
     options: &[
         Choice {
             name: "dir",

@@ -395,8 +395,8 @@ pub fn follow_session<R: Files + Net + Clock + RandomSource + AllocGlobal, W: Wr
     }
 }
 
-/// Follows a session as `follow_session` does, and tells on standard error how that ended where it took all its turns, or its stream of
-/// acts was over.
+/// Follows a session as `follow_session` does, and tells in brackets on standard error how that ended where it took all its turns, its
+/// stream of acts was over, or the server has ended.
 pub fn run_attach<R: Files + Net + Clock + RandomSource + Eprint + AllocGlobal, W: Write + Drop>(
     rt: &R,
     attach: &Attach<'_>,
@@ -408,6 +408,6 @@ pub fn run_attach<R: Files + Net + Clock + RandomSource + Eprint + AllocGlobal, 
 {
     let end = follow_session(rt, attach, outer)?;
     // There is nowhere else to say it.
-    let _ = eprintln!(rt; "roam: {end}");
+    let _ = eprintln!(rt; "[{end}]");
     Ok(())
 }

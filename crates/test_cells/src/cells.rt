@@ -168,7 +168,9 @@ fn cells_take_characters() -> bool {
     let mut cell = Cell::right_half(bold(), true);
     cell.set_ascii(b'~');
     let plain = cell.unguarded();
-    cell.chars().as_slice() == ['~'].as_slice()
+    cell.chars().first() == Some(&'~')
+        && cell.chars() == plain.chars()
+        && cell.chars() != Cell::right_half(bold(), true).chars()
         && cell.is_same(&Cell::ascii(b'~', bold(), true))
         && plain.is_same(&Cell::ascii(b'~', bold(), false))
         && !plain.is_same(&cell)

@@ -2,7 +2,7 @@
 use crate::streams::{Cut, Drip, Narrow};
 use roam_cells::Fault;
 use roam_faults::RunFault;
-use roam_show::run_show;
+use roam_show::{push_number, push_numbered, run_show};
 use std::alloc::{AllocError, Global};
 use std::test::*;
 
@@ -789,8 +789,19 @@ const NOTHING: Run<'static> = Run {
     inside: "        |\n|        |\ncursor 1 1 shown\noutput -",
 };
 
+fn push_both(text: &mut String) -> Result<(), AllocError> {
+    push_numbered(text, "state ", 18_446_744_073_709_551_615u64)?;
+    push_number(text, "view ", -1i16)
+}
+
+fn numbers_stand_behind_words(alloc: Global) -> bool {
+    let mut text = String::new(alloc);
+    push_both(&mut text).is_ok() && text.as_str() == "state 18446744073709551615\nview -1"
+}
+
 #[test]
 fn broken_characters_and_none(rt: HostRuntime) {
+    assert!(rt; numbers_stand_behind_words(rt.alloc()));
     assert!(rt; shows_however_cut(rt.alloc(), &BROKEN));
     assert!(rt; shows_however_cut(rt.alloc(), &NOTHING));
 }

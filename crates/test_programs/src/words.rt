@@ -80,6 +80,8 @@ Options:
     milliseconds; a busy pane takes thousands a second
   -h, --help           Print help
 
+Where it ends by itself it tells why on standard error, as [the turns are over], and its status is 0.
+
 Example: roam attach --dir ~/.roam --keys keys";
 
 // The words of a line.
