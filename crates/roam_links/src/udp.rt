@@ -116,8 +116,8 @@ impl Udp {
         self.port
     }
 
-    /// A datagram that came: from where, and how many bytes of `buf` it fills from the front. What claims to come from network 0 is dropped:
-    /// its addresses are those of streams.
+    /// A datagram that came: from where, and how many bytes of `buf` it fills from the front. What claims to come from network 0 is
+    /// dropped: its addresses are those of streams.
     pub fn receive(&mut self, buf: &mut [u8]) -> Option<(Addr, usize)>
         ensures within { IfSome result (λ r. r.1 ≤ length buf.new) }
         ensures port { self.new.port ≡ self.old.port }

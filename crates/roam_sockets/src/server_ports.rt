@@ -111,9 +111,9 @@ fn flush_udp(udp: &mut Option<Udp>, now: u64) -> bool {
 }
 
 impl<R: Clock + Drop> ServerPorts<R> {
-    /// Binds in a folder the sockets `p1` to `p9`, of panes that aren't there yet, `panes`, where a program follows them, and `clients`, for
-    /// client starts; and where it is asked for a port of this machine, any that is free where it is 0. `Bind` where one can't be bound, or
-    /// the folder has no name; `OutOfMemory`; then nothing stays.
+    /// Binds in a folder the sockets `p1` to `p9`, of panes that aren't there yet, `panes`, where a program follows them, and `clients`,
+    /// for client starts; and where it is asked for a port of this machine, any that is free where it is 0. `Bind` where one can't be
+    /// bound, or the folder has no name; `OutOfMemory`; then nothing stays.
     pub fn bind<N: Files + Net>(
         rt: &N,
         alloc: Global,

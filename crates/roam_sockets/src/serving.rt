@@ -138,8 +138,8 @@ fn session_for(chance: &impl RandomSource, serve: &Serve<'_>) -> Result<u64, Run
     }
 }
 
-/// Serves a session of 24 rows and 80 columns: binds the sockets `p1` to `p9`, `panes` and `clients` of the folder, and a UDP port where one
-/// is asked for, writes the session's id to the file `session` there, which the user alone may read, takes the turns, waiting where one
+/// Serves a session of 24 rows and 80 columns: binds the sockets `p1` to `p9`, `panes` and `clients` of the folder, and a UDP port where
+/// one is asked for, writes the session's id to the file `session` there, which the user alone may read, takes the turns, waiting where one
 /// brought nothing, and removes these files. A socket's file to which nobody listens is removed before; the port is told on standard error
 /// where any that is free was asked for. The folder has to be the user's own, and without a port nobody else may enter it. `Bind` where it
 /// isn't so, or a name can't be bound, and nothing stays then; `Read` where the system has no id by chance; `OutOfMemory`.

@@ -101,7 +101,7 @@ pub fn read_entry(alloc: Global, line: &[u8]) -> Result<Entry, Fault>
     // What is read is said so.
     ensures found { IfOk result (λ entry. Says line.now entry) }
     // What is said so is read.
-    ensures only { (entry : EntryOf) → Says line.now entry → MatchResult result (λ e. Says line.now e) (λ fault. fault ≡ Fault.OutOfMemory) }
+    ensures only { (entry : EntryOf) → Says line.now entry → MatchResult result (λ e. Says line.now e) (λ f. f ≡ Fault.OutOfMemory) }
     ensures fault { IfErr result (λ fault. (fault ≡ Fault.BadAct) ⊎ (fault ≡ Fault.OutOfMemory)) }
 {
     if line == b"repaint".as_slice() {
