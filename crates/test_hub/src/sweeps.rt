@@ -195,13 +195,13 @@ fn add_letter(
     Ok(())
 }
 
-// The first datagram of a start, and what it is sent as the program of its pane writes letter by letter.
-fn datagrams_of(alloc: Global, start: Start) -> Result<Vec<Vec<u8>>, Fault> {
+// The first datagram of a start, and what it is sent as the program of its pane writes these letters, a tick each.
+fn datagrams_of(alloc: Global, start: Start, letters: &[&str]) -> Result<Vec<Vec<u8>>, Fault> {
     let first = first_from(alloc, start)?;
     let mut server = server_of(alloc, core::slice::from_ref(&first))?;
     let mut datagrams = Vec::new(alloc);
     datagrams.push(first)?;
-    for letter in ["", "a", "b", "c"] {
+    for letter in letters {
         add_letter(alloc, &mut server, letter.as_bytes(), &mut datagrams)?;
     }
     Ok(datagrams)
@@ -218,11 +218,11 @@ fn stands_all<S: Stands>(alloc: Global, end: &S, datagrams: &[Vec<u8>]) -> bool 
 }
 
 // Whether both ends stand all changes of what a start sends and is sent.
-fn both_stand(alloc: Global, start: Start) -> bool {
+fn both_stand(alloc: Global, start: Start, letters: &[&str]) -> bool {
     match (
         served_at_first(alloc),
         followed_by(alloc, start),
-        datagrams_of(alloc, start),
+        datagrams_of(alloc, start, letters),
     ) {
         (Ok(served), Ok(followed), Ok(datagrams)) => stands_all(alloc, &served, &datagrams)
             && stands_all(alloc, &followed, &datagrams),
@@ -232,15 +232,15 @@ fn both_stand(alloc: Global, start: Start) -> bool {
 
 #[test]
 fn each_changed_byte_in_version_1(rt: HostRuntime) {
-    assert!(rt; both_stand(rt.alloc(), STARTS[0]));
+    assert!(rt; both_stand(rt.alloc(), STARTS[0], &["", "a", "b", "c"]));
 }
 
 #[test]
 fn each_changed_byte_in_version_2(rt: HostRuntime) {
-    assert!(rt; both_stand(rt.alloc(), STARTS[1]));
+    assert!(rt; both_stand(rt.alloc(), STARTS[1], &["a"]));
 }
 
 #[test]
 fn each_changed_byte_of_one_who_watches(rt: HostRuntime) {
-    assert!(rt; both_stand(rt.alloc(), STARTS[2]));
+    assert!(rt; both_stand(rt.alloc(), STARTS[2], &["a"]));
 }
