@@ -197,10 +197,9 @@ fn add_letter(
 
 // The first datagram of a start, and what it is sent as the program of its pane writes these letters, a tick each.
 fn datagrams_of(alloc: Global, start: Start, letters: &[&str]) -> Result<Vec<Vec<u8>>, Fault> {
-    let first = first_from(alloc, start)?;
-    let mut server = server_of(alloc, core::slice::from_ref(&first))?;
     let mut datagrams = Vec::new(alloc);
-    datagrams.push(first)?;
+    datagrams.push(first_from(alloc, start)?)?;
+    let mut server = server_of(alloc, &datagrams)?;
     for letter in letters {
         add_letter(alloc, &mut server, letter.as_bytes(), &mut datagrams)?;
     }
