@@ -27,7 +27,7 @@ LEFT = b"\x1b[?2004l\x1b[0m\x1b[r\x1b(B\x0f\x1b[?25h\x1b[?1049l"
 IUTF8 = 0o40000
 
 # What a tool may have taken for itself, and a command on its terminal does not inherit.
-SIGNALS = (signal.SIGCHLD, signal.SIGTERM, signal.SIGHUP, signal.SIGINT, signal.SIGPIPE)
+SIGNALS = (signal.SIGCHLD, signal.SIGTERM, signal.SIGHUP, signal.SIGINT, signal.SIGPIPE, signal.SIGXFSZ)
 
 # What a pane's terminal is called: its erased cells have the default style, so an entry with `bce` would show wrong colours.
 ENTRIES = ("tmux-256color", "screen-256color", "vt220")
