@@ -1,4 +1,5 @@
 """The program, its sockets, its port, ids, and the processes that the tools know of."""
+import contextlib
 import os
 import pathlib
 import secrets
@@ -7,6 +8,7 @@ import socket
 import sys
 import tempfile
 import time
+import traceback
 
 TOOLS = pathlib.Path(__file__).resolve().parent.parent
 
@@ -18,6 +20,9 @@ PLACES = (TOOLS.parent / "crates/roam/out/roam", TOOLS / "roam", TOOLS.parent / 
 LONGEST_WAIT = 10.0
 SAID_AFTER = 0.5
 
+# The logs that take the whole of what a tool didn't foresee: that of its session, once it is known.
+logs = []
+
 
 class Fault(Exception):
     """What went wrong, as one line."""
@@ -28,14 +33,46 @@ def tool_name():
     return pathlib.Path(sys.argv[0]).name
 
 
+def say(line):
+    """Says a line on standard error, which may be full or gone."""
+    with contextlib.suppress(OSError, ValueError):
+        print(f"{tool_name()}: {line}", file=sys.stderr, flush=True)
+
+
+def reason(fault):
+    """Why a call was refused, in the system's words."""
+    return getattr(fault, "strerror", None) or str(fault)
+
+
+def log_to(folder):
+    """Has what this tool doesn't foresee told in full in the log of a session's folder, where there is one."""
+    path = pathlib.Path(folder, "log")
+    logs[:] = [path] if path.is_file() else []
+
+
+def unforeseen(fault):
+    """The line for what a tool didn't foresee; the logs get all of it."""
+    for path in logs:
+        with contextlib.suppress(OSError), open(path, "a", encoding="utf-8", errors="backslashreplace") as log:
+            log.write(f"{tool_name()}, process {os.getpid()}:\n{traceback.format_exc()}")
+    line = traceback.format_exception_only(type(fault), fault)[-1].strip()
+    return f"roam: {tool_name()} failed: {line}" + "".join(f"; {path} has more" for path in logs)
+
+
 def run_tool(main):
-    """Runs a tool; a fault is one line on standard error and status 1."""
+    """Runs a tool; a fault is one line on standard error and status 1. `python3 -X dev` shows where one comes from that nobody foresaw."""
     try:
         sys.exit(main())
-    except (Fault, OSError) as fault:
+    except Fault as fault:
         sys.exit(f"{tool_name()}: {fault}")
+    except OSError as fault:
+        sys.exit(f"{tool_name()}: {f'{fault.filename}: ' if fault.filename else ''}{reason(fault)}")
     except KeyboardInterrupt:
         sys.exit(130)
+    except Exception as fault:
+        if sys.flags.dev_mode:
+            raise
+        sys.exit(unforeseen(fault))
 
 
 def program():
@@ -57,24 +94,32 @@ def is_id(word):
     return 1 <= len(word) <= 16 and all(letter in "0123456789abcdefABCDEF" for letter in word)
 
 
+def connected_now(path):
+    """A connection to a Unix socket that is there."""
+    peer = socket.socket(socket.AF_UNIX, socket.SOCK_STREAM)
+    try:
+        peer.connect(str(path))
+        peer.setblocking(False)
+    except OSError:
+        peer.close()
+        raise
+    return peer
+
+
 def connected(path):
     """A connection to a Unix socket, which may still have to be made."""
     begun_at = time.monotonic()
     has_said = False
     while True:
-        peer = socket.socket(socket.AF_UNIX, socket.SOCK_STREAM)
         try:
-            peer.connect(str(path))
-            peer.setblocking(False)
-            return peer
+            return connected_now(path)
         except OSError as fault:
-            peer.close()
             is_early = isinstance(fault, (FileNotFoundError, ConnectionRefusedError, BlockingIOError))
             if not is_early or time.monotonic() > begun_at + LONGEST_WAIT:
-                raise Fault(f"{path}: {fault.strerror or fault}") from fault
+                raise Fault(f"{path}: {reason(fault)}") from fault
         if not has_said and time.monotonic() > begun_at + SAID_AFTER:
             has_said = True
-            print(f"{tool_name()}: waiting for {path}", file=sys.stderr)
+            say(f"waiting for {path}")
         time.sleep(0.02)
 
 
@@ -106,7 +151,7 @@ def is_port_served(port):
 def begun(process):
     """When a process began, in the system's ticks; None where there is none, or only what is left of one that ended."""
     try:
-        words = pathlib.Path(f"/proc/{process}/stat").read_text(encoding="utf-8").rpartition(")")[2].split()
+        words = pathlib.Path(f"/proc/{process}/stat").read_text(encoding="utf-8", errors="replace").rpartition(")")[2].split()
     except OSError:
         return None
     return None if words[0] in "ZX" else int(words[19])
@@ -134,14 +179,35 @@ def woken(*signals):
     return reader
 
 
+def replace_text(path, text, new=None):
+    """Gives a file a text, which is written beside it, at `new` where that is named; who reads it finds the old or the new one whole."""
+    new = new or f"{path}.{os.getpid()}"
+    try:
+        with open(new, "w", encoding="utf-8") as file:
+            file.write(text)
+        os.replace(new, path)
+    except OSError:
+        with contextlib.suppress(OSError):
+            os.unlink(new)
+        raise
+
+
 def noted_client(folder, kind="edits"):
-    """The file by which `tools/mux ls` counts this process as a client; None where no session's folder is named."""
+    """The file by which `tools/mux ls` counts this process as a client; None where no folder is named, and where none can be written."""
     if not folder:
         return None
+    if not os.path.isdir(folder):
+        raise Fault(f"{folder} is no folder")
+    log_to(folder)
     clients = pathlib.Path(folder) / "attached"
-    clients.mkdir(exist_ok=True)
     path = clients / str(os.getpid())
-    path.write_text(f"{begun(os.getpid())} {kind}\n", encoding="utf-8")
+    try:
+        clients.mkdir(exist_ok=True)
+        # Each name in the folder is a process, so what isn't whole stands beside it.
+        replace_text(path, f"{begun(os.getpid())} {kind}\n", f"{clients}.{os.getpid()}")
+    except OSError as fault:
+        say(f"this client isn't counted: {path}: {reason(fault)}")
+        return None
     return path
 
 
@@ -151,10 +217,15 @@ class Listener:
     def __init__(self):
         self.folder = tempfile.mkdtemp(prefix="roam-acts-")
         self.path = os.path.join(self.folder, "acts")
-        self.socket = socket.socket(socket.AF_UNIX, socket.SOCK_STREAM)
-        self.socket.bind(self.path)
-        self.socket.listen(1)
-        self.socket.setblocking(False)
+        self.socket = None
+        try:
+            self.socket = socket.socket(socket.AF_UNIX, socket.SOCK_STREAM)
+            self.socket.bind(self.path)
+            self.socket.listen(1)
+            self.socket.setblocking(False)
+        except OSError:
+            self.close()
+            raise
 
     def accepted(self):
         """The connection of the client start."""
@@ -166,12 +237,11 @@ class Listener:
 
     def close(self):
         """Removes the socket and its folder."""
-        self.socket.close()
+        if self.socket:
+            self.socket.close()
         for remove, path in ((os.unlink, self.path), (os.rmdir, self.folder)):
-            try:
+            with contextlib.suppress(OSError):
                 remove(path)
-            except OSError:
-                pass
 
 
 class Lines:

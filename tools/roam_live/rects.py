@@ -4,8 +4,9 @@ D/panes tells sizes alone. A split puts the new pane to the right of the one tha
 rectangle to the other part of its split: so whoever has followed a session from one pane on knows the tree, and with it each
 rectangle.
 """
-import os
 from typing import NamedTuple
+
+from roam_live.program import replace_text
 
 BESIDE = {"left": (0, -1), "right": (0, 1), "up": (-1, 0), "down": (1, 0)}
 
@@ -165,21 +166,13 @@ def write_rects(path, rects, focus):
     replace_text(path, "".join(lines) + f"focus {focus}\n")
 
 
-def replace_text(path, text):
-    """Gives a file a text; who reads it meanwhile finds the old or the new one whole."""
-    new = f"{path}.{os.getpid()}"
-    with open(new, "w", encoding="utf-8") as file:
-        file.write(text)
-    os.replace(new, path)
-
-
 def read_rects(path):
-    """The rectangles by number and the focus; none and 0 where they aren't told."""
+    """The rectangles by number and the focus; none and 0 where they aren't told, or not whole."""
     try:
         with open(path, encoding="utf-8") as text:
             *lines, last = [line.split() for line in text]
         rects = {int(words[0]): Rect(*map(int, words[1:])) for words in lines}
         focus = int(last[1])
-    except (OSError, ValueError):
+    except (OSError, ValueError, IndexError, TypeError):
         return {}, 0
     return (rects, focus) if focus in rects else ({}, 0)

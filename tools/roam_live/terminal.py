@@ -1,7 +1,8 @@
 """The outer terminal: raw mode, its size, the other screen, and what of the painter's text may reach it."""
+import contextlib
+import errno
 import fcntl
 import os
-import pathlib
 import re
 import signal
 import struct
@@ -26,7 +27,7 @@ LEFT = b"\x1b[?2004l\x1b[0m\x1b[r\x1b(B\x0f\x1b[?25h\x1b[?1049l"
 IUTF8 = 0o40000
 
 # What a tool may have taken for itself, and a command on its terminal does not inherit.
-SIGNALS = (signal.SIGCHLD, signal.SIGTERM, signal.SIGHUP, signal.SIGINT, signal.SIGPIPE)
+SIGNALS = (signal.SIGCHLD, signal.SIGTERM, signal.SIGHUP, signal.SIGINT, signal.SIGPIPE, signal.SIGXFSZ)
 
 # What a pane's terminal is called: its erased cells have the default style, so an entry with `bce` would show wrong colours.
 ENTRIES = ("tmux-256color", "screen-256color", "vt220")
@@ -36,7 +37,7 @@ FOLDERS = ("/etc/terminfo", "/lib/terminfo", "/usr/lib/terminfo", "/usr/share/te
 def has_entry(name):
     """Whether this machine's terminfo has an entry."""
     own = [os.environ[word] for word in ("TERMINFO",) if os.environ.get(word)]
-    folders = [*own, str(pathlib.Path.home() / ".terminfo"), *os.environ.get("TERMINFO_DIRS", "").split(":"), *FOLDERS]
+    folders = [*own, os.path.expanduser("~/.terminfo"), *os.environ.get("TERMINFO_DIRS", "").split(":"), *FOLDERS]
     return any(os.path.exists(f"{folder}/{part}/{name}") for folder in folders if folder for part in (name[0], f"{ord(name[0]):x}"))
 
 
@@ -63,19 +64,27 @@ def set_size(terminal, rows, cols):
     fcntl.ioctl(terminal, termios.TIOCSWINSZ, struct.pack("HHHH", rows, cols, 0, 0))
 
 
-def become(command, size, environment):
-    """Becomes a command on standard input, a terminal that has its size before the command asks for it."""
-    set_size(0, *size)
-    modes = termios.tcgetattr(0)
-    modes[0] |= IUTF8
-    termios.tcsetattr(0, termios.TCSANOW, modes)
+def become(command, size, environment, instead=None):
+    """Becomes a command on standard input, a terminal that has its size before the command asks for it; else the shell instead of it."""
+    with contextlib.suppress(termios.error, OSError):
+        set_size(0, *size)
+        modes = termios.tcgetattr(0)
+        modes[0] |= IUTF8
+        termios.tcsetattr(0, termios.TCSANOW, modes)
     signal.set_wakeup_fd(-1)
     for number in SIGNALS:
         signal.signal(number, signal.SIG_DFL)
+    execute(command, environment, f"; this is {instead}" if instead else "")
+    if instead:
+        execute([instead], {**environment, "SHELL": instead})
+
+
+def execute(command, environment, more=""):
+    """Becomes a command; where it can't be run a line on standard error says why."""
     try:
         os.execvpe(command[0], command, environment)
     except OSError as fault:
-        os.write(2, f"{command[0]}: {fault.strerror}\n".encode())
+        os.write(2, f"{command[0]}: {fault.strerror}{more}\n".encode("utf-8", "replace"))
 
 
 def is_large_enough(size):
@@ -88,25 +97,40 @@ def size_act(size):
     return f"size {min(size[0], MOST[0])} {min(size[1], MOST[1])}"
 
 
+def set_modes(terminal, when, modes):
+    """Gives a terminal modes; a signal between, as of a stop in the background and `fg`, has it asked for anew."""
+    while True:
+        try:
+            return termios.tcsetattr(terminal, when, modes)
+        except termios.error as fault:
+            if fault.args[0] != errno.EINTR:
+                raise
+
+
 def make_raw(terminal):
-    """Has each byte that is typed come as it is, and tells the modes that were."""
-    before = termios.tcgetattr(terminal)
-    modes = termios.tcgetattr(terminal)
+    """Has each byte that is typed come as it is, and tells the modes that were; None where the terminal refuses, or is gone."""
+    try:
+        before = termios.tcgetattr(terminal)
+        set_modes(terminal, termios.TCSADRAIN, raw(termios.tcgetattr(terminal)))
+    except (termios.error, OSError):
+        return None
+    return before
+
+
+def raw(modes):
+    """A terminal's modes, changed so that each byte that is typed comes as it is."""
     modes[0] &= ~(termios.BRKINT | termios.ICRNL | termios.INLCR | termios.IGNCR | termios.INPCK | termios.ISTRIP | termios.IXON)
     modes[1] &= ~termios.OPOST
     modes[2] = modes[2] & ~(termios.CSIZE | termios.PARENB) | termios.CS8
     modes[3] &= ~(termios.ECHO | termios.ICANON | termios.IEXTEN | termios.ISIG)
     modes[6][termios.VMIN], modes[6][termios.VTIME] = 1, 0
-    termios.tcsetattr(terminal, termios.TCSADRAIN, modes)
-    return before
+    return modes
 
 
 def restore(terminal, modes):
     """Gives a terminal its modes back; what was typed and not read is no command of the shell that comes back."""
-    try:
-        termios.tcsetattr(terminal, termios.TCSAFLUSH, modes)
-    except (termios.error, OSError):
-        pass
+    with contextlib.suppress(termios.error, OSError):
+        set_modes(terminal, termios.TCSAFLUSH, modes)
 
 
 def opened_for_writing(terminal):
