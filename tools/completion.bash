@@ -5,15 +5,20 @@ _roam_mux_names() {
     "$mux" ls 2> /dev/null | while read -r name _; do echo "$name"; done
 }
 
+_roam_mux_words="attach new ls list watch kill send capture ssh help --help --version"
+
 _roam_mux() {
-    local word=${COMP_WORDS[COMP_CWORD]}
+    local word=${COMP_WORDS[COMP_CWORD]} words=
     case ${COMP_WORDS[COMP_CWORD - 1]} in
-    ssh) mapfile -t COMPREPLY < <(compgen -A hostname -W "--ssh --far" -- "$word") ;;
-    watch | kill) mapfile -t COMPREPLY < <(compgen -W "$(_roam_mux_names "${COMP_WORDS[0]}")" -- "$word") ;;
-    mux | roam-mux | */mux | */roam-mux)
-        mapfile -t COMPREPLY < <(compgen -W "ls watch kill ssh --help $(_roam_mux_names "${COMP_WORDS[0]}")" -- "$word")
-        ;;
+    ssh) mapfile -t COMPREPLY < <(compgen -A hostname -W "--ssh --far --help" -- "$word") && return ;;
+    mux | roam-mux | */mux | */roam-mux) words="$_roam_mux_words $(_roam_mux_names "${COMP_WORDS[0]}")" ;;
+    attach | watch | kill | send) words="--help $(_roam_mux_names "${COMP_WORDS[0]}")" ;;
+    capture) words="--svg --help $(_roam_mux_names "${COMP_WORDS[0]}")" ;;
+    --svg) words=$(_roam_mux_names "${COMP_WORDS[0]}") ;;
+    new) words="-d --help" ;;
+    help) words=$_roam_mux_words ;;
     esac
+    mapfile -t COMPREPLY < <(compgen -W "$words" -- "$word")
 }
 
 _roam_attach() {
@@ -40,7 +45,7 @@ _roam() {
     attach) words="--dir --port --session --client --keys --acts --wire --watch --turns --help" ;;
     show) words="--rows --cols --help" ;;
     world) words="--help" ;;
-    mux) words="ls watch kill ssh --help" ;;
+    mux) words=$_roam_mux_words ;;
     *) words="mux serve attach show world --help --version" ;;
     esac
     [ "$COMP_CWORD" -gt 1 ] || words="mux serve attach show world --help --version"

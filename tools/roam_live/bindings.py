@@ -1,7 +1,13 @@
 """What a person's keys ask for: acts, and wishes that the client itself grants."""
-from roam_live.keys import acts_of
+import os
+import string
 
-PREFIX = "\x02"
+from roam_live.keys import acts_of
+from roam_live.program import Fault
+
+# The keys that may be the prefix, by their names, and the one that is where nobody chose another.
+PREFIXES = {f"C-{letter}": chr(ord(letter) & 31) for letter in string.ascii_lowercase + "]\\^_"}
+PREFIX = "C-b"
 
 # Keys after the prefix that are acts, and those that are wishes. An arrow is the wish to have the pane there in focus.
 BINDINGS = {"%": "split right", '"': "split down", "x": "close", "o": "next", **{str(pane): f"focus {pane}" for pane in range(1, 10)}}
@@ -32,10 +38,24 @@ C-b and then:
   C-b      C-b itself"""
 
 
+def chosen_prefix():
+    """The name of the prefix: that of the environment's ROAM_PREFIX, where it is there."""
+    name = os.environ.get("ROAM_PREFIX") or PREFIX
+    if name not in PREFIXES:
+        raise Fault(f"ROAM_PREFIX is {name!r}, and may be C-a to C-z, C-], C-\\, C-^ or C-_")
+    return name
+
+
+def help_with(prefix):
+    """The help, where a key of this name is the prefix."""
+    return HELP.replace(PREFIX, prefix)
+
+
 class Typing:
     """Where a person is: typing, after the prefix, scrolling, or pasting."""
 
-    def __init__(self):
+    def __init__(self, prefix=PREFIX):
+        self.prefix = PREFIXES[prefix]
         self.mode = self.plain
         self.repeats_until = 0.0
 
@@ -48,7 +68,7 @@ class Typing:
         if key.name == "paste":
             self.mode = self.pasting
             return [], ""
-        if key.name == PREFIX:
+        if key.name == self.prefix:
             self.mode = self.prefixed
             return [], ""
         if key.name in GROWTH and now < self.repeats_until:
@@ -65,7 +85,7 @@ class Typing:
     def prefixed(self, key, now, rows):
         """A key after the prefix; one that has no meaning there is dropped."""
         self.mode = self.plain
-        if key.name == PREFIX:
+        if key.name == self.prefix:
             return acts_of(key), ""
         if key.name in GROWTH:
             self.repeats_until = now + REPEATS
