@@ -6,7 +6,7 @@ use std::alloc::Global;
 use std::io::{Read, Write};
 
 /// Sends a datagram over a stream, and answers whether it was queued.
-pub fn send_over<S: Read + Write>(alloc: Global, stream: S, datagram: &[u8]) -> bool {
+pub fn send_over<S: Read + Write + Drop>(alloc: Global, stream: S, datagram: &[u8]) -> bool {
     let mut carrier = Carrier::new(alloc, stream);
     let is_queued = carrier.send(datagram);
     carrier.flush();

@@ -190,7 +190,7 @@ fn add_letter(
     datagrams: &mut Vec<Vec<u8>>,
 ) -> Result<(), Fault> {
     server.pane_bytes(1, letter)?;
-    let now = datagrams.len() as u64 * 20;
+    let now = (datagrams.len() as u64).saturating_mul(20);
     datagrams.push(last_of(server.tick(alloc, now)?)?)?;
     Ok(())
 }
