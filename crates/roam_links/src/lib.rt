@@ -1,6 +1,7 @@
 //! How programs of one machine reach each other: UDP on loopback, streams that carry datagrams, the files of sockets; and how they wait.
 #![tactic(auto)]
 
+mod chance;
 mod clients;
 mod files;
 pub mod laws;
@@ -9,8 +10,9 @@ mod pace;
 mod udp;
 mod waits;
 
+pub use chance::random_id;
 pub use clients::{Clients, address_of};
 pub use files::{is_own, listen, write_alone};
 pub use moments::Moments;
 pub use udp::{Udp, loopback};
-pub use waits::Waits;
+pub use waits::{LONGEST_WAIT, Waits};

@@ -13,6 +13,9 @@ use std::net::Net;
 use std::os::fd::RawFd;
 use std::time::Duration;
 
+/// How many milliseconds a program waits at most where something isn't reported: a growth that was refused may go well then.
+pub const LONGEST_WAIT: u64 = 10;
+
 /// How many sources a wait reports at most; more are reported by the next.
 const MOST_EVENTS: usize = 32;
 

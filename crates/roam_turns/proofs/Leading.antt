@@ -1,6 +1,8 @@
 -- What a turn shows leads the outer terminal from what was noted to what is noted then.
 use Rattle.std.proofs.Common.{◌≡◌, ℕ, zero, suc, List, [], ◌∷◌, ◌++◌, map, append-nil, append_assoc, Bool, Option, Some, None, refl, sym, ap, ◌∙◌, subst, inl, inr, arith}
+use Rattle.std.proofs.KnownBytes.{Appends-nil, Appends-trans, Appends-kept}
 use Rattle.std.proofs.lemmas.List.{map-append}
+use Rattle.std.specs.Io.KnownBytes.{Appends, Keeps}
 use Rattle.roam_screens.specs.Screenshot.{Screenshot, IsScreenshot, blank_screenshot}
 use Rattle.roam_acts.specs.declared.acts.Act.{Act}
 use Rattle.roam_text.specs.Log.{Item, Byte}
@@ -10,7 +12,7 @@ use Rattle.roam_hub.specs.declared.addresses.Addr.{Addr}
 use Rattle.roam_turns.specs.declared.outer.Noted.{Noted}
 use Rattle.roam_turns.specs.Calls.{Letter, PortCall, ClientCall}
 use Rattle.roam_turns.specs.Calls.PortCall.{Now, Received, NothingReceived, Sent, PaneLives, PaneGave, PaneGaveNothing, PaneTook, Showed}
-use Rattle.roam_turns.specs.Painting.{IsNoted, IsBehind, IsReady, Fits, Shows, Leads, text_for}
+use Rattle.roam_turns.specs.Painting.{IsNoted, IsBehind, IsReady, Fits, Shows, Leads, Led, text_for}
 use Rattle.roam_turns.specs.Parts.{Call, ReceivesUpTo}
 use Rattle.roam_turns.specs.Parts.Call.{Port, Core}
 use Rattle.roam_turns.specs.Turns.{Sends, Types, IsToClient, Paints, ClientTicks, AttachTurn, shown_in}
@@ -82,6 +84,15 @@ module _ (painted_leads : PaintedLeadsOver) (opened_begins : OpenedBeginsBlank) 
   same_leads (Some noted) =
       λ rows cols lines log ready fits. subst (λ l. Displays rows cols lines l noted.screen) (sym (append-nil log)) ready
 
+  pub same_led : (outer outer' : Option Noted) (written : Option (List ℕ)) → outer' ≡ outer → Led outer written outer' written
+  same_led outer None written same = tt
+  same_led outer (Some noted) written same =
+      ([], Appends-nil written, subst (λ o. Shows o [] noted.screen) same (same_leads (Some noted)))
+
+  pub text_led : (outer : Option Noted) (noted : Noted) (before after : Option (List ℕ)) → IsScreenshot noted.screen
+      → Appends before after (text_for outer noted.screen) → Led outer before (Some noted) after
+  text_led outer noted before after is appends = (text_for outer noted.screen, appends, text_leads outer noted.screen is)
+
   pub paints_leads : (n : ℕ) (s : Screenshot) (outer outer' : Option Noted) (xs : List (Call ClientCall)) → IsScreenshot s
       → Paints n s outer outer' xs → Leads outer (shown_in xs) outer'
   paints_leads n s outer outer' xs is (already there none same) =
@@ -111,3 +122,18 @@ module _ (painted_leads : PaintedLeadsOver) (opened_begins : OpenedBeginsBlank) 
       ∙ (ap (λ l. l ++ shown_in receiving.after) b ∙ (ap shown_in painting.all ∙ (shown_both painting.before painting.after
       ∙ (ap (λ l. shown_in painting.before ++ l) d ∙ append-nil (shown_in painting.before)))))))))) in
       subst (λ l. Leads outer l outer') (sym all) (paints_leads n s outer outer' painting.before is painting.first)
+
+-- ---- what is written before and after it
+
+keeps_before : (a b c : Option (List ℕ)) (bs : List ℕ) → Keeps a b → Appends b c bs → Appends a c bs
+keeps_before None b c bs h k = tt
+keeps_before (Some x) None c bs h k = absurd h
+keeps_before (Some x) (Some y) None bs h k = absurd k
+keeps_before (Some x) (Some y) (Some z) bs h k = k ∙ ap (λ l. l ++ bs) h
+
+-- what is written neither before nor after leaves it
+pub led_within : (outer outer' : Option Noted) (a b c d : Option (List ℕ)) → Keeps a b → Led outer b outer' c → Keeps c d
+    → Led outer a outer' d
+led_within outer None a b c d before led later = tt
+led_within outer (Some noted) a b c d before led later =
+    (led.0, Appends-kept a c d led.0 (keeps_before a b c led.0 before led.1) later, led.2)

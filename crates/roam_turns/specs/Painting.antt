@@ -1,5 +1,6 @@
 -- The outer terminal: what is noted of it, and what is written to it.
 use Rattle.std.specs.Prelude.{◌≡◌, ℕ, ◌≤◌, List, ◌++◌, map, Option, Some, None}
+use Rattle.std.specs.Io.KnownBytes.{Appends}
 use Rattle.roam_screens.specs.Screenshot.{Screenshot, blank_screenshot}
 use Rattle.roam_text.specs.Log.{Item, Byte}
 use Rattle.roam_term.specs.Terminal.{term}
@@ -52,3 +53,8 @@ Shows outer bytes screen =
 abbrev pub Leads : Option Noted → List ℕ → Option Noted → Type 0
 Leads outer bytes None = Unit {0}
 Leads outer bytes (Some noted) = Shows outer bytes noted.screen
+
+-- where it is known what was written to it before and what is then, the text between leads it to what is noted then
+abbrev pub Led : Option Noted → Option (List ℕ) → Option Noted → Option (List ℕ) → Type 0
+Led outer before None after = Unit {0}
+Led outer before (Some noted) after = (text : List ℕ) × Appends before after text × Shows outer text noted.screen

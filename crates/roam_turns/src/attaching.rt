@@ -1,10 +1,11 @@
 //! One turn of a client start and its outer terminal.
 ghost use Rattle.std.specs.Prelude.{◌≡◌, List, Option, IfSome};
+ghost use Rattle.std.specs.Io.KnownBytes.{Keeps};
 ghost use Rattle.std.specs.Option.{option_copied};
 ghost use Rattle.roam_acts.specs.Acts.{IsInRange};
 ghost use Rattle.roam_screens.specs.Screenshot.{IsScreenshot};
 ghost use Rattle.roam_turns.specs.Calls.{ClientCall, PortCall};
-ghost use Rattle.roam_turns.specs.Painting.{Follows, IsNoted, IsBehind, Leads, Shows};
+ghost use Rattle.roam_turns.specs.Painting.{Follows, IsNoted, IsBehind, Leads, Led, Shows};
 ghost use Rattle.roam_turns.specs.Parts.{Call, Makes, ReceivesUpTo};
 ghost use Rattle.roam_turns.specs.Turns.{IsToClient, Types, Paints, ClientTicks, AttachTurn, shown_in};
 
@@ -37,6 +38,7 @@ fn receive_all<C: ClientCore, P: Ports>(alloc: Global, client: &mut C, ports: &m
     ensures receives { Makes C.step (ReceivesUpTo (IsToClient now) 2048 32) (P.told ports.old) (P.told ports.new)
         (C.made client.old) (C.made client.new) client.old client.new }
     ensures follows { Follows (C.number client.old) (C.screen client.old) (C.number client.new) (C.screen client.new) }
+    ensures written { Keeps (P.written ports.old) (P.written ports.new) }
 {
     let mut buf = [0; DATAGRAM];
     for _ in 0..MOST_RECEIVES {
@@ -59,7 +61,10 @@ fn paint_screen<C: ClientCore, P: Ports>(
     ensures paints { Makes C.step (Paints (C.number client.now) (C.screen client.now) outer.old outer.new)
         (P.told ports.old) (P.told ports.new) (C.made client.now) (C.made client.now) client.now client.now }
     ensures screen { IsScreenshot (C.screen client.now) }
+    ensures led { Led outer.old (P.written ports.old) outer.new (P.written ports.new) }
 {
+    painted_leads_over();
+    opened_begins_blank();
     let (number, screen) = client.shown();
     screen.facts();
     if outer.is_noted(number) {
@@ -87,6 +92,7 @@ fn tick_and_send<C: ClientCore, P: Ports>(
         (C.made client.old) (C.made client.new) client.old client.new }
     ensures number { C.number client.new ≡ C.number client.old }
     ensures screen { C.screen client.new ≡ C.screen client.old }
+    ensures written { Keeps (P.written ports.old) (P.written ports.new) }
 {
     match client.tick(alloc, now) {
         Ok(texts) => send_texts(ports, to, &texts),
@@ -119,6 +125,9 @@ pub fn attach_turn<C: ClientCore, P: Ports>(
         → AttachTurn (C.number client.new) (C.screen client.new) outer.old outer.new to (option_copied next.entry) result calls
         → IsNoted (C.number client.new) outer.new → Shows outer.old (shown_in calls) (C.screen client.new) }
     ensures behind { IsBehind outer.new (C.number client.new) (C.screen client.new) }
+    // What the start shows never falls, and under one number it is one screen.
+    ensures follows { Follows (C.number client.old) (C.screen client.old) (C.number client.new) (C.screen client.new) }
+    ensures led { Led outer.old (P.written ports.old) outer.new (P.written ports.new) }
 {
     painted_leads_over();
     opened_begins_blank();

@@ -1,5 +1,6 @@
 //! Datagrams go out, in their order.
 ghost use Rattle.std.specs.Prelude.{List, map};
+ghost use Rattle.std.specs.Io.KnownBytes.{Keeps};
 ghost use Rattle.roam_wire.specs.Cutting.{texts_of};
 ghost use Rattle.roam_turns.specs.Calls.{PortCall, Tells, letters_in};
 ghost use Rattle.roam_turns.specs.Turns.{Sends, letter_to};
@@ -10,6 +11,7 @@ use roam_hub::Addr;
 // Sends each datagram to where it goes.
 pub(crate) fn send_letters<P: Ports>(ports: &mut P, letters: &[(Addr, Vec<u8>)])
     ensures sends { (calls : List PortCall) × Tells (P.told ports.old) (P.told ports.new) calls × Sends (letters_in letters.now) calls }
+    ensures written { Keeps (P.written ports.old) (P.written ports.new) }
 {
     for (to, bytes) in letters {
         ports.send(*to, bytes);
@@ -20,6 +22,7 @@ pub(crate) fn send_letters<P: Ports>(ports: &mut P, letters: &[(Addr, Vec<u8>)])
 pub(crate) fn send_texts<P: Ports>(ports: &mut P, to: Addr, texts: &[Vec<u8>])
     ensures sends { (calls : List PortCall) × Tells (P.told ports.old) (P.told ports.new) calls
         × Sends (map (letter_to to) (texts_of texts.now)) calls }
+    ensures written { Keeps (P.written ports.old) (P.written ports.new) }
 {
     for bytes in texts {
         ports.send(to, bytes);

@@ -1,15 +1,16 @@
 use Rattle.std.proofs.Common.{◌++◌, ap, sym, subst, [], ◌∷◌}
 use Rattle.std.specs.Option.{option_copied}
+use Rattle.std.proofs.KnownBytes.{Keeps-trans}
 use Rattle.roam_screens.specs.Screenshot.{IsScreenshot}
 use Rattle.roam_turns.specs.Calls.PortCall.{Now}
-use Rattle.roam_turns.specs.Painting.{IsBehind}
+use Rattle.roam_turns.specs.Painting.{IsBehind, Follows}
 use Rattle.roam_turns.specs.Parts.{Then, ReceivesUpTo}
 use Rattle.roam_turns.specs.Parts.Call.{Port}
 use Rattle.roam_turns.specs.Turns.{Types, IsToClient, Paints, ClientTicks, AttachTurn}
 use Rattle.roam_turns.proofs.Making.{Just, makes_none, makes_port, makes_then, makes_both, makes_as}
 use Rattle.roam_turns.proofs.Painted.{paints_at, paints_behind, behind_later}
 use Rattle.roam_turns.proofs.Starts.{follows_both}
-use Rattle.roam_turns.proofs.Leading.{turn_leads, shows_noted}
+use Rattle.roam_turns.proofs.Leading.{turn_leads, shows_noted, led_within}
 use Rattle.roam_turns.proofs.attaching.attach_turn.Goals as goal
 
 pub returns-clause-turn : goal.returns-clause-turn
@@ -60,3 +61,17 @@ returns-clause-behind g c =
 pub returns-clause-shows : goal.returns-clause-shows
 returns-clause-shows g c calls turn is =
     shows_noted c.args.outer.now c.paint_screen.new.outer _ _ _ (returns-clause-leads g c calls turn) (returns-clause-behind g c) is
+
+pub returns-clause-follows : goal.returns-clause-follows
+returns-clause-follows g c =
+    let kept =
+    follows_both _ _ _ _ _ _ c.type_next-taken.ensures.follows c.receive_all.ensures.follows in
+    let first = g.C.ClientCore.number c.args.client.now in
+    let screen = g.C.ClientCore.screen c.args.client.now in
+    subst (λ n. Follows first screen n (g.C.ClientCore.screen c.tick_and_send.new.client)) (sym c.tick_and_send.ensures.number)
+    (subst (λ s. Follows first screen (g.C.ClientCore.number c.receive_all.new.client) s) (sym c.tick_and_send.ensures.screen) kept)
+
+pub returns-clause-led : goal.returns-clause-led
+returns-clause-led g c =
+    led_within c.args.outer.now c.paint_screen.new.outer _ _ _ _
+    (Keeps-trans _ _ _ c.now-now.ensures.written c.receive_all.ensures.written) c.paint_screen.ensures.led c.tick_and_send.ensures.written

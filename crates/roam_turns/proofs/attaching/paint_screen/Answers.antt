@@ -31,3 +31,9 @@ returns-else-show-clause-paints g c =
     (paints_failed n c.shown-number.result.0 s (shown_by c.shown-number.result.1) c.args.outer.now c.note-else-show.new.self
     c.in-Ok.painting.text.items c.deref.result.now c.shown-number.ensures.number c.shown-number.ensures.screen not c.in-Ok.ensures.text
     c.deref.ensures.value c.note-else-show.ensures.noted)
+
+pub returns-then-show-clause-led : goal.returns-then-show-clause-led
+returns-then-show-clause-led g c =
+    shown_led c.painted_leads_over.ensures.leads c.opened_begins_blank.ensures.begins c.args.outer.now c.note.new.self c.in-Ok.painting.noted
+    (shown_by c.shown-number.result.1) _ _ _ _ _ c.note.ensures.noted c.in-Ok.ensures.noted
+    (c.facts.ensures.is) c.in-Ok.ensures.text c.deref.ensures.value (c.if-show.ensures.written c.if-show.is)

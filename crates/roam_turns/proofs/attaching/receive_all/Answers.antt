@@ -1,4 +1,5 @@
 use Rattle.std.proofs.Common.{◌≡◌, ◌-◌, ◌+◌, ◌∷◌, [], suc, take, length, arith, rules, refl, subst}
+use Rattle.std.proofs.KnownBytes.{Keeps-refl, Keeps-trans}
 use Rattle.roam_turns.specs.Calls.{Tells}
 use Rattle.roam_turns.specs.Calls.PortCall.{Received, NothingReceived}
 use Rattle.roam_turns.specs.Calls.ClientCall.{ToClient}
@@ -10,7 +11,7 @@ use Rattle.roam_turns.proofs.Starts.{follows_none, follows_both}
 use Rattle.roam_turns.proofs.attaching.receive_all.Goals as goal
 
 pub loop-init : goal.loop-init
-loop-init g c = (refl, follows_none _ _, until_start g.C.ClientCore.step (ReceivesUpTo (IsToClient c.args.now) 2048 32))
+loop-init g c = (refl, Keeps-refl _, follows_none _ _, until_start g.C.ClientCore.step (ReceivesUpTo (IsToClient c.args.now) 2048 32))
 
 pub returns-in-None-clause-receives : goal.returns-in-None-clause-receives
 returns-in-None-clause-receives g c =
@@ -18,24 +19,24 @@ returns-in-None-clause-receives g c =
     let left = 32 - c.loop.counter in
     let e : left ≡ suc (31 - c.loop.counter) = omega arith in
     until_ends step (ReceivesUpTo (IsToClient c.args.now) 2048 32) (ReceivesUpTo (IsToClient c.args.now) 2048 left)
-    (Just (Port (NothingReceived 2048) ∷ [])) c.loop.invariant.2
+    (Just (Port (NothingReceived 2048) ∷ [])) c.loop.invariant.3
     (makes_port step [] (NothingReceived 2048) (makes_none step)
     (subst (λ room. Tells (g.P.Ports.told c.loop.ports) (g.P.Ports.told c.receive.new.self) (NothingReceived room ∷ []))
     c.loop.invariant.0 c.in-None.ensures.tells))
     (receives_no_more (IsToClient c.args.now) 2048 (31 - c.loop.counter) left e)
 
 pub returns-in-None-clause-follows : goal.returns-in-None-clause-follows
-returns-in-None-clause-follows g c = c.loop.invariant.1
+returns-in-None-clause-follows g c = c.loop.invariant.2
 
 pub returns-clause-receives : goal.returns-clause-receives
 returns-clause-receives g c =
     let left = 32 - c.loop.counter in
     let e : left ≡ 0 = omega arith in
     until_done g.C.ClientCore.step (ReceivesUpTo (IsToClient c.args.now) 2048 32) (ReceivesUpTo (IsToClient c.args.now) 2048 left)
-    c.loop.invariant.2 (receives_none (IsToClient c.args.now) 2048 left e)
+    c.loop.invariant.3 (receives_none (IsToClient c.args.now) 2048 left e)
 
 pub returns-clause-follows : goal.returns-clause-follows
-returns-clause-follows g c = c.loop.invariant.1
+returns-clause-follows g c = c.loop.invariant.2
 
 pub loop-preserved : goal.loop-preserved
 loop-preserved g c =
@@ -49,9 +50,10 @@ loop-preserved g c =
     let bytes_len : length c.receive.new.buf ≡ 2048 = search (rules, c.receive.auto.buf, c.loop.invariant.0) in
     let call = ToClient bytes now c.datagram-dropped.result in (
       bytes_len,
-      follows_both _ _ _ _ _ _ c.loop.invariant.1 c.datagram-dropped.ensures.follows,
+      Keeps-trans _ _ _ c.loop.invariant.1 c.in-Some.ensures.written,
+      follows_both _ _ _ _ _ _ c.loop.invariant.2 c.datagram-dropped.ensures.follows,
       until_more step (ReceivesUpTo (IsToClient now) 2048 32) (ReceivesUpTo (IsToClient now) 2048 left)
-          (ReceivesUpTo (IsToClient now) 2048 n) (Receives (IsToClient now) 2048) c.loop.invariant.2
+          (ReceivesUpTo (IsToClient now) 2048 n) (Receives (IsToClient now) 2048) c.loop.invariant.3
           (makes_as step (Just (Port (Received 2048 from bytes) ∷ Core call ∷ [])) (Receives (IsToClient now) 2048)
           (makes_core step (Port (Received 2048 from bytes) ∷ []) call
           (makes_port step [] (Received 2048 from bytes) (makes_none step)
@@ -61,3 +63,6 @@ loop-preserved g c =
           (λ xs all. record { from = from; bytes = bytes; call = call; given = (c.datagram-dropped.result, refl); all = all }))
           (receives_one_more (IsToClient now) 2048 n left e),
     )
+
+pub returns-in-None-clause-written : goal.returns-in-None-clause-written
+returns-in-None-clause-written g c = Keeps-trans _ _ _ c.loop.invariant.1 c.in-None.ensures.written

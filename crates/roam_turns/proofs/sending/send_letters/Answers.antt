@@ -1,4 +1,5 @@
 use Rattle.std.proofs.Common.{rules, ◌≡◌, ◌++◌, [], ◌∷◌, take, get_or, ◌+◌, ◌<◌, length, ◌∙◌, ap, sym, subst, refl}
+use Rattle.std.proofs.KnownBytes.{Keeps-refl, Keeps-trans}
 use Rattle.std.proofs.lemmas.List.{take_more, map-append}
 use Rattle.roam_turns.specs.Calls.{Tells, Letter, letters_in}
 use Rattle.roam_turns.specs.Calls.PortCall.{Sent}
@@ -8,7 +9,7 @@ use Rattle.roam_turns.proofs.Letters.{sends_more}
 use Rattle.roam_turns.proofs.sending.send_letters.Goals as goal
 
 pub loop-to-init : goal.loop-to-init
-loop-to-init g c = ([], tells_none _, refl)
+loop-to-init g c = ([], tells_none _, Keeps-refl _, refl)
 
 pub loop-to-preserved : goal.loop-to-preserved
 loop-to-preserved g c =
@@ -27,5 +28,6 @@ loop-to-preserved g c =
     ∙ ap (λ x. letters_in (take i all) ++ (x.0, x.1.items) ∷ []) (sym c.loop-to-item.is)) in (
       h.0 ++ call ∷ [],
       tells_both _ _ _ h.0 (call ∷ []) h.1 told,
-      subst (λ letters. Sends letters (h.0 ++ call ∷ [])) (sym more) (sends_more (letters_in (take i all)) h.0 letter c.send.result h.2),
+      Keeps-trans _ _ _ h.2 c.send.ensures.written,
+      subst (λ letters. Sends letters (h.0 ++ call ∷ [])) (sym more) (sends_more (letters_in (take i all)) h.0 letter c.send.result h.3),
     )

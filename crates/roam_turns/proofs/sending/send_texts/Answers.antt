@@ -1,4 +1,5 @@
 use Rattle.std.proofs.Common.{rules, ◌≡◌, ◌++◌, [], ◌∷◌, map, take, get_or, ◌+◌, ◌<◌, length, ◌∙◌, ap, sym, subst, refl}
+use Rattle.std.proofs.KnownBytes.{Keeps-refl, Keeps-trans}
 use Rattle.std.proofs.lemmas.List.{take_more, map-append}
 use Rattle.roam_wire.specs.Cutting.{texts_of}
 use Rattle.roam_turns.specs.Calls.{Tells, Letter}
@@ -9,7 +10,7 @@ use Rattle.roam_turns.proofs.Letters.{sends_more}
 use Rattle.roam_turns.proofs.sending.send_texts.Goals as goal
 
 pub loop-bytes-init : goal.loop-bytes-init
-loop-bytes-init g c = ([], tells_none _, refl)
+loop-bytes-init g c = ([], tells_none _, Keeps-refl _, refl)
 
 pub loop-bytes-preserved : goal.loop-bytes-preserved
 loop-bytes-preserved g c =
@@ -30,6 +31,7 @@ loop-bytes-preserved g c =
     ap (map (letter_to to)) more ∙ map-append (letter_to to) (texts_of (take i all)) (item.items ∷ []) in (
       h.0 ++ call ∷ [],
       tells_both _ _ _ h.0 (call ∷ []) h.1 told,
+      Keeps-trans _ _ _ h.2 c.send.ensures.written,
       subst (λ ls. Sends ls (h.0 ++ call ∷ [])) (sym letters)
-          (sends_more (map (letter_to to) (texts_of (take i all))) h.0 letter c.send.result h.2),
+          (sends_more (map (letter_to to) (texts_of (take i all))) h.0 letter c.send.result h.3),
     )

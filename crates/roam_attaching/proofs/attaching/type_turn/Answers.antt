@@ -1,0 +1,57 @@
+use Rattle.std.proofs.Common.{inr, refl, sym, subst, ◌∙◌, All}
+use Rattle.std.proofs.lemmas.List.Elements.{All-drop}
+use Rattle.roam_acts.specs.Acts.{IsInRange}
+use Rattle.roam_attaching.proofs.Running.{handed_still, handed_taken, turn_of, runs_both, runs_reading, takes_first, takes_nothing}
+use Rattle.roam_attaching.proofs.attaching.type_turn.Goals as goal
+
+pub returns-in-Some-clause-refused : goal.returns-in-Some-clause-refused
+returns-in-Some-clause-refused g c = inr (
+  c.in-Some.number,
+  refl,
+  sym c.refused.ensures.refused ∙ c.in-Some.is,
+  runs_reading c.args.to _ _ c.args.typist.now.lines c.read_more.new.self.lines c.args.client.now c.in_ok-read_more.ensures.reads,
+)
+
+pub returns-then-attach_turn-clause-in_range : goal.returns-then-attach_turn-clause-in_range
+returns-then-attach_turn-clause-in_range g c =
+    subst (All IsInRange) (sym c.took.ensures.first)
+    (All-drop IsInRange 1 c.read_more.new.self.lines.waiting.items (c.in_ok-read_more.ensures.in_range c.requires.in_range))
+
+pub returns-then-attach_turn-clause-typed : goal.returns-then-attach_turn-clause-typed
+returns-then-attach_turn-clause-typed g c =
+    let remaining = g.T.Read.remaining in
+    let before = c.args.typist.now in
+    let mid = c.read_more.new.self in
+    let after = c.took.new.self in
+    let read = runs_reading c.args.to (remaining before.reader) (remaining mid.reader) before.lines mid.lines c.args.client.now
+    c.in_ok-read_more.ensures.reads in
+    let turn = takes_first c.args.to (remaining mid.reader) mid.lines after.lines c.args.client.now c.attach_turn.new.client _
+    (_, _, c.if-attach_turn.ensures.turn) c.next.ensures.next c.took.ensures.lines c.took.ensures.first in
+    rw c.took.ensures.reader
+    (runs_both c.args.to _ _ _ before.lines mid.lines after.lines c.args.client.now _ c.attach_turn.new.client 0 1 read turn)
+
+pub returns-clause-typed : goal.returns-clause-typed
+returns-clause-typed g c =
+    let remaining = g.T.Read.remaining in
+    let before = c.args.typist.now in
+    let mid = c.read_more.new.self in
+    let read = runs_reading c.args.to (remaining before.reader) (remaining mid.reader) before.lines mid.lines c.args.client.now
+    c.in_ok-read_more.ensures.reads in
+    let turn = takes_nothing c.args.to (remaining mid.reader) mid.lines c.args.client.now c.attach_turn.new.client _
+    (_, _, c.if-attach_turn.ensures.turn) in
+    runs_both c.args.to _ _ _ before.lines mid.lines mid.lines c.args.client.now _ c.attach_turn.new.client 0 1 read turn
+
+pub returns-then-attach_turn-clause-handed : goal.returns-then-attach_turn-clause-handed
+returns-then-attach_turn-clause-handed g c = (
+  _,
+  (_, _, c.if-attach_turn.ensures.turn),
+  handed_taken c.args.to c.args.client.now c.attach_turn.new.client _ c.took.new.self.lines.waiting.items
+      (_, _, c.if-attach_turn.ensures.turn),
+)
+
+pub returns-clause-handed : goal.returns-clause-handed
+returns-clause-handed g c = (
+  turn_of _ _,
+  (_, _, c.if-attach_turn.ensures.turn),
+  handed_still _ c.read_more.new.self.lines.waiting.items c.next.ensures.next c.next.ensures.none,
+)

@@ -1,0 +1,239 @@
+//! The ports of a client start over sockets. What they carried isn't told.
+ghost use Rattle.std.specs.Prelude.{◌≡◌, ◌⊎◌, ◌↔◌, IsTrue, ◌-◌, ◌≤◌, [], ◌∷◌, ℕ, true, false, length, is_some, None, Some, IfOk, IfSome, IfErr};
+ghost use Rattle.std.specs.Io.KnownBytes.{Appends};
+ghost use Rattle.roam_terminals.specs.Silence.{due_of, is_over, end_of, notice_of};
+ghost use Rattle.roam_attaching.specs.Notices.{failing_after, has_given_up};
+ghost use Rattle.roam_links.specs.declared.moments.Moments.{Moments};
+ghost use Rattle.roam_attaching.specs.Ways.{has_ended};
+
+use crate::link::Link;
+use mio::net::UnixStream;
+use roam_hub::Addr;
+use roam_links::LONGEST_WAIT;
+use roam_terminals::{End, Silence, notice};
+use roam_turns::Ports;
+use std::alloc::Global;
+use std::io::Write;
+use std::time::Clock;
+
+/// How many milliseconds of failing are enough.
+const HALF_SECOND: u64 = 500;
+
+/// The ports of a client start: its link, and where the outer terminal's bytes go. They know when something was heard last, and since when
+/// showing fails.
+#[derive(Drop)]
+pub struct ClientPorts<R, W> {
+    link: Link<R>,
+    outer: W,
+    silence: Silence,
+    failing: Option<u64>,
+}
+
+impl<R: Clock + Drop, W: Write + Drop> ClientPorts<R, W> {
+    /// The ports over a link, and what takes the outer terminal's bytes: nothing was heard or written yet.
+    pub fn new(link: Link<R>, outer: W) -> ClientPorts<R, W>
+        ensures ports { result ≡ record {
+          link = link;
+          outer = outer;
+          silence = record { moment = 0; heard = None; told = None };
+          failing = None;
+        } }
+    {
+        ClientPorts {
+            link,
+            outer,
+            silence: Silence::new(),
+            failing: None,
+        }
+    }
+
+    /// Whether the server has ended, where that is seen: a stream to it is over.
+    pub fn has_ended(&self) -> bool
+        ensures ended { result ≡ has_ended self.now.link.way }
+    {
+        self.link.has_ended()
+    }
+
+    /// Sets the moment, in milliseconds.
+    pub fn set_moment(&mut self, moment: u64)
+        ensures moment { self.new ≡ record self.old { link = record self.old.link { moments = Moments.Set moment } } }
+    {
+        self.link.set_moment(moment);
+    }
+
+    /// Whether the outer terminal took not all of what was last shown.
+    pub fn has_failed(&self) -> bool
+        ensures failed { result ≡ is_some self.now.failing }
+    {
+        self.failing.is_some()
+    }
+
+    /// Whether it took not all of anything that was shown in the last half second.
+    pub fn has_given_up(&self) -> bool
+        ensures given_up { result ≡ has_given_up self.now.silence self.now.failing }
+    {
+        match self.failing {
+            None => false,
+            Some(since) => self.silence.has_passed(since, HALF_SECOND),
+        }
+    }
+
+    /// What was heard, where this is the end.
+    pub fn end(&self) -> End
+        ensures end { result ≡ end_of self.now.silence }
+    {
+        self.silence.end()
+    }
+
+    /// Lets a wait end where something comes over a stream.
+    pub fn watch_stream(&self, stream: &mut UnixStream)
+        ensures same { stream.new ≡ stream.old }
+    {
+        self.link.report(stream, false);
+    }
+
+    /// The moment of the last turn, in milliseconds.
+    pub fn moment(&self) -> u64
+        ensures moment { result ≡ self.now.silence.moment }
+    {
+        self.silence.moment()
+    }
+
+    /// Whether so many milliseconds have passed since a moment.
+    pub fn has_passed(&self, since: u64, long: u64) -> bool
+        ensures passed { IsTrue result ↔ long ≤ self.now.silence.moment - since }
+    {
+        self.silence.has_passed(since, long)
+    }
+
+    /// Whether nobody reads the descriptor any more that is watched.
+    pub fn is_unread(&self) -> bool
+        ensures unread { result ≡ self.now.link.waits.unread }
+    {
+        self.link.is_unread()
+    }
+
+    /// Sends what waits to go, and waits until something comes, ten milliseconds at most, where nothing came since the last call.
+    pub fn rest(&mut self)
+        ensures quiet { self.new.link.waits.quiet ≡ true }
+        ensures others { self.new ≡ record self.old { link = self.new.link } }
+        ensures link { self.new.link ≡ record self.old.link { waits = self.new.link.waits; way = self.new.link.way } }
+    {
+        self.link.rest(LONGEST_WAIT);
+    }
+
+    /// Sends what waits to go, as much as goes now, and doesn't wait.
+    pub fn flush(&mut self)
+        ensures others { self.new ≡ record self.old { link = self.new.link } }
+        ensures link { self.new.link ≡ record self.old.link { way = self.new.link.way } }
+    {
+        self.link.flush();
+    }
+
+    /// Tells of a silence of ten seconds and more over the last row of the outer terminal, once a second. Answers whether what that
+    /// terminal shows isn't known any more: something was heard again, or not all of this was taken.
+    pub fn tell_silence(&mut self, alloc: Global) -> bool
+        ensures over { is_over self.old.silence ≡ true → result ≡ true }
+        ensures quiet { is_over self.old.silence ≡ false → due_of self.old.silence ≡ None → (result ≡ false) × (self.new ≡ self.old) }
+        ensures unknown { result ≡ true → self.new.silence.told ≡ None }
+        ensures told { IfSome self.new.silence.told (λ seconds. (self.old.silence.told ≡ Some seconds)
+            ⊎ ((due_of self.old.silence ≡ Some seconds)
+            × Appends (W.contents self.old.outer) (W.contents self.new.outer) (notice_of seconds))) }
+        ensures heard { self.new.silence ≡ record self.old.silence { told = self.new.silence.told } }
+    {
+        if self.silence.is_over() {
+            self.silence.tell(None);
+            return true;
+        }
+        match self.silence.due() {
+            None => false,
+            Some(seconds) => self.tell(alloc, seconds),
+        }
+    }
+
+    // Tells of so many seconds, where there is memory. Whether not all of it was taken.
+    fn tell(&mut self, alloc: Global, seconds: u64) -> bool
+        ensures unknown { result ≡ true → self.new.silence.told ≡ None }
+        ensures told { IfSome self.new.silence.told (λ told. (self.old.silence.told ≡ Some told)
+            ⊎ ((told ≡ seconds) × Appends (W.contents self.old.outer) (W.contents self.new.outer) (notice_of seconds))) }
+        ensures heard { self.new.silence ≡ record self.old.silence { told = self.new.silence.told } }
+    {
+        let Ok(text) = notice(alloc, seconds) else {
+            return false;
+        };
+        let written = self.put(&text);
+        self.silence
+            .tell(if written { Some(seconds) } else { None });
+        !written
+    }
+
+    // Writes to the outer terminal, notes since when that fails, and answers whether all was taken.
+    fn put(&mut self, bytes: &[u8]) -> bool
+        ensures written { result ≡ true → Appends (W.contents self.old.outer) (W.contents self.new.outer) bytes.now }
+        ensures failing { self.new.failing ≡ failing_after self.old.failing result self.old.silence.moment }
+        ensures others { self.new ≡ record self.old { outer = self.new.outer; failing = self.new.failing } }
+    {
+        let written = self.outer.write_all(bytes).is_ok() && self.outer.flush().is_ok();
+        self.failing = failing_after(self.failing, written, self.silence.moment());
+        written
+    }
+}
+
+impl<R: Clock + Drop, W: Write + Drop> Ports for ClientPorts<R, W> {
+    fn now(&mut self) -> u64
+        ensures set { (moment : ℕ) → self.old.link.moments ≡ Moments.Set moment → result ≡ moment }
+        ensures moment { self.new.silence ≡ record self.old.silence { moment = result } }
+    {
+        let moment = self.link.now();
+        self.silence.at(moment);
+        moment
+    }
+
+    fn receive(&mut self, buf: &mut [u8]) -> Option<(Addr, usize)>
+        ensures within { IfSome result (λ r. r.1 ≤ length buf.new) }
+        ensures heard { IfSome result (λ _. self.new.silence ≡ record self.old.silence { heard = Some self.old.silence.moment }) }
+        ensures unheard { result ≡ None → self.new.silence ≡ self.old.silence }
+        ensures stirs { IfSome result (λ _. self.new.link.waits.quiet ≡ false) }
+    {
+        let came = self.link.receive(buf)?;
+        self.silence.hear();
+        Some(came)
+    }
+
+    fn send(&mut self, to: Addr, bytes: &[u8]) -> bool {
+        self.link.send(to, bytes)
+    }
+
+    fn pane_lives(&mut self, _pane: u8, _life: Option<u64>)
+        ensures same { self.new ≡ self.old }
+    {}
+
+    fn pane_in(&mut self, _pane: u8, _buf: &mut [u8]) -> Option<usize>
+        ensures none { result ≡ None }
+    {
+        None
+    }
+
+    fn pane_out(&mut self, _pane: u8, _bytes: &[u8]) -> usize
+        ensures none { result ≡ 0 }
+    {
+        0
+    }
+
+    // Where the terminal tells of a silence, it doesn't show what is noted of it: nothing is written then, and it is painted anew.
+    fn show(&mut self, bytes: &[u8]) -> bool
+        ensures covered { is_some self.old.silence.told ≡ true → (result ≡ false) × (self.new ≡ self.old) }
+        ensures failing { self.old.silence.told ≡ None
+            → self.new.failing ≡ failing_after self.old.failing result self.old.silence.moment }
+        ensures written { result ≡ true → Appends (W.contents self.old.outer) (W.contents self.new.outer) bytes.now }
+    {
+        !self.silence.is_told() && self.put(bytes)
+    }
+}
+
+// Since when writing fails, where it does.
+fn failing_after(failing: Option<u64>, written: bool, now: u64) -> Option<u64>
+    ensures since { result ≡ failing_after failing written now }
+{
+    if written { None } else { failing.or(Some(now)) }
+}

@@ -1,0 +1,101 @@
+//! A client start that stays while outer terminals come and go at its socket.
+ghost use Rattle.std.specs.Prelude.{◌≡◌, ◌⊎◌, IfErr};
+
+use crate::link::Link;
+use mio::net::{UnixListener, UnixStream};
+use roam_cells::Fault;
+use roam_faults::RunFault;
+use roam_hub::{Addr, Client};
+use roam_links::{LONGEST_WAIT, listen};
+use roam_terminals::{End, MOST_TERMINALS, Painter, Terminals};
+use std::alloc::Global;
+use std::fs::{Files, remove_file};
+use std::net::Net;
+use std::time::Clock;
+
+/// How many milliseconds a start goes on at most after a terminal asked for its end.
+const SECOND: u64 = 1000;
+
+// A client start with its outer terminals, round its link.
+struct Host<R> {
+    listener: UnixListener,
+    terminals: Terminals<UnixStream>,
+    painter: Painter<Link<R>>,
+    to: Addr,
+    // When a terminal asked for the end.
+    asked: Option<u64>,
+}
+
+impl<R: Clock + Drop> Host<R> {
+    // Takes those that wait at the socket; those above sixteen are closed.
+    fn accept(&mut self, alloc: Global) {
+        for _ in 0..4 * MOST_TERMINALS {
+            let Ok((mut stream, _)) = self.listener.accept() else {
+                return;
+            };
+            self.painter.ports().report(&mut stream, true);
+            // One for which there is no room or memory may come again.
+            let _ = self.terminals.add(alloc, stream);
+        }
+        self.painter.ports().stir();
+    }
+
+    // Whether the start is over, as one of the terminals asked: all acts that were typed are acknowledged, or a second passed.
+    fn is_over(&mut self, client: &Client) -> bool {
+        if !self.terminals.is_ending() {
+            return false;
+        }
+        let silence = self.painter.silence();
+        let asked = self.asked.unwrap_or(silence.moment());
+        self.asked = Some(asked);
+        client.is_settled() || silence.has_passed(asked, SECOND)
+    }
+
+    // Takes rounds, and waits where one brought nothing.
+    fn run(&mut self, alloc: Global, client: &mut Client, rounds: u64) -> End {
+        for _ in 0..rounds {
+            self.accept(alloc);
+            let wait = self.terminals.round(alloc, client, &mut self.painter, self.to);
+            if self.painter.ports().has_ended() {
+                return End::Gone;
+            }
+            if self.is_over(client) {
+                break;
+            }
+            if wait == 0 {
+                self.painter.ports().stir();
+            }
+            self.painter.ports().rest(wait.min(LONGEST_WAIT));
+        }
+        self.painter.silence().end()
+    }
+}
+
+/// Is the start of all outer terminals that connect to a socket, for so many rounds at most. `Bind` where the socket can't be bound.
+pub(crate) fn host<R: Files + Net, C: Clock + Drop>(
+    rt: &R,
+    alloc: Global,
+    path: &str,
+    rounds: u64,
+    client: &mut Client,
+    link: Link<C>,
+    to: Addr,
+) -> Result<End, RunFault>
+    ensures faults { IfErr result (λ fault. fault ≡ RunFault.Bind) }
+{
+    let Some(mut listener) = listen(rt, path) else {
+        return Err(RunFault::Bind);
+    };
+    link.report(&mut listener, false);
+    let mut host = Host {
+        listener,
+        terminals: Terminals::new(alloc),
+        painter: Painter::new(alloc, link),
+        to,
+        asked: None,
+    };
+    let end = host.run(alloc, client, rounds);
+    // A file that somebody removed before is no matter.
+    let _ = remove_file(rt, path);
+    Ok(end)
+}

@@ -1,0 +1,11 @@
+//! `roam attach`: the turns of a client start round real sockets, the clock and its outer terminals.
+#![tactic(auto)]
+
+mod attaching;
+mod client_ports;
+mod hosting;
+mod link;
+
+pub use attaching::{Attach, Home, Typed, follow_session, run_attach};
+pub use client_ports::ClientPorts;
+pub use link::Link;

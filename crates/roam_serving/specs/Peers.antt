@@ -1,0 +1,48 @@
+-- The peers of a pane's socket: the programs that come to it.
+use Rattle.std.specs.Prelude.{ℕ, ◌≡◌, ◌≢◌, ◌+◌, ◌-◌, ◌≤◌, ◌⊎◌, Bool, true, List, length, slice_get, Option, Some, None, IsSome, IfSome, Result, Ok, Err}
+use Rattle.std.specs.IoError.{error_kind}
+use Rattle.std.specs.declared.io.Error.{Error}
+use Rattle.std.specs.declared.io.ErrorKind.TheVariants.{WouldBlock}
+use Rattle.mio.specs.declared.net.uds.stream.UnixStream.{UnixStream}
+use Rattle.roam_serving.specs.declared.peers.Making.{Making}
+use Rattle.roam_serving.specs.declared.panes.Pane.{Pane}
+
+-- a peer that answers a read or a write so has failed: it isn't only that nothing goes at this moment
+abbrev pub HasFailed : Result ℕ Error → Type 0
+HasFailed (Ok n) = ⊥
+HasFailed (Err error) = error_kind error ≢ WouldBlock
+
+-- a peer that answers a read so is gone: there is nothing more of it, or it has failed
+abbrev pub IsGone : Result ℕ Error → Type 0
+IsGone (Ok n) = n ≡ 0
+IsGone (Err error) = error_kind error ≢ WouldBlock
+
+-- which making of a pane is there, or none
+abbrev pub life_in : Option Making → Option ℕ
+life_in None = None
+life_in (Some making) = Some making.life
+
+-- the peer that came to the making that is there
+abbrev pub peer_in : Option Making → Option UnixStream
+peer_in None = None
+peer_in (Some making) = making.peer.stream
+
+-- from now on this making of the pane is there, or none: a peer that came to it stays, and any other goes
+pub record Lives (life : Option ℕ) (p q : Pane) : Type 0 where
+  pub lives : life_in q.making ≡ life
+  pub stays : life_in p.making ≡ life → q ≡ p
+  pub goes : life_in p.making ≢ life → peer_in q.making ≡ None
+
+-- Its program is asked for bytes, or handed some, and some went over or none: the making stays; where none is there, no peer is taken; a
+-- peer that is there stays or goes, and no other comes in its place; and what goes over, goes over with a peer that came to the making.
+pub record Asks (some : Bool) (p q : Pane) : Type 0 where
+  pub life : life_in q.making ≡ life_in p.making
+  pub waits : life_in p.making ≡ None → q ≡ p
+  pub one : IfSome (peer_in p.making) (λ peer. (q ≡ p) ⊎ (peer_in q.making ≡ None))
+  pub from : some ≡ true → IsSome (peer_in q.making)
+
+-- of these sockets that of a pane, 1 to 9, went from one state to the other, and each other one is as it was
+pub record Changes (Goes : Pane → Pane → Type 0) (pane : ℕ) (old new : List Pane) : Type 0 where
+  pub count : length new ≡ length old
+  pub others : (k : ℕ) → k + 1 ≢ pane → slice_get new k ≡ slice_get old k
+  pub this : 1 ≤ pane → IfSome (slice_get old (pane - 1)) (λ p. IfSome (slice_get new (pane - 1)) (λ q. Goes p q))

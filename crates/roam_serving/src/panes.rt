@@ -1,0 +1,190 @@
+//! The sockets of the panes, where their programs are reached.
+ghost use Rattle.std.specs.Prelude.{◌≡◌, ◌≢◌, ◌⊎◌, ◌++◌, ◌≤◌, ◌<◌, [], ◌∷◌, length, map, string_bytes, is_some, nat_lt, None, IfOk, OnOk, IfSome, IfErr, IsOkUnless};
+ghost use Rattle.std.specs.List.{All};
+ghost use Rattle.roam_serving.specs.Panes.{path_of, paths_of};
+ghost use Rattle.roam_serving.specs.Peers.{Changes, Lives, Asks};
+
+use crate::peers::{Making, live, read, write};
+use mio::net::UnixListener;
+use mio::{Interest, Registry, Token};
+use roam_cells::Fault;
+use roam_faults::RunFault;
+use roam_links::listen;
+use std::alloc::Global;
+use std::fs::{Files, remove_file};
+use std::net::Net;
+
+/// How many panes there may be.
+const PANES: usize = 9;
+
+/// The socket of a pane, and which making of the pane is there with its peer.
+#[derive(Drop)]
+pub(crate) struct Pane {
+    path: String,
+    listener: UnixListener,
+    making: Option<Making>,
+}
+
+impl Pane {
+    // The socket of a pane in a folder; the pane isn't there yet. It is reported where the program waits.
+    fn bind<R: Files + Net>(
+        rt: &R,
+        alloc: Global,
+        registry: &Registry,
+        folder: &str,
+        number: u8,
+    ) -> Result<Pane, RunFault>
+        ensures path { IfOk result (λ pane. string_bytes pane.path ≡ path_of folder.now number) }
+        ensures none { IfOk result (λ pane. pane.making ≡ None) }
+        ensures faults { IfErr result (λ fault. (fault ≡ RunFault.Bind) ⊎ (fault ≡ RunFault.Core Fault.OutOfMemory)) }
+    {
+        let Ok(path) = format!(in alloc; "{folder}/p{number}") else {
+            return Err(RunFault::Core(Fault::OutOfMemory));
+        };
+        let Some(mut listener) = listen(rt, path.as_str()) else {
+            return Err(RunFault::Bind);
+        };
+        // Where it isn't reported, a wait ends by its time alone.
+        let _ = registry.register(&mut listener, Token(0), Interest::READABLE);
+        Ok(Pane {
+            path,
+            listener,
+            making: None,
+        })
+    }
+
+    // From now on this making of the pane is there, or none is.
+    fn live(&mut self, life: Option<u64>)
+        ensures lives { Lives life self.old self.new }
+    {
+        live(&mut self.making, life);
+    }
+
+    // What the program wrote: how many bytes of `buf` it fills from the front.
+    fn read(&mut self, registry: &Registry, buf: &mut [u8]) -> Option<usize>
+        ensures some { IfSome result (λ n. 0 < n) }
+        ensures within { IfSome result (λ n. n ≤ length buf.new) }
+        ensures asks { Asks (is_some result) self.old self.new }
+    {
+        read(&mut self.making, &self.listener, registry, buf)
+    }
+
+    // How many of the bytes the program took.
+    fn write(&mut self, registry: &Registry, bytes: &[u8]) -> usize
+        ensures within { result ≤ length bytes.now }
+        ensures asks { Asks (nat_lt 0 result) self.old self.new }
+    {
+        write(&mut self.making, &self.listener, registry, bytes)
+    }
+}
+
+/// The sockets `p1` to `p9` of a folder, each of the pane of that number.
+#[derive(Drop)]
+pub(crate) struct Panes {
+    all: Vec<Pane>,
+}
+
+impl Panes {
+    /// Binds the sockets of a folder; no pane is there yet. A socket's file to which nobody listens is removed first. `Bind` where one
+    /// can't be bound, as where its file is there, or where the folder has no name; `OutOfMemory`; those that were bound before are removed
+    /// then.
+    pub(crate) fn bind<R: Files + Net>(
+        rt: &R,
+        alloc: Global,
+        registry: &Registry,
+        folder: &str,
+    ) -> Result<Panes, RunFault>
+        ensures nine { IfOk result (λ panes. length panes.all.items ≡ 9) }
+        ensures paths { IfOk result (λ panes. map (λ pane. string_bytes pane.path) panes.all.items ≡ paths_of folder.now 9) }
+        ensures none { IfOk result (λ panes. All (λ pane. pane.making ≡ None) panes.all.items) }
+        ensures named { IfOk result (λ _. folder.now ≢ []) }
+        ensures faults { IfErr result (λ fault. (fault ≡ RunFault.Bind) ⊎ (fault ≡ RunFault.Core Fault.OutOfMemory)) }
+    {
+        if folder.is_empty() {
+            return Err(RunFault::Bind);
+        }
+        let Ok(all) = Vec::with_capacity(alloc, PANES) else {
+            return Err(RunFault::Core(Fault::OutOfMemory));
+        };
+        let mut panes = Panes { all };
+        match panes.bind_all(rt, alloc, registry, folder) {
+            Ok(()) => Ok(panes),
+            Err(fault) => {
+                panes.remove(rt);
+                Err(fault)
+            }
+        }
+    }
+
+    fn bind_all<R: Files + Net>(
+        &mut self,
+        rt: &R,
+        alloc: Global,
+        registry: &Registry,
+        folder: &str,
+    ) -> Result<(), RunFault>
+        requires empty { length self.old.all.items ≡ 0 }
+        ensures nine { OnOk result (length self.new.all.items ≡ 9) }
+        ensures paths { OnOk result (map (λ pane. string_bytes pane.path) self.new.all.items ≡ paths_of folder.now 9) }
+        ensures none { OnOk result (All (λ pane. pane.making ≡ None) self.new.all.items) }
+        ensures faults { IfErr result (λ fault. (fault ≡ RunFault.Bind) ⊎ (fault ≡ RunFault.Core Fault.OutOfMemory)) }
+    {
+        for number in 1..10u8 {
+            let pane = Pane::bind(rt, alloc, registry, folder, number)?;
+            self.add(pane)?;
+        }
+        Ok(())
+    }
+
+    fn add(&mut self, pane: Pane) -> Result<(), Fault>
+        ensures items { OnOk result (self.new.all.items ≡ self.old.all.items ++ pane ∷ []) }
+        ensures fault { IsOkUnless result Fault.OutOfMemory }
+    {
+        self.all.push(pane)?;
+        Ok(())
+    }
+
+    /// From now on this making of a pane, 1 to 9, is there, or none is: a peer that came to another is let go.
+    pub(crate) fn live(&mut self, pane: u8, life: Option<u64>)
+        ensures lives { Changes (Lives life) pane self.old.all.items self.new.all.items }
+    {
+        let at = usize::from(pane);
+        if 0 < at && at <= self.all.len() {
+            self.all[at - 1].live(life);
+        }
+    }
+
+    /// What the program of a pane wrote: how many bytes of `buf` it fills from the front. A peer is taken where there is none, and let go
+    /// where it is gone; one that comes to a pane that isn't there waits.
+    pub(crate) fn read(&mut self, registry: &Registry, pane: u8, buf: &mut [u8]) -> Option<usize>
+        ensures some { IfSome result (λ n. 0 < n) }
+        ensures within { IfSome result (λ n. n ≤ length buf.new) }
+        ensures asks { Changes (Asks (is_some result)) pane self.old.all.items self.new.all.items }
+    {
+        let at = usize::from(pane);
+        if at < 1 || self.all.len() < at {
+            return None;
+        }
+        self.all[at - 1].read(registry, buf)
+    }
+
+    /// How many of the bytes the program of a pane took, 0 where none is there.
+    pub(crate) fn write(&mut self, registry: &Registry, pane: u8, bytes: &[u8]) -> usize
+        ensures within { result ≤ length bytes.now }
+        ensures asks { Changes (Asks (nat_lt 0 result)) pane self.old.all.items self.new.all.items }
+    {
+        let at = usize::from(pane);
+        if at < 1 || self.all.len() < at {
+            return 0;
+        }
+        self.all[at - 1].write(registry, bytes)
+    }
+
+    /// Removes the files of the sockets.
+    pub(crate) fn remove(&self, files: &impl Files) {
+        for pane in self.all.iter() {
+            // A file that somebody removed before is no matter.
+            let _ = remove_file(files, pane.path.as_str());
+        }
+    }
+}

@@ -1,0 +1,173 @@
+//! The peers of sockets, one at a time; those of the panes' sockets are each for the making of the pane that they came to.
+ghost use Rattle.std.specs.Prelude.{◌≡◌, ◌≢◌, ◌⊎◌, ◌↔◌, ◌<◌, ◌≤◌, length, IsTrue, IsSome, IfSome, is_some, None};
+ghost use Rattle.roam_serving.specs.Peers.{HasFailed, IsGone, life_in, peer_in};
+
+use mio::net::{UnixListener, UnixStream};
+use mio::{Interest, Registry, Token};
+use std::io;
+use std::io::{ErrorKind, Read, Write};
+
+/// The program that came to a socket, or none.
+#[derive(Drop)]
+pub(crate) struct Peer {
+    stream: Option<UnixStream>,
+}
+
+/// A making of a pane that is there, and the peer that came to it.
+#[derive(Drop)]
+pub(crate) struct Making {
+    life: u64,
+    peer: Peer,
+}
+
+// Whether a peer that answered so has failed.
+fn has_failed(answer: &io::Result<usize>) -> bool
+    ensures failed { IsTrue result ↔ HasFailed answer.now }
+{
+    match answer {
+        Ok(_) => false,
+        Err(error) => error.kind() != ErrorKind::WouldBlock,
+    }
+}
+
+// Whether a peer that answered a read so is gone.
+fn is_gone(answer: &io::Result<usize>) -> bool
+    ensures gone { IsTrue result ↔ IsGone answer.now }
+{
+    match answer {
+        Ok(count) => *count == 0,
+        Err(_) => has_failed(answer),
+    }
+}
+
+/// The making of a pane that is there from now on, or that none is. That which was there stays with its peer; the peer of any other goes.
+pub(crate) fn live(making: &mut Option<Making>, life: Option<u64>)
+    ensures lives { life_in making.new ≡ life }
+    ensures stays { life_in making.old ≡ life → making.new ≡ making.old }
+    ensures goes { life_in making.old ≢ life → peer_in making.new ≡ None }
+{
+    let was = match making {
+        None => None,
+        Some(making) => Some(making.life),
+    };
+    if was != life {
+        *making = match life {
+            None => None,
+            Some(life) => Some(Making {
+                life,
+                peer: Peer::none(),
+            }),
+        };
+    }
+}
+
+impl Peer {
+    /// No program came yet.
+    pub(crate) fn none() -> Peer
+        ensures none { result.stream ≡ None }
+    {
+        Peer { stream: None }
+    }
+
+    /// Whether a program came.
+    pub(crate) fn is_there(&self) -> bool
+        ensures there { result ≡ is_some self.now.stream }
+    {
+        self.stream.is_some()
+    }
+
+    /// Lets the program go.
+    pub(crate) fn let_go(&mut self)
+        ensures none { self.new.stream ≡ None }
+    {
+        self.stream = None;
+    }
+
+    /// Takes the next program that waits, where there is none.
+    pub(crate) fn accept(&mut self, listener: &UnixListener, registry: &Registry)
+        ensures one { IfSome self.old.stream (λ _. self.new ≡ self.old) }
+    {
+        if self.stream.is_some() {
+            return;
+        }
+        let Ok((mut stream, _)) = listener.accept() else {
+            return;
+        };
+        // Where it isn't reported, a wait ends by its time alone.
+        let _ = registry.register(
+            &mut stream,
+            Token(0),
+            Interest::READABLE | Interest::WRITABLE,
+        );
+        self.stream = Some(stream);
+    }
+
+    /// What the program wrote, or nothing. One that is gone is let go.
+    pub(crate) fn hear(&mut self, buf: &mut [u8]) -> Option<usize>
+        ensures some { IfSome result (λ n. 0 < n) }
+        ensures within { IfSome result (λ n. n ≤ length buf.new) }
+        ensures from { IfSome result (λ _. IsSome self.old.stream × (self.new ≡ self.old)) }
+        ensures one { (self.new ≡ self.old) ⊎ (self.new.stream ≡ None) }
+    {
+        let answer = self.stream.as_mut()?.read(buf);
+        if is_gone(&answer) {
+            self.stream = None;
+            return None;
+        }
+        answer.ok()
+    }
+
+    /// How many of the bytes the program took, 0 where none is there. One that has failed is let go.
+    pub(crate) fn tell(&mut self, bytes: &[u8]) -> usize
+        ensures within { result ≤ length bytes.now }
+        ensures from { 0 < result → IsSome self.old.stream × (self.new ≡ self.old) }
+        ensures one { (self.new ≡ self.old) ⊎ (self.new.stream ≡ None) }
+    {
+        let Some(stream) = self.stream.as_mut() else {
+            return 0;
+        };
+        let answer = stream.write(bytes);
+        if has_failed(&answer) {
+            self.stream = None;
+        }
+        answer.unwrap_or(0)
+    }
+}
+
+/// What the program of a pane wrote: how many bytes of `buf` it fills from the front; a pane that isn't there takes no peer, and is told
+/// nothing.
+pub(crate) fn read(
+    making: &mut Option<Making>,
+    listener: &UnixListener,
+    registry: &Registry,
+    buf: &mut [u8],
+) -> Option<usize>
+    ensures some { IfSome result (λ n. 0 < n) }
+    ensures within { IfSome result (λ n. n ≤ length buf.new) }
+    ensures from { IfSome result (λ _. IsSome (peer_in making.new)) }
+    ensures life { life_in making.new ≡ life_in making.old }
+    ensures one { IfSome (peer_in making.old) (λ _. (making.new ≡ making.old) ⊎ (peer_in making.new ≡ None)) }
+{
+    let making = making.as_mut()?;
+    making.peer.accept(listener, registry);
+    making.peer.hear(buf)
+}
+
+/// How many of the bytes the program of a pane took, 0 where none is there.
+pub(crate) fn write(
+    making: &mut Option<Making>,
+    listener: &UnixListener,
+    registry: &Registry,
+    bytes: &[u8],
+) -> usize
+    ensures within { result ≤ length bytes.now }
+    ensures from { 0 < result → IsSome (peer_in making.new) }
+    ensures life { life_in making.new ≡ life_in making.old }
+    ensures one { IfSome (peer_in making.old) (λ _. (making.new ≡ making.old) ⊎ (peer_in making.new ≡ None)) }
+{
+    let Some(making) = making.as_mut() else {
+        return 0;
+    };
+    making.peer.accept(listener, registry);
+    making.peer.tell(bytes)
+}

@@ -1,0 +1,299 @@
+//! The ports of a server over sockets. What they carried isn't told.
+ghost use Rattle.std.specs.Prelude.{◌≡◌, ◌≢◌, ◌⊎◌, ◌<◌, ◌≤◌, [], ℕ, true, false, length, map, string_bytes, is_some, nat_lt, None, IfOk, IfSome, IfErr};
+ghost use Rattle.std.specs.List.{All};
+ghost use Rattle.std.specs.Option.{option_map};
+ghost use Rattle.roam_links.specs.Clients.{Accepts};
+ghost use Rattle.roam_links.specs.declared.udp.Udp.{Udp as UdpOf};
+ghost use Rattle.roam_serving.specs.Following.{IsFresh, Tells, panes_path};
+ghost use Rattle.roam_serving.specs.Panes.{IsPortOf, clients_path, paths_of};
+ghost use Rattle.roam_serving.specs.Peers.{Asks, Changes, Lives};
+
+use crate::following::Follower;
+use crate::panes::Panes;
+use roam_cells::Fault;
+use roam_faults::RunFault;
+use roam_hub::Addr;
+use roam_links::{Clients, Moments, Udp, Waits};
+use roam_pane_list::PaneList;
+use roam_turns::Ports;
+use std::alloc::Global;
+use std::fs::Files;
+use std::net::Net;
+use std::time::Clock;
+
+/// How many milliseconds a program waits at most where a turn brought nothing.
+pub(crate) const LONGEST_WAIT: u64 = 10;
+
+/// How long it waits where datagrams are kept back so that they go at a pace.
+const PACE_WAIT: u64 = 1;
+
+/// It is looked so often whether somebody waits at the sockets, where no wait told.
+const LOOKS: u64 = 20;
+
+/// The ports of a server: the streams of its client starts, UDP on loopback where a port was asked for, the sockets of its panes, a clock.
+#[derive(Drop)]
+pub struct ServerPorts<R> {
+    moments: Moments<R>,
+    moment: u64,
+    waits: Waits,
+    udp: Option<Udp>,
+    clients: Clients,
+    panes: Panes,
+    follower: Follower,
+    is_udp_next: bool,
+    looked: u64,
+}
+
+// Binds the sockets beside those of the panes. `Bind` where one can't be bound, `OutOfMemory`; then none stays.
+fn bind_others<R: Files + Net>(
+    rt: &R,
+    alloc: Global,
+    waits: &Waits,
+    folder: &str,
+) -> Result<(Follower, Clients), RunFault>
+    ensures follower { IfOk result (λ bound. IsFresh bound.0 × (string_bytes bound.0.path ≡ panes_path folder.now)) }
+    ensures clients { IfOk result (λ bound. (string_bytes bound.1.path ≡ clients_path folder.now) × (bound.1.last ≡ 0)) }
+    ensures faults { IfErr result (λ fault. (fault ≡ RunFault.Bind) ⊎ (fault ≡ RunFault.Core Fault.OutOfMemory)) }
+{
+    let Ok(path) = format!(in alloc; "{folder}/clients") else {
+        return Err(RunFault::Core(Fault::OutOfMemory));
+    };
+    let follower = Follower::bind(rt, alloc, waits.registry(), folder)?;
+    match Clients::bind(rt, alloc, waits, path) {
+        Ok(clients) => Ok((follower, clients)),
+        Err(fault) => {
+            follower.remove(rt);
+            Err(fault)
+        }
+    }
+}
+
+// Binds a UDP port where one is asked for.
+fn bind_udp(
+    net: &impl Net,
+    alloc: Global,
+    waits: &Waits,
+    port: Option<u16>,
+) -> Result<Option<Udp>, RunFault>
+    ensures port { IfOk result (λ udp. IsPortOf port udp) }
+    ensures faults { IfErr result (λ fault. fault ≡ RunFault.Bind) }
+{
+    match port {
+        None => Ok(None),
+        Some(port) => {
+            let udp = Udp::bind(net, alloc, waits, port)?;
+            Ok(Some(udp))
+        }
+    }
+}
+
+// A datagram that came to a UDP port, where there is one.
+fn receive_udp(udp: &mut Option<Udp>, buf: &mut [u8]) -> Option<(Addr, usize)>
+    ensures within { IfSome result (λ r. r.1 ≤ length buf.new) }
+{
+    udp.as_mut()?.receive(buf)
+}
+
+// Sends a datagram by UDP, where there is a port for it.
+fn send_udp(udp: &mut Option<Udp>, to: Addr, bytes: &[u8], now: u64) -> bool {
+    match udp {
+        None => false,
+        Some(udp) => udp.send(to, bytes, now),
+    }
+}
+
+// Sends what waits by UDP, as much as may go at this moment, and tells whether that was all.
+fn flush_udp(udp: &mut Option<Udp>, now: u64) -> bool {
+    match udp {
+        None => true,
+        Some(udp) => udp.flush(now),
+    }
+}
+
+impl<R: Clock + Drop> ServerPorts<R> {
+    /// Binds in a folder the sockets `p1` to `p9`, of panes that aren't there yet, `panes`, where a program follows them, and `clients`,
+    /// for client starts; and where it is asked for a port of this machine, any that is free where it is 0. `Bind` where one can't be
+    /// bound, or the folder has no name; `OutOfMemory`; then nothing stays.
+    pub fn bind<N: Files + Net>(
+        rt: &N,
+        alloc: Global,
+        folder: &str,
+        port: Option<u16>,
+        moments: Moments<R>,
+    ) -> Result<ServerPorts<R>, RunFault>
+        ensures moments { IfOk result (λ ports. ports.moments ≡ moments) }
+        ensures port { IfOk result (λ ports. IsPortOf port ports.udp) }
+        ensures nine { IfOk result (λ ports. length ports.panes.all.items ≡ 9) }
+        ensures none { IfOk result (λ ports. All (λ pane. pane.making ≡ None) ports.panes.all.items) }
+        ensures named { IfOk result (λ _. folder.now ≢ []) }
+        ensures paths { IfOk result (λ ports. map (λ pane. string_bytes pane.path) ports.panes.all.items ≡ paths_of folder.now 9) }
+        ensures follower { IfOk result (λ ports. IsFresh ports.follower × (string_bytes ports.follower.path ≡ panes_path folder.now)) }
+        ensures clients { IfOk result (λ ports. (string_bytes ports.clients.path ≡ clients_path folder.now) × (ports.clients.last ≡ 0)) }
+        ensures faults { IfErr result (λ fault. (fault ≡ RunFault.Bind) ⊎ (fault ≡ RunFault.Core Fault.OutOfMemory)) }
+    {
+        let waits = Waits::new(rt, alloc)?;
+        let udp = bind_udp(rt, alloc, &waits, port)?;
+        let panes = Panes::bind(rt, alloc, waits.registry(), folder)?;
+        match bind_others(rt, alloc, &waits, folder) {
+            Ok((follower, clients)) => Ok(ServerPorts {
+                moments,
+                moment: 0,
+                waits,
+                udp,
+                clients,
+                panes,
+                follower,
+                is_udp_next: false,
+                looked: 0,
+            }),
+            Err(fault) => {
+                panes.remove(rt);
+                Err(fault)
+            }
+        }
+    }
+
+    /// The UDP port that it is bound to, where there is one.
+    pub fn port(&self) -> Option<u16>
+        ensures port { result ≡ option_map (λ (udp : UdpOf). udp.port) self.now.udp }
+    {
+        match &self.udp {
+            None => None,
+            Some(udp) => Some(udp.port()),
+        }
+    }
+
+    /// Sets the moment, in milliseconds.
+    pub fn set_moment(&mut self, moment: u64)
+        ensures moment { self.new ≡ record self.old { moments = Moments.Set moment } }
+    {
+        self.moments = Moments::Set(moment);
+    }
+
+    // Takes client starts that wait at their socket, once in 20 milliseconds and after each wait.
+    fn look(&mut self, alloc: Global, has_waited: bool)
+        ensures clients { Accepts self.old.clients self.new.clients }
+        ensures panes { self.new.panes ≡ self.old.panes }
+        ensures waits { self.new.waits ≡ self.old.waits }
+    {
+        if has_waited || self.moment.wrapping_sub(self.looked) >= LOOKS {
+            self.clients.accept(alloc, &self.waits);
+            self.looked = self.moment;
+        }
+    }
+
+    /// Writes what waits for client starts, takes those that come, and waits until something comes, ten milliseconds at most, where nothing
+    /// came since the last call.
+    pub fn rest(&mut self, alloc: Global)
+        ensures quiet { self.new.waits.quiet ≡ true }
+        ensures panes { self.new.panes ≡ self.old.panes }
+    {
+        if !self.clients.flush() {
+            self.waits.stir();
+        }
+        let is_paced = !flush_udp(&mut self.udp, self.moment);
+        let waits = self.waits.is_quiet();
+        self.waits
+            .rest(if is_paced { PACE_WAIT } else { LONGEST_WAIT });
+        self.look(alloc, waits);
+    }
+
+    /// Tells the program that follows the session's panes what is new of them; one that comes is told all.
+    pub fn tell_panes(&mut self, alloc: Global, now: &PaneList)
+        ensures tells { IfSome self.new.follower.peer.stream (λ _. Tells now.now self.old.follower self.new.follower) }
+        ensures panes { self.new.panes ≡ self.old.panes }
+    {
+        self.follower.tell(alloc, self.waits.registry(), now);
+    }
+
+    // A datagram from the streams or from the port, whichever is to be asked first now, or else from the other.
+    fn receive_next(&mut self, buf: &mut [u8]) -> Option<(Addr, usize)>
+        ensures within { IfSome result (λ r. r.1 ≤ length buf.new) }
+        ensures panes { self.new.panes ≡ self.old.panes }
+        ensures waits { self.new.waits ≡ self.old.waits }
+    {
+        self.is_udp_next = !self.is_udp_next;
+        if self.is_udp_next {
+            return match receive_udp(&mut self.udp, buf) {
+                Some(came) => Some(came),
+                None => self.clients.receive(buf),
+            };
+        }
+        match self.clients.receive(buf) {
+            Some(came) => Some(came),
+            None => receive_udp(&mut self.udp, buf),
+        }
+    }
+
+    /// Removes the files of the sockets.
+    pub fn remove(&self, files: &impl Files) {
+        self.panes.remove(files);
+        self.follower.remove(files);
+        self.clients.remove(files);
+    }
+}
+
+impl<R: Clock + Drop> Ports for ServerPorts<R> {
+    fn now(&mut self) -> u64
+        ensures set { (moment : ℕ) → self.old.moments ≡ Moments.Set moment → result ≡ moment }
+        ensures panes { self.new.panes ≡ self.old.panes }
+    {
+        self.moment = self.moments.now();
+        self.moment
+    }
+
+    // Streams and the port bring a datagram each in their turn.
+    fn receive(&mut self, buf: &mut [u8]) -> Option<(Addr, usize)>
+        ensures within { IfSome result (λ r. r.1 ≤ length buf.new) }
+        ensures stirs { IfSome result (λ _. self.new.waits.quiet ≡ false) }
+        ensures panes { self.new.panes ≡ self.old.panes }
+    {
+        let came = self.receive_next(buf)?;
+        self.waits.stir();
+        Some(came)
+    }
+
+    fn send(&mut self, to: Addr, bytes: &[u8]) -> bool {
+        if to.host[0] == 0 {
+            self.clients.send(to, bytes)
+        } else {
+            send_udp(&mut self.udp, to, bytes, self.moment)
+        }
+    }
+
+    fn pane_lives(&mut self, pane: u8, life: Option<u64>)
+        ensures lives { Changes (Lives life) pane self.old.panes.all.items self.new.panes.all.items }
+        ensures waits { self.new.waits ≡ self.old.waits }
+    {
+        self.panes.live(pane, life);
+    }
+
+    fn pane_in(&mut self, pane: u8, buf: &mut [u8]) -> Option<usize>
+        ensures some { IfSome result (λ n. 0 < n) }
+        ensures within { IfSome result (λ n. n ≤ length buf.new) }
+        ensures asks { Changes (Asks (is_some result)) pane self.old.panes.all.items self.new.panes.all.items }
+        ensures stirs { IfSome result (λ _. self.new.waits.quiet ≡ false) }
+    {
+        let count = self.panes.read(self.waits.registry(), pane, buf)?;
+        self.waits.stir();
+        Some(count)
+    }
+
+    fn pane_out(&mut self, pane: u8, bytes: &[u8]) -> usize
+        ensures within { result ≤ length bytes.now }
+        ensures asks { Changes (Asks (nat_lt 0 result)) pane self.old.panes.all.items self.new.panes.all.items }
+        ensures stirs { 0 < result → self.new.waits.quiet ≡ false }
+    {
+        let count = self.panes.write(self.waits.registry(), pane, bytes);
+        if count > 0 {
+            self.waits.stir();
+        }
+        count
+    }
+
+    fn show(&mut self, _bytes: &[u8]) -> bool
+        ensures none { result ≡ false }
+    {
+        false
+    }
+}

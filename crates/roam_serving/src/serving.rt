@@ -1,0 +1,159 @@
+//! `roam serve`: a server round its sockets.
+ghost use Rattle.std.specs.Prelude.{◌≡◌, ◌⊎◌, ℕ, Some, Ok, IfErr, IsOkUnless};
+ghost use Rattle.roam_session.specs.Lives.{life_of};
+ghost use Rattle.roam_session.specs.Places.{rect_at};
+ghost use Rattle.roam_world.specs.Servers.{Server as ServerOf};
+ghost use Rattle.roam_hub.specs.Servers.{Stands};
+ghost use Rattle.roam_serving.specs.Following.{ArePanesOf, pane_of};
+
+use crate::attaching::random_id;
+use crate::server_ports::ServerPorts;
+use roam_cells::Fault;
+use roam_faults::RunFault;
+use roam_hub::Server;
+use roam_links::{Moments, is_own, write_alone};
+use roam_pane_list::{ListedPane, PaneList};
+use roam_turns::serve_turn;
+use std::alloc::Global;
+use std::fs::{Files, remove_file};
+use std::net::Net;
+use std::random::RandomSource;
+use std::time::Clock;
+
+/// What `roam serve` is asked for.
+#[derive(Clone, Copy, Debug, PartialEq, Eq)]
+pub struct Serve<'a> {
+    /// The folder of its sockets; one without a name is none.
+    pub folder: &'a str,
+    /// The UDP port on loopback, where there is to be one; any that is free where it is 0.
+    pub port: Option<u16>,
+    /// The session's id; where it isn't given, one by chance.
+    pub session: Option<u64>,
+    /// How many turns the run takes.
+    pub turns: u64,
+}
+
+// A pane of a server, where it is there.
+fn pane_of(server: &Server, pane: u8) -> Option<ListedPane>
+    ensures pane { (s : ServerOf) → Stands server.now s → result ≡ pane_of (life_of s.size s.log pane) (rect_at s.size s.log pane) }
+{
+    match (server.life(pane), server.rect(pane)) {
+        (Some(life), Some(rect)) => Some(ListedPane {
+            life,
+            rows: rect.rows,
+            cols: rect.cols,
+        }),
+        _ => None,
+    }
+}
+
+// The panes of a server, and the one in focus.
+fn panes_of(server: &Server) -> PaneList
+    ensures panes { (s : ServerOf) → Stands server.now s → ArePanesOf s result }
+{
+    let mut panes = PaneList::unknown();
+    for pane in 1..10u8 {
+        panes.set(pane, pane_of(server, pane));
+    }
+    panes.set_focus(server.focus());
+    panes
+}
+
+// Takes the turns of a server, tells after each who follows the panes, and waits where one brought nothing.
+fn serve_turns<C: Clock + Drop>(
+    alloc: Global,
+    turns: u64,
+    server: &mut Server,
+    ports: &mut ServerPorts<C>,
+) {
+    for _ in 0..turns {
+        serve_turn(alloc, server, ports);
+        ports.tell_panes(alloc, &panes_of(server));
+        ports.rest(alloc);
+    }
+}
+
+// Tells on standard error which port was taken, where any that was free was asked for.
+fn tell_port(rt: &impl Eprint, asked: Option<u16>, port: Option<u16>) {
+    if let (Some(0), Some(port)) = (asked, port) {
+        // There is nowhere else to say it.
+        let _ = eprintln!(rt; "roam: port {port}");
+    }
+}
+
+// Writes the session's id to the file `session` of the folder, which the user alone may read. `Bind` where it can't be, `OutOfMemory`.
+fn write_session<R: Files + AllocGlobal>(rt: &R, folder: &str, session: u64) -> Result<(), RunFault>
+    ensures faults { IfErr result (λ fault. (fault ≡ RunFault.Bind) ⊎ (fault ≡ RunFault.Core Fault.OutOfMemory)) }
+{
+    let (Ok(beside), Ok(path), Ok(text)) = (
+        format!(in rt.alloc(); "{folder}/session.new"),
+        format!(in rt.alloc(); "{folder}/session"),
+        format!(in rt.alloc(); "{session:x}\n"),
+    ) else {
+        return Err(RunFault::Core(Fault::OutOfMemory));
+    };
+    match write_alone(rt, beside.as_str(), path.as_str(), text.as_bytes()) {
+        Ok(()) => Ok(()),
+        Err(_) => Err(RunFault::Bind),
+    }
+}
+
+// Removes that file.
+fn remove_session<R: Files + AllocGlobal>(rt: &R, folder: &str) {
+    if let Ok(path) = format!(in rt.alloc(); "{folder}/session") {
+        // A file that somebody removed before is no matter.
+        let _ = remove_file(rt, path.as_str());
+    }
+}
+
+// Takes the turns of a session round ports that are bound, and removes the sockets' files.
+fn serve_bound<R: Files + Net + Clock + Eprint + AllocGlobal>(
+    rt: &R,
+    serve: &Serve<'_>,
+    session: u64,
+    server: &mut Server,
+) -> Result<(), RunFault>
+    ensures faults { IfErr result (λ fault. (fault ≡ RunFault.Bind) ⊎ (fault ≡ RunFault.Core Fault.OutOfMemory)) }
+{
+    let alloc = rt.alloc();
+    let mut ports = ServerPorts::bind(rt, alloc, serve.folder, serve.port, Moments::real(rt))?;
+    let written = write_session(rt, serve.folder, session);
+    if written.is_ok() {
+        tell_port(rt, serve.port, ports.port());
+        serve_turns(alloc, serve.turns, server, &mut ports);
+        remove_session(rt, serve.folder);
+    }
+    ports.remove(rt);
+    written
+}
+
+// The session's id.
+fn session_for(chance: &impl RandomSource, serve: &Serve<'_>) -> Result<u64, RunFault>
+    ensures given { (id : ℕ) → serve.now.session ≡ Some id → result ≡ Ok id }
+    ensures fault { IsOkUnless result RunFault.Read }
+{
+    match serve.session {
+        Some(session) => Ok(session),
+        None => random_id(chance),
+    }
+}
+
+/// Serves a session of 24 rows and 80 columns: binds the sockets `p1` to `p9`, `panes` and `clients` of the folder, and a UDP port where
+/// one is asked for, writes the session's id to the file `session` there, which the user alone may read, takes the turns, waiting where one
+/// brought nothing, and removes these files. A socket's file to which nobody listens is removed before; the port is told on standard error
+/// where any that is free was asked for. The folder has to be the user's own, and without a port nobody else may enter it. `Bind` where it
+/// isn't so, or a name can't be bound, and nothing stays then; `Read` where the system has no id by chance; `OutOfMemory`.
+pub fn run_serve<R: Files + Net + Clock + RandomSource + Eprint + AllocGlobal>(
+    rt: &R,
+    serve: &Serve<'_>,
+) -> Result<(), RunFault>
+    ensures faults { IfErr result (λ fault. (fault ≡ RunFault.Bind) ⊎ (fault ≡ RunFault.Core Fault.OutOfMemory) ⊎ (fault ≡ RunFault.Read)) }
+{
+    if !is_own(rt, serve.folder, serve.port.is_none()) {
+        return Err(RunFault::Bind);
+    }
+    let session = session_for(rt, serve)?;
+    let mut server = Server::new(rt.alloc(), session, 24, 80)?;
+    serve_bound(rt, serve, session, &mut server)?;
+    Ok(())
+}

@@ -1,2 +1,0 @@
-mod Bound
-mod Running

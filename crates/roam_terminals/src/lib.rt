@@ -1,0 +1,16 @@
+//! The outer terminals of a client start: programs at the other end of streams, whose lines of acts are typed there, and to which goes what
+//! is painted of what it shows.
+#![tactic(auto)]
+
+pub mod laws;
+mod lines;
+mod painter;
+mod silence;
+mod terminal;
+mod terminals;
+
+pub use lines::{Front, LONGEST_LINE, Lines};
+pub use painter::Painter;
+pub use silence::{End, Silence, notice};
+pub use terminal::Terminal;
+pub use terminals::{MOST_TERMINALS, Terminals};

@@ -1,0 +1,310 @@
+//! An outer terminal: the stream at its other end, the lines that came, and what waits to be written.
+
+use crate::lines::{Front, Lines};
+use crate::painter::Painter;
+use crate::silence::{Silence, notice};
+use roam_acts::Act;
+use roam_acts::limits::MOST_ACTS;
+use roam_cells::Fault;
+use roam_frames::Outbox;
+use roam_hub::{Addr, Client};
+use roam_turns::{Outer, Ports, attach_turn};
+use roam_typing::{Entry, read_entry};
+use std::alloc::Global;
+use std::io;
+use std::io::{ErrorKind, Read, Write};
+
+/// How many bytes are read at once at most.
+const PIECE: usize = 1024;
+
+/// So many pieces are more than a line.
+const MOST_READS: u32 = 4;
+
+/// How many pieces of what waits are written in a round at most.
+const MOST_WRITES: u32 = 16;
+
+/// After how many milliseconds a terminal is let go that takes nothing of what waits.
+const LONGEST_STUCK: u64 = 60_000;
+
+/// How far a terminal came.
+#[derive(Clone, Copy, Debug, PartialEq, Eq)]
+pub(crate) enum State {
+    /// It is there.
+    Here,
+
+    /// It left: the lines that came whole are taken, and then it goes.
+    Left,
+
+    /// A line of it was refused: it goes once it was told so.
+    Refused,
+
+    /// It is to be let go.
+    Gone,
+}
+
+/// What became of the line of a terminal that stood first.
+#[derive(Clone, Copy, Debug, PartialEq, Eq)]
+pub(crate) enum Taking {
+    /// None stood there.
+    Nothing,
+
+    /// It was taken.
+    Line,
+
+    /// It was taken, and ends the start.
+    End,
+
+    /// It waits until acts are acknowledged.
+    Waits,
+
+    /// It waits since there was no memory.
+    NoMemory,
+}
+
+/// An outer terminal of a client start.
+#[derive(Drop)]
+pub struct Terminal<S> {
+    pub(crate) stream: S,
+    pub(crate) lines: Lines,
+    pub(crate) outer: Outer,
+    pub(crate) waiting: Outbox,
+    pub(crate) watches: bool,
+    pub(crate) told: Option<u64>,
+    pub(crate) stuck: Option<u64>,
+    pub(crate) state: State,
+}
+
+// Whether a read or a write that failed so may go on later.
+fn is_for_now(error: &io::Error) -> bool {
+    matches!(error.kind(), ErrorKind::WouldBlock | ErrorKind::Interrupted)
+}
+
+impl<S: Read + Write + Drop> Terminal<S> {
+    /// A terminal at the other end of a stream: nothing came, nothing is known of it, and nothing waits.
+    pub fn new(alloc: Global, stream: S) -> Terminal<S> {
+        Terminal {
+            stream,
+            lines: Lines::new(alloc),
+            outer: Outer::new(),
+            waiting: Outbox::new(alloc),
+            watches: false,
+            told: None,
+            stuck: None,
+            state: State::Here,
+        }
+    }
+
+    /// Whether it is to be let go.
+    pub fn is_gone(&self) -> bool {
+        match self.state {
+            State::Gone => true,
+            State::Left => self.lines.first().is_none(),
+            State::Here | State::Refused => false,
+        }
+    }
+
+    /// Whether something waits to be written.
+    pub fn is_waiting(&self) -> bool {
+        self.waiting.len() > 0
+    }
+
+    // Reads a piece, and tells whether one came.
+    fn read_piece(&mut self) -> bool {
+        let mut piece = [0; PIECE];
+        match self.stream.read(&mut piece) {
+            Ok(0) => self.state = State::Left,
+            Ok(count) => {
+                if self.lines.came(&piece[..count]).is_ok() {
+                    return true;
+                }
+                self.state = State::Gone;
+            }
+            Err(error) => {
+                if !is_for_now(&error) {
+                    self.state = State::Left;
+                }
+            }
+        }
+        false
+    }
+
+    // Reads until a line stands first or nothing more comes now.
+    fn read_line(&mut self, alloc: Global) {
+        for _ in 0..MOST_READS {
+            if self.state != State::Here {
+                return;
+            }
+            match self.lines.front() {
+                Front::Line(_) => return,
+                Front::TooLong => return self.refuse(alloc, Fault::BadAct),
+                Front::Part => {
+                    if !self.read_piece() {
+                        return;
+                    }
+                }
+            }
+        }
+    }
+
+    // Tells the terminal why its next line isn't taken, behind what waits, where there is memory for it.
+    fn refuse(&mut self, alloc: Global, fault: Fault) {
+        self.state = State::Refused;
+        let number = self.lines.count().saturating_add(1);
+        if let Ok(text) = format!(in alloc; "\r\nroam: line {number}: {fault}\r\n") {
+            let _ = self.waiting.push(text.as_bytes());
+        }
+    }
+
+    // Types the acts of the line that stands first, all or none.
+    fn type_acts(&mut self, client: &mut Client, acts: &[Act]) -> Taking {
+        if self.watches {
+            self.lines.took();
+            return Taking::Line;
+        }
+        if client.unacknowledged().saturating_add(acts.len()) > MOST_ACTS {
+            return Taking::Waits;
+        }
+        match client.typed_all(acts) {
+            Ok(()) => {
+                self.lines.took();
+                Taking::Line
+            }
+            Err(Fault::OutOfMemory) => Taking::NoMemory,
+            Err(_) => Taking::Waits,
+        }
+    }
+
+    // Does what the line that stands first asks for.
+    fn take_entry(&mut self, alloc: Global, client: &mut Client, entry: &Entry) -> Taking {
+        match entry {
+            Entry::Acts(acts) => self.type_acts(client, acts),
+            Entry::Repaint => {
+                self.outer = Outer::new();
+                self.lines.took();
+                Taking::Line
+            }
+            Entry::Watch if self.lines.count() == 0 => {
+                self.watches = true;
+                self.lines.took();
+                Taking::Line
+            }
+            Entry::Watch => {
+                self.refuse(alloc, Fault::BadAct);
+                Taking::Nothing
+            }
+            Entry::End => {
+                self.lines.took();
+                if self.watches { Taking::Line } else { Taking::End }
+            }
+        }
+    }
+
+    /// Reads what came, and does what the line that stands first asks for: its acts are typed at the start, all of them or none.
+    pub(crate) fn hear(&mut self, alloc: Global, client: &mut Client) -> Taking {
+        self.read_line(alloc);
+        if self.state == State::Refused || self.state == State::Gone {
+            return Taking::Nothing;
+        }
+        let Some(line) = self.lines.first() else {
+            return Taking::Nothing;
+        };
+        match read_entry(alloc, line) {
+            Ok(entry) => self.take_entry(alloc, client, &entry),
+            Err(fault) => {
+                self.refuse(alloc, fault);
+                Taking::Nothing
+            }
+        }
+    }
+
+    /// Whether it is to be painted now: all that was painted before is written, and it tells of no silence.
+    pub(crate) fn is_ready(&self) -> bool {
+        self.state == State::Here && self.told.is_none() && self.waiting.len() == 0
+    }
+
+    /// Takes a turn of the start with it: what is painted waits to be written, whole.
+    pub(crate) fn turn<P: Ports + Drop>(
+        &mut self,
+        alloc: Global,
+        client: &mut Client,
+        painter: &mut Painter<P>,
+        to: Addr,
+    ) {
+        attach_turn(alloc, client, &mut self.outer, painter, to, None);
+        painter.exchange(&mut self.waiting);
+    }
+
+    // Tells of so many seconds of silence, where there is memory; what it shows isn't known then.
+    fn tell(&mut self, alloc: Global, seconds: u64) {
+        let Ok(text) = notice(alloc, seconds) else {
+            return;
+        };
+        if self.waiting.push(&text).is_ok() {
+            self.told = Some(seconds);
+            self.outer = Outer::new();
+        }
+    }
+
+    /// Tells of a silence of ten seconds and more over the last row, once a second; where that is over, it is painted anew.
+    pub(crate) fn tell_silence(&mut self, alloc: Global, silence: Silence) {
+        let mut seen = silence;
+        seen.tell(self.told);
+        if seen.is_over() {
+            self.told = None;
+            self.outer = Outer::new();
+        } else if self.waiting.len() == 0 && self.state == State::Here {
+            if let Some(seconds) = seen.due() {
+                self.tell(alloc, seconds);
+            }
+        }
+    }
+
+    // Writes a piece of what waits, and tells how much was taken.
+    fn write_piece(&mut self) -> usize {
+        let piece = self.waiting.as_slice();
+        if piece.is_empty() {
+            return 0;
+        }
+        match self.stream.write(piece) {
+            Ok(count) => {
+                let count = count.min(piece.len());
+                self.waiting.took(count);
+                count
+            }
+            Err(error) => {
+                if !is_for_now(&error) {
+                    self.state = State::Gone;
+                }
+                0
+            }
+        }
+    }
+
+    // Notes since when nothing of what waits is taken.
+    fn note_stuck(&mut self, has_taken: bool, now: u64) {
+        if self.waiting.len() == 0 {
+            self.stuck = None;
+            if self.state == State::Refused {
+                self.state = State::Gone;
+            }
+            return;
+        }
+        let since = if has_taken { now } else { self.stuck.unwrap_or(now) };
+        self.stuck = Some(since);
+        if now.saturating_sub(since) >= LONGEST_STUCK {
+            self.state = State::Gone;
+        }
+    }
+
+    /// Writes what waits, as much as the stream takes now. One that took nothing for a minute is let go.
+    pub(crate) fn flush(&mut self, now: u64) {
+        let mut has_taken = false;
+        for _ in 0..MOST_WRITES {
+            if self.write_piece() == 0 {
+                break;
+            }
+            has_taken = true;
+        }
+        self.note_stuck(has_taken, now);
+    }
+}
