@@ -1,6 +1,6 @@
 -- Who reads the lines knows what is so, and each says what wasn't known before it.
 use Rattle.std.proofs.Common.{◌≡◌, ℕ, zero, suc, ◌+◌, ◌-◌, ◌<◌, ◌≤◌, ◌⊎◌, inl, inr, Bool, true, false, ◌&&◌, cond, eqb, List, [], ◌∷◌, ◌++◌, Option, Some, None, refl, sym, ap, ◌∙◌, subst, arith}
-use Rattle.std.specs.Prelude.{◌≢◌, IsSome}
+use Rattle.std.specs.Prelude.{◌≢◌, IsSome, IfSome}
 use Rattle.std.specs.List.{fold}
 use Rattle.std.proofs.lemmas.Bool.{cases_eq, ne_eqb, eqb-true, eq-eqb, false≢true, and_parts}
 use Rattle.std.proofs.lemmas.List.Sums.{fold-append}
@@ -8,32 +8,56 @@ use Rattle.std.proofs.lemmas.Grind.{flat_map-append}
 use Rattle.roam_pane_list.specs.declared.pane_list.ListedPane.{ListedPane}
 use Rattle.roam_pane_list.specs.declared.pane_list.PaneList.{PaneList}
 use Rattle.roam_pane_list.specs.Known.{pane_at, is_same}
-use Rattle.roam_pane_list.specs.Lines.{Line, Here, Gone, Focus, line_text, lines_text, lines_for, lines_to, lines_of_focus, lines_between, Known, knows, after, IsNews, AreNews, Agrees, LinesArrive, LinesAreNews}
+use Rattle.roam_pane_list.specs.Lines.{Line, Here, Gone, Focus, Starts, Watchers, line_text, lines_text, lines_for, lines_to, lines_of_focus, count_to_tell, line_of_count, lines_of_counts, lines_between, Known, knows, after, IsNews, AreNews, Agrees, LinesArrive, LinesAreNews}
 
 same_is : (a b : ListedPane) → is_same a b ≡ true → a ≡ b
 same_is a b e =
-    let x = and_parts (eqb a.life b.life) _ e in
-    let y = and_parts (eqb a.rows b.rows) (eqb a.cols b.cols) x.1 in
-    λ i. record { life = eqb-true _ _ x.0 i; rows = eqb-true _ _ y.0 i; cols = eqb-true _ _ y.1 i }
+    let life = and_parts (eqb a.life b.life) _ e in
+    let row = and_parts (eqb a.row b.row) _ life.1 in
+    let col = and_parts (eqb a.col b.col) _ row.1 in
+    let size = and_parts (eqb a.rows b.rows) (eqb a.cols b.cols) col.1 in
+    λ i. record {
+      life = eqb-true _ _ life.0 i;
+      row = eqb-true _ _ row.0 i;
+      col = eqb-true _ _ col.0 i;
+      rows = eqb-true _ _ size.0 i;
+      cols = eqb-true _ _ size.1 i;
+    }
 
--- a follower knows this of a number, and of any other, and of the focus, what he knew
+-- a follower knows the same of all but the panes
+record SameRest (k m : Known) : Type 0 where
+  focus : m.focus ≡ k.focus
+  starts : m.starts ≡ k.starts
+  watchers : m.watchers ≡ k.watchers
+
+same_rest : (k : Known) → SameRest k k
+same_rest k = record { focus = refl; starts = refl; watchers = refl }
+
+rest_on : (k l m : Known) → SameRest k l → SameRest l m → SameRest k m
+rest_on k l m one more = record {
+  focus = more.focus ∙ one.focus;
+  starts = more.starts ∙ one.starts;
+  watchers = more.watchers ∙ one.watchers;
+}
+
+-- a follower knows this of a number, and of any other, and of all else, what he knew
 record Learns (q : ℕ) (o : Option ListedPane) (k m : Known) : Type 0 where
   pane : m.pane q ≡ o
   others : (p : ℕ) → (p ≡ q → ⊥) → m.pane p ≡ k.pane p
-  focus : m.focus ≡ k.focus
+  rest : SameRest k m
 
 here : (q : ℕ) (x : ListedPane) (k : Known) → Learns q (Some x) k (after k (Here q x))
 here q x k = record {
   pane = ap (λ b. cond b (Some x) (k.pane q)) (eq-eqb q q refl);
   others = λ p apart. ap (λ b. cond b (Some x) (k.pane p)) (ne_eqb p q apart);
-  focus = refl;
+  rest = record { focus = refl; starts = refl; watchers = refl };
 }
 
 gone : (q : ℕ) (k : Known) → Learns q None k (after k (Gone q))
 gone q k = record {
   pane = ap (λ b. cond b None (k.pane q)) (eq-eqb q q refl);
   others = λ p apart. ap (λ b. cond b None (k.pane p)) (ne_eqb p q apart);
-  focus = refl;
+  rest = record { focus = refl; starts = refl; watchers = refl };
 }
 
 -- ---- one pane
@@ -43,16 +67,20 @@ learned_by : (is_one lives : Bool) (q : ℕ) (x y : ListedPane) (k : Known) → 
 learned_by true lives q x y k e same = record {
   pane = e ∙ ap (λ (pane : ListedPane). Some pane) (same_is x y same);
   others = λ p apart. refl;
-  focus = refl;
+  rest = same_rest k;
 }
 learned_by false true q x y k e same = here q y k
 learned_by false false q x y k e same =
     let first = gone q k in
     let then = here q y (after k (Gone q)) in
-    record { pane = then.pane; others = λ p apart. then.others p apart ∙ first.others p apart; focus = refl }
+    record {
+      pane = then.pane;
+      others = λ p apart. then.others p apart ∙ first.others p apart;
+      rest = record { focus = refl; starts = refl; watchers = refl };
+    }
 
 learned : (q : ℕ) (x y : Option ListedPane) (k : Known) → k.pane q ≡ x → Learns q y k (fold after k (lines_for q x y))
-learned q None None k e = record { pane = e; others = λ p apart. refl; focus = refl }
+learned q None None k e = record { pane = e; others = λ p apart. refl; rest = same_rest k }
 learned q None (Some y) k e = here q y k
 learned q (Some x) None k e = gone q k
 learned q (Some x) (Some y) k e = learned_by (is_same x y) (eqb x.life y.life) q x y k e refl
@@ -63,8 +91,11 @@ same_as x (Some y) = is_same x y
 
 same_self : (x : ListedPane) → is_same x x ≡ true
 same_self x =
-    ap (λ b. b && (eqb x.rows x.rows && eqb x.cols x.cols)) (eq-eqb x.life x.life refl)
-    ∙ ap (λ b. b && eqb x.cols x.cols) (eq-eqb x.rows x.rows refl) ∙ eq-eqb x.cols x.cols refl
+    let row = eq-eqb x.row x.row refl in
+    let col = eq-eqb x.col x.col refl in
+    let rows = eq-eqb x.rows x.rows refl in
+    let cols = eq-eqb x.cols x.cols refl in
+    λ i. eq-eqb x.life x.life refl i && (row i && (col i && (rows i && cols i)))
 
 -- one that is known isn't one that differs
 differs : (x y : ListedPane) (o : Option ListedPane) → o ≡ Some x → is_same x y ≡ false → o ≢ Some y
@@ -99,12 +130,12 @@ news_both (x ∷ xs) ys k h more = (h.0, news_both xs ys (after k x) h.1 more)
 record Reaches (told now : ℕ → Option ListedPane) (first : Known) (n : ℕ) (k : Known) : Type 0 where
   low : (p : ℕ) → 1 ≤ p → p ≤ n → k.pane p ≡ now p
   high : (p : ℕ) → n < p → k.pane p ≡ told p
-  focus : k.focus ≡ first.focus
+  rest : SameRest first k
 
-module _ (told now : ℕ → Option ListedPane) (first : Known) (starts : (p : ℕ) → first.pane p ≡ told p) where
+module _ (told now : ℕ → Option ListedPane) (first : Known) (begins : (p : ℕ) → first.pane p ≡ told p) where
   reaches : (n : ℕ) → Reaches told now first n (fold after first (lines_to n told now))
   unfolding lines_to
-  reaches zero = record { low = λ p one none. absurd (omega (arith, one, none)); high = λ p h. starts p; focus = refl }
+  reaches zero = record { low = λ p one none. absurd (omega (arith, one, none)); high = λ p h. begins p; rest = same_rest first }
   reaches (suc n) =
       let was = reaches n in
       let q = suc n in
@@ -118,7 +149,7 @@ module _ (told now : ℕ → Option ListedPane) (first : Known) (starts : (p : �
               | inr apart ↦ step.others p apart ∙ was.low p one (omega (arith, le, apart))
             ];
         high = λ p h. step.others p (λ same. omega (arith, h, same)) ∙ was.high p (omega (arith, h));
-        focus = step.focus ∙ was.focus;
+        rest = rest_on first k (fold after k (lines_for q (told q) (now q))) was.rest step.rest;
       })
 
   all_news : (n : ℕ) → AreNews first (lines_to n told now)
@@ -131,34 +162,147 @@ module _ (told now : ℕ → Option ListedPane) (first : Known) (starts : (p : �
 
 -- ---- the focus
 
-focus_known : (b : Bool) (k : Known) (x y : ℕ) → k.focus ≡ x → eqb x y ≡ b
-    → ((fold after k (cond b [] (Focus y ∷ []))).focus ≡ y) × ((p : ℕ) → (fold after k (cond b [] (Focus y ∷ []))).pane p ≡ k.pane p)
-focus_known true k x y e same = (e ∙ eqb-true x y same, λ p. refl)
-focus_known false k x y e same = (refl, λ p. refl)
+-- a follower knows this focus, and of all else what he knew
+record Focuses (p : ℕ) (k m : Known) : Type 0 where
+  focus : m.focus ≡ p
+  pane : (q : ℕ) → m.pane q ≡ k.pane q
+  starts : m.starts ≡ k.starts
+  watchers : m.watchers ≡ k.watchers
+
+focus_known : (b : Bool) (k : Known) (x y : ℕ) → k.focus ≡ x → eqb x y ≡ b → Focuses y k (fold after k (cond b [] (Focus y ∷ [])))
+focus_known true k x y e same = record { focus = e ∙ eqb-true x y same; pane = λ q. refl; starts = refl; watchers = refl }
+focus_known false k x y e same = record { focus = refl; pane = λ q. refl; starts = refl; watchers = refl }
 
 focus_news : (b : Bool) (k : Known) (x y : ℕ) → k.focus ≡ x → eqb x y ≡ b → AreNews k (cond b [] (Focus y ∷ []))
 focus_news true k x y e same = tt
 focus_news false k x y e apart = ((λ h. false≢true (sym apart ∙ eq-eqb x y (sym e ∙ h))), tt)
 
--- ---- both
+-- ---- how many client starts there are
+
+-- who knew this number, and is told another where there is one, knows it where it is known
+count_known : (b : Bool) (told now : ℕ) → eqb told now ≡ b → (known : Option ℕ) → known ≡ Some told
+    → (then : Option ℕ → Option ℕ) → ((n : ℕ) → then (Some n) ≡ Some n) → then None ≡ known → then (cond b None (Some now)) ≡ Some now
+count_known true told now same known e then some none = none ∙ e ∙ ap (λ (n : ℕ). Some n) (eqb-true told now same)
+count_known false told now apart known e then some none = some now
+
+count_arrives : (told now known : Option ℕ) → known ≡ told → (then : Option ℕ → Option ℕ) → ((n : ℕ) → then (Some n) ≡ Some n)
+    → then None ≡ known → IfSome now (λ n. then (count_to_tell told now) ≡ Some n)
+count_arrives told None known e then some none = tt
+count_arrives None (Some now) known e then some none = some now
+count_arrives (Some told) (Some now) known e then some none = count_known (eqb told now) told now refl known e then some none
+
+-- a number that is told wasn't known
+count_news_by : (b : Bool) (told now : ℕ) → eqb told now ≡ b → (known : Option ℕ) → known ≡ Some told
+    → IfSome (cond b None (Some now)) (λ n. known ≢ Some n)
+count_news_by true told now same known e = tt
+count_news_by false told now apart known e = λ h. let one : Some told ≡ Some now = sym e ∙ h in false≢true (sym apart ∙ eq-eqb told now cc)
+
+count_news : (told now known : Option ℕ) → known ≡ told → IfSome (count_to_tell told now) (λ n. known ≢ Some n)
+count_news told None known e = tt
+count_news None (Some now) known e = λ h. let other : None ≡ Some now = sym e ∙ h in absurd cc
+count_news (Some told) (Some now) known e = count_news_by (eqb told now) told now refl known e
+
+starts_told : (o : Option ℕ) (k : Known) → IfSome o (λ n. k.starts ≢ Some n) → AreNews k (line_of_count Starts o)
+starts_told None k h = tt
+starts_told (Some n) k h = (h, tt)
+
+watchers_told : (o : Option ℕ) (k : Known) → IfSome o (λ n. k.watchers ≢ Some n) → AreNews k (line_of_count Watchers o)
+watchers_told None k h = tt
+watchers_told (Some n) k h = (h, tt)
+
+-- a follower who is told a number of starts knows of all else what he knew
+record Counts (k m : Known) : Type 0 where
+  focus : m.focus ≡ k.focus
+  pane : (q : ℕ) → m.pane q ≡ k.pane q
+
+starts_kept : (o : Option ℕ) (k : Known) → Counts k (fold after k (line_of_count Starts o))
+    × ((fold after k (line_of_count Starts o)).watchers ≡ k.watchers)
+starts_kept None k = (record { focus = refl; pane = λ q. refl }, refl)
+starts_kept (Some n) k = (record { focus = refl; pane = λ q. refl }, refl)
+
+watchers_kept : (o : Option ℕ) (k : Known) → Counts k (fold after k (line_of_count Watchers o))
+    × ((fold after k (line_of_count Watchers o)).starts ≡ k.starts)
+watchers_kept None k = (record { focus = refl; pane = λ q. refl }, refl)
+watchers_kept (Some n) k = (record { focus = refl; pane = λ q. refl }, refl)
+
+is_some_as : (o a b : Option ℕ) → a ≡ b → IfSome o (λ n. a ≡ Some n) → IfSome o (λ n. b ≡ Some n)
+is_some_as o a b e h = subst (λ (x : Option ℕ). IfSome o (λ n. x ≡ Some n)) e h
+
+counts_arrive : (told now : PaneList) (k : Known) → k.starts ≡ told.starts → k.watchers ≡ told.watchers
+    → (Counts k (fold after k (lines_of_counts told now))
+    × IfSome now.starts (λ n. (fold after k (lines_of_counts told now)).starts ≡ Some n)
+    × IfSome now.watchers (λ n. (fold after k (lines_of_counts told now)).watchers ≡ Some n))
+counts_arrive told now k e f =
+    let s = count_to_tell told.starts now.starts in
+    let w = count_to_tell told.watchers now.watchers in
+    let l = fold after k (line_of_count Starts s) in
+    let one = starts_kept s k in
+    let more = watchers_kept w l in
+    let started : IfSome now.starts (λ n. l.starts ≡ Some n) =
+    count_arrives told.starts now.starts k.starts e (λ (o : Option ℕ). (fold after k (line_of_count Starts o)).starts) (λ n. refl) refl in
+    let watched : IfSome now.watchers (λ n. (fold after l (line_of_count Watchers w)).watchers ≡ Some n) =
+    count_arrives told.watchers now.watchers l.watchers (one.1 ∙ f) (λ (o : Option ℕ). (fold after l (line_of_count Watchers o)).watchers)
+    (λ n. refl) refl in
+    subst (λ (m : Known). Counts k m × IfSome now.starts (λ n. m.starts ≡ Some n) × IfSome now.watchers (λ n. m.watchers ≡ Some n))
+    (sym (fold-append after k (line_of_count Starts s) (line_of_count Watchers w))) (
+      record { focus = more.0.focus ∙ one.0.focus; pane = λ q. more.0.pane q ∙ one.0.pane q },
+      is_some_as now.starts l.starts (fold after l (line_of_count Watchers w)).starts (sym more.1) started,
+      watched,
+    )
+
+counts_news : (told now : PaneList) (k : Known) → k.starts ≡ told.starts → k.watchers ≡ told.watchers → AreNews k (lines_of_counts told now)
+counts_news told now k e f =
+    let s = count_to_tell told.starts now.starts in
+    let w = count_to_tell told.watchers now.watchers in
+    let l = fold after k (line_of_count Starts s) in
+    news_both (line_of_count Starts s) (line_of_count Watchers w) k (starts_told s k (count_news told.starts now.starts k.starts e))
+    (watchers_told w l (count_news told.watchers now.watchers l.watchers ((starts_kept s k).1 ∙ f)))
+
+-- ---- all
+
+-- what a follower knows who read of the panes, and then of the focus
+abbrev after_panes : PaneList → PaneList → Known
+after_panes told now = fold after (knows told) (lines_to 9 (pane_at told) (pane_at now))
+
+abbrev after_focus : PaneList → PaneList → Known
+after_focus told now = fold after (after_panes told now) (lines_of_focus told.focus now.focus)
+
+panes_arrive : (told now : PaneList) → Reaches (pane_at told) (pane_at now) (knows told) 9 (after_panes told now)
+panes_arrive told now = reaches (pane_at told) (pane_at now) (knows told) (λ p. refl) 9
+
+focus_arrives : (told now : PaneList) → Focuses now.focus (after_panes told now) (after_focus told now)
+focus_arrives told now =
+    focus_known (eqb told.focus now.focus) (after_panes told now) told.focus now.focus (panes_arrive told now).rest.focus refl
+
+-- where the panes, the focus and the numbers of starts are read one after the other
+read_on : (k : Known) (xs ys zs : List Line) → fold after k ((xs ++ ys) ++ zs) ≡ fold after (fold after (fold after k xs) ys) zs
+read_on k xs ys zs = fold-append after k (xs ++ ys) zs ∙ ap (λ (m : Known). fold after m zs) (fold-append after k xs ys)
 
 pub arrive : LinesArrive
 arrive told now =
-    let first = knows told in
-    let panes = lines_to 9 (pane_at told) (pane_at now) in
-    let k = fold after first panes in
-    let is = reaches (pane_at told) (pane_at now) first (λ p. refl) 9 in
-    let last = focus_known (eqb told.focus now.focus) k told.focus now.focus is.focus refl in
-    subst (λ (m : Known). Agrees m now) (sym (fold-append after first panes (lines_of_focus told.focus now.focus)))
-    (record { panes = λ p one most. last.1 p ∙ is.low p one most; focus = last.0 })
+    let panes = panes_arrive told now in
+    let focus = focus_arrives told now in
+    let counts = counts_arrive told now (after_focus told now) (focus.starts ∙ panes.rest.starts) (focus.watchers ∙ panes.rest.watchers) in
+    subst (λ (m : Known). Agrees m now)
+    (sym (read_on (knows told) (lines_to 9 (pane_at told) (pane_at now)) (lines_of_focus told.focus now.focus) (lines_of_counts told now)))
+    (record {
+      panes = λ p one most. counts.0.pane p ∙ focus.pane p ∙ panes.low p one most;
+      focus = counts.0.focus ∙ focus.focus;
+      starts = counts.1;
+      watchers = counts.2;
+    })
 
 pub are_news : LinesAreNews
 are_news told now =
-    let first = knows told in
-    let panes = lines_to 9 (pane_at told) (pane_at now) in
-    let is = reaches (pane_at told) (pane_at now) first (λ p. refl) 9 in
-    news_both panes (lines_of_focus told.focus now.focus) first (all_news (pane_at told) (pane_at now) first (λ p. refl) 9)
-    (focus_news (eqb told.focus now.focus) (fold after first panes) told.focus now.focus is.focus refl)
+    let panes = panes_arrive told now in
+    let focus = focus_arrives told now in
+    let first = lines_to 9 (pane_at told) (pane_at now) in
+    let then = lines_of_focus told.focus now.focus in
+    let told_of_both = news_both first then (knows told) (all_news (pane_at told) (pane_at now) (knows told) (λ p. refl) 9)
+    (focus_news (eqb told.focus now.focus) (after_panes told now) told.focus now.focus panes.rest.focus refl) in
+    news_both (first ++ then) (lines_of_counts told now) (knows told) told_of_both
+    (subst (λ (m : Known). AreNews m (lines_of_counts told now)) (sym (fold-append after (knows told) first then))
+    (counts_news told now (after_focus told now) (focus.starts ∙ panes.rest.starts) (focus.watchers ∙ panes.rest.watchers)))
 
 -- ---- the text of all
 

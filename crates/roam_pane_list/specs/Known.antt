@@ -1,17 +1,31 @@
--- What is known of a session's panes: which are there, of what size, and which is in focus.
+-- What is known of a session: which panes are there, where and of what size, which is in focus, and how many client starts are kept.
 use Rattle.std.specs.Prelude.{ℕ, Bool, ◌==◌, ◌&&◌, [], ◌∷◌, slice_index_or, Option, None}
 use Rattle.roam_pane_list.specs.declared.pane_list.ListedPane.{ListedPane}
 use Rattle.roam_pane_list.specs.declared.pane_list.PaneList.{PaneList}
 
--- nothing is known: no pane is there, and none is in focus
+-- nothing is known: no pane is there, none is in focus, and no number of client starts is known
 abbrev pub nothing : PaneList
 nothing =
-    record { all = None ∷ None ∷ None ∷ None ∷ None ∷ None ∷ None ∷ None ∷ None ∷ None ∷ []; focus = 0 }
+    record {
+      all = None ∷ None ∷ None ∷ None ∷ None ∷ None ∷ None ∷ None ∷ None ∷ None ∷ [];
+      focus = 0;
+      starts = None;
+      watchers = None;
+    }
 
 -- what is known of a pane, where it is there
 abbrev pub pane_at : PaneList → ℕ → Option ListedPane
 pane_at known p = slice_index_or known.all p None
 
--- whether two panes are one, of one size
+-- whether two panes are one, at one place and of one size
 abbrev pub is_same : ListedPane → ListedPane → Bool
-is_same one other = (one.life == other.life) && ((one.rows == other.rows) && (one.cols == other.cols))
+is_same one other =
+    (one.life == other.life)
+    && ((one.row == other.row) && ((one.col == other.col) && ((one.rows == other.rows) && (one.cols == other.cols))))
+
+-- how many client starts that edit, and how many that watch, a server keeps at most
+abbrev pub most_starts : ℕ
+most_starts = 64
+
+abbrev pub most_watchers : ℕ
+most_watchers = 16

@@ -1,17 +1,27 @@
-//! The lines that tell what is new of a session's panes.
+//! The lines that tell what is new of a session.
 ghost use Rattle.std.specs.Prelude.{◌≡◌, ◌++◌, ◌<◌, IfOk, OnOk, IsOkUnless, string_bytes};
 ghost use Rattle.roam_pane_list.specs.Known.{is_same};
-ghost use Rattle.roam_pane_list.specs.Lines.{Line, Here, Gone, Focus, line_text, lines_text, lines_for, lines_between};
+ghost use Rattle.roam_pane_list.specs.Lines.{Line, Here, Gone, Focus, Starts, Watchers, line_text, lines_text, lines_for, count_to_tell, lines_of_counts, lines_between};
 
 use crate::pane_list::{ListedPane, PaneList};
 use roam_cells::Fault;
 use std::alloc::Global;
 
-// Whether two panes are one, of one size.
+/// How many client starts that edit a server keeps at most.
+const MOST_STARTS: u16 = 64;
+
+/// How many client starts that watch a server keeps at most.
+const MOST_WATCHERS: u16 = 16;
+
+// Whether two panes are one, at one place and of one size.
 fn is_same(one: ListedPane, other: ListedPane) -> bool
     ensures same { result ≡ is_same one other }
 {
-    one.life == other.life && one.rows == other.rows && one.cols == other.cols
+    one.life == other.life
+        && one.row == other.row
+        && one.col == other.col
+        && one.rows == other.rows
+        && one.cols == other.cols
 }
 
 // Adds the line of a pane that is there.
@@ -19,7 +29,10 @@ fn push_here(alloc: Global, text: &mut String, pane: u8, now: ListedPane) -> Res
     ensures line { OnOk result (string_bytes text.new ≡ string_bytes text.old ++ line_text (Here pane now)) }
     ensures fault { IsOkUnless result Fault.OutOfMemory }
 {
-    let line = format!(in alloc; "{pane} {} {} {}\n", now.rows, now.cols, now.life)?;
+    let line = format!(in alloc;
+        "{pane} {} {} {} {} {}\n",
+        now.row, now.col, now.rows, now.cols, now.life
+    )?;
     text.push_str(line.as_str())?;
     Ok(())
 }
@@ -41,6 +54,57 @@ fn push_focus(alloc: Global, text: &mut String, pane: u8) -> Result<(), Fault>
 {
     let line = format!(in alloc; "focus {pane}\n")?;
     text.push_str(line.as_str())?;
+    Ok(())
+}
+
+// Adds the line of how many client starts that edit are kept.
+fn push_starts(alloc: Global, text: &mut String, count: u16) -> Result<(), Fault>
+    ensures line { OnOk result (string_bytes text.new ≡ string_bytes text.old ++ line_text (Starts count)) }
+    ensures fault { IsOkUnless result Fault.OutOfMemory }
+{
+    let line = format!(in alloc; "starts {count} of {MOST_STARTS}\n")?;
+    text.push_str(line.as_str())?;
+    Ok(())
+}
+
+// Adds the line of how many client starts that watch are kept.
+fn push_watchers(alloc: Global, text: &mut String, count: u16) -> Result<(), Fault>
+    ensures line { OnOk result (string_bytes text.new ≡ string_bytes text.old ++ line_text (Watchers count)) }
+    ensures fault { IsOkUnless result Fault.OutOfMemory }
+{
+    let line = format!(in alloc; "watchers {count} of {MOST_WATCHERS}\n")?;
+    text.push_str(line.as_str())?;
+    Ok(())
+}
+
+// The number that is to be told: one that is known, and wasn't told before.
+fn count_to_tell(told: Option<u16>, now: Option<u16>) -> Option<u16>
+    ensures count { result ≡ count_to_tell told now }
+{
+    match (told, now) {
+        (_, None) => None,
+        (None, Some(now)) => Some(now),
+        (Some(told), Some(now)) if told == now => None,
+        (Some(_), Some(now)) => Some(now),
+    }
+}
+
+// Adds what is new of the numbers of client starts.
+fn push_counts(
+    alloc: Global,
+    text: &mut String,
+    told: &PaneList,
+    now: &PaneList,
+) -> Result<(), Fault>
+    ensures lines { OnOk result (string_bytes text.new ≡ string_bytes text.old ++ lines_text (lines_of_counts told.now now.now)) }
+    ensures fault { IsOkUnless result Fault.OutOfMemory }
+{
+    if let Some(count) = count_to_tell(told.starts(), now.starts()) {
+        push_starts(alloc, text, count)?;
+    }
+    if let Some(count) = count_to_tell(told.watchers(), now.watchers()) {
+        push_watchers(alloc, text, count)?;
+    }
     Ok(())
 }
 
@@ -71,8 +135,9 @@ fn push_pane(
     }
 }
 
-/// The lines that tell a follower, who was told something before, what is so now: of each pane in the order of their numbers `P ROWS COLS
-/// LIFE` where it was made or sized and `P gone` where it was closed, and then `focus P` where another is in focus. Refuses want of memory.
+/// The lines that tell a follower, who was told something before, what is so now: of each pane in the order of their numbers `P ROW COL ROWS
+/// COLS LIFE` where it was made, moved or sized and `P gone` where it was closed, then `focus P` where another is in focus, then `starts N of
+/// 64` and `watchers N of 16` where another number of client starts is kept. Refuses want of memory.
 pub fn lines_between(alloc: Global, told: &PaneList, now: &PaneList) -> Result<String, Fault>
     ensures lines { IfOk result (λ text. string_bytes text ≡ lines_text (lines_between told.now now.now)) }
     ensures fault { IsOkUnless result Fault.OutOfMemory }
@@ -84,5 +149,6 @@ pub fn lines_between(alloc: Global, told: &PaneList, now: &PaneList) -> Result<S
     if told.focus() != now.focus() {
         push_focus(alloc, &mut text, now.focus())?;
     }
+    push_counts(alloc, &mut text, told, now)?;
     Ok(text)
 }

@@ -1,35 +1,44 @@
 //! What is known of a session's panes.
-ghost use Rattle.std.specs.Prelude.{◌≡◌, ◌<◌, ◌≤◌, None, slice_set};
+ghost use Rattle.std.specs.Prelude.{◌≡◌, ◌<◌, Some, slice_set};
 ghost use Rattle.roam_pane_list.specs.Known.{nothing, pane_at};
 
-/// A pane that is there: which making of its number it is, and its rows and columns.
+/// A pane that is there: which making of its number it is, and which rows and columns of the session's screen it has.
 #[derive(Clone, Copy, Debug, PartialEq, Eq)]
 pub struct ListedPane {
     /// Which making of the pane's number it is, counted from 1.
     pub life: u64,
+    /// Its first row, from 1.
+    pub row: u16,
+    /// Its first column, from 1.
+    pub col: u16,
     /// How many rows it has.
     pub rows: u16,
     /// How many columns it has.
     pub cols: u16,
 }
 
-/// What is known of a session's panes, 1 to 9: which are there, and which is in focus.
+/// What is known of a session: which of its panes, 1 to 9, are there, which is in focus, and how many client starts are kept.
 #[derive(Clone, Copy)]
 pub struct PaneList {
     // By the panes' numbers; none is 0.
     all: [Option<ListedPane>; 10],
     // 0 where it isn't known.
     focus: u8,
+    // None where it isn't known.
+    starts: Option<u16>,
+    watchers: Option<u16>,
 }
 
 impl PaneList {
-    /// Nothing is known: no pane is there, and none is in focus.
+    /// Nothing is known: no pane is there, none is in focus, and no number of client starts is known.
     pub fn unknown() -> PaneList
         ensures nothing { result ≡ nothing }
     {
         PaneList {
             all: [None; 10],
             focus: 0,
+            starts: None,
+            watchers: None,
         }
     }
 
@@ -48,6 +57,20 @@ impl PaneList {
         self.focus = pane;
     }
 
+    /// Puts how many client starts that edit are kept.
+    pub fn set_starts(&mut self, count: u16)
+        ensures starts { self.new ≡ record self.old { starts = Some count } }
+    {
+        self.starts = Some(count);
+    }
+
+    /// Puts how many client starts that watch are kept.
+    pub fn set_watchers(&mut self, count: u16)
+        ensures watchers { self.new ≡ record self.old { watchers = Some count } }
+    {
+        self.watchers = Some(count);
+    }
+
     /// What is known of a pane, where it is there.
     pub fn get(&self, pane: u8) -> Option<ListedPane>
         requires pane { pane < 10 }
@@ -61,5 +84,19 @@ impl PaneList {
         ensures focus { result ≡ self.now.focus }
     {
         self.focus
+    }
+
+    /// How many client starts that edit are kept, where that is known.
+    pub fn starts(&self) -> Option<u16>
+        ensures starts { result ≡ self.now.starts }
+    {
+        self.starts
+    }
+
+    /// How many client starts that watch are kept, where that is known.
+    pub fn watchers(&self) -> Option<u16>
+        ensures watchers { result ≡ self.now.watchers }
+    {
+        self.watchers
     }
 }
