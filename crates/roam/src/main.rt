@@ -8,8 +8,9 @@
 use roam_command::{Request, Server, Wire, asked, words_of};
 use roam_faults::{RunFault, end};
 use roam_play::run_world;
+use roam_serving::{Serve, run_serve};
 use roam_show::run_show;
-use roam_sockets::{Attach, Home, Serve, Typed, run_attach, run_serve};
+use roam_attaching::{Attach, Home, Typed, run_attach};
 use roam_wire::Version;
 use std::io;
 use std::os::fd::RawFd;

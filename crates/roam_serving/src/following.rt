@@ -1,42 +1,165 @@
-//! The socket `panes`, where a program follows which panes there are, how large each is and which is in focus.
-ghost use Rattle.std.specs.Prelude.{◌≡◌, ◌⊎◌, ◌++◌, ◌≤◌, ℕ, [], length, is_some, drop, true, false, string_bytes, IfOk, IfErr, OnOk, IfSome, IsSome, IsOkUnless};
+//! The socket `panes`, where programs follow which panes there are, how large each is and which is in focus, and ask for one to be closed.
+ghost use Rattle.std.specs.Prelude.{◌≡◌, ◌⊎◌, ◌++◌, ◌≤◌, ℕ, [], length, is_some, drop, true, false, string_bytes, None, IfOk, IfErr, OnOk, IfSome, IsSome, IsOkUnless};
 ghost use Rattle.roam_pane_list.specs.Known.{nothing};
 ghost use Rattle.roam_serving.specs.Following.{IsFresh, Tells, news, panes_path, room};
 
+use crate::closing::Closer;
 use crate::peers::Peer;
 use mio::net::UnixListener;
 use mio::{Interest, Registry, Token};
 use roam_cells::Fault;
 use roam_faults::RunFault;
 use roam_links::listen;
-use roam_pane_list::{PaneList, lines_between};
+use roam_pane_list::{Closing, PaneList, acts_for, lines_between, read_close};
+use roam_terminals::{Front, Lines};
 use std::alloc::Global;
 use std::fs::{Files, remove_file};
 use std::net::Net;
 
-/// How many bytes may wait for the program.
+/// How many bytes may wait for a program.
 const ROOM: usize = 65_536;
 
-/// The socket `panes` of a folder, and the program that follows the session's panes there.
+/// How many programs may follow the panes at once.
+const MOST_FOLLOWERS: usize = 8;
+
+/// So many pieces are more than a line.
+const MOST_READS: u32 = 4;
+
+/// How many lines of a program are taken after a turn at most.
+const MOST_LINES: u32 = 16;
+
+/// A program that follows the session's panes: what it was told, what waits for it, and the lines that came from it.
 #[derive(Drop)]
 pub(crate) struct Follower {
-    path: String,
-    listener: UnixListener,
     peer: Peer,
     told: PaneList,
     waiting: Vec<u8>,
+    lines: Lines,
 }
 
 impl Follower {
+    // A program that came; it was told nothing yet.
+    fn new(alloc: Global, peer: Peer) -> Follower {
+        Follower {
+            peer,
+            told: PaneList::unknown(),
+            waiting: Vec::new(alloc),
+            lines: Lines::new(alloc),
+        }
+    }
+
+    // What is new waits for the program.
+    fn add(&mut self, alloc: Global, now: &PaneList) -> Result<(), Fault>
+        ensures added { OnOk result (self.new.waiting.items ≡ self.old.waiting.items ++ news self.old.told now.now) }
+        ensures told { OnOk result (self.new.told ≡ now.now) }
+        ensures peer { self.new.peer ≡ self.old.peer }
+        ensures fault { IsOkUnless result Fault.OutOfMemory }
+    {
+        let text = lines_between(alloc, &self.told, now)?;
+        self.waiting.extend_from_slice(text.as_bytes())?;
+        self.told = *now;
+        Ok(())
+    }
+
+    // A line of ours waits for the program.
+    fn say(&mut self, line: &[u8]) {
+        if self.waiting.extend_from_slice(line).is_err() {
+            self.peer.let_go();
+        }
+    }
+
+    // Hands the program what waits; what it took goes.
+    fn hand_over(&mut self)
+        ensures took { (n : ℕ) × (self.new.waiting.items ≡ drop n self.old.waiting.items) }
+        ensures told { self.new.told ≡ self.old.told }
+    {
+        let count = self.peer.tell(&self.waiting);
+        drop(self.waiting.drain(..count));
+    }
+
+    // Reads until a line stands first or nothing more comes now. One that wrote more than a line has is let go.
+    fn read_line(&mut self) {
+        let mut piece = [0u8; 1024];
+        for _ in 0..MOST_READS {
+            match self.lines.front() {
+                Front::Line(_) => return,
+                Front::TooLong => return self.peer.let_go(),
+                Front::Part => {
+                    let Some(count) = self.peer.hear(&mut piece) else {
+                        return;
+                    };
+                    if self.lines.came(&piece[..count]).is_err() {
+                        return self.peer.let_go();
+                    }
+                }
+            }
+        }
+    }
+
+    // Does what the line that stands first asks for, and tells whether one did.
+    fn take_line(&mut self, alloc: Global, now: &PaneList, closer: &mut Closer, moment: u64) -> bool {
+        self.read_line();
+        let Some(line) = self.lines.first() else {
+            return false;
+        };
+        match read_close(line) {
+            None => self.say(b"bad line\n"),
+            Some(close) => match acts_for(now, &close) {
+                Closing::Gone => {}
+                Closing::LastPane => self.say(b"last pane\n"),
+                Closing::Acts { after } => {
+                    if closer.close(alloc, &close, after, moment).is_err() {
+                        self.say(b"out of memory\n");
+                    }
+                }
+            },
+        }
+        self.lines.took();
+        true
+    }
+
+    // Does what its lines ask for, while no close is under way.
+    fn take_lines(&mut self, alloc: Global, now: &PaneList, closer: &mut Closer, moment: u64) {
+        for _ in 0..MOST_LINES {
+            if !closer.is_free() || !self.take_line(alloc, now, closer, moment) {
+                return;
+            }
+        }
+    }
+
+    // Tells the program what is new of the panes. One that leaves 65,536 bytes waiting is let go, and so is one for which there is no
+    // memory: it may come again, and is told all then.
+    fn tell(&mut self, alloc: Global, now: &PaneList)
+        ensures tells { IfSome self.new.peer.stream (λ _. Tells now.now self.old self.new) }
+        ensures room { length self.new.waiting.items ≤ room }
+    {
+        let is_added = self.add(alloc, now).is_ok();
+        self.hand_over();
+        if !is_added || self.waiting.len() > ROOM {
+            self.peer.let_go();
+            self.waiting.clear();
+        }
+    }
+}
+
+/// The socket `panes` of a folder, and the programs that follow the session's panes there.
+#[derive(Drop)]
+pub(crate) struct Followers {
+    path: String,
+    listener: UnixListener,
+    all: Vec<Follower>,
+}
+
+impl Followers {
     /// Binds the socket of a folder. `Bind` where it can't be bound, `OutOfMemory`.
     pub(crate) fn bind<R: Files + Net>(
         rt: &R,
         alloc: Global,
         registry: &Registry,
         folder: &str,
-    ) -> Result<Follower, RunFault>
-        ensures path { IfOk result (λ follower. string_bytes follower.path ≡ panes_path folder.now) }
-        ensures fresh { IfOk result IsFresh }
+    ) -> Result<Followers, RunFault>
+        ensures path { IfOk result (λ followers. string_bytes followers.path ≡ panes_path folder.now) }
+        ensures none { IfOk result (λ followers. followers.all.items ≡ []) }
         ensures faults { IfErr result (λ fault. (fault ≡ RunFault.Bind) ⊎ (fault ≡ RunFault.Core Fault.OutOfMemory)) }
     {
         let Ok(path) = format!(in alloc; "{folder}/panes") else {
@@ -47,71 +170,49 @@ impl Follower {
         };
         // Where it isn't reported, a wait ends by its time alone.
         let _ = registry.register(&mut listener, Token(0), Interest::READABLE);
-        Ok(Follower {
+        Ok(Followers {
             path,
             listener,
-            peer: Peer::none(),
-            told: PaneList::unknown(),
-            waiting: Vec::new(alloc),
+            all: Vec::new(alloc),
         })
     }
 
-    // Lets a program go that left, and takes the next, to which nothing was told yet. What it writes is nothing to us.
-    fn accept(&mut self, registry: &Registry)
-        ensures path { self.new.path ≡ self.old.path }
-        ensures stays { ((self.new ≡ self.old) × IsSome self.new.peer.stream)
-            ⊎ ((self.new.told ≡ nothing) × (self.new.waiting.items ≡ [])) }
-    {
-        let mut buf = [0u8; 64];
-        let _ = self.peer.hear(&mut buf);
-        if self.peer.is_there() {
-            return;
+    // Takes those that wait at the socket; those above eight, and those for which there is no memory, are closed.
+    fn accept(&mut self, alloc: Global, registry: &Registry) {
+        for _ in 0..8 * MOST_FOLLOWERS {
+            let mut peer = Peer::none();
+            peer.accept(&self.listener, registry);
+            if !peer.is_there() {
+                return;
+            }
+            if self.all.len() < MOST_FOLLOWERS {
+                // One for which there is no memory may come again.
+                let _ = self.all.push(Follower::new(alloc, peer));
+            }
         }
-        self.peer.accept(&self.listener, registry);
-        self.told = PaneList::unknown();
-        self.waiting.clear();
     }
 
-    // What is new waits for the program.
-    fn add(&mut self, alloc: Global, now: &PaneList) -> Result<(), Fault>
-        ensures added { OnOk result (self.new.waiting.items ≡ self.old.waiting.items ++ news self.old.told now.now) }
-        ensures told { OnOk result (self.new.told ≡ now.now) }
-        ensures path { self.new.path ≡ self.old.path }
-        ensures peer { self.new.peer ≡ self.old.peer }
-        ensures fault { IsOkUnless result Fault.OutOfMemory }
-    {
-        let text = lines_between(alloc, &self.told, now)?;
-        self.waiting.extend_from_slice(text.as_bytes())?;
-        self.told = *now;
-        Ok(())
-    }
-
-    // Hands the program what waits; what it took goes.
-    fn hand_over(&mut self)
-        ensures took { (n : ℕ) × (self.new.waiting.items ≡ drop n self.old.waiting.items) }
-        ensures told { self.new.told ≡ self.old.told }
+    /// Tells the programs what is new of the panes, one that comes all, and does what their lines ask for: a close each time. Those that left
+    /// are let go.
+    pub(crate) fn tell(
+        &mut self,
+        alloc: Global,
+        registry: &Registry,
+        now: &PaneList,
+        closer: &mut Closer,
+        moment: u64,
+    )
         ensures path { self.new.path ≡ self.old.path }
     {
-        let count = self.peer.tell(&self.waiting);
-        drop(self.waiting.drain(..count));
-    }
-
-    /// Tells the program what is new of the panes. One that leaves 65,536 bytes waiting is let go, and so is one for which there is no
-    /// memory: it may come again, and is told all then.
-    pub(crate) fn tell(&mut self, alloc: Global, registry: &Registry, now: &PaneList)
-        ensures tells { IfSome self.new.peer.stream (λ _. Tells now.now self.old self.new) }
-        ensures room { length self.new.waiting.items ≤ room }
-        ensures path { self.new.path ≡ self.old.path }
-    {
-        self.accept(registry);
-        if !self.peer.is_there() {
-            return;
+        closer.settle(now);
+        self.accept(alloc, registry);
+        for follower in self.all.iter_mut() {
+            follower.take_lines(alloc, now, closer, moment);
+            follower.tell(alloc, now);
         }
-        let is_added = self.add(alloc, now).is_ok();
-        self.hand_over();
-        if !is_added || self.waiting.len() > ROOM {
-            self.peer.let_go();
-            self.waiting.clear();
+        self.all.retain(|follower| follower.peer.is_there());
+        if self.all.len() > 1 {
+            self.all.rotate_left(1);
         }
     }
 

@@ -4,7 +4,7 @@ ghost use Rattle.std.specs.List.{All};
 ghost use Rattle.roam_serving.specs.Panes.{path_of, paths_of};
 ghost use Rattle.roam_serving.specs.Peers.{Changes, Lives, Asks};
 
-use crate::peers::{Making, live, read, write};
+use crate::peers::{Making, has_peer, live, read, write};
 use mio::net::UnixListener;
 use mio::{Interest, Registry, Token};
 use roam_cells::Fault;
@@ -166,6 +166,15 @@ impl Panes {
             return None;
         }
         self.all[at - 1].read(registry, buf)
+    }
+
+    /// Whether a peer came to a pane that is there.
+    pub(crate) fn has_peer(&self, pane: u8) -> bool {
+        let at = usize::from(pane);
+        if at < 1 || self.all.len() < at {
+            return false;
+        }
+        has_peer(&self.all[at - 1].making)
     }
 
     /// How many of the bytes the program of a pane took, 0 where none is there.

@@ -7,6 +7,9 @@ use mio::{Interest, Registry, Token};
 use std::io;
 use std::io::{ErrorKind, Read, Write};
 
+/// So many peers that are gone already are let go at once.
+const MOST_GONE: u32 = 64;
+
 /// The program that came to a socket, or none.
 #[derive(Drop)]
 pub(crate) struct Peer {
@@ -61,6 +64,16 @@ pub(crate) fn live(making: &mut Option<Making>, life: Option<u64>)
     }
 }
 
+/// Whether a peer came to a making.
+pub(crate) fn has_peer(making: &Option<Making>) -> bool
+    ensures peer { result ≡ is_some (peer_in making.now) }
+{
+    match making {
+        None => false,
+        Some(making) => making.peer.is_there(),
+    }
+}
+
 impl Peer {
     /// No program came yet.
     pub(crate) fn none() -> Peer
@@ -100,6 +113,34 @@ impl Peer {
             Interest::READABLE | Interest::WRITABLE,
         );
         self.stream = Some(stream);
+    }
+
+    /// Takes those that wait, where there is none, until one wrote something, or wrote nothing yet: those that are gone are let go, and of
+    /// 64 and more the next one is heard another time.
+    pub(crate) fn take_next(
+        &mut self,
+        listener: &UnixListener,
+        registry: &Registry,
+        buf: &mut [u8],
+    ) -> Option<usize>
+        ensures some { IfSome result (λ n. 0 < n) }
+        ensures within { IfSome result (λ n. n ≤ length buf.new) }
+        ensures from { IfSome result (λ _. IsSome self.new.stream) }
+    {
+        for _ in 0..MOST_GONE {
+            self.accept(listener, registry);
+            if !self.is_there() {
+                return None;
+            }
+            if let Some(count) = self.hear(buf) {
+                return Some(count);
+            }
+            if self.is_there() {
+                return None;
+            }
+        }
+        self.accept(listener, registry);
+        None
     }
 
     /// What the program wrote, or nothing. One that is gone is let go.
@@ -149,8 +190,10 @@ pub(crate) fn read(
     ensures one { IfSome (peer_in making.old) (λ _. (making.new ≡ making.old) ⊎ (peer_in making.new ≡ None)) }
 {
     let making = making.as_mut()?;
-    making.peer.accept(listener, registry);
-    making.peer.hear(buf)
+    if making.peer.is_there() {
+        return making.peer.hear(buf);
+    }
+    making.peer.take_next(listener, registry, buf)
 }
 
 /// How many of the bytes the program of a pane took, 0 where none is there.

@@ -4,16 +4,17 @@ ghost use Rattle.std.specs.List.{All};
 ghost use Rattle.std.specs.Option.{option_map};
 ghost use Rattle.roam_links.specs.Clients.{Accepts};
 ghost use Rattle.roam_links.specs.declared.udp.Udp.{Udp as UdpOf};
-ghost use Rattle.roam_serving.specs.Following.{IsFresh, Tells, panes_path};
+ghost use Rattle.roam_serving.specs.Following.{panes_path};
 ghost use Rattle.roam_serving.specs.Panes.{IsPortOf, clients_path, paths_of};
 ghost use Rattle.roam_serving.specs.Peers.{Asks, Changes, Lives};
 
-use crate::following::Follower;
+use crate::closing::{Closer, OWN};
+use crate::following::Followers;
 use crate::panes::Panes;
 use roam_cells::Fault;
 use roam_faults::RunFault;
 use roam_hub::Addr;
-use roam_links::{Clients, Moments, Udp, Waits};
+use roam_links::{Clients, LONGEST_WAIT, Moments, Udp, Waits};
 use roam_pane_list::PaneList;
 use roam_turns::Ports;
 use std::alloc::Global;
@@ -21,14 +22,20 @@ use std::fs::Files;
 use std::net::Net;
 use std::time::Clock;
 
-/// How many milliseconds a program waits at most where a turn brought nothing.
-pub(crate) const LONGEST_WAIT: u64 = 10;
-
 /// How long it waits where datagrams are kept back so that they go at a pace.
 const PACE_WAIT: u64 = 1;
 
 /// It is looked so often whether somebody waits at the sockets, where no wait told.
 const LOOKS: u64 = 20;
+
+/// The session and the id of the start by which a server closes the panes that programs ask for.
+#[derive(Clone, Copy, Debug, PartialEq, Eq)]
+pub struct OwnStart {
+    /// The session's id.
+    pub session: u64,
+    /// The id of the start; where one has to be made anew, the next has the next id.
+    pub id: u64,
+}
 
 /// The ports of a server: the streams of its client starts, UDP on loopback where a port was asked for, the sockets of its panes, a clock.
 #[derive(Drop)]
@@ -39,7 +46,9 @@ pub struct ServerPorts<R> {
     udp: Option<Udp>,
     clients: Clients,
     panes: Panes,
-    follower: Follower,
+    followers: Followers,
+    closer: Closer,
+    alloc: Global,
     is_udp_next: bool,
     looked: u64,
 }
@@ -50,19 +59,19 @@ fn bind_others<R: Files + Net>(
     alloc: Global,
     waits: &Waits,
     folder: &str,
-) -> Result<(Follower, Clients), RunFault>
-    ensures follower { IfOk result (λ bound. IsFresh bound.0 × (string_bytes bound.0.path ≡ panes_path folder.now)) }
+) -> Result<(Followers, Clients), RunFault>
+    ensures followers { IfOk result (λ bound. (bound.0.all.items ≡ []) × (string_bytes bound.0.path ≡ panes_path folder.now)) }
     ensures clients { IfOk result (λ bound. (string_bytes bound.1.path ≡ clients_path folder.now) × (bound.1.last ≡ 0)) }
     ensures faults { IfErr result (λ fault. (fault ≡ RunFault.Bind) ⊎ (fault ≡ RunFault.Core Fault.OutOfMemory)) }
 {
     let Ok(path) = format!(in alloc; "{folder}/clients") else {
         return Err(RunFault::Core(Fault::OutOfMemory));
     };
-    let follower = Follower::bind(rt, alloc, waits.registry(), folder)?;
+    let followers = Followers::bind(rt, alloc, waits.registry(), folder)?;
     match Clients::bind(rt, alloc, waits, path) {
-        Ok(clients) => Ok((follower, clients)),
+        Ok(clients) => Ok((followers, clients)),
         Err(fault) => {
-            follower.remove(rt);
+            followers.remove(rt);
             Err(fault)
         }
     }
@@ -120,6 +129,7 @@ impl<R: Clock + Drop> ServerPorts<R> {
         folder: &str,
         port: Option<u16>,
         moments: Moments<R>,
+        own: OwnStart,
     ) -> Result<ServerPorts<R>, RunFault>
         ensures moments { IfOk result (λ ports. ports.moments ≡ moments) }
         ensures port { IfOk result (λ ports. IsPortOf port ports.udp) }
@@ -127,7 +137,7 @@ impl<R: Clock + Drop> ServerPorts<R> {
         ensures none { IfOk result (λ ports. All (λ pane. pane.making ≡ None) ports.panes.all.items) }
         ensures named { IfOk result (λ _. folder.now ≢ []) }
         ensures paths { IfOk result (λ ports. map (λ pane. string_bytes pane.path) ports.panes.all.items ≡ paths_of folder.now 9) }
-        ensures follower { IfOk result (λ ports. IsFresh ports.follower × (string_bytes ports.follower.path ≡ panes_path folder.now)) }
+        ensures followers { IfOk result (λ ports. (ports.followers.all.items ≡ []) × (string_bytes ports.followers.path ≡ panes_path folder.now)) }
         ensures clients { IfOk result (λ ports. (string_bytes ports.clients.path ≡ clients_path folder.now) × (ports.clients.last ≡ 0)) }
         ensures faults { IfErr result (λ fault. (fault ≡ RunFault.Bind) ⊎ (fault ≡ RunFault.Core Fault.OutOfMemory)) }
     {
@@ -135,14 +145,16 @@ impl<R: Clock + Drop> ServerPorts<R> {
         let udp = bind_udp(rt, alloc, &waits, port)?;
         let panes = Panes::bind(rt, alloc, waits.registry(), folder)?;
         match bind_others(rt, alloc, &waits, folder) {
-            Ok((follower, clients)) => Ok(ServerPorts {
+            Ok((followers, clients)) => Ok(ServerPorts {
                 moments,
                 moment: 0,
                 waits,
                 udp,
                 clients,
                 panes,
-                follower,
+                followers,
+                closer: Closer::new(own.session, own.id),
+                alloc,
                 is_udp_next: false,
                 looked: 0,
             }),
@@ -182,28 +194,34 @@ impl<R: Clock + Drop> ServerPorts<R> {
         }
     }
 
-    /// Writes what waits for client starts, takes those that come, and waits until something comes, ten milliseconds at most, where nothing
-    /// came since the last call.
-    pub fn rest(&mut self, alloc: Global)
+    /// Writes what waits for client starts, takes those that come, and waits until something comes, so many milliseconds at most, where
+    /// nothing came since the last call and no datagram of its own start waits.
+    pub fn rest(&mut self, longest: u64)
         ensures quiet { self.new.waits.quiet ≡ true }
         ensures panes { self.new.panes ≡ self.old.panes }
     {
-        if !self.clients.flush() {
+        if !self.clients.flush() || !self.closer.is_free() {
             self.waits.stir();
         }
         let is_paced = !flush_udp(&mut self.udp, self.moment);
         let waits = self.waits.is_quiet();
         self.waits
-            .rest(if is_paced { PACE_WAIT } else { LONGEST_WAIT });
-        self.look(alloc, waits);
+            .rest(if is_paced { PACE_WAIT } else { longest });
+        self.look(self.alloc, waits);
     }
 
-    /// Tells the program that follows the session's panes what is new of them; one that comes is told all.
-    pub fn tell_panes(&mut self, alloc: Global, now: &PaneList)
-        ensures tells { IfSome self.new.follower.peer.stream (λ _. Tells now.now self.old.follower self.new.follower) }
+    /// Tells the programs that follow the session's panes what is new of them, one that comes all; and has its own start close those that
+    /// they ask for.
+    pub fn tell_panes(&mut self, now: &PaneList)
         ensures panes { self.new.panes ≡ self.old.panes }
     {
-        self.follower.tell(alloc, self.waits.registry(), now);
+        self.followers.tell(
+            self.alloc,
+            self.waits.registry(),
+            now,
+            &mut self.closer,
+            self.moment,
+        );
     }
 
     // A datagram from the streams or from the port, whichever is to be asked first now, or else from the other.
@@ -228,7 +246,7 @@ impl<R: Clock + Drop> ServerPorts<R> {
     /// Removes the files of the sockets.
     pub fn remove(&self, files: &impl Files) {
         self.panes.remove(files);
-        self.follower.remove(files);
+        self.followers.remove(files);
         self.clients.remove(files);
     }
 }
@@ -242,18 +260,26 @@ impl<R: Clock + Drop> Ports for ServerPorts<R> {
         self.moment
     }
 
-    // Streams and the port bring a datagram each in their turn.
+    // That of the server's own start comes first; then streams and the port bring one each in their turn.
     fn receive(&mut self, buf: &mut [u8]) -> Option<(Addr, usize)>
         ensures within { IfSome result (λ r. r.1 ≤ length buf.new) }
         ensures stirs { IfSome result (λ _. self.new.waits.quiet ≡ false) }
         ensures panes { self.new.panes ≡ self.old.panes }
     {
+        if let Some(len) = self.closer.receive(buf) {
+            self.waits.stir();
+            return Some((OWN, len));
+        }
         let came = self.receive_next(buf)?;
         self.waits.stir();
         Some(came)
     }
 
     fn send(&mut self, to: Addr, bytes: &[u8]) -> bool {
+        if to == OWN {
+            self.closer.hear(self.alloc, bytes, self.moment);
+            return true;
+        }
         if to.host[0] == 0 {
             self.clients.send(to, bytes)
         } else {
@@ -274,9 +300,13 @@ impl<R: Clock + Drop> Ports for ServerPorts<R> {
         ensures asks { Changes (Asks (is_some result)) pane self.old.panes.all.items self.new.panes.all.items }
         ensures stirs { IfSome result (λ _. self.new.waits.quiet ≡ false) }
     {
-        let count = self.panes.read(self.waits.registry(), pane, buf)?;
-        self.waits.stir();
-        Some(count)
+        let had_peer = self.panes.has_peer(pane);
+        let count = self.panes.read(self.waits.registry(), pane, buf);
+        // Where a peer is gone the next may wait.
+        if count.is_some() || had_peer != self.panes.has_peer(pane) {
+            self.waits.stir();
+        }
+        count
     }
 
     fn pane_out(&mut self, pane: u8, bytes: &[u8]) -> usize

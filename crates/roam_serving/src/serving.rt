@@ -6,12 +6,11 @@ ghost use Rattle.roam_world.specs.Servers.{Server as ServerOf};
 ghost use Rattle.roam_hub.specs.Servers.{Stands};
 ghost use Rattle.roam_serving.specs.Following.{ArePanesOf, pane_of};
 
-use crate::attaching::random_id;
-use crate::server_ports::ServerPorts;
+use crate::server_ports::{OwnStart, ServerPorts};
 use roam_cells::Fault;
 use roam_faults::RunFault;
 use roam_hub::Server;
-use roam_links::{Moments, is_own, write_alone};
+use roam_links::{LONGEST_WAIT, Moments, is_own, random_id, write_alone};
 use roam_pane_list::{ListedPane, PaneList};
 use roam_turns::serve_turn;
 use std::alloc::Global;
@@ -40,6 +39,8 @@ fn pane_of(server: &Server, pane: u8) -> Option<ListedPane>
     match (server.life(pane), server.rect(pane)) {
         (Some(life), Some(rect)) => Some(ListedPane {
             life,
+            row: rect.row,
+            col: rect.col,
             rows: rect.rows,
             cols: rect.cols,
         }),
@@ -56,6 +57,8 @@ fn panes_of(server: &Server) -> PaneList
         panes.set(pane, pane_of(server, pane));
     }
     panes.set_focus(server.focus());
+    panes.set_starts(server.starts() as u16);
+    panes.set_watchers(server.watchers() as u16);
     panes
 }
 
@@ -68,8 +71,8 @@ fn serve_turns<C: Clock + Drop>(
 ) {
     for _ in 0..turns {
         serve_turn(alloc, server, ports);
-        ports.tell_panes(alloc, &panes_of(server));
-        ports.rest(alloc);
+        ports.tell_panes(&panes_of(server));
+        ports.rest(LONGEST_WAIT);
     }
 }
 
@@ -107,7 +110,7 @@ fn remove_session<R: Files + AllocGlobal>(rt: &R, folder: &str) {
 }
 
 // Takes the turns of a session round ports that are bound, and removes the sockets' files.
-fn serve_bound<R: Files + Net + Clock + Eprint + AllocGlobal>(
+fn serve_bound<R: Files + Net + Clock + RandomSource + Eprint + AllocGlobal>(
     rt: &R,
     serve: &Serve<'_>,
     session: u64,
@@ -116,7 +119,11 @@ fn serve_bound<R: Files + Net + Clock + Eprint + AllocGlobal>(
     ensures faults { IfErr result (λ fault. (fault ≡ RunFault.Bind) ⊎ (fault ≡ RunFault.Core Fault.OutOfMemory)) }
 {
     let alloc = rt.alloc();
-    let mut ports = ServerPorts::bind(rt, alloc, serve.folder, serve.port, Moments::real(rt))?;
+    let own = OwnStart {
+        session,
+        id: random_id(rt)?,
+    };
+    let mut ports = ServerPorts::bind(rt, alloc, serve.folder, serve.port, Moments::real(rt), own)?;
     let written = write_session(rt, serve.folder, session);
     if written.is_ok() {
         tell_port(rt, serve.port, ports.port());

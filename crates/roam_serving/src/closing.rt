@@ -1,0 +1,116 @@
+//! The server's own client start, which closes a pane where a program asks for it that follows the panes.
+
+use roam_acts::Act;
+use roam_cells::Fault;
+use roam_hub::{Addr, Client};
+use roam_pane_list::{Close, PaneList};
+use std::alloc::Global;
+
+/// Where the server's own start is: no stream of a client start has this address, since their numbers begin with 1.
+pub(crate) const OWN: Addr = Addr {
+    host: [0; 4],
+    port: 0,
+};
+
+/// The server's own start, made when it is needed first: its one datagram is what the first receive of the next turn brings.
+#[derive(Drop)]
+pub(crate) struct Closer {
+    session: u64,
+    // The id of the start that is made next.
+    id: u64,
+    client: Option<Client>,
+    datagram: Option<Vec<u8>>,
+    // The making of a pane that the datagram closes.
+    closing: Option<(u8, u64)>,
+}
+
+// The acts that close a pane and give the focus to another: they stand in one instruction.
+fn acts_for(pane: u8, after: Option<u8>) -> ([Act; 3], usize) {
+    match after {
+        Some(after) => ([Act::Focus(pane), Act::Close, Act::Focus(after)], 3),
+        None => ([Act::Focus(pane), Act::Close, Act::Close], 2),
+    }
+}
+
+impl Closer {
+    /// No start is made yet.
+    pub(crate) fn new(session: u64, id: u64) -> Closer {
+        Closer {
+            session,
+            id,
+            client: None,
+            datagram: None,
+            closing: None,
+        }
+    }
+
+    /// Whether no close is under way.
+    pub(crate) fn is_free(&self) -> bool {
+        self.closing.is_none()
+    }
+
+    // The start, which is made where there is none.
+    fn taken(&mut self, alloc: Global) -> Result<Client, Fault> {
+        match self.client.take() {
+            Some(client) => Ok(client),
+            None => {
+                let client = Client::new(alloc, self.session, self.id)?;
+                self.id = self.id.wrapping_add(1);
+                Ok(client)
+            }
+        }
+    }
+
+    /// Makes the datagram that closes a pane, and then gives the focus to another where one is named. Refuses want of memory, and what a
+    /// start refuses: then another is made for the next.
+    pub(crate) fn close(
+        &mut self,
+        alloc: Global,
+        close: &Close,
+        after: Option<u8>,
+        now: u64,
+    ) -> Result<(), Fault> {
+        let mut client = self.taken(alloc)?;
+        let (acts, count) = acts_for(close.pane, after);
+        client.typed_all(acts.split_at(count).0)?;
+        let mut datagrams = client.tick(alloc, now)?;
+        self.datagram = datagrams.pop();
+        self.closing = Some((close.pane, close.life));
+        self.client = Some(client);
+        Ok(())
+    }
+
+    /// The datagram that waits: how many bytes of `buf` it fills from the front.
+    pub(crate) fn receive(&mut self, buf: &mut [u8]) -> Option<usize> {
+        let datagram = self.datagram.take()?;
+        let len = datagram.len().min(buf.len());
+        buf.split_at_mut(len)
+            .0
+            .copy_from_slice(datagram.as_slice().split_at(len).0);
+        Some(len)
+    }
+
+    /// An answer came from the server: it is heard while acts are unacknowledged.
+    pub(crate) fn hear(&mut self, alloc: Global, bytes: &[u8], now: u64) {
+        if let Some(client) = &mut self.client {
+            if !client.is_settled() {
+                // What is refused is lost.
+                let _ = client.datagram(alloc, bytes, now);
+            }
+        }
+    }
+
+    /// A turn was taken with the datagram, and these panes are there then. Where the pane still is, something was refused for want of
+    /// memory: that start is let go, so that none of its acts is ever taken later, where they might close another pane.
+    pub(crate) fn settle(&mut self, panes: &PaneList) {
+        if self.datagram.is_some() {
+            return;
+        }
+        if let Some((pane, life)) = self.closing {
+            self.closing = None;
+            if panes.get(pane).is_some_and(|listed| listed.life == life) {
+                self.client = None;
+            }
+        }
+    }
+}

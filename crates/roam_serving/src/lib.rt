@@ -1,0 +1,12 @@
+//! `roam serve`: the turns of a server round its sockets and the clock.
+#![tactic(auto)]
+
+mod closing;
+mod following;
+mod panes;
+mod peers;
+mod server_ports;
+mod serving;
+
+pub use server_ports::{OwnStart, ServerPorts};
+pub use serving::{Serve, run_serve};
