@@ -17,7 +17,8 @@ use std::time::Clock;
 const SECOND: u64 = 1000;
 
 // A client start with its outer terminals, round its link.
-struct Host<R> {
+#[derive(Drop)]
+struct Start<R> {
     listener: UnixListener,
     terminals: Terminals<UnixStream>,
     painter: Painter<Link<R>>,
@@ -26,7 +27,7 @@ struct Host<R> {
     asked: Option<u64>,
 }
 
-impl<R: Clock + Drop> Host<R> {
+impl<R: Clock + Drop> Start<R> {
     // Takes those that wait at the socket; those above sixteen are closed.
     fn accept(&mut self, alloc: Global) {
         for _ in 0..4 * MOST_TERMINALS {
@@ -87,14 +88,14 @@ pub(crate) fn host<R: Files + Net, C: Clock + Drop>(
         return Err(RunFault::Bind);
     };
     link.report(&mut listener, false);
-    let mut host = Host {
+    let mut start = Start {
         listener,
         terminals: Terminals::new(alloc),
         painter: Painter::new(alloc, link),
         to,
         asked: None,
     };
-    let end = host.run(alloc, client, rounds);
+    let end = start.run(alloc, client, rounds);
     // A file that somebody removed before is no matter.
     let _ = remove_file(rt, path);
     Ok(end)
