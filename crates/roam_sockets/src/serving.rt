@@ -40,6 +40,8 @@ fn pane_of(server: &Server, pane: u8) -> Option<ListedPane>
     match (server.life(pane), server.rect(pane)) {
         (Some(life), Some(rect)) => Some(ListedPane {
             life,
+            row: rect.row,
+            col: rect.col,
             rows: rect.rows,
             cols: rect.cols,
         }),
