@@ -1,2 +1,4 @@
 pub mod Known
 pub mod Lines
+pub mod Closes
+pub mod Reading

@@ -35,11 +35,12 @@ pub record Tells (now : PaneList) (old new : Follower) : Type 0 where
   pub waiting : (n : ℕ) × ((new.waiting.items ≡ drop n (old.waiting.items ++ news old.told now))
       ⊎ (new.waiting.items ≡ drop n (news nothing now)))
 
--- a pane that is there: its life and its size
+-- a pane that is there: its life, its place and its size
 abbrev pub pane_of : Option ℕ → Option Rect → Option ListedPane
 pane_of None rect = None
 pane_of (Some life) None = None
-pane_of (Some life) (Some rect) = Some (record { life = life; rows = rect.rows; cols = rect.cols })
+pane_of (Some life) (Some rect) =
+    Some (record { life = life; row = rect.row; col = rect.col; rows = rect.rows; cols = rect.cols })
 
 -- these are the panes of a server, and the one in focus
 pub record ArePanesOf (s : Server) (known : PaneList) : Type 0 where

@@ -2,8 +2,8 @@
 //!
 //! A line begins with `first` or `second`, one of the programs, with what it does; with `files`, with what is seen of them; with `pane` and
 //! its number: `lives N` or `goes`, `gives TEXT` or `gives nothing`, `takes TEXT` or `takes nothing of TEXT`; with `told`, panes 1 and 2,
-//! each with its life and its rows or `none`, of which a program that follows them is told (pane 2 is in focus where it is there). `files
-//! are removed` by the ports.
+//! each with its life, its first row and its rows or `none`, of which a program that follows them is told (pane 2 is in focus where it is
+//! there), and how many client starts edit and watch, where that is known. `files are removed` by the ports.
 use crate::files::{first_untrue, is_so, ports_in};
 use crate::programs::Programs;
 use roam_pane_list::{ListedPane, PaneList};
@@ -65,9 +65,12 @@ fn pane_of(words: &str) -> Option<Option<ListedPane>> {
     if words == "none" {
         return Some(None);
     }
-    let (life, rows) = words.split_once(' ')?;
+    let (life, place) = words.split_once(' ')?;
+    let (row, rows) = place.split_once(' ')?;
     Some(Some(ListedPane {
         life: life.parse::<u64>().ok()?,
+        row: row.parse::<u16>().ok()?,
+        col: 1,
         rows: rows.parse::<u16>().ok()?,
         cols: 80,
     }))
@@ -82,15 +85,33 @@ fn panes(first: Option<ListedPane>, second: Option<ListedPane>) -> PaneList {
     panes
 }
 
-fn is_told(alloc: Global, ports: &mut ServerPorts<&HostRuntime>, words: &str) -> bool {
-    if let Some((first, second)) = words.split_once(", ")
-        && let Some(first) = pane_of(first)
-        && let Some(second) = pane_of(second)
-    {
-        ports.tell_panes(alloc, &panes(first, second));
-        return true;
+/// Puts how many client starts edit, and how many watch.
+fn counted(panes: &mut PaneList, words: &str) -> Option<()> {
+    let (starts, watchers) = words.split_once(' ')?;
+    panes.set_starts(starts.parse::<u16>().ok()?);
+    panes.set_watchers(watchers.parse::<u16>().ok()?);
+    Some(())
+}
+
+/// What is so of a session, as a line says it.
+fn list_of(words: &str) -> Option<PaneList> {
+    let (first, rest) = words.split_once(", ")?;
+    let (second, counts) = rest.split_once(", ").unwrap_or((rest, ""));
+    let mut panes = panes(pane_of(first)?, pane_of(second)?);
+    if !counts.is_empty() {
+        counted(&mut panes, counts)?;
     }
-    false
+    Some(panes)
+}
+
+fn is_told(alloc: Global, ports: &mut ServerPorts<&HostRuntime>, words: &str) -> bool {
+    match list_of(words) {
+        Some(panes) => {
+            ports.tell_panes(alloc, &panes);
+            true
+        }
+        None => false,
+    }
 }
 
 fn are_files(
@@ -226,21 +247,23 @@ fn files_that_stayed_behind(rt: HostRuntime) -> Result<(), Fail> {
     Ok(())
 }
 
-/// One pane, two, one of them sized, closed and made anew in one turn, closed.
+/// One pane, two, one of them sized and the other moved, closed and made anew in one turn, closed; and how many client starts there are.
 const FOLLOWED: &str = "\
 first connects follows/panes
-told 1 23, none
-first reads 1 23 80 1/focus 1/
-told 1 23, none
+told 1 1 23, none
+first reads 1 1 1 23 80 1/focus 1/
+told 1 1 23, none
 first waits
-told 1 11, 1 11
-first reads 1 11 80 1/2 11 80 1/focus 2/
-told 1 12, 1 10
-first reads 1 12 80 1/2 10 80 1/
-told 1 12, 2 10
-first reads 2 gone/2 10 80 2/
-told 1 23, none
-first reads 1 23 80 1/2 gone/focus 1/
+told 1 1 11, 1 13 11
+first reads 1 1 1 11 80 1/2 13 1 11 80 1/focus 2/
+told 1 1 12, 1 14 10
+first reads 1 1 1 12 80 1/2 14 1 10 80 1/
+told 1 1 12, 2 14 10
+first reads 2 gone/2 14 1 10 80 2/
+told 1 1 12, 2 14 10, 3 0
+first reads starts 3 of 64/watchers 0 of 16/
+told 1 1 23, none, 3 1
+first reads 1 1 1 23 80 1/2 gone/focus 1/watchers 1 of 16/
 files are removed
 files gone follows/panes";
 
@@ -253,15 +276,15 @@ fn a_program_follows_the_panes(rt: HostRuntime) -> Result<(), Fail> {
 
 /// A second program waits until the first is gone.
 const FOLLOWERS: &str = "\
-told 1 23, none
+told 1 1 23, none
 first connects followers/panes
 second connects followers/panes
-told 1 23, none
-first reads 1 23 80 1/focus 1/
+told 1 1 23, none
+first reads 1 1 1 23 80 1/focus 1/
 second waits
 first leaves
-told 1 23, none
-second reads 1 23 80 1/focus 1/";
+told 1 1 23, none
+second reads 1 1 1 23 80 1/focus 1/";
 
 #[test]
 fn one_program_follows_at_a_time(rt: HostRuntime) -> Result<(), Fail> {

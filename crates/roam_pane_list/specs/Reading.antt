@@ -1,0 +1,56 @@
+-- How the code reads a follower's line, step by step. No public clause speaks of it: what reading means is said by the text of Closes.
+use Rattle.std.specs.Prelude.{ℕ, ◌+◌, ◌==◌, List, [], ◌∷◌, take, drop, Option, Some, None, if◌then◌else◌}
+use Rattle.std.specs.List.{position}
+use Rattle.roam_numbers.specs.Numbers.{number_in}
+use Rattle.roam_pane_list.specs.declared.closes.Close.{Close}
+
+-- what stands before the space at a place, and what follows it
+abbrev pub word_at : List ℕ → Option ℕ → Option (List ℕ × List ℕ)
+word_at text None = None
+word_at text (Some space) = Some (take space text, drop (space + 1) text)
+
+-- what stands before the first space, and what follows it
+abbrev pub first_word : List ℕ → Option (List ℕ × List ℕ)
+first_word text = word_at text (position (λ byte. byte == 0x20) text)
+
+-- a number that isn't 0
+abbrev pub above_zero : Option ℕ → Option ℕ
+above_zero None = None
+above_zero (Some n) = if n == 0 then None else Some n
+
+abbrev pub pane_in : List ℕ → Option ℕ
+pane_in text = above_zero (number_in 9 text)
+
+abbrev pub life_in : List ℕ → Option ℕ
+life_in text = number_in 18446744073709551615 text
+
+-- a life, and the pane that is named behind it
+abbrev pub life_alone : Option ℕ → Option (ℕ × Option ℕ)
+life_alone None = None
+life_alone (Some life) = Some (life, None)
+
+abbrev pub life_with : Option ℕ → Option ℕ → Option (ℕ × Option ℕ)
+life_with None focus = None
+life_with (Some life) None = None
+life_with (Some life) (Some focus) = Some (life, Some focus)
+
+abbrev pub life_and_focus_at : List ℕ → Option (List ℕ × List ℕ) → Option (ℕ × Option ℕ)
+life_and_focus_at text None = life_alone (life_in text)
+life_and_focus_at text (Some words) = life_with (life_in words.0) (pane_in words.1)
+
+abbrev pub life_and_focus_in : List ℕ → Option (ℕ × Option ℕ)
+life_and_focus_in text = life_and_focus_at text (first_word text)
+
+-- a pane, and what is read behind it
+abbrev pub close_of : Option ℕ → Option (ℕ × Option ℕ) → Option Close
+close_of None rest = None
+close_of (Some pane) None = None
+close_of (Some pane) (Some rest) = Some (record { pane = pane; life = rest.0; focus = rest.1 })
+
+abbrev pub close_at : Option (List ℕ × List ℕ) → Option Close
+close_at None = None
+close_at (Some words) = close_of (pane_in words.0) (life_and_focus_in words.1)
+
+-- the close that stands behind its first word
+abbrev pub close_in : List ℕ → Option Close
+close_in text = close_at (first_word text)
