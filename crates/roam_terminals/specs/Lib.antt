@@ -1,2 +1,3 @@
 pub mod Lines
 pub mod Silence
+pub mod Terminals

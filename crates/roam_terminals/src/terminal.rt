@@ -1,4 +1,17 @@
 //! An outer terminal: the stream at its other end, the lines that came, and what waits to be written.
+ghost use Rattle.std.specs.Prelude.{◌≡◌, ◌≢◌, ◌⊎◌, ◌++◌, ◌≤◌, ℕ, List, [], true, false, length, None, Some, IfSome, IsOkUnless};
+ghost use Rattle.std.specs.List.{All};
+ghost use Rattle.roam_acts.specs.Acts.{IsInRange};
+ghost use Rattle.roam_acts.specs.declared.acts.Act.{Act as ActOf};
+ghost use Rattle.roam_frames.specs.Carriers.{Writes};
+ghost use Rattle.roam_terminals.specs.Lines.{IsFirst, nothing_came};
+ghost use Rattle.roam_terminals.specs.Silence.{notice_of};
+ghost use Rattle.roam_terminals.specs.Terminals.{Hears, Reads, Takes, Types, TypesLine};
+ghost use Rattle.roam_turns.specs.Cores.{client_step};
+ghost use Rattle.roam_turns.specs.Painting.{Follows, IsBehind, Led};
+ghost use Rattle.roam_turns.specs.Parts.{Makes};
+ghost use Rattle.roam_turns.specs.Turns.{AttachTurn};
+ghost use Rattle.roam_typing.specs.Entries.{Says, acts_in};
 
 use crate::lines::{Front, Lines};
 use crate::painter::Painter;
@@ -81,7 +94,12 @@ fn is_for_now(error: &io::Error) -> bool {
 
 impl<S: Read + Write + Drop> Terminal<S> {
     /// A terminal at the other end of a stream: nothing came, nothing is known of it, and nothing waits.
-    pub fn new(alloc: Global, stream: S) -> Terminal<S> {
+    pub fn new(alloc: Global, stream: S) -> Terminal<S>
+        ensures stream { result.stream ≡ stream }
+        ensures lines { (result.lines ≡ nothing_came) × (result.watches ≡ false) }
+        ensures painted { (result.outer ≡ None) × (result.waiting ≡ []) × (result.told ≡ None) × (result.stuck ≡ None) }
+        ensures here { result.state ≡ State.Here }
+    {
         Terminal {
             stream,
             lines: Lines::new(alloc),
@@ -95,7 +113,10 @@ impl<S: Read + Write + Drop> Terminal<S> {
     }
 
     /// Whether it is to be let go.
-    pub fn is_gone(&self) -> bool {
+    pub fn is_gone(&self) -> bool
+        ensures here { self.now.state ≡ State.Here → result ≡ false }
+        ensures gone { self.now.state ≡ State.Gone → result ≡ true }
+    {
         match self.state {
             State::Gone => true,
             State::Left => self.lines.first().is_none(),
@@ -104,12 +125,18 @@ impl<S: Read + Write + Drop> Terminal<S> {
     }
 
     /// Whether something waits to be written.
-    pub fn is_waiting(&self) -> bool {
+    pub fn is_waiting(&self) -> bool
+        ensures none { result ≡ false → self.now.waiting ≡ [] }
+    {
         self.waiting.len() > 0
     }
 
     // Reads a piece, and tells whether one came.
-    fn read_piece(&mut self) -> bool {
+    fn read_piece(&mut self) -> bool
+        ensures reads { Reads (S.remaining self.old.stream) (S.remaining self.new.stream) self.old.lines.kept self.new.lines.kept
+            self.new.state }
+        ensures others { self.new ≡ record self.old { stream = self.new.stream; lines = self.new.lines; state = self.new.state } }
+    {
         let mut piece = [0; PIECE];
         match self.stream.read(&mut piece) {
             Ok(0) => self.state = State::Left,
@@ -129,7 +156,12 @@ impl<S: Read + Write + Drop> Terminal<S> {
     }
 
     // Reads until a line stands first or nothing more comes now.
-    fn read_line(&mut self, alloc: Global) {
+    fn read_line(&mut self, alloc: Global)
+        ensures reads { Reads (S.remaining self.old.stream) (S.remaining self.new.stream) self.old.lines.kept self.new.lines.kept
+            self.new.state }
+        ensures watches { self.new.watches ≡ self.old.watches }
+        ensures outer { self.new.outer ≡ self.old.outer }
+    {
         for _ in 0..MOST_READS {
             if self.state != State::Here {
                 return;
@@ -147,7 +179,9 @@ impl<S: Read + Write + Drop> Terminal<S> {
     }
 
     // Tells the terminal why its next line isn't taken, behind what waits, where there is memory for it.
-    fn refuse(&mut self, alloc: Global, fault: Fault) {
+    fn refuse(&mut self, alloc: Global, fault: Fault)
+        ensures refused { self.new ≡ record self.old { state = State.Refused; waiting = self.new.waiting } }
+    {
         self.state = State::Refused;
         let number = self.lines.count().saturating_add(1);
         if let Ok(text) = format!(in alloc; "\r\nroam: line {number}: {fault}\r\n") {
@@ -156,7 +190,13 @@ impl<S: Read + Write + Drop> Terminal<S> {
     }
 
     // Types the acts of the line that stands first, all or none.
-    fn type_acts(&mut self, client: &mut Client, acts: &[Act]) -> Taking {
+    fn type_acts(&mut self, client: &mut Client, acts: &[Act]) -> Taking
+        requires in_range { All IsInRange acts.now }
+        requires first { (line rest : List ℕ) × IsFirst self.old.lines.kept line rest }
+        ensures takes { TypesLine acts.now self.old.lines.kept self.new.lines.kept self.old.watches client.old client.new }
+        ensures number { client.new.receiver ≡ client.old.receiver }
+        ensures others { self.new ≡ record self.old { lines = self.new.lines } }
+    {
         if self.watches {
             self.lines.took();
             return Taking::Line;
@@ -175,7 +215,15 @@ impl<S: Read + Write + Drop> Terminal<S> {
     }
 
     // Does what the line that stands first asks for.
-    fn take_entry(&mut self, alloc: Global, client: &mut Client, entry: &Entry) -> Taking {
+    fn take_entry(&mut self, alloc: Global, client: &mut Client, entry: &Entry) -> Taking
+        requires in_range { All IsInRange (acts_in entry.now) }
+        requires says { (line rest : List ℕ) × IsFirst self.old.lines.kept line rest × Says line entry.now }
+        ensures takes { (acts : List ActOf) × Types acts client.old client.new
+            × Takes entry.now self.old.lines.kept self.new.lines.kept self.old.watches self.new.watches acts }
+        ensures number { client.new.receiver ≡ client.old.receiver }
+        ensures stream { self.new.stream ≡ self.old.stream }
+        ensures outer { (self.new.outer ≡ self.old.outer) ⊎ (self.new.outer ≡ None) }
+    {
         match entry {
             Entry::Acts(acts) => self.type_acts(client, acts),
             Entry::Repaint => {
@@ -200,7 +248,12 @@ impl<S: Read + Write + Drop> Terminal<S> {
     }
 
     /// Reads what came, and does what the line that stands first asks for: its acts are typed at the start, all of them or none.
-    pub(crate) fn hear(&mut self, alloc: Global, client: &mut Client) -> Taking {
+    pub(crate) fn hear(&mut self, alloc: Global, client: &mut Client) -> Taking
+        ensures hears { Hears (S.remaining self.old.stream) (S.remaining self.new.stream) self.old.lines.kept self.new.lines.kept
+            self.old.watches self.new.watches self.new.state client.old client.new }
+        ensures number { client.new.receiver ≡ client.old.receiver }
+        ensures outer { (self.new.outer ≡ self.old.outer) ⊎ (self.new.outer ≡ None) }
+    {
         self.read_line(alloc);
         if self.state == State::Refused || self.state == State::Gone {
             return Taking::Nothing;
@@ -218,7 +271,9 @@ impl<S: Read + Write + Drop> Terminal<S> {
     }
 
     /// Whether it is to be painted now: all that was painted before is written, and it tells of no silence.
-    pub(crate) fn is_ready(&self) -> bool {
+    pub(crate) fn is_ready(&self) -> bool
+        ensures ready { result ≡ true → (self.now.waiting ≡ []) × (self.now.told ≡ None) }
+    {
         self.state == State::Here && self.told.is_none() && self.waiting.len() == 0
     }
 
@@ -229,13 +284,29 @@ impl<S: Read + Write + Drop> Terminal<S> {
         client: &mut Client,
         painter: &mut Painter<P>,
         to: Addr,
-    ) {
+    )
+        requires ready { (self.old.waiting ≡ []) × (painter.old.painting ≡ []) }
+        requires behind { IsBehind self.old.outer client.old.receiver.newest.number client.old.receiver.newest.state }
+        ensures turn { Makes client_step (AttachTurn client.new.receiver.newest.number client.new.receiver.newest.state
+            self.old.outer self.new.outer to None false) None None None None client.old client.new }
+        ensures follows { Follows client.old.receiver.newest.number client.old.receiver.newest.state
+            client.new.receiver.newest.number client.new.receiver.newest.state }
+        ensures behind { IsBehind self.new.outer client.new.receiver.newest.number client.new.receiver.newest.state }
+        // What waits then is written whole, and leads the terminal from what was noted of it to what is noted now.
+        ensures led { Led self.old.outer (Some []) self.new.outer (Some self.new.waiting) }
+        ensures painted { painter.new.painting ≡ [] }
+        ensures others { self.new ≡ record self.old { outer = self.new.outer; waiting = self.new.waiting } }
+    {
         attach_turn(alloc, client, &mut self.outer, painter, to, None);
         painter.exchange(&mut self.waiting);
     }
 
     // Tells of so many seconds of silence, where there is memory; what it shows isn't known then.
-    fn tell(&mut self, alloc: Global, seconds: u64) {
+    fn tell(&mut self, alloc: Global, seconds: u64)
+        ensures told { (self.new ≡ self.old) ⊎ ((self.new.told ≡ Some seconds) × (self.new.outer ≡ None)
+            × (self.new.waiting ≡ self.old.waiting ++ notice_of seconds)) }
+        ensures others { self.new ≡ record self.old { told = self.new.told; outer = self.new.outer; waiting = self.new.waiting } }
+    {
         let Ok(text) = notice(alloc, seconds) else {
             return;
         };
@@ -246,7 +317,12 @@ impl<S: Read + Write + Drop> Terminal<S> {
     }
 
     /// Tells of a silence of ten seconds and more over the last row, once a second; where that is over, it is painted anew.
-    pub(crate) fn tell_silence(&mut self, alloc: Global, silence: Silence) {
+    pub(crate) fn tell_silence(&mut self, alloc: Global, silence: Silence)
+        ensures outer { (self.new.outer ≡ self.old.outer) ⊎ (self.new.outer ≡ None) }
+        // While a silence is told it stays so, or what the terminal shows isn't known.
+        ensures told { self.new.told ≡ self.old.told ⊎ (self.new.outer ≡ None) }
+        ensures others { self.new ≡ record self.old { told = self.new.told; outer = self.new.outer; waiting = self.new.waiting } }
+    {
         let mut seen = silence;
         seen.tell(self.told);
         if seen.is_over() {
@@ -260,7 +336,10 @@ impl<S: Read + Write + Drop> Terminal<S> {
     }
 
     // Writes a piece of what waits, and tells how much was taken.
-    fn write_piece(&mut self) -> usize {
+    fn write_piece(&mut self) -> usize
+        ensures writes { Writes (S.contents self.old.stream) (S.contents self.new.stream) self.old.waiting self.new.waiting }
+        ensures others { self.new ≡ record self.old { stream = self.new.stream; waiting = self.new.waiting; state = self.new.state } }
+    {
         let piece = self.waiting.as_slice();
         if piece.is_empty() {
             return 0;
@@ -281,7 +360,9 @@ impl<S: Read + Write + Drop> Terminal<S> {
     }
 
     // Notes since when nothing of what waits is taken.
-    fn note_stuck(&mut self, has_taken: bool, now: u64) {
+    fn note_stuck(&mut self, has_taken: bool, now: u64)
+        ensures others { self.new ≡ record self.old { stuck = self.new.stuck; state = self.new.state } }
+    {
         if self.waiting.len() == 0 {
             self.stuck = None;
             if self.state == State::Refused {
@@ -297,7 +378,11 @@ impl<S: Read + Write + Drop> Terminal<S> {
     }
 
     /// Writes what waits, as much as the stream takes now. One that took nothing for a minute is let go.
-    pub(crate) fn flush(&mut self, now: u64) {
+    pub(crate) fn flush(&mut self, now: u64)
+        ensures writes { Writes (S.contents self.old.stream) (S.contents self.new.stream) self.old.waiting self.new.waiting }
+        ensures outer { self.new.outer ≡ self.old.outer }
+        ensures lines { (self.new.lines ≡ self.old.lines) × (self.new.watches ≡ self.old.watches) }
+    {
         let mut has_taken = false;
         for _ in 0..MOST_WRITES {
             if self.write_piece() == 0 {

@@ -41,3 +41,10 @@ Says line Repaint = line ≡ codes "repaint"
 Says line Watch = line ≡ codes "watch"
 Says line End = line ≡ codes "end"
 Says line (Acts acts) = IsNoWord line × AreLinesOf (parts_of most_cuts line) acts.items
+
+-- the acts of an entry
+abbrev pub acts_in : Entry → List Act
+acts_in (Acts acts) = acts.items
+acts_in Repaint = []
+acts_in Watch = []
+acts_in End = []

@@ -4,7 +4,7 @@ ghost use Rattle.std.specs.List.{All};
 ghost use Rattle.roam_acts.specs.declared.acts.Act.{Act as ActOf};
 ghost use Rattle.roam_acts.specs.Acts.{IsInRange};
 ghost use Rattle.roam_typing.specs.Keys.{AreLinesOf, IsLineOf};
-ghost use Rattle.roam_typing.specs.Entries.{Says, begins_separator, cut_of, most_cuts, parts_of};
+ghost use Rattle.roam_typing.specs.Entries.{Says, acts_in, begins_separator, cut_of, most_cuts, parts_of};
 ghost use Rattle.roam_typing.specs.declared.entries.Entry.{Entry as EntryOf};
 
 use roam_acts::{Act, read_act};
@@ -102,6 +102,7 @@ pub fn read_entry(alloc: Global, line: &[u8]) -> Result<Entry, Fault>
     ensures found { IfOk result (λ entry. Says line.now entry) }
     // What is said so is read.
     ensures only { (entry : EntryOf) → Says line.now entry → MatchResult result (λ e. Says line.now e) (λ f. f ≡ Fault.OutOfMemory) }
+    ensures in_range { IfOk result (λ entry. All IsInRange (acts_in entry)) }
     ensures fault { IfErr result (λ fault. (fault ≡ Fault.BadAct) ⊎ (fault ≡ Fault.OutOfMemory)) }
 {
     if line == b"repaint".as_slice() {
