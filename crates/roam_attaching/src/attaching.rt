@@ -383,9 +383,9 @@ fn follow_terminals<R: Files + Net + Clock + RandomSource + AllocGlobal>(
         ⊎ ((k : ℕ) × (fault ≡ RunFault.Act (k + 1))) ⊎ (fault ≡ RunFault.Bind) ⊎ (fault ≡ RunFault.Write)
         ⊎ (fault ≡ RunFault.Connect)) }
 {
-    let mut client = client_for(rt, attach)?;
+    let client = client_for(rt, attach)?;
     let link = link_for(rt, attach)?;
-    host(rt, rt.alloc(), path, attach.turns, &mut client, link, home_of(attach.home))
+    host(rt, rt.alloc(), path, attach.turns, client, link, home_of(attach.home))
 }
 
 /// Follows a session and types acts, one a turn where it is taken: it takes the turns, waiting where one brought nothing, paints what the

@@ -9,7 +9,7 @@ ghost use Rattle.roam_attaching.specs.Ways.{has_ended};
 use crate::link::Link;
 use mio::net::UnixStream;
 use roam_hub::Addr;
-use roam_links::LONGEST_WAIT;
+use roam_links::SHORT_WAIT;
 use roam_terminals::{End, Silence, notice};
 use roam_turns::Ports;
 use std::alloc::Global;
@@ -119,7 +119,7 @@ impl<R: Clock + Drop, W: Write + Drop> ClientPorts<R, W> {
         ensures others { self.new ≡ record self.old { link = self.new.link } }
         ensures link { self.new.link ≡ record self.old.link { waits = self.new.link.waits; way = self.new.link.way } }
     {
-        self.link.rest(LONGEST_WAIT);
+        self.link.rest(SHORT_WAIT);
     }
 
     /// Sends what waits to go, as much as goes now, and doesn't wait.

@@ -6,8 +6,8 @@ use mio::net::{UnixListener, UnixStream};
 use roam_cells::Fault;
 use roam_faults::RunFault;
 use roam_hub::{Addr, Client};
-use roam_links::{LONGEST_WAIT, listen};
-use roam_terminals::{End, MOST_TERMINALS, Painter, Terminals};
+use roam_links::{listen, wait_until};
+use roam_terminals::{End, MOST_TERMINALS, Painter, SharedStart};
 use std::alloc::Global;
 use std::fs::{Files, remove_file};
 use std::net::Net;
@@ -16,11 +16,11 @@ use std::time::Clock;
 /// How many milliseconds a start goes on at most after a terminal asked for its end.
 const SECOND: u64 = 1000;
 
-// A client start with its outer terminals, round its link.
+// A client start with its outer terminals, and the socket at which they come.
 #[derive(Drop)]
 struct Start<R> {
     listener: UnixListener,
-    terminals: Terminals<UnixStream>,
+    shared: SharedStart<UnixStream>,
     painter: Painter<Link<R>>,
     to: Addr,
     // When a terminal asked for the end.
@@ -36,37 +36,50 @@ impl<R: Clock + Drop> Start<R> {
             };
             self.painter.ports().report(&mut stream, true);
             // One for which there is no room or memory may come again.
-            let _ = self.terminals.add(alloc, stream);
+            let _ = self.shared.add(alloc, stream);
         }
         self.painter.ports().stir();
     }
 
     // Whether the start is over, as one of the terminals asked: all acts that were typed are acknowledged, or a second passed.
-    fn is_over(&mut self, client: &Client) -> bool {
-        if !self.terminals.is_ending() {
+    fn is_over(&mut self) -> bool {
+        if !self.shared.is_ending() {
             return false;
         }
         let silence = self.painter.silence();
         let asked = self.asked.unwrap_or(silence.moment());
         self.asked = Some(asked);
-        client.is_settled() || silence.has_passed(asked, SECOND)
+        self.shared.client().is_settled() || silence.has_passed(asked, SECOND)
+    }
+
+    // Waits until something comes or is due, so many milliseconds at most.
+    fn rest(&mut self, longest: u64) {
+        let silence = self.painter.silence();
+        let due = wait_until(self.shared.client().next_due(), silence.moment());
+        let told = if self.shared.len() > 0 {
+            silence.wait()
+        } else {
+            u64::MAX
+        };
+        let asked = if self.asked.is_some() { SECOND } else { u64::MAX };
+        if longest == 0 {
+            self.painter.ports().stir();
+        }
+        self.painter.ports().rest(longest.min(due).min(told).min(asked));
     }
 
     // Takes rounds, and waits where one brought nothing.
-    fn run(&mut self, alloc: Global, client: &mut Client, rounds: u64) -> End {
+    fn run(&mut self, alloc: Global, rounds: u64) -> End {
         for _ in 0..rounds {
             self.accept(alloc);
-            let wait = self.terminals.round(alloc, client, &mut self.painter, self.to);
+            let wait = self.shared.round(alloc, &mut self.painter, self.to);
             if self.painter.ports().has_ended() {
                 return End::Gone;
             }
-            if self.is_over(client) {
+            if self.is_over() {
                 break;
             }
-            if wait == 0 {
-                self.painter.ports().stir();
-            }
-            self.painter.ports().rest(wait.min(LONGEST_WAIT));
+            self.rest(wait);
         }
         self.painter.silence().end()
     }
@@ -78,7 +91,7 @@ pub(crate) fn host<R: Files + Net, C: Clock + Drop>(
     alloc: Global,
     path: &str,
     rounds: u64,
-    client: &mut Client,
+    client: Client,
     link: Link<C>,
     to: Addr,
 ) -> Result<End, RunFault>
@@ -90,12 +103,12 @@ pub(crate) fn host<R: Files + Net, C: Clock + Drop>(
     link.report(&mut listener, false);
     let mut start = Start {
         listener,
-        terminals: Terminals::new(alloc),
+        shared: SharedStart::new(alloc, client),
         painter: Painter::new(alloc, link),
         to,
         asked: None,
     };
-    let end = start.run(alloc, client, rounds);
+    let end = start.run(alloc, rounds);
     // A file that somebody removed before is no matter.
     let _ = remove_file(rt, path);
     Ok(end)

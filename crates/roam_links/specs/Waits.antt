@@ -1,5 +1,5 @@
--- What a wait reports.
-use Rattle.std.specs.Prelude.{◌==◌, ◌&&◌, Bool, List}
+-- What a wait reports, and how long it may be.
+use Rattle.std.specs.Prelude.{ℕ, ◌-◌, ◌==◌, ◌&&◌, nat_le, min, Bool, List, Option, Some, None, if◌then◌else◌}
 use Rattle.std.specs.List.{list_any}
 use Rattle.mio.specs.declared.event.event.Event.{Event}
 use Rattle.mio.specs.Event.{event_token, is_write_closed}
@@ -11,3 +11,8 @@ is_unread event = ((event_token event).0 == 1) && is_write_closed event
 -- one of these events tells that nobody does
 abbrev pub tell_of_no_reader : List Event → Bool
 tell_of_no_reader events = list_any is_unread events
+
+-- how long may be waited for what is due, if ever, in milliseconds: ten where it is due already, an hour at most
+abbrev pub wait_until : Option ℕ → ℕ → ℕ
+wait_until None now = 3600000
+wait_until (Some due) now = if nat_le due now then 10 else min 3600000 (due - now)

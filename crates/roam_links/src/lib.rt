@@ -15,4 +15,4 @@ pub use clients::{Clients, address_of};
 pub use files::{is_own, listen, write_alone};
 pub use moments::Moments;
 pub use udp::{Udp, loopback};
-pub use waits::{LONGEST_WAIT, Waits};
+pub use waits::{SHORT_WAIT, Waits, wait_until};

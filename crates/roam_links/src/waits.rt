@@ -1,7 +1,7 @@
 //! The wait for what comes.
 ghost use Rattle.std.specs.Prelude.{◌≡◌, ◌⊎◌, ◌&&◌, ◌||◌, true, false, IfErr, IfOk};
 ghost use Rattle.mio.specs.Events.{items};
-ghost use Rattle.roam_links.specs.Waits.{tell_of_no_reader};
+ghost use Rattle.roam_links.specs.Waits.{tell_of_no_reader, wait_until};
 
 use mio::event::Source;
 use mio::unix::SourceFd;
@@ -13,8 +13,11 @@ use std::net::Net;
 use std::os::fd::RawFd;
 use std::time::Duration;
 
-/// How many milliseconds a program waits at most where something isn't reported: a growth that was refused may go well then.
-pub const LONGEST_WAIT: u64 = 10;
+/// How many milliseconds a program waits where something was refused that was due: there may be memory for it then.
+pub const SHORT_WAIT: u64 = 10;
+
+/// How many milliseconds it waits at most.
+const LONGEST_WAIT: u64 = 3_600_000;
 
 /// How many sources a wait reports at most; more are reported by the next.
 const MOST_EVENTS: usize = 32;
@@ -30,6 +33,18 @@ pub struct Waits {
     events: Events<Global>,
     quiet: bool,
     unread: bool,
+}
+
+/// How many milliseconds may be waited from a moment on for what is due at another, if ever, after all that was due before was done: ten
+/// where it is due already, an hour at most.
+pub fn wait_until(due: Option<u64>, now: u64) -> u64
+    ensures wait { result ≡ wait_until due now }
+{
+    match due {
+        None => LONGEST_WAIT,
+        Some(due) if due <= now => SHORT_WAIT,
+        Some(due) => LONGEST_WAIT.min(due - now),
+    }
 }
 
 // Whether a wait reported that nobody reads the descriptor any more that is watched.

@@ -118,13 +118,14 @@ impl Follower {
         true
     }
 
-    // Does what its lines ask for, while no close is under way.
-    fn take_lines(&mut self, alloc: Global, now: &PaneList, closer: &mut Closer, moment: u64) {
+    // Does what its lines ask for, while no close is under way, and tells whether more of them may be there.
+    fn take_lines(&mut self, alloc: Global, now: &PaneList, closer: &mut Closer, moment: u64) -> bool {
         for _ in 0..MOST_LINES {
             if !closer.is_free() || !self.take_line(alloc, now, closer, moment) {
-                return;
+                return false;
             }
         }
+        true
     }
 
     // Tells the program what is new of the panes. One that leaves 65,536 bytes waiting is let go, and so is one for which there is no
@@ -193,7 +194,7 @@ impl Followers {
     }
 
     /// Tells the programs what is new of the panes, one that comes all, and does what their lines ask for: a close each time. Those that left
-    /// are let go.
+    /// are let go. Tells whether more may be asked for already.
     pub(crate) fn tell(
         &mut self,
         alloc: Global,
@@ -201,19 +202,21 @@ impl Followers {
         now: &PaneList,
         closer: &mut Closer,
         moment: u64,
-    )
+    ) -> bool
         ensures path { self.new.path ≡ self.old.path }
     {
         closer.settle(now);
         self.accept(alloc, registry);
+        let mut may_ask = false;
         for follower in self.all.iter_mut() {
-            follower.take_lines(alloc, now, closer, moment);
+            may_ask = follower.take_lines(alloc, now, closer, moment) || may_ask;
             follower.tell(alloc, now);
         }
         self.all.retain(|follower| follower.peer.is_there());
         if self.all.len() > 1 {
             self.all.rotate_left(1);
         }
+        may_ask
     }
 
     /// Removes the socket's file.

@@ -14,7 +14,7 @@ use crate::panes::Panes;
 use roam_cells::Fault;
 use roam_faults::RunFault;
 use roam_hub::Addr;
-use roam_links::{Clients, LONGEST_WAIT, Moments, Udp, Waits};
+use roam_links::{Clients, Moments, Udp, Waits, wait_until};
 use roam_pane_list::PaneList;
 use roam_turns::Ports;
 use std::alloc::Global;
@@ -194,15 +194,16 @@ impl<R: Clock + Drop> ServerPorts<R> {
         }
     }
 
-    /// Writes what waits for client starts, takes those that come, and waits until something comes, so many milliseconds at most, where
-    /// nothing came since the last call and no datagram of its own start waits.
-    pub fn rest(&mut self, longest: u64)
+    /// Writes what waits for client starts, takes those that come, and waits until something comes or is due at a moment, where nothing came
+    /// since the last call and no datagram of its own start waits.
+    pub fn rest(&mut self, due: Option<u64>)
         ensures quiet { self.new.waits.quiet ≡ true }
         ensures panes { self.new.panes ≡ self.old.panes }
     {
         if !self.clients.flush() || !self.closer.is_free() {
             self.waits.stir();
         }
+        let longest = wait_until(due, self.moment);
         let is_paced = !flush_udp(&mut self.udp, self.moment);
         let waits = self.waits.is_quiet();
         self.waits
@@ -215,13 +216,16 @@ impl<R: Clock + Drop> ServerPorts<R> {
     pub fn tell_panes(&mut self, now: &PaneList)
         ensures panes { self.new.panes ≡ self.old.panes }
     {
-        self.followers.tell(
+        let may_ask = self.followers.tell(
             self.alloc,
             self.waits.registry(),
             now,
             &mut self.closer,
             self.moment,
         );
+        if may_ask {
+            self.waits.stir();
+        }
     }
 
     // A datagram from the streams or from the port, whichever is to be asked first now, or else from the other.

@@ -10,7 +10,7 @@ use crate::server_ports::{OwnStart, ServerPorts};
 use roam_cells::Fault;
 use roam_faults::RunFault;
 use roam_hub::Server;
-use roam_links::{LONGEST_WAIT, Moments, is_own, random_id, write_alone};
+use roam_links::{Moments, is_own, random_id, write_alone};
 use roam_pane_list::{ListedPane, PaneList};
 use roam_turns::serve_turn;
 use std::alloc::Global;
@@ -72,7 +72,7 @@ fn serve_turns<C: Clock + Drop>(
     for _ in 0..turns {
         serve_turn(alloc, server, ports);
         ports.tell_panes(&panes_of(server));
-        ports.rest(LONGEST_WAIT);
+        ports.rest(server.next_due());
     }
 }
 

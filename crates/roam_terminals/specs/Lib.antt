@@ -1,3 +1,4 @@
 pub mod Lines
+pub mod Sharing
 pub mod Silence
 pub mod Terminals

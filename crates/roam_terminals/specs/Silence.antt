@@ -1,5 +1,5 @@
 -- What an outer terminal is told where a client start hears nothing.
-use Rattle.std.specs.Prelude.{ℕ, ◌-◌, ◌/◌, ◌&&◌, ◌==◌, not, nat_le, nat_lt, Bool, true, false, List, ◌∷◌, ◌++◌, Option, Some, None, is_some, if◌then◌else◌, codes, decimal}
+use Rattle.std.specs.Prelude.{ℕ, ◌-◌, ◌/◌, ◌%◌, ◌&&◌, ◌==◌, not, nat_le, nat_lt, Bool, true, false, List, ◌∷◌, ◌++◌, Option, Some, None, is_some, if◌then◌else◌, codes, decimal}
 use Rattle.roam_terminals.specs.declared.silence.Silence.{Silence}
 use Rattle.roam_terminals.specs.declared.silence.End.{End}
 use Rattle.roam_terminals.specs.declared.silence.End.TheVariants.{Heard, Silent, Unheard}
@@ -21,6 +21,12 @@ is_told (Some told) seconds = told == seconds
 -- what is to be told: a silence of ten seconds and more, each second once
 abbrev pub due_of : Silence → Option ℕ
 due_of s = if nat_le 10 (seconds_of s) && not (is_told s.told (seconds_of s)) then Some (seconds_of s) else None
+
+-- after so many milliseconds there is something to be told next: at ten seconds, and then at each second
+abbrev pub wait_of : Silence → ℕ
+wait_of s =
+    if nat_lt (s.moment - last_heard s.heard) 10000 then 10000 - (s.moment - last_heard s.heard)
+    else 1000 - (s.moment - last_heard s.heard) % 1000
 
 -- a silence that was told is over
 abbrev pub is_over : Silence → Bool

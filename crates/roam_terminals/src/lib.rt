@@ -5,12 +5,12 @@
 pub mod laws;
 mod lines;
 mod painter;
+mod sharing;
 mod silence;
 mod terminal;
-mod terminals;
 
 pub use lines::{Front, LONGEST_LINE, Lines};
 pub use painter::Painter;
+pub use sharing::{MOST_TERMINALS, SharedStart};
 pub use silence::{End, Silence, notice};
 pub use terminal::Terminal;
-pub use terminals::{MOST_TERMINALS, Terminals};

@@ -1,6 +1,6 @@
 //! What a client start knows of its server without asking: for how long it heard nothing, and what the outer terminal says of that.
 ghost use Rattle.std.specs.Prelude.{◌≡◌, ◌↔◌, ◌≤◌, ◌-◌, Some, None, is_some, IsTrue, IfOk, IsOkUnless};
-ghost use Rattle.roam_terminals.specs.Silence.{seconds_of, due_of, is_over, end_of, notice_of};
+ghost use Rattle.roam_terminals.specs.Silence.{seconds_of, due_of, is_over, end_of, notice_of, wait_of};
 
 use roam_cells::Fault;
 use std::alloc::Global;
@@ -123,6 +123,22 @@ impl Silence {
             Some(seconds)
         } else {
             None
+        }
+    }
+
+    /// After how many milliseconds there is something to be told next, where nothing is heard.
+    pub fn wait(&self) -> u64
+        ensures wait { result ≡ wait_of self.now }
+    {
+        let heard = match self.heard {
+            None => 0,
+            Some(moment) => moment,
+        };
+        let passed = self.moment.saturating_sub(heard);
+        if passed < 1000 * LONG {
+            1000 * LONG - passed
+        } else {
+            1000 - passed % 1000
         }
     }
 

@@ -242,7 +242,11 @@ impl<S: Read + Write + Drop> Terminal<S> {
             }
             Entry::End => {
                 self.lines.took();
-                if self.watches { Taking::Line } else { Taking::End }
+                if self.watches {
+                    Taking::Line
+                } else {
+                    Taking::End
+                }
             }
         }
     }
@@ -370,7 +374,11 @@ impl<S: Read + Write + Drop> Terminal<S> {
             }
             return;
         }
-        let since = if has_taken { now } else { self.stuck.unwrap_or(now) };
+        let since = if has_taken {
+            now
+        } else {
+            self.stuck.unwrap_or(now)
+        };
         self.stuck = Some(since);
         if now.saturating_sub(since) >= LONGEST_STUCK {
             self.state = State::Gone;

@@ -1,8 +1,8 @@
-//! A caller of `roam_sockets`, as its README shows it (`tools/worked_callers`).
+//! A caller of `roam_serving`, as its README shows it (`tools/worked_callers`).
 
 // README: begin
 use roam_faults::RunFault;
-use roam_sockets::{Serve, run_serve};
+use roam_serving::{Serve, run_serve};
 use std::fs::Files;
 use std::net::Net;
 use std::random::RandomSource;

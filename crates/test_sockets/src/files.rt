@@ -5,7 +5,7 @@
 //! not bind them.
 use roam_faults::RunFault;
 use roam_links::Moments;
-use roam_sockets::ServerPorts;
+use roam_serving::{OwnStart, ServerPorts};
 use std::fs::{create_dir, exists, remove_file, write};
 use std::os::unix::fs::symlink;
 use std::test::*;
@@ -15,7 +15,7 @@ pub fn ports_in<'a>(
     rt: &'a HostRuntime,
     folder: &str,
 ) -> Result<ServerPorts<&'a HostRuntime>, RunFault> {
-    ServerPorts::bind(rt, rt.alloc(), folder, Some(0), Moments::Set(0))
+    ServerPorts::bind(rt, rt.alloc(), folder, Some(0), Moments::Set(0), OwnStart { session: 1, id: 0xFF })
 }
 
 fn is_refused(rt: &HostRuntime, folder: &str) -> bool {

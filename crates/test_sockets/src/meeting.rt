@@ -11,7 +11,8 @@ use roam_acts::{Act, Key, read_act};
 use roam_hub::{Addr, Client, Server};
 use roam_links::{Moments, loopback};
 use roam_screens::Seen;
-use roam_sockets::{ClientPorts, ServerPorts};
+use roam_attaching::{ClientPorts, Link};
+use roam_serving::{OwnStart, ServerPorts};
 use roam_turns::{Outer, attach_turn, serve_turn};
 use std::alloc::Global;
 use std::fs::create_dir;
@@ -63,7 +64,7 @@ impl<'a> Meeting<'a> {
     {
         self.server_ports.set_moment(moment);
         serve_turn(alloc, &mut self.server, &mut self.server_ports);
-        self.server_ports.rest(alloc);
+        self.server_ports.rest(Some(0));
     }
 
     // One turn of each end.
@@ -182,9 +183,11 @@ fn client_ports<'a>(
 ) -> Result<ClientPorts<&'a HostRuntime, Vec<u8>>, Fail> {
     let painted = Vec::new(rt.alloc());
     if is_stream {
-        return Ok(ClientPorts::connect(rt, rt.alloc(), folder, Moments::Set(0), painted)?);
+        let link = Link::connect(rt, rt.alloc(), folder, Moments::Set(0))?;
+        return Ok(ClientPorts::new(link, painted));
     }
-    Ok(ClientPorts::bind(rt, rt.alloc(), Moments::Set(0), painted)?)
+    let link = Link::bind(rt, rt.alloc(), Moments::Set(0))?;
+    Ok(ClientPorts::new(link, painted))
 }
 
 /// A server whose panes are in a folder, and a client start, which reaches it by UDP or over a stream.
@@ -192,7 +195,7 @@ fn meeting_of<'a>(rt: &'a HostRuntime, folder: &str, is_stream: bool) -> Result<
     ensures behind { IfOk result (λ m. IsBehind m.outer m.client.receiver.newest.number m.client.receiver.newest.state) }
 {
     let alloc = rt.alloc();
-    let server_ports = ServerPorts::bind(rt, alloc, folder, Some(0), Moments::Set(0))?;
+    let server_ports = ServerPorts::bind(rt, alloc, folder, Some(0), Moments::Set(0), OwnStart { session: 1, id: 0xFF })?;
     let home = loopback(server_ports.port().unwrap_or(0));
     Ok(Meeting {
         server: Server::new(alloc, 0x5E55, 24, 80)?,

@@ -7,7 +7,7 @@
 use crate::files::{first_untrue, is_so, ports_in};
 use crate::programs::Programs;
 use roam_pane_list::{ListedPane, PaneList};
-use roam_sockets::ServerPorts;
+use roam_serving::ServerPorts;
 use roam_turns::Ports;
 use std::alloc::Global;
 use std::test::*;
@@ -107,7 +107,7 @@ fn list_of(words: &str) -> Option<PaneList> {
 fn is_told(alloc: Global, ports: &mut ServerPorts<&HostRuntime>, words: &str) -> bool {
     match list_of(words) {
         Some(panes) => {
-            ports.tell_panes(alloc, &panes);
+            ports.tell_panes(&panes);
             true
         }
         None => false,

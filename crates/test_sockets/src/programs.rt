@@ -1,6 +1,6 @@
 //! What a program does at a socket, as text.
 //!
-//! `connects PATH` and `leaves`; `writes TEXT`; `reads TEXT`, just that, where `/` stands for the end of a line; `waits`: it is neither let
+//! `connects PATH` and `leaves`; `writes TEXT`; `types TEXT`, in which `/` is written as the end of a line; `reads TEXT`, just that, where `/` stands for the end of a line; `waits`: it is neither let
 //! go nor told anything; `is let go`: there is nothing more for it to read, or what it wrote last was never read; `is let go unread`: what
 //! it wrote last was never read.
 use mio::net::UnixStream;
@@ -52,10 +52,25 @@ fn writes(program: &mut UnixStream, text: &str) -> bool {
     }
 }
 
+// Writes a text, in which `/` stands for the end of a line.
+fn types(program: &mut UnixStream, text: &str) -> bool {
+    let mut buf = [0u8; 256];
+    let mut count = 0;
+    for (place, byte) in buf.iter_mut().zip(text.as_bytes().iter()) {
+        *place = if *byte == b'/' { b'\n' } else { *byte };
+        count += 1;
+    }
+    match program.write(&buf[..count]) {
+        Ok(written) => written == text.len(),
+        Err(_) => false,
+    }
+}
+
 fn writes_or_reads(program: &mut UnixStream, words: &str) -> bool {
     match words.split_once(' ') {
         Some((verb, text)) => match verb {
             "writes" => writes(program, text),
+            "types" => types(program, text),
             "reads" => reads(program, text),
             _ => false,
         },

@@ -1,7 +1,9 @@
 //! Runs of `roam serve` and `roam attach`: what ends them, and what stays.
 use crate::files::ports_in;
 use roam_faults::RunFault;
-use roam_sockets::{Attach, End, Home, Serve, Typed, follow_session, run_attach, run_serve};
+use roam_attaching::{Attach, Home, Typed, follow_session, run_attach};
+use roam_serving::{Serve, run_serve};
+use roam_terminals::End;
 use roam_wire::Version;
 use std::fs::{DirBuilder, create_dir, remove_file, write};
 use std::io;

@@ -5,7 +5,8 @@
 //! `11 s` stand for the notices of as many seconds; `hears`: a datagram comes to the client start; `is` and what is so then.
 use mio::net::UdpSocket;
 use roam_links::{Moments, loopback};
-use roam_sockets::{ClientPorts, End};
+use roam_attaching::{ClientPorts, Link};
+use roam_terminals::End;
 use roam_turns::Ports;
 use std::alloc::Global;
 use std::io::{PipeReader, PipeWriter, Read, pipe};
@@ -120,7 +121,8 @@ fn first_undone<'a>(
 // The first line that isn't so of a client start that paints into a pipe.
 fn first_wrong<'a>(rt: &HostRuntime, lines: &'a str) -> Result<Option<&'a str>, Fail> {
     let (mut reader, writer) = pipe(rt)?;
-    let mut ports = ClientPorts::bind(rt, rt.alloc(), Moments::Set(0), writer)?;
+    let link = Link::bind(rt, rt.alloc(), Moments::Set(0))?;
+    let mut ports = ClientPorts::new(link, writer);
     first_undone(rt, &mut ports, &mut reader, lines)
 }
 
@@ -181,7 +183,8 @@ is given up
 fn first_wrong_unread<'a>(rt: &HostRuntime, lines: &'a str) -> Result<Option<&'a str>, Fail> {
     let (reader, writer) = pipe(rt)?;
     drop(reader);
-    let mut ports = ClientPorts::bind(rt, rt.alloc(), Moments::Set(0), writer)?;
+    let link = Link::bind(rt, rt.alloc(), Moments::Set(0))?;
+    let mut ports = ClientPorts::new(link, writer);
     let (mut other, _) = pipe(rt)?;
     first_undone(rt, &mut ports, &mut other, lines)
 }
@@ -205,8 +208,9 @@ fn sees_nobody(ports: &mut ClientPorts<&HostRuntime, Vec<u8>>, reader: PipeReade
 fn is_nobody_seen(rt: &HostRuntime) -> Result<bool, Fail> {
     let (reader, writer) = pipe(rt)?;
     let painted = Vec::new(rt.alloc());
-    let mut ports = ClientPorts::bind(rt, rt.alloc(), Moments::Set(0), painted)?;
-    ports.watch(writer.as_raw_fd());
+    let mut link = Link::bind(rt, rt.alloc(), Moments::Set(0))?;
+    link.watch(writer.as_raw_fd());
+    let mut ports = ClientPorts::new(link, painted);
     Ok(sees_nobody(&mut ports, reader))
 }
 

@@ -1,0 +1,72 @@
+-- A client start with its outer terminals, and a round of it: each is heard, and then each that is ready takes a turn.
+use Rattle.std.specs.Prelude.{◌≡◌, ◌⊎◌, ℕ, Bool, false, List, [], ◌∷◌, Option, Some, None}
+use Rattle.roam_hub.specs.Clients.{ClientView}
+use Rattle.roam_hub.specs.declared.addresses.Addr.{Addr}
+use Rattle.roam_screens.specs.Screenshot.{Screenshot}
+use Rattle.roam_turns.specs.Cores.{client_step}
+use Rattle.roam_turns.specs.Painting.{IsBehind, Led}
+use Rattle.roam_turns.specs.Parts.{Makes}
+use Rattle.roam_turns.specs.Turns.{AttachTurn}
+use Rattle.roam_turns.specs.declared.outer.Noted.{Noted}
+use Rattle.roam_terminals.specs.Terminals.{Hears}
+use Rattle.roam_terminals.specs.declared.terminal.Terminal.{Terminal}
+
+-- so many terminals may be there at once
+abbrev pub most_terminals : ℕ
+most_terminals = 16
+
+-- a client start, its terminals and nobody, who is one where no other takes a turn; and whether one asked for the end
+pub record Shared (S : Type 0) : Type 0 where
+  pub client : ClientView
+  pub all : List (Terminal S)
+  pub nobody : Option Noted
+  pub is_ending : Bool
+
+-- what is noted of each terminal was shown by the start before
+abbrev pub AreEachBehind : {S : Type 0} → List (Terminal S) → ℕ → Screenshot → Type 0
+AreEachBehind [] n s = Unit {0}
+AreEachBehind (terminal ∷ terminals) n s = IsBehind terminal.outer n s × AreEachBehind terminals n s
+
+-- and so was what is noted of nobody
+pub record AreBehind {S : Type 0} (all : List (Terminal S)) (nobody : Option Noted) (n : ℕ) (s : Screenshot) : Type 0 where
+  pub each : AreEachBehind all n s
+  pub nobody : IsBehind nobody n s
+
+-- each terminal was heard, one after the other, and its acts typed
+abbrev pub HearsAll : {S : Type 0} → (S → Option (List ℕ)) → List (Terminal S) → List (Terminal S) → ClientView → ClientView → Type 0
+HearsAll remaining [] [] client client' = client' ≡ client
+HearsAll remaining [] (t ∷ ts) client client' = ⊥
+HearsAll remaining (t ∷ ts) [] client client' = ⊥
+HearsAll remaining (t ∷ ts) (t' ∷ ts') client client' =
+    (mid : ClientView)
+    × Hears (remaining t.stream) (remaining t'.stream) t.lines.kept t'.lines.kept t.watches t'.watches t'.state client mid
+    × HearsAll remaining ts ts' mid client'
+
+-- a terminal took a turn of the start: what waits for it then leads it from what was noted to what is
+pub record Turns {S : Type 0} (to : Addr) (old new : Terminal S) (client client' : ClientView) : Type 0 where
+  pub ready : old.waiting ≡ []
+  pub makes : Makes client_step (AttachTurn client'.receiver.newest.number client'.receiver.newest.state old.outer new.outer to None false)
+      None None None None client client'
+  pub led : Led old.outer (Some []) new.outer (Some new.waiting)
+
+-- each took a turn, or was left as it was, one after the other
+abbrev pub TurnsAll : {S : Type 0} → Addr → List (Terminal S) → List (Terminal S) → ClientView → ClientView → Type 0
+TurnsAll to [] [] client client' = client' ≡ client
+TurnsAll to [] (t ∷ ts) client client' = ⊥
+TurnsAll to (t ∷ ts) [] client client' = ⊥
+TurnsAll to (t ∷ ts) (t' ∷ ts') client client' =
+    (mid : ClientView) × (Turns to t t' client mid ⊎ ((t' ≡ t) × (mid ≡ client))) × TurnsAll to ts ts' mid client'
+
+-- nobody took a turn of the start
+abbrev pub TurnsAlone : Addr → ClientView → ClientView → Type 0
+TurnsAlone to client client' =
+    (outer outer' : Option Noted) × Makes client_step
+    (AttachTurn client'.receiver.newest.number client'.receiver.newest.state outer outer' to None false) None None None None client client'
+
+-- A round: all terminals are heard first, and so what they typed stands in one instruction; then turns are taken.
+pub record Rounds {S : Type 0} (remaining : S → Option (List ℕ)) (to : Addr) (old new : Shared S) : Type 0 where
+  pub heard : List (Terminal S)
+  pub turned : List (Terminal S)
+  pub client : ClientView
+  pub hears : HearsAll remaining old.all heard old.client client
+  pub turns : TurnsAll to heard turned client new.client ⊎ ((turned ≡ heard) × TurnsAlone to client new.client)

@@ -1,0 +1,139 @@
+//! The outer terminals of a client start that never hears of its server: what is typed there, and what each is painted.
+//!
+//! `round` takes those that wait at the socket, and a round; `acts N` sees how many acts were typed; `terminals N` how many are there;
+//! `ends` and `goes on` whether the start's end was asked for.
+use crate::programs::Programs;
+use mio::net::{UnixListener, UnixStream};
+use roam_hub::Client;
+use roam_links::{listen, loopback};
+use roam_terminals::{Painter, SharedStart};
+use roam_turns::MemoryPorts;
+use std::alloc::Global;
+use std::fs::create_dir;
+use std::test::*;
+
+/// A start with its terminals, the socket at which they come, and programs that come there.
+#[derive(Drop)]
+struct Place {
+    listener: UnixListener,
+    shared: SharedStart<UnixStream>,
+    painter: Painter<MemoryPorts>,
+}
+
+fn place_at(rt: &HostRuntime, path: &str) -> Result<Option<Place>, Fail> {
+    let Some(listener) = listen(rt, path) else {
+        return Ok(None);
+    };
+    let client = Client::new(rt.alloc(), 1, 0xA1)?;
+    Ok(Some(Place {
+        listener,
+        shared: SharedStart::new(rt.alloc(), client),
+        painter: Painter::new(rt.alloc(), MemoryPorts::new(rt.alloc())),
+    }))
+}
+
+impl Place {
+    // Takes those that wait at the socket, and a round.
+    fn round(&mut self, alloc: Global) -> bool {
+        for _ in 0..4u8 {
+            if let Ok((stream, _)) = self.listener.accept() {
+                let _ = self.shared.add(alloc, stream);
+            }
+        }
+        let _ = self.shared.round(alloc, &mut self.painter, loopback(5000));
+        true
+    }
+
+    // Whether this is so, or is done.
+    fn is_so(&mut self, alloc: Global, line: &str) -> bool {
+        match line {
+            "round" => self.round(alloc),
+            "ends" => self.shared.is_ending(),
+            "goes on" => !self.shared.is_ending(),
+            _ => match line.split_once(' ') {
+                Some(("acts", count)) => count.parse::<usize>() == Ok(self.shared.client().unacknowledged()),
+                Some(("terminals", count)) => count.parse::<usize>() == Ok(self.shared.len()),
+                _ => false,
+            },
+        }
+    }
+}
+
+// The first line that isn't so.
+fn first_wrong<'a>(
+    rt: &HostRuntime,
+    path: &str,
+    lines: &'a str,
+) -> Result<Option<&'a str>, Fail> {
+    let Some(mut place) = place_at(rt, path)? else {
+        return Ok(Some("no socket"));
+    };
+    let mut programs = Programs::new();
+    for line in lines.lines() {
+        let is_done = match line.split_once(' ') {
+            Some((who @ ("first" | "second"), words)) => programs.does(rt, who, words)?,
+            _ => place.is_so(rt.alloc(), line),
+        };
+        if !is_done {
+            return Ok(Some(line));
+        }
+    }
+    Ok(None)
+}
+
+/// The screen numbered 0 opens each terminal. Acts of one line are typed all or none, none of a terminal that only watches; a line that
+/// asks for nothing ends its terminal alone, and one that isn't ended is let go with it; `repaint` opens the terminal that says it.
+const LINES: &str = "\
+first connects shared/terminals
+second connects shared/terminals
+round
+terminals 2
+first reads \x1Bc\x1B[?25l\x1B[0m\x1B[1;1H\x1B[?25h
+second reads \x1Bc\x1B[?25l\x1B[0m\x1B[1;1H\x1B[?25h
+first types char 61 ; char 62/char 63/char
+round
+acts 2
+round
+acts 3
+first types  64/
+round
+acts 4
+second types watch/char 65/repaint/end/
+round
+round
+round
+round
+goes on
+acts 4
+first waits
+second reads \x1Bc\x1B[?25l\x1B[0m\x1B[1;1H\x1B[?25h
+second types watch/char 66/
+round
+second reads \r/roam: line 5: bad act\r/
+second is let go
+terminals 1
+first types char 61 ; char 62 ; bogus/
+round
+acts 4
+terminals 0
+second connects shared/terminals
+round
+second reads \x1Bc\x1B[?25l\x1B[0m\x1B[1;1H\x1B[?25h
+second types char 61/char 62
+second leaves
+round
+acts 5
+terminals 0
+second connects shared/terminals
+second types end/
+round
+ends
+acts 5";
+
+#[test]
+fn terminals_share_a_start(rt: HostRuntime) -> Result<(), Fail> {
+    create_dir(&rt, "shared")?;
+    let wrong = first_wrong(&rt, "shared/terminals", LINES)?;
+    assert!(rt; wrong.is_none(), "{wrong:?}");
+    Ok(())
+}
