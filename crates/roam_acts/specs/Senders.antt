@@ -20,6 +20,18 @@ last_number s = s.acked + length s.acts
 abbrev pub after_typing : Typing → Act → Typing
 after_typing s act = record s { acts = s.acts ++ act ∷ [] }
 
+-- several more acts were typed
+abbrev pub after_typing_all : Typing → List Act → Typing
+after_typing_all s acts = record s { acts = s.acts ++ acts }
+
+-- with so many more acts, more than 1,024 would be unacknowledged
+abbrev pub HasNoRoom : Typing → ℕ → Type 0
+HasNoRoom s count = most_unacknowledged < length s.acts + count
+
+-- there is room for so many acts, and the number of the last would be 2^62 or more
+abbrev pub IsShort : Typing → ℕ → Type 0
+IsShort s count = (length s.acts + count ≤ most_unacknowledged) × (number_limit ≤ last_number s + count)
+
 -- 1,024 acts are unacknowledged
 abbrev pub IsFull : Typing → Type 0
 IsFull s = length s.acts ≡ most_unacknowledged

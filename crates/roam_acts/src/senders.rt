@@ -1,7 +1,7 @@
 //! The sending end of acts: what was typed and isn't known to have arrived.
-ghost use Rattle.std.specs.Prelude.{◌≡◌, ◌+◌, ◌≤◌, ◌↔◌, ◌⊎◌, ◌^◌, List, [], ◌∷◌, ◌++◌, length, take, drop, OnOk, OnErr, IfErr, IsErrOf};
-ghost use Rattle.roam_acts.specs.Senders.{acked_to, last_number, start, after_typing, HasTyped, IsFull, IsSpent, IsStretch};
-ghost use Rattle.roam_acts.specs.Limits.{number_limit, most_acts};
+ghost use Rattle.std.specs.Prelude.{◌≡◌, ◌+◌, ◌<◌, ◌≤◌, ◌↔◌, ◌⊎◌, ◌^◌, List, [], ◌∷◌, ◌++◌, length, take, drop, OnOk, OnErr, IfErr, IsErrOf};
+ghost use Rattle.roam_acts.specs.Senders.{acked_to, last_number, start, after_typing, after_typing_all, HasTyped, HasNoRoom, IsFull, IsShort, IsSpent, IsStretch};
+ghost use Rattle.roam_acts.specs.Limits.{number_limit, most_acts, most_unacknowledged};
 
 use crate::acts::Act;
 use crate::limits::{MOST_ACTS, MOST_UNACKNOWLEDGED, NUMBER_LIMIT};
@@ -58,6 +58,37 @@ impl ActSender {
         }
         self.acts.push(act)?;
         Ok(())
+    }
+
+    /// Adds acts with the next numbers, in their order: all of them, or none. `Busy` where more than 1,024 would be unacknowledged
+    /// then, `Spent` where the last would have the number 2^62 or a greater one, `OutOfMemory`; a refusal leaves the sender as it was.
+    /// An empty list is always taken.
+    pub fn typed_all(&mut self, acts: &[Act]) -> Result<(), Fault>
+        ensures ok { OnOk result (self.new ≡ after_typing_all self.old acts.now) }
+        ensures stands { OnOk result ((all : List Act) → HasTyped self.old all → HasTyped self.new (all ++ acts.now)) }
+        ensures busy { IsErrOf result Fault.Busy ↔ HasNoRoom self.old (length acts.now) }
+        ensures spent { IsErrOf result Fault.Spent ↔ IsShort self.old (length acts.now) }
+        ensures err { OnErr result (self.new ≡ self.old) }
+        ensures fault { IfErr result (λ e. (e ≡ Fault.OutOfMemory) ⊎ (e ≡ Fault.Busy) ⊎ (e ≡ Fault.Spent)) }
+        // No memory is asked for where nothing is to be added.
+        ensures memory { IsErrOf result Fault.OutOfMemory → 0 < length acts.now }
+    {
+        if acts.len() > MOST_UNACKNOWLEDGED - self.acts.len() {
+            return Err(Fault::Busy);
+        }
+        if self.acked + self.acts.len() as u64 + acts.len() as u64 >= NUMBER_LIMIT {
+            return Err(Fault::Spent);
+        }
+        self.acts.extend_from_slice(acts)?;
+        Ok(())
+    }
+
+    /// How many acts were typed and aren't acknowledged. It takes no memory.
+    pub fn unacknowledged(&self) -> usize
+        ensures count { result ≡ length self.now.acts }
+        ensures most { result ≤ most_unacknowledged }
+    {
+        self.acts.len()
     }
 
     /// Drops the acts up to this number, where it was typed; any other number changes nothing.

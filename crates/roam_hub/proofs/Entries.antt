@@ -197,7 +197,7 @@ alike_is w (e ∷ es) records k =
     go true false f more = absurd (cc)
     go false true f more = absurd (cc)
 
-many : (v : ServerView) (s : Server) (w : Bool) → Stands v s → length (alike s w) ≡ length (alike_entries w v.records)
+pub many : (v : ServerView) (s : Server) (w : Bool) → Stands v s → length (alike s w) ≡ length (alike_entries w v.records)
 many v s w st =
     sym (alike_is w v.records s.records st.records ∙ ap (λ (ks : List ℕ). length (alike_in s.records w ks)) st.arrival)
 

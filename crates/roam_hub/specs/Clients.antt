@@ -1,12 +1,12 @@
 -- What a client start of the code stands for, and what its calls answer and leave.
-use Rattle.std.specs.Prelude.{◌≡◌, ℕ, ◌+◌, ◌||◌, List, [], map, length, Option, Some, None, Result, Ok, Err, Bool, true, false, nat_lt, Vec}
+use Rattle.std.specs.Prelude.{◌≡◌, ℕ, ◌+◌, ◌<◌, ◌||◌, List, [], map, fold, length, Option, Some, None, Result, Ok, Err, Bool, true, false, nat_lt, Vec}
 use Rattle.std.specs.declared.alloc.Global.{Global}
 use Rattle.roam_cells.specs.declared.faults.Fault.{Fault}
 use Rattle.roam_cells.specs.declared.faults.Fault.TheVariants.{OutOfMemory, Busy, BadDatagram, BadChange, Spent, Watching}
 use Rattle.roam_cells.specs.declared.faults.Reason.{Reason}
 use Rattle.roam_screens.specs.Screenshot.{Screenshot}
 use Rattle.roam_acts.specs.declared.acts.Act.{Act}
-use Rattle.roam_acts.specs.Senders.{Typing, IsFull, IsSpent, acked_to}
+use Rattle.roam_acts.specs.Senders.{Typing, HasNoRoom, IsFull, IsShort, IsSpent, acked_to}
 use Rattle.roam_sync.specs.declared.receivers.Step.{Step}
 use Rattle.roam_sync.specs.declared.receivers.Step.TheVariants as step
 use Rattle.roam_sync.specs.Receivers.{Receiving, pairs, state_at, step_for}
@@ -110,6 +110,23 @@ pub data Types (session id : ℕ) (c : ClientOf) (act : Act) (result : Result (U
   typed : c.watches ≡ false → (IsFull c.acts → ⊥) → (IsSpent c.acts → ⊥) → result ≡ Ok tt
       → Stands new session id (after_typed c act) → Types session id c act result new
   no_memory : result ≡ Err OutOfMemory → Stands new session id c → Types session id c act result new
+
+-- several acts were typed, one after another
+abbrev pub after_typed_all : ClientOf → List Act → ClientOf
+after_typed_all c acts = fold after_typed c acts
+
+-- Several acts are typed: the start only watches; more than 1,024 would be unacknowledged; numbers are spent; all of them are taken; or
+-- memory is wanting.
+pub data TypesAll (session id : ℕ) (c : ClientOf) (acts : List Act) (result : Result (Unit {0}) Fault) (new : ClientView) : Type 0 where
+  watching : c.watches ≡ true → result ≡ Err Watching → Stands new session id c → TypesAll session id c acts result new
+  full : c.watches ≡ false → HasNoRoom c.acts (length acts) → result ≡ Err Busy → Stands new session id c
+      → TypesAll session id c acts result new
+  spent : c.watches ≡ false → IsShort c.acts (length acts) → result ≡ Err Spent → Stands new session id c
+      → TypesAll session id c acts result new
+  typed : c.watches ≡ false → (HasNoRoom c.acts (length acts) → ⊥) → (IsShort c.acts (length acts) → ⊥) → result ≡ Ok tt
+      → Stands new session id (after_typed_all c acts) → TypesAll session id c acts result new
+  no_memory : c.watches ≡ false → (HasNoRoom c.acts (length acts) → ⊥) → (IsShort c.acts (length acts) → ⊥) → 0 < length acts
+      → result ≡ Err OutOfMemory → Stands new session id c → TypesAll session id c acts result new
 
 -- an instruction's text was read and delivered to a receiver of a version: what it made of it, whether its new number is above its old
 -- one, and the acts then

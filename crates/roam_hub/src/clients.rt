@@ -1,6 +1,8 @@
 //! A client start: what is typed there, what it hears, what it sends.
-ghost use Rattle.std.specs.Prelude.{◌≡◌, ◌⊎◌, ◌↔◌, true, false, not, map, ℕ, [], IsTrue, IfOk, IfErr, OnOk, OnErr, IsOkUnless, if◌then◌else◌};
+ghost use Rattle.std.specs.Prelude.{◌≡◌, ◌⊎◌, ◌↔◌, ◌≤◌, true, false, not, length, map, ℕ, List, [], IsTrue, IfOk, IfErr, OnOk, OnErr, IsOkUnless, if◌then◌else◌};
+ghost use Rattle.std.specs.List.{All};
 ghost use Rattle.roam_acts.specs.Acts.{HasKey, IsInRange};
+ghost use Rattle.roam_acts.specs.Limits.{most_unacknowledged};
 ghost use Rattle.roam_wire.specs.Datagrams.{datagram_text, datagram_value};
 ghost use Rattle.roam_wire.specs.Cutting.{texts_of};
 ghost use Rattle.roam_screens.specs.Shown.{shown_by};
@@ -12,7 +14,7 @@ ghost use Rattle.roam_world.specs.Texts.{kind_from, is_to_server};
 ghost use Rattle.roam_world.specs.ClientArrivals.{arriving, arriving_gathered, hearing_of};
 ghost use Rattle.roam_world.specs.Arrival.{turned_away};
 ghost use Rattle.roam_hub.specs.Ends.{version_in, receiving_in};
-ghost use Rattle.roam_hub.specs.Clients.{Stands, Types, Delivered, NotDelivered, Hears, Sends, bare, datagrams_by, hearing_in, is_view_spent};
+ghost use Rattle.roam_hub.specs.Clients.{Stands, Types, TypesAll, Delivered, NotDelivered, Hears, Sends, bare, datagrams_by, hearing_in, is_view_spent};
 
 use crate::ends::AnyReceiver;
 use crate::moments::{HEARTBEAT, RESEND_AFTER, has_passed, is_overdue, owed_after};
@@ -103,6 +105,15 @@ fn facts(act: Act)
             let _scalar = c as u32;
         }
         _ => {}
+    }
+}
+
+// The same of several acts.
+fn all_facts(acts: &[Act])
+    ensures keys { All HasKey acts.now }
+{
+    for act in acts {
+        facts(*act);
     }
 }
 
@@ -253,6 +264,29 @@ impl Client {
         }
         facts(act);
         self.acts.typed(act)
+    }
+
+    /// Takes acts that were typed here, in their order: all of them, or none. `Watching` where the start only watches, `Busy` where more
+    /// than 1,024 acts would be unacknowledged, `Spent` where a number that they need would be 2^62, `OutOfMemory`; a refusal leaves the
+    /// start as it was.
+    pub fn typed_all(&mut self, acts: &[Act]) -> Result<(), Fault>
+        requires in_range { All IsInRange acts.now }
+        ensures typed { (session id : ℕ) (c : ClientOf) → Stands self.old session id c → TypesAll session id c acts.now result self.new }
+        ensures err { OnErr result (self.new ≡ self.old) }
+    {
+        if self.watches {
+            return Err(Fault::Watching);
+        }
+        all_facts(acts);
+        self.acts.typed_all(acts)
+    }
+
+    /// How many acts that were typed here aren't acknowledged, at most 1,024. It takes no memory.
+    pub fn unacknowledged(&self) -> usize
+        ensures count { (session id : ℕ) (c : ClientOf) → Stands self.now session id c → result ≡ length c.acts.acts }
+        ensures most { result ≤ most_unacknowledged }
+    {
+        self.acts.unacknowledged()
     }
 
     /// Takes the bytes of a datagram that came at a moment. Refuses `BadDatagram` for bytes that are no datagram to a client; then

@@ -32,8 +32,8 @@ fn counted(count: usize, is_one: bool) -> usize
     if is_one { count + 1 } else { count }
 }
 
-// How many of the records are of starts that only watch, or of others.
-fn alike(records: &IndexMap<u64, Record>, watches: bool) -> usize
+/// How many of the records are of starts that only watch, or of others.
+pub fn alike(records: &IndexMap<u64, Record>, watches: bool) -> usize
     ensures count { result ≡ length (alike_entries watches records.now.entries) }
 {
     let mut count = 0;

@@ -11,14 +11,14 @@ ghost use Rattle.roam_session.specs.Refusals.{fault_of, none_refused, output_at}
 ghost use Rattle.roam_world.specs.Servers.{Server as ServerOf, new_server};
 ghost use Rattle.roam_wire.specs.Datagrams.{datagram_value};
 ghost use Rattle.roam_world.specs.Texts.{is_to_server as is_to_server_kind};
-ghost use Rattle.roam_world.specs.ServerArrivals.{coming};
+ghost use Rattle.roam_world.specs.ServerArrivals.{alike as alike_of, coming};
 ghost use Rattle.roam_world.specs.Arrival.{turned_away};
 ghost use Rattle.roam_hub.specs.Servers.{Stands, Feeds, Drains, Comes, Ticks, ComesFromWatcher, TakesNothing, IsStopAtAct, address_of, parcels_of};
 ghost use Rattle.roam_hub.specs.Records.{answer_to_datagram, makes_at, sent_by_tick, ticked_by, is_any_spent, Numbers, is_numbering_spent};
 ghost use Rattle.roam_term.specs.Limits.{most_output};
 
 use crate::addresses::{Addr, Stop};
-use crate::known::hear_in;
+use crate::known::{alike, hear_in};
 use crate::moments::{FRAME_INTERVAL, has_passed};
 use crate::records::{News, Record};
 use crate::sending::send_from;
@@ -249,6 +249,20 @@ impl Server {
         ensures focus { (s : ServerOf) → Stands self.now s → result ≡ focus_at s.size s.log }
     {
         self.session.focus()
+    }
+
+    /// How many client starts that don't only watch are known, of 64 that may be. It takes no memory.
+    pub fn starts(&self) -> usize
+        ensures count { (s : ServerOf) → Stands self.now s → result ≡ length (alike_of s false) }
+    {
+        alike(&self.records, false)
+    }
+
+    /// How many client starts that only watch are known, of 16 that may be. It takes no memory.
+    pub fn watchers(&self) -> usize
+        ensures count { (s : ServerOf) → Stands self.now s → result ≡ length (alike_of s true) }
+    {
+        alike(&self.records, true)
     }
 
     /// The screen that the session shows now. Refuses want of memory.
