@@ -1,5 +1,5 @@
 -- Who reads the lines knows what is so, and each says what wasn't known before it.
-use Rattle.std.proofs.Common.{◌≡◌, ℕ, zero, suc, ◌+◌, ◌-◌, ◌<◌, ◌≤◌, ◌⊎◌, inl, inr, Bool, true, false, ◌&&◌, cond, eqb, List, [], ◌∷◌, ◌++◌, Option, Some, None, refl, sym, ap, ◌∙◌, subst, arith}
+use Rattle.std.proofs.Common.{◌≡◌, ℕ, zero, suc, ◌-◌, ◌<◌, ◌≤◌, inl, inr, Bool, true, false, ◌&&◌, cond, eqb, List, [], ◌∷◌, ◌++◌, Option, Some, None, refl, sym, ap, ◌∙◌, subst, arith}
 use Rattle.std.specs.Prelude.{◌≢◌, IsSome, IfSome}
 use Rattle.std.specs.List.{fold}
 use Rattle.std.proofs.lemmas.Bool.{cases_eq, ne_eqb, eqb-true, eq-eqb, false≢true, and_parts}
@@ -8,7 +8,7 @@ use Rattle.std.proofs.lemmas.Grind.{flat_map-append}
 use Rattle.roam_pane_list.specs.declared.pane_list.ListedPane.{ListedPane}
 use Rattle.roam_pane_list.specs.declared.pane_list.PaneList.{PaneList}
 use Rattle.roam_pane_list.specs.Known.{pane_at, is_same}
-use Rattle.roam_pane_list.specs.Lines.{Line, Here, Gone, Focus, Starts, Watchers, line_text, lines_text, lines_for, lines_to, lines_of_focus, count_to_tell, line_of_count, lines_of_counts, lines_between, Known, knows, after, IsNews, AreNews, Agrees, LinesArrive, LinesAreNews}
+use Rattle.roam_pane_list.specs.Lines.{Line, Here, Gone, Focus, Starts, Watchers, line_text, lines_text, lines_for, lines_to, lines_of_focus, count_to_tell, line_of_count, lines_of_counts, Known, knows, after, AreNews, Agrees, LinesArrive, LinesAreNews}
 
 same_is : (a b : ListedPane) → is_same a b ≡ true → a ≡ b
 same_is a b e =

@@ -1,5 +1,5 @@
 -- How the code reads a follower's line, step by step. No public clause speaks of it: what reading means is said by the text of Closes.
-use Rattle.std.specs.Prelude.{ℕ, ◌+◌, ◌==◌, List, [], ◌∷◌, take, drop, Option, Some, None, if◌then◌else◌}
+use Rattle.std.specs.Prelude.{ℕ, ◌+◌, ◌==◌, List, take, drop, Option, Some, None, if◌then◌else◌}
 use Rattle.std.specs.List.{position}
 use Rattle.roam_numbers.specs.Numbers.{number_in}
 use Rattle.roam_pane_list.specs.declared.closes.Close.{Close}

@@ -80,8 +80,8 @@ fn close_behind(text: &[u8]) -> Option<Close>
     Some(Close { pane, life, focus })
 }
 
-/// What a follower's line asks for, without its LF: `close P LIFE`, or `close P LIFE F` with the pane that is to have the focus then. A line
-/// that is something else asks for nothing.
+/// What a follower's line asks for, without its LF: `close P LIFE`, or `close P LIFE F` with the pane that is to have the focus then; a
+/// line that is something else asks for nothing.
 pub fn read_close(line: &[u8]) -> Option<Close>
     // What is read is a close that has this text.
     ensures found { IfSome result (λ close. IsClose close × (line.now ≡ close_text close)) }

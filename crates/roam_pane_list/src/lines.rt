@@ -135,9 +135,9 @@ fn push_pane(
     }
 }
 
-/// The lines that tell a follower, who was told something before, what is so now: of each pane in the order of their numbers `P ROW COL ROWS
-/// COLS LIFE` where it was made, moved or sized and `P gone` where it was closed, then `focus P` where another is in focus, then `starts N of
-/// 64` and `watchers N of 16` where another number of client starts is kept. Refuses want of memory.
+/// The lines that tell a follower, who was told something before, what is so now: of each pane in the order of their numbers
+/// `P ROW COL ROWS COLS LIFE` where it was made, moved or sized and `P gone` where it was closed, then `focus P` where another is in focus,
+/// then `starts N of 64` and `watchers N of 16` where another number of client starts is kept. Refuses want of memory.
 pub fn lines_between(alloc: Global, told: &PaneList, now: &PaneList) -> Result<String, Fault>
     ensures lines { IfOk result (λ text. string_bytes text ≡ lines_text (lines_between told.now now.now)) }
     ensures fault { IsOkUnless result Fault.OutOfMemory }

@@ -1,4 +1,4 @@
-use Rattle.std.proofs.Common.{◌≡◌, ◌+◌, ◌-◌, ◌++◌, ℕ, Option, refl, sym, ap, ◌∙◌, arith, rules}
+use Rattle.std.proofs.Common.{◌≡◌, ◌+◌, ◌-◌, ◌++◌, ℕ, Option, sym, ap, ◌∙◌, arith, rules}
 use Rattle.roam_pane_list.specs.declared.pane_list.ListedPane.{ListedPane}
 use Rattle.roam_pane_list.specs.Known.{pane_at}
 use Rattle.roam_pane_list.specs.Lines.{lines_text, lines_for, lines_to}
