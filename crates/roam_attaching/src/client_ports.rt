@@ -1,5 +1,5 @@
 //! The ports of a client start over sockets. What they carried isn't told.
-ghost use Rattle.std.specs.Prelude.{◌≡◌, ◌⊎◌, ◌↔◌, IsTrue, ◌-◌, ◌≤◌, [], ◌∷◌, ℕ, true, false, length, is_some, None, Some, IfOk, IfSome, IfErr};
+ghost use Rattle.std.specs.Prelude.{◌≡◌, ◌⊎◌, ◌↔◌, IsTrue, ◌-◌, ◌≤◌, [], ◌∷◌, ℕ, true, false, length, is_some, None, Some, IfOk, IfSome, IsSome, IfErr};
 ghost use Rattle.std.specs.Io.KnownBytes.{Appends};
 ghost use Rattle.roam_terminals.specs.Silence.{due_of, is_over, end_of, notice_of};
 ghost use Rattle.roam_attaching.specs.Notices.{failing_after, has_given_up};
@@ -136,6 +136,8 @@ impl<R: Clock + Drop, W: Write + Drop> ClientPorts<R, W> {
         ensures over { is_over self.old.silence ≡ true → result ≡ true }
         ensures quiet { is_over self.old.silence ≡ false → due_of self.old.silence ≡ None → (result ≡ false) × (self.new ≡ self.old) }
         ensures unknown { result ≡ true → self.new.silence.told ≡ None }
+        // What is told isn't forgotten while the terminal shows it.
+        ensures stays { result ≡ false → IfSome self.old.silence.told (λ _. IsSome self.new.silence.told) }
         ensures told { IfSome self.new.silence.told (λ seconds. (self.old.silence.told ≡ Some seconds)
             ⊎ ((due_of self.old.silence ≡ Some seconds)
             × Appends (W.contents self.old.outer) (W.contents self.new.outer) (notice_of seconds))) }
@@ -154,6 +156,8 @@ impl<R: Clock + Drop, W: Write + Drop> ClientPorts<R, W> {
     // Tells of so many seconds, where there is memory. Whether not all of it was taken.
     fn tell(&mut self, alloc: Global, seconds: u64) -> bool
         ensures unknown { result ≡ true → self.new.silence.told ≡ None }
+        // What is told isn't forgotten while the terminal shows it.
+        ensures stays { result ≡ false → IfSome self.old.silence.told (λ _. IsSome self.new.silence.told) }
         ensures told { IfSome self.new.silence.told (λ told. (self.old.silence.told ≡ Some told)
             ⊎ ((told ≡ seconds) × Appends (W.contents self.old.outer) (W.contents self.new.outer) (notice_of seconds))) }
         ensures heard { self.new.silence ≡ record self.old.silence { told = self.new.silence.told } }

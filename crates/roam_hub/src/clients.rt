@@ -272,6 +272,8 @@ impl Client {
     pub fn typed_all(&mut self, acts: &[Act]) -> Result<(), Fault>
         requires in_range { All IsInRange acts.now }
         ensures typed { (session id : ℕ) (c : ClientOf) → Stands self.old session id c → TypesAll session id c acts.now result self.new }
+        // What is shown stays.
+        ensures receiver { self.new.receiver ≡ self.old.receiver }
         ensures err { OnErr result (self.new ≡ self.old) }
     {
         if self.watches {

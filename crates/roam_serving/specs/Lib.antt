@@ -1,3 +1,4 @@
+pub mod Closing
 pub mod Following
 pub mod Panes
 pub mod Peers

@@ -1,4 +1,8 @@
 //! The server's own client start, which closes a pane where a program asks for it that follows the panes.
+ghost use Rattle.std.specs.Prelude.{◌≡◌, ◌≤◌, true, length, None, Some, IfSome, OnOk, OnErr};
+ghost use Rattle.roam_pane_list.specs.Closes.{IsPane};
+ghost use Rattle.roam_terminals.specs.Terminals.{Types};
+ghost use Rattle.roam_serving.specs.Closing.{IsThere, closing_acts};
 
 use roam_acts::Act;
 use roam_cells::Fault;
@@ -24,17 +28,36 @@ pub(crate) struct Closer {
     closing: Option<(u8, u64)>,
 }
 
-// The acts that close a pane and give the focus to another: they stand in one instruction.
-fn acts_for(pane: u8, after: Option<u8>) -> ([Act; 3], usize) {
+// Whether a number is that of a pane.
+fn is_pane(pane: u8) -> bool
+    ensures pane { result ≡ true → IsPane pane }
+{
+    1 <= pane && pane <= 9
+}
+
+// Types the acts that close a pane and give the focus to another: they stand in one instruction. `NoPane` where one is none.
+fn type_close(client: &mut Client, pane: u8, after: Option<u8>) -> Result<(), Fault>
+    ensures typed { OnOk result (Types (closing_acts pane after) client.old client.new) }
+    ensures err { OnErr result (client.new ≡ client.old) }
+{
+    if !is_pane(pane) {
+        return Err(Fault::NoPane);
+    }
     match after {
-        Some(after) => ([Act::Focus(pane), Act::Close, Act::Focus(after)], 3),
-        None => ([Act::Focus(pane), Act::Close, Act::Close], 2),
+        None => client.typed_all(&[Act::Focus(pane), Act::Close]),
+        Some(after) if is_pane(after) => {
+            client.typed_all(&[Act::Focus(pane), Act::Close, Act::Focus(after)])
+        }
+        Some(_) => Err(Fault::NoPane),
     }
 }
 
 impl Closer {
     /// No start is made yet.
-    pub(crate) fn new(session: u64, id: u64) -> Closer {
+    pub(crate) fn new(session: u64, id: u64) -> Closer
+        ensures none { (result.client ≡ None) × (result.datagram ≡ None) × (result.closing ≡ None) }
+        ensures ids { (result.session ≡ session) × (result.id ≡ id) }
+    {
         Closer {
             session,
             id,
@@ -45,12 +68,16 @@ impl Closer {
     }
 
     /// Whether no close is under way.
-    pub(crate) fn is_free(&self) -> bool {
+    pub(crate) fn is_free(&self) -> bool
+        ensures free { result ≡ true → self.now.closing ≡ None }
+    {
         self.closing.is_none()
     }
 
     // The start, which is made where there is none.
-    fn taken(&mut self, alloc: Global) -> Result<Client, Fault> {
+    fn taken(&mut self, alloc: Global) -> Result<Client, Fault>
+        ensures others { (self.new.client ≡ None) × (self.new.datagram ≡ self.old.datagram) × (self.new.closing ≡ self.old.closing) }
+    {
         match self.client.take() {
             Some(client) => Ok(client),
             None => {
@@ -69,10 +96,12 @@ impl Closer {
         close: &Close,
         after: Option<u8>,
         now: u64,
-    ) -> Result<(), Fault> {
+    ) -> Result<(), Fault>
+        ensures closing { OnOk result (self.new.closing ≡ Some (close.now.pane, close.now.life)) }
+        ensures err { OnErr result (self.new.closing ≡ self.old.closing) }
+    {
         let mut client = self.taken(alloc)?;
-        let (acts, count) = acts_for(close.pane, after);
-        client.typed_all(acts.split_at(count).0)?;
+        type_close(&mut client, close.pane, after)?;
         let mut datagrams = client.tick(alloc, now)?;
         self.datagram = datagrams.pop();
         self.closing = Some((close.pane, close.life));
@@ -81,7 +110,10 @@ impl Closer {
     }
 
     /// The datagram that waits: how many bytes of `buf` it fills from the front.
-    pub(crate) fn receive(&mut self, buf: &mut [u8]) -> Option<usize> {
+    pub(crate) fn receive(&mut self, buf: &mut [u8]) -> Option<usize>
+        ensures within { IfSome result (λ n. n ≤ length buf.new) }
+        ensures once { self.new ≡ record self.old { datagram = None } }
+    {
         let datagram = self.datagram.take()?;
         let len = datagram.len().min(buf.len());
         buf.split_at_mut(len)
@@ -102,7 +134,10 @@ impl Closer {
 
     /// A turn was taken with the datagram, and these panes are there then. Where the pane still is, something was refused for want of
     /// memory: that start is let go, so that none of its acts is ever taken later, where they might close another pane.
-    pub(crate) fn settle(&mut self, panes: &PaneList) {
+    pub(crate) fn settle(&mut self, panes: &PaneList)
+        ensures settled { self.old.datagram ≡ None → self.new.closing ≡ None }
+        ensures let_go { self.old.datagram ≡ None → IfSome self.old.closing (λ pair. IsThere panes.now pair.0 pair.1 → self.new.client ≡ None) }
+    {
         if self.datagram.is_some() {
             return;
         }

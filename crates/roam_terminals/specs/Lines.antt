@@ -1,6 +1,6 @@
 -- Lines in a stream (this project's profile): each is ended by LF.
-use Rattle.std.specs.Prelude.{◌≡◌, ◌≢◌, ℕ, ◌≤◌, ◌==◌, List, [], ◌∷◌, ◌++◌, length, nat_lt, Option, Some, None, if◌then◌else◌}
-use Rattle.std.specs.List.{All, flat_map, position}
+use Rattle.std.specs.Prelude.{◌≡◌, ℕ, ◌+◌, ◌==◌, List, [], ◌∷◌, ◌++◌, length, take, drop, nat_lt, Option, Some, None, if◌then◌else◌}
+use Rattle.std.specs.List.{flat_map, position}
 use Rattle.roam_terminals.specs.declared.lines.Front.{Front}
 use Rattle.roam_terminals.specs.declared.lines.Front.TheVariants.{Line, Part, TooLong}
 
@@ -33,12 +33,14 @@ ended line = line ++ 0x0A ∷ []
 abbrev pub ended_all : List (List ℕ) → List ℕ
 ended_all lines = flat_map ended lines
 
--- a byte ends no line
-abbrev pub IsInside : ℕ → Type 0
-IsInside byte = byte ≢ 0x0A
-
 -- a line stands first of these bytes, and then the rest
 pub record IsFirst (kept line rest : List ℕ) : Type 0 where
-  pub is : kept ≡ ended line ++ rest
-  pub inside : All IsInside line
-  pub short : length line ≤ longest_line
+  pub front : front_of kept ≡ Line (length line)
+  pub line_is : line ≡ take (length line) kept
+  pub rest_is : rest ≡ drop (length line + 1) kept
+
+-- ---- the law
+
+-- the bytes are that line with its end, and then the rest
+abbrev pub FirstIsEnded : Type 0
+FirstIsEnded = (kept line rest : List ℕ) → IsFirst kept line rest → kept ≡ ended line ++ rest

@@ -92,7 +92,7 @@ impl Lines {
 
     /// The line that stands first, without its end, where one does whole. It takes no memory.
     pub fn first(&self) -> Option<&[u8]>
-        ensures first { IfSome result (λ line. (rest : List ℕ) × IsFirst self.now.kept line.now rest) }
+        ensures first { IfSome result (λ line. IsFirst self.now.kept line.now (drop (length line.now + 1) self.now.kept)) }
         ensures none { result ≡ None → (line rest : List ℕ) → IsFirst self.now.kept line rest → ⊥ }
     {
         match self.front() {

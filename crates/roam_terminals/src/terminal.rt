@@ -131,6 +131,13 @@ impl<S: Read + Write + Drop> Terminal<S> {
         self.waiting.len() > 0
     }
 
+    // What it shows isn't known any more: it is opened and painted anew.
+    fn forget(&mut self)
+        ensures outer { self.new ≡ record self.old { outer = None } }
+    {
+        self.outer = Outer::new();
+    }
+
     // Reads a piece, and tells whether one came.
     fn read_piece(&mut self) -> bool
         ensures reads { Reads (S.remaining self.old.stream) (S.remaining self.new.stream) self.old.lines.kept self.new.lines.kept
@@ -220,6 +227,7 @@ impl<S: Read + Write + Drop> Terminal<S> {
         requires says { (line rest : List ℕ) × IsFirst self.old.lines.kept line rest × Says line entry.now }
         ensures takes { (acts : List ActOf) × Types acts client.old client.new
             × Takes entry.now self.old.lines.kept self.new.lines.kept self.old.watches self.new.watches acts }
+        ensures repaint { entry.now ≡ Entry.Repaint → self.new.outer ≡ None }
         ensures number { client.new.receiver ≡ client.old.receiver }
         ensures stream { self.new.stream ≡ self.old.stream }
         ensures outer { (self.new.outer ≡ self.old.outer) ⊎ (self.new.outer ≡ None) }
@@ -227,7 +235,7 @@ impl<S: Read + Write + Drop> Terminal<S> {
         match entry {
             Entry::Acts(acts) => self.type_acts(client, acts),
             Entry::Repaint => {
-                self.outer = Outer::new();
+                self.forget();
                 self.lines.took();
                 Taking::Line
             }
@@ -316,7 +324,7 @@ impl<S: Read + Write + Drop> Terminal<S> {
         };
         if self.waiting.push(&text).is_ok() {
             self.told = Some(seconds);
-            self.outer = Outer::new();
+            self.forget();
         }
     }
 
@@ -331,7 +339,7 @@ impl<S: Read + Write + Drop> Terminal<S> {
         seen.tell(self.told);
         if seen.is_over() {
             self.told = None;
-            self.outer = Outer::new();
+            self.forget();
         } else if self.waiting.len() == 0 && self.state == State::Here {
             if let Some(seconds) = seen.due() {
                 self.tell(alloc, seconds);

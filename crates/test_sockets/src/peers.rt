@@ -114,6 +114,15 @@ fn is_told(alloc: Global, ports: &mut ServerPorts<&HostRuntime>, words: &str) ->
     }
 }
 
+// Whether a datagram of the server's own start is the first that comes.
+fn asks(ports: &mut ServerPorts<&HostRuntime>) -> bool {
+    let mut buf = [0u8; 2048];
+    match ports.receive(&mut buf) {
+        Some((from, len)) => from.host == [0, 0, 0, 0] && from.port == 0 && len > 60,
+        None => false,
+    }
+}
+
 fn are_files(
     rt: &HostRuntime,
     ports: &mut ServerPorts<&HostRuntime>,
@@ -139,6 +148,7 @@ fn is_done(
         "pane" => Ok(is_numbered(ports, words)),
         "told" => Ok(is_told(rt.alloc(), ports, words)),
         "files" => are_files(rt, ports, words),
+        "start" => Ok(asks(ports) == (words == "asks")),
         _ => programs.does(rt, who, words),
     }
 }
@@ -274,20 +284,43 @@ fn a_program_follows_the_panes(rt: HostRuntime) -> Result<(), Fail> {
     Ok(())
 }
 
-/// A second program waits until the first is gone.
+/// Two programs are told each what is new for it; a line that asks for no close, for one of a pane that is gone, or of the last pane; of
+/// two closes the second waits until a turn was taken with the first, and a pane that is still there then may be closed again. A ninth
+/// program is closed.
 const FOLLOWERS: &str = "\
 told 1 1 23, none
 first connects followers/panes
-second connects followers/panes
 told 1 1 23, none
 first reads 1 1 1 23 80 1/focus 1/
-second waits
-first leaves
+second connects followers/panes
+first types close/close 1 1 2 /close 2 1/close 1 1/close 1 2/
 told 1 1 23, none
-second reads 1 1 1 23 80 1/focus 1/";
+first reads bad line/bad line/last pane/
+second reads 1 1 1 23 80 1/focus 1/
+start is quiet
+told 1 1 11, 1 13 11
+second types close 2 1 1/close 1 1/close 2 1/
+first types close 2 1/
+start is quiet
+told 1 1 11, 1 13 11
+start asks
+start is quiet
+told 1 1 23, none
+start is quiet
+first reads 1 1 1 11 80 1/2 13 1 11 80 1/focus 2/1 1 1 23 80 1/2 gone/focus 1/
+second reads 1 1 1 11 80 1/2 13 1 11 80 1/focus 2/last pane/1 1 1 23 80 1/2 gone/focus 1/
+first leaves
+told 1 1 11, 2 13 11
+second types close 1 1/
+told 1 1 11, 2 13 11
+start asks
+told 1 1 11, 2 13 11
+second types close 1 1/
+told 1 1 11, 2 13 11
+start asks";
 
 #[test]
-fn one_program_follows_at_a_time(rt: HostRuntime) -> Result<(), Fail> {
+fn programs_follow_and_close(rt: HostRuntime) -> Result<(), Fail> {
     let wrong = first_wrong(&rt, "followers", "folder followers", FOLLOWERS)?;
     assert!(rt; wrong.is_none(), "{wrong:?}");
     Ok(())

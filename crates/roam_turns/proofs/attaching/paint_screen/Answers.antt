@@ -1,9 +1,12 @@
-use Rattle.std.proofs.Common.{rules, [], ◌∷◌, true, false}
+use Rattle.std.proofs.Common.{rules, [], ◌∷◌, ◌∙◌, true, false, Some, refl, ap, sym, subst}
+use Rattle.std.specs.Io.KnownBytes.{Appends}
 use Rattle.roam_screens.specs.Shown.{shown_by}
 use Rattle.roam_turns.specs.Calls.PortCall.{Showed}
-use Rattle.roam_turns.specs.Painting.{IsNoted}
+use Rattle.roam_turns.specs.Painting.{IsNoted, Led}
 use Rattle.roam_turns.specs.Parts.Call.{Port}
 use Rattle.roam_turns.specs.Turns.{Paints}
+use Rattle.roam_turns.specs.declared.outer.Noted.{Noted}
+use Rattle.roam_turns.proofs.Leading.{text_led}
 use Rattle.roam_turns.proofs.Making.{Just, makes_none, makes_port, makes_as}
 use Rattle.roam_turns.proofs.Painted.{paints_shown, paints_failed}
 use Rattle.roam_turns.proofs.attaching.paint_screen.Goals as goal
@@ -34,6 +37,11 @@ returns-else-show-clause-paints g c =
 
 pub returns-then-show-clause-led : goal.returns-then-show-clause-led
 returns-then-show-clause-led g c =
-    shown_led c.painted_leads_over.ensures.leads c.opened_begins_blank.ensures.begins c.args.outer.now c.note.new.self c.in-Ok.painting.noted
-    (shown_by c.shown-number.result.1) _ _ _ _ _ c.note.ensures.noted c.in-Ok.ensures.noted
-    (c.facts.ensures.is) c.in-Ok.ensures.text c.deref.ensures.value (c.if-show.ensures.written c.if-show.is)
+    let outer = c.args.outer.now in
+    let before = g.P.Ports.written c.args.ports.now in
+    let s = shown_by c.shown-number.result.1 in
+    let noted : Noted = record { number = c.shown-number.result.0; screen = s } in
+    let after = g.P.Ports.written c.show.new.self in
+    let text = subst (λ l. Appends before after l) (c.deref.ensures.value ∙ c.in-Ok.ensures.text) (c.if-show.ensures.written refl) in
+    subst (λ o. Led outer before o after) (sym (c.note.ensures.noted ∙ ap (λ x. Some x) c.in-Ok.ensures.noted))
+    (text_led c.painted_leads_over.ensures.leads c.opened_begins_blank.ensures.begins outer noted before after c.facts.ensures.screenshot text)
