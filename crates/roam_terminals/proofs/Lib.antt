@@ -1,1 +1,4 @@
+mod Behind
 mod Standing
+mod Taking
+mod Writing

@@ -3,7 +3,7 @@ use Rattle.std.proofs.Common.{◌≡◌, ℕ, ◌+◌, ◌<◌, ◌≤◌, Bool,
 use Rattle.std.specs.Prelude.{if◌then◌else◌, nat_lt}
 use Rattle.std.specs.List.{position, flat_map}
 use Rattle.std.proofs.lemmas.Bool.{eqb-true}
-use Rattle.std.proofs.lemmas.List.{take-append-drop, take_more}
+use Rattle.std.proofs.lemmas.List.{length-take-le, take-append-drop, take_more}
 use Rattle.std.proofs.lemmas.List.Quantifiers.{position-Some}
 use Rattle.roam_terminals.specs.declared.lines.Front.{Front}
 use Rattle.roam_terminals.specs.declared.lines.Front.TheVariants.{Line, Part, TooLong}
@@ -40,3 +40,14 @@ first_is_ended kept line rest is =
     let more : take (n + 1) kept ≡ take n kept ++ 10 ∷ [] = rw (take_more kept n 0 end.0, end.1) refl in
     rw (is.rest_is) (sym (take-append-drop (n + 1) kept) ∙ ap (λ (l : List ℕ). l ++ drop (n + 1) kept)
     (more ∙ ap (λ (l : List ℕ). l ++ 10 ∷ []) (sym is.line_is)))
+
+-- where a line stands first, it is the bytes before its end
+pub line_first : (kept : List ℕ) (n : ℕ) → front_of kept ≡ Line n → IsFirst kept (take n kept) (drop (n + 1) kept)
+line_first kept n e =
+    let end = line_end kept n e in
+    let len : length (take n kept) ≡ n = length-take-le n kept (omega (arith, end.0)) in
+    record {
+      front = e ∙ ap (λ (k : ℕ). Line k) (sym len);
+      line_is = ap (λ (k : ℕ). take k kept) (sym len);
+      rest_is = ap (λ (k : ℕ). drop (k + 1) kept) (sym len);
+    }

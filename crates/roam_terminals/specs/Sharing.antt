@@ -1,5 +1,6 @@
 -- A client start with its outer terminals, and a round of it: each is heard, and then each that is ready takes a turn.
 use Rattle.std.specs.Prelude.{◌≡◌, ◌⊎◌, ℕ, Bool, false, List, [], ◌∷◌, Option, Some, None}
+use Rattle.std.specs.List.{All}
 use Rattle.roam_hub.specs.Clients.{ClientView}
 use Rattle.roam_hub.specs.declared.addresses.Addr.{Addr}
 use Rattle.roam_screens.specs.Screenshot.{Screenshot}
@@ -24,13 +25,12 @@ pub record Shared (S : Type 0) : Type 0 where
 
 -- what is noted of each terminal was shown by the start before
 abbrev pub AreEachBehind : {S : Type 0} → List (Terminal S) → ℕ → Screenshot → Type 0
-AreEachBehind [] n s = Unit {0}
-AreEachBehind (terminal ∷ terminals) n s = IsBehind terminal.outer n s × AreEachBehind terminals n s
+AreEachBehind all n s = All (λ terminal. IsBehind terminal.outer n s) all
 
 -- and so was what is noted of nobody
 pub record AreBehind {S : Type 0} (all : List (Terminal S)) (nobody : Option Noted) (n : ℕ) (s : Screenshot) : Type 0 where
   pub each : AreEachBehind all n s
-  pub nobody : IsBehind nobody n s
+  pub alone : IsBehind nobody n s
 
 -- each terminal was heard, one after the other, and its acts typed
 abbrev pub HearsAll : {S : Type 0} → (S → Option (List ℕ)) → List (Terminal S) → List (Terminal S) → ClientView → ClientView → Type 0
@@ -49,13 +49,17 @@ pub record Turns {S : Type 0} (to : Addr) (old new : Terminal S) (client client'
       None None None None client client'
   pub led : Led old.outer (Some []) new.outer (Some new.waiting)
 
--- each took a turn, or was left as it was, one after the other
+-- it took one, or was left as it was
+abbrev pub MayTurn : {S : Type 0} → Addr → Terminal S → Terminal S → ClientView → ClientView → Type 0
+MayTurn to old new client client' = Turns to old new client client' ⊎ ((new ≡ old) × (client' ≡ client))
+
+-- each did, one after the other
 abbrev pub TurnsAll : {S : Type 0} → Addr → List (Terminal S) → List (Terminal S) → ClientView → ClientView → Type 0
 TurnsAll to [] [] client client' = client' ≡ client
 TurnsAll to [] (t ∷ ts) client client' = ⊥
 TurnsAll to (t ∷ ts) [] client client' = ⊥
 TurnsAll to (t ∷ ts) (t' ∷ ts') client client' =
-    (mid : ClientView) × (Turns to t t' client mid ⊎ ((t' ≡ t) × (mid ≡ client))) × TurnsAll to ts ts' mid client'
+    (mid : ClientView) × MayTurn to t t' client mid × TurnsAll to ts ts' mid client'
 
 -- nobody took a turn of the start
 abbrev pub TurnsAlone : Addr → ClientView → ClientView → Type 0

@@ -1,5 +1,6 @@
 //! A client start that stays while outer terminals come and go, one after the other.
 ghost use Rattle.std.specs.Prelude.{◌≡◌, ◌⊎◌, ◌<◌, ◌++◌, ◌∷◌, [], true, false, length, ℕ, None, OnOk, OnErr, IfErr};
+ghost use Rattle.roam_screens.specs.Screenshot.{Screenshot};
 ghost use Rattle.roam_terminals.specs.Sharing.{AreEachBehind, HearsAll, Rounds, Turns, TurnsAll, TurnsAlone, most_terminals};
 ghost use Rattle.roam_terminals.specs.declared.terminal.Terminal.{Terminal as TerminalOf};
 ghost use Rattle.roam_turns.specs.Painting.{Follows};
@@ -54,6 +55,7 @@ fn hear_all<S: Read + Write + Drop>(
     client: &mut Client,
 ) -> (u64, bool)
     ensures hears { HearsAll S.remaining all.old all.new client.old client.new }
+    ensures len { length all.new ≡ length all.old }
     ensures number { client.new.receiver ≡ client.old.receiver }
     ensures behind { AreEachBehind all.old client.old.receiver.newest.number client.old.receiver.newest.state
         → AreEachBehind all.new client.old.receiver.newest.number client.old.receiver.newest.state }
@@ -80,6 +82,7 @@ fn turn_all<S: Read + Write + Drop, P: Ports + Drop>(
     requires behind { AreEachBehind all.old client.old.receiver.newest.number client.old.receiver.newest.state }
     requires painted { painter.old.painting ≡ [] }
     ensures turns { TurnsAll to all.old all.new client.old client.new }
+    ensures len { length all.new ≡ length all.old }
     ensures follows { Follows client.old.receiver.newest.number client.old.receiver.newest.state
         client.new.receiver.newest.number client.new.receiver.newest.state }
     ensures behind { AreEachBehind all.new client.new.receiver.newest.number client.new.receiver.newest.state }
@@ -89,16 +92,14 @@ fn turn_all<S: Read + Write + Drop, P: Ports + Drop>(
     let Some((first, others)) = all.split_first_mut() else {
         return false;
     };
-    let is_ready = first.is_ready();
-    if is_ready {
-        first.turn(alloc, client, painter, to);
-    }
+    let was_ready = first.turn_if_ready(alloc, client, painter, to);
     let is_any = turn_all(alloc, others, client, painter, to);
-    is_any || is_ready
+    is_any || was_ready
 }
 
 // Tells each terminal of a silence, and writes what waits for it.
 fn write_all<S: Read + Write + Drop>(alloc: Global, all: &mut [Terminal<S>], silence: Silence)
+    ensures len { length all.new ≡ length all.old }
     ensures behind { (n : ℕ) (s : Screenshot) → AreEachBehind all.old n s → AreEachBehind all.new n s }
 {
     let Some((first, others)) = all.split_first_mut() else {
@@ -118,6 +119,7 @@ fn retain<S: Read + Write + Drop>(all: &mut Vec<Terminal<S>>)
 
 // The first terminal is the last from now on.
 fn rotate<S: Drop>(all: &mut [Terminal<S>])
+    ensures len { length all.new ≡ length all.old }
     ensures behind { (n : ℕ) (s : Screenshot) → AreEachBehind all.old n s → AreEachBehind all.new n s }
 {
     if all.len() > 1 {

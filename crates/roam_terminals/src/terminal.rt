@@ -5,6 +5,7 @@ ghost use Rattle.roam_acts.specs.Acts.{IsInRange};
 ghost use Rattle.roam_acts.specs.declared.acts.Act.{Act as ActOf};
 ghost use Rattle.roam_frames.specs.Carriers.{Writes};
 ghost use Rattle.roam_terminals.specs.Lines.{IsFirst, nothing_came};
+ghost use Rattle.roam_terminals.specs.Sharing.{MayTurn};
 ghost use Rattle.roam_terminals.specs.Silence.{notice_of};
 ghost use Rattle.roam_terminals.specs.Terminals.{Hears, Reads, Takes, Types, TypesLine};
 ghost use Rattle.roam_turns.specs.Cores.{client_step};
@@ -140,6 +141,7 @@ impl<S: Read + Write + Drop> Terminal<S> {
 
     // Reads a piece, and tells whether one came.
     fn read_piece(&mut self) -> bool
+        ensures on { result ≡ true → self.new.state ≡ self.old.state }
         ensures reads { Reads (S.remaining self.old.stream) (S.remaining self.new.stream) self.old.lines.kept self.new.lines.kept
             self.new.state }
         ensures others { self.new ≡ record self.old { stream = self.new.stream; lines = self.new.lines; state = self.new.state } }
@@ -182,6 +184,16 @@ impl<S: Read + Write + Drop> Terminal<S> {
                     }
                 }
             }
+        }
+    }
+
+    // Whether its lines are taken: also those that came whole before it left.
+    fn is_heard(&self) -> bool
+        ensures heard { result ≡ true → self.now.state ≢ State.Gone }
+    {
+        match self.state {
+            State::Here | State::Left => true,
+            State::Refused | State::Gone => false,
         }
     }
 
@@ -267,7 +279,7 @@ impl<S: Read + Write + Drop> Terminal<S> {
         ensures outer { (self.new.outer ≡ self.old.outer) ⊎ (self.new.outer ≡ None) }
     {
         self.read_line(alloc);
-        if self.state == State::Refused || self.state == State::Gone {
+        if !self.is_heard() {
             return Taking::Nothing;
         }
         let Some(line) = self.lines.first() else {
@@ -282,15 +294,15 @@ impl<S: Read + Write + Drop> Terminal<S> {
         }
     }
 
-    /// Whether it is to be painted now: all that was painted before is written, and it tells of no silence.
-    pub(crate) fn is_ready(&self) -> bool
+    // Whether it is to be painted now: all that was painted before is written, and it tells of no silence.
+    fn is_ready(&self) -> bool
         ensures ready { result ≡ true → (self.now.waiting ≡ []) × (self.now.told ≡ None) }
     {
         self.state == State::Here && self.told.is_none() && self.waiting.len() == 0
     }
 
-    /// Takes a turn of the start with it: what is painted waits to be written, whole.
-    pub(crate) fn turn<P: Ports + Drop>(
+    // Takes a turn of the start with it: what is painted waits to be written, whole.
+    fn turn<P: Ports + Drop>(
         &mut self,
         alloc: Global,
         client: &mut Client,
@@ -311,6 +323,30 @@ impl<S: Read + Write + Drop> Terminal<S> {
     {
         attach_turn(alloc, client, &mut self.outer, painter, to, None);
         painter.exchange(&mut self.waiting);
+    }
+
+    /// Takes such a turn where it is ready, and tells whether it was.
+    pub(crate) fn turn_if_ready<P: Ports + Drop>(
+        &mut self,
+        alloc: Global,
+        client: &mut Client,
+        painter: &mut Painter<P>,
+        to: Addr,
+    ) -> bool
+        requires painted { painter.old.painting ≡ [] }
+        requires behind { IsBehind self.old.outer client.old.receiver.newest.number client.old.receiver.newest.state }
+        ensures turns { MayTurn to self.old self.new client.old client.new }
+        ensures follows { Follows client.old.receiver.newest.number client.old.receiver.newest.state
+            client.new.receiver.newest.number client.new.receiver.newest.state }
+        ensures behind { IsBehind self.new.outer client.new.receiver.newest.number client.new.receiver.newest.state }
+        ensures painted { painter.new.painting ≡ [] }
+        ensures none { result ≡ false → (self.new ≡ self.old) × (client.new ≡ client.old) }
+    {
+        if !self.is_ready() {
+            return false;
+        }
+        self.turn(alloc, client, painter, to);
+        true
     }
 
     // Tells of so many seconds of silence, where there is memory; what it shows isn't known then.
@@ -393,8 +429,8 @@ impl<S: Read + Write + Drop> Terminal<S> {
         }
     }
 
-    /// Writes what waits, as much as the stream takes now. One that took nothing for a minute is let go.
-    pub(crate) fn flush(&mut self, now: u64)
+    // Writes what waits, as much as the stream takes now, and tells whether it took some.
+    fn write_waiting(&mut self) -> bool
         ensures writes { Writes (S.contents self.old.stream) (S.contents self.new.stream) self.old.waiting self.new.waiting }
         ensures outer { self.new.outer ≡ self.old.outer }
         ensures lines { (self.new.lines ≡ self.old.lines) × (self.new.watches ≡ self.old.watches) }
@@ -402,10 +438,20 @@ impl<S: Read + Write + Drop> Terminal<S> {
         let mut has_taken = false;
         for _ in 0..MOST_WRITES {
             if self.write_piece() == 0 {
-                break;
+                return has_taken;
             }
             has_taken = true;
         }
+        has_taken
+    }
+
+    /// Writes what waits, as much as the stream takes now. One that took nothing for a minute is let go.
+    pub(crate) fn flush(&mut self, now: u64)
+        ensures writes { Writes (S.contents self.old.stream) (S.contents self.new.stream) self.old.waiting self.new.waiting }
+        ensures outer { self.new.outer ≡ self.old.outer }
+        ensures lines { (self.new.lines ≡ self.old.lines) × (self.new.watches ≡ self.old.watches) }
+    {
+        let has_taken = self.write_waiting();
         self.note_stuck(has_taken, now);
     }
 }

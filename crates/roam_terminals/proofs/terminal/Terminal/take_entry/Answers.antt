@@ -1,0 +1,46 @@
+use Rattle.std.proofs.Common.{◌≡◌, refl, sym, ap, ◌∙◌, subst}
+use Rattle.roam_typing.specs.Entries.{acts_in}
+use Rattle.roam_terminals.specs.Lines.{IsFirst}
+use Rattle.roam_terminals.specs.Terminals.{TypesLine, watches_after}
+use Rattle.roam_terminals.proofs.Taking.{acts_take, word_takes}
+use Rattle.roam_terminals.proofs.terminal.Terminal.take_entry.Goals as goal
+
+pub returns-in-Acts-clause-takes : goal.returns-in-Acts-clause-takes
+returns-in-Acts-clause-takes g c =
+    let says = c.requires.says in
+    let watches : c.type_acts.new.self.watches ≡ c.args.self.now.watches = ap (λ t. t.watches) c.type_acts.ensures.others in
+    acts_take c.args.entry.now c.in-Acts.acts c.args.self.now.lines.kept c.type_acts.new.self.lines.kept c.args.self.now.watches
+    c.type_acts.new.self.watches c.args.client.now c.type_acts.new.client c.in-Acts.is watches says.0 says.1 says.2 says.3
+    (subst (λ l. TypesLine l c.args.self.now.lines.kept c.type_acts.new.self.lines.kept c.args.self.now.watches c.args.client.now
+    c.type_acts.new.client) c.deref.ensures.value c.type_acts.ensures.takes)
+
+pub returns-in-Repaint-clause-takes : goal.returns-in-Repaint-clause-takes
+returns-in-Repaint-clause-takes g c =
+    let says = c.requires.says in
+    let watches : c.forget.new.self.watches ≡ c.args.self.now.watches = ap (λ t. t.watches) c.forget.ensures.outer in
+    let kept : c.forget.new.self.lines.kept ≡ c.args.self.now.lines.kept = ap (λ t. t.lines.kept) c.forget.ensures.outer in
+    word_takes c.args.entry.now c.args.self.now.lines.kept c.took.new.self.kept c.args.self.now.watches c.forget.new.self.watches
+    c.args.client.now (ap acts_in c.in-Repaint.is)
+    (watches ∙ sym (ap (λ e. watches_after e c.args.self.now.watches) c.in-Repaint.is)) says.0 says.1 says.2 says.3
+    (c.took.ensures.took says.0 says.1 (subst (λ l. IsFirst l says.0 says.1) (sym kept) says.2))
+
+pub returns-in-Watch-clause-takes : goal.returns-in-Watch-clause-takes
+returns-in-Watch-clause-takes g c =
+    let says = c.requires.says in
+    word_takes c.args.entry.now c.args.self.now.lines.kept c.took-in-Watch.new.self.kept c.args.self.now.watches _
+    c.args.client.now (ap acts_in c.in-Watch.is) (sym (ap (λ e. watches_after e c.args.self.now.watches) c.in-Watch.is))
+    says.0 says.1 says.2 says.3 (c.took-in-Watch.ensures.took says.0 says.1 says.2)
+
+pub returns-then-self-clause-takes : goal.returns-then-self-clause-takes
+returns-then-self-clause-takes g c =
+    let says = c.requires.says in
+    word_takes c.args.entry.now c.args.self.now.lines.kept c.took-in-End.new.self.kept c.args.self.now.watches c.args.self.now.watches
+    c.args.client.now (ap acts_in c.in-End.is) (sym (ap (λ e. watches_after e c.args.self.now.watches) c.in-End.is))
+    says.0 says.1 says.2 says.3 (c.took-in-End.ensures.took says.0 says.1 says.2)
+
+pub returns-else-self-clause-takes : goal.returns-else-self-clause-takes
+returns-else-self-clause-takes g c =
+    let says = c.requires.says in
+    word_takes c.args.entry.now c.args.self.now.lines.kept c.took-in-End.new.self.kept c.args.self.now.watches c.args.self.now.watches
+    c.args.client.now (ap acts_in c.in-End.is) (sym (ap (λ e. watches_after e c.args.self.now.watches) c.in-End.is))
+    says.0 says.1 says.2 says.3 (c.took-in-End.ensures.took says.0 says.1 says.2)
