@@ -1,7 +1,7 @@
 -- What is read of a text of acts, and what a loop over it has read so far.
-use Rattle.std.proofs.Common.{◌≡◌, ℕ, zero, suc, ◌+◌, ◌-◌, ◌<◌, ◌≤◌, List, [], ◌∷◌, ◌++◌, length, Option, Some, None, refl, sym, ap, subst, ◌∙◌, arith, append_assoc, append-nil}
+use Rattle.std.proofs.Common.{◌≡◌, ℕ, zero, suc, ◌+◌, ◌-◌, ◌<◌, ◌≤◌, true, List, [], ◌∷◌, ◌++◌, length, Option, Some, None, refl, sym, ap, subst, ◌∙◌, arith, append_assoc, append-nil}
 use Rattle.std.specs.List.{All, AllByRecursion}
-use Rattle.std.specs.Prelude.{Result, Ok, Err, IfOk, MatchResult, Vec}
+use Rattle.std.specs.Prelude.{Result, Ok, Err, IfOk, IsSome, MatchResult, Vec, is_some}
 use Rattle.std.proofs.Common.{◌⊎◌, inl, inr, Global}
 use Rattle.std.proofs.lemmas.List.Elements.{All-from_recursion, All-weaker, recursion_from_All}
 use Rattle.roam_cells.specs.declared.faults.Fault.{Fault}
@@ -10,7 +10,7 @@ use Rattle.roam_cells.specs.declared.faults.Reason.TheVariants.{Length}
 use Rattle.std.specs.Option.{option_map}
 use Rattle.roam_acts.specs.declared.acts.Act.{Act}
 use Rattle.roam_acts.specs.Acts.{IsAct, IsInRange}
-use Rattle.roam_acts.specs.Bytes.{act_text, acts_text}
+use Rattle.roam_acts.specs.Bytes.{act_text, acts_text, BeginsWithAct}
 use Rattle.roam_acts.specs.Reading.{acts_in, and_then, first_act, nothing_left}
 use Rattle.roam_acts.proofs.Fields.{IsBytes, first_again, first_found, pair_same}
 
@@ -114,6 +114,24 @@ sofar_whole count counter bytes (b ∷ rest) acts le e so = absurd (omega (arith
 pub sofar_left : (count counter : ℕ) (bytes rest : List ℕ) (acts : List Act) → count ≤ counter → (length rest ≡ 0 → ⊥) → SoFar count bytes counter acts rest → acts_in count bytes ≡ None
 sofar_left count counter bytes [] acts le e so = absurd (e refl)
 sofar_left count counter bytes (b ∷ rest) acts le e so = sofar_end count counter bytes (b ∷ rest) acts le so
+
+-- nothing was read yet, or an act that stands first
+abbrev pub HasFirst : List ℕ → ℕ → List ℕ → Type 0
+HasFirst bytes counter rest = ((counter ≡ 0) × (rest ≡ bytes)) ⊎ IsSome (first_act bytes)
+
+pub has_first : (bytes rest more : List ℕ) (counter : ℕ) (a : Act) → first_act rest ≡ Some (a, more) → HasFirst bytes counter rest
+    → IsSome (first_act bytes)
+has_first bytes rest more counter a at (inl none) = ap (λ (xs : List ℕ). is_some (first_act xs)) (sym none.1) ∙ ap is_some at
+has_first bytes rest more counter a at (inr found) = found
+
+pub begins_with : (bytes : List ℕ) → IsBytes bytes → IsSome (first_act bytes) → BeginsWithAct bytes
+begins_with bytes fits some = go (first_act bytes) refl some
+  where
+    go : (o : Option (Act × List ℕ)) → first_act bytes ≡ o → is_some o ≡ true → BeginsWithAct bytes
+    go None at e = absurd (cc)
+    go (Some p) at e =
+        let f = first_found bytes p.1 p.0 fits at in
+        record { act = p.0; rest = p.1; is = f.0; begins = f.1 }
 
 -- ---- what reading answers
 

@@ -1,5 +1,5 @@
 -- Acts as bytes: the one text of a list of acts (this project's profile). Numbers are big-endian.
-use Rattle.std.specs.Prelude.{ℕ, List, [], ◌∷◌, ◌++◌, flat_map}
+use Rattle.std.specs.Prelude.{◌≡◌, ℕ, List, [], ◌∷◌, ◌++◌, flat_map}
 use Rattle.std.specs.Int.{w16, cast_unsigned}
 use Rattle.byteorder.specs.Endian.{big_bytes}
 use Rattle.roam_acts.specs.declared.acts.Act.{Act}
@@ -7,6 +7,7 @@ use Rattle.roam_acts.specs.declared.acts.Act.TheVariants.{SplitRight, SplitDown,
 use Rattle.roam_acts.specs.declared.acts.Act.TheVariants as act
 use Rattle.roam_keys.specs.declared.keys.Key.{Key}
 use Rattle.roam_keys.specs.declared.keys.Key.TheVariants.{Char}
+use Rattle.roam_acts.specs.Acts.{IsAct}
 use Rattle.roam_acts.specs.Keys.{number_of}
 use Rattle.roam_acts.specs.Kinds.{kind_of, tag_of}
 
@@ -34,3 +35,10 @@ act_text a = tag_of (kind_of a) ∷ fields_of a
 -- the text of a list of acts
 abbrev pub acts_text : List Act → List ℕ
 acts_text acts = flat_map act_text acts
+
+-- bytes begin with the text of an act in its ranges
+pub record BeginsWithAct (bytes : List ℕ) : Type 0 where
+  pub act : Act
+  pub rest : List ℕ
+  pub is : IsAct act
+  pub begins : bytes ≡ act_text act ++ rest

@@ -1,9 +1,9 @@
 //! Acts as bytes, in both directions.
-ghost use Rattle.std.specs.Prelude.{◌≡◌, ℕ, ◌+◌, ◌<◌, ◌≤◌, ◌++◌, ◌⊎◌, List, length, take, Some, None, IfOk, OnOk, OnErr, IfErr, IsErrOf, IsOkUnless, MatchOption, MatchResult};
+ghost use Rattle.std.specs.Prelude.{◌≡◌, ℕ, ◌+◌, ◌<◌, ◌≤◌, ◌++◌, ◌⊎◌, List, length, take, Some, None, IfOk, OnOk, OnErr, IfErr, IsErrOf, IsOkUnless, IsSome, MatchOption, MatchResult};
 ghost use Rattle.std.specs.List.{All};
 ghost use Rattle.roam_acts.specs.Acts.{IsAct, IsInRange};
 ghost use Rattle.roam_acts.specs.Kinds.{kind_of, width_of};
-ghost use Rattle.roam_acts.specs.Bytes.{act_text, acts_text, fields_of};
+ghost use Rattle.roam_acts.specs.Bytes.{act_text, acts_text, fields_of, BeginsWithAct};
 ghost use Rattle.roam_acts.specs.Reading.{act_of_fields, acts_in, first_act};
 
 use crate::acts::Act;
@@ -108,6 +108,7 @@ fn acts_in(alloc: Global, count: usize, bytes: &[u8]) -> Result<Vec<Act>, Fault>
     ensures acts { MatchResult result (λ v. acts_in count bytes.now ≡ Some v.items)
         (λ e. (e ≡ Fault.OutOfMemory) ⊎ ((e ≡ Fault.BadDatagram Reason.Length) × (acts_in count bytes.now ≡ None))) }
     ensures memory { IsErrOf result Fault.OutOfMemory → 0 < count }
+    ensures first { IsErrOf result Fault.OutOfMemory → IsSome (first_act bytes.now) }
 {
     let mut acts = Vec::new(alloc);
     let mut rest = bytes;
@@ -125,7 +126,7 @@ fn acts_in(alloc: Global, count: usize, bytes: &[u8]) -> Result<Vec<Act>, Fault>
 }
 
 /// The acts of a text that has exactly `count` of them and nothing after. `BadDatagram(Length)` where the bytes are no
-/// such text, `OutOfMemory`, which a count of 0 is never refused with.
+/// such text, `OutOfMemory` only where they begin with the text of an act in its ranges, and never for a count of 0.
 pub fn read_acts(alloc: Global, count: usize, bytes: &[u8]) -> Result<Vec<Act>, Fault>
     // What is read has this text.
     ensures found { IfOk result (λ v. (length v.items ≡ count) × All IsAct v.items × (bytes.now ≡ acts_text v.items)) }
@@ -135,6 +136,7 @@ pub fn read_acts(alloc: Global, count: usize, bytes: &[u8]) -> Result<Vec<Act>, 
         → MatchResult result (λ v. v.items ≡ acts) (λ e. e ≡ Fault.OutOfMemory) }
     ensures fault { IfErr result (λ e. (e ≡ Fault.OutOfMemory) ⊎ (e ≡ Fault.BadDatagram Reason.Length)) }
     ensures memory { IsErrOf result Fault.OutOfMemory → 0 < count }
+    ensures begins { IsErrOf result Fault.OutOfMemory → BeginsWithAct bytes.now }
 {
     acts_in(alloc, count, bytes)
 }

@@ -11,7 +11,7 @@ use Rattle.roam_world.specs.Texts.{is_watching}
 use Rattle.roam_world.specs.Versions.{is_same_version}
 use Rattle.roam_world.specs.ServerArrivals.{arrival_with, is_same, most_of, alike_in, alike, is_full_for, is_of_other, is_else}
 use Rattle.roam_hub.specs.Servers.{RecordView, ServerView, kept_of, IsKept, AreKept, Stands}
-use Rattle.roam_hub.specs.Records.{Puts, known, added, entry_of, alike_entries, Fits, IsOther, another_version, another_kind}
+use Rattle.roam_hub.specs.Records.{Puts, known, added, entry_of, alike_entries, Fits}
 
 other_way : (i j : ℕ) (b : Bool) → nat_eq i j ≡ b → nat_eq j i ≡ b
 other_way i j true e = grind (arith, nat_tests)

@@ -9,4 +9,5 @@ pub mod Watchers
 pub mod Recording
 pub mod Addressing
 pub mod Settling
+pub mod Waiting
 pub mod Ticking

@@ -1,6 +1,6 @@
 -- What a server of the code stands for, after its calls.
 use Rattle.std.proofs.Common.{◌≡◌, ℕ, ◌≤◌, max, List, [], ◌∷◌, ◌++◌, length, map, take, Option, Some, None, Bool, true, false, refl, sym, ap, ◌∙◌, subst, cond, arith, length-append}
-use Rattle.std.specs.Prelude.{if◌then◌else◌, Ok, Err, nat_eq, nat_lt, nat_le, not, is_some, ◌&&◌, ◌||◌}
+use Rattle.std.specs.Prelude.{if◌then◌else◌, Ok, Err, nat_eq, nat_lt, not, is_some, ◌||◌}
 use Rattle.std.specs.List.{IsDistinct}
 use Rattle.std.specs.Map.{keys_of, lookup}
 use Rattle.std.proofs.lemmas.List.{take-append-le}
@@ -32,7 +32,7 @@ use Rattle.roam_hub.specs.Clients.{IsTextOf}
 use Rattle.roam_hub.specs.declared.taking.Taking.{Taking}
 use Rattle.roam_hub.specs.Servers.{RecordView, ServerView, kept_of, IsKept, Stands, Feeds, refused, taken, Drains, no_pane, gone, stop_after, Comes, no_datagram, fragment, unread, all_taken, no_room, no_memory_at_act, no_memory}
 use Rattle.roam_hub.specs.Records.{answer_to_datagram, taking, TakesActs, all, full, no_memory as wants_memory, heard_by, informed_by, Notes, fragment as noted_fragment, instruction, NotNoted, no_fragment, unread as not_read, NotesIn, NotNotedIn, room, differs, IsOther, another_version, another_kind, alike_entries, fitted_record, entry_of}
-use Rattle.roam_hub.proofs.Entries.{PutsWell, puts_well, was_kept, has_room, entry_is, found_at, room_is, is_full, Suits, suits, suits_put, Differs, there_is}
+use Rattle.roam_hub.proofs.Entries.{PutsWell, puts_well, was_kept, has_room, entry_is, found_at, room_is, is_full, Suits, suits, suits_put, there_is}
 
 -- ---- a new server
 

@@ -28,6 +28,7 @@ use Rattle.roam_world.specs.Ticks.{makes, cuts_after, number_after, screen_after
 use Rattle.roam_hub.specs.declared.addresses.Addr.{Addr}
 use Rattle.roam_hub.specs.Servers.{RecordView, ServerView, kept_of, IsKept, AreKept, Stands, parcels_of, parcel_text, is_ack_spent, is_number_spent, Ticks, spent, ticked as did_tick, no_memory}
 use Rattle.roam_hub.specs.Records.{bare, is_sent_to, fragments_sent, settled_with, held_record, texts_for, is_entry_spent, settled_entry, makes_at, sent_by_tick, ticked_by, is_any_spent}
+use Rattle.roam_hub.proofs.Waiting.{makes_is}
 
 -- ---- one record
 
@@ -210,9 +211,6 @@ screen_made s =
     ∙ ap (λ b. cond b first_screen (face s.size (take (cut_of (s.cuts ++ length s.log ∷ []) (length (s.cuts ++ length s.log ∷ []))) s.log)))
     (let z : nat_eq (suc (length s.cuts)) 0 ≡ false = grind (arith, nat_tests) in z)
     ∙ ap (λ (c : ℕ). face s.size (take c s.log)) (cut_made s) ∙ ap (face s.size) (take_all s.log)
-
-makes_is : (v : ServerView) (s : Server) (now : ℕ) → Stands v s → makes_at v now ≡ makes s now
-makes_is v s now st = λ i. nat_eq (st.made i) 0 || (st.input i && has_passed 20 (st.made_at i) now)
 
 -- ---- the whole
 

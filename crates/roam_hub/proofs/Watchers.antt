@@ -1,5 +1,5 @@
 -- What a datagram of a start that only watches leaves, whatever else its bytes are.
-use Rattle.std.proofs.Common.{◌≡◌, ◌⊎◌, ℕ, ◌≤◌, List, [], length, drop, Option, Some, None, Bool, true, false, inl, inr, refl, sym, ap, ◌∙◌, subst, cond, arith}
+use Rattle.std.proofs.Common.{◌≡◌, ◌⊎◌, ℕ, List, [], length, drop, Option, Some, None, Bool, true, false, inl, inr, refl, sym, ap, ◌∙◌, subst, cond, arith}
 use Rattle.std.specs.Prelude.{Result, Ok, Err, IfOk, IfErr, IfSome, OnErr, nat_eq, nat_lt, not}
 use Rattle.roam_cells.specs.declared.faults.Fault.{Fault}
 use Rattle.roam_cells.specs.declared.faults.Fault.TheVariants.{OutOfMemory, Busy}
@@ -10,7 +10,7 @@ use Rattle.roam_wire.specs.declared.datagrams.Kind.TheVariants.{FromWatcher}
 use Rattle.roam_wire.specs.declared.versions.Version.{Version}
 use Rattle.roam_wire.specs.declared.versions.Version.TheVariants.{One, Two}
 use Rattle.roam_wire.specs.Versions.{version_numbered}
-use Rattle.roam_wire.specs.Datagrams.{DatagramValue, datagram_text}
+use Rattle.roam_wire.specs.Datagrams.{DatagramValue}
 use Rattle.roam_wire.specs.Headers.{header_at, kind_tagged, fragment_fault, kind_unless, version_unless, checked_header, datagram_with, datagram_if, datagram_at}
 use Rattle.roam_wire.specs.Gatherers.{Gathering}
 use Rattle.roam_wire.specs.Instructions.{UpValue}
@@ -25,7 +25,7 @@ use Rattle.roam_world.proofs.Runs.{reach_low}
 use Rattle.roam_hub.specs.Clients.{IsTextOf}
 use Rattle.roam_hub.specs.declared.addresses.Stop.{Stop}
 use Rattle.roam_hub.specs.declared.taking.Taking.{Taking}
-use Rattle.roam_hub.specs.Servers.{ServerView, Stands, stop_after, Comes, no_datagram, refused, fragment, unread, all_taken, no_room, no_memory_at_act, no_memory, ComesFromWatcher, taken_in, TakesNothing, IsStopAtAct}
+use Rattle.roam_hub.specs.Servers.{ServerView, Stands, Comes, no_datagram, refused, fragment, unread, all_taken, no_room, no_memory_at_act, no_memory, ComesFromWatcher, taken_in, TakesNothing, IsStopAtAct}
 use Rattle.roam_hub.specs.Records.{answer_to_datagram}
 
 -- ---- bytes

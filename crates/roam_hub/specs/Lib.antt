@@ -2,3 +2,4 @@ pub mod Ends
 pub mod Clients
 pub mod Servers
 pub mod Records
+pub mod Waits

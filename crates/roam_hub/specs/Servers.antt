@@ -1,5 +1,5 @@
 -- What a server of the code stands for, and what its calls answer and leave.
-use Rattle.std.specs.Prelude.{◌≡◌, ◌⊎◌, ℕ, ◌<◌, ◌≤◌, nat_eq, ◌&&◌, ◌||◌, List, [], ◌∷◌, length, map, slice_index, Option, Some, None, Result, Ok, Err, Bool, true, false, Vec}
+use Rattle.std.specs.Prelude.{◌≡◌, ◌⊎◌, ℕ, ◌<◌, ◌≤◌, nat_eq, ◌&&◌, ◌||◌, List, [], ◌∷◌, length, map, Option, Some, None, Result, Ok, Err, Bool, true, false, Vec}
 use Rattle.std.specs.List.{list_any}
 use Rattle.std.specs.Map.{keys_of, lookup}
 use Rattle.std.specs.declared.alloc.Global.{Global}
@@ -24,7 +24,7 @@ use Rattle.roam_world.specs.Texts.{Address, is_watching, SaysUp, SaysNoUp}
 use Rattle.roam_world.specs.Servers.{Record, no_record, Server, moment, after_input}
 use Rattle.roam_world.specs.ServerArrivals.{coming, after_note, new_acts, after_acts, room_for}
 use Rattle.roam_world.specs.Arrival.{turned_away, noted, completed}
-use Rattle.roam_world.specs.Ticks.{number_after, screen_to, sends, Parcel, sent_by, is_tick_spent, after_tick}
+use Rattle.roam_world.specs.Ticks.{makes, number_after, screen_to, is_offered, sends, Parcel, sent_by, is_tick_spent, after_tick}
 use Rattle.roam_world.specs.Laws.{IsSameBut}
 use Rattle.roam_hub.specs.Clients.{IsTextOf, IsNoDatagram}
 use Rattle.roam_hub.specs.declared.addresses.Addr.{Addr}
@@ -181,6 +181,15 @@ parcels_of all = map (λ p. (address_of p.0, p.1.items)) all
 
 abbrev pub parcel_text : Parcel → Address × List ℕ
 parcel_text p = (p.to, datagram_text p.datagram)
+
+-- a tick offers the newest number to the record of a start, or sends something to it
+abbrev pub is_touched : Server → ℕ → ℕ → Bool
+is_touched s now id =
+    is_offered (s.records id) (number_after s now) now || sends (s.records id) (number_after s now) (screen_to s now id) now
+
+-- a tick makes a number, or touches a record
+abbrev pub is_server_due : Server → ℕ → Bool
+is_server_due s now = makes s now || list_any (is_touched s now) s.arrival
 
 -- a record is sent to, and as many of its acts were taken as no number can say
 abbrev pub is_ack_spent : Server → ℕ → ℕ → Bool

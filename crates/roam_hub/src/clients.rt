@@ -1,5 +1,5 @@
 //! A client start: what is typed there, what it hears, what it sends.
-ghost use Rattle.std.specs.Prelude.{◌≡◌, ◌⊎◌, ◌↔◌, ◌≤◌, true, false, not, length, map, ℕ, List, [], IsTrue, IfOk, IfErr, OnOk, OnErr, IsOkUnless, if◌then◌else◌};
+ghost use Rattle.std.specs.Prelude.{◌≡◌, ◌⊎◌, ◌↔◌, ◌<◌, ◌≤◌, ◌^◌, true, false, not, length, map, ℕ, List, [], IsTrue, IfOk, IfErr, IfSome, OnOk, OnErr, IsOkUnless, if◌then◌else◌};
 ghost use Rattle.std.specs.List.{All};
 ghost use Rattle.roam_acts.specs.Acts.{HasKey, IsInRange};
 ghost use Rattle.roam_acts.specs.Limits.{most_unacknowledged};
@@ -9,15 +9,19 @@ ghost use Rattle.roam_screens.specs.Shown.{shown_by};
 ghost use Rattle.roam_wire.specs.Gatherers.{gather, fragment_of};
 ghost use Rattle.roam_wire.specs.declared.versions.Version.TheVariants.{One, Two};
 ghost use Rattle.roam_world.specs.Sendings.{is_client_due, last_waiting};
-ghost use Rattle.roam_world.specs.Clients.{Client as ClientOf, new_client, shown_number, shown_screen};
+ghost use Rattle.roam_world.specs.Clients.{Client as ClientOf, moment_of, new_client, shown_number, shown_screen};
 ghost use Rattle.roam_world.specs.Texts.{kind_from, is_to_server};
 ghost use Rattle.roam_world.specs.ClientArrivals.{arriving, arriving_gathered, hearing_of};
 ghost use Rattle.roam_world.specs.Arrival.{turned_away};
 ghost use Rattle.roam_hub.specs.Ends.{version_in, receiving_in};
+ghost use Rattle.roam_hub.specs.Waits.{has_come, PassesFrom};
 ghost use Rattle.roam_hub.specs.Clients.{Stands, Types, TypesAll, Delivered, NotDelivered, Hears, Sends, bare, datagrams_by, hearing_in, is_view_spent};
 
 use crate::ends::AnyReceiver;
-use crate::moments::{HEARTBEAT, RESEND_AFTER, has_passed, is_overdue, owed_after};
+use crate::moments::{
+    HEARTBEAT, RESEND_AFTER, answer_from, by_clock, earlier, has_passed, is_overdue, moment_after,
+    owed_after,
+};
 use crate::packing::{Heading, packed};
 use crate::records::is_same_version;
 use roam_acts::limits::NUMBER_LIMIT;
@@ -347,6 +351,37 @@ impl Client {
             || (unacknowledged && has_passed(RESEND_AFTER, since, now))
             || is_overdue(self.owed, now)
             || has_passed(HEARTBEAT, since, now)
+    }
+
+    // The moment from which on something is to be sent.
+    fn due_from(&self) -> Option<u64>
+        ensures from { PassesFrom result (is_client_due (bare self.now)) }
+    {
+        let Some(since) = self.sent_at else {
+            return Some(0);
+        };
+        let unacknowledged = !self.acts.waiting().1.is_empty();
+        if unacknowledged && self.sent_act < self.last_waiting() {
+            return Some(0);
+        }
+        let again = if unacknowledged {
+            RESEND_AFTER
+        } else {
+            HEARTBEAT
+        };
+        earlier(moment_after(again, since), answer_from(self.owed))
+    }
+
+    /// The moment at which a tick next sends something if nothing is typed and nothing comes before, 0 for at once and `None` for never:
+    /// at each one before it, or, where that is earlier, at the greatest moment so far, nothing is due; at it something is. It takes no
+    /// memory.
+    pub fn next_due(&self) -> Option<u64>
+        ensures before { (session id : ℕ) (c : ClientOf) → Stands self.now session id c → (now : ℕ) → now < 2 ^ 64
+            → has_come result now ≡ false → is_client_due c (moment_of c now) ≡ false }
+        ensures at { (session id : ℕ) (c : ClientOf) → Stands self.now session id c
+            → IfSome result (λ due. is_client_due c (moment_of c due) ≡ true) }
+    {
+        by_clock(self.due_from(), self.clock)
     }
 
     // The texts of the datagrams of the instruction that would be sent.

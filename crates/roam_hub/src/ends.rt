@@ -6,9 +6,11 @@ ghost use Rattle.roam_screens.specs.Shown.{shown_by};
 ghost use Rattle.roam_sync.specs.Senders.{newest, count, offered, withdrawn, acked, sent_at, is_due, start};
 ghost use Rattle.roam_sync.specs.Receivers.{pairs, state_at, step_for, Takes, start as receives};
 ghost use Rattle.roam_world.specs.Versions.{seen_by, difference_by, applied_by};
+ghost use Rattle.roam_hub.specs.Waits.{PassesFrom};
 ghost use Rattle.roam_hub.specs.Ends.{version_of, sending_of, version_in, receiving_in};
 ghost use Rattle.roam_sync.specs.Limits.{most_held};
 
+use crate::moments::{HEARTBEAT, RESEND_AFTER, moment_after};
 use roam_cells::Fault;
 use roam_screens::{RowShot, RowShot1, Shown};
 use roam_sync::{Instruction, Receiver, Sender, Step};
@@ -201,6 +203,22 @@ impl AnySender {
         match self {
             AnySender::One(sender) => sender.due(now),
             AnySender::Two(sender) => sender.due(now),
+        }
+    }
+
+    /// The moment from which on the newest state is to be sent, where something was last sent at this one, 0 before the first; none past
+    /// the last moment.
+    pub fn due_from(&self, last: u64) -> Option<u64>
+        requires last { last ≡ (sending_of self.now).last }
+        ensures from { PassesFrom result (is_due (sending_of self.now)) }
+    {
+        if self.due(last) {
+            return Some(0);
+        }
+        if self.len() > 1 {
+            moment_after(RESEND_AFTER, last)
+        } else {
+            moment_after(HEARTBEAT, last)
         }
     }
 

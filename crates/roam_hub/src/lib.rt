@@ -12,6 +12,7 @@ mod records;
 mod sending;
 pub mod servers;
 mod taking;
+mod waits;
 
 pub use addresses::{Addr, Stop};
 pub use clients::{Client, Heard};

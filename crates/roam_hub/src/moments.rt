@@ -1,6 +1,7 @@
 //! Moments, in milliseconds: when something is due, and what is owed.
-ghost use Rattle.std.specs.Prelude.{◌≡◌, ◌+◌, nat_lt, if◌then◌else◌};
+ghost use Rattle.std.specs.Prelude.{◌≡◌, ◌+◌, ◌<◌, ◌^◌, ◌⊎◌, ◌||◌, ℕ, max, nat_lt, if◌then◌else◌, Some, None, IfSome};
 ghost use Rattle.roam_world.specs.Moments.{forget_after, has_passed, is_overdue, owed_from};
+ghost use Rattle.roam_hub.specs.Waits.{has_come, PassesFrom};
 
 /// The least time from one number to the next.
 pub(crate) const FRAME_INTERVAL: u64 = 20;
@@ -31,6 +32,45 @@ pub(crate) fn is_overdue(owed: Option<u64>, now: u64) -> bool
     match owed {
         None => false,
         Some(since) => has_passed(ANSWER_DELAY, since, now),
+    }
+}
+
+/// The moment from which on so many milliseconds have passed since another one; none past the last moment.
+pub(crate) fn moment_after(long: u64, since: u64) -> Option<u64>
+    ensures from { PassesFrom result (has_passed long since) }
+{
+    since.checked_add(long)
+}
+
+/// The moment from which on an answer has been owed for as long as it may be.
+pub(crate) fn answer_from(owed: Option<u64>) -> Option<u64>
+    ensures from { PassesFrom result (is_overdue owed) }
+{
+    moment_after(ANSWER_DELAY, owed?)
+}
+
+/// The earlier of two moments, either of which may be none.
+pub(crate) fn earlier(one: Option<u64>, other: Option<u64>) -> Option<u64>
+    ensures come { (now : ℕ) → has_come result now ≡ (has_come one now || has_come other now) }
+    ensures one_of { (result ≡ one) ⊎ (result ≡ other) }
+{
+    match (one, other) {
+        (Some(first), Some(second)) if first <= second => one,
+        (Some(_), None) => one,
+        _ => other,
+    }
+}
+
+/// A moment as ticks see it that go by a clock where they come before it: 0 where it has come at the clock.
+pub(crate) fn by_clock(due: Option<u64>, clock: u64) -> Option<u64>
+    ensures come { (now : ℕ) → has_come result now ≡ has_come due (max now clock) }
+    ensures none { due ≡ None → result ≡ None }
+    ensures same { (moment : ℕ) → due ≡ Some moment → IfSome result (λ d. max d clock ≡ max moment clock) }
+    ensures low { clock < 2 ^ 64 }
+{
+    match due {
+        Some(moment) if moment <= clock => Some(0),
+        _ => due,
     }
 }
 

@@ -12,13 +12,14 @@ ghost use Rattle.roam_world.specs.Versions.{is_same_version as are_same_version}
 ghost use Rattle.roam_hub.specs.Ends.{version_of, sending_of};
 ghost use Rattle.roam_hub.specs.Servers.{address_of, parcels_of};
 ghost use Rattle.roam_hub.specs.Records.{first_record, Fits, IsOther, Notes, NotHeard, is_instruction_spent, is_sent_to, fragments_sent, datagrams_for, parcels_for, settled_with, HasNumbersFor, back_from, held_record, is_entry_spent};
+ghost use Rattle.roam_hub.specs.Waits.{has_come, PassesFrom, is_active, is_record_due};
 ghost use Rattle.roam_acts.specs.Limits.{number_limit};
 ghost use Rattle.roam_sync.specs.Limits.{most_held};
 
 use crate::addresses::Addr;
 use crate::ends::AnySender;
 use crate::limits::MOST_HELD;
-use crate::moments::{is_heard, is_overdue, owed_after};
+use crate::moments::{answer_from, earlier, is_heard, is_overdue, owed_after};
 use crate::packing::{Heading, packed};
 use crate::taking::{Taking, take_acts};
 use roam_acts::limits::NUMBER_LIMIT;
@@ -41,6 +42,8 @@ pub struct Record {
     latest: u64,
     address: Addr,
     owed: Option<u64>,
+    /// When something was last sent to the start, 0 before the first.
+    sent_at: u64,
     datagrams: u64,
     instructions: u64,
 }
@@ -62,7 +65,7 @@ pub struct Prepared {
 
 impl Model for Record {
     ghost use Rattle.roam_acts.specs.Limits.{number_limit, most_acts};
-    ghost use Rattle.std.specs.Prelude.{◌+◌, ◌<◌, ◌^◌};
+    ghost use Rattle.std.specs.Prelude.{◌≡◌, ◌+◌, ◌<◌, ◌^◌};
     ghost use Rattle.roam_sync.specs.Senders.{newest};
     ghost use Rattle.roam_hub.specs.Ends.{version_of, sending_of};
     ghost use Rattle.roam_hub.specs.Servers.{RecordView, address_of};
@@ -84,7 +87,7 @@ impl Model for Record {
     } };
 
     ghost invariant = { λ r. (r.taker < number_limit + most_acts) × ((newest (sending_of r.sender)).number < number_limit)
-        × (r.datagrams < number_limit) × (r.instructions < number_limit) };
+        × (r.datagrams < number_limit) × (r.instructions < number_limit) × (r.sent_at ≡ (sending_of r.sender).last) };
 }
 
 // Where the greatest-numbered datagram came from, where one of this number came from there.
@@ -101,6 +104,14 @@ fn keep_unless(gatherer: &mut Gatherer, stopped: bool)
     if stopped {
         gatherer.untake();
     }
+}
+
+// Whether a number may be offered to a start: it is new to its sender, and fewer than eight are held.
+fn has_room_for(sender: &AnySender, number: u64) -> bool
+    ensures room { result ≡ (nat_lt (newest (sending_of sender.now)).number number
+        && nat_lt (count (sending_of sender.now)) most_held) }
+{
+    sender.newest_number() < number && sender.len() < MOST_HELD
 }
 
 // Whether a number is offered to a start: it was heard of late, the number is new to its sender, and fewer than eight are held.
@@ -200,6 +211,7 @@ impl Record {
                 port: 0,
             },
             owed: None,
+            sent_at: 0,
             datagrams: 0,
             instructions: 0,
         })
@@ -403,6 +415,31 @@ impl Record {
         }
     }
 
+    // The moment from which on a number is offered to the start, or something sent to it, where it was heard of late.
+    fn active_from(&self, number: u64) -> Option<u64>
+        ensures from { PassesFrom result (is_active self.now number) }
+    {
+        if has_room_for(&self.sender, number) {
+            return Some(0);
+        }
+        earlier(self.sender.due_from(self.sent_at), answer_from(self.owed))
+    }
+
+    /// The first moment at which a tick offers the start a number or sends something to it, if nothing comes before and no tick goes by a
+    /// moment before the clock; none where it isn't heard of so late.
+    pub fn next_due(&self, number: u64, clock: u64) -> Option<u64>
+        ensures before { (now : ℕ) → clock ≤ now → now < 2 ^ 64 → has_come result now ≡ false
+            → is_record_due self.now number now ≡ false }
+        ensures at { IfSome result (λ due. is_record_due self.now number (max due clock) ≡ true) }
+    {
+        let due = self.active_from(number)?;
+        if is_heard(self.heard_at, due.max(clock)) {
+            Some(due)
+        } else {
+            None
+        }
+    }
+
     /// Undoes what `prepare` did.
     pub fn undo(&mut self, prepared: Prepared)
         requires several { IsTrue prepared.offered → 2 ≤ count self.old.sender }
@@ -421,6 +458,7 @@ impl Record {
             return;
         };
         self.sender.sent(now);
+        self.sent_at = now;
         self.owed = None;
         self.datagrams += fragments;
         self.instructions += 1;

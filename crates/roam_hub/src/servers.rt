@@ -1,5 +1,5 @@
 //! The server: the session, its numbered screens, and what is kept of each client start.
-ghost use Rattle.std.specs.Prelude.{◌≡◌, ◌↔◌, ◌⊎◌, ◌≤◌, ◌-◌, ◌+◌, ◌||◌, ℕ, List, length, nat_eq, true, false, IfOk, IfErr, IfSome, OnOk, OnErr, IsErrOf, IsOkUnless};
+ghost use Rattle.std.specs.Prelude.{◌≡◌, ◌↔◌, ◌⊎◌, ◌≤◌, ◌<◌, ◌^◌, ◌-◌, ◌+◌, ◌||◌, ℕ, List, length, nat_eq, true, false, IfOk, IfErr, IfSome, OnOk, OnErr, IsErrOf, IsOkUnless};
 ghost use Rattle.std.specs.Option.{option_map};
 ghost use Rattle.roam_layout.specs.Layouts.{IsSessionSize};
 ghost use Rattle.roam_session.specs.Faces.{face};
@@ -8,21 +8,23 @@ ghost use Rattle.roam_session.specs.Places.{focus_at, rect_at};
 ghost use Rattle.roam_session.specs.Stands.{waiting_at};
 ghost use Rattle.roam_session.specs.Queues.{IsWithin, IsCopied};
 ghost use Rattle.roam_session.specs.Refusals.{fault_of, none_refused, output_at};
-ghost use Rattle.roam_world.specs.Servers.{Server as ServerOf, new_server};
+ghost use Rattle.roam_world.specs.Servers.{Server as ServerOf, moment, new_server};
 ghost use Rattle.roam_wire.specs.Datagrams.{datagram_value};
 ghost use Rattle.roam_world.specs.Texts.{is_to_server as is_to_server_kind};
 ghost use Rattle.roam_world.specs.ServerArrivals.{alike as alike_of, coming};
 ghost use Rattle.roam_world.specs.Arrival.{turned_away};
-ghost use Rattle.roam_hub.specs.Servers.{Stands, Feeds, Drains, Comes, Ticks, ComesFromWatcher, TakesNothing, IsStopAtAct, address_of, parcels_of};
+ghost use Rattle.roam_hub.specs.Servers.{Stands, Feeds, Drains, Comes, Ticks, ComesFromWatcher, TakesNothing, IsStopAtAct, is_server_due, address_of, parcels_of};
 ghost use Rattle.roam_hub.specs.Records.{answer_to_datagram, makes_at, sent_by_tick, ticked_by, is_any_spent, Numbers, is_numbering_spent};
+ghost use Rattle.roam_hub.specs.Waits.{has_come, PassesFrom, IsQuiet};
 ghost use Rattle.roam_term.specs.Limits.{most_output};
 
 use crate::addresses::{Addr, Stop};
 use crate::known::{alike, hear_in};
-use crate::moments::{FRAME_INTERVAL, has_passed};
+use crate::moments::{FRAME_INTERVAL, by_clock, earlier, has_passed, moment_after};
 use crate::records::{News, Record};
 use crate::sending::send_from;
 use crate::taking::Taking;
+use crate::waits::next_due_of;
 use indexmap::IndexMap;
 use roam_acts::limits::NUMBER_LIMIT;
 use roam_cells::{Fault, Reason};
@@ -278,6 +280,32 @@ impl Server {
         ensures makes { result ≡ makes_at self.now now }
     {
         self.made == 0 || (self.input && has_passed(FRAME_INTERVAL, self.made_at, now))
+    }
+
+    // The moment from which on a number is made.
+    fn makes_from(&self) -> Option<u64>
+        ensures from { PassesFrom result (makes_at self.now) }
+    {
+        if self.made == 0 {
+            return Some(0);
+        }
+        if !self.input {
+            return None;
+        }
+        moment_after(FRAME_INTERVAL, self.made_at)
+    }
+
+    /// The moment at which a tick next does something if nothing comes before, 0 for at once and `None` for never: at each one before it,
+    /// or, where that is earlier, at the greatest moment so far, a tick changes nothing but the clock and sends nothing; at it a number is
+    /// made, or a start is offered a screen or sent something. It takes no memory.
+    pub fn next_due(&self) -> Option<u64>
+        ensures before { (s : ServerOf) → Stands self.now s → (now : ℕ) → now < 2 ^ 64 → has_come result now ≡ false
+            → IsQuiet s (moment s now) }
+        ensures at { (s : ServerOf) → Stands self.now s → IfSome result (λ due. is_server_due s (moment s due) ≡ true) }
+    {
+        let number = self.makes_from();
+        let records = next_due_of(&self.records, self.made, self.clock);
+        by_clock(earlier(number, records), self.clock)
     }
 
     // A tick that makes no number.

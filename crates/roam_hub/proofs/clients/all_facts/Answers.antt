@@ -1,5 +1,4 @@
-use Rattle.std.proofs.Common.{arith, sym, take, length}
-use Rattle.std.specs.List.{All}
+use Rattle.std.proofs.Common.{arith, sym, take}
 use Rattle.std.proofs.lemmas.List.{take_all}
 use Rattle.std.proofs.lemmas.List.Elements.{All-more, All-same}
 use Rattle.roam_acts.specs.Acts.{HasKey}
@@ -11,4 +10,9 @@ loop-act-preserved c =
     c.loop-act.invariant c.facts.ensures.key
 
 pub returns : goal.returns
-returns c = record { keys = All-same HasKey c.args.acts.now (take c.loop-act.act-index c.args.acts.now) (sym (take_all c.loop-act.act-index c.args.acts.now (omega (arith, c.loop-act.auto.act-index-end)))) c.loop-act.invariant }
+returns c =
+    record {
+      keys =
+          All-same HasKey c.args.acts.now (take c.loop-act.act-index c.args.acts.now)
+          (sym (take_all c.loop-act.act-index c.args.acts.now (omega (arith, c.loop-act.auto.act-index-end)))) c.loop-act.invariant;
+    }

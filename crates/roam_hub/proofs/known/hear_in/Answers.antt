@@ -1,4 +1,4 @@
-use Rattle.std.proofs.Common.{refl, sym, ap, ◌∙◌, ℕ, List, length, arith}
+use Rattle.std.proofs.Common.{refl, sym, ap, ◌∙◌, ℕ}
 use Rattle.std.proofs.lemmas.Result.{IfOk-weaker, MatchResult-weaker, err_from_is_err_and}
 use Rattle.indexmap.specs.IndexMap.{IndexMap}
 use Rattle.roam_wire.specs.Datagrams.{datagram_value}

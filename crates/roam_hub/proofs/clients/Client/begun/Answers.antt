@@ -1,4 +1,4 @@
-use Rattle.std.proofs.Common.{ap, ◌∙◌}
+use Rattle.std.proofs.Common.{ap}
 use Rattle.roam_wire.specs.Gatherers.{GathererValue}
 use Rattle.roam_world.specs.Numbers.{first_screen}
 use Rattle.roam_hub.specs.Ends.{version_in, receiving_in}

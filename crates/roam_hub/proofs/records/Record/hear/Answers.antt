@@ -16,7 +16,7 @@ use Rattle.roam_wire.specs.Instructions.{UpValue, IsUpOf, up_value, up_text}
 use Rattle.roam_world.specs.Texts.{is_watching}
 use Rattle.roam_hub.specs.Servers.{RecordView, address_of}
 use Rattle.roam_hub.specs.Ends.{version_of, sending_of}
-use Rattle.roam_hub.specs.Records.{Notes, NotNoted, NotHeard, fitting, other, Fits, IsOther, TakesActs}
+use Rattle.roam_hub.specs.Records.{Notes, NotHeard, fitting, other, Fits, IsOther, TakesActs}
 use Rattle.roam_hub.proofs.Recording.{same_kind, fragment_noted, not_gathered, up_unread, fresh_in_range, fresh_few, taken_low, newest_acked, acts_noted, kept_as, informed_as}
 use Rattle.roam_hub.specs.contracts.records.Record.{the_view}
 use Rattle.roam_hub.proofs.records.Record.hear.Goals as goal
@@ -97,6 +97,7 @@ invariant_of-self-2 c =
           c.self.invariant.1,
       c.self.invariant.2,
       c.self.invariant.3,
+      c.self.invariant.4 ∙ sym (ap (λ (s : Sending Screenshot). s.last) c.acked.ensures.acked),
     )
 
 pub returns-clause-noted : goal.returns-clause-noted

@@ -20,4 +20,5 @@ invariant_of-self c =
           c.self.invariant.1,
       omega (arith, few, datagrams),
       omega (arith, more, instructions),
+      sym (ap (λ (s : Sending Screenshot). s.last) c.sent.ensures.sent),
     )

@@ -1,4 +1,3 @@
-use Rattle.std.proofs.Common.{sym}
 use Rattle.roam_hub.specs.Servers.{address_of}
 use Rattle.roam_hub.proofs.Watchers.{takes_nothing, leaves_all}
 use Rattle.roam_hub.proofs.servers.Server.datagram.Goals as goal
