@@ -56,12 +56,12 @@ not_true false e = refl
 narrow_parts : (g : Glyph) → is_narrow g ≡ true → (is_wide g ≡ false) × (is_right_half g ≡ false)
 narrow_parts g e = let both = and_parts (not (is_wide g)) (not (is_right_half g)) e in (not_true _ both.0, not_true _ both.1)
 
-record IsPlaceOf (row : List Glyph) (col : ℕ) : Type 0 where
-  from : 1 ≤ col
-  to : col ≤ length row
-  narrow : is_narrow (glyph_at row (col - 1)) ≡ true
+pub record IsPlaceOf (row : List Glyph) (col : ℕ) : Type 0 where
+  pub from : 1 ≤ col
+  pub to : col ≤ length row
+  pub narrow : is_narrow (glyph_at row (col - 1)) ≡ true
 
-place_there : (row : List Glyph) (col : ℕ) → has_place row col ≡ true → IsPlaceOf row col
+pub place_there : (row : List Glyph) (col : ℕ) → has_place row col ≡ true → IsPlaceOf row col
 place_there row col e =
     let first = and_parts (leb 1 col) (leb col (length row) && is_narrow (glyph_at row (col - 1))) e in
     let second = and_parts (leb col (length row)) (is_narrow (glyph_at row (col - 1))) first.1 in
