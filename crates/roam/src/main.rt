@@ -5,7 +5,7 @@
 //! `roam serve` serves a session whose panes are reached at sockets; `roam attach` follows one and paints it.
 #![tactic(auto)]
 
-use roam_command::{Request, Server, Wire, asked, words_of};
+use roam_command::{Request, Server, Source, Wire, asked, words_of};
 use roam_faults::{RunFault, end};
 use roam_play::run_world;
 use roam_serving::{Serve, run_serve};
@@ -30,12 +30,12 @@ fn main(rt: HostRuntime) -> ExitCode {
     }
 }
 
-// Where acts come from: a file or a socket, of which words name one at most.
-fn typed<'a>(keys: Option<&'a str>, acts: Option<&'a str>) -> Typed<'a> {
-    match (keys, acts) {
-        (_, Some(socket)) => Typed::Socket(socket),
-        (Some(path), None) => Typed::File(path),
-        (None, None) => Typed::Nothing,
+// Where acts come from.
+fn typed(source: Source<'_>) -> Typed<'_> {
+    match source {
+        Source::Nothing | Source::Terminals(_) => Typed::Nothing,
+        Source::Keys(path) => Typed::File(path),
+        Source::Acts(socket) => Typed::Socket(socket),
     }
 }
 
@@ -83,8 +83,7 @@ fn run(rt: &HostRuntime, request: Request<'_>) -> Result<(), RunFault> {
             server,
             session,
             client,
-            keys,
-            acts,
+            source,
             wire,
             watches,
             turns,
@@ -94,7 +93,7 @@ fn run(rt: &HostRuntime, request: Request<'_>) -> Result<(), RunFault> {
                 home: home(server),
                 session,
                 client,
-                typed: typed(keys, acts),
+                typed: typed(source),
                 version: version(wire),
                 watches,
                 turns,

@@ -187,6 +187,15 @@ const ATTACH: Subcommand = Subcommand {
             excludes: &["keys"],
         },
         Choice {
+            name: "terminals",
+            value: "SOCKET",
+            help: "Bind this Unix socket, and be the start of all outer terminals that connect there",
+            reads: Reads::Word,
+            needed: Needed::Never,
+            needs: &[],
+            excludes: &["keys", "acts", "watch"],
+        },
+        Choice {
             name: "wire",
             value: "V",
             help: "The version of the protocol, 1 or 2; 2 where it isn't given",

@@ -9,4 +9,4 @@ mod options;
 mod words;
 
 pub use asking::{asked, words_of};
-pub use words::{Refusal, Request, Server, Wire, read_words};
+pub use words::{Refusal, Request, Server, Source, Wire, read_words, request_of};

@@ -1,4 +1,8 @@
 //! What the words of the command line ask for.
+ghost use Rattle.std.specs.Prelude.{◌≡◌, IfOk, IfErr, codes};
+ghost use Rattle.clap.specs.Matches.{found_of};
+ghost use Rattle.roam_command.specs.Requests.{IsAttach, IsIdOf, IsNumberOf, IsServe, IsServerOf, IsShow, IsSourceOf, IsTurnsOf, IsWireOf, Asks};
+
 use crate::commands::program;
 use clap::error::ErrorKind;
 use clap::{ArgMatches, Error};
@@ -29,14 +33,12 @@ pub enum Request<'a> {
     },
 
     /// `roam attach`: a client start with this id, or one by chance, for so many turns, of the session that is served in this folder or on
-    /// this port of loopback, with the acts of the file `keys` or of the socket `acts` where there is one; it speaks this version, and may
-    /// only watch.
+    /// this port of loopback, with the acts that come from this source; it speaks this version, and may only watch.
     Attach {
         server: Server<'a>,
         session: Option<u64>,
         client: Option<u64>,
-        keys: Option<&'a str>,
-        acts: Option<&'a str>,
+        source: Source<'a>,
         wire: Wire,
         watches: bool,
         turns: u64,
@@ -48,6 +50,22 @@ pub enum Request<'a> {
 pub enum Server<'a> {
     Folder(&'a str),
     Port(u16),
+}
+
+/// Where the acts of a client start come from.
+#[derive(Clone, Copy, Debug, PartialEq, Eq)]
+pub enum Source<'a> {
+    /// From nowhere: nobody types.
+    Nothing,
+
+    /// From a file, one a line.
+    Keys(&'a str),
+
+    /// From the Unix socket at this path, to which it connects.
+    Acts(&'a str),
+
+    /// From the outer terminals that connect to the Unix socket that it binds at this path.
+    Terminals(&'a str),
 }
 
 /// The version of the protocol that a client start speaks.
@@ -67,8 +85,10 @@ pub enum Refusal {
     Clap(Error),
 }
 
-// The id that a word writes, where there is one.
-fn id_in(matches: &ArgMatches<'_>, name: &str) -> Result<Option<u64>, Refusal> {
+// The id that a word writes, where there is one. `BadId` where the word writes none.
+fn id_in(matches: &ArgMatches<'_>, name: &str) -> Result<Option<u64>, Refusal>
+    ensures id { IfOk result (IsIdOf (found_of matches.now) name.now) }
+{
     match matches.get_str(name) {
         Some(word) => match id(word.as_bytes()) {
             Some(id) => Ok(Some(id)),
@@ -78,18 +98,29 @@ fn id_in(matches: &ArgMatches<'_>, name: &str) -> Result<Option<u64>, Refusal> {
     }
 }
 
+// The number up to 65,535 of an option, where there is one.
+fn small_in(matches: &ArgMatches<'_>, name: &str) -> Option<u16>
+    ensures number { IsNumberOf 16 (found_of matches.now) name.now result }
+{
+    matches.get_one::<u16>(name)
+}
+
 // How many turns a run takes: as many as can be counted, where no number is given.
-fn turns_in(matches: &ArgMatches<'_>) -> u64 {
+fn turns_in(matches: &ArgMatches<'_>) -> u64
+    ensures turns { IsTurnsOf (found_of matches.now) result }
+{
     matches.get_one::<u64>("turns").unwrap_or(u64::MAX)
 }
 
 // What `roam serve` is asked for. `BadId` where an id is none.
-fn serve_of<'a>(matches: &ArgMatches<'a>) -> Result<Request<'a>, Refusal> {
+fn serve_of<'a>(matches: &ArgMatches<'a>) -> Result<Request<'a>, Refusal>
+    ensures serve { IfOk result (IsServe (found_of matches.now)) }
+{
     let session = id_in(matches, "session")?;
     match matches.get_str("dir") {
         Some(folder) => Ok(Request::Serve {
             folder,
-            port: matches.get_one::<u16>("port"),
+            port: small_in(matches, "port"),
             session,
             turns: turns_in(matches),
         }),
@@ -99,16 +130,20 @@ fn serve_of<'a>(matches: &ArgMatches<'a>) -> Result<Request<'a>, Refusal> {
 }
 
 // The version that a client start speaks: the second, where the first isn't asked for.
-fn wire_in(matches: &ArgMatches<'_>) -> Wire {
-    match matches.get_one::<u16>("wire") {
+fn wire_in(matches: &ArgMatches<'_>) -> Wire
+    ensures wire { IsWireOf (found_of matches.now) result }
+{
+    match small_in(matches, "wire") {
         Some(1) => Wire::One,
         _ => Wire::Two,
     }
 }
 
 // Where the server is reached.
-fn server_in<'a>(matches: &ArgMatches<'a>) -> Result<Server<'a>, Refusal> {
-    match (matches.get_str("dir"), matches.get_one::<u16>("port")) {
+fn server_in<'a>(matches: &ArgMatches<'a>) -> Result<Server<'a>, Refusal>
+    ensures server { IfOk result (IsServerOf (found_of matches.now)) }
+{
+    match (matches.get_str("dir"), small_in(matches, "port")) {
         (Some(folder), _) => Ok(Server::Folder(folder)),
         (None, Some(port)) => Ok(Server::Port(port)),
         // Not reached: clap takes no words without one of them.
@@ -116,36 +151,60 @@ fn server_in<'a>(matches: &ArgMatches<'a>) -> Result<Server<'a>, Refusal> {
     }
 }
 
+// Where acts come from, of which words name one place at most.
+fn source_in<'a>(matches: &ArgMatches<'a>) -> Source<'a>
+    ensures source { IsSourceOf (found_of matches.now) result }
+{
+    if let Some(socket) = matches.get_str("terminals") {
+        return Source::Terminals(socket);
+    }
+    if let Some(socket) = matches.get_str("acts") {
+        return Source::Acts(socket);
+    }
+    match matches.get_str("keys") {
+        Some(path) => Source::Keys(path),
+        None => Source::Nothing,
+    }
+}
+
 // What `roam attach` is asked for. `BadId` where an id is none.
-fn attach_of<'a>(matches: &ArgMatches<'a>) -> Result<Request<'a>, Refusal> {
+fn attach_of<'a>(matches: &ArgMatches<'a>) -> Result<Request<'a>, Refusal>
+    ensures attach { IfOk result (IsAttach (found_of matches.now)) }
+{
     Ok(Request::Attach {
         server: server_in(matches)?,
         session: id_in(matches, "session")?,
         client: id_in(matches, "client")?,
-        keys: matches.get_str("keys"),
-        acts: matches.get_str("acts"),
+        source: source_in(matches),
         wire: wire_in(matches),
         watches: matches.get_flag("watch"),
         turns: turns_in(matches),
     })
 }
 
-// What the words ask for, as they were matched.
-fn request_of<'a>(matches: &ArgMatches<'a>) -> Result<Request<'a>, Refusal> {
+// What `roam show` is asked for.
+fn show_of<'a>(matches: &ArgMatches<'a>) -> Result<Request<'a>, Refusal>
+    ensures show { IfOk result (IsShow (found_of matches.now)) }
+{
+    match (small_in(matches, "rows"), small_in(matches, "cols")) {
+        (Some(rows), Some(cols)) => Ok(Request::Show { rows, cols }),
+        // Not reached: clap takes no words without both.
+        _ => Err(Refusal::NoText),
+    }
+}
+
+/// What the words ask for, as `clap` matched them: of each option what was found of it. `BadId` where an id is none.
+pub fn request_of<'a>(matches: &ArgMatches<'a>) -> Result<Request<'a>, Refusal>
+    ensures asks { IfOk result (Asks matches.now) }
+{
     match matches.subcommand() {
-        Some(("world", _)) => return Ok(Request::World),
-        Some(("serve", inner)) => return serve_of(inner),
-        Some(("attach", inner)) => return attach_of(inner),
-        _ => (),
+        Some(("world", _)) => Ok(Request::World),
+        Some(("show", inner)) => show_of(inner),
+        Some(("serve", inner)) => serve_of(inner),
+        Some(("attach", inner)) => attach_of(inner),
+        // Not reached: clap takes no words without a subcommand, and there are no others.
+        _ => Err(Refusal::NoText),
     }
-    if let Some(("show", inner)) = matches.subcommand()
-        && let Some(rows) = inner.get_one::<u16>("rows")
-        && let Some(cols) = inner.get_one::<u16>("cols")
-    {
-        return Ok(Request::Show { rows, cols });
-    }
-    // Not reached: clap takes no words without a subcommand and its two numbers.
-    Err(Refusal::NoText)
 }
 
 /// What the words ask for, the program's own name first.

@@ -1,5 +1,5 @@
 //! What the words ask for, and the texts of `clap` that a user reads.
-use roam_command::{Refusal, Request, Server, Wire, read_words};
+use roam_command::{Refusal, Request, Server, Source, Wire, read_words};
 use std::alloc::{AllocError, Global};
 use std::test::*;
 
@@ -66,19 +66,20 @@ Follows a session and paints it on standard output
 Usage: roam attach [OPTIONS]
 
 Options:
-      --dir <D>        The folder of the server, whose socket clients it connects to; it ends where the server does
-      --port <P>       The UDP port on 127.0.0.1 of the server, as 4000, in place of its folder
-      --session <H>    The session's id, 1 to 16 hexadecimal digits; each run of serve needs one of its own. Without a port it may be left \
+      --dir <D>             The folder of the server, whose socket clients it connects to; it ends where the server does
+      --port <P>            The UDP port on 127.0.0.1 of the server, as 4000, in place of its folder
+      --session <H>         The session's id, 1 to 16 hexadecimal digits; each run of serve needs one of its own. Without a port it may be left \
     out: serve makes one by chance, and tells it in the file session of its folder, where attach reads it
-      --client <H>     The id of this start of a client, 1 to 16 hexadecimal digits; each start needs one of its own. With --dir it may be \
+      --client <H>          The id of this start of a client, 1 to 16 hexadecimal digits; each start needs one of its own. With --dir it may be \
     left out, and is one by chance then
-      --keys <PATH>    A file with the acts to type, one a line, as `char 61`, `key return` or `split right`; without it none are typed
-      --acts <SOCKET>  A Unix socket from which such lines come as they are typed; the run ends with them, once they are done
-      --wire <V>       The version of the protocol, 1 or 2; 2 where it isn't given
-      --watch          Only watches: no act is typed
-      --turns <N>      How many turns the run takes, 18446744073709551615 where it isn't given. One that brings nothing waits up to 10 \
+      --keys <PATH>         A file with the acts to type, one a line, as `char 61`, `key return` or `split right`; without it none are typed
+      --acts <SOCKET>       A Unix socket from which such lines come as they are typed; the run ends with them, once they are done
+      --terminals <SOCKET>  Bind this Unix socket, and be the start of all outer terminals that connect there
+      --wire <V>            The version of the protocol, 1 or 2; 2 where it isn't given
+      --watch               Only watches: no act is typed
+      --turns <N>           How many turns the run takes, 18446744073709551615 where it isn't given. One that brings nothing waits up to 10 \
     milliseconds; a busy pane takes thousands a second
-  -h, --help           Print help
+  -h, --help                Print help
 
 Where it ends by itself it tells why on standard error, as [the turns are over], and its status is 0.
 
@@ -116,7 +117,7 @@ fn texts_of_words(rt: HostRuntime) {
 }
 
 // Words, and what they ask for: of `serve` the folder, the port, the session and the turns; of `attach` the folder or the port, the
-// session, the client, the keys, the acts (`-` is none), the version, whether it watches, and the turns. Numbers are decimal. Words that
+// session, the client (`-` is none), where acts come from, the version, whether it watches, and the turns. Numbers are decimal. Words that
 // exclude one another or need one another, and a version that is none, ask for nothing.
 const ASKED: &str = "\
 roam show --rows 2 --cols 8|show 2 8
@@ -128,17 +129,21 @@ roam serve --dir d --session 5E55|serve d - 24149 18446744073709551615
 roam serve --dir d --port 4000|nothing
 roam serve --port 4000 --session 5E55|nothing
 roam attach --turns 18446744073709551615 --keys k --client ffffffffffffffff --session 0 --port 1|\
-attach 1 0 18446744073709551615 k - 2 types 18446744073709551615
+attach 1 0 18446744073709551615 keys k 2 types 18446744073709551615
 roam attach --client ffffffffffffffff --session 0 --port 1|\
-attach 1 0 18446744073709551615 - - 2 types 18446744073709551615
+attach 1 0 18446744073709551615 nothing 2 types 18446744073709551615
 roam attach --client ffffffffffffffff --session 0 --port 1 --wire 1|\
-attach 1 0 18446744073709551615 - - 1 types 18446744073709551615
+attach 1 0 18446744073709551615 nothing 1 types 18446744073709551615
 roam attach --client ffffffffffffffff --session 0 --port 1 --watch|\
-attach 1 0 18446744073709551615 - - 2 watches 18446744073709551615
+attach 1 0 18446744073709551615 nothing 2 watches 18446744073709551615
 roam attach --client ffffffffffffffff --session 0 --port 1 --watch --keys k --turns 7|\
-attach 1 0 18446744073709551615 k - 2 watches 7
-roam attach --dir d|attach d - - - - 2 types 18446744073709551615
-roam attach --dir d --session a --client b --acts s|attach d 10 11 - s 2 types 18446744073709551615
+attach 1 0 18446744073709551615 keys k 2 watches 7
+roam attach --dir d|attach d - - nothing 2 types 18446744073709551615
+roam attach --dir d --session a --client b --acts s|attach d 10 11 acts s 2 types 18446744073709551615
+roam attach --dir d --terminals t --wire 1|attach d - - terminals t 1 types 18446744073709551615
+roam attach --dir d --terminals t --keys k|nothing
+roam attach --dir d --acts s --terminals t|nothing
+roam attach --dir d --watch --terminals t|nothing
 roam attach|nothing
 roam attach --port 1|nothing
 roam attach --port 1 --session 0|nothing
@@ -163,6 +168,15 @@ fn text_of_home(alloc: Global, server: &Server<'_>) -> Result<String, AllocError
     }
 }
 
+fn text_of_source(alloc: Global, source: &Source<'_>) -> Result<String, AllocError> {
+    match source {
+        Source::Nothing => String::from_str(alloc, "nothing"),
+        Source::Keys(path) => format!(in alloc; "keys {path}"),
+        Source::Acts(socket) => format!(in alloc; "acts {socket}"),
+        Source::Terminals(socket) => format!(in alloc; "terminals {socket}"),
+    }
+}
+
 fn text_of(alloc: Global, request: &Request<'_>) -> Result<String, AllocError> {
     match request {
         Request::Show { rows, cols } => format!(in alloc; "show {rows} {cols}"),
@@ -181,8 +195,7 @@ fn text_of(alloc: Global, request: &Request<'_>) -> Result<String, AllocError> {
             server,
             session,
             client,
-            keys,
-            acts,
+            source,
             wire,
             watches,
             turns,
@@ -190,13 +203,10 @@ fn text_of(alloc: Global, request: &Request<'_>) -> Result<String, AllocError> {
             let home = text_of_home(alloc, server)?;
             let session = text_or_none(alloc, session)?;
             let client = text_or_none(alloc, client)?;
-            let keys = keys.unwrap_or("-");
-            let acts = acts.unwrap_or("-");
+            let source = text_of_source(alloc, source)?;
             let version = if *wire == Wire::One { 1 } else { 2 };
             let how = if *watches { "watches" } else { "types" };
-            format!(in alloc;
-                "attach {home} {session} {client} {keys} {acts} {version} {how} {turns}"
-            )
+            format!(in alloc; "attach {home} {session} {client} {source} {version} {how} {turns}")
         }
     }
 }

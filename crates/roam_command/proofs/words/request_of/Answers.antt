@@ -1,0 +1,28 @@
+use Rattle.std.proofs.Common.{◌≡◌, rules}
+use Rattle.std.specs.Prelude.{codes}
+use Rattle.roam_command.proofs.Subcommands.{attach_asked, serve_asked, show_asked, used}
+use Rattle.roam_command.proofs.words.request_of.Goals as goal
+
+pub returns-in-Some-show-default : goal.returns-in-Some-show-default
+returns-in-Some-show-default c =
+    let m = c.args.matches.now in
+    let arm = c.in-Some-show-default in
+    let named : arm.field-0-0.now ≡ codes "show" = search rules in
+    let met = used m arm.inner.now arm.field-0-0.now (codes "show") arm.ensures.name arm.ensures.rows named in
+    record { asks = show_asked m arm.inner.now c.show_of.result met c.show_of.ensures.show }
+
+pub returns-in-Some-serve-default : goal.returns-in-Some-serve-default
+returns-in-Some-serve-default c =
+    let m = c.args.matches.now in
+    let arm = c.in-Some-serve-default in
+    let named : arm.field-0-0.now ≡ codes "serve" = search rules in
+    let met = used m arm.inner.now arm.field-0-0.now (codes "serve") arm.ensures.name arm.ensures.rows named in
+    record { asks = serve_asked m arm.inner.now c.serve_of.result met c.serve_of.ensures.serve }
+
+pub returns-in-Some-attach-default : goal.returns-in-Some-attach-default
+returns-in-Some-attach-default c =
+    let m = c.args.matches.now in
+    let arm = c.in-Some-attach-default in
+    let named : arm.field-0-0.now ≡ codes "attach" = search rules in
+    let met = used m arm.inner.now arm.field-0-0.now (codes "attach") arm.ensures.name arm.ensures.rows named in
+    record { asks = attach_asked m arm.inner.now c.attach_of.result met c.attach_of.ensures.attach }

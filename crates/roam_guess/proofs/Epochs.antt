@@ -1,0 +1,131 @@
+-- An epoch is hidden until a screen confirms a guess of it, and ends with an act that isn't guessed.
+use Rattle.std.proofs.Common.{◌≡◌, ℕ, zero, suc, Bool, true, false, cond, ◌&&◌, List, [], ◌∷◌, take, drop, map, Option, Some, None, ◌⊎◌, inl, inr, refl, sym, ap, ◌∙◌, subst}
+use Rattle.std.specs.Prelude.{is_some, not, ◌||◌}
+use Rattle.std.proofs.lemmas.Bool.{false≢true}
+use Rattle.roam_acts.specs.declared.acts.Act.{Act}
+use Rattle.roam_cells.specs.Glyph.{Glyph}
+use Rattle.roam_screens.specs.Screenshot.{Screenshot}
+use Rattle.roam_guess.specs.Guesses.{GuessesOf, are_shown, dropped, is_none, none}
+use Rattle.roam_guess.specs.Laws.{EndsWithAct, EpochsEnd, IsTrustedByScreens, NothingShows, TrustIsEarned, seen_by}
+use Rattle.roam_guess.specs.Overlay.{cursor_line, guessed, overlay}
+use Rattle.roam_guess.specs.Typing.{guess_for, typed_by, with_guess_or_end}
+use Rattle.roam_guess.specs.Verdicts.{begun, confirmed, count_over, count_right, expired, has_credit, is_any_wrong, is_ended, judged, shows, with_told}
+use Rattle.roam_guess.specs.declared.guesses.Guess.{Guess}
+use Rattle.roam_guess.specs.declared.guesses.Told.{Told}
+
+-- ---- nothing is shown
+
+hidden_by : (guesses : GuessesOf) (s : Screenshot) (b : Bool) → b ≡ false
+    → cond (b && not (is_none guesses.list)) (guessed s guesses.list) s ≡ s
+hidden_by guesses s true e = absurd (false≢true (sym e))
+hidden_by guesses s false e = refl
+
+none_by : (list : List Guess) (s : Screenshot) (b : Bool) → list ≡ [] → cond (b && not (is_none list)) (guessed s list) s ≡ s
+none_by [] s true e = refl
+none_by [] s false e = refl
+none_by (guess ∷ list) s b e = absurd cc
+
+pub nothing_shows : NothingShows
+nothing_shows guesses s = record {
+  hidden = λ e. hidden_by guesses s guesses.trusted e;
+  none = λ e. none_by guesses.list s guesses.trusted e;
+}
+
+-- ---- trust
+
+typed_trusted : (number : ℕ) (guesses : GuessesOf) (o : Option Guess) → (with_guess_or_end number guesses o).trusted ≡ guesses.trusted
+typed_trusted number guesses None = refl
+typed_trusted number guesses (Some guess) = refl
+
+either : (a b : Bool) → (a || b) ≡ true → (a ≡ true) ⊎ (b ≡ true)
+either true b e = inl refl
+either false b e = inr e
+
+or_left : (a b : Bool) → a ≡ true → (a || b) ≡ true
+or_left true b e = refl
+or_left false b e = absurd (false≢true e)
+
+or_right : (a b : Bool) → b ≡ true → (a || b) ≡ true
+or_right true b e = refl
+or_right false b e = e
+
+credit_of : (row : List Glyph) (n : ℕ) (guesses : List Guess) → has_credit row (take n guesses) ≡ true → has_credit row guesses ≡ true
+credit_of row zero [] e = absurd (false≢true e)
+credit_of row (suc n) [] e = absurd (false≢true e)
+credit_of row zero (guess ∷ guesses) e = absurd (false≢true e)
+credit_of row (suc n) (guess ∷ guesses) e =
+    elim (either (guess.credit && shows row guess) (has_credit row (take n guesses)) e) [
+      | inl here ↦ or_left (guess.credit && shows row guess) (has_credit row guesses) here
+      | inr there ↦ or_right (guess.credit && shows row guess) (has_credit row guesses) (credit_of row n guesses there)
+    ]
+
+begun_trusted : (guesses : GuessesOf) (b : Bool) → (cond b none guesses).trusted ≡ true → guesses.trusted ≡ true
+begun_trusted guesses true e = absurd (false≢true e)
+begun_trusted guesses false e = e
+
+expired_trusted : (now : ℕ) (guesses : GuessesOf) (b : Bool)
+    → (cond b (dropped guesses) (record guesses { list = drop (count_over now guesses.list) guesses.list })).trusted ≡ true
+    → guesses.trusted ≡ true
+expired_trusted now guesses true e = absurd (false≢true e)
+expired_trusted now guesses false e = e
+
+seen_trusted : (number acknowledged now : ℕ) (s : Screenshot) (guesses : GuessesOf)
+    → (seen_by number acknowledged now s guesses).trusted ≡ true
+    → (guesses.trusted ≡ true) ⊎ (has_credit (cursor_line s) guesses.list ≡ true)
+seen_trusted number acknowledged now s guesses e =
+    let count = count_right (cursor_line s) s.cursor_col guesses.list in
+    let right = confirmed (cursor_line s) s.cursor_col guesses in
+    let noted : GuessesOf =
+    record right { list = map (with_told acknowledged (record { at = now; number = number })) right.list } in
+    let left = expired number now noted in
+    let kept = begun_trusted left (is_none left.list && is_ended left.ends_with acknowledged) e in
+    let before = expired_trusted now noted (is_any_wrong number now noted.list) kept in
+    elim (either guesses.trusted (has_credit (cursor_line s) (take count guesses.list)) before) [
+      | inl was ↦ inl was
+      | inr credit ↦ inr (credit_of (cursor_line s) count guesses.list credit)
+    ]
+
+dropped_hidden : (guesses : GuessesOf) (b : Bool) → (cond b none (dropped guesses)).trusted ≡ false
+dropped_hidden guesses true = refl
+dropped_hidden guesses false = refl
+
+pub trust_is_earned : TrustIsEarned
+trust_is_earned guesses = record {
+  typed = λ number act s. typed_trusted number guesses (guess_for number act s guesses);
+  seen = λ number acknowledged now s e. seen_trusted number acknowledged now s guesses e;
+  ends = λ acknowledged. dropped_hidden guesses (true && is_ended guesses.ends_with acknowledged);
+}
+
+-- ---- the act that ends an epoch
+
+no_guess : (ended few visible : Bool) (guess : Option Guess) → ended ≡ true → cond ((not ended && few) && visible) guess None ≡ None
+no_guess true few visible guess e = refl
+no_guess false few visible guess e = absurd (false≢true e)
+
+expired_ends : (now : ℕ) (guesses : GuessesOf) (b : Bool)
+    → (cond b (dropped guesses) (record guesses { list = drop (count_over now guesses.list) guesses.list })).ends_with ≡ guesses.ends_with
+expired_ends now guesses true = refl
+expired_ends now guesses false = refl
+
+begun_none : (guesses : GuessesOf) (last : ℕ) (b : Bool) → guesses.ends_with ≡ Some last → (cond b none guesses).ends_with ≡ None
+    → cond b none guesses ≡ none
+begun_none guesses last true was e = refl
+begun_none guesses last false was e = let other : None ≡ Some last = sym e ∙ was in absurd cc
+
+seen_none : (guesses : GuessesOf) (last : ℕ) → guesses.ends_with ≡ Some last → (number acknowledged now : ℕ) (s : Screenshot)
+    → (seen_by number acknowledged now s guesses).ends_with ≡ None → seen_by number acknowledged now s guesses ≡ none
+seen_none guesses last was number acknowledged now s e =
+    let right = confirmed (cursor_line s) s.cursor_col guesses in
+    let noted : GuessesOf =
+    record right { list = map (with_told acknowledged (record { at = now; number = number })) right.list } in
+    let left = expired number now noted in
+    begun_none left last (is_none left.list && is_ended left.ends_with acknowledged)
+    (expired_ends now noted (is_any_wrong number now noted.list) ∙ was) e
+
+pub epochs_end : EpochsEnd
+epochs_end guesses last was = record {
+  typed = λ number act s.
+      ap (λ (o : Option Guess). (with_guess_or_end number guesses o).list)
+      (no_guess (is_some guesses.ends_with) _ s.visible _ (ap (λ (o : Option ℕ). is_some o) was));
+  seen = λ number acknowledged now s e. seen_none guesses last was number acknowledged now s e;
+}

@@ -1,0 +1,62 @@
+-- What is true of the guesses that are kept.
+use Rattle.std.proofs.Common.{◌≡◌, ℕ, ◌+◌, ◌<◌, Bool, true, false, cond, eqb, List, [], ◌∷◌, length, map, rules, Option, Some, None, refl, sym, ap, ◌∙◌, subst, arith}
+use Rattle.std.specs.Prelude.{All, IfSome, is_some, nat_lt, not, ◌&&◌, ◌||◌}
+use Rattle.std.proofs.lemmas.List.Elements.{All-cons, All-head, All-nil, All-tail}
+use Rattle.std.proofs.lemmas.Bool.{eqb-true}
+use Rattle.std.proofs.lemmas.List.{length-map}
+use Rattle.roam_cells.specs.Glyph.{Glyph, is_cell_text}
+use Rattle.roam_cells.specs.Width.{width_of}
+use Rattle.roam_cells.specs.declared.styles.Style.{Style}
+use Rattle.roam_guess.specs.Guesses.{IsGuess, MayStand, is_narrow}
+use Rattle.roam_guess.specs.Typing.{guess_with, may_write, narrow_cell, style_left, with_cell, written_guess}
+use Rattle.roam_guess.specs.Verdicts.{with_told}
+use Rattle.roam_guess.specs.declared.guesses.Guess.{Guess}
+use Rattle.roam_guess.specs.declared.guesses.Told.{Told}
+
+-- ---- a cell that is written
+
+record IsNarrow (cell : Glyph) : Type 0 where
+  narrow : is_narrow cell ≡ true
+  unguarded : cell.guarded ≡ false
+
+narrow_by : (c : ℕ) (style : Style) (one text : Bool) → eqb (width_of c) 1 ≡ one
+    → IfSome (cond one (cond text (Some (record { points = c ∷ []; style = style; guarded = false })) None) None) IsNarrow
+narrow_by c style false text e = tt
+narrow_by c style true false e = tt
+narrow_by c style true true e =
+    let one : width_of c ≡ 1 = eqb-true (width_of c) 1 e in
+    record { narrow = ap (λ (n : ℕ). not (eqb n 2) && true) one; unguarded = refl }
+
+cell_narrow : (c : ℕ) (style : Style) → IfSome (narrow_cell c style) IsNarrow
+cell_narrow c style = narrow_by c style (eqb (width_of c) 1) (is_cell_text (c ∷ [])) refl
+
+with_cell_kept : (number : ℕ) (row : List Glyph) (col after : ℕ) (cell : Option Glyph) → IfSome cell IsNarrow
+    → IfSome (with_cell number row col after cell) IsGuess
+with_cell_kept number row col after None h = tt
+with_cell_kept number row col after (Some cell) h = record { narrow = h.narrow; unguarded = h.unguarded }
+
+written_by : (b : Bool) (number c : ℕ) (row : List Glyph) (guesses : List Guess) (col : ℕ)
+    → IfSome (cond b (with_cell number row col (col + 1) (narrow_cell c (style_left row guesses col))) None) IsGuess
+written_by false number c row guesses col = tt
+written_by true number c row guesses col =
+    with_cell_kept number row col (col + 1) (narrow_cell c (style_left row guesses col)) (cell_narrow c (style_left row guesses col))
+
+pub written_kept : (number c : ℕ) (row : List Glyph) (guesses : List Guess) (col : ℕ) → IfSome (written_guess number c row guesses col) IsGuess
+written_kept number c row guesses col = written_by (may_write row guesses col) number c row guesses col
+
+-- ---- what is noted of a guess
+
+noted_by : (b : Bool) (told : Told) (guess : Guess) → IsGuess guess → IsGuess (cond b guess (record guess { told = Some told }))
+noted_by true told guess h = h
+noted_by false told guess h = h
+
+pub noted_kept : (acknowledged : ℕ) (told : Told) (guesses : List Guess) → All IsGuess guesses
+    → All IsGuess (map (with_told acknowledged told) guesses)
+noted_kept acknowledged told [] all = All-nil IsGuess
+noted_kept acknowledged told (guess ∷ guesses) all =
+    All-cons IsGuess (with_told acknowledged told guess) (map (with_told acknowledged told) guesses)
+    (noted_by (is_some guess.told || nat_lt acknowledged guess.number) told guess (All-head IsGuess guess guesses all))
+    (noted_kept acknowledged told guesses (All-tail IsGuess guess guesses all))
+
+pub noted_length : (acknowledged : ℕ) (told : Told) (guesses : List Guess) → length (map (with_told acknowledged told) guesses) ≡ length guesses
+noted_length acknowledged told guesses = length-map guesses (with_told acknowledged told)

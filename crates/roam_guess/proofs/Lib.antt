@@ -1,0 +1,5 @@
+pub mod Whole
+pub mod Times
+pub mod Kept
+pub mod Epochs
+pub mod Changes

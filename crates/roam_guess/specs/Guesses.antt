@@ -1,0 +1,56 @@
+-- Guesses: what keys are guessed to show in the row of the cursor (this project's profile, after Mosh's speculative local echo).
+use Rattle.std.specs.Prelude.{◌≡◌, ℕ, ◌≤◌, Bool, true, false, not, ◌&&◌, List, [], ◌∷◌, length, Option, None, Some, IfSome, All, Vec}
+use Rattle.std.specs.Vec.{vec_capacity}
+use Rattle.std.specs.declared.alloc.Global.{Global}
+use Rattle.roam_cells.specs.Glyph.{Glyph, is_right_half, is_wide}
+use Rattle.roam_guess.specs.declared.guesses.Guess.{Guess}
+use Rattle.roam_guess.specs.declared.guesses.Place.{Place}
+
+-- how many guesses there are at most
+abbrev pub most_guesses : ℕ
+most_guesses = 64
+
+-- how many milliseconds a guess stays after its acknowledgement was seen
+abbrev pub grace : ℕ
+grace = 100
+
+-- all that is guessed: the guesses in the order of their acts, whether one of their epoch was confirmed with credit, and the act, where one
+-- wasn't guessed, with which their epoch ends
+pub record GuessesOf : Type 0 where
+  pub list : List Guess
+  pub trusted : Bool
+  pub ends_with : Option ℕ
+
+-- no guess, in an epoch that is hidden
+abbrev pub none : GuessesOf
+none = record { list = []; trusted = false; ends_with = None }
+
+-- the same, with the act that ends the epoch
+abbrev pub dropped : GuessesOf → GuessesOf
+dropped guesses = record { list = []; trusted = false; ends_with = guesses.ends_with }
+
+abbrev pub is_none : List Guess → Bool
+is_none [] = true
+is_none (guess ∷ guesses) = false
+
+-- whether anything is shown over a screen
+abbrev pub are_shown : GuessesOf → Bool
+are_shown guesses = guesses.trusted && not (is_none guesses.list)
+
+-- a cell of one column
+abbrev pub is_narrow : Glyph → Bool
+is_narrow cell = not (is_wide cell) && not (is_right_half cell)
+
+-- a cell of one column without a guard, so that it may stand wherever such a one stands
+pub record MayStand (place : Place) : Type 0 where
+  pub narrow : is_narrow place.cell ≡ true
+  pub unguarded : place.cell.guarded ≡ false
+
+abbrev pub IsGuess : Guess → Type 0
+IsGuess guess = IfSome guess.place MayStand
+
+-- what is true of the guesses that are kept
+pub record IsKept (list : Vec Guess Global) : Type 0 where
+  pub few : length list.items ≤ most_guesses
+  pub room : most_guesses ≤ vec_capacity list
+  pub guesses : All IsGuess list.items

@@ -1,0 +1,73 @@
+-- What is true of guesses, whatever is typed and shown.
+use Rattle.std.specs.Prelude.{◌≡◌, ◌≢◌, ◌⊎◌, ℕ, ◌+◌, ◌<◌, true, false, List, [], Option, Some, None, All}
+use Rattle.roam_acts.specs.declared.acts.Act.{Act}
+use Rattle.roam_cells.specs.Place.{cell_at}
+use Rattle.roam_screens.specs.Screenshot.{Screenshot, IsScreenshot}
+use Rattle.roam_guess.specs.Guesses.{GuessesOf, IsGuess, dropped, is_narrow, none}
+use Rattle.roam_guess.specs.Overlay.{cursor_line, overlay}
+use Rattle.roam_guess.specs.Typing.{latest, typed_by}
+use Rattle.roam_guess.specs.Verdicts.{begun, has_credit, is_over, judged}
+use Rattle.roam_guess.specs.declared.guesses.Guess.{Guess}
+
+-- ---- what is shown over a screen
+
+-- a screen with guesses over it has its size, and its cursor in the same row, visible or not; it shows the same at each place of another
+-- row, at each where no guess writes, and at each that isn't one cell of one column; there one of one column stands again
+pub record ChangesGuessed (guesses : GuessesOf) (s : Screenshot) : Type 0 where
+  pub rows : (overlay guesses s).rows ≡ s.rows
+  pub cols : (overlay guesses s).cols ≡ s.cols
+  pub cursor_row : (overlay guesses s).cursor_row ≡ s.cursor_row
+  pub visible : (overlay guesses s).visible ≡ s.visible
+  pub other_rows : (r c : ℕ) → r < s.rows → c < s.cols → r + 1 ≢ s.cursor_row
+      → cell_at s.cols (overlay guesses s).cells r c ≡ cell_at s.cols s.cells r c
+  pub unguessed : (r c : ℕ) → r < s.rows → c < s.cols → latest guesses.list (c + 1) ≡ None
+      → cell_at s.cols (overlay guesses s).cells r c ≡ cell_at s.cols s.cells r c
+  pub wide : (r c : ℕ) → r < s.rows → c < s.cols → is_narrow (cell_at s.cols s.cells r c) ≡ false
+      → cell_at s.cols (overlay guesses s).cells r c ≡ cell_at s.cols s.cells r c
+  pub narrow : (r c : ℕ) → r < s.rows → c < s.cols → is_narrow (cell_at s.cols s.cells r c) ≡ true
+      → is_narrow (cell_at s.cols (overlay guesses s).cells r c) ≡ true
+
+abbrev pub OverlayChangesGuessed : Type 0
+OverlayChangesGuessed = (guesses : GuessesOf) (s : Screenshot) → IsScreenshot s → All IsGuess guesses.list → ChangesGuessed guesses s
+
+-- where an epoch isn't trusted, or nothing is guessed, the screen itself is shown
+pub record ShowsScreen (guesses : GuessesOf) (s : Screenshot) : Type 0 where
+  pub hidden : guesses.trusted ≡ false → overlay guesses s ≡ s
+  pub none : guesses.list ≡ [] → overlay guesses s ≡ s
+
+abbrev pub NothingShows : Type 0
+NothingShows = (guesses : GuessesOf) (s : Screenshot) → ShowsScreen guesses s
+
+-- ---- epochs
+
+-- the guesses once a screen was seen that follows the one before
+abbrev pub seen_by : ℕ → ℕ → ℕ → Screenshot → GuessesOf → GuessesOf
+seen_by number acknowledged now s guesses = begun acknowledged (judged number acknowledged now s guesses)
+
+-- an epoch is trusted since a guess of it was confirmed with credit by a screen that was seen, and by nothing else
+pub record IsTrustedByScreens (guesses : GuessesOf) : Type 0 where
+  pub typed : (number : ℕ) (act : Act) (s : Screenshot) → (typed_by number act s guesses).trusted ≡ guesses.trusted
+  pub seen : (number acknowledged now : ℕ) (s : Screenshot) → (seen_by number acknowledged now s guesses).trusted ≡ true
+      → (guesses.trusted ≡ true) ⊎ (has_credit (cursor_line s) guesses.list ≡ true)
+  pub ends : (acknowledged : ℕ) → (begun acknowledged (dropped guesses)).trusted ≡ false
+
+abbrev pub TrustIsEarned : Type 0
+TrustIsEarned = (guesses : GuessesOf) → IsTrustedByScreens guesses
+
+-- where an act wasn't guessed, nothing more is guessed until another epoch begins, which has no guess and isn't trusted
+pub record EndsWithAct (guesses : GuessesOf) : Type 0 where
+  pub typed : (number : ℕ) (act : Act) (s : Screenshot) → (typed_by number act s guesses).list ≡ guesses.list
+  pub seen : (number acknowledged now : ℕ) (s : Screenshot) → (seen_by number acknowledged now s guesses).ends_with ≡ None
+      → seen_by number acknowledged now s guesses ≡ none
+
+abbrev pub EpochsEnd : Type 0
+EpochsEnd = (guesses : GuessesOf) (last : ℕ) → guesses.ends_with ≡ Some last → EndsWithAct guesses
+
+-- ---- time
+
+-- no guess is left whose time is over
+abbrev pub AreInTime : ℕ → List Guess → Type 0
+AreInTime now guesses = All (λ (guess : Guess). is_over now guess ≡ false) guesses
+
+abbrev pub TimeEnds : Type 0
+TimeEnds = (number acknowledged now : ℕ) (s : Screenshot) (guesses : GuessesOf) → AreInTime now (seen_by number acknowledged now s guesses).list

@@ -1,0 +1,187 @@
+-- What a key is guessed to show where this screen is shown (this project's profile, after Mosh's speculative local echo).
+use Rattle.std.specs.Prelude.{ℕ, ◌+◌, ◌-◌, ◌==◌, Bool, true, false, not, ◌&&◌, ◌||◌, nat_lt, nat_le, List, [], ◌∷◌, ◌++◌, length, drop, Option, None, Some, is_some, if◌then◌else◌}
+use Rattle.std.specs.Str.{bytes_eq}
+use Rattle.roam_acts.specs.declared.acts.Act.{Act}
+use Rattle.roam_acts.specs.declared.acts.Act.TheVariants as act
+use Rattle.roam_cells.specs.Glyph.{Glyph, default_style, is_cell_text}
+use Rattle.roam_cells.specs.Place.{glyph_at}
+use Rattle.roam_cells.specs.Width.{width_of}
+use Rattle.roam_cells.specs.declared.styles.Style.{Style}
+use Rattle.roam_keys.specs.declared.keys.Key.{Key}
+use Rattle.roam_keys.specs.declared.keys.Key.TheVariants as key
+use Rattle.roam_screens.specs.Screenshot.{Screenshot}
+use Rattle.roam_guess.specs.Guesses.{GuessesOf, most_guesses}
+use Rattle.roam_guess.specs.Overlay.{cursor_line, has_place, last_column}
+use Rattle.roam_guess.specs.declared.guesses.Guess.{Guess}
+use Rattle.roam_guess.specs.declared.guesses.Place.{Place}
+use Rattle.roam_guess.specs.declared.typed.Kind.{Kind}
+use Rattle.roam_guess.specs.declared.typed.Kind.TheVariants.{Write, Erase, Back, Forth, Other}
+
+-- ---- acts
+
+abbrev pub kind_of_key : Key → Kind
+kind_of_key (key.Char c) = Write c
+kind_of_key key.Backspace = Erase
+kind_of_key key.Left = Back
+kind_of_key key.Right = Forth
+kind_of_key _ = Other
+
+-- what an act does where it is guessed
+abbrev pub kind_of : Act → Kind
+kind_of (act.Key k) = kind_of_key k
+kind_of _ = Other
+
+-- ---- the row of the cursor
+
+-- a space, in any style
+abbrev pub is_space : Glyph → Bool
+is_space cell = bytes_eq cell.points (32 ∷ [])
+
+-- U+2502, the border between two panes that stand side by side
+abbrev pub is_border : Glyph → Bool
+is_border cell = bytes_eq cell.points (0x2502 ∷ [])
+
+-- nothing but spaces stands before the border of the pane, or the end of the row
+abbrev pub is_blank_to_edge : List Glyph → Bool
+is_blank_to_edge [] = true
+is_blank_to_edge (cell ∷ cells) = if is_space cell then is_blank_to_edge cells else is_border cell
+
+-- two spaces, and nothing but spaces before the pane's edge
+abbrev pub has_room : List Glyph → Bool
+has_room [] = false
+has_room (first ∷ []) = false
+has_room (first ∷ second ∷ cells) = is_space first && (is_space second && is_blank_to_edge cells)
+
+-- a column, from 1, of a pane, where a cell of one column stands
+abbrev pub is_inside : List Glyph → ℕ → Bool
+is_inside row col = has_place row col && not (is_border (glyph_at row (col - 1)))
+
+-- ---- what is guessed already
+
+abbrev pub place_in : Option Place → ℕ → Option Glyph
+place_in None col = None
+place_in (Some place) col = if place.col == col then Some place.cell else None
+
+-- the cell that a guess writes in a column
+abbrev pub cell_in : Guess → ℕ → Option Glyph
+cell_in guess col = place_in guess.place col
+
+abbrev pub or_else : Option Glyph → Option Glyph → Option Glyph
+or_else None other = other
+or_else (Some cell) other = Some cell
+
+-- the last cell that is guessed in a column
+abbrev pub latest : List Guess → ℕ → Option Glyph
+latest [] col = None
+latest (guess ∷ guesses) col = or_else (latest guesses col) (cell_in guess col)
+
+abbrev pub is_blank : Option Glyph → Bool
+is_blank None = true
+is_blank (Some cell) = is_space cell
+
+-- what is guessed stands before a column, or is blank in the end
+abbrev pub is_place_clear : List Guess → Option Place → ℕ → Bool
+is_place_clear all None col = true
+is_place_clear all (Some place) col = nat_lt place.col col || is_blank (latest all place.col)
+
+abbrev pub is_clear : List Guess → Guess → ℕ → Bool
+is_clear all guess col = is_place_clear all guess.place col
+
+-- no guess leaves a character in a column or behind it
+abbrev pub is_free : List Guess → List Guess → ℕ → Bool
+is_free all [] col = true
+is_free all (guess ∷ guesses) col = is_clear all guess col && is_free all guesses col
+
+-- ---- a guess
+
+-- the cell of a character of one column
+abbrev pub narrow_cell : ℕ → Style → Option Glyph
+narrow_cell c style =
+    if width_of c == 1 then (if is_cell_text (c ∷ []) then Some (record { points = c ∷ []; style = style; guarded = false }) else None)
+    else None
+
+abbrev pub style_or : Option Glyph → Glyph → Style
+style_or None cell = cell.style
+style_or (Some guessed) cell = guessed.style
+
+-- the style of what stands left of a column within the pane, else the default
+abbrev pub style_left : List Glyph → List Guess → ℕ → Style
+style_left row guesses col =
+    if is_inside row (col - 1) then style_or (latest guesses (col - 1)) (glyph_at row (col - 2)) else default_style
+
+-- other code points
+abbrev pub differs : Glyph → Glyph → Bool
+differs cell guessed = not (bytes_eq cell.points guessed.points)
+
+-- the guess that a cell stands in a column
+abbrev pub guess_with : ℕ → List Glyph → ℕ → Glyph → ℕ → Guess
+guess_with number row col cell after =
+    record {
+      number = number;
+      place = Some (record { col = col; cell = cell });
+      after = after;
+      credit = differs (glyph_at row (col - 1)) cell;
+      told = None;
+    }
+
+-- the guess that the cursor alone moves
+abbrev pub moved_guess : ℕ → ℕ → Guess
+moved_guess number after = record { number = number; place = None; after = after; credit = false; told = None }
+
+abbrev pub with_cell : ℕ → List Glyph → ℕ → ℕ → Option Glyph → Option Guess
+with_cell number row col after None = None
+with_cell number row col after (Some cell) = Some (guess_with number row col cell after)
+
+-- a character may be written in a column: the rest of the row is blank and has a place more, and no half of a wide one stands beside
+abbrev pub may_write : List Glyph → List Guess → ℕ → Bool
+may_write row guesses col =
+    (nat_le 1 col && (nat_le col (length row) && has_room (drop (col - 1) row)))
+    && (is_free guesses guesses col && (not (nat_lt 1 col) || has_place row (col - 1)))
+
+abbrev pub written_guess : ℕ → ℕ → List Glyph → List Guess → ℕ → Option Guess
+written_guess number c row guesses col =
+    if may_write row guesses col then with_cell number row col (col + 1) (narrow_cell c (style_left row guesses col)) else None
+
+-- the cursor may go to a column
+abbrev pub may_go_back : List Glyph → ℕ → Bool
+may_go_back row col = nat_le 2 col && is_inside row (col - 1)
+
+-- what was guessed there is blank
+abbrev pub erased : ℕ → List Glyph → ℕ → Option Glyph → Option Guess
+erased number row col None = Some (moved_guess number (col - 1))
+erased number row col (Some cell) = with_cell number row (col - 1) (col - 1) (narrow_cell 32 cell.style)
+
+abbrev pub erased_guess : ℕ → List Glyph → List Guess → ℕ → Option Guess
+erased_guess number row guesses col = if may_go_back row col then erased number row col (latest guesses (col - 1)) else None
+
+abbrev pub back_guess : ℕ → List Glyph → ℕ → Option Guess
+back_guess number row col = if may_go_back row col then Some (moved_guess number (col - 1)) else None
+
+abbrev pub forth_guess : ℕ → List Glyph → ℕ → Option Guess
+forth_guess number row col =
+    if nat_lt col (length row) && (is_inside row col && is_inside row (col + 1)) then Some (moved_guess number (col + 1)) else None
+
+-- what an act of a kind is guessed to show, where the cursor stands in a column of a row
+abbrev pub guess_of : ℕ → Kind → List Glyph → List Guess → ℕ → Option Guess
+guess_of number (Write c) row guesses col = written_guess number c row guesses col
+guess_of number Erase row guesses col = erased_guess number row guesses col
+guess_of number Back row guesses col = back_guess number row col
+guess_of number Forth row guesses col = forth_guess number row col
+guess_of number Other row guesses col = None
+
+-- the epoch goes on, and there is room for a guess
+abbrev pub may_grow : GuessesOf → Bool
+may_grow guesses = not (is_some guesses.ends_with) && nat_lt (length guesses.list) most_guesses
+
+abbrev pub guess_for : ℕ → Act → Screenshot → GuessesOf → Option Guess
+guess_for number act s guesses =
+    if may_grow guesses && s.visible
+    then guess_of number (kind_of act) (cursor_line s) guesses.list (last_column s.cursor_col guesses.list) else None
+
+abbrev pub with_guess_or_end : ℕ → GuessesOf → Option Guess → GuessesOf
+with_guess_or_end number guesses None = record guesses { ends_with = Some number }
+with_guess_or_end number guesses (Some guess) = record guesses { list = guesses.list ++ guess ∷ [] }
+
+-- the guesses after an act: what it shows is guessed, or the epoch ends with it
+abbrev pub typed_by : ℕ → Act → Screenshot → GuessesOf → GuessesOf
+typed_by number act s guesses = with_guess_or_end number guesses (guess_for number act s guesses)

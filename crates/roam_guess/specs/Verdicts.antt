@@ -1,0 +1,131 @@
+-- Which guesses are right, wrong or over, once another screen is shown (this project's profile, after Mosh's speculative local echo).
+use Rattle.std.specs.Prelude.{◌≡◌, ◌⊎◌, ℕ, ◌+◌, ◌-◌, ◌==◌, Bool, true, false, not, ◌&&◌, ◌||◌, nat_le, nat_lt, List, [], ◌∷◌, map, take, drop, Option, None, Some, is_some, if◌then◌else◌}
+use Rattle.std.specs.Str.{bytes_eq}
+use Rattle.roam_cells.specs.Glyph.{Glyph}
+use Rattle.roam_cells.specs.Place.{glyph_at, row_of}
+use Rattle.roam_screens.specs.Screenshot.{Screenshot}
+use Rattle.roam_guess.specs.Guesses.{GuessesOf, dropped, grace, is_none, none}
+use Rattle.roam_guess.specs.Overlay.{cursor_line, has_place}
+use Rattle.roam_guess.specs.Typing.{latest}
+use Rattle.roam_guess.specs.declared.guesses.Guess.{Guess}
+use Rattle.roam_guess.specs.declared.guesses.Place.{Place}
+use Rattle.roam_guess.specs.declared.guesses.Told.{Told}
+
+-- ---- right
+
+-- a row shows a guessed cell's code points where it is guessed
+abbrev pub shows_place : List Glyph → Option Place → Bool
+shows_place row None = false
+shows_place row (Some place) = has_place row place.col && bytes_eq (glyph_at row (place.col - 1)).points place.cell.points
+
+abbrev pub shows : List Glyph → Guess → Bool
+shows row guess = shows_place row guess.place
+
+-- a later guess writes there, or there is nothing to show
+abbrev pub is_place_written : List Guess → Option Place → Bool
+is_place_written later None = true
+is_place_written later (Some place) = is_some (latest later place.col)
+
+abbrev pub is_written : List Guess → Guess → Bool
+is_written later guess = is_place_written later guess.place
+
+-- the cursor goes to a column by these guesses
+abbrev pub is_way : List Guess → ℕ → Bool
+is_way [] col = false
+is_way (guess ∷ guesses) col = (guess.after == col) || is_way guesses col
+
+-- the first of these guesses is right: its cell is shown, unless a later one writes there, and the cursor is on its way
+abbrev pub is_right : List Glyph → ℕ → List Guess → Bool
+is_right row col [] = false
+is_right row col (guess ∷ guesses) =
+    (shows row guess || is_written guesses guess) && is_way (guess ∷ guesses) col
+
+-- how many guesses from the first on are right
+abbrev pub count_right : List Glyph → ℕ → List Guess → ℕ
+count_right row col [] = 0
+count_right row col (guess ∷ guesses) = if is_right row col (guess ∷ guesses) then 1 + count_right row col guesses else 0
+
+-- one is confirmed with credit: what is shown is what it says, and wasn't so before
+abbrev pub has_credit : List Glyph → List Guess → Bool
+has_credit row [] = false
+has_credit row (guess ∷ guesses) = (guess.credit && shows row guess) || has_credit row guesses
+
+-- the guesses that are right go, and their epoch is trusted where one of them had credit
+abbrev pub confirmed : List Glyph → ℕ → GuessesOf → GuessesOf
+confirmed row col guesses =
+    record {
+      list = drop (count_right row col guesses.list) guesses.list;
+      trusted = guesses.trusted || has_credit row (take (count_right row col guesses.list) guesses.list);
+      ends_with = guesses.ends_with;
+    }
+
+-- ---- over, and wrong
+
+-- a guess of which it is noted when its acknowledgement was seen first
+abbrev pub with_told : ℕ → Told → Guess → Guess
+with_told acknowledged told guess =
+    if is_some guess.told || nat_lt acknowledged guess.number then guess else record guess { told = Some told }
+
+-- its time is over: its acknowledgement was seen so long ago
+abbrev pub is_long_ago : ℕ → Option Told → Bool
+is_long_ago now None = false
+is_long_ago now (Some told) = nat_le grace (now - told.at)
+
+abbrev pub is_over : ℕ → Guess → Bool
+is_over now guess = is_long_ago now guess.told
+
+-- a later number came since then
+abbrev pub is_before : ℕ → Option Told → Bool
+is_before number None = false
+is_before number (Some told) = nat_lt told.number number
+
+abbrev pub is_told_later : ℕ → Guess → Bool
+is_told_later number guess = is_before number guess.told
+
+-- one is wrong: its time is over, and a later number came, which doesn't show it
+abbrev pub is_any_wrong : ℕ → ℕ → List Guess → Bool
+is_any_wrong number now [] = false
+is_any_wrong number now (guess ∷ guesses) =
+    (is_over now guess && is_told_later number guess) || is_any_wrong number now guesses
+
+-- how many there are up to the last whose time is over
+abbrev pub count_on : Bool → ℕ → ℕ
+count_on over more = if nat_lt 0 more || over then 1 + more else 0
+
+abbrev pub count_over : ℕ → List Guess → ℕ
+count_over now [] = 0
+count_over now (guess ∷ guesses) = count_on (is_over now guess) (count_over now guesses)
+
+-- those whose time is over go; where one of them is wrong, all go, and the epoch ends
+abbrev pub expired : ℕ → ℕ → GuessesOf → GuessesOf
+expired number now guesses =
+    if is_any_wrong number now guesses.list then dropped guesses
+    else record guesses { list = drop (count_over now guesses.list) guesses.list }
+
+-- what a screen tells of the guesses: which are right, which acknowledgements were seen, and whose time is over
+abbrev pub judged : ℕ → ℕ → ℕ → Screenshot → GuessesOf → GuessesOf
+judged number acknowledged now s guesses =
+    let right = confirmed (cursor_line s) s.cursor_col guesses in
+    expired number now
+    (record right { list = map (with_told acknowledged (record { at = now; number = number })) right.list })
+
+-- ---- epochs
+
+-- a screen follows another by itself or by guesses: its size, its status row and the cursor's row are the same, the cursor is visible, and
+-- stands where it stood or where a guess brings it
+pub record Follows (before s : Screenshot) (guesses : List Guess) : Type 0 where
+  pub rows : before.rows ≡ s.rows
+  pub cols : before.cols ≡ s.cols
+  pub status : row_of before.cols before.cells (before.rows - 1) ≡ row_of s.cols s.cells (s.rows - 1)
+  pub row : before.cursor_row ≡ s.cursor_row
+  pub visible : s.visible ≡ true
+  pub way : (before.cursor_col ≡ s.cursor_col) ⊎ (is_way guesses s.cursor_col ≡ true)
+
+-- the act with which an epoch ends is acknowledged
+abbrev pub is_ended : Option ℕ → ℕ → Bool
+is_ended None acknowledged = false
+is_ended (Some number) acknowledged = nat_le number acknowledged
+
+-- another epoch begins hidden where the act with which this one ends is acknowledged, and no guess is left
+abbrev pub begun : ℕ → GuessesOf → GuessesOf
+begun acknowledged guesses = if is_none guesses.list && is_ended guesses.ends_with acknowledged then none else guesses

@@ -1,0 +1,82 @@
+//! Guesses, and what is true of them.
+ghost use Rattle.std.specs.Prelude.{◌≡◌, IfOk, IsOkUnless};
+ghost use Rattle.roam_guess.specs.Guesses.{are_shown, none};
+
+use roam_cells::{Cell, Fault};
+use std::alloc::Global;
+use std::marker::Model;
+
+/// How many guesses there are at most.
+pub(crate) const MOST_GUESSES: usize = 64;
+
+/// When an act's acknowledgement was seen, in milliseconds, and the number of the screen that was shown then.
+#[derive(Clone, Copy)]
+pub struct Told {
+    pub at: u64,
+    pub number: u64,
+}
+
+/// A column, from 1, and the cell that is guessed to stand there.
+#[derive(Clone, Copy)]
+pub struct Place {
+    pub col: u16,
+    pub cell: Cell,
+}
+
+/// What a key is guessed to show in the row of the cursor.
+#[derive(Clone, Copy)]
+pub struct Guess {
+    /// The number of its act.
+    pub number: u64,
+    /// What stands where then; where there is nothing, only the cursor moves.
+    pub place: Option<Place>,
+    /// The cursor's column after it, from 1.
+    pub after: u16,
+    /// Whether another cell stood there when it was made, so that the screen tells when it comes.
+    pub credit: bool,
+    /// When its acknowledgement was seen.
+    pub told: Option<Told>,
+}
+
+/// What is guessed now for one outer terminal: at most 64 guesses, in the order of their acts.
+#[derive(Drop)]
+pub struct Guesses {
+    pub(crate) list: Vec<Guess>,
+    // Whether a guess of this epoch was confirmed with credit.
+    pub(crate) trusted: bool,
+    // The last act that wasn't guessed: with it another epoch begins once it is acknowledged.
+    pub(crate) ends_with: Option<u64>,
+}
+
+impl Model for Guesses {
+    ghost use Rattle.roam_guess.specs.Guesses.{GuessesOf};
+    ghost use Rattle.roam_guess.specs.Guesses.{IsKept};
+
+    ghost Value = { GuessesOf };
+
+    ghost view = { λ g. record { list = g.list.items; trusted = g.trusted; ends_with = g.ends_with } };
+
+    ghost invariant = { λ g. IsKept g.list };
+}
+
+impl Guesses {
+    /// No guess, in an epoch that is hidden; refuses want of memory. No later call but `over` takes any.
+    pub fn new(alloc: Global) -> Result<Guesses, Fault>
+        ensures none { IfOk result (λ guesses. guesses ≡ none) }
+        ensures fault { IsOkUnless result Fault.OutOfMemory }
+    {
+        let list = Vec::with_capacity(alloc, MOST_GUESSES)?;
+        Ok(Guesses {
+            list,
+            trusted: false,
+            ends_with: None,
+        })
+    }
+
+    /// Whether anything is shown over a screen.
+    pub fn are_shown(&self) -> bool
+        ensures shown { result ≡ are_shown self.now }
+    {
+        self.trusted && !self.list.is_empty()
+    }
+}

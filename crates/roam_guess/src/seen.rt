@@ -1,0 +1,264 @@
+//! Which guesses are right, wrong or over.
+ghost use Rattle.std.specs.Prelude.{◌≡◌, ◌↔◌, ◌<◌, ◌≤◌, true, length, map, drop};
+ghost use Rattle.std.specs.Vec.{vec_capacity};
+ghost use Rattle.roam_guess.specs.Guesses.{dropped};
+ghost use Rattle.roam_guess.specs.Verdicts.{Follows, begun, confirmed, count_over, count_right, expired, has_credit, is_any_wrong, is_over, is_right, is_told_later, is_way, is_written, judged, shows, with_told};
+
+use crate::guesses::{Guess, Guesses, Told};
+use crate::over::has_place;
+use crate::typed::latest;
+use roam_cells::{Cell, are_same_cells};
+use roam_screens::Seen;
+
+/// How many milliseconds a guess stays after its acknowledgement was seen.
+const GRACE: u64 = 100;
+
+// Whether a row shows a guessed cell's code points where it is guessed.
+fn shows(row: &[Cell], guess: &Guess) -> bool
+    ensures shows { result ≡ shows row.now guess.now }
+{
+    match guess.place {
+        None => false,
+        Some(place) => has_place(row, place.col)
+            && row[place.col as usize - 1].chars() == place.cell.chars(),
+    }
+}
+
+// Whether a later guess writes in the column of a guess, or it writes nowhere.
+fn is_written(later: &[Guess], guess: &Guess) -> bool
+    ensures written { result ≡ is_written later.now guess.now }
+{
+    match guess.place {
+        None => true,
+        Some(place) => latest(later, place.col).is_some(),
+    }
+}
+
+// Whether the cursor goes to a column by these guesses.
+fn is_way(guesses: &[Guess], col: u16) -> bool
+    ensures way { result ≡ is_way guesses.now col }
+{
+    if guesses.is_empty() {
+        return false;
+    }
+    guesses[0].after == col || is_way(&guesses[1..], col)
+}
+
+// Whether the first of these guesses is right: its cell is shown, unless a later one writes there, and the cursor is on its way.
+fn is_right(row: &[Cell], col: u16, guesses: &[Guess]) -> bool
+    requires some { 0 < length guesses.now }
+    ensures right { result ≡ is_right row.now col guesses.now }
+{
+    (shows(row, &guesses[0]) || is_written(&guesses[1..], &guesses[0])) && is_way(guesses, col)
+}
+
+// How many guesses from the first on are right.
+fn count_right(row: &[Cell], col: u16, guesses: &[Guess]) -> usize
+    ensures count { result ≡ count_right row.now col guesses.now }
+    ensures most { result ≤ length guesses.now }
+{
+    if guesses.is_empty() || !is_right(row, col, guesses) {
+        return 0;
+    }
+    1 + count_right(row, col, &guesses[1..])
+}
+
+// Whether one of the guesses is confirmed with credit: what is shown is what it says, and wasn't so before.
+fn has_credit(row: &[Cell], guesses: &[Guess]) -> bool
+    ensures credit { result ≡ has_credit row.now guesses.now }
+{
+    if guesses.is_empty() {
+        return false;
+    }
+    (guesses[0].credit && shows(row, &guesses[0])) || has_credit(row, &guesses[1..])
+}
+
+// A guess of which it is noted when its acknowledgement was seen first.
+fn with_told(guess: Guess, acknowledged: u64, told: Told) -> Guess
+    ensures told { result ≡ with_told acknowledged told guess }
+{
+    if guess.told.is_some() || acknowledged < guess.number {
+        return guess;
+    }
+    let mut guess = guess;
+    guess.told = Some(told);
+    guess
+}
+
+// Notes of each guess when its acknowledgement was seen first.
+fn tell_each(guesses: &mut [Guess], acknowledged: u64, told: Told)
+    ensures told { guesses.new ≡ map (with_told acknowledged told) guesses.old }
+{
+    for guess in guesses.iter_mut() {
+        *guess = with_told(*guess, acknowledged, told);
+    }
+}
+
+// The same of all that are kept.
+fn tell_all(list: &mut Vec<Guess>, acknowledged: u64, told: Told)
+    ensures told { list.new.items ≡ map (with_told acknowledged told) list.old.items }
+    ensures capacity { vec_capacity list.new ≡ vec_capacity list.old }
+{
+    tell_each(list, acknowledged, told);
+}
+
+// Whether the time of a guess is over.
+fn is_over(guess: &Guess, now: u64) -> bool
+    ensures over { result ≡ is_over now guess.now }
+{
+    match guess.told {
+        None => false,
+        Some(told) => now.saturating_sub(told.at) >= GRACE,
+    }
+}
+
+// Whether a later number came since the acknowledgement of a guess was seen.
+fn is_told_later(guess: &Guess, number: u64) -> bool
+    ensures later { result ≡ is_told_later number guess.now }
+{
+    match guess.told {
+        None => false,
+        Some(told) => told.number < number,
+    }
+}
+
+// Whether one of the guesses is wrong: its time is over, and a later number came.
+fn is_any_wrong(guesses: &[Guess], number: u64, now: u64) -> bool
+    ensures wrong { result ≡ is_any_wrong number now guesses.now }
+{
+    if guesses.is_empty() {
+        return false;
+    }
+    (is_over(&guesses[0], now) && is_told_later(&guesses[0], number))
+        || is_any_wrong(&guesses[1..], number, now)
+}
+
+// How many guesses there are up to the last whose time is over.
+fn count_over(guesses: &[Guess], now: u64) -> usize
+    ensures count { result ≡ count_over now guesses.now }
+    ensures most { result ≤ length guesses.now }
+{
+    if guesses.is_empty() {
+        return 0;
+    }
+    let more = count_over(&guesses[1..], now);
+    if 0 < more || is_over(&guesses[0], now) {
+        1 + more
+    } else {
+        0
+    }
+}
+
+// Whether a screen follows another by itself or by guesses: its size, its status row and the cursor's row are the same, the cursor is
+// visible, and stands where it stood or where a guess brings it.
+fn follows<S: Seen>(before: &S, shown: &S, guesses: &[Guess]) -> bool
+    ensures follows { result ≡ true ↔ Follows (S.screen before.now) (S.screen shown.now) guesses.now }
+{
+    before.facts();
+    shown.facts();
+    let rows = shown.rows();
+    let (row, col) = shown.cursor();
+    let (row_before, col_before) = before.cursor();
+    if before.rows() != rows
+        || before.cols() != shown.cols()
+        || row_before != row
+        || !shown.visible()
+    {
+        return false;
+    }
+    if col_before != col && !is_way(guesses, col) {
+        return false;
+    }
+    are_same_cells(before.row(rows - 1), shown.row(rows - 1))
+}
+
+impl Guesses {
+    // No guess; another epoch begins hidden.
+    fn drop_all(&mut self)
+        ensures dropped { self.new ≡ dropped self.old }
+    {
+        self.list.clear();
+        self.trusted = false;
+    }
+
+    // The first guesses go.
+    fn drop_first(&mut self, count: usize)
+        requires count { count ≤ length self.old.list }
+        ensures dropped { self.new ≡ record self.old { list = drop count self.old.list } }
+    {
+        drop(self.list.drain(..count));
+    }
+
+    // It is noted which acknowledgements were seen.
+    fn tell(&mut self, acknowledged: u64, told: Told)
+        ensures told { self.new ≡ record self.old { list = map (with_told acknowledged told) self.old.list } }
+    {
+        tell_all(&mut self.list, acknowledged, told);
+    }
+
+    // The guesses that are right go, and their epoch is trusted where one of them had credit.
+    fn confirm(&mut self, row: &[Cell], col: u16)
+        ensures confirmed { self.new ≡ confirmed row.now col self.old }
+    {
+        let count = count_right(row, col, &self.list);
+        let has_credit = has_credit(row, &self.list[..count]);
+        self.trusted = self.trusted || has_credit;
+        self.drop_first(count);
+    }
+
+    // The guesses whose time is over go; where one of them is wrong, all go, and the epoch ends.
+    fn expire(&mut self, number: u64, now: u64)
+        ensures expired { self.new ≡ expired number now self.old }
+    {
+        let is_wrong = is_any_wrong(&self.list, number, now);
+        let count = count_over(&self.list, now);
+        if is_wrong {
+            self.drop_all();
+        } else {
+            self.drop_first(count);
+        }
+    }
+
+    // Another epoch begins where the act with which this one ends is acknowledged, and no guess is left.
+    fn begin(&mut self, acknowledged: u64)
+        ensures begun { self.new ≡ begun acknowledged self.old }
+    {
+        if !self.list.is_empty() {
+            return;
+        }
+        if let Some(number) = self.ends_with
+            && number <= acknowledged
+        {
+            self.trusted = false;
+            self.ends_with = None;
+        }
+    }
+
+    // What is shown tells which guesses are right.
+    fn judge<S: Seen>(&mut self, number: u64, acknowledged: u64, shown: &S, now: u64)
+        ensures judged { self.new ≡ judged number acknowledged now (S.screen shown.now) self.old }
+    {
+        shown.facts();
+        let (row, col) = shown.cursor();
+        self.confirm(shown.row(row - 1), col);
+        self.tell(acknowledged, Told { at: now, number });
+        self.expire(number, now);
+    }
+
+    /// The screen of a number is shown at a moment in milliseconds, after another one, and so many acts are acknowledged. Guesses that are
+    /// right go; those whose time is over go, and where one of them is wrong, all; and all go where the screen doesn't follow the one before.
+    /// It takes no memory.
+    pub fn seen<S: Seen>(&mut self, number: u64, acknowledged: u64, before: &S, shown: &S, now: u64)
+        ensures goes_on { Follows (S.screen before.now) (S.screen shown.now) self.old.list
+            → self.new ≡ begun acknowledged (judged number acknowledged now (S.screen shown.now) self.old) }
+        ensures ends { (¬ (Follows (S.screen before.now) (S.screen shown.now) self.old.list))
+            → self.new ≡ begun acknowledged (dropped self.old) }
+    {
+        if follows(before, shown, &self.list) {
+            self.judge(number, acknowledged, shown, now);
+        } else {
+            self.drop_all();
+        }
+        self.begin(acknowledged);
+    }
+}
