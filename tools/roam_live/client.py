@@ -10,7 +10,8 @@ from roam_live.commands import Commands
 from roam_live.display import Display
 from roam_live.links import Keeper, Link
 from roam_live.moments import Moments
-from roam_live.program import Fault, noted_client, opened_process, read, reason, woken, write
+from roam_live.program import noted_client, opened_process, read, woken, write
+from roam_live.watches import ShellsWatch
 
 # So many bytes may wait for the terminal, and so many for the session, before what brings more is left alone.
 PAINTED_LIMIT = 1 << 16
@@ -25,16 +26,7 @@ PROBES = 2.0
 # So many seconds a line stands that tells what a person has lost.
 LOSS_TOLD = 3.0
 
-# So many seconds after the shells' end it is known whether it is the session's, and so many later what couldn't be started is tried again.
-SURE = 0.3
-AGAIN = 1.0
-
 LEAVING = (signal.SIGTERM, signal.SIGHUP, signal.SIGINT)
-
-
-def opened(process):
-    """A process as a file that can be read once it has ended; None where none is known."""
-    return opened_process(process) if process else None
 
 
 class Client:
@@ -43,8 +35,9 @@ class Client:
     def __init__(self, place, watches, prefix):
         self.place = place
         self.wakeup = woken(signal.SIGWINCH, signal.SIGCONT, *LEAVING)
-        process = place.process(place.served)
-        self.server, self.shells = opened(process), opened(place.process("shells"))
+        served = place.process(place.served)
+        self.server = opened_process(served) if served else None
+        self.shells = ShellsWatch(place)
         self.link = Link(place.terminals, watches)
         self.keeper = Keeper(place, self.link)
         self.moments = Moments()
@@ -95,25 +88,6 @@ class Client:
         self.moments.later("probe", PROBES, self.probe)
         self.place.is_served()
 
-    def shells_ended(self):
-        """Takes note of the end of what kept the shells, which may be the session's."""
-        os.close(self.shells)
-        self.shells = None
-        self.moments.later("shells", SURE, self.revive_shells)
-
-    def revive_shells(self):
-        """Has the shells started anew, and tells so."""
-        try:
-            is_there = self.place.revive_shells()
-            self.shells = opened(self.place.process("shells"))
-            said = "the shells had ended: new ones are there, and what was typed meanwhile is dropped" if is_there else ""
-        except (Fault, OSError) as fault:
-            is_there, said = False, f"the shells have ended, and can't be started: {reason(fault)}"
-        if said:
-            self.display.tell(said, LOSS_TOLD)
-        if not is_there:
-            self.moments.later("shells", AGAIN, self.revive_shells)
-
     # ---- the terminal
 
     def resized(self):
@@ -138,14 +112,15 @@ class Client:
     def ready(self):
         """Waits until something can be read or written, or something is due."""
         outer, link = self.display.outer, self.link
-        sources = [self.wakeup, *(process for process in (self.server, self.shells) if process)]
+        sources = [self.wakeup, *([self.server] if self.server else []), *self.shells.sources()]
         targets = [outer.end] if outer.waiting else []
         if len(link.waiting) < TYPED_LIMIT:
             sources.append(0)
         if link.peer:
             sources += [link] if len(outer.waiting) < PAINTED_LIMIT else []
             targets += [link] if link.waiting else []
-        readable, writable, _ = select.select(sources, targets, [], self.moments.wait_time())
+        waits = [wait for wait in (self.moments.wait_time(), self.shells.wait_time()) if wait is not None]
+        readable, writable, _ = select.select(sources, targets, [], min(waits, default=None))
         return readable, writable
 
     def turn(self):
@@ -162,8 +137,9 @@ class Client:
                 self.leave("", 1)
             self.commands.fed(piece or b"")
         self.carry(readable, writable)
-        if self.shells in readable:
-            self.shells_ended()
+        said = self.shells.turn(readable) if self.left is None else ""
+        if said:
+            self.display.tell(said, LOSS_TOLD)
         if outer.end in writable and not write(outer.end, outer.waiting):
             self.leave("", 1)
         self.moments.do_due()
@@ -188,7 +164,7 @@ class Client:
         finally:
             self.commands.left()
             self.display.outer.leave(self.left)
-            if self.left in ("[detached]", "[terminated]"):
+            if self.left is not None:
                 self.link.part()
             self.link.close()
             self.place.close()

@@ -55,7 +55,7 @@ class Commands:
         """Has acts typed, by who doesn't only watch."""
         if self.link.watches:
             return
-        self.link.say(*acts)
+        self.link.type(*acts)
         for act in acts:
             word, _, pane = act.partition(" ")
             if word in ("focus", "next", "split", "close"):

@@ -16,6 +16,10 @@ STEP = 0.02
 # So many seconds what was typed before a person left may take.
 LAST_WAIT = 1.5
 
+# So many acts stand in one line at most, where they come at once, as what is pasted: they are typed in one turn. A start has 64 on their
+# way, so that one line waits while another is answered, and another terminal's key finds room between.
+MOST_ACTS = 32
+
 # Why a link was lost.
 LOST = "the client start has ended; what was typed last may be lost"
 LET_GO = "this terminal was let go; what was typed last may be lost"
@@ -29,6 +33,8 @@ class Link:
         self.peer = None
         self.waiting = bytearray()
         self.given = 0
+        # How many acts the last line has, where more may join them.
+        self.acts = 0
         self.since = 0.0
         self.has_painted = False
 
@@ -40,15 +46,27 @@ class Link:
         """Connects to the start."""
         self.peer = connected_now(self.path)
         self.since, self.given, self.has_painted = time.monotonic(), 0, False
+        self.acts = 0
         if self.watches:
             self.waiting[:] = b"watch\n"
 
-    def say(self, *lines):
-        """Adds lines at the end."""
-        self.waiting += "".join(f"{line}\n" for line in lines).encode()
+    def say(self, line):
+        """Adds a line at the end."""
+        self.waiting += f"{line}\n".encode()
+        self.acts = 0
+
+    def type(self, *acts):
+        """Adds acts at the end."""
+        for act in acts:
+            if 0 < self.acts < MOST_ACTS:
+                self.waiting[-1:] = f" ; {act}\n".encode()
+            else:
+                self.waiting += f"{act}\n".encode()
+            self.acts = self.acts % MOST_ACTS + 1
 
     def send(self):
         """Sends what the start takes now; tells whether it is still there."""
+        self.acts = 0
         try:
             self.given += self.peer.send(memoryview(self.waiting)[self.given : self.given + 65536])
         except BlockingIOError:
