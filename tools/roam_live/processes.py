@@ -8,7 +8,7 @@ import signal
 import subprocess
 import time
 
-from roam_live.program import Fault, begun, is_running, replace_text
+from roam_live.program import SAID_AFTER, Fault, begun, is_running, replace_text, say
 
 # How long a process has for what it brings, and how long for its end.
 START_WAIT = 10.0
@@ -58,11 +58,26 @@ class Processes:
         self.folder.mkdir(mode=0o700, exist_ok=True)
         lock = os.open(self.folder / "lock", os.O_RDWR | os.O_CREAT | os.O_CLOEXEC, 0o600)
         try:
-            fcntl.flock(lock, fcntl.LOCK_EX | (0 if may_wait else fcntl.LOCK_NB))
+            try:
+                fcntl.flock(lock, fcntl.LOCK_EX | fcntl.LOCK_NB)
+            except BlockingIOError:
+                if not may_wait:
+                    raise
+                self.wait_for_lock(lock)
             self.read()
             yield
         finally:
             os.close(lock)
+
+    def wait_for_lock(self, lock):
+        """Waits until nobody else starts what belongs to it; what takes long, as an ssh that asks for a password, is told of."""
+        end = time.monotonic() + SAID_AFTER
+        while time.monotonic() < end:
+            time.sleep(0.02)
+            with contextlib.suppress(BlockingIOError):
+                return fcntl.flock(lock, fcntl.LOCK_EX | fcntl.LOCK_NB)
+        say(f"waiting for another that starts what belongs to {self.folder}")
+        return fcntl.flock(lock, fcntl.LOCK_EX)
 
     def spawned(self, role, words, parts=os.setsid, **ends):
         """A process that stays when this terminal goes, by a call that parts it; what it says is in the log. It notes itself before it
