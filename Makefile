@@ -64,6 +64,8 @@ install: all
 	ln -sf ../lib/roam/pane_shells $(installed)/bin/roam-pane-shells
 	ln -sf ../lib/roam/relay $(installed)/bin/roam-relay
 	install -m 644 docs/man/*.1 $(installed)/share/man/man1
+	ln -sf roam-mux.1 $(installed)/share/man/man1/roam-attach.1
+	ln -sf roam-mux.1 $(installed)/share/man/man1/roam-pane-shells.1
 	install -m 644 tools/completion.bash $(completions)/roam
 	ln -sf roam $(completions)/roam-mux
 	ln -sf roam $(completions)/roam-attach

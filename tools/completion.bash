@@ -36,7 +36,7 @@ _roam_relay() {
     case ${COMP_WORDS[COMP_CWORD - 1]} in
     --dir) mapfile -t COMPREPLY < <(compgen -d -- "$word") ;;
     --log) mapfile -t COMPREPLY < <(compgen -f -- "$word") ;;
-    *) mapfile -t COMPREPLY < <(compgen -W "--far --with --log --dir --session --server --help" -- "$word") ;;
+    *) mapfile -t COMPREPLY < <(compgen -W "--far --with --alone --log --dir --session --server --help" -- "$word") ;;
     esac
 }
 
@@ -48,7 +48,7 @@ _roam() {
     fi
     case ${COMP_WORDS[1]} in
     serve) words="--dir --port --session --turns --help" ;;
-    attach) words="--dir --port --session --client --keys --acts --wire --watch --turns --help" ;;
+    attach) words="--dir --port --session --client --keys --acts --terminals --wire --watch --turns --help" ;;
     show) words="--rows --cols --help" ;;
     world) words="--help" ;;
     *) words="mux serve attach show world --help --version" ;;
@@ -56,7 +56,7 @@ _roam() {
     [ "$COMP_CWORD" -gt 1 ] || words="mux serve attach show world --help --version"
     case ${COMP_WORDS[COMP_CWORD - 1]} in
     --dir) mapfile -t COMPREPLY < <(compgen -d -- "$word") ;;
-    --keys | --acts) mapfile -t COMPREPLY < <(compgen -f -- "$word") ;;
+    --keys | --acts | --terminals) mapfile -t COMPREPLY < <(compgen -f -- "$word") ;;
     --wire) mapfile -t COMPREPLY < <(compgen -W "1 2" -- "$word") ;;
     *) mapfile -t COMPREPLY < <(compgen -W "$words" -- "$word") ;;
     esac
