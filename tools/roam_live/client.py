@@ -5,6 +5,7 @@ import select
 import signal
 import time
 
+from roam_live.bells import BellFollower
 from roam_live.bindings import NEWEST
 from roam_live.commands import Commands
 from roam_live.display import Display
@@ -38,6 +39,7 @@ class Client:
         served = place.process(place.served)
         self.server = opened_process(served) if served else None
         self.shells = ShellsWatch(place)
+        self.bells = BellFollower(place.folder)
         self.link = Link(place.terminals, watches)
         self.keeper = Keeper(place, self.link)
         self.moments = Moments()
@@ -112,7 +114,7 @@ class Client:
     def ready(self):
         """Waits until something can be read or written, or something is due."""
         outer, link = self.display.outer, self.link
-        sources = [self.wakeup, *([self.server] if self.server else []), *self.shells.sources()]
+        sources = [self.wakeup, *([self.server] if self.server else []), *self.shells.sources(), *self.bells.sources()]
         targets = [outer.end] if outer.waiting else []
         if len(link.waiting) < TYPED_LIMIT:
             sources.append(0)
@@ -140,6 +142,8 @@ class Client:
         said = self.shells.turn(readable) if self.left is None else ""
         if said:
             self.display.tell(said, LOSS_TOLD)
+        for pane in self.bells.rung(readable):
+            self.commands.ring(pane)
         if outer.end in writable and not write(outer.end, outer.waiting):
             self.leave("", 1)
         self.moments.do_due()

@@ -25,8 +25,8 @@ class Commands:
         self.help = help_with(self.prefix)
         self.paused = False
         self.size_asked = 0.0
-        # When a command of this person moved the focus, and to which pane, where that is known.
-        self.moved_at, self.moved_to = 0.0, None
+        # When a command of this person moved the focus, from which pane, and to which, where that is known.
+        self.moved_at, self.moved_from, self.moved_to = 0.0, 0, None
 
     def choose(self, prefix):
         """Makes the key of a name the prefix."""
@@ -59,12 +59,14 @@ class Commands:
         for act in acts:
             word, _, pane = act.partition(" ")
             if word in ("focus", "next", "split", "close"):
+                self.moved_from = self.place.places().focus
                 self.moved_at, self.moved_to = time.monotonic(), int(pane) if word == "focus" else None
 
     def places(self):
         """Where the panes are, with the focus where this person put it: 0 where that may not be told yet."""
         places = self.place.places()
-        if time.monotonic() > self.moved_at + UNTOLD or places.focus == self.moved_to:
+        is_told = places.focus == self.moved_to if self.moved_to else places.focus != self.moved_from
+        if is_told or time.monotonic() > self.moved_at + UNTOLD:
             return places
         return places._replace(focus=self.moved_to if self.moved_to in places.rects else 0)
 
@@ -108,6 +110,12 @@ class Commands:
             self.display.hide()
         else:
             self.act(terminal.size_act(size))
+
+    def ring(self, pane):
+        """Rings, and tells of a pane that isn't in focus."""
+        self.display.ring()
+        if self.places().focus != pane and not self.display.told:
+            self.display.tell(f"bell in pane {pane}")
 
     def split(self, wish):
         """Splits the pane in focus, or tells why that can't be done."""

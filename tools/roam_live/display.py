@@ -140,6 +140,11 @@ class Display:
         if not self.cover:
             self.repaint()
 
+    def ring(self):
+        """Rings the terminal's bell, where the terminal isn't in the middle of something."""
+        if self.cover or self.extent.is_between():
+            self.outer.waiting += b"\x07"
+
     # ---- a line over the last row
 
     def tell(self, text, seconds=TOLD):

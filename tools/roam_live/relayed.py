@@ -2,8 +2,8 @@
 
 Each end begins with a greeting, a line that names the session where it is known. All behind it is compressed, by zlib, so that each frame
 can be read once its bytes are there: the length of what the frame carries, the number of the peer, and the datagram. Peer 0 is the other
-end itself: how many bytes it has had, that the session has ended, or where panes are. So many bytes at most are on their way; the rest
-waits here, where what has grown old can be dropped, and not in the stream.
+end itself: how many bytes it has had, that the session has ended, where panes are, or that one rang. So many bytes at most are on their
+way; the rest waits here, where what has grown old can be dropped, and not in the stream.
 """
 import os
 import re
@@ -22,7 +22,7 @@ HEADER = struct.Struct(">HH")
 COUNT = struct.Struct(">cQ")
 
 # The kinds of what the ends tell each other.
-HAD, ENDED, RECTS = b"h", b"e", b"p"
+HAD, ENDED, RECTS, BELL = b"h", b"e", b"p", b"b"
 
 # So many bytes at most are on their way, and what came is told after so many.
 WINDOW = 1 << 17

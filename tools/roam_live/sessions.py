@@ -31,7 +31,7 @@ ALONE = 3600
 # From so many starts on `mux ls` tells how many a server knows.
 MANY_STARTS = 32
 
-SOCKETS = ("clients", "panes", "terminals", *(f"p{pane}" for pane in range(1, 10)))
+SOCKETS = ("clients", "panes", "terminals", "bells", *(f"p{pane}" for pane in range(1, 10)))
 
 
 def runtime_folder():
