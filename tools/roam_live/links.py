@@ -22,6 +22,7 @@ MOST_ACTS = 32
 
 # Why a link was lost.
 LOST = "the client start has ended; what was typed last may be lost"
+NO_MORE = "no more terminals are taken: 16 are there"
 LET_GO = "this terminal was let go; what was typed last may be lost"
 
 
@@ -78,6 +79,10 @@ class Link:
         self.given -= whole
         return True
 
+    def comes(self, seconds):
+        """Whether something comes in so many seconds."""
+        return bool(select.select([self.peer], [], [], seconds)[0])
+
     def painted(self):
         """What was painted; None where nothing came, and nothing where the connection has ended."""
         piece = read(self.peer.fileno())
@@ -121,7 +126,7 @@ class Keeper:
         self.link.close()
         if not is_there:
             return LOST
-        return LET_GO if was_painted else "no more terminals are taken: 16 are there"
+        return LET_GO if was_painted else NO_MORE
 
     def pause(self):
         """The seconds until it is tried anew."""
