@@ -1,6 +1,5 @@
 """A person's client of a session: a terminal connected to the session's client start, until the person leaves or the session ends."""
 import contextlib
-import os
 import select
 import signal
 import time
@@ -171,16 +170,17 @@ class Client:
             if self.left is not None:
                 self.link.part()
             self.link.close()
-            self.place.close()
         return self.status
 
 
 def follow(place, watches, prefix):
     """Has a person follow a session at this terminal, and tells the status."""
-    note = noted_client(place.folder, "watches" if watches else "edits")
+    note = None
     try:
+        note = noted_client(place.folder, "watches" if watches else "edits")
         return Client(place, watches, prefix).run()
     finally:
+        place.close()
         if note:
             with contextlib.suppress(OSError):
                 note.unlink()

@@ -128,7 +128,7 @@ class Commands:
     def close(self):
         """Closes the pane in focus: where something else than a shell may run there, only once that is confirmed."""
         places, busy = self.places(), self.place.busy()
-        if len(places.rects) == 1:
+        if places.focus and len(places.rects) == 1:
             self.display.tell("the last pane goes with its shell, and the session with it")
         elif busy == {} or busy and places.focus and places.focus not in busy:
             self.act("close")
