@@ -50,18 +50,26 @@ try: all
 
 PREFIX ?= /usr/local
 installed = $(DESTDIR)$(PREFIX)
+completions = $(installed)/share/bash-completion/completions
+# What tools alone use that try others.
+tried = tools/roam_live/tried.py
 
 install: all
-	install -d $(installed)/bin $(installed)/lib/roam/roam_live $(installed)/share/man/man1 $(installed)/share/bash-completion/completions
-	install crates/roam/out/roam $(installed)/bin/roam
-	install tools/attach tools/mux tools/pane_shells tools/picture tools/relay $(installed)/lib/roam
-	install -m 644 tools/roam_live/*.py $(installed)/lib/roam/roam_live
+	install -d $(installed)/bin $(installed)/lib/roam/roam_live $(installed)/share/man/man1 $(completions)
+	install crates/roam/out/roam tools/attach tools/mux tools/pane_shells tools/picture tools/relay $(installed)/lib/roam
+	install -m 644 $(filter-out $(tried),$(wildcard tools/roam_live/*.py)) $(installed)/lib/roam/roam_live
+	install tools/installed $(installed)/bin/roam
 	ln -sf ../lib/roam/mux $(installed)/bin/roam-mux
 	ln -sf ../lib/roam/attach $(installed)/bin/roam-attach
 	ln -sf ../lib/roam/pane_shells $(installed)/bin/roam-pane-shells
 	ln -sf ../lib/roam/relay $(installed)/bin/roam-relay
 	install -m 644 docs/man/*.1 $(installed)/share/man/man1
-	install -m 644 tools/completion.bash $(installed)/share/bash-completion/completions/roam
+	ln -sf roam-mux.1 $(installed)/share/man/man1/roam-attach.1
+	ln -sf roam-mux.1 $(installed)/share/man/man1/roam-pane-shells.1
+	install -m 644 tools/completion.bash $(completions)/roam
+	ln -sf roam $(completions)/roam-mux
+	ln -sf roam $(completions)/roam-attach
+	ln -sf roam $(completions)/roam-relay
 
 clean:
 	rm -rf crates/*/out

@@ -10,17 +10,21 @@ PREFIXES = {f"C-{letter}": chr(ord(letter) & 31) for letter in string.ascii_lowe
 PREFIX = "C-b"
 
 # Keys after the prefix that are acts, and those that are wishes. An arrow is the wish to have the pane there in focus.
-BINDINGS = {"%": "split right", '"': "split down", "x": "close", "o": "next", **{str(pane): f"focus {pane}" for pane in range(1, 10)}}
-WISHES = {"d": "detach", "r": "repaint", "?": "help", "up": "up", "down": "down", "left": "left", "right": "right"}
+BINDINGS = {"o": "next", **{str(pane): f"focus {pane}" for pane in range(1, 10)}}
+WISHES = {"%": "split right", '"': "split down", "x": "close", "d": "detach", "r": "repaint", "?": "help", "up": "up", "down": "down",
+          "left": "left", "right": "right"}
 GROWTH = {"C-right": "grow 1", "C-down": "grow 1", "C-left": "grow -1", "C-up": "grow -1"}
 
 # For so many seconds after a growth the next needs no prefix.
 REPEATS = 0.5
 
-# The keys of the scroll mode: how far back each goes, in rows and in pages.
+# The keys of the scroll mode: how far back each goes, in rows and in pages; and those that end it.
 SCROLLS = {"up": (1, 0), "k": (1, 0), "down": (-1, 0), "j": (-1, 0), "prev": (0, 1), "next": (0, -1), "g": (500, 0), "G": (-500, 0)}
-SCROLL_ENDS = {"q", "\x1b"}
-NEWEST = "view -500"
+SCROLL_ENDS = {"q", "\x1b", "\x03", "\r"}
+
+# So many rows a view goes back at most.
+MOST_VIEW = 500
+NEWEST = f"view -{MOST_VIEW}"
 
 HELP = """\
 C-b and then:
@@ -31,7 +35,7 @@ C-b and then:
   1 to 9   the pane of this number
   arrows   the pane there
   C-arrows grow the pane along its split (right, down), or shrink it (left, up); again within half a second without C-b
-  [ PgUp   scroll: PgUp PgDn up down g G; q, Escape or a typed key ends it
+  [ PgUp   scroll: PgUp PgDn up down g G; q, Escape, C-c or Return ends it
   d        detach: the session goes on
   r        size the session to this terminal and paint all anew
   ?        this help
@@ -51,13 +55,33 @@ def help_with(prefix):
     return HELP.replace(PREFIX, prefix)
 
 
+def spelled(name):
+    """How a key is told of."""
+    return next((known for known, letter in PREFIXES.items() if letter == name), name if name.isprintable() else "this key")
+
+
 class Typing:
-    """Where a person is: typing, after the prefix, scrolling, or pasting."""
+    """Where a person is: typing, after the prefix, scrolling, pasting, or asked something."""
 
     def __init__(self, prefix=PREFIX):
         self.prefix = PREFIXES[prefix]
         self.mode = self.plain
         self.repeats_until = 0.0
+        # How many rows the pane in focus was scrolled back.
+        self.view = 0
+
+    def ask(self):
+        """Has the next key answer what is asked."""
+        self.mode = self.answering
+
+    def answering(self, key, now, rows):
+        """The answer to what was asked: y, or any other key."""
+        self.mode = self.plain
+        return [], "yes" if key.name in ("y", "Y") else "no"
+
+    def left(self):
+        """The acts that are left to do where the person leaves."""
+        return [NEWEST] if self.mode == self.scrolling else []
 
     def asked(self, key, now, rows):
         """The acts that a key asks for at a moment, on a terminal of so many rows, and the wish, or nothing."""
@@ -83,7 +107,7 @@ class Typing:
         return acts_of(key), ""
 
     def prefixed(self, key, now, rows):
-        """A key after the prefix; one that has no meaning there is dropped."""
+        """A key after the prefix; one that has no meaning there is told of."""
         self.mode = self.plain
         if key.name == self.prefix:
             return acts_of(key), ""
@@ -91,18 +115,21 @@ class Typing:
             self.repeats_until = now + REPEATS
             return [GROWTH[key.name]], ""
         if key.name in ("[", "prev"):
-            self.mode = self.scrolling
-            return self.scrolling(key, now, rows) if key.name == "prev" else ([], "")
-        act = BINDINGS.get(key.name)
-        return [act] if act else [], WISHES.get(key.name, "")
+            self.mode, self.view = self.scrolling, 0
+            return self.scrolling(key, now, rows) if key.name == "prev" else ([], "scroll")
+        if key.name in BINDINGS:
+            return [BINDINGS[key.name]], ""
+        return [], WISHES.get(key.name, "unknown")
 
     def scrolling(self, key, now, rows):
-        """A key that scrolls, or one that ends it where the newest rows are."""
+        """A key that scrolls, or one that ends it where the newest rows are: the prefix and a paste do so too. Another does nothing."""
         if key.name in SCROLLS:
             lines, pages = SCROLLS[key.name]
-            return [f"view {lines + pages * max(1, rows // 2)}"], ""
+            step = lines + pages * max(1, rows // 2)
+            self.view = min(max(self.view + step, 0), MOST_VIEW)
+            return [f"view {step}"], "scroll"
+        if key.name not in SCROLL_ENDS and key.name not in (self.prefix, "paste"):
+            return [], ""
         self.mode = self.plain
-        if key.name in SCROLL_ENDS:
-            return [NEWEST], ""
-        acts, wish = self.plain(key, now, rows)
-        return [NEWEST, *acts], wish
+        acts, wish = ([], "") if key.name in SCROLL_ENDS and key.name != self.prefix else self.plain(key, now, rows)
+        return [NEWEST, *acts], wish or "scrolled"

@@ -6,7 +6,6 @@ import secrets
 import signal
 import socket
 import sys
-import tempfile
 import time
 import traceback
 
@@ -211,37 +210,22 @@ def noted_client(folder, kind="edits"):
     return path
 
 
-class Listener:
-    """A Unix socket in a folder of its own, to which a client start connects for its acts."""
+def count_clients(folder):
+    """How many clients are noted in a session's folder; what one that was killed left is removed."""
+    folder = pathlib.Path(folder, "attached")
+    notes = list(folder.iterdir()) if folder.is_dir() else []
+    gone = [note for note in notes if not is_attached(note)]
+    for note in gone:
+        note.unlink(missing_ok=True)
+    return len(notes) - len(gone)
 
-    def __init__(self):
-        self.folder = tempfile.mkdtemp(prefix="roam-acts-")
-        self.path = os.path.join(self.folder, "acts")
-        self.socket = None
-        try:
-            self.socket = socket.socket(socket.AF_UNIX, socket.SOCK_STREAM)
-            self.socket.bind(self.path)
-            self.socket.listen(1)
-            self.socket.setblocking(False)
-        except OSError:
-            self.close()
-            raise
 
-    def accepted(self):
-        """The connection of the client start."""
-        peer = self.socket.accept()[0]
-        peer.setblocking(False)
-        # A start that is let go has one second for what it was sent: so little of a long paste is on its way at once.
-        peer.setsockopt(socket.SOL_SOCKET, socket.SO_SNDBUF, 4096)
-        return peer
-
-    def close(self):
-        """Removes the socket and its folder."""
-        if self.socket:
-            self.socket.close()
-        for remove, path in ((os.unlink, self.path), (os.rmdir, self.folder)):
-            with contextlib.suppress(OSError):
-                remove(path)
+def is_attached(note):
+    """Whether the client that a file notes runs; who ends removes it, maybe at this moment."""
+    try:
+        return is_running(int(note.name), int(note.read_text(encoding="utf-8").split()[0]))
+    except (OSError, ValueError, IndexError):
+        return False
 
 
 class Lines:

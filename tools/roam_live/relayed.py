@@ -1,32 +1,40 @@
 """What the two ends of a relay tell each other over a stream: datagrams, each with the number of the peer that it is from or for.
 
-Each end begins with a greeting, a line that names the session where it is known. Frames follow: the length of what the frame carries, the
-number of the peer, and the datagram. Peer 0 is the other end itself: how many bytes it has had, that the session has ended, or where panes
-are. So many bytes at most are on their way; the rest waits here, where what has grown old can be dropped, and not in the stream.
+Each end begins with a greeting, a line that names the session where it is known. All behind it is compressed, by zlib, so that each frame
+can be read once its bytes are there: the length of what the frame carries, the number of the peer, and the datagram. Peer 0 is the other
+end itself: how many bytes it has had, that the session has ended, where panes are, or that one rang. So many bytes at most are on their
+way; the rest waits here, where what has grown old can be dropped, and not in the stream.
 """
 import os
 import re
 import struct
 import time
+import zlib
 from collections import deque
 
 from roam_live.carriers import LETTERS
 from roam_live.program import Fault, read, write
 
-VERSION = 1
+# Version 1 didn't compress.
+VERSION = 2
 GREETING = re.compile(rb"(?:^|\n)roam-relay (\d+) ([0-9a-f]{1,16}|-)\r?\n")
 HEADER = struct.Struct(">HH")
 COUNT = struct.Struct(">cQ")
 
 # The kinds of what the ends tell each other.
-HAD, ENDED, RECTS = b"h", b"e", b"p"
+HAD, ENDED, RECTS, BELL = b"h", b"e", b"p", b"b"
 
 # So many bytes at most are on their way, and what came is told after so many.
 WINDOW = 1 << 17
 TOLD_AFTER = 1 << 14
 
-# So many bytes at most wait for the stream: the largest instruction fits.
+# So many bytes at most wait for the stream: the largest instruction fits. Each datagram counts what it takes beside its own bytes, so that
+# many small ones are no more.
 WAITING_LIMIT = 1 << 22
+OVERHEAD = 128
+
+# So many bytes at most are unpacked at once.
+UNPACKED = 1 << 16
 
 # Before its greeting the other end may say so much else: what a shell prints at its start.
 NOISE_LIMIT = 1 << 16
@@ -59,13 +67,19 @@ def session_of(found):
     if not found:
         raise Fault("the other end is no relay")
     if int(found[1]) != VERSION:
-        raise Fault(f"the other end is a relay of version {int(found[1])}, and this one of version {VERSION}")
+        age = "an earlier" if int(found[1]) < VERSION else "a later"
+        raise Fault(f"the other end is of {age} roam: its relay has version {int(found[1])}, and this one version {VERSION}")
     return found[2].decode()
 
 
 def instruction_of(datagram):
     """What is the same in all fragments of an instruction; nothing for what is no datagram of roam."""
     return bytes(datagram[INSTRUCTION]) if datagram[:2] == LETTERS else b""
+
+
+def cost(datagram):
+    """What a datagram that waits counts."""
+    return len(datagram) + OVERHEAD
 
 
 class Waiting:
@@ -87,14 +101,14 @@ class Waiting:
             self.newest[peer] = instruction
             self._keep(lambda other, one: other != peer or instruction_of(one) in (b"", self.begun.get(peer)))
         self.datagrams.append((peer, datagram))
-        self.size += len(datagram)
+        self.size += cost(datagram)
         while self.size > WAITING_LIMIT:
-            self.size -= len(self.datagrams.popleft()[1])
+            self.size -= cost(self.datagrams.popleft()[1])
 
     def take(self):
         """The oldest datagram and its peer."""
         peer, datagram = self.datagrams.popleft()
-        self.size -= len(datagram)
+        self.size -= cost(datagram)
         self.begun[peer] = instruction_of(datagram)
         return peer, datagram
 
@@ -107,7 +121,7 @@ class Waiting:
     def _keep(self, is_kept):
         """Drops the datagrams for which this doesn't hold."""
         self.datagrams = deque(entry for entry in self.datagrams if is_kept(*entry))
-        self.size = sum(len(datagram) for _, datagram in self.datagrams)
+        self.size = sum(cost(datagram) for _, datagram in self.datagrams)
 
 
 class Stream:
@@ -117,6 +131,7 @@ class Stream:
         self.source, self.target = source, target
         self.session = None
         self.coming, self.going = bytearray(), bytearray(greeting(session))
+        self.packer, self.unpacker = zlib.compressobj(), zlib.decompressobj()
         self.sent = self.acknowledged = self.had = self.told = 0
         self.heard = self.spoke = self.moved = self.told_at = time.monotonic()
 
@@ -134,7 +149,7 @@ class Stream:
 
     def tell(self, peer, text):
         """Sends a frame."""
-        self.going += HEADER.pack(len(text), peer) + text
+        self.going += self.packer.compress(HEADER.pack(len(text), peer) + text) + self.packer.flush(zlib.Z_SYNC_FLUSH)
         self.spoke = time.monotonic()
 
     def fill(self, waiting):
@@ -160,23 +175,35 @@ class Stream:
             return None
         if piece:
             self.heard = time.monotonic()
-            self.coming += piece
-        return list(self._frames()) if self.session or self._greeted() else []
+        return list(self._unpacked(piece if self.session else self._greeted(piece or b"")))
+
+    def _unpacked(self, piece):
+        """The frames that are whole with a piece of what is compressed."""
+        while piece:
+            try:
+                self.coming += self.unpacker.decompress(piece, UNPACKED)
+            except zlib.error as fault:
+                raise Fault("what the other end says can't be read") from fault
+            piece = self.unpacker.unconsumed_tail
+            yield from self._frames()
 
     def _acknowledge(self, count):
         """So many bytes have arrived."""
         if count > self.acknowledged:
             self.acknowledged, self.moved = count, time.monotonic()
 
-    def _greeted(self):
-        """Whether the greeting has come; what a shell said before it is dropped."""
+    def _greeted(self, piece):
+        """What stands behind the greeting, once it has come; what a shell said before it is dropped."""
+        self.coming += piece
         found = GREETING.search(self.coming)
-        if found:
-            self.session = session_of(found)
-            del self.coming[: found.end()]
-        elif len(self.coming) > NOISE_LIMIT:
-            raise Fault("the other end is no relay")
-        return bool(found)
+        if not found:
+            if len(self.coming) > NOISE_LIMIT:
+                raise Fault("the other end is no relay")
+            return b""
+        self.session = session_of(found)
+        rest = bytes(self.coming[found.end() :])
+        self.coming.clear()
+        return rest
 
     def _frames(self):
         """Takes the whole frames off what came."""

@@ -1,4 +1,5 @@
 """The outer terminal: raw mode, its size, the other screen, and what of the painter's text may reach it."""
+import codecs
 import contextlib
 import errno
 import fcntl
@@ -153,10 +154,16 @@ class Extent:
         self.rest = b""
         self.col = 1
         self.size = (0, 0)
+        self.decoder = codecs.getincrementaldecoder("utf-8")("replace")
+
+    def is_between(self):
+        """Whether what was painted so far ends with a whole sequence and a whole character."""
+        return not self.rest and not self.decoder.getstate()[0]
 
     def fed(self, piece):
         """Goes on with a piece of the painter's text, and tells whether all was erased in it."""
         text = self.rest + piece
+        self.decoder.decode(piece[-4:])
         self.rest = b""
         is_erased = False
         cut = text.rfind(b"\x1b")

@@ -1,0 +1,127 @@
+"""Bells of panes: found in what programs write, told at a socket in the session's folder, and followed there. A screen has no place for
+them."""
+import contextlib
+import os
+import re
+import time
+
+from roam_live.carriers import listening
+from roam_live.program import Lines, connected_now, read
+
+# What begins a control string, which a bell ends and doesn't ring in; and what else ends one.
+BEGINS = (b"\x1b]", b"\x1bP", b"\x1bX", b"\x1b^", b"\x1b_")
+ENDS = re.compile(rb"[\x18\x1a\x1b]")
+
+# A pane rings once in so many seconds, for so many at most who follow.
+APART = 1.0
+MOST_FOLLOWERS = 16
+
+
+class Bells:
+    """Finds bells in what a program writes, in any pieces."""
+
+    def __init__(self):
+        self.is_string = False
+        self.rest = b""
+
+    def rung(self, piece):
+        """Whether a bell rings in a piece."""
+        *parts, last = (self.rest + piece).split(b"\x07")
+        rings = False
+        for part in parts:
+            self.go_on(part)
+            rings = rings or not self.is_string
+            self.is_string = False
+            if rings:
+                break
+        self.rest = b"\x1b" if last.endswith(b"\x1b") else b""
+        self.go_on(last[: len(last) - len(self.rest)])
+        return rings
+
+    def go_on(self, text):
+        """Goes on with bytes that have no bell: whether they end inside of a control string."""
+        begin = max(text.rfind(word) for word in BEGINS)
+        if begin >= 0:
+            self.is_string = not ENDS.search(text, begin + 2)
+        elif self.is_string:
+            self.is_string = not ENDS.search(text)
+
+
+class BellSource:
+    """The socket at which bells are told, in lines `bell P`."""
+
+    def __init__(self, folder):
+        self.path = os.path.join(folder, "bells")
+        self.listener = listening(self.path)
+        self.followers = []
+        self.rung_at = {}
+        self.deaf_until = 0.0
+
+    def sources(self):
+        """What is to be read: those that come, and the ends of those that are there."""
+        return ([self.listener] if time.monotonic() >= self.deaf_until else []) + self.followers
+
+    def turn(self, readable):
+        """Takes who comes, and lets go who has left."""
+        if self.listener in readable:
+            try:
+                peer = self.listener.accept()[0]
+                peer.setblocking(False)
+                self.followers.append(peer)
+            except OSError:
+                # Where no descriptor is left who comes waits.
+                self.deaf_until = time.monotonic() + APART
+        for peer in [peer for peer in self.followers if peer in readable and read(peer.fileno()) == b""]:
+            self.drop(peer)
+        for peer in self.followers[MOST_FOLLOWERS:]:
+            self.drop(peer)
+
+    def tell(self, pane):
+        """Tells of a bell; one that follows another too soon isn't told."""
+        now = time.monotonic()
+        if now < self.rung_at.get(pane, 0.0) + APART:
+            return
+        self.rung_at[pane] = now
+        for peer in list(self.followers):
+            try:
+                peer.send(f"bell {pane}\n".encode())
+            except OSError:
+                self.drop(peer)
+
+    def drop(self, peer):
+        """Lets one go who follows."""
+        peer.close()
+        self.followers.remove(peer)
+
+    def close(self):
+        """Closes the socket, and removes it."""
+        for peer in [self.listener, *self.followers]:
+            peer.close()
+        with contextlib.suppress(OSError):
+            os.unlink(self.path)
+
+
+class BellFollower:
+    """Follows the bells of a session's folder, where somebody tells them."""
+
+    def __init__(self, folder):
+        self.path = folder and os.path.join(folder, "bells")
+        self.peer = None
+        self.lines = Lines()
+
+    def sources(self):
+        """What is to be read. Who tells bells may come, and come again, at any time."""
+        with contextlib.suppress(OSError):
+            self.peer = self.peer or (connected_now(self.path) if self.path else None)
+        return [self.peer] if self.peer else []
+
+    def rung(self, readable):
+        """The panes that rang."""
+        if not self.peer or self.peer not in readable:
+            return []
+        piece = read(self.peer.fileno())
+        if piece == b"":
+            self.peer.close()
+            self.peer = None
+        words = [line.split() for line in self.lines.fed(piece or b"")]
+        return [int(line[1]) for line in words if len(line) == 2 and line[0] == "bell" and line[1].isdigit()]

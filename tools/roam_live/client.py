@@ -1,0 +1,186 @@
+"""A person's client of a session: a terminal connected to the session's client start, until the person leaves or the session ends."""
+import contextlib
+import select
+import signal
+import time
+
+from roam_live.bells import BellFollower
+from roam_live.bindings import NEWEST
+from roam_live.commands import Commands
+from roam_live.display import Display
+from roam_live.links import Keeper, Link
+from roam_live.moments import Moments
+from roam_live.program import noted_client, opened_process, read, woken, write
+from roam_live.watches import ShellsWatch
+
+# So many bytes may wait for the terminal, and so many for the session, before what brings more is left alone.
+PAINTED_LIMIT = 1 << 16
+TYPED_LIMIT = 1 << 24
+
+# While a terminal is drawn larger by hand it has hundreds of sizes: the session gets one in so many seconds, and the last.
+SIZES = 0.1
+
+# How often it is looked whether the server is there, where no process is known.
+PROBES = 2.0
+
+# So many seconds a line stands that tells what a person has lost.
+LOSS_TOLD = 3.0
+
+LEAVING = (signal.SIGTERM, signal.SIGHUP, signal.SIGINT)
+
+
+class Client:
+    """A person at a terminal, and the session there."""
+
+    def __init__(self, place, watches, prefix):
+        self.place = place
+        self.wakeup = woken(signal.SIGWINCH, signal.SIGCONT, *LEAVING)
+        served = place.process(place.served)
+        self.server = opened_process(served) if served else None
+        self.shells = ShellsWatch(place)
+        self.bells = BellFollower(place.folder)
+        self.link = Link(place.terminals, watches)
+        self.keeper = Keeper(place, self.link)
+        self.moments = Moments()
+        self.display = Display(self.moments, lambda: self.link.say("repaint"))
+        self.commands = Commands(place, self.link, self.display, self.moments, self.leave)
+        self.commands.choose(prefix)
+        self.left, self.status = None, 0
+
+    def leave(self, line, status=0):
+        """Ends the client with a line; None goes on."""
+        if line is not None and self.left is None:
+            self.left, self.status = line, status
+
+    # ---- the connection
+
+    def connect(self):
+        """Connects to the start; where that can't be done now it is tried again, and the person may leave."""
+        failed = self.keeper.connect()
+        if failed:
+            wait, said = failed
+            self.moments.later("connect", wait, self.connect)
+            if said:
+                self.pause(said, wait)
+            return
+        loss = self.keeper.connected()
+        self.commands.paused = False
+        self.display.cover = ""
+        self.display.begin()
+        self.commands.ask_size()
+        self.commands.act(*([] if self.commands.typing.left() else [NEWEST]))
+        if loss:
+            self.display.tell(loss, LOSS_TOLD)
+
+    def pause(self, said, wait):
+        """Says what is in the way for so long."""
+        self.commands.paused = wait >= 1
+        self.display.show(f"{said}; tried anew in {wait} s" + ("; C-c or q leaves" if wait >= 1 else ""))
+
+    def lost(self):
+        """Goes on without the connection, which is had again: at once for the first time, else after a pause that grows."""
+        said, wait = self.keeper.lost(), self.keeper.pause()
+        self.moments.later("connect", wait, self.connect)
+        if self.keeper.faults > 1:
+            self.pause(said, wait)
+
+    def probe(self):
+        """Looks whether the server is there; a start whose server isn't ends."""
+        self.moments.later("probe", PROBES, self.probe)
+        self.place.is_served()
+
+    # ---- the terminal
+
+    def resized(self):
+        """Goes by a new size of the terminal."""
+        self.display.resized()
+        if "size" not in self.moments.due:
+            self.moments.later("size", max(0.0, self.commands.size_asked + SIZES - time.monotonic()), self.commands.ask_size)
+
+    def signalled(self):
+        """Goes by the signals that came."""
+        for number in read(self.wakeup) or b"":
+            if number == signal.SIGWINCH:
+                self.resized()
+            elif number == signal.SIGCONT:
+                self.display.enter_again()
+                self.resized()
+            elif number in LEAVING:
+                self.leave("[terminated]", 128 + number)
+
+    # ---- the loop
+
+    def ready(self):
+        """Waits until something can be read or written, or something is due."""
+        outer, link = self.display.outer, self.link
+        sources = [self.wakeup, *([self.server] if self.server else []), *self.shells.sources(), *self.bells.sources()]
+        targets = [outer.end] if outer.waiting else []
+        if len(link.waiting) < TYPED_LIMIT:
+            sources.append(0)
+        if link.peer:
+            sources += [link] if len(outer.waiting) < PAINTED_LIMIT else []
+            targets += [link] if link.waiting else []
+        waits = [wait for wait in (self.moments.wait_time(), self.shells.wait_time()) if wait is not None]
+        readable, writable, _ = select.select(sources, targets, [], min(waits, default=None))
+        return readable, writable
+
+    def turn(self):
+        """Does what can be done now."""
+        readable, writable = self.ready()
+        outer = self.display.outer
+        if self.server in readable:
+            self.leave(*self.place.ending())
+        if self.wakeup in readable:
+            self.signalled()
+        if 0 in readable:
+            piece = read(0)
+            if piece == b"":
+                self.leave("", 1)
+            self.commands.fed(piece or b"")
+        self.carry(readable, writable)
+        said = self.shells.turn(readable) if self.left is None else ""
+        if said:
+            self.display.tell(said, LOSS_TOLD)
+        for pane in self.bells.rung(readable):
+            self.commands.ring(pane)
+        if outer.end in writable and not write(outer.end, outer.waiting):
+            self.leave("", 1)
+        self.moments.do_due()
+
+    def carry(self, readable, writable):
+        """Carries what goes between the start and the terminal."""
+        link = self.link
+        piece = link.painted() if link in readable else None
+        if piece:
+            self.display.painted(piece)
+        if piece == b"" or link in writable and not link.send():
+            self.lost()
+
+    def run(self):
+        """Follows the session until the person leaves or it ends, and tells the status."""
+        try:
+            self.connect()
+            if not self.server:
+                self.moments.later("probe", PROBES, self.probe)
+            while self.left is None:
+                self.turn()
+        finally:
+            self.commands.left()
+            self.display.outer.leave(self.left)
+            if self.left is not None:
+                self.link.part()
+            self.link.close()
+        return self.status
+
+
+def follow(place, watches, prefix):
+    """Has a person follow a session at this terminal, and tells the status."""
+    note = None
+    try:
+        note = noted_client(place.folder, "watches" if watches else "edits")
+        return Client(place, watches, prefix).run()
+    finally:
+        place.close()
+        if note:
+            with contextlib.suppress(OSError):
+                note.unlink()

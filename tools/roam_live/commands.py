@@ -1,0 +1,148 @@
+"""What a person at a terminal types, and what comes of it: acts for the session, and what the client does itself."""
+import time
+
+from roam_live import terminal
+from roam_live.bindings import Typing, help_with, spelled
+from roam_live.keys import Keys
+from roam_live.programs import told
+from roam_live.rects import BESIDE
+
+# An escape that nothing follows for so many seconds is the key.
+ESCAPE_WAIT = 0.025
+
+# So many seconds after a command that moves the focus it may not be told where it is.
+UNTOLD = 1.0
+
+
+class Commands:
+    """The keys of one person, and what they ask for."""
+
+    def __init__(self, place, link, display, moments, leave):
+        self.place, self.link, self.display, self.moments, self.leave = place, link, display, moments, leave
+        self.keys = Keys()
+        self.prefix = "C-b"
+        self.typing = Typing()
+        self.help = help_with(self.prefix)
+        self.paused = False
+        self.size_asked = 0.0
+        # When a command of this person moved the focus, from which pane, and to which, where that is known.
+        self.moved_at, self.moved_from, self.moved_to = 0.0, 0, None
+
+    def choose(self, prefix):
+        """Makes the key of a name the prefix."""
+        self.prefix, self.typing, self.help = prefix, Typing(prefix), help_with(prefix)
+
+    def fed(self, piece):
+        """Takes bytes that were typed."""
+        self.typed(self.keys.fed(piece))
+        self.moments.drop("escape")
+        if self.keys.waits():
+            self.moments.later("escape", ESCAPE_WAIT, lambda: self.typed(self.keys.ended()))
+
+    def typed(self, keys):
+        """Takes keys."""
+        for key in keys:
+            if self.paused:
+                self.leave("[left]" if key.name in ("\x03", "q") else None)
+            elif self.display.cover == self.help:
+                self.display.uncover()
+            else:
+                acts, wish = self.typing.asked(key, time.monotonic(), self.display.outer.size()[0])
+                self.act(*acts)
+                self.grant(wish, key)
+
+    def act(self, *acts):
+        """Has acts typed, by who doesn't only watch."""
+        if self.link.watches:
+            return
+        self.link.type(*acts)
+        for act in acts:
+            word, _, pane = act.partition(" ")
+            if word in ("focus", "next", "split", "close"):
+                self.moved_from = self.place.places().focus
+                self.moved_at, self.moved_to = time.monotonic(), int(pane) if word == "focus" else None
+
+    def places(self):
+        """Where the panes are, with the focus where this person put it: 0 where that may not be told yet."""
+        places = self.place.places()
+        is_told = places.focus == self.moved_to if self.moved_to else places.focus != self.moved_from
+        if is_told or time.monotonic() > self.moved_at + UNTOLD:
+            return places
+        return places._replace(focus=self.moved_to if self.moved_to in places.rects else 0)
+
+    def left(self):
+        """Does what is left to do where the person leaves."""
+        self.act(*self.typing.left())
+
+    def grant(self, wish, key):
+        """Does what the client itself is asked for."""
+        if wish == "detach":
+            self.leave("[detached]")
+        elif wish == "repaint":
+            self.ask_size()
+            self.display.repaint()
+        elif wish == "help":
+            self.display.show(self.help)
+        elif wish == "unknown":
+            self.display.tell(f"{self.prefix} {spelled(key.name)} means nothing; {self.prefix} ? shows the keys")
+        elif wish and not self.link.watches:
+            self.change(wish)
+
+    def change(self, wish):
+        """Does what somebody who only watches may not."""
+        if wish == "scroll":
+            self.display.tell(f"{self.typing.view} rows back: PgUp PgDn up down g G scroll, q ends it", None)
+        elif wish.startswith("split"):
+            self.split(wish)
+        elif wish == "close":
+            self.close()
+        elif wish in BESIDE:
+            self.go(wish)
+        elif wish in ("yes", "no", "scrolled"):
+            self.act(*(["close"] if wish == "yes" else []))
+            self.display.end_told()
+
+    def ask_size(self):
+        """Gives the session this terminal's size, where it may have it."""
+        self.size_asked = time.monotonic()
+        size = self.display.outer.size()
+        if not terminal.is_large_enough(size):
+            self.display.hide()
+        else:
+            self.act(terminal.size_act(size))
+
+    def ring(self, pane):
+        """Rings, and tells of a pane that isn't in focus."""
+        self.display.ring()
+        if self.places().focus != pane and not self.display.told:
+            self.display.tell(f"bell in pane {pane}")
+
+    def split(self, wish):
+        """Splits the pane in focus, or tells why that can't be done."""
+        why = self.places().unsplit(wish.split()[1])
+        if why:
+            self.display.tell(why)
+        else:
+            self.act(wish)
+
+    def close(self):
+        """Closes the pane in focus: where something else than a shell may run there, only once that is confirmed."""
+        places, busy = self.places(), self.place.busy()
+        if places.focus and len(places.rects) == 1:
+            self.display.tell("the last pane goes with its shell, and the session with it")
+        elif busy == {} or busy and places.focus and places.focus not in busy:
+            self.act("close")
+        else:
+            pane = places.focus
+            runs = told({pane: busy[pane]}) if busy and pane else f"whatever runs in {f'pane {pane}' if pane else 'this pane'}"
+            self.display.tell(f"close {runs}? y closes it", None)
+            self.typing.ask()
+
+    def go(self, way):
+        """Puts the pane on a side in focus; the next one where no rectangle is known."""
+        places = self.places()
+        if not places.focus:
+            places = self.place.places()
+        pane = places.neighbour(way) if places.rects else None
+        if pane or not places.rects:
+            self.act(f"focus {pane}" if pane else "next")

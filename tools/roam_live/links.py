@@ -1,0 +1,173 @@
+"""A connection to a session's client start: the lines that wait for it, what is painted there, and how it is had again where it is lost."""
+import select
+import socket
+import time
+
+from roam_live.program import Fault, connected_now, read, reason
+
+# The pauses before a start is started anew; a connection that lasted so long had no fault at its start.
+PAUSES = (0.1, 1, 2, 4, 8, 15)
+SOUND = 5.0
+
+# So many seconds a start has for its socket, and how often it is looked for.
+READY_WAIT = 10.0
+STEP = 0.02
+
+# So many seconds what was typed before a person left may take.
+LAST_WAIT = 1.5
+
+# So many acts stand in one line at most, where they come at once, as what is pasted: they are typed in one turn. A start has 64 on their
+# way, so that one line waits while another is answered, and another terminal's key finds room between.
+MOST_ACTS = 32
+
+# Why a link was lost.
+LOST = "the client start has ended; what was typed last may be lost"
+NO_MORE = "no more terminals are taken: 16 are there"
+LET_GO = "this terminal was let go; what was typed last may be lost"
+
+
+class Link:
+    """A terminal's connection to the start. Each line goes whole to one connection: what of a line came to one that is lost is nothing."""
+
+    def __init__(self, path, watches):
+        self.path, self.watches = path, watches
+        self.peer = None
+        self.waiting = bytearray()
+        self.given = 0
+        # How many acts the last line has, where more may join them.
+        self.acts = 0
+        self.since = 0.0
+        self.has_painted = False
+
+    def fileno(self):
+        """Its descriptor."""
+        return self.peer.fileno()
+
+    def connect(self):
+        """Connects to the start."""
+        self.peer = connected_now(self.path)
+        self.since, self.given, self.has_painted = time.monotonic(), 0, False
+        self.acts = 0
+        if self.watches:
+            self.waiting[:] = b"watch\n"
+
+    def say(self, line):
+        """Adds a line at the end."""
+        self.waiting += f"{line}\n".encode()
+        self.acts = 0
+
+    def type(self, *acts):
+        """Adds acts at the end."""
+        for act in acts:
+            if 0 < self.acts < MOST_ACTS:
+                self.waiting[-1:] = f" ; {act}\n".encode()
+            else:
+                self.waiting += f"{act}\n".encode()
+            self.acts = self.acts % MOST_ACTS + 1
+
+    def send(self):
+        """Sends what the start takes now; tells whether it is still there."""
+        self.acts = 0
+        try:
+            self.given += self.peer.send(memoryview(self.waiting)[self.given : self.given + 65536])
+        except BlockingIOError:
+            return True
+        except OSError:
+            return False
+        whole = self.waiting.rfind(b"\n", 0, self.given) + 1
+        del self.waiting[:whole]
+        self.given -= whole
+        return True
+
+    def comes(self, seconds):
+        """Whether something comes in so many seconds."""
+        return bool(select.select([self.peer], [], [], seconds)[0])
+
+    def painted(self):
+        """What was painted; None where nothing came, and nothing where the connection has ended."""
+        piece = read(self.peer.fileno())
+        self.has_painted = self.has_painted or bool(piece)
+        return piece
+
+    def close(self):
+        """Closes it."""
+        if self.peer:
+            self.peer.close()
+            self.peer = None
+
+    def part(self, seconds=LAST_WAIT):
+        """Gives the start what was typed, closes, and tells whether it took all in so many seconds."""
+        end = time.monotonic() + seconds
+        has_said, has_ended = False, not self.peer
+        while not has_ended and time.monotonic() < end:
+            if not has_said and not self.waiting:
+                has_said = True
+                self.peer.shutdown(socket.SHUT_WR)
+            readable, writable, _ = select.select([self.peer], [self.peer] if self.waiting else [], [], 0.1)
+            has_ended = bool(writable and not self.send() or readable and self.painted() == b"")
+        self.close()
+        return has_ended and not self.waiting
+
+
+class Keeper:
+    """Has a link connected: to the start that is there, or to another, which is started after pauses that grow."""
+
+    def __init__(self, place, link):
+        self.place, self.link = place, link
+        self.faults = 0
+        self.begun_at = 0.0
+        self.start = None
+
+    def lost(self):
+        """Takes note of a link that has ended, and tells why, as far as that is known yet."""
+        self.place.read()
+        is_there, was_painted = self.place.runs("terminals"), self.link.has_painted
+        self.faults = 1 if time.monotonic() - self.link.since > SOUND else self.faults + 1
+        self.link.close()
+        if not is_there:
+            return LOST
+        return LET_GO if was_painted else NO_MORE
+
+    def pause(self):
+        """The seconds until it is tried anew."""
+        return PAUSES[min(self.faults, len(PAUSES)) - 1] if self.faults else 0.0
+
+    def connected(self):
+        """Takes note of a link that is there, and tells what was lost with the one before."""
+        self.begun_at = 0.0
+        self.place.read()
+        before, self.start = self.start, self.place.process("terminals")
+        return "" if before is None else LET_GO if before == self.start else LOST
+
+    def connect(self):
+        """Connects where that can be done now; else the seconds until it is tried again, and why, where a person is to know."""
+        try:
+            self.link.connect()
+            return None
+        except OSError as fault:
+            why = reason(fault)
+        now = time.monotonic()
+        if self.begun_at and self.place.runs("terminals") and now < self.begun_at + READY_WAIT:
+            return STEP, ""
+        if self.begun_at:
+            return self.failed(f"no client start is ready: {why}")
+        if not self.place.is_served():
+            return self.failed(f"no server is {self.place}")
+        if self.place.is_full():
+            return self.failed("the server has had the 64 client starts of its life, and hears no other")
+        return self.begin(now)
+
+    def begin(self, now):
+        """Starts a start, which has its socket soon."""
+        try:
+            self.place.revive()
+        except (Fault, OSError) as fault:
+            return self.failed(f"no client start can be started: {reason(fault)}")
+        self.begun_at = now
+        return STEP, ""
+
+    def failed(self, said):
+        """What is told of a fault, and the pause after it."""
+        self.faults += 1
+        self.begun_at = 0.0
+        return self.pause(), said

@@ -1,0 +1,314 @@
+"""Sessions by name: their folders, and what belongs to them: a server, or a relay to one, what keeps the shells, and the client start of
+this machine's terminals."""
+import contextlib
+import functools
+import os
+import pathlib
+import re
+import shutil
+import signal
+import stat
+import subprocess
+import sys
+import tempfile
+
+from roam_live.processes import Processes
+from roam_live.program import TOOLS, Fault, count_clients, is_listened, program
+from roam_live.programs import busy_panes
+from roam_live.rects import MOST_STARTS, NOTHING, read_places
+
+NAME = re.compile(r"[A-Za-z0-9_-]{1,32}")
+
+# A socket's path has at most so many bytes.
+LONGEST_PATH = 107
+
+# What a session's note is like. An earlier roam had one without this number: its session has no start for terminals.
+VERSION = 2
+
+# So many seconds after the last terminal left a relay ends.
+ALONE = 3600
+
+# From so many starts on `mux ls` tells how many a server knows.
+MANY_STARTS = 32
+
+SOCKETS = ("clients", "panes", "terminals", "bells", *(f"p{pane}" for pane in range(1, 10)))
+
+
+def runtime_folder():
+    """The folder that XDG_RUNTIME_DIR offers; one of another user, as after `su`, is told of and not used."""
+    chosen = os.environ.get("XDG_RUNTIME_DIR")
+    if not chosen:
+        return None
+    if os.path.isdir(chosen) and os.stat(chosen).st_uid == os.getuid():
+        return pathlib.Path(chosen, "roam")
+    print(f"mux: XDG_RUNTIME_DIR is {chosen}, which is no folder of yours; /tmp has the sessions", file=sys.stderr)
+    return None
+
+
+@functools.lru_cache()
+def base():
+    """The folder of the user's sessions, which is made where it isn't there, and refused where others may enter it."""
+    path = runtime_folder() or pathlib.Path("/tmp", f"roam-{os.getuid()}")
+    try:
+        path.mkdir(mode=0o700, exist_ok=True)
+        found = path.lstat()
+    except OSError as fault:
+        raise Fault(f"{path}: {fault.strerror}") from fault
+    if not stat.S_ISDIR(found.st_mode) or found.st_uid != os.getuid() or found.st_mode & 0o077:
+        raise Fault(f"{path} has to be a folder that you own and nobody else may enter")
+    return path
+
+
+def check_name(name):
+    """Refuses what can't name a session."""
+    if not NAME.fullmatch(name):
+        raise Fault(f"{name!r} is no name: letters, digits, - and _, 32 at most")
+
+
+class Session(Processes):
+    """A session: its folder, and what was noted of it.
+
+    One that was noted by `mux` has a process whose end is the session's; of one whose server was started by hand the folder is all that is
+    known.
+    """
+
+    def __init__(self, folder, name=None, server=None):
+        super().__init__(folder, server)
+        self.name = name or self.folder.name
+        self.terminals = self.folder / "terminals"
+        if len(str(self.terminals)) > LONGEST_PATH:
+            raise Fault(f"{self.folder} is too long for a socket's path")
+
+    @classmethod
+    def named(cls, name):
+        """That of a name."""
+        check_name(name)
+        return cls(base() / name)
+
+    def __str__(self):
+        return f"in {self.folder}"
+
+    # ---- what is known of it
+
+    def id(self):
+        """The session's id, where it is known."""
+        try:
+            return (self.folder / "session").read_text(encoding="utf-8").strip()
+        except OSError:
+            return ""
+
+    def places(self):
+        """Where its panes are, as far as that is told."""
+        return read_places(self.folder / "rects")
+
+    def is_served(self):
+        """Whether a server is there, or a relay to one."""
+        return is_listened(self.folder / "clients")
+
+    def is_full(self):
+        """Whether its server knows as many starts as it ever does."""
+        return self.places().starts >= MOST_STARTS
+
+    def busy(self):
+        """The panes in which another program than a shell runs, and its name."""
+        shells = self.process("shells")
+        return busy_panes(shells) if shells else {}
+
+    def ending(self):
+        """What is said where the process that serves it has ended, and the status."""
+        return "[the session has ended]", 0
+
+    def demand_age(self):
+        """Refuses one that an earlier roam began."""
+        if self.runs("server") and self.state.get("version") != VERSION:
+            raise Fault(f"session {self.name} was begun by an earlier roam, and is left to it: `mux kill {self.name}` ends it")
+
+    # ---- what belongs to it
+
+    def start(self, command=()):
+        """Starts the server and its shells, or a command in place of each shell."""
+        self.clean()
+        self.state = {"version": VERSION, "command": list(command)}
+        before = self.logged()
+        server = self.spawned("server", [program(), "serve", "--dir", str(self.folder)])
+        self.wait_for(server, before, lambda: (self.folder / "session").exists() and self.is_served())
+        self.start_shells()
+
+    def start_shells(self, more=()):
+        """Starts what keeps a shell in each pane."""
+        words = [str(TOOLS / "pane_shells"), "--close", "--server", str(self.state["server"][0]), *more]
+        self.spawned("shells", [*words, str(self.folder), *self.state.get("command", ())])
+
+    def start_terminals(self):
+        """Starts the client start of this machine's terminals."""
+        self.demand_room()
+        self.terminals.unlink(missing_ok=True)
+        self.state = self.state or {"version": VERSION}
+        return self.spawned("terminals", [program(), "attach", "--dir", str(self.folder), "--terminals", str(self.terminals)])
+
+    def demand_room(self):
+        """Refuses where the server knows as many starts as it ever does."""
+        if self.is_full():
+            raise Fault(f"session {self.name} has had the {MOST_STARTS} client starts of its life, and hears no other; what runs in it "
+                        f"goes on, and `mux kill {self.name}` ends it")
+
+    def demand_terminals(self):
+        """Sees that the start of this machine's terminals runs, and is ready."""
+        before = self.logged()
+        if not self.runs("terminals"):
+            self.start_terminals()
+            self.wait_for(self.own["terminals"], before, lambda: is_listened(self.terminals))
+
+    def revive(self):
+        """Starts the start of the terminals anew, where it has ended and nobody else does."""
+        with contextlib.suppress(BlockingIOError), self.locked(may_wait=False):
+            if not self.runs("terminals"):
+                self.start_terminals()
+
+    def revive_shells(self):
+        """Starts the shells anew where what kept them has ended; tells whether they run."""
+        with contextlib.suppress(BlockingIOError), self.locked(may_wait=False):
+            if self.runs("server") and not self.runs("shells"):
+                self.start_shells(["--again"])
+        return self.runs("shells")
+
+    # ---- its end
+
+    def clean(self):
+        """Removes what a session that doesn't run any more left, but for its log."""
+        clients = self.folder / "attached"
+        notes = [self.folder / name for name in (*SOCKETS, "rects", "session", "session.new", "state.json", "ended")]
+        for path in [*(clients.iterdir() if clients.is_dir() else ()), *notes]:
+            path.unlink(missing_ok=True)
+
+    def kill(self):
+        """Ends the session's processes; the shells hang up their programs once the server is gone."""
+        for role in (self.served, "shells", "terminals"):
+            self.end(role)
+        self.clean()
+
+    def close(self):
+        """Lets it go: its processes stay."""
+
+    # ---- what `mux ls` says
+
+    def line(self):
+        """What `mux ls` says of it."""
+        places = self.places()
+        size = "{} by {}".format(*places.size()) if places.rects else "-"
+        count = count_clients(self.folder)
+        panes = "1 pane" if len(places.rects) == 1 else f"{len(places.rects) or '?'} panes"
+        more = f", {places.starts} of {MOST_STARTS} starts" if places.starts > MANY_STARTS else ""
+        return f"{self.name:12} {size:12} {panes:8} {count} client{'' if count == 1 else 's'}{more}"
+
+
+class NearSession(Session):
+    """A session of another machine: a relay stands here for its server."""
+
+    served = "relay"
+
+    def start_relay(self, command):
+        """Starts a relay over a command, which may ask at this terminal until it has answered; tells the status of one that didn't."""
+        self.clean()
+        self.state = {"version": VERSION}
+        words = [str(TOOLS / "relay"), "--alone", str(ALONE), "--log", str(self.log), "--dir", str(self.folder), "-", *command]
+        relay = self.spawned("relay", words, in_front, stdout=subprocess.PIPE, stderr=None)
+        try:
+            has_answered = relay.stdout.readline() != b""
+        finally:
+            take_front(os.getpgrp())
+        return 0 if has_answered else relay.wait()
+
+    def busy(self):
+        """What runs in its panes isn't known here."""
+        return None
+
+    def ending(self):
+        """What is said where the relay has ended, and the status."""
+        if (self.folder / "ended").exists():
+            return super().ending()
+        return f"[the relay has ended; {self.log} tells why]", 1
+
+
+def in_front():
+    """Makes this process a group of its own, which a terminal that hangs up leaves alone, and has that read what is typed."""
+    os.setpgid(0, 0)
+    signal.signal(signal.SIGTSTP, signal.SIG_IGN)
+    take_front(os.getpgrp())
+
+
+def take_front(group):
+    """Has a process group read what is typed at this process's terminal, where it has one."""
+    before = signal.signal(signal.SIGTTOU, signal.SIG_IGN)
+    with contextlib.suppress(OSError):
+        own = os.open("/dev/tty", os.O_RDWR | os.O_CLOEXEC)
+        try:
+            os.tcsetpgrp(own, group)
+        finally:
+            os.close(own)
+    signal.signal(signal.SIGTTOU, before)
+
+
+class PortSession:
+    """A session whose server has a UDP port: a terminal has a start of its own there, and a folder that is told has the rest."""
+
+    served = "server"
+
+    def __init__(self, home, folder):
+        self.home = home
+        self.folder = pathlib.Path(folder) if folder else None
+        self.own = tempfile.mkdtemp(prefix="roam-terminals-")
+        self.terminals = pathlib.Path(self.own, "terminals")
+        self.start = None
+        self.name = str(home)
+
+    def __str__(self):
+        return str(self.home)
+
+    def read(self):
+        """Nothing is noted of it."""
+
+    def process(self, role):
+        """No process but the start is known."""
+        return self.start.pid if role == "terminals" and self.start and self.start.poll() is None else None
+
+    def runs(self, role=None):
+        """Whether the process of a role runs."""
+        return self.process(role or self.served) is not None
+
+    def places(self):
+        """Where the panes are, as far as that is told."""
+        return read_places(self.folder / "rects") if self.folder else NOTHING
+
+    def is_served(self):
+        """Whether somebody has the port. Where nobody has, the start isn't needed any more: it can't know by itself."""
+        is_there = self.home.is_served()
+        if not is_there and self.runs("terminals"):
+            self.start.terminate()
+        return is_there
+
+    def is_full(self):
+        """Whether the server knows as many starts as it ever does."""
+        return self.places().starts >= MOST_STARTS
+
+    def busy(self):
+        """What runs in its panes isn't known here."""
+        return None
+
+    def revive(self):
+        """Starts the start, where it doesn't run."""
+        if not self.runs("terminals"):
+            self.terminals.unlink(missing_ok=True)
+            words = self.home.attach_words(["--terminals", str(self.terminals)])
+            self.start = subprocess.Popen(words, stdin=subprocess.DEVNULL, stdout=subprocess.DEVNULL, stderr=subprocess.DEVNULL)
+
+    def ending(self):
+        """What is said where the session has ended, and the status."""
+        return "[the session has ended]", 0
+
+    def close(self):
+        """Ends the start."""
+        if self.start:
+            self.start.terminate()
+            self.start.wait()
+        shutil.rmtree(self.own, ignore_errors=True)
