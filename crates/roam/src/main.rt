@@ -33,9 +33,10 @@ fn main(rt: HostRuntime) -> ExitCode {
 // Where acts come from.
 fn typed(source: Source<'_>) -> Typed<'_> {
     match source {
-        Source::Nothing | Source::Terminals(_) => Typed::Nothing,
+        Source::Nothing => Typed::Nothing,
         Source::Keys(path) => Typed::File(path),
         Source::Acts(socket) => Typed::Socket(socket),
+        Source::Terminals(socket) => Typed::Terminals(socket),
     }
 }
 

@@ -1,7 +1,7 @@
 -- The way of a client start to its server.
 use Rattle.std.specs.Prelude.{Bool, false}
-use Rattle.roam_attaching.specs.declared.link.Way.{Way}
-use Rattle.roam_attaching.specs.declared.link.Way.TheVariants.{Udp, Stream}
+use Rattle.roam_attaching.specs.declared.connecting.Way.{Way}
+use Rattle.roam_attaching.specs.declared.connecting.Way.TheVariants.{Udp, Stream}
 
 -- the server has ended, where that is seen: a stream to it is over
 abbrev pub has_ended : Way → Bool

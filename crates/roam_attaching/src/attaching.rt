@@ -9,8 +9,8 @@ ghost use Rattle.roam_typing.specs.Typing.{refused_at};
 ghost use Rattle.roam_typing.specs.declared.typing.Stream.TheVariants.{Ended};
 
 use crate::client_ports::ClientPorts;
+use crate::connecting::{Connection, OTHER_END};
 use crate::hosting::host;
-use crate::link::{Link, OTHER_END};
 use mio::net::UnixStream;
 use roam_acts::Act;
 use roam_cells::Fault;
@@ -246,8 +246,8 @@ fn is_over<C: Clock + Drop, W: Write + Drop, T: Read>(
 // How a run ends that was not broken off.
 fn ended<C: Clock + Drop, W: Write + Drop>(ports: &ClientPorts<C, W>) -> Result<End, RunFault>
     ensures fault { IsOkUnless result RunFault.Write }
-    ensures well { IfOk result (λ _. (ports.now.failing ≡ None) × (ports.now.link.waits.unread ≡ false)) }
-    ensures heard { IfOk result (λ end. end ≡ end_by (has_ended ports.now.link.way) ports.now.silence) }
+    ensures well { IfOk result (λ _. (ports.now.failing ≡ None) × (ports.now.connection.waits.unread ≡ false)) }
+    ensures heard { IfOk result (λ end. end ≡ end_by (has_ended ports.now.connection.way) ports.now.silence) }
 {
     if ports.is_unread() || ports.has_failed() {
         return Err(RunFault::Write);
@@ -269,13 +269,13 @@ fn follow<C: Clock + Drop, W: Write + Drop, T: Read>(
     ports: &mut ClientPorts<C, W>,
 ) -> Result<End, RunFault>
     requires in_range { All IsInRange typist.old.lines.waiting.items }
-    ensures well { IfOk result (λ _. (ports.new.failing ≡ None) × (ports.new.link.waits.unread ≡ false)) }
-    ensures heard { IfOk result (λ end. end ≡ end_by (has_ended ports.new.link.way) ports.new.silence) }
+    ensures well { IfOk result (λ _. (ports.new.failing ≡ None) × (ports.new.connection.waits.unread ≡ false)) }
+    ensures heard { IfOk result (λ end. end ≡ end_by (has_ended ports.new.connection.way) ports.new.silence) }
     // All turns were taken, or the stream's acts are over, or the server has ended.
     ensures typed { IfOk result (λ _. (turns : ℕ) × RunsOn (home_of attach.now.home) (T.remaining typist.old.reader)
         (T.remaining typist.new.reader) typist.old.lines typist.new.lines client.old client.new turns
         × ((turns ≡ attach.now.turns) ⊎ ((since : ℕ) × IsOver typist.new.lines client.new since ports.new.silence.moment)
-        ⊎ (has_ended ports.new.link.way ≡ true))) }
+        ⊎ (has_ended ports.new.connection.way ≡ true))) }
     ensures faults { IfErr result (λ fault. (fault ≡ RunFault.Core Fault.OutOfMemory) ⊎ (fault ≡ RunFault.Write)
         ⊎ ((k : ℕ) × (fault ≡ RunFault.Act k)
         × (refused_at typist.new.lines.stream typist.new.lines.waiting.items ≡ Some k))) }
@@ -304,18 +304,18 @@ fn follow<C: Clock + Drop, W: Write + Drop, T: Read>(
     ended(ports)
 }
 
-// The link of a start to its server.
-fn link_for<'r, R: Net + Clock + AllocGlobal>(
+// The connection of a start to its server.
+fn connection_for<'r, R: Net + Clock + AllocGlobal>(
     rt: &'r R,
     attach: &Attach<'_>,
-) -> Result<Link<&'r R>, RunFault>
+) -> Result<Connection<&'r R>, RunFault>
     ensures faults { IfErr result (λ fault. (fault ≡ RunFault.Core Fault.OutOfMemory) ⊎ (fault ≡ RunFault.Bind)
         ⊎ (fault ≡ RunFault.Connect)) }
 {
     let moments = Moments::real(rt);
     match attach.home {
-        Home::Port(_) => Link::bind(rt, rt.alloc(), moments),
-        Home::Folder(folder) => Link::connect(rt, rt.alloc(), folder, moments),
+        Home::Port(_) => Connection::bind(rt, rt.alloc(), moments),
+        Home::Folder(folder) => Connection::connect(rt, rt.alloc(), folder, moments),
     }
 }
 
@@ -328,11 +328,11 @@ fn ports_for<'r, R: Net + Clock + AllocGlobal, W: Write + Drop>(
     ensures faults { IfErr result (λ fault. (fault ≡ RunFault.Core Fault.OutOfMemory) ⊎ (fault ≡ RunFault.Bind)
         ⊎ (fault ≡ RunFault.Connect)) }
 {
-    let mut link = link_for(rt, attach)?;
+    let mut connection = connection_for(rt, attach)?;
     if let Some(descriptor) = attach.painted_to {
-        link.watch(descriptor);
+        connection.watch(descriptor);
     }
-    Ok(ClientPorts::new(link, outer))
+    Ok(ClientPorts::new(connection, outer))
 }
 
 // Types the acts of a file, or none.
@@ -384,8 +384,16 @@ fn follow_terminals<R: Files + Net + Clock + RandomSource + AllocGlobal>(
         ⊎ (fault ≡ RunFault.Connect)) }
 {
     let client = client_for(rt, attach)?;
-    let link = link_for(rt, attach)?;
-    host(rt, rt.alloc(), path, attach.turns, client, link, home_of(attach.home))
+    let connection = connection_for(rt, attach)?;
+    host(
+        rt,
+        rt.alloc(),
+        path,
+        attach.turns,
+        client,
+        connection,
+        home_of(attach.home),
+    )
 }
 
 /// Follows a session and types acts, one a turn where it is taken: it takes the turns, waiting where one brought nothing, paints what the

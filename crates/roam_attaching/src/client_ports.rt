@@ -6,7 +6,7 @@ ghost use Rattle.roam_attaching.specs.Notices.{failing_after, has_given_up};
 ghost use Rattle.roam_links.specs.declared.moments.Moments.{Moments};
 ghost use Rattle.roam_attaching.specs.Ways.{has_ended};
 
-use crate::link::Link;
+use crate::connecting::Connection;
 use mio::net::UnixStream;
 use roam_hub::Addr;
 use roam_links::SHORT_WAIT;
@@ -19,28 +19,28 @@ use std::time::Clock;
 /// How many milliseconds of failing are enough.
 const HALF_SECOND: u64 = 500;
 
-/// The ports of a client start: its link, and where the outer terminal's bytes go. They know when something was heard last, and since when
+/// The ports of a client start: its connection, and where the outer terminal's bytes go. They know when something was heard last, and since when
 /// showing fails.
 #[derive(Drop)]
 pub struct ClientPorts<R, W> {
-    link: Link<R>,
+    connection: Connection<R>,
     outer: W,
     silence: Silence,
     failing: Option<u64>,
 }
 
 impl<R: Clock + Drop, W: Write + Drop> ClientPorts<R, W> {
-    /// The ports over a link, and what takes the outer terminal's bytes: nothing was heard or written yet.
-    pub fn new(link: Link<R>, outer: W) -> ClientPorts<R, W>
+    /// The ports over a connection, and what takes the outer terminal's bytes: nothing was heard or written yet.
+    pub fn new(connection: Connection<R>, outer: W) -> ClientPorts<R, W>
         ensures ports { result ≡ record {
-          link = link;
+          connection = connection;
           outer = outer;
           silence = record { moment = 0; heard = None; told = None };
           failing = None;
         } }
     {
         ClientPorts {
-            link,
+            connection,
             outer,
             silence: Silence::new(),
             failing: None,
@@ -49,16 +49,16 @@ impl<R: Clock + Drop, W: Write + Drop> ClientPorts<R, W> {
 
     /// Whether the server has ended, where that is seen: a stream to it is over.
     pub fn has_ended(&self) -> bool
-        ensures ended { result ≡ has_ended self.now.link.way }
+        ensures ended { result ≡ has_ended self.now.connection.way }
     {
-        self.link.has_ended()
+        self.connection.has_ended()
     }
 
     /// Sets the moment, in milliseconds.
     pub fn set_moment(&mut self, moment: u64)
-        ensures moment { self.new ≡ record self.old { link = record self.old.link { moments = Moments.Set moment } } }
+        ensures moment { self.new ≡ record self.old { connection = record self.old.connection { moments = Moments.Set moment } } }
     {
-        self.link.set_moment(moment);
+        self.connection.set_moment(moment);
     }
 
     /// Whether the outer terminal took not all of what was last shown.
@@ -89,7 +89,7 @@ impl<R: Clock + Drop, W: Write + Drop> ClientPorts<R, W> {
     pub fn watch_stream(&self, stream: &mut UnixStream)
         ensures same { stream.new ≡ stream.old }
     {
-        self.link.report(stream, false);
+        self.connection.report(stream, false);
     }
 
     /// The moment of the last turn, in milliseconds.
@@ -108,26 +108,26 @@ impl<R: Clock + Drop, W: Write + Drop> ClientPorts<R, W> {
 
     /// Whether nobody reads the descriptor any more that is watched.
     pub fn is_unread(&self) -> bool
-        ensures unread { result ≡ self.now.link.waits.unread }
+        ensures unread { result ≡ self.now.connection.waits.unread }
     {
-        self.link.is_unread()
+        self.connection.is_unread()
     }
 
     /// Sends what waits to go, and waits until something comes, ten milliseconds at most, where nothing came since the last call.
     pub fn rest(&mut self)
-        ensures quiet { self.new.link.waits.quiet ≡ true }
-        ensures others { self.new ≡ record self.old { link = self.new.link } }
-        ensures link { self.new.link ≡ record self.old.link { waits = self.new.link.waits; way = self.new.link.way } }
+        ensures quiet { self.new.connection.waits.quiet ≡ true }
+        ensures others { self.new ≡ record self.old { connection = self.new.connection } }
+        ensures connection { self.new.connection ≡ record self.old.connection { waits = self.new.connection.waits; way = self.new.connection.way } }
     {
-        self.link.rest(SHORT_WAIT);
+        self.connection.rest(SHORT_WAIT);
     }
 
     /// Sends what waits to go, as much as goes now, and doesn't wait.
     pub fn flush(&mut self)
-        ensures others { self.new ≡ record self.old { link = self.new.link } }
-        ensures link { self.new.link ≡ record self.old.link { way = self.new.link.way } }
+        ensures others { self.new ≡ record self.old { connection = self.new.connection } }
+        ensures connection { self.new.connection ≡ record self.old.connection { way = self.new.connection.way } }
     {
-        self.link.flush();
+        self.connection.flush();
     }
 
     /// Tells of a silence of ten seconds and more over the last row of the outer terminal, once a second. Answers whether what that
@@ -185,10 +185,10 @@ impl<R: Clock + Drop, W: Write + Drop> ClientPorts<R, W> {
 
 impl<R: Clock + Drop, W: Write + Drop> Ports for ClientPorts<R, W> {
     fn now(&mut self) -> u64
-        ensures set { (moment : ℕ) → self.old.link.moments ≡ Moments.Set moment → result ≡ moment }
+        ensures set { (moment : ℕ) → self.old.connection.moments ≡ Moments.Set moment → result ≡ moment }
         ensures moment { self.new.silence ≡ record self.old.silence { moment = result } }
     {
-        let moment = self.link.now();
+        let moment = self.connection.now();
         self.silence.at(moment);
         moment
     }
@@ -197,15 +197,15 @@ impl<R: Clock + Drop, W: Write + Drop> Ports for ClientPorts<R, W> {
         ensures within { IfSome result (λ r. r.1 ≤ length buf.new) }
         ensures heard { IfSome result (λ _. self.new.silence ≡ record self.old.silence { heard = Some self.old.silence.moment }) }
         ensures unheard { result ≡ None → self.new.silence ≡ self.old.silence }
-        ensures stirs { IfSome result (λ _. self.new.link.waits.quiet ≡ false) }
+        ensures stirs { IfSome result (λ _. self.new.connection.waits.quiet ≡ false) }
     {
-        let came = self.link.receive(buf)?;
+        let came = self.connection.receive(buf)?;
         self.silence.hear();
         Some(came)
     }
 
     fn send(&mut self, to: Addr, bytes: &[u8]) -> bool {
-        self.link.send(to, bytes)
+        self.connection.send(to, bytes)
     }
 
     fn pane_lives(&mut self, _pane: u8, _life: Option<u64>)

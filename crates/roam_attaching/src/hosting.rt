@@ -1,7 +1,7 @@
 //! A client start that stays while outer terminals come and go at its socket.
 ghost use Rattle.std.specs.Prelude.{◌≡◌, ◌⊎◌, IfErr};
 
-use crate::link::Link;
+use crate::connecting::Connection;
 use mio::net::{UnixListener, UnixStream};
 use roam_cells::Fault;
 use roam_faults::RunFault;
@@ -21,7 +21,7 @@ const SECOND: u64 = 1000;
 struct Start<R> {
     listener: UnixListener,
     shared: SharedStart<UnixStream>,
-    painter: Painter<Link<R>>,
+    painter: Painter<Connection<R>>,
     to: Addr,
     // When a terminal asked for the end.
     asked: Option<u64>,
@@ -61,11 +61,17 @@ impl<R: Clock + Drop> Start<R> {
         } else {
             u64::MAX
         };
-        let asked = if self.asked.is_some() { SECOND } else { u64::MAX };
+        let asked = if self.asked.is_some() {
+            SECOND
+        } else {
+            u64::MAX
+        };
         if longest == 0 {
             self.painter.ports().stir();
         }
-        self.painter.ports().rest(longest.min(due).min(told).min(asked));
+        self.painter
+            .ports()
+            .rest(longest.min(due).min(told).min(asked));
     }
 
     // Takes rounds, and waits where one brought nothing.
@@ -92,7 +98,7 @@ pub(crate) fn host<R: Files + Net, C: Clock + Drop>(
     path: &str,
     rounds: u64,
     client: Client,
-    link: Link<C>,
+    connection: Connection<C>,
     to: Addr,
 ) -> Result<End, RunFault>
     ensures faults { IfErr result (λ fault. fault ≡ RunFault.Bind) }
@@ -100,11 +106,11 @@ pub(crate) fn host<R: Files + Net, C: Clock + Drop>(
     let Some(mut listener) = listen(rt, path) else {
         return Err(RunFault::Bind);
     };
-    link.report(&mut listener, false);
+    connection.report(&mut listener, false);
     let mut start = Start {
         listener,
         shared: SharedStart::new(alloc, client),
-        painter: Painter::new(alloc, link),
+        painter: Painter::new(alloc, connection),
         to,
         asked: None,
     };

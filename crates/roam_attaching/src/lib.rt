@@ -3,9 +3,9 @@
 
 mod attaching;
 mod client_ports;
+mod connecting;
 mod hosting;
-mod link;
 
 pub use attaching::{Attach, Home, Typed, follow_session, run_attach};
 pub use client_ports::ClientPorts;
-pub use link::Link;
+pub use connecting::Connection;

@@ -1,8 +1,9 @@
 -- The socket where a program follows which panes there are.
-use Rattle.std.specs.Prelude.{◌≡◌, ◌⊎◌, ◌++◌, ◌≤◌, ℕ, [], List, drop, Option, Some, None, codes}
+use Rattle.std.specs.Prelude.{min, length, true, false, ◌≡◌, ◌⊎◌, ◌++◌, ◌≤◌, ℕ, [], List, drop, Option, Some, None, codes}
 use Rattle.roam_layout.specs.declared.rects.Rect.{Rect}
 use Rattle.roam_session.specs.Lives.{life_of}
 use Rattle.roam_session.specs.Places.{focus_at, rect_at}
+use Rattle.roam_world.specs.ServerArrivals.{alike}
 use Rattle.roam_world.specs.Servers.{Server}
 use Rattle.roam_pane_list.specs.Known.{nothing, pane_at}
 use Rattle.roam_pane_list.specs.Lines.{lines_text, lines_between}
@@ -42,7 +43,9 @@ pane_of (Some life) None = None
 pane_of (Some life) (Some rect) =
     Some (record { life = life; row = rect.row; col = rect.col; rows = rect.rows; cols = rect.cols })
 
--- these are the panes of a server, and the one in focus
+-- these are the panes of a server, the one in focus, and how many starts of each kind it knows
 pub record ArePanesOf (s : Server) (known : PaneList) : Type 0 where
   pub panes : (p : ℕ) → 1 ≤ p → p ≤ 9 → pane_at known p ≡ pane_of (life_of s.size s.log p) (rect_at s.size s.log p)
   pub focus : known.focus ≡ focus_at s.size s.log
+  pub starts : known.starts ≡ Some (min (length (alike s false)) 65535)
+  pub watchers : known.watchers ≡ Some (min (length (alike s true)) 65535)

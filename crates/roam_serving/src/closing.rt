@@ -1,7 +1,8 @@
 //! The server's own client start, which closes a pane where a program asks for it that follows the panes.
-ghost use Rattle.std.specs.Prelude.{◌≡◌, ◌≤◌, true, length, None, Some, IfSome, OnOk, OnErr};
+ghost use Rattle.std.specs.Prelude.{◌≡◌, ◌≤◌, ℕ, true, length, None, Some, IfSome, IsTrue, ◌↔◌, OnOk, OnErr};
 ghost use Rattle.roam_pane_list.specs.Closes.{IsPane};
-ghost use Rattle.roam_terminals.specs.Terminals.{Types};
+ghost use Rattle.roam_world.specs.Clients.{Client as ClientOf};
+ghost use Rattle.roam_hub.specs.Clients.{Stands, TypesAll};
 ghost use Rattle.roam_serving.specs.Closing.{IsThere, closing_acts};
 
 use roam_acts::Act;
@@ -30,14 +31,26 @@ pub(crate) struct Closer {
 
 // Whether a number is that of a pane.
 fn is_pane(pane: u8) -> bool
-    ensures pane { result ≡ true → IsPane pane }
+    ensures pane { IsTrue result ↔ IsPane pane }
 {
     1 <= pane && pane <= 9
 }
 
+// Whether this making of a pane is there.
+fn is_there(panes: &PaneList, pane: u8, life: u64) -> bool
+    requires pane { IsPane pane }
+    ensures there { IsThere panes.now pane life → result ≡ true }
+{
+    match panes.get(pane) {
+        Some(listed) => listed.life == life,
+        None => false,
+    }
+}
+
 // Types the acts that close a pane and give the focus to another: they stand in one instruction. `NoPane` where one is none.
 fn type_close(client: &mut Client, pane: u8, after: Option<u8>) -> Result<(), Fault>
-    ensures typed { OnOk result (Types (closing_acts pane after) client.old client.new) }
+    ensures typed { OnOk result ((session id : ℕ) (c : ClientOf) → Stands client.old session id c
+        → TypesAll session id c (closing_acts pane after) result client.new) }
     ensures err { OnErr result (client.new ≡ client.old) }
 {
     if !is_pane(pane) {
@@ -136,14 +149,15 @@ impl Closer {
     /// memory: that start is let go, so that none of its acts is ever taken later, where they might close another pane.
     pub(crate) fn settle(&mut self, panes: &PaneList)
         ensures settled { self.old.datagram ≡ None → self.new.closing ≡ None }
-        ensures let_go { self.old.datagram ≡ None → IfSome self.old.closing (λ pair. IsThere panes.now pair.0 pair.1 → self.new.client ≡ None) }
+        ensures let_go { self.old.datagram ≡ None → IfSome self.old.closing (λ pair. IsPane pair.0
+            → IsThere panes.now pair.0 pair.1 → self.new.client ≡ None) }
     {
         if self.datagram.is_some() {
             return;
         }
         if let Some((pane, life)) = self.closing {
             self.closing = None;
-            if panes.get(pane).is_some_and(|listed| listed.life == life) {
+            if is_pane(pane) && is_there(panes, pane, life) {
                 self.client = None;
             }
         }

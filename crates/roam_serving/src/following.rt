@@ -97,7 +97,13 @@ impl Follower {
     }
 
     // Does what the line that stands first asks for, and tells whether one did.
-    fn take_line(&mut self, alloc: Global, now: &PaneList, closer: &mut Closer, moment: u64) -> bool {
+    fn take_line(
+        &mut self,
+        alloc: Global,
+        now: &PaneList,
+        closer: &mut Closer,
+        moment: u64,
+    ) -> bool {
         self.read_line();
         let Some(line) = self.lines.first() else {
             return false;
@@ -119,7 +125,13 @@ impl Follower {
     }
 
     // Does what its lines ask for, while no close is under way, and tells whether more of them may be there.
-    fn take_lines(&mut self, alloc: Global, now: &PaneList, closer: &mut Closer, moment: u64) -> bool {
+    fn take_lines(
+        &mut self,
+        alloc: Global,
+        now: &PaneList,
+        closer: &mut Closer,
+        moment: u64,
+    ) -> bool {
         for _ in 0..MOST_LINES {
             if !closer.is_free() || !self.take_line(alloc, now, closer, moment) {
                 return false;
@@ -141,6 +153,47 @@ impl Follower {
             self.waiting.clear();
         }
     }
+}
+
+// Takes those that wait at the socket; those above eight, and those for which there is no memory, are closed.
+fn accept_all(
+    alloc: Global,
+    listener: &UnixListener,
+    registry: &Registry,
+    all: &mut Vec<Follower>,
+) {
+    for _ in 0..8 * MOST_FOLLOWERS {
+        let mut peer = Peer::none();
+        peer.accept(listener, registry);
+        if !peer.is_there() {
+            return;
+        }
+        if all.len() < MOST_FOLLOWERS {
+            // One for which there is no memory may come again.
+            let _ = all.push(Follower::new(alloc, peer));
+        }
+    }
+}
+
+// Tells each program what is new of the panes, does what its lines ask for, and lets those go that left; the next is asked first another
+// time. Tells whether more may be asked for already.
+fn tell_all(
+    alloc: Global,
+    all: &mut Vec<Follower>,
+    now: &PaneList,
+    closer: &mut Closer,
+    moment: u64,
+) -> bool {
+    let mut may_ask = false;
+    for follower in all.iter_mut() {
+        may_ask = follower.take_lines(alloc, now, closer, moment) || may_ask;
+        follower.tell(alloc, now);
+    }
+    all.retain(|follower| follower.peer.is_there());
+    if all.len() > 1 {
+        all.rotate_left(1);
+    }
+    may_ask
 }
 
 /// The socket `panes` of a folder, and the programs that follow the session's panes there.
@@ -178,21 +231,6 @@ impl Followers {
         })
     }
 
-    // Takes those that wait at the socket; those above eight, and those for which there is no memory, are closed.
-    fn accept(&mut self, alloc: Global, registry: &Registry) {
-        for _ in 0..8 * MOST_FOLLOWERS {
-            let mut peer = Peer::none();
-            peer.accept(&self.listener, registry);
-            if !peer.is_there() {
-                return;
-            }
-            if self.all.len() < MOST_FOLLOWERS {
-                // One for which there is no memory may come again.
-                let _ = self.all.push(Follower::new(alloc, peer));
-            }
-        }
-    }
-
     /// Tells the programs what is new of the panes, one that comes all, and does what their lines ask for: a close each time. Those that left
     /// are let go. Tells whether more may be asked for already.
     pub(crate) fn tell(
@@ -206,17 +244,8 @@ impl Followers {
         ensures path { self.new.path ≡ self.old.path }
     {
         closer.settle(now);
-        self.accept(alloc, registry);
-        let mut may_ask = false;
-        for follower in self.all.iter_mut() {
-            may_ask = follower.take_lines(alloc, now, closer, moment) || may_ask;
-            follower.tell(alloc, now);
-        }
-        self.all.retain(|follower| follower.peer.is_there());
-        if self.all.len() > 1 {
-            self.all.rotate_left(1);
-        }
-        may_ask
+        accept_all(alloc, &self.listener, registry, &mut self.all);
+        tell_all(alloc, &mut self.all, now, closer, moment)
     }
 
     /// Removes the socket's file.

@@ -206,8 +206,7 @@ impl<R: Clock + Drop> ServerPorts<R> {
         let longest = wait_until(due, self.moment);
         let is_paced = !flush_udp(&mut self.udp, self.moment);
         let waits = self.waits.is_quiet();
-        self.waits
-            .rest(if is_paced { PACE_WAIT } else { longest });
+        self.waits.rest(if is_paced { PACE_WAIT } else { longest });
         self.look(self.alloc, waits);
     }
 

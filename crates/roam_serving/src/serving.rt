@@ -1,5 +1,5 @@
 //! `roam serve`: a server round its sockets.
-ghost use Rattle.std.specs.Prelude.{◌≡◌, ◌⊎◌, ℕ, Some, Ok, IfErr, IsOkUnless};
+ghost use Rattle.std.specs.Prelude.{◌≡◌, ◌⊎◌, ℕ, min, Some, Ok, IfErr, IsOkUnless};
 ghost use Rattle.roam_session.specs.Lives.{life_of};
 ghost use Rattle.roam_session.specs.Places.{rect_at};
 ghost use Rattle.roam_world.specs.Servers.{Server as ServerOf};
@@ -48,7 +48,14 @@ fn pane_of(server: &Server, pane: u8) -> Option<ListedPane>
     }
 }
 
-// The panes of a server, and the one in focus.
+// A count that is told; there are never so many that it doesn't fit.
+fn count(many: usize) -> u16
+    ensures count { result ≡ min many 65535 }
+{
+    many.min(65_535) as u16
+}
+
+// The panes of a server, the one in focus, and how many client starts it knows.
 fn panes_of(server: &Server) -> PaneList
     ensures panes { (s : ServerOf) → Stands server.now s → ArePanesOf s result }
 {
@@ -57,8 +64,8 @@ fn panes_of(server: &Server) -> PaneList
         panes.set(pane, pane_of(server, pane));
     }
     panes.set_focus(server.focus());
-    panes.set_starts(server.starts() as u16);
-    panes.set_watchers(server.watchers() as u16);
+    panes.set_starts(count(server.starts()));
+    panes.set_watchers(count(server.watchers()));
     panes
 }
 
@@ -116,7 +123,7 @@ fn serve_bound<R: Files + Net + Clock + RandomSource + Eprint + AllocGlobal>(
     session: u64,
     server: &mut Server,
 ) -> Result<(), RunFault>
-    ensures faults { IfErr result (λ fault. (fault ≡ RunFault.Bind) ⊎ (fault ≡ RunFault.Core Fault.OutOfMemory)) }
+    ensures faults { IfErr result (λ fault. (fault ≡ RunFault.Bind) ⊎ (fault ≡ RunFault.Core Fault.OutOfMemory) ⊎ (fault ≡ RunFault.Read)) }
 {
     let alloc = rt.alloc();
     let own = OwnStart {

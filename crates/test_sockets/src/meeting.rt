@@ -11,7 +11,7 @@ use roam_acts::{Act, Key, read_act};
 use roam_hub::{Addr, Client, Server};
 use roam_links::{Moments, loopback};
 use roam_screens::Seen;
-use roam_attaching::{ClientPorts, Link};
+use roam_attaching::{ClientPorts, Connection};
 use roam_serving::{OwnStart, ServerPorts};
 use roam_turns::{Outer, attach_turn, serve_turn};
 use std::alloc::Global;
@@ -183,11 +183,11 @@ fn client_ports<'a>(
 ) -> Result<ClientPorts<&'a HostRuntime, Vec<u8>>, Fail> {
     let painted = Vec::new(rt.alloc());
     if is_stream {
-        let link = Link::connect(rt, rt.alloc(), folder, Moments::Set(0))?;
-        return Ok(ClientPorts::new(link, painted));
+        let connection = Connection::connect(rt, rt.alloc(), folder, Moments::Set(0))?;
+        return Ok(ClientPorts::new(connection, painted));
     }
-    let link = Link::bind(rt, rt.alloc(), Moments::Set(0))?;
-    Ok(ClientPorts::new(link, painted))
+    let connection = Connection::bind(rt, rt.alloc(), Moments::Set(0))?;
+    Ok(ClientPorts::new(connection, painted))
 }
 
 /// A server whose panes are in a folder, and a client start, which reaches it by UDP or over a stream.

@@ -5,7 +5,7 @@
 //! `11 s` stand for the notices of as many seconds; `hears`: a datagram comes to the client start; `is` and what is so then.
 use mio::net::UdpSocket;
 use roam_links::{Moments, loopback};
-use roam_attaching::{ClientPorts, Link};
+use roam_attaching::{ClientPorts, Connection};
 use roam_terminals::End;
 use roam_turns::Ports;
 use std::alloc::Global;
@@ -121,8 +121,8 @@ fn first_undone<'a>(
 // The first line that isn't so of a client start that paints into a pipe.
 fn first_wrong<'a>(rt: &HostRuntime, lines: &'a str) -> Result<Option<&'a str>, Fail> {
     let (mut reader, writer) = pipe(rt)?;
-    let link = Link::bind(rt, rt.alloc(), Moments::Set(0))?;
-    let mut ports = ClientPorts::new(link, writer);
+    let connection = Connection::bind(rt, rt.alloc(), Moments::Set(0))?;
+    let mut ports = ClientPorts::new(connection, writer);
     first_undone(rt, &mut ports, &mut reader, lines)
 }
 
@@ -183,8 +183,8 @@ is given up
 fn first_wrong_unread<'a>(rt: &HostRuntime, lines: &'a str) -> Result<Option<&'a str>, Fail> {
     let (reader, writer) = pipe(rt)?;
     drop(reader);
-    let link = Link::bind(rt, rt.alloc(), Moments::Set(0))?;
-    let mut ports = ClientPorts::new(link, writer);
+    let connection = Connection::bind(rt, rt.alloc(), Moments::Set(0))?;
+    let mut ports = ClientPorts::new(connection, writer);
     let (mut other, _) = pipe(rt)?;
     first_undone(rt, &mut ports, &mut other, lines)
 }
@@ -208,9 +208,9 @@ fn sees_nobody(ports: &mut ClientPorts<&HostRuntime, Vec<u8>>, reader: PipeReade
 fn is_nobody_seen(rt: &HostRuntime) -> Result<bool, Fail> {
     let (reader, writer) = pipe(rt)?;
     let painted = Vec::new(rt.alloc());
-    let mut link = Link::bind(rt, rt.alloc(), Moments::Set(0))?;
-    link.watch(writer.as_raw_fd());
-    let mut ports = ClientPorts::new(link, painted);
+    let mut connection = Connection::bind(rt, rt.alloc(), Moments::Set(0))?;
+    connection.watch(writer.as_raw_fd());
+    let mut ports = ClientPorts::new(connection, painted);
     Ok(sees_nobody(&mut ports, reader))
 }
 

@@ -71,22 +71,26 @@ impl Way {
 
 /// The way of a client start to its server, the clock and the wait: its ports, but that nothing can be shown.
 #[derive(Drop)]
-pub struct Link<R> {
+pub struct Connection<R> {
     moments: Moments<R>,
     moment: u64,
     waits: Waits,
     way: Way,
 }
 
-impl<R: Clock + Drop> Link<R> {
+impl<R: Clock + Drop> Connection<R> {
     /// Binds a port of this machine that is free. `Bind` where none can be bound, `OutOfMemory`.
-    pub fn bind<N: Net>(net: &N, alloc: Global, moments: Moments<R>) -> Result<Link<R>, RunFault>
-        ensures moments { IfOk result (λ link. (link.moments ≡ moments) × (link.moment ≡ 0)) }
+    pub fn bind<N: Net>(
+        net: &N,
+        alloc: Global,
+        moments: Moments<R>,
+    ) -> Result<Connection<R>, RunFault>
+        ensures moments { IfOk result (λ connection. (connection.moments ≡ moments) × (connection.moment ≡ 0)) }
         ensures faults { IfErr result (λ fault. (fault ≡ RunFault.Bind) ⊎ (fault ≡ RunFault.Core Fault.OutOfMemory)) }
     {
         let waits = Waits::new(net, alloc)?;
         let udp = Udp::bind(net, alloc, &waits, 0)?;
-        Ok(Link {
+        Ok(Connection {
             moments,
             moment: 0,
             waits,
@@ -101,8 +105,8 @@ impl<R: Clock + Drop> Link<R> {
         alloc: Global,
         folder: &str,
         moments: Moments<R>,
-    ) -> Result<Link<R>, RunFault>
-        ensures moments { IfOk result (λ link. (link.moments ≡ moments) × (link.moment ≡ 0)) }
+    ) -> Result<Connection<R>, RunFault>
+        ensures moments { IfOk result (λ connection. (connection.moments ≡ moments) × (connection.moment ≡ 0)) }
         ensures faults { IfErr result (λ fault. (fault ≡ RunFault.Connect) ⊎ (fault ≡ RunFault.Bind)
             ⊎ (fault ≡ RunFault.Core Fault.OutOfMemory)) }
     {
@@ -114,7 +118,7 @@ impl<R: Clock + Drop> Link<R> {
         };
         let waits = Waits::new(net, alloc)?;
         waits.report(&mut stream, true);
-        Ok(Link {
+        Ok(Connection {
             moments,
             moment: 0,
             waits,
@@ -191,7 +195,7 @@ impl<R: Clock + Drop> Link<R> {
     }
 }
 
-impl<R: Clock + Drop> Ports for Link<R> {
+impl<R: Clock + Drop> Ports for Connection<R> {
     fn now(&mut self) -> u64
         ensures set { (moment : ℕ) → self.old.moments ≡ Moments.Set moment → result ≡ moment }
         ensures moment { self.new.moment ≡ result }

@@ -1,0 +1,6 @@
+-- What holds of a call whatever it answers holds where that is well.
+use Rattle.std.specs.Prelude.{Result, Ok, Err, OnOk}
+
+pub on_ok : {A E P : Type 0} (r : Result A E) → P → OnOk r P
+on_ok (Ok x) p = p
+on_ok (Err e) p = tt
