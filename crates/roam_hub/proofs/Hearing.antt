@@ -1,11 +1,13 @@
 -- What a client start makes of a datagram.
-use Rattle.std.proofs.Common.{◌≡◌, ◌⊎◌, ℕ, ◌-◌, ◌<◌, ◌^◌, max, List, Option, Some, None, Bool, true, false, inl, inr, refl, sym, ap, ◌∙◌, subst, cond}
-use Rattle.std.specs.Prelude.{Ok, Err, nat_le, nat_lt, is_none, length, drop}
+use Rattle.std.proofs.Common.{◌≡◌, ◌⊎◌, ℕ, ◌-◌, ◌<◌, ◌≤◌, ◌^◌, max, List, Option, Some, None, Bool, true, false, inl, inr, refl, sym, ap, ◌∙◌, subst, cond, arith}
+use Rattle.std.proofs.lemmas.Bool.Decides.{nat_tests}
+use Rattle.std.specs.Prelude.{Result, Ok, Err, IsOk, nat_le, nat_lt, is_none, length, drop}
 use Rattle.std.specs.List.{All}
 use Rattle.std.proofs.lemmas.List.Elements.{All-drop}
 use Rattle.roam_cells.specs.declared.faults.Fault.{Fault}
 use Rattle.roam_cells.specs.declared.faults.Fault.TheVariants.{OutOfMemory, BadSize, TooSmall, NoPane, PanesFull, LastPane, Busy, TooLong, BadDatagram, OtherSession, OtherClient, ClientsFull, BadChange, SendFull, Spent, BadAct, Watching}
-use Rattle.roam_cells.specs.declared.faults.Reason.TheVariants.{Fragment}
+use Rattle.roam_cells.specs.declared.faults.Reason.{Reason}
+use Rattle.roam_cells.specs.declared.faults.Reason.TheVariants.{Fragment, Short}
 use Rattle.roam_screens.specs.Screenshot.{Screenshot}
 use Rattle.roam_acts.specs.Acts.{IsAct}
 use Rattle.roam_acts.specs.Senders.{Typing, acked_to, last_number}
@@ -16,7 +18,8 @@ use Rattle.roam_sync.specs.Lines.{Delivers}
 use Rattle.roam_wire.specs.declared.versions.Version.{Version}
 use Rattle.roam_wire.specs.Datagrams.{DatagramValue, IsDatagram, datagram_text}
 use Rattle.roam_wire.specs.Gatherers.{Gathering, Answer, Whole, gather, fragment_of}
-use Rattle.roam_wire.specs.Headers.{datagram_at, Refuses}
+use Rattle.roam_wire.specs.declared.datagrams.Kind.{Kind}
+use Rattle.roam_wire.specs.Headers.{checked_header, datagram_at, datagram_if, datagram_with, header_at, Refuses}
 use Rattle.roam_wire.specs.Instructions.{DownValue, IsDown, down_text, reason_for}
 use Rattle.roam_world.specs.Moments.{owed_from}
 use Rattle.roam_world.specs.Versions.{applied_by}
@@ -24,6 +27,8 @@ use Rattle.roam_world.specs.Texts.{SaysDown, update_in}
 use Rattle.roam_world.specs.Clients.{Client as ClientOf, moment_of}
 use Rattle.roam_world.specs.ClientArrivals.{arriving, arriving_gathered, hearing_of}
 use Rattle.roam_world.specs.Arrival.{turned_away, noted}
+use Rattle.roam_acts.proofs.Fields.{IsBytes}
+use Rattle.roam_wire.proofs.Heads.{found}
 use Rattle.roam_hub.specs.declared.clients.Heard.{Heard}
 use Rattle.roam_hub.specs.Clients.{ClientView, Stands, hearing_in, Delivered, NotDelivered, unread as not_read, bad_change as bad_change_of, no_memory as wants_memory, IsTextOf, Hears, no_datagram, refused, fragment, unread, bad_change, whole, no_memory}
 
@@ -89,29 +94,45 @@ delivered_number version text old r answer owes new r' t low = go (step_for r t.
 
 -- ---- bytes
 
+-- bytes of which a datagram is read are one's text
+pub text_there : (bytes : List ℕ) → IsBytes bytes → IsOk (datagram_at bytes) → (d : DatagramValue) × IsTextOf bytes d
+text_there bytes fits ok =
+    go (nat_lt (length bytes) 42) refl (checked_header (header_at bytes) (length (drop 42 bytes))) refl ok
+  where
+    go : (b : Bool) → nat_lt (length bytes) 42 ≡ b → (r : Result (Version × Kind) Reason)
+        → checked_header (header_at bytes) (length (drop 42 bytes)) ≡ r
+        → IsOk (cond b (Err Short) (datagram_if (header_at bytes) (drop 42 bytes) r)) → (d : DatagramValue) × IsTextOf bytes d
+    go true f r e there = absurd (cc)
+    go false f (Err why) e there = absurd (cc)
+    go false f (Ok p) e there =
+        let long : 42 ≤ length bytes = grind (arith, nat_tests, f) in
+        let read = found bytes p.0 p.1 long fits e in
+        (datagram_with (header_at bytes) (drop 42 bytes) p.0 p.1, record { is = read.0; spelled = read.1 })
+
 pub not_datagram : (session id : ℕ) (c : ClientOf) (bytes : List ℕ) (now : ℕ) (fault : Fault) (new : ClientView)
-    → Stands new session id c → Refuses (datagram_at bytes) fault
+    → Stands new session id c → IsBytes bytes → Refuses (datagram_at bytes) fault
     → ((d : DatagramValue) → IsDatagram d → bytes ≡ datagram_text d → fault ≡ OutOfMemory) → Hears session id c bytes now (Err fault) new
-not_datagram session id c bytes now OutOfMemory new st why only = no_memory refl st
-not_datagram session id c bytes now (BadDatagram r) new st why only =
+not_datagram session id c bytes now OutOfMemory new st fits why only =
+    let t = text_there bytes fits why in no_memory t.0 t.1 refl st
+not_datagram session id c bytes now (BadDatagram r) new st fits why only =
     no_datagram r
     (record { none = (λ d is t. let z : BadDatagram r ≡ OutOfMemory = only d is t in absurd (cc)); reason = why })
     refl st
-not_datagram session id c bytes now BadSize new st why only = absurd why
-not_datagram session id c bytes now TooSmall new st why only = absurd why
-not_datagram session id c bytes now NoPane new st why only = absurd why
-not_datagram session id c bytes now PanesFull new st why only = absurd why
-not_datagram session id c bytes now LastPane new st why only = absurd why
-not_datagram session id c bytes now Busy new st why only = absurd why
-not_datagram session id c bytes now TooLong new st why only = absurd why
-not_datagram session id c bytes now OtherSession new st why only = absurd why
-not_datagram session id c bytes now OtherClient new st why only = absurd why
-not_datagram session id c bytes now ClientsFull new st why only = absurd why
-not_datagram session id c bytes now BadChange new st why only = absurd why
-not_datagram session id c bytes now SendFull new st why only = absurd why
-not_datagram session id c bytes now Spent new st why only = absurd why
-not_datagram session id c bytes now BadAct new st why only = absurd why
-not_datagram session id c bytes now Watching new st why only = absurd why
+not_datagram session id c bytes now BadSize new st fits why only = absurd why
+not_datagram session id c bytes now TooSmall new st fits why only = absurd why
+not_datagram session id c bytes now NoPane new st fits why only = absurd why
+not_datagram session id c bytes now PanesFull new st fits why only = absurd why
+not_datagram session id c bytes now LastPane new st fits why only = absurd why
+not_datagram session id c bytes now Busy new st fits why only = absurd why
+not_datagram session id c bytes now TooLong new st fits why only = absurd why
+not_datagram session id c bytes now OtherSession new st fits why only = absurd why
+not_datagram session id c bytes now OtherClient new st fits why only = absurd why
+not_datagram session id c bytes now ClientsFull new st fits why only = absurd why
+not_datagram session id c bytes now BadChange new st fits why only = absurd why
+not_datagram session id c bytes now SendFull new st fits why only = absurd why
+not_datagram session id c bytes now Spent new st fits why only = absurd why
+not_datagram session id c bytes now BadAct new st fits why only = absurd why
+not_datagram session id c bytes now Watching new st fits why only = absurd why
 
 -- ---- a datagram
 
@@ -147,7 +168,7 @@ pub not_gathered : (session id : ℕ) (c : ClientOf) (bytes : List ℕ) (now : �
     → (fault ≡ BadDatagram Fragment → gather before.gathering (fragment_of d) ≡ None) → g ≡ before.gathering
     → Hears session id c bytes now (Err fault) (record before { gathering = g })
 not_gathered session id c bytes now before d fault g st is ok (inl e) bad same =
-    no_memory (ap (λ f. Err f) e) (gathers_as session id c before g st same)
+    no_memory d is (ap (λ f. Err f) e) (gathers_as session id c before g st same)
 not_gathered session id c bytes now before d fault g st is ok (inr e) bad same =
     refused d fault is
     (arrives session id c before d None st ok (bad e) ∙ ap turned_away (sym e)) refl (gathers_as session id c before g st same)
@@ -181,7 +202,7 @@ not_delivered session id c bytes now before d fault text g g' version acts r st 
         (sym (ap (λ (x : ClientView). step_for x.receiver v.old v.new v.floor) st) ∙ new)
         (sym (ap (λ (x : ClientView). state_at v.old (pairs x.receiver)) st) ∙ held)
         (subst (λ (x : ClientView). applied_by x.version base v.change ≡ None) st none) (ap (λ x. Err x) f) stays
-    go (wants_memory f) = no_memory (ap (λ x. Err x) f) stays
+    go (wants_memory f) = no_memory d is (ap (λ x. Err x) f) stays
 
 pub is_sent_to : (session id : ℕ) (c : ClientOf) (bytes : List ℕ) (now : ℕ) (before : ClientView) (d : DatagramValue) (h : Heard)
     (text : List ℕ) (g : Gathering) (answer : Step) (newer : Bool) (version : Version) (acts : Typing) (r : Receiving Screenshot)

@@ -8,6 +8,6 @@ pub mod Serving
 pub mod Watchers
 pub mod Recording
 pub mod Addressing
-pub mod Settling
 pub mod Waiting
+pub mod Settling
 pub mod Ticking

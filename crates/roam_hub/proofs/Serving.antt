@@ -28,7 +28,9 @@ use Rattle.roam_world.specs.Lists.{with_value}
 use Rattle.roam_world.specs.Servers.{Record, Server, new_server, moment, after_input}
 use Rattle.roam_world.specs.ServerArrivals.{coming, coming_gathered, is_same, is_full_for, is_of_other, is_else, most_of, arrival_with, heard_from, informed_from, new_acts, after_acts, room_for}
 use Rattle.roam_world.specs.Arrival.{turned_away}
+use Rattle.roam_acts.proofs.Fields.{IsBytes}
 use Rattle.roam_hub.specs.Clients.{IsTextOf}
+use Rattle.roam_hub.proofs.Hearing.{text_there}
 use Rattle.roam_hub.specs.declared.taking.Taking.{Taking}
 use Rattle.roam_hub.specs.Servers.{RecordView, ServerView, kept_of, IsKept, Stands, Feeds, refused, taken, Drains, no_pane, gone, stop_after, Comes, no_datagram, fragment, unread, all_taken, no_room, no_memory_at_act, no_memory}
 use Rattle.roam_hub.specs.Records.{answer_to_datagram, taking, TakesActs, all, full, no_memory as wants_memory, heard_by, informed_by, Notes, fragment as noted_fragment, instruction, NotNoted, no_fragment, unread as not_read, NotesIn, NotNotedIn, room, differs, IsOther, another_version, another_kind, alike_entries, fitted_record, entry_of}
@@ -368,8 +370,8 @@ none_noted v s from bytes d now fault st text admits (room free fits none) = go 
         refused d fault text (comes ∙ ap coming_gathered e ∙ ap turned_away (sym why)) refl st
     go (not_read g whole why e says f) =
         unread d g whole why text (comes ∙ e) says (ap (λ x. stop_after x 0) f) st
-    go (wants_memory f) = no_memory (ap (λ x. stop_after x 0) f) st
-none_noted v s from bytes d now fault st text admits (wants_memory f) = no_memory (ap (λ x. stop_after x 0) f) st
+    go (wants_memory f) = no_memory d text (ap (λ x. stop_after x 0) f) st
+none_noted v s from bytes d now fault st text admits (wants_memory f) = no_memory d text (ap (λ x. stop_after x 0) f) st
 
 pub after_none : (v : ServerView) (s : Server) (from : Address) (bytes : List ℕ) (d : DatagramValue) (now : ℕ) (fault : Fault)
     (state : SessionView) (records : List (ℕ × RecordView)) → Stands v s → IsTextOf bytes d → Admits v d → state ≡ v.state
@@ -390,25 +392,26 @@ not_admitted v s from bytes d now fault st text away = refused d fault text (awa
 -- ---- bytes
 
 pub not_read_datagram : (s : Server) (from : Address) (bytes : List ℕ) (now : ℕ) (fault : Fault) (v : ServerView) → Stands v s
-    → Refuses (datagram_at bytes) fault
+    → IsBytes bytes → Refuses (datagram_at bytes) fault
     → ((d : DatagramValue) → IsDatagram d → bytes ≡ datagram_text d → fault ≡ OutOfMemory) → Comes s from bytes now (answer_to_datagram (Err fault)) v
-not_read_datagram s from bytes now OutOfMemory v st why only = no_memory refl st
-not_read_datagram s from bytes now (BadDatagram r) v st why only =
+not_read_datagram s from bytes now OutOfMemory v st fits why only =
+    let t = text_there bytes fits why in no_memory t.0 t.1 refl st
+not_read_datagram s from bytes now (BadDatagram r) v st fits why only =
     no_datagram r
     (record { none = (λ d is t. let z : BadDatagram r ≡ OutOfMemory = only d is t in absurd (cc)); reason = why })
     refl st
-not_read_datagram s from bytes now BadSize v st why only = absurd why
-not_read_datagram s from bytes now TooSmall v st why only = absurd why
-not_read_datagram s from bytes now NoPane v st why only = absurd why
-not_read_datagram s from bytes now PanesFull v st why only = absurd why
-not_read_datagram s from bytes now LastPane v st why only = absurd why
-not_read_datagram s from bytes now Busy v st why only = absurd why
-not_read_datagram s from bytes now TooLong v st why only = absurd why
-not_read_datagram s from bytes now OtherSession v st why only = absurd why
-not_read_datagram s from bytes now OtherClient v st why only = absurd why
-not_read_datagram s from bytes now ClientsFull v st why only = absurd why
-not_read_datagram s from bytes now BadChange v st why only = absurd why
-not_read_datagram s from bytes now SendFull v st why only = absurd why
-not_read_datagram s from bytes now Spent v st why only = absurd why
-not_read_datagram s from bytes now BadAct v st why only = absurd why
-not_read_datagram s from bytes now Watching v st why only = absurd why
+not_read_datagram s from bytes now BadSize v st fits why only = absurd why
+not_read_datagram s from bytes now TooSmall v st fits why only = absurd why
+not_read_datagram s from bytes now NoPane v st fits why only = absurd why
+not_read_datagram s from bytes now PanesFull v st fits why only = absurd why
+not_read_datagram s from bytes now LastPane v st fits why only = absurd why
+not_read_datagram s from bytes now Busy v st fits why only = absurd why
+not_read_datagram s from bytes now TooLong v st fits why only = absurd why
+not_read_datagram s from bytes now OtherSession v st fits why only = absurd why
+not_read_datagram s from bytes now OtherClient v st fits why only = absurd why
+not_read_datagram s from bytes now ClientsFull v st fits why only = absurd why
+not_read_datagram s from bytes now BadChange v st fits why only = absurd why
+not_read_datagram s from bytes now SendFull v st fits why only = absurd why
+not_read_datagram s from bytes now Spent v st fits why only = absurd why
+not_read_datagram s from bytes now BadAct v st fits why only = absurd why
+not_read_datagram s from bytes now Watching v st fits why only = absurd why

@@ -9,6 +9,8 @@ use Rattle.roam_world.specs.Moments.{is_spent}
 use Rattle.roam_world.specs.Texts.{Address}
 use Rattle.roam_world.proofs.Keeps.{not_past, or_left, or_right}
 use Rattle.roam_hub.specs.Servers.{RecordView}
+use Rattle.roam_hub.specs.Waits.{is_record_due, is_entry_due}
+use Rattle.roam_hub.proofs.Waiting.{or_second}
 use Rattle.roam_hub.specs.Records.{fragments_due, is_instruction_spent, is_sent_to, fragments_sent, parcels_for, settled_with, HasNumbersFor, held_record, texts_for, is_entry_spent, settled_entry}
 
 -- ---- places
@@ -132,6 +134,21 @@ pub first_spent : (es : List (ℕ × RecordView)) (k : ℕ) (e : ℕ × RecordVi
 first_spent es k e n s now at spent =
     ap (list_any (is_entry_spent n s now)) (drop_next es k e at)
     ∙ ap (λ c. c || list_any (is_entry_spent n s now) (drop (suc k) es)) spent
+
+-- the first is due
+pub first_due : (es : List (ℕ × RecordView)) (k : ℕ) (e : ℕ × RecordView) (n now : ℕ) → slice_get es k ≡ Some e
+    → is_record_due e.1 n now ≡ true → list_any (is_entry_due n now) (drop k es) ≡ true
+first_due es k e n now at due =
+    ap (list_any (is_entry_due n now)) (drop_next es k e at) ∙ ap (λ c. c || list_any (is_entry_due n now) (drop (suc k) es)) due
+
+-- one after the first is due
+pub later_due : (es : List (ℕ × RecordView)) (k : ℕ) (e : ℕ × RecordView) (w : RecordView) (n now : ℕ) → slice_get es k ≡ Some e
+    → list_any (is_entry_due n now) (drop (k + 1) (set_value_at es k w)) ≡ true → list_any (is_entry_due n now) (drop k es) ≡ true
+later_due es k e w n now at due =
+    ap (list_any (is_entry_due n now)) (drop_next es k e at)
+    ∙ or_second (is_record_due e.1 n now) (list_any (is_entry_due n now) (drop (suc k) es))
+    (sym (ap (list_any (is_entry_due n now)) (drop_set es k w))
+    ∙ sym (ap (λ (j : ℕ). list_any (is_entry_due n now) (drop j (set_value_at es k w))) (next_is k)) ∙ due)
 
 pub set_nothing : (es : List (ℕ × RecordView)) (k x : ℕ) (v w : RecordView) → slice_get es k ≡ Some (x, v) → w ≡ v
     → set_value_at es k w ≡ es

@@ -65,9 +65,12 @@ pub not_sent : (session id : ℕ) (c : ClientOf) (now : ℕ) (before : ClientVie
     → Stands before session id c
     → moment ≡ max now before.clock → due ≡ is_client_due (bare before) moment → due ≡ true
     → (fault ≡ OutOfMemory) ⊎ ((fault ≡ Spent) × (is_view_spent before ≡ true))
+    → (fault ≡ OutOfMemory → is_spent (before.acts.acked + 1) ≡ false)
     → Sends session id c now (Err fault) before
-not_sent session id c now before moment due fault st m e f (inl memory) = no_memory (ap (λ x. Err x) memory) st
-not_sent session id c now before moment due fault st m e f (inr s) =
+not_sent session id c now before moment due fault st m e f (inl memory) first =
+    no_memory (due_is session id c now before moment due st m e ∙ f)
+    (sym (ap (λ (v : ClientView). is_spent (v.acts.acked + 1)) st) ∙ first memory) (ap (λ x. Err x) memory) st
+not_sent session id c now before moment due fault st m e f (inr s) first =
     spent (due_is session id c now before moment due st m e ∙ f) (sym (ap is_view_spent st) ∙ s.1) (ap (λ x. Err x) s.0) st
 
 -- as many datagrams as fragments

@@ -26,9 +26,10 @@ use Rattle.roam_world.specs.Texts.{Address, datagrams_of}
 use Rattle.roam_world.specs.Servers.{Record, no_record, Server, moment}
 use Rattle.roam_world.specs.Ticks.{makes, cuts_after, number_after, screen_after, screen_to, holds_after, sends, down_from, down_to, fragments_to, after_sent, ticked_record, datagrams_to, is_record_spent, Parcel, parcel, parcels_to, sent_by, after_tick}
 use Rattle.roam_hub.specs.declared.addresses.Addr.{Addr}
-use Rattle.roam_hub.specs.Servers.{RecordView, ServerView, kept_of, IsKept, AreKept, Stands, parcels_of, parcel_text, is_ack_spent, is_number_spent, Ticks, spent, ticked as did_tick, no_memory}
+use Rattle.roam_hub.specs.Servers.{RecordView, ServerView, kept_of, IsKept, AreKept, Stands, parcels_of, parcel_text, is_touched, is_server_due, is_ack_spent, is_number_spent, Ticks, spent, ticked as did_tick, no_memory}
 use Rattle.roam_hub.specs.Records.{bare, is_sent_to, fragments_sent, settled_with, held_record, texts_for, is_entry_spent, settled_entry, makes_at, sent_by_tick, ticked_by, is_any_spent}
-use Rattle.roam_hub.proofs.Waiting.{makes_is}
+use Rattle.roam_hub.specs.Waits.{is_entry_due}
+use Rattle.roam_hub.proofs.Waiting.{due_is, makes_is}
 
 -- ---- one record
 
@@ -317,6 +318,12 @@ spent_at : (s : Server) (now m : ℕ) (fault : Fault) (new : ServerView) → m �
     → Stands new s → Ticks s now (Err fault) new
 spent_at s now m fault new at full why st = spent (subst (λ (k : ℕ). is_number_spent s k ≡ true) at full) (ap (λ x. Err x) why) st
 
+wants_at : (s : Server) (now m : ℕ) (fault : Fault) (new : ServerView) → m ≡ moment s now → is_server_due s m ≡ true
+    → (makes s m && is_spent (number_after s m)) ≡ false → fault ≡ OutOfMemory → Stands new s → Ticks s now (Err fault) new
+wants_at s now m fault new at due free why st =
+    no_memory (subst (λ (k : ℕ). is_server_due s k ≡ true) at due)
+    (subst (λ (k : ℕ). (makes s k && is_spent (number_after s k)) ≡ false) at free) (ap (λ x. Err x) why) st
+
 module _ (v : ServerView) (s : Server) (now m : ℕ) (st : Stands v s) (at : m ≡ max now v.clock) where
   at_moment : m ≡ moment s now
   at_moment = at ∙ ap (λ (c : ℕ). max now c) st.clock
@@ -347,20 +354,27 @@ module _ (v : ServerView) (s : Server) (now m : ℕ) (st : Stands v s) (at : m �
         || list_any (is_ack_spent s m) s.arrival) none_made
         ∙ sym (spent_are v s v.made v.screen m st number_told screen_told some_told)
 
+    due_told : list_any (is_entry_due v.made m) v.records ≡ true → is_server_due s m ≡ true
+    due_told due =
+        due_is v s m st ∙ ap (λ b. b || list_any (is_entry_due v.made m) v.records) unmade ∙ due
+
     pub ticks_sent : (r : Result (Vec (Addr × Vec ℕ Global) Global) Fault) (new : ServerView)
         → IfOk r (λ all. parcels_of all.items ≡ sent_by_tick v v.made v.screen m)
         → OnOk r (new ≡ record (ticked_by v v.made v.screen m) { clock = m })
         → OnOk r (is_any_spent v v.made v.screen m ≡ false)
         → IfErr r (λ fault. (fault ≡ OutOfMemory) ⊎ ((fault ≡ Spent) × (is_any_spent v v.made v.screen m ≡ true)))
+        → OnErr r (list_any (is_entry_due v.made m) v.records ≡ true)
         → OnErr r (new ≡ v) → Ticks s now r new
-    ticks_sent (Ok all) new texts is free fault err =
+    ticks_sent (Ok all) new texts is free fault memory err =
         ticks_at s now m all new at_moment (spent_told ∙ free)
         (texts ∙ parcels_are v s v.made v.screen m st number_told screen_told some_told)
         (subst (λ (x : ServerView). Stands x (after_tick s m)) (sym is)
         (stands_told v s v.made v.screen m st number_told screen_told some_told none_made refl refl))
-    ticks_sent (Err why) new texts is free fault err =
+    ticks_sent (Err why) new texts is free fault memory err =
         elim fault [
-          | inl memory ↦ no_memory (ap (λ x. Err x) memory) (subst (λ (x : ServerView). Stands x s) (sym err) st)
+          | inl none ↦
+              wants_at s now m why new at_moment (due_told memory) (ap (λ b. b && is_spent (number_after s m)) none_made) none
+              (subst (λ (x : ServerView). Stands x s) (sym err) st)
           | inr full ↦
               spent_at s now m why new at_moment (spent_told ∙ full.1) full.0 (subst (λ (x : ServerView). Stands x s) (sym err) st)
         ]
@@ -411,16 +425,20 @@ module _ (v : ServerView) (s : Server) (now m : ℕ) (st : Stands v s) (at : m �
         × (is_spent (v.made + 1) ≡ false))
         → IfErr r (λ fault. (fault ≡ OutOfMemory) ⊎ ((fault ≡ Spent) × ((is_spent (v.made + 1)
         || is_any_spent v (v.made + 1) (face s.size s.log) m) ≡ true)))
+        → (r ≡ Err OutOfMemory → is_spent (v.made + 1) ≡ false)
         → OnErr r (new ≡ v) → Ticks s now r new
-    ticks_made (Ok all) new ok fault err =
+    ticks_made (Ok all) new ok fault memory err =
         ticks_at s now m all new at_moment
         (spent_made ∙ (λ i. ok.4 i || ok.3 i))
         (ok.0 ∙ parcels_are v s (v.made + 1) (face s.size s.log) m st number_made face_made some_made)
         (subst (λ (x : ServerView). Stands x (after_tick s m)) (sym ok.1)
         (stands_made v s (v.made + 1) (face s.size s.log) m st number_made face_made some_made is_made))
-    ticks_made (Err why) new ok fault err =
+    ticks_made (Err why) new ok fault memory err =
         elim fault [
-          | inl memory ↦ no_memory (ap (λ x. Err x) memory) (subst (λ (x : ServerView). Stands x s) (sym err) st)
+          | inl none ↦
+              wants_at s now m why new at_moment (ap (λ b. b || list_any (is_touched s m) s.arrival) is_made)
+              (ap (λ b. b && is_spent (number_after s m)) is_made ∙ ap is_spent (sym number_made) ∙ memory (ap (λ x. Err x) none)) none
+              (subst (λ (x : ServerView). Stands x s) (sym err) st)
           | inr full ↦
               spent_at s now m why new at_moment (spent_made ∙ full.1) full.0 (subst (λ (x : ServerView). Stands x s) (sym err) st)
         ]

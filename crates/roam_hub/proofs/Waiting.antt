@@ -11,9 +11,10 @@ use Rattle.roam_sync.specs.Senders.{newest, count, offered, is_due}
 use Rattle.roam_world.specs.Moments.{has_passed, is_overdue, is_spent}
 use Rattle.roam_world.specs.Servers.{Record, no_record, Server, moment}
 use Rattle.roam_world.specs.Ticks.{makes, cuts_after, number_after, screen_to, is_offered, holds_after, sends, after_sent, ticked_record, datagrams_to, is_record_spent, Parcel, parcel, parcels_to, sent_by, after_tick}
+use Rattle.roam_world.specs.Versions.{seen_by}
 use Rattle.roam_world.proofs.Keeps.{or_left, or_right}
 use Rattle.roam_hub.specs.Servers.{RecordView, ServerView, kept_of, AreKept, Stands, is_touched, is_server_due, is_ack_spent}
-use Rattle.roam_hub.specs.Records.{makes_at}
+use Rattle.roam_hub.specs.Records.{held_record, is_sent_to, makes_at}
 use Rattle.roam_hub.specs.Waits.{has_come, PassesFrom, is_record_due, is_entry_due, IsQuiet}
 
 -- ---- one record
@@ -47,6 +48,32 @@ same_record r n s m free quiet =
     ap (λ b. cond b (after_sent r n s m) (record r { sender = holds_after r n s m })) quiet
     ∙ ap (λ b. record r { sender = cond b (offered r.sender n s) r.sender }) free
 
+-- one that is offered a number is due
+pub offered_due : (v : RecordView) (n now : ℕ)
+    → (nat_lt now (v.heard_at + 60000) && nat_lt (newest v.sender).number n && nat_lt (count v.sender) 8) ≡ true
+    → is_record_due v n now ≡ true
+offered_due v n now e = go (nat_lt now (v.heard_at + 60000)) (nat_lt (newest v.sender).number n) (nat_lt (count v.sender) 8) e
+  where
+    go : (l a b : Bool) → (l && a && b) ≡ true → (l && ((a && b) || (is_due v.sender now || is_overdue v.owed now))) ≡ true
+    go false a b f = absurd (cc)
+    go true false b f = absurd (cc)
+    go true true false f = absurd (cc)
+    go true true true f = refl
+
+-- one that is sent to once it was offered a number, or wasn't, is due
+pub held_due : (v : RecordView) (n : ℕ) (s : Screenshot) (now : ℕ) → is_sent_to (held_record v n s now) now ≡ true
+    → is_record_due v n now ≡ true
+unfolding holds_after
+held_due v n s now e = go (nat_lt now (v.heard_at + 60000)) (nat_lt (newest v.sender).number n) (nat_lt (count v.sender) 8) e
+  where
+    go : (l a b : Bool)
+        → ((true && l) && (is_due (cond ((true && l) && a && b) (offered v.sender n (seen_by v.version s)) v.sender) now || is_overdue v.owed now)) ≡ true
+        → (l && ((a && b) || (is_due v.sender now || is_overdue v.owed now))) ≡ true
+    go false a b f = absurd (cc)
+    go true false b f = f
+    go true true false f = f
+    go true true true f = refl
+
 -- ---- all records
 
 all_touched : (n m : ℕ) (seen : ℕ → Screenshot) (es : List (ℕ × RecordView)) (records : ℕ → Record) → AreKept es records
@@ -79,7 +106,7 @@ flat_none : (f : ℕ → List Parcel) → ((id : ℕ) → f id ≡ []) → (ids 
 flat_none f none [] = refl
 flat_none f none (id ∷ ids) = λ i. none id i ++ flat_none f none ids i
 
-or_second : (a b : Bool) → b ≡ true → (a || b) ≡ true
+pub or_second : (a b : Bool) → b ≡ true → (a || b) ≡ true
 or_second true b e = refl
 or_second false b e = e
 

@@ -141,7 +141,7 @@ module _ (s : Server) (from : Address) (bytes : List ℕ) (now : ℕ) (result : 
       let none = none_new d text u is says in
       let z = no_reach d u none in
       without_acts d (s.records d.client).gathering u n is none (omega (arith, low, z)) (ap taken_in r) st
-  takes_nothing (no_memory r st) = as_it_was (ap taken_in r) st
+  takes_nothing (no_memory d is r st) = as_it_was (ap taken_in r) st
 
 -- ---- a refusal
 

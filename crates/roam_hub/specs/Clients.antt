@@ -109,7 +109,8 @@ pub data Types (session id : ℕ) (c : ClientOf) (act : Act) (result : Result (U
   spent : c.watches ≡ false → IsSpent c.acts → result ≡ Err Spent → Stands new session id c → Types session id c act result new
   typed : c.watches ≡ false → (IsFull c.acts → ⊥) → (IsSpent c.acts → ⊥) → result ≡ Ok tt
       → Stands new session id (after_typed c act) → Types session id c act result new
-  no_memory : result ≡ Err OutOfMemory → Stands new session id c → Types session id c act result new
+  no_memory : c.watches ≡ false → (IsFull c.acts → ⊥) → (IsSpent c.acts → ⊥) → result ≡ Err OutOfMemory → Stands new session id c
+      → Types session id c act result new
 
 -- several acts were typed, one after another
 abbrev pub after_typed_all : ClientOf → List Act → ClientOf
@@ -158,7 +159,7 @@ pub record IsTextOf (bytes : List ℕ) (d : DatagramValue) : Type 0 where
   pub spelled : bytes ≡ datagram_text d
 
 -- Bytes come: they are no datagram; it is refused; it makes no instruction whole; its instruction can't be read; its change is bad; the
--- receiver hears its update; or memory is wanting.
+-- receiver hears its update; or memory is wanting for a datagram.
 pub data Hears (session id : ℕ) (c : ClientOf) (bytes : List ℕ) (now : ℕ) (result : Result Heard Fault) (new : ClientView)
     : Type 0 where
   no_datagram : (why : Reason) → IsNoDatagram bytes why → result ≡ Err (BadDatagram why) → Stands new session id c
@@ -180,7 +181,8 @@ pub data Hears (session id : ℕ) (c : ClientOf) (bytes : List ℕ) (now : ℕ) 
       → Delivers (applied_by c.version) c.receiver (update_in v) r
       → result ≡ Ok h → hearing_in h ≡ hearing_of (step_of c v)
       → Stands new session id (after_whole c (moment_of c now) g r v) → Hears session id c bytes now result new
-  no_memory : result ≡ Err OutOfMemory → Stands new session id c → Hears session id c bytes now result new
+  no_memory : (d : DatagramValue) → IsTextOf bytes d → result ≡ Err OutOfMemory → Stands new session id c
+      → Hears session id c bytes now result new
 
 -- A tick: nothing is due; numbers are spent; the datagrams are answered in their order; or memory is wanting.
 pub data Sends (session id : ℕ) (c : ClientOf) (now : ℕ) (result : Result (Vec (Vec ℕ Global) Global) Fault) (new : ClientView)
@@ -193,4 +195,5 @@ pub data Sends (session id : ℕ) (c : ClientOf) (now : ℕ) (result : Result (V
   sent : (all : Vec (Vec ℕ Global) Global) → is_client_due c (moment_of c now) ≡ true → is_client_spent c ≡ false
       → result ≡ Ok all → texts_of all.items ≡ map datagram_text (datagrams_from session id c)
       → Stands new session id (after_sending c (moment_of c now)) → Sends session id c now result new
-  no_memory : result ≡ Err OutOfMemory → Stands new session id c → Sends session id c now result new
+  no_memory : is_client_due c (moment_of c now) ≡ true → is_spent (c.acts.acked + 1) ≡ false → result ≡ Err OutOfMemory
+      → Stands new session id c → Sends session id c now result new

@@ -151,7 +151,8 @@ pub data Comes (s : Server) (from : Address) (bytes : List ℕ) (now : ℕ) (res
       → coming s d ≡ completed g text → SaysUp (is_watching d.kind) text u → n < room_for s d u
       → result ≡ stop_after OutOfMemory n
       → Stands new (after_acts s d from (moment s now) (s.records d.client).gathering u n) → Comes s from bytes now result new
-  no_memory : result ≡ stop_after OutOfMemory 0 → Stands new s → Comes s from bytes now result new
+  no_memory : (d : DatagramValue) → IsTextOf bytes d → result ≡ stop_after OutOfMemory 0 → Stands new s
+      → Comes s from bytes now result new
 
 -- the bytes tell the kind of a datagram from a start that only watches, whatever else they are
 abbrev pub ComesFromWatcher : List ℕ → Type 0
@@ -205,4 +206,5 @@ pub data Ticks (s : Server) (now : ℕ) (result : Result (Vec (Addr × Vec ℕ G
   ticked : (all : Vec (Addr × Vec ℕ Global) Global) → is_number_spent s (moment s now) ≡ false
       → result ≡ Ok all → parcels_of all.items ≡ map parcel_text (sent_by s (moment s now))
       → Stands new (after_tick s (moment s now)) → Ticks s now result new
-  no_memory : result ≡ Err OutOfMemory → Stands new s → Ticks s now result new
+  no_memory : is_server_due s (moment s now) ≡ true → (makes s (moment s now) && is_spent (number_after s (moment s now))) ≡ false
+      → result ≡ Err OutOfMemory → Stands new s → Ticks s now result new

@@ -1,5 +1,5 @@
 //! A client start: what is typed there, what it hears, what it sends.
-ghost use Rattle.std.specs.Prelude.{◌≡◌, ◌⊎◌, ◌↔◌, ◌<◌, ◌≤◌, ◌^◌, true, false, not, length, map, ℕ, List, [], IsTrue, IfOk, IfErr, IfSome, OnOk, OnErr, IsOkUnless, if◌then◌else◌};
+ghost use Rattle.std.specs.Prelude.{◌≡◌, ◌+◌, ◌⊎◌, ◌↔◌, ◌<◌, ◌≤◌, ◌^◌, true, false, not, length, map, ℕ, List, [], IsTrue, IfOk, IfErr, IfSome, OnOk, OnErr, IsErrOf, IsOkUnless, if◌then◌else◌};
 ghost use Rattle.std.specs.List.{All};
 ghost use Rattle.roam_acts.specs.Acts.{HasKey, IsInRange};
 ghost use Rattle.roam_acts.specs.Limits.{most_unacknowledged};
@@ -8,6 +8,7 @@ ghost use Rattle.roam_wire.specs.Cutting.{texts_of};
 ghost use Rattle.roam_screens.specs.Shown.{shown_by};
 ghost use Rattle.roam_wire.specs.Gatherers.{gather, fragment_of};
 ghost use Rattle.roam_wire.specs.declared.versions.Version.TheVariants.{One, Two};
+ghost use Rattle.roam_world.specs.Moments.{is_spent};
 ghost use Rattle.roam_world.specs.Sendings.{is_client_due, last_waiting};
 ghost use Rattle.roam_world.specs.Clients.{Client as ClientOf, moment_of, new_client, shown_number, shown_screen};
 ghost use Rattle.roam_world.specs.Texts.{kind_from, is_to_server};
@@ -390,6 +391,7 @@ impl Client {
         ensures fit { OnOk result (is_view_spent self.now ≡ false) }
         ensures fault { IfErr result (λ fault. (fault ≡ Fault.OutOfMemory)
             ⊎ ((fault ≡ Fault.Spent) × (is_view_spent self.now ≡ true))) }
+        ensures memory { IsErrOf result Fault.OutOfMemory → is_spent (self.now.acts.acked + 1) ≡ false }
     {
         let (first, acts) = self.acts.waiting();
         if first >= NUMBER_LIMIT {

@@ -119,7 +119,7 @@ fn may_be_offered(sender: &AnySender, heard_at: u64, number: u64, now: u64) -> b
     ensures offered { result ≡ (nat_lt now (heard_at + forget_after) && nat_lt (newest (sending_of sender.now)).number number
         && nat_lt (count (sending_of sender.now)) most_held) }
 {
-    is_heard(heard_at, now) && sender.newest_number() < number && sender.len() < MOST_HELD
+    is_heard(heard_at, now) && has_room_for(sender, number)
 }
 
 // Whether a start is sent to: it was heard of late, and its sender is due or an answer is overdue.
@@ -296,6 +296,7 @@ impl Record {
         ensures back { IfOk result (λ offered. back_from self.new offered ≡ self.old) }
         ensures kept { IfSome kept.new (λ old. old ≡ narrow screen.now) }
         ensures fault { IsOkUnless result Fault.OutOfMemory }
+        ensures memory { OnErr result (is_record_due self.old number now ≡ true) }
         ensures err { OnErr result (self.new ≡ self.old) }
     {
         if !may_be_offered(&self.sender, self.heard_at, number, now) {
@@ -365,6 +366,7 @@ impl Record {
         ensures fit { OnOk result ((is_sent_to self.now news.now && is_instruction_spent self.now) ≡ false) }
         ensures fault { IfErr result (λ fault. (fault ≡ Fault.OutOfMemory)
             ⊎ ((fault ≡ Fault.Spent) × ((is_sent_to self.now news.now && is_instruction_spent self.now) ≡ true))) }
+        ensures memory { OnErr result (is_sent_to self.now news.now ≡ true) }
     {
         if !is_sent_to(&self.sender, self.heard_at, self.owed, news.now) {
             return Ok(None);
@@ -401,6 +403,7 @@ impl Record {
         ensures fit { OnOk result (is_entry_spent news.number screen.now news.now (client, self.old) ≡ false) }
         ensures fault { IfErr result (λ fault. (fault ≡ Fault.OutOfMemory)
             ⊎ ((fault ≡ Fault.Spent) × (is_entry_spent news.number screen.now news.now (client, self.old) ≡ true))) }
+        ensures memory { OnErr result (is_record_due self.old news.number news.now ≡ true) }
         ensures kept { IfSome kept.new (λ old. old ≡ narrow screen.now) }
         ensures err { OnErr result (self.new ≡ self.old) }
     {

@@ -4,6 +4,7 @@ ghost use Rattle.std.specs.List.{flat_map, list_any};
 ghost use Rattle.roam_screens.specs.Narrow.{narrow};
 ghost use Rattle.roam_hub.specs.Servers.{parcels_of};
 ghost use Rattle.roam_hub.specs.Records.{texts_for, is_entry_spent, settled_entry};
+ghost use Rattle.roam_hub.specs.Waits.{is_entry_due};
 ghost use Rattle.roam_acts.specs.Limits.{number_limit};
 
 use crate::addresses::Addr;
@@ -37,6 +38,7 @@ pub fn send_from(
     ensures fit { OnOk result (list_any (is_entry_spent news.number screen.now news.now) (drop at records.old.entries) ≡ false) }
     ensures fault { IfErr result (λ fault. (fault ≡ Fault.OutOfMemory) ⊎ ((fault ≡ Fault.Spent)
         × (list_any (is_entry_spent news.number screen.now news.now) (drop at records.old.entries) ≡ true))) }
+    ensures memory { OnErr result (list_any (is_entry_due news.number news.now) (drop at records.old.entries) ≡ true) }
     ensures err { OnErr result (records.new.entries ≡ records.old.entries) }
     ensures kept { IfSome kept.new (λ old. old ≡ narrow screen.now) }
 {

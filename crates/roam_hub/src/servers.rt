@@ -8,6 +8,8 @@ ghost use Rattle.roam_session.specs.Places.{focus_at, rect_at};
 ghost use Rattle.roam_session.specs.Stands.{waiting_at};
 ghost use Rattle.roam_session.specs.Queues.{IsWithin, IsCopied};
 ghost use Rattle.roam_session.specs.Refusals.{fault_of, none_refused, output_at};
+ghost use Rattle.std.specs.List.{list_any};
+ghost use Rattle.roam_world.specs.Moments.{is_spent};
 ghost use Rattle.roam_world.specs.Servers.{Server as ServerOf, moment, new_server};
 ghost use Rattle.roam_wire.specs.Datagrams.{datagram_value};
 ghost use Rattle.roam_world.specs.Texts.{is_to_server as is_to_server_kind};
@@ -15,7 +17,7 @@ ghost use Rattle.roam_world.specs.ServerArrivals.{alike as alike_of, coming};
 ghost use Rattle.roam_world.specs.Arrival.{turned_away};
 ghost use Rattle.roam_hub.specs.Servers.{Stands, Feeds, Drains, Comes, Ticks, ComesFromWatcher, TakesNothing, IsStopAtAct, is_server_due, address_of, parcels_of};
 ghost use Rattle.roam_hub.specs.Records.{answer_to_datagram, makes_at, sent_by_tick, ticked_by, is_any_spent, Numbers, is_numbering_spent};
-ghost use Rattle.roam_hub.specs.Waits.{has_come, PassesFrom, IsQuiet};
+ghost use Rattle.roam_hub.specs.Waits.{has_come, PassesFrom, is_entry_due, IsQuiet};
 ghost use Rattle.roam_term.specs.Limits.{most_output};
 
 use crate::addresses::{Addr, Stop};
@@ -315,6 +317,7 @@ impl Server {
         ensures fit { OnOk result (is_any_spent self.old self.old.made self.old.screen now ≡ false) }
         ensures fault { IfErr result (λ fault. (fault ≡ Fault.OutOfMemory) ⊎ ((fault ≡ Fault.Spent)
             × (is_any_spent self.old self.old.made self.old.screen now ≡ true))) }
+        ensures memory { OnErr result (list_any (is_entry_due self.old.made now) self.old.records ≡ true) }
         ensures err { OnErr result (self.new ≡ self.old) }
     {
         let news = News {
@@ -343,6 +346,7 @@ impl Server {
             → Numbers self.old (face s.size s.log) now (parcels_of all.items) self.new) }
         ensures fault { (s : ServerOf) → Stands self.old s → IfErr result (λ fault. (fault ≡ Fault.OutOfMemory)
             ⊎ ((fault ≡ Fault.Spent) × (is_numbering_spent self.old (face s.size s.log) now ≡ true))) }
+        ensures memory { IsErrOf result Fault.OutOfMemory → is_spent (self.old.made + 1) ≡ false }
         ensures err { OnErr result (self.new ≡ self.old) }
     {
         let number = self.made + 1;

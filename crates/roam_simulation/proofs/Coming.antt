@@ -124,7 +124,7 @@ steps_come v w n from now bytes result view st l one known comes = go comes
               stands_served v w view (after_acts w.server d from (moment w.server now) (w.server.records d.client).gathering u k) st refl
               stands;
         }
-    go (server.no_memory e stands) =
+    go (server.no_memory x is e stands) =
         record { left = w; step = no_memory (ap taken_by e) refl; stands = stands_serving v w view st stands }
 
 -- ---- to a client start
@@ -182,5 +182,5 @@ steps_heard v w slot n now bytes result c c' st l one known lt at hears = go (he
           step = whole i.id d g said x r i.at (read d text) a says told (ap heard_by e ∙ ap (λ (y : Hearing). Heard y) is) refl;
           stands = stands_put v w slot c c' (after_whole (w.clients i.id) (moment_of (w.clients i.id) now) g r x) st lt i i.made stands;
         }
-    go (client.no_memory e stands) =
+    go (client.no_memory x is e stands) =
         record { left = w; step = no_memory (ap heard_by e) refl; stands = stands_kept v w slot c c' st lt i stands }

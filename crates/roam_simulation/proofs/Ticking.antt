@@ -108,7 +108,7 @@ steps_not_ticked v w now fault server st t l (ticks_spent s e stands) =
       stands = stands_serving v w server st stands;
     }
 steps_not_ticked v w now fault server st t l (ticks_ticked all s e p stands) = absurd (cc)
-steps_not_ticked v w now fault server st t l (ticks_no_memory e stands) =
+steps_not_ticked v w now fault server st t l (ticks_no_memory due free e stands) =
     record {
       left = w;
       step = no_memory (let f : fault ≡ OutOfMemory = cc in ap (λ x. Failed x) f) refl;
@@ -120,7 +120,7 @@ pub steps_ticked : (v : WorldView) (w : World) (now : ℕ) (all : Vec (Addr × V
     → texts ≡ v.sent ++ texts_in (FromServer all) → first ≡ length v.sent + 1 → count ≡ length (texts_in (FromServer all))
     → Steps w (ServerTick now) (Sent first count) (record v { server = server; sent = texts })
 steps_ticked v w now all server texts first count st t l (ticks_spent s e stands) more is many = absurd (cc)
-steps_ticked v w now all server texts first count st t l (ticks_no_memory e stands) more is many = absurd (cc)
+steps_ticked v w now all server texts first count st t l (ticks_no_memory due free e stands) more is many = absurd (cc)
 steps_ticked v w now all server texts first count st t l (ticks_ticked every s e p stands) more is many =
     record {
       left = after_server_tick w (moment w.server now);
@@ -175,7 +175,7 @@ steps_not_sent v w slot now fault c c' st lt at sends = go (sends w.server.sessi
           stands = stands_kept v w slot c c' st lt s stands;
         }
     go (sends_sent all d p e t stands) = absurd (cc)
-    go (sends_no_memory e stands) =
+    go (sends_no_memory due free e stands) =
         record {
           left = w;
           step = no_memory (let f : fault ≡ OutOfMemory = cc in ap (λ x. Failed x) f) refl;
@@ -242,4 +242,4 @@ steps_sent v w slot now all c c' texts first count st lt at sends more is many =
 
         size : count ≡ length (datagrams_from w.server.session s.id (w.clients s.id))
         size = many ∙ lengthened (datagrams_from w.server.session s.id (w.clients s.id)) (texts_in (FromClient all)) told
-    go (sends_no_memory e stands) = absurd (cc)
+    go (sends_no_memory due free e stands) = absurd (cc)

@@ -34,7 +34,7 @@ steps_typed v w slot act result c c' st lt at types = go (types w.server.session
           step = typed s.id s.at n nf ns (ap done_by e) refl;
           stands = stands_put v w slot c c' (after_typed (w.clients s.id) act) st lt s s.made stands;
         }
-    go (types_no_memory e stands) =
+    go (types_no_memory edits room low e stands) =
         record { left = w; step = no_memory (ap done_by e) refl; stands = stands_kept v w slot c c' st lt s stands }
 
 pub steps_untyped : (v : WorldView) (w : World) (slot : ℕ) (act : Act) → Stands v w → start_in v.slots slot ≡ None

@@ -307,7 +307,7 @@ module _ (session id n : ℕ) (c : Client) (r : Record) (shot : Screenshot) (rea
             };
             gathering = p.0;
           }
-      go (no_memory e st) = absurd (fine e)
+      go (no_memory d is e st) = absurd (fine e)
 
   -- ---- all deliveries
 

@@ -101,7 +101,7 @@ pub texts_sent : (s : Server) (now : ℕ) (result : Result (Vec (Addr × Vec ℕ
     → (is_number_spent s (moment s now) ≡ false)
     × (map (λ (l : Letter). l.1) letters ≡ map (λ (p : Parcel). datagram_text p.datagram) (sent_by s (moment s now)))
 texts_sent s now result new letters e (spent a b st) = absurd (let no : Err Spent ≡ Ok letters = sym (ap letters_of b) ∙ e in cc)
-texts_sent s now result new letters e (no_memory b st) = absurd (let no : Err OutOfMemory ≡ Ok letters = sym (ap letters_of b) ∙ e in cc)
+texts_sent s now result new letters e (no_memory due free b st) = absurd (let no : Err OutOfMemory ≡ Ok letters = sym (ap letters_of b) ∙ e in cc)
 texts_sent s now result new letters e (ticked all a b parcels st) =
     let is : letters_in all.items ≡ letters = ok_is (letters_in all.items) letters (sym (ap letters_of b) ∙ e) in (
       a,

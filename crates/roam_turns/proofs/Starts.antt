@@ -87,14 +87,14 @@ types_same session id c act result new (watching a b st) = ap receiver_of st
 types_same session id c act result new (full a b d st) = ap receiver_of st
 types_same session id c act result new (typed_spent a b d st) = ap receiver_of st
 types_same session id c act result new (typed a b d e st) = ap receiver_of st
-types_same session id c act result new (typed_no_memory a st) = ap receiver_of st
+types_same session id c act result new (typed_no_memory edits room low a st) = ap receiver_of st
 
 pub sends_same : (session id : ℕ) (c : ClientOf) (now : ℕ) (result : Result (Vec (Vec ℕ Global) Global) Fault) (new : ClientView)
     → Sends session id c now result new → new.receiver ≡ c.receiver
 sends_same session id c now result new (quiet none a b d st) = ap receiver_of st
 sends_same session id c now result new (spent a b d st) = ap receiver_of st
 sends_same session id c now result new (sent all a b d e st) = ap receiver_of st
-sends_same session id c now result new (no_memory a st) = ap receiver_of st
+sends_same session id c now result new (no_memory due free a st) = ap receiver_of st
 
 pub hears_follow : (session id : ℕ) (c : ClientOf) (bytes : List ℕ) (now : ℕ) (result : Result Heard Fault) (new : ClientView)
     → Hears session id c bytes now result new → Follows c.receiver.newest.number c.receiver.newest.state new.receiver.newest.number
@@ -108,4 +108,4 @@ hears_follow session id c bytes now result new (bad_change d g t v x a b e f h k
 hears_follow session id c bytes now result new (whole d h g t v r a b e delivers f k st) =
     subst (λ (x : Receiving Screenshot). ReceiverFollows c.receiver x) (sym (ap receiver_of st))
     (delivers_follow c.version c.receiver r (update_in v) delivers)
-hears_follow session id c bytes now result new (heard_no_memory a st) = same_follows c.receiver new.receiver (ap receiver_of st)
+hears_follow session id c bytes now result new (heard_no_memory d is a st) = same_follows c.receiver new.receiver (ap receiver_of st)

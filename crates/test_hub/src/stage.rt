@@ -7,7 +7,10 @@
 //! ports. `down START N T` hands one to a start, and `all START PORT` all that went to a port. `shown START N` and `size START ROWS COLS`
 //! tell what a start shows, and `face START N` that it is the session's face. `type START` types a letter, `waits PANE TEXT` tells what
 //! waits for a pane that is there, and `lacks PANE` that there is none. `come KIND ID` hands the only datagram of a new start to the
-//! server, and `fill KIND ID COUNT` those of so many with no act, from an id on, here in decimal digits.
+//! server, and `fill KIND ID COUNT` those of so many with no act, from an id on, here in decimal digits. `types START COUNT` types so many
+//! letters at once, and `held START COUNT` tells how many of a start aren't acknowledged. `known COUNT WATCHERS` tells how many starts
+//! the server knows. `next` tells the moment at which a tick of the server next does something, and `wakes START` one of a start: a moment,
+//! or `never`.
 ghost use Rattle.std.specs.Prelude.{◌≤◌};
 
 use crate::calls::{answers, at, hears, only_of, sent_down, shows_face, start_of};
@@ -17,6 +20,9 @@ use roam_cells::Fault;
 use roam_hub::{Addr, Client, Heard, Server};
 use roam_screens::Seen;
 use std::alloc::Global;
+
+/// How many letters are typed at once at most.
+const MOST_TYPED: usize = 1025;
 
 /// A server, its starts, and the datagrams that were sent, each with where it goes: to the port 0 at the server.
 #[derive(Drop)]
@@ -129,6 +135,32 @@ fn types(client: &mut Client, told: &str) -> bool {
     }
 }
 
+// Whether a start takes so many letters at once, or refuses them so.
+fn types_all(client: &mut Client, count: u64, told: &str) -> bool {
+    let letters = [Act::Key(Key::Char('a')); MOST_TYPED];
+    let (some, _) = letters
+        .as_slice()
+        .split_at((count as usize).min(MOST_TYPED));
+    match client.typed_all(some) {
+        Ok(()) => told == "typed",
+        Err(fault) => word_of(fault) == told,
+    }
+}
+
+// Whether a moment is told so.
+fn is_told(due: Option<u64>, told: &str) -> bool {
+    match due {
+        Some(due) => told.parse::<u64>().ok() == Some(due),
+        None => told == "never",
+    }
+}
+
+// Whether a server knows so many starts, and so many that watch.
+fn knows(server: &Server, words: &str) -> bool {
+    let mut row = [0; 2];
+    reads_numbers(words, &mut row) && row == [server.starts() as u64, server.watchers() as u64]
+}
+
 // Whether these bytes wait for a pane.
 fn waits(server: &Server, words: &str) -> bool {
     let (pane, text) = halves(words, " ");
@@ -150,8 +182,8 @@ fn count_of(verb: &str) -> usize
     ensures most { result ≤ 3 }
 {
     match verb {
-        "serve" | "lacks" | "type" => 1,
-        "tick" | "all" | "shown" | "face" => 2,
+        "serve" | "lacks" | "type" | "wakes" => 1,
+        "tick" | "all" | "shown" | "face" | "types" | "held" => 2,
         _ => 3,
     }
 }
@@ -212,6 +244,9 @@ impl Stage {
             "face" => shows_face(alloc, &self.server, client, number),
             "size" => has_size(client, number, now),
             "type" => types(client, told),
+            "types" => types_all(client, number, told),
+            "held" => client.unacknowledged() as u64 == number,
+            "wakes" => is_told(client.next_due(), told),
             _ => false,
         }
     }
@@ -246,6 +281,8 @@ impl Stage {
             "come" => come_by(alloc, &mut self.server, rest, told),
             "fill" => fill_by(alloc, &mut self.server, rest),
             "waits" => waits(&self.server, rest),
+            "known" => knows(&self.server, rest),
+            "next" => is_told(self.server.next_due(), told),
             _ => match numbers_of(verb, rest) {
                 Some(row) => self.acts(alloc, verb, row, told),
                 None => false,

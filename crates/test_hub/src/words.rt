@@ -13,6 +13,7 @@ pub fn word_of(fault: Fault) -> &'static str {
         Fault::OtherClient => "other client",
         Fault::ClientsFull => "clients full",
         Fault::Watching => "watching",
+        Fault::Busy => "busy",
         _ => "another",
     }
 }

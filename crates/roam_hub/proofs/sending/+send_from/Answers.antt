@@ -5,7 +5,7 @@ use Rattle.indexmap.specs.Layout.{length-set_value_at}
 use Rattle.roam_sync.specs.Senders.{newest, count}
 use Rattle.roam_hub.specs.Servers.{RecordView, parcels_of}
 use Rattle.roam_hub.specs.Records.{is_sent_to, is_instruction_spent, HasNumbersFor, back_from}
-use Rattle.roam_hub.proofs.Settling.{IsAt, here_still, all_settled, all_sent, spent_is, first_spent, set_nothing, has_numbers, undone, still_there, is_within, value_is}
+use Rattle.roam_hub.proofs.Settling.{IsAt, here_still, all_settled, all_sent, spent_is, first_spent, first_due, later_due, set_nothing, has_numbers, undone, still_there, is_within, value_is}
 use Rattle.roam_hub.proofs.sending.+send_from.Goals as goal
 
 pub returns-in_err-prepared-clause-fault : goal.returns-in_err-prepared-clause-fault
@@ -136,3 +136,14 @@ returns-in-Err-clause-err t c =
     c.pair_mut-record.result.1.now
     c.prepare.new.self c.undo.new.self c.pair_mut-record.ensures.value c.in-Err.ensures.err
     (c.undo.ensures.back ∙ ap (λ (v : RecordView). back_from v c.in_ok-prepared.prepared.offered) same ∙ c.in_ok-prepared.ensures.back)
+
+pub returns-in_err-prepared-clause-memory : goal.returns-in_err-prepared-clause-memory
+returns-in_err-prepared-clause-memory t c =
+    let p = err_from_is_err_and c.from_residual.result c.from_residual.ensures.1 in
+    rw p.1 (first_due c.args.records.now.entries c.args.at (c.pair_mut-record.result.0.now, c.pair_mut-record.result.1.now)
+    c.args.news.number c.args.news.now c.pair_mut-record.ensures.value c.in_err-prepared.ensures.memory)
+
+pub returns-in-Err-clause-memory : goal.returns-in-Err-clause-memory
+returns-in-Err-clause-memory t c =
+    later_due c.args.records.now.entries c.args.at (c.pair_mut-record.result.0.now, c.pair_mut-record.result.1.now)
+    c.prepare.new.self c.args.news.number c.args.news.now c.pair_mut-record.ensures.value c.in-Err.ensures.memory

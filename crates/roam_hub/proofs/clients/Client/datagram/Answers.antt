@@ -1,4 +1,4 @@
-use Rattle.std.proofs.Common.{ℕ, refl, sym, ap, ◌∙◌, subst, List, Option}
+use Rattle.std.proofs.Common.{arith, ℕ, refl, sym, ap, ◌∙◌, subst, List, Option}
 use Rattle.std.specs.Prelude.{Err, unwrap_or}
 use Rattle.std.proofs.lemmas.Result.{err_from_is_err_and}
 use Rattle.roam_wire.specs.Datagrams.{datagram_value}
@@ -12,7 +12,8 @@ use Rattle.roam_hub.proofs.clients.Client.datagram.Goals as goal
 pub returns-in_err-datagram-clause-heard : goal.returns-in_err-datagram-clause-heard
 returns-in_err-datagram-clause-heard c session id k st =
     let p = err_from_is_err_and c.from_residual.result c.from_residual.ensures.1 in
-    rw (p.1, p.2) (not_datagram session id k c.args.bytes.now c.args.now _ c.args.self.now st c.in_err-datagram.ensures.fault
+    rw (p.1, p.2) (not_datagram session id k c.args.bytes.now c.args.now _ c.args.self.now st
+    (λ i. omega (arith, c.type_inv.bytes i)) c.in_err-datagram.ensures.fault
     c.in_err-datagram.ensures.only)
 
 pub returns-in_err-admit-clause-heard : goal.returns-in_err-admit-clause-heard

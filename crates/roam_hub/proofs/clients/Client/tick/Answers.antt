@@ -1,4 +1,5 @@
 use Rattle.std.proofs.Common.{◌≡◌, ℕ, max, ◌∙◌, ap, sym, subst, false, arith, map}
+use Rattle.std.specs.Prelude.{Err}
 use Rattle.std.proofs.lemmas.Result.{err_from_is_err_and}
 use Rattle.roam_wire.specs.Datagrams.{datagram_text}
 use Rattle.roam_world.specs.Sendings.{is_client_due, last_waiting}
@@ -17,7 +18,7 @@ returns-in_err-datagrams-clause-sent c session id k st =
     let p = err_from_is_err_and c.from_residual.result c.from_residual.ensures.1 in
     rw (p.1, p.2) (not_sent session id k c.args.now c.args.self.now c.max-moment.result c.is_due.result _ st
     (c.max-moment.ensures ∙ ap (λ (v : ClientView). max c.args.now v.clock) c.self.view_is) c.is_due.ensures.due c.if-not-is_due.false
-    c.in_err-datagrams.ensures.fault)
+    c.in_err-datagrams.ensures.fault (λ e. c.in_err-datagrams.ensures.memory (ap (λ f. Err f) e)))
 
 pub invariant_of-self-2 : goal.invariant_of-self-2
 invariant_of-self-2 c =

@@ -2,6 +2,7 @@ use Rattle.std.proofs.Common.{◌≡◌, ◌∙◌, ap, sym, inl, inr, subst, fa
 use Rattle.std.specs.Prelude.{◌&&◌}
 use Rattle.roam_hub.specs.Servers.{RecordView}
 use Rattle.roam_hub.specs.Records.{is_sent_to, is_instruction_spent}
+use Rattle.roam_hub.proofs.Waiting.{held_due}
 use Rattle.roam_hub.proofs.records.Record.prepare.Goals as goal
 
 pub returns-in-Err-clause-fault : goal.returns-in-Err-clause-fault
@@ -17,3 +18,8 @@ returns-in-Ok-clause-fit c = subst (λ (v : RecordView). (is_sent_to v c.args.ne
 
 pub returns-in-Err-clause-err : goal.returns-in-Err-clause-err
 returns-in-Err-clause-err c = c.take_back.ensures.back ∙ c.in_ok-offered.ensures.back
+
+pub returns-in-Err-clause-memory : goal.returns-in-Err-clause-memory
+returns-in-Err-clause-memory c =
+    held_due c.args.self.now c.args.news.number c.args.screen.now c.args.news.now
+    (sym (ap (λ (v : RecordView). is_sent_to v c.args.news.now) c.in_ok-offered.ensures.held) ∙ c.in-Err.ensures.memory)

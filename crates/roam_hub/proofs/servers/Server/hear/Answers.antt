@@ -1,4 +1,4 @@
-use Rattle.std.proofs.Common.{◌≡◌, Bool, ap, ◌∙◌, sym, subst}
+use Rattle.std.proofs.Common.{arith, ◌≡◌, Bool, ap, ◌∙◌, sym, subst}
 use Rattle.std.specs.Prelude.{Ok, nat_lt, ◌||◌}
 use Rattle.std.proofs.lemmas.Result.{err_from_is_err_and}
 use Rattle.roam_wire.specs.Datagrams.{datagram_value}
@@ -13,7 +13,7 @@ pub returns-in_err-datagram-clause-heard : goal.returns-in_err-datagram-clause-h
 returns-in_err-datagram-clause-heard c s st =
     let p = err_from_is_err_and c.from_residual.result c.from_residual.ensures.1 in
     rw (p.1, p.2) (not_read_datagram s (address_of c.args.from) c.args.bytes.now c.args.now _ c.args.self.now st
-    c.in_err-datagram.ensures.fault c.in_err-datagram.ensures.only)
+    (λ i. omega (arith, c.type_inv.bytes i)) c.in_err-datagram.ensures.fault c.in_err-datagram.ensures.only)
 
 pub returns-in_err-admit-clause-heard : goal.returns-in_err-admit-clause-heard
 returns-in_err-admit-clause-heard c s st =
