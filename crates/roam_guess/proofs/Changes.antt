@@ -1,6 +1,6 @@
 -- What is shown over a screen differs from it where something is guessed alone.
-use Rattle.std.proofs.Common.{◌≡◌, ◌≢◌, ◌⊎◌, ℕ, ◌+◌, ◌-◌, ◌*◌, ◌<◌, ◌≤◌, Bool, true, false, cond, eqb, ◌&&◌, leb, ltb, List, [], ◌∷◌, ◌++◌, inl, inr, length, get_or, set, take, drop, Option, Some, None, refl, sym, ap, ◌∙◌, subst, arith}
-use Rattle.std.specs.Prelude.{All, IfSome, not}
+use Rattle.std.proofs.Common.{◌≡◌, ◌≢◌, ◌⊎◌, ℕ, ◌+◌, ◌-◌, ◌*◌, ◌<◌, ◌≤◌, Bool, true, false, cond, ltb, List, [], ◌∷◌, ◌++◌, inl, inr, length, get_or, set, take, drop, Option, Some, None, refl, sym, ap, ◌∙◌, subst, arith}
+use Rattle.std.specs.Prelude.{All, IfSome}
 use Rattle.std.proofs.lemmas.Bool.{cases_eq, false≢true, eq-eqb, ltb-true}
 use Rattle.std.proofs.lemmas.Bool.Decides.{nat_tests}
 use Rattle.std.proofs.lemmas.List.{get_or_append_left, get_or-append_right, get_or-take, get_or-drop, get_or-set_same, get_or-set_other, length-take}
@@ -12,13 +12,13 @@ use Rattle.roam_cells.proofs.Places.{place_below, row_from}
 use Rattle.roam_screens.specs.Lines.{with_row}
 use Rattle.roam_screens.specs.Screenshot.{Screenshot, IsScreenshot}
 use Rattle.roam_screens.proofs.Lined.{row_at}
-use Rattle.roam_guess.specs.Guesses.{GuessesOf, IsGuess, MayStand, are_shown, is_narrow}
-use Rattle.roam_guess.specs.Laws.{ChangesGuessed, OverlayChangesGuessed}
-use Rattle.roam_guess.specs.Overlay.{cursor_line, guessed, has_place, overlay, with_guesses, with_place}
+use Rattle.roam_guess.specs.Guesses.{IsGuess, MayStand, are_shown, is_narrow}
+use Rattle.roam_guess.specs.Laws.{OverlayChangesGuessed}
+use Rattle.roam_guess.specs.Overlay.{cursor_line, guessed, has_place, with_guesses, with_place}
 use Rattle.roam_guess.specs.Typing.{cell_in, latest, or_else, place_in}
 use Rattle.roam_guess.specs.declared.guesses.Guess.{Guess}
 use Rattle.roam_guess.specs.declared.guesses.Place.{Place}
-use Rattle.roam_guess.proofs.Whole.{guessed_row, line_length, place_there}
+use Rattle.roam_guess.proofs.Whole.{guessed_row, place_there}
 
 -- ---- one row of a screen changed
 
@@ -27,13 +27,19 @@ length_before s i is there =
     let most = mul-le-mul_right s.cols there in
     omega (arith, length-take (i * s.cols) s.cells, is.count, most)
 
-module _ (s : Screenshot) (is : IsScreenshot s) (i : ℕ) (line : List Glyph) (there : i < s.rows) (long : length line ≡ s.cols) (r c : ℕ) (col : c < s.cols) where
+-- a row of a screen that is changed, and its new cells
+record IsRowOf (s : Screenshot) (i : ℕ) (line : List Glyph) : Type 0 where
+  screen : IsScreenshot s
+  there : i < s.rows
+  long : length line ≡ s.cols
+
+module _ (s : Screenshot) (i : ℕ) (line : List Glyph) (is : IsRowOf s i line) (r c : ℕ) (col : c < s.cols) where
   row_above : r < i → cell_at s.cols (with_row i line s).cells r c ≡ cell_at s.cols s.cells r c
   row_above lt =
       let front = take (i * s.cols) s.cells in
       let back = line ++ drop ((i + 1) * s.cols) s.cells in
       let place = place_below i s.cols r c lt col in
-      get_or_append_left front back blank (r * s.cols + c) (omega (arith, place, length_before s i is there))
+      get_or_append_left front back blank (r * s.cols + c) (omega (arith, place, length_before s i is.screen is.there))
       ∙ get_or-take (i * s.cols) s.cells (r * s.cols + c) blank place
 
   row_here : r ≡ i → cell_at s.cols (with_row i line s).cells r c ≡ glyph_at line c
@@ -42,8 +48,8 @@ module _ (s : Screenshot) (is : IsScreenshot s) (i : ℕ) (line : List Glyph) (t
       let rest = drop ((i + 1) * s.cols) s.cells in
       let same : r * s.cols ≡ i * s.cols = ap (λ n. n * s.cols) e in
       let place : r * s.cols + c - i * s.cols ≡ c = omega (arith, same) in
-      get_or-append_right front (line ++ rest) (i * s.cols) (r * s.cols + c) blank (length_before s i is there) (omega (arith, same))
-      ∙ ap (λ k. get_or (line ++ rest) k blank) place ∙ get_or_append_left line rest blank c (omega (arith, col, long))
+      get_or-append_right front (line ++ rest) (i * s.cols) (r * s.cols + c) blank (length_before s i is.screen is.there) (omega (arith, same))
+      ∙ ap (λ k. get_or (line ++ rest) k blank) place ∙ get_or_append_left line rest blank c (omega (arith, col, is.long))
 
   row_below : i < r → cell_at s.cols (with_row i line s).cells r c ≡ cell_at s.cols s.cells r c
   row_below lt =
@@ -53,8 +59,8 @@ module _ (s : Screenshot) (is : IsScreenshot s) (i : ℕ) (line : List Glyph) (t
       let past : (i + 1) * s.cols ≤ k = row_from s.cols (i + 1) r c (omega (arith, lt)) in
       let next : (i + 1) * s.cols ≡ i * s.cols + s.cols = omega arith in
       let place : (i + 1) * s.cols + (k - i * s.cols - s.cols) ≡ k = omega (arith, past, next) in
-      get_or-append_right front (line ++ rest) (i * s.cols) k blank (length_before s i is there) (omega (arith, past, next))
-      ∙ get_or-append_right line rest s.cols (k - i * s.cols) blank long (omega (arith, past, next))
+      get_or-append_right front (line ++ rest) (i * s.cols) k blank (length_before s i is.screen is.there) (omega (arith, past, next))
+      ∙ get_or-append_right line rest s.cols (k - i * s.cols) blank is.long (omega (arith, past, next))
       ∙ get_or-drop ((i + 1) * s.cols) s.cells (k - i * s.cols - s.cols) blank ∙ ap (λ j. get_or s.cells j blank) place
 
   row_else_by : (b : Bool) → ltb r i ≡ b → r ≢ i → cell_at s.cols (with_row i line s).cells r c ≡ cell_at s.cols s.cells r c
@@ -191,15 +197,16 @@ module _ (guesses : List Guess) (s : Screenshot) (is : IsScreenshot s) (all : Al
   on_screen : s.cursor_row - 1 < s.rows
   on_screen = omega (arith, is.cursor.row_from, is.cursor.row_to)
 
+  row_is : IsRowOf s (s.cursor_row - 1) (with_guesses (cursor_line s) guesses)
+  row_is = record { screen = is; there = on_screen; long = (guessed_row s guesses is all).long }
+
   else_same : (r c : ℕ) → c < s.cols → r ≢ s.cursor_row - 1
       → cell_at s.cols (guessed s guesses).cells r c ≡ cell_at s.cols s.cells r c
-  else_same r c q d =
-      row_else s is (s.cursor_row - 1) (with_guesses (cursor_line s) guesses) on_screen (guessed_row s guesses is all).long r c q d
+  else_same r c q d = row_else s (s.cursor_row - 1) (with_guesses (cursor_line s) guesses) row_is r c q d
 
   here_is : (r c : ℕ) → c < s.cols → r ≡ s.cursor_row - 1
       → cell_at s.cols (guessed s guesses).cells r c ≡ glyph_at (with_guesses (cursor_line s) guesses) c
-  here_is r c q e =
-      row_here s is (s.cursor_row - 1) (with_guesses (cursor_line s) guesses) on_screen (guessed_row s guesses is all).long r c q e
+  here_is r c q e = row_here s (s.cursor_row - 1) (with_guesses (cursor_line s) guesses) row_is r c q e
 
   line_is : (r c : ℕ) → c < s.cols → r ≡ s.cursor_row - 1 → glyph_at (cursor_line s) c ≡ cell_at s.cols s.cells r c
   line_is r c q e = row_at s.cols s.cells (s.cursor_row - 1) c q ∙ ap (λ k. cell_at s.cols s.cells k c) (sym e)

@@ -1,17 +1,16 @@
 -- An epoch is hidden until a screen confirms a guess of it, and ends with an act that isn't guessed.
-use Rattle.std.proofs.Common.{◌≡◌, ℕ, zero, suc, Bool, true, false, cond, ◌&&◌, List, [], ◌∷◌, take, drop, map, Option, Some, None, ◌⊎◌, inl, inr, refl, sym, ap, ◌∙◌, subst}
+use Rattle.std.proofs.Common.{◌≡◌, ℕ, zero, suc, Bool, true, false, cond, ◌&&◌, List, [], ◌∷◌, take, drop, map, Option, Some, None, ◌⊎◌, inl, inr, refl, sym, ap, ◌∙◌}
+use Rattle.std.specs.List.{fold}
 use Rattle.std.specs.Prelude.{is_some, not, ◌||◌}
 use Rattle.std.proofs.lemmas.Bool.{false≢true}
-use Rattle.roam_acts.specs.declared.acts.Act.{Act}
 use Rattle.roam_cells.specs.Glyph.{Glyph}
 use Rattle.roam_screens.specs.Screenshot.{Screenshot}
-use Rattle.roam_guess.specs.Guesses.{GuessesOf, are_shown, dropped, is_none, none}
-use Rattle.roam_guess.specs.Laws.{EndsWithAct, EpochsEnd, IsTrustedByScreens, NothingShows, TrustIsEarned, seen_by}
-use Rattle.roam_guess.specs.Overlay.{cursor_line, guessed, overlay}
-use Rattle.roam_guess.specs.Typing.{guess_for, typed_by, with_guess_or_end}
-use Rattle.roam_guess.specs.Verdicts.{begun, confirmed, count_over, count_right, expired, has_credit, is_any_wrong, is_ended, judged, shows, with_told}
+use Rattle.roam_guess.specs.Guesses.{GuessesOf, dropped, is_none, none}
+use Rattle.roam_guess.specs.Laws.{EpochsEnd, NothingShows, NoneConfirms, Step, Typed, Seen, Ended, TrustIsEarned, UnconfirmedIsHidden, after, confirms, seen_by}
+use Rattle.roam_guess.specs.Overlay.{cursor_line, guessed}
+use Rattle.roam_guess.specs.Typing.{guess_for, with_guess_or_end}
+use Rattle.roam_guess.specs.Verdicts.{confirmed, count_over, count_right, expired, has_credit, is_any_wrong, is_ended, shows, with_told}
 use Rattle.roam_guess.specs.declared.guesses.Guess.{Guess}
-use Rattle.roam_guess.specs.declared.guesses.Told.{Told}
 
 -- ---- nothing is shown
 
@@ -129,3 +128,33 @@ epochs_end guesses last was = record {
       (no_guess (is_some guesses.ends_with) _ s.visible _ (ap (λ (o : Option ℕ). is_some o) was));
   seen = λ number acknowledged now s e. seen_none guesses last was number acknowledged now s e;
 }
+
+-- ---- whole runs
+
+neither : (a b : Bool) → a ≡ false → ((a ≡ true) ⊎ (b ≡ true)) → b ≡ false → ⊥
+neither a b hidden (inl is) e = false≢true (sym hidden ∙ is)
+neither a b hidden (inr is) e = false≢true (sym e ∙ is)
+
+not_trusted : (b : Bool) → (b ≡ true → ⊥) → b ≡ false
+not_trusted true h = absurd (h refl)
+not_trusted false h = refl
+
+step_hidden : (guesses : GuessesOf) (step : Step) → guesses.trusted ≡ false → confirms guesses step ≡ false
+    → (after guesses step).trusted ≡ false
+step_hidden guesses (Typed number act shown) hidden e = typed_trusted number guesses (guess_for number act shown guesses) ∙ hidden
+step_hidden guesses (Seen number acknowledged now shown) hidden e =
+    not_trusted (seen_by number acknowledged now shown guesses).trusted
+    (λ is. neither guesses.trusted (has_credit (cursor_line shown) guesses.list) hidden
+    (seen_trusted number acknowledged now shown guesses is) e)
+step_hidden guesses (Ended acknowledged) hidden e = dropped_hidden guesses (true && is_ended guesses.ends_with acknowledged)
+
+run_hidden : (steps : List Step) (guesses : GuessesOf) → guesses.trusted ≡ false → NoneConfirms guesses steps
+    → (fold after guesses steps).trusted ≡ false
+run_hidden [] guesses hidden none_confirms = hidden
+run_hidden (step ∷ steps) guesses hidden none_confirms =
+    run_hidden steps (after guesses step) (step_hidden guesses step hidden none_confirms.0) none_confirms.1
+
+pub unconfirmed_is_hidden : UnconfirmedIsHidden
+unconfirmed_is_hidden steps s h =
+    let end = fold after none steps in
+    hidden_by end s end.trusted (run_hidden steps none refl h)

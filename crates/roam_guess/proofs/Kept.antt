@@ -1,5 +1,5 @@
 -- What is true of the guesses that are kept.
-use Rattle.std.proofs.Common.{◌≡◌, ℕ, ◌+◌, ◌<◌, Bool, true, false, cond, eqb, List, [], ◌∷◌, length, map, rules, Option, Some, None, refl, sym, ap, ◌∙◌, subst, arith}
+use Rattle.std.proofs.Common.{◌≡◌, ℕ, ◌+◌, Bool, true, false, cond, eqb, List, [], ◌∷◌, length, map, Option, Some, None, refl, ap}
 use Rattle.std.specs.Prelude.{All, IfSome, is_some, nat_lt, not, ◌&&◌, ◌||◌}
 use Rattle.std.proofs.lemmas.List.Elements.{All-cons, All-head, All-nil, All-tail}
 use Rattle.std.proofs.lemmas.Bool.{eqb-true}
@@ -7,8 +7,8 @@ use Rattle.std.proofs.lemmas.List.{length-map}
 use Rattle.roam_cells.specs.Glyph.{Glyph, is_cell_text}
 use Rattle.roam_cells.specs.Width.{width_of}
 use Rattle.roam_cells.specs.declared.styles.Style.{Style}
-use Rattle.roam_guess.specs.Guesses.{IsGuess, MayStand, is_narrow}
-use Rattle.roam_guess.specs.Typing.{guess_with, may_write, narrow_cell, style_left, with_cell, written_guess}
+use Rattle.roam_guess.specs.Guesses.{IsGuess, is_narrow}
+use Rattle.roam_guess.specs.Typing.{may_write, narrow_cell, style_left, with_cell, written_guess}
 use Rattle.roam_guess.specs.Verdicts.{with_told}
 use Rattle.roam_guess.specs.declared.guesses.Guess.{Guess}
 use Rattle.roam_guess.specs.declared.guesses.Told.{Told}
@@ -41,7 +41,8 @@ written_by false number c row guesses col = tt
 written_by true number c row guesses col =
     with_cell_kept number row col (col + 1) (narrow_cell c (style_left row guesses col)) (cell_narrow c (style_left row guesses col))
 
-pub written_kept : (number c : ℕ) (row : List Glyph) (guesses : List Guess) (col : ℕ) → IfSome (written_guess number c row guesses col) IsGuess
+pub written_kept : (number c : ℕ) (row : List Glyph) (guesses : List Guess) (col : ℕ)
+    → IfSome (written_guess number c row guesses col) IsGuess
 written_kept number c row guesses col = written_by (may_write row guesses col) number c row guesses col
 
 -- ---- what is noted of a guess
@@ -58,5 +59,6 @@ noted_kept acknowledged told (guess ∷ guesses) all =
     (noted_by (is_some guess.told || nat_lt acknowledged guess.number) told guess (All-head IsGuess guess guesses all))
     (noted_kept acknowledged told guesses (All-tail IsGuess guess guesses all))
 
-pub noted_length : (acknowledged : ℕ) (told : Told) (guesses : List Guess) → length (map (with_told acknowledged told) guesses) ≡ length guesses
+pub noted_length : (acknowledged : ℕ) (told : Told) (guesses : List Guess)
+    → length (map (with_told acknowledged told) guesses) ≡ length guesses
 noted_length acknowledged told guesses = length-map guesses (with_told acknowledged told)

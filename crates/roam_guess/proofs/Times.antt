@@ -1,15 +1,13 @@
 -- No guess is left whose time is over.
-use Rattle.std.proofs.Common.{◌≡◌, ℕ, zero, suc, ◌+◌, ◌<◌, Bool, true, false, cond, ◌&&◌, ltb, List, [], ◌∷◌, drop, map, refl, sym, ap, ◌∙◌, subst, arith}
-use Rattle.std.specs.Prelude.{All, ◌||◌, nat_lt}
+use Rattle.std.proofs.Common.{◌≡◌, ℕ, zero, suc, ◌+◌, Bool, true, false, cond, ◌&&◌, List, [], ◌∷◌, drop, map, refl, sym, ap, ◌∙◌, subst, arith}
+use Rattle.std.specs.Prelude.{◌||◌, nat_lt}
 use Rattle.std.proofs.lemmas.Bool.Decides.{nat_tests}
 use Rattle.std.proofs.lemmas.List.Elements.{All-cons, All-nil}
-use Rattle.roam_screens.specs.Screenshot.{Screenshot}
 use Rattle.roam_guess.specs.Guesses.{GuessesOf, dropped, is_none, none}
 use Rattle.roam_guess.specs.Laws.{AreInTime, TimeEnds}
 use Rattle.roam_guess.specs.Overlay.{cursor_line}
-use Rattle.roam_guess.specs.Verdicts.{begun, confirmed, count_on, count_over, expired, is_any_wrong, is_ended, is_over, judged, with_told}
+use Rattle.roam_guess.specs.Verdicts.{confirmed, count_on, count_over, expired, is_any_wrong, is_ended, is_over, with_told}
 use Rattle.roam_guess.specs.declared.guesses.Guess.{Guess}
-use Rattle.roam_guess.specs.declared.guesses.Told.{Told}
 
 abbrev InTime : ℕ → Guess → Type 0
 InTime now guess = is_over now guess ≡ false

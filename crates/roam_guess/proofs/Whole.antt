@@ -7,7 +7,7 @@ use Rattle.std.proofs.lemmas.Bool.Decides.{nat_tests}
 use Rattle.std.proofs.lemmas.List.Elements.{All-head, All-tail}
 use Rattle.std.proofs.lemmas.List.{get_or-set_same, get_or-set_other, length-set}
 use Rattle.roam_cells.specs.Glyph.{Glyph, is_wide, is_right_half, right_of, blank}
-use Rattle.roam_cells.specs.Place.{glyph_at, cell_at, IsWholeAt, IsWholeLine, IsWholeRow, AreUnguarded, row_of}
+use Rattle.roam_cells.specs.Place.{glyph_at, cell_at, IsWholeAt, IsWholeLine, IsWholeRow, AreUnguarded}
 use Rattle.roam_screens.specs.Screenshot.{Screenshot, IsScreenshot}
 use Rattle.roam_cells.proofs.Places.{place_below}
 use Rattle.roam_screens.proofs.Lined.{length-row, row_at}
@@ -71,22 +71,28 @@ place_there row col e =
       narrow = second.1;
     }
 
-module _ (row : List Glyph) (k : ℕ) (x : Glyph) (lt : k < length row) (was : is_narrow (glyph_at row k) ≡ true) (now : is_narrow x ≡ true) (whole : IsWholeRow row) where
+-- the cell of a place that had a cell of one column, and the new one
+record IsChange (row : List Glyph) (k : ℕ) (x : Glyph) : Type 0 where
+  lt : k < length row
+  was : is_narrow (glyph_at row k) ≡ true
+  now : is_narrow x ≡ true
+
+module _ (row : List Glyph) (k : ℕ) (x : Glyph) (change : IsChange row k x) (whole : IsWholeRow row) where
   same : glyph_at (set row k x) k ≡ x
-  same = get_or-set_same row k x blank lt
+  same = get_or-set_same row k x blank change.lt
 
   other : (c : ℕ) → c ≢ k → glyph_at (set row k x) c ≡ glyph_at row c
   other c d = get_or-set_other row k c x blank d
 
   no_wide : is_wide (glyph_at row k) ≡ false
-  no_wide = (narrow_parts (glyph_at row k) was).0
+  no_wide = (narrow_parts (glyph_at row k) change.was).0
 
   no_half : is_right_half (glyph_at row k) ≡ false
-  no_half = (narrow_parts (glyph_at row k) was).1
+  no_half = (narrow_parts (glyph_at row k) change.was).1
 
   here : (c : ℕ) → c ≡ k → IsWholeAt (length row) (glyph_at (set row k x)) c
   here c e =
-      let new = narrow_parts x now in
+      let new = narrow_parts x change.now in
       let is : glyph_at (set row k x) c ≡ x = ap (glyph_at (set row k x)) e ∙ same in
       record {
         wide = λ w. absurd (false≢true (sym (ap is_wide is ∙ new.0) ∙ w));
@@ -116,7 +122,8 @@ module _ (row : List Glyph) (k : ℕ) (x : Glyph) (lt : k < length row) (was : i
   set_whole =
       subst (λ (n : ℕ). IsWholeLine n (glyph_at (set row k x))) (sym (length-set row k x)) (λ c p. each c p (cases_eq c k))
 
-set_unguarded : (row : List Glyph) (k : ℕ) (x : Glyph) → k < length row → x.guarded ≡ false → AreUnguarded row → AreUnguarded (set row k x)
+set_unguarded : (row : List Glyph) (k : ℕ) (x : Glyph) → k < length row → x.guarded ≡ false → AreUnguarded row
+    → AreUnguarded (set row k x)
 set_unguarded row k x lt none all c h = by (cases_eq c k)
   where
     by : (c ≡ k) ⊎ (c ≢ k) → (get_or (set row k x) c blank).guarded ≡ false
@@ -140,11 +147,12 @@ place_row cols row place true e may is =
     let lt : place.col - 1 < length row = omega (arith, there.from, there.to) in
     record {
       long = length-set row (place.col - 1) place.cell ∙ is.long;
-      whole = set_whole row (place.col - 1) place.cell lt there.narrow may.narrow is.whole;
+      whole = set_whole row (place.col - 1) place.cell (record { lt = lt; was = there.narrow; now = may.narrow }) is.whole;
       unguarded = set_unguarded row (place.col - 1) place.cell lt may.unguarded is.unguarded;
     }
 
-with_place_row : (cols : ℕ) (row : List Glyph) (place : Option Place) → IfSome place MayStand → IsRow cols row → IsRow cols (with_place row place)
+with_place_row : (cols : ℕ) (row : List Glyph) (place : Option Place) → IfSome place MayStand → IsRow cols row
+    → IsRow cols (with_place row place)
 with_place_row cols row None may is = is
 with_place_row cols row (Some place) may is = place_row cols row place (has_place row place.col) refl may is
 

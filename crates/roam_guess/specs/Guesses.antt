@@ -1,5 +1,5 @@
 -- Guesses: what keys are guessed to show in the row of the cursor (this project's profile, after Mosh's speculative local echo).
-use Rattle.std.specs.Prelude.{◌≡◌, ℕ, ◌≤◌, Bool, true, false, not, ◌&&◌, List, [], ◌∷◌, length, Option, None, Some, IfSome, All, Vec}
+use Rattle.std.specs.Prelude.{◌≡◌, ℕ, ◌≤◌, Bool, true, false, not, ◌&&◌, List, [], ◌∷◌, length, Option, None, IfSome, All, Vec}
 use Rattle.std.specs.Vec.{vec_capacity}
 use Rattle.std.specs.declared.alloc.Global.{Global}
 use Rattle.roam_cells.specs.Glyph.{Glyph, is_right_half, is_wide}

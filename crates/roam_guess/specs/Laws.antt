@@ -1,5 +1,6 @@
 -- What is true of guesses, whatever is typed and shown.
-use Rattle.std.specs.Prelude.{◌≡◌, ◌≢◌, ◌⊎◌, ℕ, ◌+◌, ◌<◌, true, false, List, [], Option, Some, None, All}
+use Rattle.std.specs.Prelude.{◌≡◌, ◌≢◌, ◌⊎◌, ℕ, ◌+◌, ◌<◌, Bool, true, false, List, [], ◌∷◌, Some, None, All}
+use Rattle.std.specs.List.{fold}
 use Rattle.roam_acts.specs.declared.acts.Act.{Act}
 use Rattle.roam_cells.specs.Place.{cell_at}
 use Rattle.roam_screens.specs.Screenshot.{Screenshot, IsScreenshot}
@@ -63,6 +64,35 @@ pub record EndsWithAct (guesses : GuessesOf) : Type 0 where
 abbrev pub EpochsEnd : Type 0
 EpochsEnd = (guesses : GuessesOf) (last : ℕ) → guesses.ends_with ≡ Some last → EndsWithAct guesses
 
+-- ---- whole runs
+
+-- what comes to guesses: an act is typed where a screen is shown, a screen is seen that follows the one before, or one that doesn't
+pub data Step : Type 0 where
+  Typed : (number : ℕ) → (act : Act) → (shown : Screenshot) → Step
+  Seen : (number : ℕ) → (acknowledged : ℕ) → (now : ℕ) → (shown : Screenshot) → Step
+  Ended : (acknowledged : ℕ) → Step
+
+-- the guesses after it
+abbrev pub after : GuessesOf → Step → GuessesOf
+after guesses (Typed number act shown) = typed_by number act shown guesses
+after guesses (Seen number acknowledged now shown) = seen_by number acknowledged now shown guesses
+after guesses (Ended acknowledged) = begun acknowledged (dropped guesses)
+
+-- it confirms a guess with credit
+abbrev pub confirms : GuessesOf → Step → Bool
+confirms guesses (Typed number act shown) = false
+confirms guesses (Seen number acknowledged now shown) = has_credit (cursor_line shown) guesses.list
+confirms guesses (Ended acknowledged) = false
+
+-- none of these does, one after the other
+abbrev pub NoneConfirms : GuessesOf → List Step → Type 0
+NoneConfirms guesses [] = Unit {0}
+NoneConfirms guesses (step ∷ steps) = (confirms guesses step ≡ false) × NoneConfirms (after guesses step) steps
+
+-- whatever comes since an epoch began: where no screen confirmed a guess with credit, the screen itself is shown
+abbrev pub UnconfirmedIsHidden : Type 0
+UnconfirmedIsHidden = (steps : List Step) (s : Screenshot) → NoneConfirms none steps → overlay (fold after none steps) s ≡ s
+
 -- ---- time
 
 -- no guess is left whose time is over
@@ -70,4 +100,5 @@ abbrev pub AreInTime : ℕ → List Guess → Type 0
 AreInTime now guesses = All (λ (guess : Guess). is_over now guess ≡ false) guesses
 
 abbrev pub TimeEnds : Type 0
-TimeEnds = (number acknowledged now : ℕ) (s : Screenshot) (guesses : GuessesOf) → AreInTime now (seen_by number acknowledged now s guesses).list
+TimeEnds = (number acknowledged now : ℕ) (s : Screenshot) (guesses : GuessesOf)
+    → AreInTime now (seen_by number acknowledged now s guesses).list

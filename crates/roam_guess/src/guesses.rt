@@ -9,17 +9,21 @@ use std::marker::Model;
 /// How many guesses there are at most.
 pub(crate) const MOST_GUESSES: usize = 64;
 
-/// When an act's acknowledgement was seen, in milliseconds, and the number of the screen that was shown then.
+/// When an act's acknowledgement was seen.
 #[derive(Clone, Copy)]
 pub struct Told {
+    /// The moment, in milliseconds.
     pub at: u64,
+    /// The number of the screen that was shown then.
     pub number: u64,
 }
 
-/// A column, from 1, and the cell that is guessed to stand there.
+/// A cell that is guessed to stand in a column.
 #[derive(Clone, Copy)]
 pub struct Place {
+    /// The column, from 1.
     pub col: u16,
+    /// The cell.
     pub cell: Cell,
 }
 
@@ -49,8 +53,7 @@ pub struct Guesses {
 }
 
 impl Model for Guesses {
-    ghost use Rattle.roam_guess.specs.Guesses.{GuessesOf};
-    ghost use Rattle.roam_guess.specs.Guesses.{IsKept};
+    ghost use Rattle.roam_guess.specs.Guesses.{GuessesOf, IsKept};
 
     ghost Value = { GuessesOf };
 

@@ -1,5 +1,5 @@
 //! Laws of the definitions, each the contract of a function that does nothing when it runs.
-ghost use Rattle.roam_guess.specs.Laws.{EpochsEnd, NothingShows, OverlayChangesGuessed, TimeEnds, TrustIsEarned};
+ghost use Rattle.roam_guess.specs.Laws.{EpochsEnd, NothingShows, OverlayChangesGuessed, TimeEnds, TrustIsEarned, UnconfirmedIsHidden};
 
 /// What is shown over a screen differs from it in the row of the cursor alone, at places where a guess writes and a cell of one column
 /// stands, and there one of one column stands again.
@@ -15,6 +15,11 @@ pub fn nothing_shows()
 /// An epoch is trusted since a screen confirmed a guess of it with credit, and by nothing else.
 pub fn trust_is_earned()
     ensures earned { TrustIsEarned }
+{}
+
+/// Whatever is typed and seen since an epoch began, the screen itself is shown while no screen confirmed a guess with credit.
+pub fn unconfirmed_is_hidden()
+    ensures hidden { UnconfirmedIsHidden }
 {}
 
 /// After an act that isn't guessed nothing is, until another epoch begins: with no guess, and hidden.

@@ -246,8 +246,8 @@ impl Guesses {
     }
 
     /// The screen of a number is shown at a moment in milliseconds, after another one, and so many acts are acknowledged. Guesses that are
-    /// right go; those whose time is over go, and where one of them is wrong, all; and all go where the screen doesn't follow the one before.
-    /// It takes no memory.
+    /// right go; those whose time is over go, and where one of them is wrong, all; and all go where the screen doesn't follow the one
+    /// before. It takes no memory.
     pub fn seen<S: Seen>(&mut self, number: u64, acknowledged: u64, before: &S, shown: &S, now: u64)
         ensures goes_on { Follows (S.screen before.now) (S.screen shown.now) self.old.list
             → self.new ≡ begun acknowledged (judged number acknowledged now (S.screen shown.now) self.old) }

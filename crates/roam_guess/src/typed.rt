@@ -13,8 +13,8 @@ use roam_screens::Seen;
 /// The border between two panes that stand side by side, U+2502.
 const BORDER: char = '\u{2502}';
 
-/// What an act does where it is guessed: it writes a character of one column, erases the one before the cursor, or moves the cursor; another
-/// act isn't guessed.
+/// What an act does where it is guessed: it writes a character of one column, erases the one before the cursor, or moves the cursor;
+/// another act isn't guessed.
 #[derive(Clone, Copy)]
 pub(crate) enum Kind {
     Write(char),

@@ -68,17 +68,17 @@ Usage: roam attach [OPTIONS]
 Options:
       --dir <D>             The folder of the server, whose socket clients it connects to; it ends where the server does
       --port <P>            The UDP port on 127.0.0.1 of the server, as 4000, in place of its folder
-      --session <H>         The session's id, 1 to 16 hexadecimal digits; each run of serve needs one of its own. Without a port it may be left \
-    out: serve makes one by chance, and tells it in the file session of its folder, where attach reads it
-      --client <H>          The id of this start of a client, 1 to 16 hexadecimal digits; each start needs one of its own. With --dir it may be \
-    left out, and is one by chance then
+      --session <H>         The session's id, 1 to 16 hexadecimal digits; each run of serve needs one of its own. Without a port it may \
+    be left out: serve makes one by chance, and tells it in the file session of its folder, where attach reads it
+      --client <H>          The id of this start of a client, 1 to 16 hexadecimal digits; each start needs one of its own. With --dir it \
+    may be left out, and is one by chance then
       --keys <PATH>         A file with the acts to type, one a line, as `char 61`, `key return` or `split right`; without it none are typed
       --acts <SOCKET>       A Unix socket from which such lines come as they are typed; the run ends with them, once they are done
       --terminals <SOCKET>  Bind this Unix socket, and be the start of all outer terminals that connect there
       --wire <V>            The version of the protocol, 1 or 2; 2 where it isn't given
       --watch               Only watches: no act is typed
-      --turns <N>           How many turns the run takes, 18446744073709551615 where it isn't given. One that brings nothing waits up to 10 \
-    milliseconds; a busy pane takes thousands a second
+      --turns <N>           How many turns the run takes, 18446744073709551615 where it isn't given. One that brings nothing waits up to \
+    10 milliseconds; a busy pane takes thousands a second
   -h, --help                Print help
 
 Where it ends by itself it tells why on standard error, as [the turns are over], and its status is 0.

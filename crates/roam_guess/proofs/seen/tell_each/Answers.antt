@@ -1,4 +1,4 @@
-use Rattle.std.proofs.Common.{◌≡◌, sym, ap, ◌∙◌, set}
+use Rattle.std.proofs.Common.{sym, ap, ◌∙◌, set}
 use Rattle.std.proofs.lemmas.List.Edits.{map_over_more}
 use Rattle.roam_guess.specs.Verdicts.{with_told}
 use Rattle.roam_guess.proofs.seen.tell_each.Goals as goal

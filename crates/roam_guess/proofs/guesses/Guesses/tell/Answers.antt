@@ -1,4 +1,4 @@
-use Rattle.std.proofs.Common.{◌≡◌, List, length, sym, ap, ◌∙◌, subst, arith, rules}
+use Rattle.std.proofs.Common.{List, length, sym, ap, subst, arith}
 use Rattle.std.specs.Prelude.{All}
 use Rattle.roam_guess.specs.Guesses.{IsGuess}
 use Rattle.roam_guess.specs.declared.guesses.Guess.{Guess}
@@ -12,5 +12,6 @@ invariant_of-self c =
     record {
       few = omega (arith, ap length new, noted_length c.args.acknowledged c.args.told old, c.self.invariant.few);
       room = omega (arith, c.tell_all.ensures.capacity, c.self.invariant.room);
-      guesses = subst (λ (xs : List Guess). All IsGuess xs) (sym new) (noted_kept c.args.acknowledged c.args.told old c.self.invariant.guesses);
+      guesses = subst (λ (xs : List Guess). All IsGuess xs) (sym new)
+          (noted_kept c.args.acknowledged c.args.told old c.self.invariant.guesses);
     }
