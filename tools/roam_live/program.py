@@ -59,6 +59,7 @@ def unforeseen(fault):
 
 def run_tool(main):
     """Runs a tool; a fault is one line on standard error and status 1. `python3 -X dev` shows where one comes from that nobody foresaw."""
+    signal.signal(signal.SIGINT, signal.default_int_handler)
     try:
         sys.exit(main())
     except Fault as fault:
