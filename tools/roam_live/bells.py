@@ -8,9 +8,9 @@ import time
 from roam_live.carriers import listening
 from roam_live.program import Lines, connected_now, read
 
-# What begins a control string, which a bell ends and doesn't ring in; and what else ends one.
-BEGINS = (b"\x1b]", b"\x1bP", b"\x1bX", b"\x1b^", b"\x1b_")
-ENDS = re.compile(rb"[\x18\x1a\x1b]")
+# An escape with one of these begins a control string, in which a bell doesn't ring. A bell ends one, and so do these and any escape.
+BEGINS = b"]PX^_"
+ENDS = re.compile(rb"[\x18\x1a]")
 
 # A pane rings once in so many seconds, for so many at most who follow.
 APART = 1.0
@@ -40,11 +40,10 @@ class Bells:
 
     def go_on(self, text):
         """Goes on with bytes that have no bell: whether they end inside of a control string."""
-        begin = max(text.rfind(word) for word in BEGINS)
-        if begin >= 0:
-            self.is_string = not ENDS.search(text, begin + 2)
-        elif self.is_string:
-            self.is_string = not ENDS.search(text)
+        last = text.rfind(b"\x1b")
+        if last >= 0:
+            self.is_string = last + 1 < len(text) and text[last + 1] in BEGINS
+        self.is_string = self.is_string and not ENDS.search(text, max(last, 0))
 
 
 class BellSource:

@@ -2,7 +2,6 @@
 import contextlib
 import os
 import pathlib
-import secrets
 import signal
 import socket
 import sys
@@ -60,6 +59,7 @@ def unforeseen(fault):
 
 def run_tool(main):
     """Runs a tool; a fault is one line on standard error and status 1. `python3 -X dev` shows where one comes from that nobody foresaw."""
+    signal.signal(signal.SIGINT, signal.default_int_handler)
     try:
         sys.exit(main())
     except Fault as fault:
@@ -85,7 +85,7 @@ def program():
 
 def random_id():
     """An id that nobody had: 15 hexadecimal digits, the first no zero, so that it is below every bound of an id."""
-    return f"{secrets.randbits(60) | 1 << 59:x}"
+    return f"{int.from_bytes(os.urandom(8), 'big') >> 4 | 1 << 59:x}"
 
 
 def is_id(word):

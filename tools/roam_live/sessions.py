@@ -5,17 +5,15 @@ import functools
 import os
 import pathlib
 import re
-import shutil
 import signal
 import stat
 import subprocess
 import sys
-import tempfile
 
 from roam_live.processes import Processes
 from roam_live.program import TOOLS, Fault, count_clients, is_listened, program
 from roam_live.programs import busy_panes
-from roam_live.rects import MOST_STARTS, NOTHING, read_places
+from roam_live.rects import MOST_STARTS, read_places
 
 NAME = re.compile(r"[A-Za-z0-9_-]{1,32}")
 
@@ -247,68 +245,3 @@ def take_front(group):
         finally:
             os.close(own)
     signal.signal(signal.SIGTTOU, before)
-
-
-class PortSession:
-    """A session whose server has a UDP port: a terminal has a start of its own there, and a folder that is told has the rest."""
-
-    served = "server"
-
-    def __init__(self, home, folder):
-        self.home = home
-        self.folder = pathlib.Path(folder) if folder else None
-        self.own = tempfile.mkdtemp(prefix="roam-terminals-")
-        self.terminals = pathlib.Path(self.own, "terminals")
-        self.start = None
-        self.name = str(home)
-
-    def __str__(self):
-        return str(self.home)
-
-    def read(self):
-        """Nothing is noted of it."""
-
-    def process(self, role):
-        """No process but the start is known."""
-        return self.start.pid if role == "terminals" and self.start and self.start.poll() is None else None
-
-    def runs(self, role=None):
-        """Whether the process of a role runs."""
-        return self.process(role or self.served) is not None
-
-    def places(self):
-        """Where the panes are, as far as that is told."""
-        return read_places(self.folder / "rects") if self.folder else NOTHING
-
-    def is_served(self):
-        """Whether somebody has the port. Where nobody has, the start isn't needed any more: it can't know by itself."""
-        is_there = self.home.is_served()
-        if not is_there and self.runs("terminals"):
-            self.start.terminate()
-        return is_there
-
-    def is_full(self):
-        """Whether the server knows as many starts as it ever does."""
-        return self.places().starts >= MOST_STARTS
-
-    def busy(self):
-        """What runs in its panes isn't known here."""
-        return None
-
-    def revive(self):
-        """Starts the start, where it doesn't run."""
-        if not self.runs("terminals"):
-            self.terminals.unlink(missing_ok=True)
-            words = self.home.attach_words(["--terminals", str(self.terminals)])
-            self.start = subprocess.Popen(words, stdin=subprocess.DEVNULL, stdout=subprocess.DEVNULL, stderr=subprocess.DEVNULL)
-
-    def ending(self):
-        """What is said where the session has ended, and the status."""
-        return "[the session has ended]", 0
-
-    def close(self):
-        """Ends the start."""
-        if self.start:
-            self.start.terminate()
-            self.start.wait()
-        shutil.rmtree(self.own, ignore_errors=True)

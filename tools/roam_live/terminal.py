@@ -145,14 +145,16 @@ def opened_for_writing(terminal):
 class Extent:
     """How many rows and columns the painter has reached since all was erased.
 
-    The last row of a session is painted over all of its columns in printable ASCII, so this is the session's size.
+    The last row of a session is painted over all of its columns in printable ASCII, so this is the session's size. Of the rows above it
+    nothing is looked at, since a large screen in many colours is a lot of text.
     """
 
-    MARKS = re.compile(rb"\x1b\[(\d+);(\d+)H|\x1b\[2J|\x1b[^\[]|\x1b\[[0-?]*[@-~]|([^\x1b]+)")
+    MARKS = re.compile(rb"\x1b\[(\d+);(\d+)H|\x1b\[2J|\x1bc")
+    ESCAPES = re.compile(rb"\x1b[^\[]|\x1b\[[0-?]*[@-~]")
 
     def __init__(self):
         self.rest = b""
-        self.col = 1
+        self.row, self.col = 0, 1
         self.size = (0, 0)
         self.decoder = codecs.getincrementaldecoder("utf-8")("replace")
 
@@ -164,32 +166,41 @@ class Extent:
         """Goes on with a piece of the painter's text, and tells whether all was erased in it."""
         text = self.rest + piece
         self.decoder.decode(piece[-4:])
-        self.rest = b""
-        is_erased = False
         cut = text.rfind(b"\x1b")
-        if cut >= 0 and not self.MARKS.match(text, cut):
-            text, self.rest = text[:cut], text[cut:]
+        is_whole = cut < 0 or self.ESCAPES.match(text, cut)
+        text, self.rest = (text, b"") if is_whole else (text[:cut], text[cut:])
+        begin, lowest, is_erased = 0, [], False
         for mark in self.MARKS.finditer(text):
-            if mark[0] in (b"\x1b[2J", RESET):
-                is_erased = True
-                self.size = (0, 0)
-            else:
-                self._reach(mark)
+            lowest += self._lowest(text[begin : mark.start()])
+            begin = mark.end()
+            if self._moves(mark):
+                lowest.clear()
+            is_erased = is_erased or mark[1] is None
+        for col, part in lowest + self._lowest(text[begin:]):
+            self._reach(col, part)
         return is_erased
 
-    def _reach(self, mark):
-        """Goes on with a place of the cursor, or with characters."""
-        rows, cols = self.size
-        if mark[1] and int(mark[1]) > MOST[0]:
-            # What tells of a silent server is written to the last row of any terminal.
-            self.col = -sum(MOST)
-        elif mark[1]:
-            rows, self.col = max(rows, int(mark[1])), int(mark[2])
-        elif mark[3]:
-            # Behind other characters the column isn't known before the cursor is placed again.
-            self.col = self.col + len(mark[3]) if mark[3].isascii() else -sum(MOST)
-            cols = max(cols, self.col - 1)
-        self.size = (rows, cols)
+    def _moves(self, mark):
+        """Goes on with a place of the cursor, or with nothing where all is erased; tells whether no row is as low as this one."""
+        if mark[1] is None:
+            self.row, self.size = 0, (0, 0)
+            return True
+        self.row, self.col = int(mark[1]), int(mark[2])
+        # What tells of a silent server is written to the last row of any terminal.
+        if not self.size[0] < self.row <= MOST[0]:
+            return False
+        self.size = (self.row, 0)
+        return True
+
+    def _lowest(self, part):
+        """What is written to the lowest row, with the column where that begins."""
+        return [(self.col, part)] if part and self.row and self.row == self.size[0] else []
+
+    def _reach(self, col, part):
+        """Goes on with what is written to the lowest row; behind other characters than ASCII the column isn't known."""
+        letters = self.ESCAPES.sub(b"", part)
+        self.col = col + len(letters) if letters.isascii() else -sum(MOST)
+        self.size = (self.size[0], max(self.size[1], self.col - 1))
 
     def fits(self, size):
         """Whether what was painted fits into a terminal of this size."""
