@@ -2,6 +2,7 @@
 #![tactic(auto)]
 
 pub mod acts;
+pub mod attaching;
 pub mod cells;
 pub mod charset;
 pub mod controls;
@@ -18,11 +19,12 @@ pub mod play;
 pub mod rows;
 pub mod screens;
 pub mod script;
+pub mod serving;
 pub mod session;
 pub mod show;
 pub mod simulation;
-pub mod sockets;
 pub mod sync;
+pub mod terminals;
 pub mod text;
 pub mod typing;
 pub mod update;

@@ -15,7 +15,17 @@ pub fn ports_in<'a>(
     rt: &'a HostRuntime,
     folder: &str,
 ) -> Result<ServerPorts<&'a HostRuntime>, RunFault> {
-    ServerPorts::bind(rt, rt.alloc(), folder, Some(0), Moments::Set(0), OwnStart { session: 1, id: 0xFF })
+    ServerPorts::bind(
+        rt,
+        rt.alloc(),
+        folder,
+        Some(0),
+        Moments::Set(0),
+        OwnStart {
+            session: 1,
+            id: 0xFF,
+        },
+    )
 }
 
 fn is_refused(rt: &HostRuntime, folder: &str) -> bool {

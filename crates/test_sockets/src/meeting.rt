@@ -8,10 +8,10 @@ ghost use Rattle.roam_turns.specs.Painting.{IsBehind};
 
 use crate::programs::Programs;
 use roam_acts::{Act, Key, read_act};
+use roam_attaching::{ClientPorts, Connection};
 use roam_hub::{Addr, Client, Server};
 use roam_links::{Moments, loopback};
 use roam_screens::Seen;
-use roam_attaching::{ClientPorts, Connection};
 use roam_serving::{OwnStart, ServerPorts};
 use roam_turns::{Outer, attach_turn, serve_turn};
 use std::alloc::Global;
@@ -195,7 +195,17 @@ fn meeting_of<'a>(rt: &'a HostRuntime, folder: &str, is_stream: bool) -> Result<
     ensures behind { IfOk result (λ m. IsBehind m.outer m.client.receiver.newest.number m.client.receiver.newest.state) }
 {
     let alloc = rt.alloc();
-    let server_ports = ServerPorts::bind(rt, alloc, folder, Some(0), Moments::Set(0), OwnStart { session: 1, id: 0xFF })?;
+    let server_ports = ServerPorts::bind(
+        rt,
+        alloc,
+        folder,
+        Some(0),
+        Moments::Set(0),
+        OwnStart {
+            session: 1,
+            id: 0xFF,
+        },
+    )?;
     let home = loopback(server_ports.port().unwrap_or(0));
     Ok(Meeting {
         server: Server::new(alloc, 0x5E55, 24, 80)?,

@@ -1,7 +1,7 @@
 //! Runs of `roam serve` and `roam attach`: what ends them, and what stays.
 use crate::files::ports_in;
-use roam_faults::RunFault;
 use roam_attaching::{Attach, Home, Typed, follow_session, run_attach};
+use roam_faults::RunFault;
 use roam_serving::{Serve, run_serve};
 use roam_terminals::End;
 use roam_wire::Version;

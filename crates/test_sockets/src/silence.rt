@@ -4,8 +4,8 @@
 //! not (`unknown`); or with `shows TEXT` or `shows nothing for TEXT`; `reads TEXT`, which the outer terminal reads next, where `10 s` and
 //! `11 s` stand for the notices of as many seconds; `hears`: a datagram comes to the client start; `is` and what is so then.
 use mio::net::UdpSocket;
-use roam_links::{Moments, loopback};
 use roam_attaching::{ClientPorts, Connection};
+use roam_links::{Moments, loopback};
 use roam_terminals::End;
 use roam_turns::Ports;
 use std::alloc::Global;

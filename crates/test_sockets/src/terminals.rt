@@ -51,7 +51,8 @@ impl Place {
             "ends" => self.shared.is_ending(),
             "goes on" => !self.shared.is_ending(),
             _ => match line.split_once(' ') {
-                Some(("acts", count)) => count.parse::<usize>() == Ok(self.shared.client().unacknowledged()),
+                Some(("acts", count)) => count.parse::<usize>()
+                    == Ok(self.shared.client().unacknowledged()),
                 Some(("terminals", count)) => count.parse::<usize>() == Ok(self.shared.len()),
                 _ => false,
             },
@@ -60,11 +61,7 @@ impl Place {
 }
 
 // The first line that isn't so.
-fn first_wrong<'a>(
-    rt: &HostRuntime,
-    path: &str,
-    lines: &'a str,
-) -> Result<Option<&'a str>, Fail> {
+fn first_wrong<'a>(rt: &HostRuntime, path: &str, lines: &'a str) -> Result<Option<&'a str>, Fail> {
     let Some(mut place) = place_at(rt, path)? else {
         return Ok(Some("no socket"));
     };

@@ -1,0 +1,29 @@
+//! A caller of `roam_terminals`, as its README shows it (`tools/worked_callers`).
+
+// README: begin
+use roam_cells::Fault;
+use roam_hub::{Addr, Client};
+use roam_terminals::{Painter, SharedStart};
+use roam_turns::Ports;
+use std::alloc::Global;
+use std::io::{Read, Write};
+
+/// A start of a session with one terminal: so many rounds of it.
+pub fn share<S: Read + Write + Drop, P: Ports + Drop>(
+    alloc: Global,
+    client: Client,
+    ports: P,
+    stream: S,
+    server: Addr,
+    rounds: u64,
+) -> Result<(), Fault> {
+    let mut shared = SharedStart::new(alloc, client);
+    let mut painter = Painter::new(alloc, ports);
+    shared.add(alloc, stream)?;
+    for _ in 0..rounds {
+        // Whoever has something better to do waits so long at most.
+        let _ = shared.round(alloc, &mut painter, server);
+    }
+    Ok(())
+}
+// README: end
