@@ -6,7 +6,7 @@ use mio::net::{UnixListener, UnixStream};
 use roam_cells::Fault;
 use roam_faults::RunFault;
 use roam_hub::{Addr, Client};
-use roam_links::{listen, wait_until};
+use roam_links::{SHORT_WAIT, listen, wait_until};
 use roam_terminals::{End, MOST_TERMINALS, Painter, SharedStart};
 use std::alloc::Global;
 use std::fs::{Files, remove_file};
@@ -15,6 +15,9 @@ use std::time::Clock;
 
 /// How many milliseconds a start goes on at most after a terminal asked for its end.
 const SECOND: u64 = 1000;
+
+/// So many rounds end with the machine.
+const FOR_GOOD: u64 = u64::MAX;
 
 // A client start with its outer terminals, and the socket at which they come.
 #[derive(Drop)]
@@ -52,6 +55,15 @@ impl<R: Clock + Drop> Start<R> {
         self.shared.client().is_settled() || silence.has_passed(asked, SECOND)
     }
 
+    // How many milliseconds may be waited at most: a short while where the rounds are counted, so that they end by themselves.
+    fn longest(&self, wait: u64, rounds: u64) -> u64 {
+        if rounds == FOR_GOOD {
+            wait
+        } else {
+            wait.min(SHORT_WAIT)
+        }
+    }
+
     // Waits until something comes or is due, so many milliseconds at most.
     fn rest(&mut self, longest: u64) {
         let silence = self.painter.silence();
@@ -85,7 +97,8 @@ impl<R: Clock + Drop> Start<R> {
             if self.is_over() {
                 break;
             }
-            self.rest(wait);
+            let longest = self.longest(wait, rounds);
+            self.rest(longest);
         }
         self.painter.silence().end()
     }

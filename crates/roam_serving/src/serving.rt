@@ -19,6 +19,9 @@ use std::net::Net;
 use std::random::RandomSource;
 use std::time::Clock;
 
+/// So many turns end with the machine.
+const FOR_GOOD: u64 = u64::MAX;
+
 /// What `roam serve` is asked for.
 #[derive(Clone, Copy, Debug, PartialEq, Eq)]
 pub struct Serve<'a> {
@@ -69,7 +72,8 @@ fn panes_of(server: &Server) -> PaneList
     panes
 }
 
-// Takes the turns of a server, tells after each who follows the panes, and waits where one brought nothing.
+// Takes the turns of a server, tells after each who follows the panes, and waits where one brought nothing: until something is due where
+// the turns go on for good, else a short while, so that they end by themselves.
 fn serve_turns<C: Clock + Drop>(
     alloc: Global,
     turns: u64,
@@ -79,7 +83,11 @@ fn serve_turns<C: Clock + Drop>(
     for _ in 0..turns {
         serve_turn(alloc, server, ports);
         ports.tell_panes(&panes_of(server));
-        ports.rest(server.next_due());
+        ports.rest(if turns == FOR_GOOD {
+            server.next_due()
+        } else {
+            Some(0)
+        });
     }
 }
 

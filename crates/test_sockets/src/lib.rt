@@ -17,3 +17,5 @@ mod programs;
 mod runs;
 #[cfg(test)]
 mod silence;
+#[cfg(test)]
+mod terminals;

@@ -120,6 +120,8 @@ second types char 61/char 62
 second leaves
 round
 acts 5
+round
+acts 5
 terminals 0
 second connects shared/terminals
 second types end/
