@@ -27,7 +27,8 @@ touched_is r n s m known =
     go r.known (nat_lt m (r.heard_at + 60000)) (nat_lt (newest r.sender).number n) (nat_lt (count r.sender) 8) known
   where
     go : (k l a b : Bool) → k ≡ true
-        → (((k && l) && a && b) || ((k && l) && (is_due (cond ((k && l) && a && b) (offered r.sender n s) r.sender) m || is_overdue r.owed m)))
+        → (((k && l) && a && b)
+        || ((k && l) && (is_due (cond ((k && l) && a && b) (offered r.sender n s) r.sender) m || is_overdue r.owed m)))
         ≡ (l && ((a && b) || (is_due r.sender m || is_overdue r.owed m)))
     go false l a b e = absurd (cc)
     go true false a b e = refl
@@ -67,7 +68,8 @@ unfolding holds_after
 held_due v n s now e = go (nat_lt now (v.heard_at + 60000)) (nat_lt (newest v.sender).number n) (nat_lt (count v.sender) 8) e
   where
     go : (l a b : Bool)
-        → ((true && l) && (is_due (cond ((true && l) && a && b) (offered v.sender n (seen_by v.version s)) v.sender) now || is_overdue v.owed now)) ≡ true
+        → ((true && l) && (is_due (cond ((true && l) && a && b) (offered v.sender n (seen_by v.version s)) v.sender) now
+        || is_overdue v.owed now)) ≡ true
         → (l && ((a && b) || (is_due v.sender now || is_overdue v.owed now))) ≡ true
     go false a b f = absurd (cc)
     go true false b f = f
@@ -269,7 +271,8 @@ module _ (v : ServerView) (s : Server) (st : Stands v s) (number records due res
       then : (e : ℕ) → due ≡ Some e → is_server_due s (max e v.clock) ≡ true
       then e is = due_is v s (max e v.clock) st ∙ by chosen
         where
-          by : (due ≡ number) ⊎ (due ≡ records) → (makes_at v (max e v.clock) || list_any (is_entry_due v.made (max e v.clock)) v.records) ≡ true
+          by : (due ≡ number) ⊎ (due ≡ records)
+              → (makes_at v (max e v.clock) || list_any (is_entry_due v.made (max e v.clock)) v.records) ≡ true
           by (inl f) =
               ap (λ b. b || list_any (is_entry_due v.made (max e v.clock)) v.records)
               (made.from (max e v.clock) (ap (λ (o : Option ℕ). has_come o (max e v.clock)) (sym f ∙ is)

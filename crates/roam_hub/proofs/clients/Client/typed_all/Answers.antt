@@ -17,6 +17,6 @@ invariant_of-self c = (
 
 pub returns-clause-typed : goal.returns-clause-typed
 returns-clause-typed c session id k st =
-    types_all session id k c.args.acts.now c.typed_all.result (the_view c.self.inside) c.typed_all.new.self (c.self.view_is ∙ st) c.if-self.false
-    c.typed_all.ensures.ok c.typed_all.ensures.busy c.typed_all.ensures.spent c.typed_all.ensures.memory c.typed_all.ensures.err
-    c.typed_all.ensures.fault
+    types_all session id k c.args.acts.now c.typed_all.result (the_view c.self.inside) c.typed_all.new.self (c.self.view_is ∙ st)
+    c.if-self.false c.typed_all.ensures.ok c.typed_all.ensures.busy c.typed_all.ensures.spent c.typed_all.ensures.memory
+    c.typed_all.ensures.err c.typed_all.ensures.fault
