@@ -1,10 +1,11 @@
 //! `roam serve`: a server round its sockets.
-ghost use Rattle.std.specs.Prelude.{◌≡◌, ◌⊎◌, ℕ, min, Some, Ok, IfErr, IsOkUnless};
+ghost use Rattle.std.specs.Prelude.{◌≡◌, ◌⊎◌, ℕ, min, Some, Ok, IfOk, OnOk, IfErr, IsOkUnless};
 ghost use Rattle.roam_session.specs.Lives.{life_of};
 ghost use Rattle.roam_session.specs.Places.{rect_at};
 ghost use Rattle.roam_world.specs.Servers.{Server as ServerOf};
 ghost use Rattle.roam_hub.specs.Servers.{Stands};
 ghost use Rattle.roam_serving.specs.Following.{ArePanesOf, pane_of};
+ghost use Rattle.roam_serving.specs.Runs.{Serves, ServesTurns};
 
 use crate::server_ports::{OwnStart, ServerPorts};
 use roam_cells::Fault;
@@ -79,7 +80,9 @@ fn serve_turns<C: Clock + Drop>(
     turns: u64,
     server: &mut Server,
     ports: &mut ServerPorts<C>,
-) {
+)
+    ensures turns { ServesTurns turns server.old server.new }
+{
     for _ in 0..turns {
         serve_turn(alloc, server, ports);
         ports.tell_panes(&panes_of(server));
@@ -131,6 +134,7 @@ fn serve_bound<R: Files + Net + Clock + RandomSource + Eprint + AllocGlobal>(
     session: u64,
     server: &mut Server,
 ) -> Result<(), RunFault>
+    ensures turns { OnOk result (ServesTurns serve.now.turns server.old server.new) }
     ensures faults { IfErr result (λ fault. (fault ≡ RunFault.Bind) ⊎ (fault ≡ RunFault.Core Fault.OutOfMemory) ⊎ (fault ≡ RunFault.Read)) }
 {
     let alloc = rt.alloc();
@@ -169,6 +173,7 @@ pub fn run_serve<R: Files + Net + Clock + RandomSource + Eprint + AllocGlobal>(
     rt: &R,
     serve: &Serve<'_>,
 ) -> Result<(), RunFault>
+    ensures serves { IfOk result (λ _. Serves serve.now.session serve.now.turns) }
     ensures faults { IfErr result (λ fault. (fault ≡ RunFault.Bind) ⊎ (fault ≡ RunFault.Core Fault.OutOfMemory) ⊎ (fault ≡ RunFault.Read)) }
 {
     if !is_own(rt, serve.folder, serve.port.is_none()) {
