@@ -93,8 +93,8 @@ const SESSION: Choice<'static> = Choice {
 const TURNS: Choice<'static> = Choice {
     name: "turns",
     value: "N",
-    help: "How many turns the run takes, 18446744073709551615 where it isn't given. One that brings nothing waits up to 10 milliseconds; \
-           a busy pane takes thousands a second",
+    help: "How many turns the run takes, 18446744073709551615 where it isn't given. Of so many as are given one that brings nothing waits \
+           up to 10 milliseconds; a busy pane takes thousands a second",
     reads: Reads::Large,
     needed: Needed::Never,
     needs: &[],
