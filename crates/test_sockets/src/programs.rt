@@ -54,16 +54,14 @@ fn writes(program: &mut UnixStream, text: &str) -> bool {
 
 // Writes a text, in which `/` stands for the end of a line.
 fn types(program: &mut UnixStream, text: &str) -> bool {
-    let mut buf = [0u8; 256];
-    let mut count = 0;
-    for (place, byte) in buf.iter_mut().zip(text.as_bytes().iter()) {
-        *place = if *byte == b'/' { b'\n' } else { *byte };
-        count += 1;
+    for byte in text.as_bytes() {
+        let byte = if *byte == b'/' { b'\n' } else { *byte };
+        match program.write(&[byte]) {
+            Ok(1) => {}
+            _ => return false,
+        }
     }
-    match program.write(&buf[..count]) {
-        Ok(written) => written == text.len(),
-        Err(_) => false,
-    }
+    true
 }
 
 fn writes_or_reads(program: &mut UnixStream, words: &str) -> bool {
