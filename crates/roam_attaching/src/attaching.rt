@@ -405,11 +405,11 @@ fn follow_terminals<R: Files + Net + Clock + RandomSource + AllocGlobal>(
 /// ended by LF but maybe the last. A line that is no act, or has more than 64 bytes, is `Act` once all acts before it were taken. Where the
 /// stream is at its end, or reading it fails, the run ends as soon as all acts were taken and are acknowledged, or after a second.
 ///
-/// Where outer terminals come to a socket, that socket is bound, and its file removed in the end; the run goes on until the server has ended,
-/// one of them asks for the end, or all turns are taken (`roam_terminals` says what a terminal may write and what it is painted).
+/// Where outer terminals come to a socket, that socket is bound, and its file removed in the end; the run goes on until the server has
+/// ended, one of them asks for the end, or all turns are taken (`roam_terminals` says what a terminal may write and what it is painted).
 ///
-/// `Bind` where no port or socket can be bound, `Connect` where nobody listens in the server's folder, `Read` where its file `session` has no id and
-/// none was given, `Write` where nobody reads what is painted any more, showing it has failed for half a second, or the
+/// `Bind` where no port or socket can be bound, `Connect` where nobody listens in the server's folder, `Read` where its file `session` has
+/// no id and none was given, `Write` where nobody reads what is painted any more, showing it has failed for half a second, or the
 /// outer terminal took not all of what was last shown; `OutOfMemory`.
 pub fn follow_session<R: Files + Net + Clock + RandomSource + AllocGlobal, W: Write + Drop>(
     rt: &R,

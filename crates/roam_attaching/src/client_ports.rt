@@ -19,8 +19,8 @@ use std::time::Clock;
 /// How many milliseconds of failing are enough.
 const HALF_SECOND: u64 = 500;
 
-/// The ports of a client start: its connection, and where the outer terminal's bytes go. They know when something was heard last, and since when
-/// showing fails.
+/// The ports of a client start: its connection, and where the outer terminal's bytes go. They know when something was heard last, and since
+/// when showing fails.
 #[derive(Drop)]
 pub struct ClientPorts<R, W> {
     connection: Connection<R>,
@@ -117,7 +117,8 @@ impl<R: Clock + Drop, W: Write + Drop> ClientPorts<R, W> {
     pub fn rest(&mut self)
         ensures quiet { self.new.connection.waits.quiet ≡ true }
         ensures others { self.new ≡ record self.old { connection = self.new.connection } }
-        ensures connection { self.new.connection ≡ record self.old.connection { waits = self.new.connection.waits; way = self.new.connection.way } }
+        ensures connection { self.new.connection
+            ≡ record self.old.connection { waits = self.new.connection.waits; way = self.new.connection.way } }
     {
         self.connection.rest(SHORT_WAIT);
     }

@@ -231,8 +231,8 @@ impl Followers {
         })
     }
 
-    /// Tells the programs what is new of the panes, one that comes all, and does what their lines ask for: a close each time. Those that left
-    /// are let go. Tells whether more may be asked for already.
+    /// Tells the programs what is new of the panes, one that comes all, and does what their lines ask for: a close each time. Those that
+    /// left are let go. Tells whether more may be asked for already.
     pub(crate) fn tell(
         &mut self,
         alloc: Global,

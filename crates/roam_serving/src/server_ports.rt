@@ -137,7 +137,8 @@ impl<R: Clock + Drop> ServerPorts<R> {
         ensures none { IfOk result (λ ports. All (λ pane. pane.making ≡ None) ports.panes.all.items) }
         ensures named { IfOk result (λ _. folder.now ≢ []) }
         ensures paths { IfOk result (λ ports. map (λ pane. string_bytes pane.path) ports.panes.all.items ≡ paths_of folder.now 9) }
-        ensures followers { IfOk result (λ ports. (ports.followers.all.items ≡ []) × (string_bytes ports.followers.path ≡ panes_path folder.now)) }
+        ensures followers { IfOk result (λ ports. (ports.followers.all.items ≡ [])
+            × (string_bytes ports.followers.path ≡ panes_path folder.now)) }
         ensures clients { IfOk result (λ ports. (string_bytes ports.clients.path ≡ clients_path folder.now) × (ports.clients.last ≡ 0)) }
         ensures faults { IfErr result (λ fault. (fault ≡ RunFault.Bind) ⊎ (fault ≡ RunFault.Core Fault.OutOfMemory)) }
     {
@@ -194,8 +195,8 @@ impl<R: Clock + Drop> ServerPorts<R> {
         }
     }
 
-    /// Writes what waits for client starts, takes those that come, and waits until something comes or is due at a moment, where nothing came
-    /// since the last call and no datagram of its own start waits.
+    /// Writes what waits for client starts, takes those that come, and waits until something comes or is due at a moment, where nothing
+    /// came since the last call and no datagram of its own start waits.
     pub fn rest(&mut self, due: Option<u64>)
         ensures quiet { self.new.waits.quiet ≡ true }
         ensures panes { self.new.panes ≡ self.old.panes }

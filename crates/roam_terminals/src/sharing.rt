@@ -215,9 +215,9 @@ impl<S: Read + Write + Drop> SharedStart<S> {
         rotate(&mut self.all);
     }
 
-    /// A round of the start with its terminals, round ports: of each the line that stands first is taken, then each that is ready takes a turn, whose
-    /// datagrams go to an address, and what waits for them is written. They are asked in another order each time. Answers how many
-    /// milliseconds may be waited at most until the next round where nothing comes.
+    /// A round of the start with its terminals, round ports: of each the line that stands first is taken, then each that is ready takes a
+    /// turn, whose datagrams go to an address, and what waits for them is written. They are asked in another order each time. Answers how
+    /// many milliseconds may be waited at most until the next round where nothing comes.
     pub fn round<P: Ports + Drop>(
         &mut self,
         alloc: Global,

@@ -1,8 +1,8 @@
 //! What a program does at a socket, as text.
 //!
-//! `connects PATH` and `leaves`; `writes TEXT`; `types TEXT`, in which `/` is written as the end of a line; `reads TEXT`, just that, where `/` stands for the end of a line; `waits`: it is neither let
-//! go nor told anything; `is let go`: there is nothing more for it to read, or what it wrote last was never read; `is let go unread`: what
-//! it wrote last was never read.
+//! `connects PATH` and `leaves`; `writes TEXT`; `types TEXT`, in which `/` is written as the end of a line; `reads TEXT`, just that, where
+//! `/` stands for the end of a line; `waits`: it is neither let go nor told anything; `is let go`: there is nothing more for it to read, or
+//! what it wrote last was never read; `is let go unread`: what it wrote last was never read.
 use mio::net::UnixStream;
 use std::io::{ErrorKind, Read, Write};
 use std::test::*;
