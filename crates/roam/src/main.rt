@@ -5,12 +5,12 @@
 //! `roam serve` serves a session whose panes are reached at sockets; `roam attach` follows one and paints it.
 #![tactic(auto)]
 
+use roam_attaching::{Attach, Home, Typed, run_attach};
 use roam_command::{Request, Server, Source, Wire, asked, words_of};
 use roam_faults::{RunFault, end};
 use roam_play::run_world;
 use roam_serving::{Serve, run_serve};
 use roam_show::run_show;
-use roam_attaching::{Attach, Home, Typed, run_attach};
 use roam_wire::Version;
 use std::io;
 use std::os::fd::RawFd;
