@@ -77,8 +77,8 @@ Options:
       --terminals <SOCKET>  Bind this Unix socket, and be the start of all outer terminals that connect there
       --wire <V>            The version of the protocol, 1 or 2; 2 where it isn't given
       --watch               Only watches: no act is typed
-      --turns <N>           How many turns the run takes, 18446744073709551615 where it isn't given. Of so many as are given one that brings \
-    nothing waits up to 10 milliseconds; a busy pane takes thousands a second
+      --turns <N>           How many turns the run takes, 18446744073709551615 where it isn't given. Of so many as are given one \
+    that brings nothing waits up to 10 milliseconds; a busy pane takes thousands a second
   -h, --help                Print help
 
 Where it ends by itself it tells why on standard error, as [the turns are over], and its status is 0.
