@@ -1,5 +1,5 @@
 -- Gathering: what a gatherer holds, and how a fragment changes it (this project's profile).
-use Rattle.std.specs.Prelude.{◌≡◌, ℕ, true, not, ◌||◌, ◌&&◌, List, [], length, replicate, is_some, slice_set, get_or, unwrap_or, Option, Some, None, nat_lt, nat_le, ◌==◌, if◌then◌else◌}
+use Rattle.std.specs.Prelude.{◌≡◌, ℕ, Bool, true, false, not, ◌||◌, ◌&&◌, List, [], length, replicate, is_some, slice_set, get_or, unwrap_or, Option, Some, None, nat_lt, nat_le, ◌==◌, if◌then◌else◌}
 use Rattle.roam_wire.specs.Datagrams.{DatagramValue}
 use Rattle.roam_wire.specs.Fragments.{all_there, text_of}
 use Rattle.roam_wire.specs.declared.gatherers.Gathered.{Gathered}
@@ -64,6 +64,15 @@ gather g p =
     else if not (length g.fragments == p.count) then None
     else if is_some (get_or g.fragments p.index None) then Some (Old, g)
     else Some (with_fragment g.fragments p)
+
+-- a fragment that is missing: one that begins an instruction anew, or that isn't there of the current one
+abbrev pub is_missing : Gathering → FragmentValue → Bool
+is_missing g p =
+    if nat_lt p.id g.id || (p.id == g.id && all_there g.fragments) then false
+    else if nat_le p.count p.index then false
+    else if nat_lt g.id p.id then true
+    else if not (length g.fragments == p.count) then false
+    else not (is_some (get_or g.fragments p.index None))
 
 -- what is gathered once the last fragment is taken back
 abbrev pub untaken : GathererValue → GathererValue

@@ -102,10 +102,10 @@ fn begun(
 }
 
 impl Gatherer {
-    ghost use Rattle.std.specs.Prelude.{◌≡◌, ◌⊎◌, ◌↔◌, Some, None, IfOk, IfErr, OnOk, OnErr, IsErrOf};
+    ghost use Rattle.std.specs.Prelude.{◌≡◌, ◌⊎◌, ◌↔◌, true, Some, None, IfOk, IfErr, OnOk, OnErr, IsErrOf};
     ghost use Rattle.roam_cells.specs.declared.faults.Reason.TheVariants.{Fragment};
     ghost use Rattle.roam_wire.specs.Datagrams.{datagram_value};
-    ghost use Rattle.roam_wire.specs.Gatherers.{gather, answer_of, nothing, fragment_of, untaken};
+    ghost use Rattle.roam_wire.specs.Gatherers.{gather, answer_of, is_missing, nothing, fragment_of, untaken};
 
     /// A gatherer to which nothing has come. It takes no memory.
     pub fn new(alloc: Global) -> Gatherer
@@ -131,6 +131,8 @@ impl Gatherer {
             ↔ (gather self.old.current (fragment_of (datagram_value datagram.now)) ≡ None) }
         ensures err { OnErr result (self.new ≡ self.old) }
         ensures fault { IfErr result (λ e. (e ≡ Fault.OutOfMemory) ⊎ (e ≡ Fault.BadDatagram Fragment)) }
+        // Memory is wanted for a missing fragment alone.
+        ensures memory { IsErrOf result Fault.OutOfMemory → is_missing self.old.current (fragment_of (datagram_value datagram.now)) ≡ true }
     {
         let whole = self.fragments.is_whole();
         if datagram.id < self.id || (datagram.id == self.id && whole) {
