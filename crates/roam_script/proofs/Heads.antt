@@ -14,7 +14,7 @@ use Rattle.roam_script.specs.declared.lines.LineFault.{LineFault}
 use Rattle.roam_script.specs.declared.lines.LineFault.TheVariants.{BadEvent, OutOfMemory}
 use Rattle.roam_script.specs.Values.{LineValue, IsLine}
 use Rattle.roam_script.specs.Kinds.{head_of, headed_in, kind_of, kinds}
-use Rattle.roam_script.specs.Lines.{IsArgument, Says, value_of}
+use Rattle.roam_script.specs.Lines.{BeginsPane, IsArgument, Says, value_of}
 use Rattle.roam_script.specs.Reading.{byte_in, bytes_in, each_of, first_word, pair_of, plain_in, two_in}
 use Rattle.roam_script.specs.Arguments.{IsRead, IsLineWith, IsNoLineWith}
 use Rattle.roam_script.proofs.Telling.{IsPlain, OneAct, one_line, pane_bytes_none, plain_again, plain_found}
@@ -50,6 +50,10 @@ head_found : (line : List ℕ) (k : Kind) → headed_in kinds line ≡ Some k �
 head_found line k e =
     let passes = found (λ x. starts_with nat_eq line (head_of x)) kinds k e in
     (starts_is Decides-eqb line (head_of k) (starts_with nat_eq line (head_of k)) refl).0 passes
+
+-- a line of whose kind a fault tells begins as one of a pane's bytes does
+pub begins_pane : (line : List ℕ) (k : Kind) → headed_in kinds line ≡ Some k → k ≡ kind.PaneBytes → BeginsPane line
+begins_pane line k e is = (_, head_found line kind.PaneBytes (e ∙ ap Some is))
 
 pub head_fits : (line : List ℕ) (k : Kind) → headed_in kinds line ≡ Some k → length (head_of k) ≤ length line
 head_fits line k e = omega (arith, ap length (head_found line k e), length-append (head_of k) (drop (length (head_of k)) line))

@@ -10,6 +10,7 @@ use Rattle.roam_wire.specs.declared.versions.Version.TheVariants.{One}
 use Rattle.roam_wire.specs.Versions.{number_of_version}
 use Rattle.roam_script.specs.Values.{LineValue, Session, Start, Watch, PaneBytes, Typed, ServerTick, ClientTick, ToServer, ToClient, Drained, Show, Face, Output}
 use Rattle.roam_script.specs.Kinds.{head_of, kind_of}
+use Rattle.roam_script.specs.declared.kinds.Kind.TheVariants.{PaneBytes as PaneBytesKind}
 
 -- what a line of the code says, as the definitions name it
 abbrev pub value_of : Line → LineValue
@@ -56,3 +57,7 @@ IsArgument (Output pane) text = text ≡ decimal pane
 -- a line says this: its head, and what may stand after it
 abbrev pub Says : List ℕ → LineValue → Type 0
 Says line l = (text : List ℕ) × (line ≡ head_of (kind_of l) ++ text) × IsArgument l text
+
+-- a line begins as one of a pane's bytes does
+abbrev pub BeginsPane : List ℕ → Type 0
+BeginsPane line = (text : List ℕ) × (line ≡ head_of PaneBytesKind ++ text)

@@ -1,8 +1,8 @@
 //! Lines of a script, as values.
-ghost use Rattle.std.specs.Prelude.{◌≡◌, ◌⊎◌, None, Some, IfOk, MatchResult};
+ghost use Rattle.std.specs.Prelude.{◌≡◌, ◌⊎◌, None, Some, IfOk, IsErrOf, MatchResult};
 ghost use Rattle.std.specs.Option.{option_map};
 ghost use Rattle.roam_script.specs.Values.{LineValue, IsLine};
-ghost use Rattle.roam_script.specs.Lines.{Says, value_of};
+ghost use Rattle.roam_script.specs.Lines.{BeginsPane, Says, value_of};
 ghost use Rattle.roam_script.specs.Skipped.{is_skipped};
 ghost use Rattle.roam_script.specs.Reading.{bytes_in, plain_in, start_in, version_in};
 ghost use Rattle.roam_script.specs.Arguments.{IsRead};
@@ -231,6 +231,7 @@ fn pane_bytes(alloc: Global, text: &[u8]) -> Result<Line, LineFault>
 // The line of a typed act.
 fn typed(text: &[u8]) -> Result<Line, LineFault>
     ensures read { IsRead Kind.Typed text.now result }
+    ensures memory { IsErrOf result LineFault.OutOfMemory → ⊥ }
 {
     let Some((first, rest)) = word(text) else {
         return Err(LineFault::BadEvent);
@@ -247,6 +248,7 @@ fn typed(text: &[u8]) -> Result<Line, LineFault>
 // The line of a kind, by what follows its head.
 fn argument(alloc: Global, kind: Kind, text: &[u8]) -> Result<Line, LineFault>
     ensures read { IsRead kind text.now result }
+    ensures memory { IsErrOf result LineFault.OutOfMemory → kind ≡ Kind.PaneBytes }
 {
     match kind {
         Kind::PaneBytes => pane_bytes(alloc, text),
@@ -256,13 +258,15 @@ fn argument(alloc: Global, kind: Kind, text: &[u8]) -> Result<Line, LineFault>
 }
 
 /// What a line without its end says. `BadEvent` where it says nothing: an unknown word, a number outside its range, a bad act among them;
-/// `OutOfMemory`.
+/// `OutOfMemory`, for a pane's bytes alone.
 pub fn read_line(alloc: Global, line: &[u8]) -> Result<Line, LineFault>
     // What is read is said so.
     ensures found { IfOk result (λ l. IsLine (value_of l) × Says line.now (value_of l)) }
     // What is said so is read.
     ensures only { (l : LineValue) → IsLine l → Says line.now l
         → MatchResult result (λ r. value_of r ≡ l) (λ e. e ≡ LineFault.OutOfMemory) }
+    // Memory is wanted for a pane's bytes alone.
+    ensures memory { IsErrOf result LineFault.OutOfMemory → BeginsPane line.now }
 {
     one_act_a_line();
     let Some(kind) = Kind::headed(line) else {
