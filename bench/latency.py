@@ -133,33 +133,33 @@ def roam_pane(program, folder):
 
 
 @contextmanager
-def tmux(folder, shell, socket_name):
+def tmux(folder, shell, socket_name, **environment):
     """The terminal of a client of tmux that runs a shell command."""
     words = ["tmux", "-S", os.path.join(folder, socket_name), "-f", "/dev/null"]
-    with on_terminal([*words, "new-session", shell]) as master:
+    with on_terminal([*words, "new-session", shell], **environment) as master:
         yield master
         subprocess.run([*words, "kill-server"], stderr=subprocess.DEVNULL, check=False)
 
 
 @contextmanager
-def mosh(shell, port):
+def mosh(shell, port, **environment):
     """The terminal of a client of mosh whose server runs a shell command."""
     words = ["mosh-server", "new", "-i", "127.0.0.1", "-p", str(port), "--", "sh", "-c", shell]
-    known = dict(os.environ, LC_ALL="C.UTF-8", PS1="$ ")
+    known = dict(os.environ, LC_ALL="C.UTF-8", PS1="$ ", **environment)
     said = subprocess.run(words, env=known, capture_output=True, text=True, check=True)
     bound, key = re.search(r"MOSH CONNECT (\d+) (\S+)", said.stdout).groups()
     server = int(re.search(r"pid = (\d+)", said.stderr + said.stdout).group(1))
     try:
-        with on_terminal(["mosh-client", "127.0.0.1", bound], MOSH_KEY=key, MOSH_PREDICTION_DISPLAY="never") as master:
+        with on_terminal(["mosh-client", "127.0.0.1", bound], MOSH_KEY=key, MOSH_PREDICTION_DISPLAY="never", **environment) as master:
             yield master
     finally:
         os.kill(server, signal.SIGTERM)
 
 
 @contextmanager
-def roam_keys(program, folder):
+def roam_keys(program, folder, **environment):
     """The terminal of a session that tools/mux starts."""
-    known = {"ROAM": program, "XDG_RUNTIME_DIR": folder}
+    known = {"ROAM": program, "XDG_RUNTIME_DIR": folder, **environment}
     with on_terminal([str(TOOLS / "mux"), "measured"], **known) as master:
         yield master
         subprocess.run([str(TOOLS / "mux"), "kill", "measured"], env=dict(os.environ, **known), check=False)
@@ -179,13 +179,13 @@ def pane_sides(stack, program, folder):
     return sides
 
 
-def key_sides(stack, program, folder):
-    """How a person types, and where it is shown."""
-    masters = {"roam": stack.enter_context(roam_keys(program, folder))}
+def key_sides(stack, program, folder, known=lambda name: {}):
+    """How a person types, and where it is shown; what each side's processes find in their environment is told by its name."""
+    masters = {"roam": stack.enter_context(roam_keys(program, folder, **known("roam")))}
     if shutil.which("tmux"):
-        masters["tmux"] = stack.enter_context(tmux(folder, "exec sh", "tmux_keys"))
+        masters["tmux"] = stack.enter_context(tmux(folder, "exec sh", "tmux_keys", **known("tmux")))
     if shutil.which("mosh-server"):
-        masters["mosh"] = stack.enter_context(mosh("exec sh", 60501 + os.getpid() % 400))
+        masters["mosh"] = stack.enter_context(mosh("exec sh", 60501 + os.getpid() % 400, **known("mosh")))
     return {name: (lambda piece, master=master: os.write(master, piece), master) for name, master in masters.items()}
 
 

@@ -1,5 +1,6 @@
 """A person's client of a session: a terminal connected to the session's client start, until the person leaves or the session ends."""
 import contextlib
+import re
 import select
 import signal
 import time
@@ -27,6 +28,9 @@ PROBES = 2.0
 LOSS_TOLD = 3.0
 
 LEAVING = (signal.SIGTERM, signal.SIGHUP, signal.SIGINT)
+
+# What the start tells of a silent server, with what follows it: the key that leaves is told there.
+SILENCE = re.compile(rb"(roam: no answer for \d+ s)(\x1b\[0m)")
 
 
 class Client:
@@ -152,7 +156,7 @@ class Client:
         link = self.link
         piece = link.painted() if link in readable else None
         if piece:
-            self.display.painted(piece)
+            self.display.painted(SILENCE.sub(rb"\1; %s d leaves\2" % self.commands.prefix.encode(), piece))
         if piece == b"" or link in writable and not link.send():
             self.lost()
 
