@@ -8,3 +8,4 @@ pub mod HopTick
 pub mod HopDeliveries
 pub mod Hopping
 pub mod Readiness
+mod Losing

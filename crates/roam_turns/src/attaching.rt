@@ -39,6 +39,7 @@ fn receive_all<C: ClientCore, P: Ports>(alloc: Global, client: &mut C, ports: &m
         (C.made client.old) (C.made client.new) client.old client.new }
     ensures follows { Follows (C.number client.old) (C.screen client.old) (C.number client.new) (C.screen client.new) }
     ensures written { Keeps (P.written ports.old) (P.written ports.new) }
+    ensures notice { P.notice ports.new ≡ P.notice ports.old }
 {
     let mut buf = [0; DATAGRAM];
     for _ in 0..MOST_RECEIVES {
@@ -62,6 +63,7 @@ fn paint_screen<C: ClientCore, P: Ports>(
         (P.told ports.old) (P.told ports.new) (C.made client.now) (C.made client.now) client.now client.now }
     ensures screen { IsScreenshot (C.screen client.now) }
     ensures led { Led outer.old (P.written ports.old) outer.new (P.written ports.new) }
+    ensures notice { P.notice ports.new ≡ P.notice ports.old }
 {
     painted_leads_over();
     opened_begins_blank();
@@ -93,6 +95,7 @@ fn tick_and_send<C: ClientCore, P: Ports>(
     ensures number { C.number client.new ≡ C.number client.old }
     ensures screen { C.screen client.new ≡ C.screen client.old }
     ensures written { Keeps (P.written ports.old) (P.written ports.new) }
+    ensures notice { P.notice ports.new ≡ P.notice ports.old }
 {
     match client.tick(alloc, now) {
         Ok(texts) => send_texts(ports, to, &texts),
@@ -128,6 +131,7 @@ pub fn attach_turn<C: ClientCore, P: Ports>(
     // What the start shows never falls, and under one number it is one screen.
     ensures follows { Follows (C.number client.old) (C.screen client.old) (C.number client.new) (C.screen client.new) }
     ensures led { Led outer.old (P.written ports.old) outer.new (P.written ports.new) }
+    ensures notice { P.notice ports.new ≡ P.notice ports.old }
 {
     painted_leads_over();
     opened_begins_blank();

@@ -1,5 +1,5 @@
 //! Ports over memory, which tell their calls.
-ghost use Rattle.std.specs.Prelude.{◌≡◌, ◌≤◌, ◌∷◌, ◌++◌, [], is_ok, if◌then◌else◌, not, length, min, take, OnErr, IfOk, IfSome, Some, None};
+ghost use Rattle.std.specs.Prelude.{◌≡◌, ◌≤◌, ◌⊎◌, ◌∷◌, ◌++◌, [], is_ok, if◌then◌else◌, not, length, min, take, vec_capacity, vec_len, OnErr, IfOk, IfSome, Some, None};
 ghost use Rattle.roam_turns.specs.Calls.{Tells, received_call, pane_gave};
 ghost use Rattle.roam_turns.specs.Calls.PortCall.{Now, Sent, PaneLives, PaneTook, Showed};
 ghost use Rattle.roam_turns.specs.Giving.{next_call, goes_well, first_where, rest_where, is_first, gives_piece, receive_of, piece_of, Notes, Counts};
@@ -171,6 +171,11 @@ impl MemoryPorts {
         ensures told { IfOk call (λ it. Tells (told_of self.old) (told_of self.new) (call_of it ∷ [])) }
         ensures lost { OnErr call (told_of self.new ≡ None) }
         ensures notes { Notes self.old self.new }
+        // What is lost leaves the calls before it as they were.
+        ensures kept { OnErr call (self.new.told.items ≡ self.old.told.items) }
+        // One is lost only where there is no room for it.
+        ensures room { IfOk call (λ it. (self.new.told.items ≡ self.old.told.items ++ it ∷ [])
+            ⊎ ((self.new.told.items ≡ self.old.told.items) × (vec_capacity self.old.told ≤ vec_len self.old.told))) }
     {
         match call {
             Ok(it) => {

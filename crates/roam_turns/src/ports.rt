@@ -15,42 +15,52 @@ pub trait Ports {
     // What was written to the outer terminal, where that is known.
     ghost written: { Self → Option (List ℕ) } = { λ _. None };
 
+    // For how many seconds of silence the program itself tells over the outer terminal, where it does: no call of a turn changes that.
+    ghost notice: { Self → Option ℕ } = { λ _. None };
+
     /// The moment, in milliseconds.
     fn now(&mut self) -> u64
         ensures written { Keeps (written self.old) (written self.new) }
+        ensures notice { notice self.new ≡ notice self.old }
         ensures tells { Tells (told self.old) (told self.new) (Now result ∷ []) };
 
     /// A datagram that came: from where, and how many bytes of `buf` it fills from the front.
     fn receive(&mut self, buf: &mut [u8]) -> Option<(Addr, usize)>
         ensures within { IfSome result (λ r. r.1 ≤ length buf.new) }
         ensures written { Keeps (written self.old) (written self.new) }
+        ensures notice { notice self.new ≡ notice self.old }
         ensures tells { Tells (told self.old) (told self.new) (received_call (length buf.old) result buf.new ∷ []) };
 
     /// Sends a datagram, and tells whether it went.
     fn send(&mut self, to: Addr, bytes: &[u8]) -> bool
         ensures written { Keeps (written self.old) (written self.new) }
+        ensures notice { notice self.new ≡ notice self.old }
         ensures tells { Tells (told self.old) (told self.new) (Sent to bytes.now result ∷ []) };
 
     /// Tells which making of a pane, 1 to 9, is there, or that none is: a program that came to another one is let go, and nothing more of
     /// it is read.
     fn pane_lives(&mut self, pane: u8, life: Option<u64>)
         ensures written { Keeps (written self.old) (written self.new) }
+        ensures notice { notice self.new ≡ notice self.old }
         ensures tells { Tells (told self.old) (told self.new) (PaneLives pane life ∷ []) };
 
     /// Bytes that the program of pane 1 to 9 wrote: how many bytes of `buf` they fill from the front.
     fn pane_in(&mut self, pane: u8, buf: &mut [u8]) -> Option<usize>
         ensures within { IfSome result (λ n. n ≤ length buf.new) }
         ensures written { Keeps (written self.old) (written self.new) }
+        ensures notice { notice self.new ≡ notice self.old }
         ensures tells { Tells (told self.old) (told self.new) (pane_gave pane (length buf.old) result buf.new ∷ []) };
 
     /// Hands bytes to the program of pane 1 to 9, and tells how many it took from the front; 0 where it takes none.
     fn pane_out(&mut self, pane: u8, bytes: &[u8]) -> usize
         ensures within { result ≤ length bytes.now }
         ensures written { Keeps (written self.old) (written self.new) }
+        ensures notice { notice self.new ≡ notice self.old }
         ensures tells { Tells (told self.old) (told self.new) (PaneTook pane bytes.now result ∷ []) };
 
     /// Writes to the outer terminal, and tells whether all was written.
     fn show(&mut self, bytes: &[u8]) -> bool
         ensures written { result ≡ true → Appends (written self.old) (written self.new) bytes.now }
+        ensures notice { notice self.new ≡ notice self.old }
         ensures tells { Tells (told self.old) (told self.new) (Showed bytes.now result ∷ []) };
 }

@@ -1,5 +1,5 @@
 //! Datagrams go out, in their order.
-ghost use Rattle.std.specs.Prelude.{List, map};
+ghost use Rattle.std.specs.Prelude.{◌≡◌, List, map};
 ghost use Rattle.std.specs.Io.KnownBytes.{Keeps};
 ghost use Rattle.roam_wire.specs.Cutting.{texts_of};
 ghost use Rattle.roam_turns.specs.Calls.{PortCall, Tells, letters_in};
@@ -23,6 +23,7 @@ pub(crate) fn send_texts<P: Ports>(ports: &mut P, to: Addr, texts: &[Vec<u8>])
     ensures sends { (calls : List PortCall) × Tells (P.told ports.old) (P.told ports.new) calls
         × Sends (map (letter_to to) (texts_of texts.now)) calls }
     ensures written { Keeps (P.written ports.old) (P.written ports.new) }
+    ensures notice { P.notice ports.new ≡ P.notice ports.old }
 {
     for bytes in texts {
         ports.send(to, bytes);

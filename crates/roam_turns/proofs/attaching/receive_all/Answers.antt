@@ -1,4 +1,4 @@
-use Rattle.std.proofs.Common.{◌≡◌, ◌-◌, ◌+◌, ◌∷◌, [], suc, take, length, arith, rules, refl, subst}
+use Rattle.std.proofs.Common.{◌≡◌, ◌-◌, ◌+◌, ◌∷◌, [], suc, take, length, arith, rules, refl, subst, ◌∙◌}
 use Rattle.std.proofs.KnownBytes.{Keeps-refl, Keeps-trans}
 use Rattle.roam_turns.specs.Calls.{Tells}
 use Rattle.roam_turns.specs.Calls.PortCall.{Received, NothingReceived}
@@ -11,7 +11,7 @@ use Rattle.roam_turns.proofs.Starts.{follows_none, follows_both}
 use Rattle.roam_turns.proofs.attaching.receive_all.Goals as goal
 
 pub loop-init : goal.loop-init
-loop-init g c = (refl, Keeps-refl _, follows_none _ _, until_start g.C.ClientCore.step (ReceivesUpTo (IsToClient c.args.now) 2048 32))
+loop-init g c = (refl, Keeps-refl _, follows_none _ _, until_start g.C.ClientCore.step (ReceivesUpTo (IsToClient c.args.now) 2048 32), refl)
 
 pub returns-in-None-clause-receives : goal.returns-in-None-clause-receives
 returns-in-None-clause-receives g c =
@@ -62,7 +62,11 @@ loop-preserved g c =
           c.datagram-dropped.ensures.tells c.datagram-dropped.ensures.step)
           (λ xs all. record { from = from; bytes = bytes; call = call; given = (c.datagram-dropped.result, refl); all = all }))
           (receives_one_more (IsToClient now) 2048 n left e),
+      c.in-Some.ensures.notice ∙ c.loop.invariant.4,
     )
 
 pub returns-in-None-clause-written : goal.returns-in-None-clause-written
 returns-in-None-clause-written g c = Keeps-trans _ _ _ c.loop.invariant.1 c.in-None.ensures.written
+
+pub returns-in-None-clause-notice : goal.returns-in-None-clause-notice
+returns-in-None-clause-notice g c = c.in-None.ensures.notice ∙ c.loop.invariant.4

@@ -15,3 +15,4 @@ invariant-loop g l =
     × Makes g.C.ClientCore.step (Until (ReceivesUpTo (IsToClient l.now) 2048 32) (ReceivesUpTo (IsToClient l.now) 2048 (32 - l.counter)))
     (g.P.Ports.told l.initial.ports) (g.P.Ports.told l.ports)
     (g.C.ClientCore.made l.initial.client) (g.C.ClientCore.made l.client) l.initial.client l.client
+    × (g.P.Ports.notice l.ports ≡ g.P.Ports.notice l.initial.ports)

@@ -10,7 +10,7 @@ use Rattle.roam_turns.proofs.Letters.{sends_more}
 use Rattle.roam_turns.proofs.sending.send_texts.Goals as goal
 
 pub loop-bytes-init : goal.loop-bytes-init
-loop-bytes-init g c = ([], tells_none _, Keeps-refl _, refl)
+loop-bytes-init g c = ([], tells_none _, Keeps-refl _, refl, refl)
 
 pub loop-bytes-preserved : goal.loop-bytes-preserved
 loop-bytes-preserved g c =
@@ -34,4 +34,5 @@ loop-bytes-preserved g c =
       Keeps-trans _ _ _ h.2 c.send.ensures.written,
       subst (λ ls. Sends ls (h.0 ++ call ∷ [])) (sym letters)
           (sends_more (map (letter_to to) (texts_of (take i all))) h.0 letter c.send.result h.3),
+      c.send.ensures.notice ∙ h.4,
     )
