@@ -5,11 +5,11 @@
 //! `roam serve` serves a session whose panes are reached at sockets; `roam attach` follows one and paints it.
 #![tactic(auto)]
 
-use roam_attaching::{Attach, Home, Typed, run_attach};
+use roam_attaching::{Attach, Home, Typed, run_attach, tell_failed};
 use roam_command::{Request, Server, Source, Wire, asked, words_of};
 use roam_faults::{RunFault, end};
 use roam_play::run_world;
-use roam_serving::{Serve, run_serve};
+use roam_serving::{Serve, run_serve, tell_unbound};
 use roam_show::run_show;
 use roam_wire::Version;
 use std::io;
@@ -25,7 +25,7 @@ fn main(rt: HostRuntime) -> ExitCode {
         Err(status) => return status,
     };
     match asked(&rt, words.as_slice()) {
-        Ok(request) => end(&rt, run(&rt, request)),
+        Ok(request) => run(&rt, request),
         Err(status) => status,
     }
 }
@@ -56,22 +56,48 @@ fn version(wire: Wire) -> Version {
     }
 }
 
-fn run(rt: &HostRuntime, request: Request<'_>) -> Result<(), RunFault> {
+// Serves a session; where it couldn't be bound, says why on a second line.
+fn serve(rt: &HostRuntime, serve: &Serve<'_>) -> ExitCode {
+    let ran = run_serve(rt, serve);
+    let status = end(rt, ran);
+    if ran == Err(RunFault::Bind) {
+        tell_unbound(rt, serve);
+    }
+    status
+}
+
+// Follows a session; where a file or a socket was refused, says which and why on a second line.
+fn attach(rt: &HostRuntime, attach: &Attach<'_>) -> ExitCode {
+    let ran = run_attach(rt, attach, io::writer(rt));
+    let status = end(rt, ran);
+    if let Err(fault) = ran {
+        tell_failed(rt, attach, fault);
+    }
+    status
+}
+
+fn run(rt: &HostRuntime, request: Request<'_>) -> ExitCode {
     match request {
-        Request::Show { rows, cols } => run_show(
-            rt.alloc(),
-            rows,
-            cols,
-            &mut rt.reader(),
-            &mut io::writer(rt),
-        ),
-        Request::World => run_world(rt.alloc(), &mut rt.reader(), &mut io::writer(rt)),
+        Request::Show { rows, cols } => {
+            let ran = run_show(
+                rt.alloc(),
+                rows,
+                cols,
+                &mut rt.reader(),
+                &mut io::writer(rt),
+            );
+            end(rt, ran)
+        }
+        Request::World => {
+            let ran = run_world(rt.alloc(), &mut rt.reader(), &mut io::writer(rt));
+            end(rt, ran)
+        }
         Request::Serve {
             folder,
             port,
             session,
             turns,
-        } => run_serve(
+        } => serve(
             rt,
             &Serve {
                 folder,
@@ -88,7 +114,7 @@ fn run(rt: &HostRuntime, request: Request<'_>) -> Result<(), RunFault> {
             wire,
             watches,
             turns,
-        } => run_attach(
+        } => attach(
             rt,
             &Attach {
                 home: home(server),
@@ -100,7 +126,6 @@ fn run(rt: &HostRuntime, request: Request<'_>) -> Result<(), RunFault> {
                 turns,
                 painted_to: Some(STANDARD_OUTPUT),
             },
-            io::writer(rt),
         ),
     }
 }

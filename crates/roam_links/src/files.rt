@@ -5,6 +5,7 @@ use std::io;
 use std::io::{ErrorKind, Write};
 use std::net::Net;
 use std::os::unix::fs::{FileTypeExt, MetadataExt, OpenOptionsExt};
+use thiserror::Error;
 
 /// What the system tells of this process, whose owner its user is.
 const PROCESS: &str = "/proc/self";
@@ -43,13 +44,49 @@ pub fn listen<R: Files + Net>(rt: &R, path: &str) -> Option<UnixListener> {
     UnixListener::bind(rt, path).ok()
 }
 
+/// Why a folder can't hold a server's sockets.
+#[derive(Clone, Copy, Debug, PartialEq, Eq, Error)]
+pub enum FolderFault {
+    /// Nothing is there, or it can't be looked at.
+    #[error("no such folder")]
+    Missing,
+
+    /// A file is there, or a link.
+    #[error("not a folder")]
+    NoFolder,
+
+    /// It is another user's.
+    #[error("not your own")]
+    NotOwn,
+
+    /// Others may enter it.
+    #[error("others may enter it")]
+    Open,
+}
+
 /// Whether a folder is this user's own, and no link to one; where it has to be theirs alone, whether nobody else may enter it.
-pub fn is_own(files: &impl Files, folder: &str, is_alone: bool) -> bool {
+pub fn own_folder(files: &impl Files, folder: &str, is_alone: bool) -> Result<(), FolderFault> {
     let (Ok(found), Ok(process)) = (symlink_metadata(files, folder), metadata(files, PROCESS))
     else {
-        return false;
+        return Err(FolderFault::Missing);
     };
-    found.is_dir() && found.uid() == process.uid() && (!is_alone || found.mode() & OTHERS == 0)
+    if !found.is_dir() {
+        return Err(FolderFault::NoFolder);
+    }
+    if found.uid() != process.uid() {
+        return Err(FolderFault::NotOwn);
+    }
+    if is_alone && found.mode() & OTHERS != 0 {
+        return Err(FolderFault::Open);
+    }
+    Ok(())
+}
+
+/// Binds a path once more, to see why it can't be, and leaves nothing there.
+pub fn try_listen<R: Files + Net>(rt: &R, path: &str) -> io::Result<()> {
+    let listener = UnixListener::bind(rt, path)?;
+    drop(listener);
+    remove_file(rt, path)
 }
 
 /// Writes a file that this user alone may read, whole or not at all: it is written under another name beside, and renamed.

@@ -12,7 +12,7 @@ mod waits;
 
 pub use chance::random_id;
 pub use clients::{Clients, address_of};
-pub use files::{is_own, listen, write_alone};
+pub use files::{FolderFault, listen, own_folder, try_listen, write_alone};
 pub use moments::Moments;
-pub use udp::{Udp, loopback};
+pub use udp::{Udp, loopback, try_port};
 pub use waits::{SHORT_WAIT, Waits, wait_until};

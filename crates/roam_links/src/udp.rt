@@ -8,6 +8,7 @@ use roam_faults::RunFault;
 use roam_frames::{Queue, first_in};
 use roam_hub::Addr;
 use std::alloc::Global;
+use std::io;
 use std::net::{IpAddr, Ipv4Addr, Net, SocketAddr};
 
 /// What waits for an address, and how fast it goes there.
@@ -85,6 +86,12 @@ impl Lane {
         }
         self.queue.as_slice().is_empty()
     }
+}
+
+/// Binds a port of this machine once more, to see why it can't be.
+pub fn try_port(net: &impl Net, port: u16) -> io::Result<()> {
+    UdpSocket::bind(net, socket_addr(loopback(port)))?;
+    Ok(())
 }
 
 impl Udp {

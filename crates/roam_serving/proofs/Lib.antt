@@ -1,3 +1,4 @@
 mod Answering
 mod Bound
 mod Turning
+mod Telling

@@ -1,7 +1,9 @@
 //! The socket `panes`, where programs follow which panes there are, how large each is and which is in focus, and ask for one to be closed.
-ghost use Rattle.std.specs.Prelude.{◌≡◌, ◌⊎◌, ◌++◌, ◌≤◌, ℕ, [], length, is_some, drop, true, false, string_bytes, None, IfOk, IfErr, OnOk, IfSome, IsSome, IsOkUnless};
-ghost use Rattle.roam_pane_list.specs.Known.{nothing};
-ghost use Rattle.roam_serving.specs.Following.{IsFresh, Tells, news, panes_path, room};
+ghost use Rattle.std.specs.Prelude.{◌≡◌, ◌⊎◌, ◌++◌, ◌∷◌, ◌≤◌, ℕ, List, [], length, is_some, drop, true, false, string_bytes, None, IfOk, IfErr, OnOk, IfSome, IsSome, IsOkUnless};
+ghost use Rattle.std.specs.List.{All};
+ghost use Rattle.roam_serving.specs.Following.{AreOldOrFresh, AreTold, IsFresh, IsReply, Replies, Tells, WasTold, news, panes_path, room};
+ghost use Rattle.roam_serving.specs.declared.following.Follower.{Follower as FollowerOf};
+ghost use Rattle.roam_pane_list.specs.declared.pane_list.PaneList.{PaneList as PaneListOf};
 
 use crate::closing::Closer;
 use crate::peers::Peer;
@@ -39,7 +41,9 @@ pub(crate) struct Follower {
 
 impl Follower {
     // A program that came; it was told nothing yet.
-    fn new(alloc: Global, peer: Peer) -> Follower {
+    fn new(alloc: Global, peer: Peer) -> Follower
+        ensures fresh { IsFresh result }
+    {
         Follower {
             peer,
             told: PaneList::unknown(),
@@ -61,8 +65,11 @@ impl Follower {
         Ok(())
     }
 
-    // A line of ours waits for the program.
-    fn say(&mut self, line: &[u8]) {
+    // A line of ours waits for the program; one for which there is no memory for it is let go.
+    fn say(&mut self, line: &[u8])
+        requires reply { IsReply line.now }
+        ensures replies { Replies self.old self.new }
+    {
         if self.waiting.extend_from_slice(line).is_err() {
             self.peer.let_go();
         }
@@ -78,7 +85,10 @@ impl Follower {
     }
 
     // Reads until a line stands first or nothing more comes now. One that wrote more than a line has is let go.
-    fn read_line(&mut self) {
+    fn read_line(&mut self)
+        ensures told { self.new.told ≡ self.old.told }
+        ensures waiting { self.new.waiting ≡ self.old.waiting }
+    {
         let mut piece = [0u8; 1024];
         for _ in 0..MOST_READS {
             match self.lines.front() {
@@ -97,13 +107,9 @@ impl Follower {
     }
 
     // Does what the line that stands first asks for, and tells whether one did.
-    fn take_line(
-        &mut self,
-        alloc: Global,
-        now: &PaneList,
-        closer: &mut Closer,
-        moment: u64,
-    ) -> bool {
+    fn take_line(&mut self, alloc: Global, now: &PaneList, closer: &mut Closer, moment: u64) -> bool
+        ensures replies { Replies self.old self.new }
+    {
         self.read_line();
         let Some(line) = self.lines.first() else {
             return false;
@@ -131,7 +137,9 @@ impl Follower {
         now: &PaneList,
         closer: &mut Closer,
         moment: u64,
-    ) -> bool {
+    ) -> bool
+        ensures replies { Replies self.old self.new }
+    {
         for _ in 0..MOST_LINES {
             if !closer.is_free() || !self.take_line(alloc, now, closer, moment) {
                 return false;
@@ -155,44 +163,79 @@ impl Follower {
     }
 }
 
+// Adds a program where fewer than eight are there; one for which there is no memory may come again.
+fn add(alloc: Global, all: &mut Vec<Follower>, peer: Peer)
+    ensures added { (all.new.items ≡ all.old.items) ⊎ ((f : FollowerOf) × IsFresh f × (all.new.items ≡ all.old.items ++ f ∷ [])) }
+{
+    if all.len() < MOST_FOLLOWERS {
+        let _ = all.push(Follower::new(alloc, peer));
+    }
+}
+
 // Takes those that wait at the socket; those above eight, and those for which there is no memory, are closed.
-fn accept_all(
-    alloc: Global,
-    listener: &UnixListener,
-    registry: &Registry,
-    all: &mut Vec<Follower>,
-) {
+fn accept_all(alloc: Global, listener: &UnixListener, registry: &Registry, all: &mut Vec<Follower>)
+    ensures came { AreOldOrFresh all.old.items all.new.items }
+{
     for _ in 0..8 * MOST_FOLLOWERS {
         let mut peer = Peer::none();
         peer.accept(listener, registry);
         if !peer.is_there() {
             return;
         }
-        if all.len() < MOST_FOLLOWERS {
-            // One for which there is no memory may come again.
-            let _ = all.push(Follower::new(alloc, peer));
-        }
+        add(alloc, all, peer);
     }
 }
 
-// Tells each program what is new of the panes, does what its lines ask for, and lets those go that left; the next is asked first another
-// time. Tells whether more may be asked for already.
+// Does what the lines of each program ask for, and tells it what is new of the panes. Tells whether more may be asked for already.
+fn tell_each(
+    alloc: Global,
+    all: &mut [Follower],
+    now: &PaneList,
+    closer: &mut Closer,
+    moment: u64,
+) -> bool
+    ensures len { length all.new ≡ length all.old }
+    ensures told { All (λ f. IfSome f.peer.stream (λ _. WasTold now.now all.old f)) all.new }
+{
+    let Some((first, others)) = all.split_first_mut() else {
+        return false;
+    };
+    let may_ask = first.take_lines(alloc, now, closer, moment);
+    first.tell(alloc, now);
+    tell_each(alloc, others, now, closer, moment) || may_ask
+}
+
+// Lets those go that left.
+fn retain(all: &mut Vec<Follower>)
+    ensures told { (now : PaneListOf) (olds : List FollowerOf) → AreTold now olds all.old.items → AreTold now olds all.new.items }
+{
+    all.retain(|follower| follower.peer.is_there());
+}
+
+// The first is asked last another time.
+fn rotate(all: &mut [Follower])
+    ensures len { length all.new ≡ length all.old }
+    ensures told { (now : PaneListOf) (olds : List FollowerOf) → AreTold now olds all.old → AreTold now olds all.new }
+{
+    if all.len() > 1 {
+        all.rotate_left(1);
+    }
+}
+
+// Does what the lines of the programs ask for, tells each what is new of the panes, and lets those go that left; the next is asked first
+// another time. Tells whether more may be asked for already.
 fn tell_all(
     alloc: Global,
     all: &mut Vec<Follower>,
     now: &PaneList,
     closer: &mut Closer,
     moment: u64,
-) -> bool {
-    let mut may_ask = false;
-    for follower in all.iter_mut() {
-        may_ask = follower.take_lines(alloc, now, closer, moment) || may_ask;
-        follower.tell(alloc, now);
-    }
-    all.retain(|follower| follower.peer.is_there());
-    if all.len() > 1 {
-        all.rotate_left(1);
-    }
+) -> bool
+    ensures told { (olds : List FollowerOf) → AreOldOrFresh olds all.old.items → AreTold now.now olds all.new.items }
+{
+    let may_ask = tell_each(alloc, all, now, closer, moment);
+    retain(all);
+    rotate(all);
     may_ask
 }
 
@@ -231,20 +274,27 @@ impl Followers {
         })
     }
 
-    /// Tells the programs what is new of the panes, one that comes all, and does what their lines ask for: a close each time. Those that
-    /// left are let go. Tells whether more may be asked for already.
+    /// Takes the programs that wait at the socket.
+    pub(crate) fn accept(&mut self, alloc: Global, registry: &Registry)
+        ensures path { self.new.path ≡ self.old.path }
+        ensures came { AreOldOrFresh self.old.all.items self.new.all.items }
+    {
+        accept_all(alloc, &self.listener, registry, &mut self.all);
+    }
+
+    /// Does what the lines of the programs ask for, a close each time, and tells them what is new of the panes, one that came all. Those
+    /// that left are let go. Tells whether more may be asked for already.
     pub(crate) fn tell(
         &mut self,
         alloc: Global,
-        registry: &Registry,
         now: &PaneList,
         closer: &mut Closer,
         moment: u64,
     ) -> bool
         ensures path { self.new.path ≡ self.old.path }
+        ensures told { (olds : List FollowerOf) → AreOldOrFresh olds self.old.all.items → AreTold now.now olds self.new.all.items }
     {
         closer.settle(now);
-        accept_all(alloc, &self.listener, registry, &mut self.all);
         tell_all(alloc, &mut self.all, now, closer, moment)
     }
 

@@ -5,8 +5,10 @@ mod closing;
 mod following;
 mod panes;
 mod peers;
+mod refused;
 mod server_ports;
 mod serving;
 
+pub use refused::tell_unbound;
 pub use server_ports::{OwnStart, ServerPorts};
 pub use serving::{Serve, run_serve};

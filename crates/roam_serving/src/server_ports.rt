@@ -4,7 +4,7 @@ ghost use Rattle.std.specs.List.{All};
 ghost use Rattle.std.specs.Option.{option_map};
 ghost use Rattle.roam_links.specs.Clients.{Accepts};
 ghost use Rattle.roam_links.specs.declared.udp.Udp.{Udp as UdpOf};
-ghost use Rattle.roam_serving.specs.Following.{panes_path};
+ghost use Rattle.roam_serving.specs.Following.{AreOldOrFresh, AreTold, panes_path};
 ghost use Rattle.roam_serving.specs.Panes.{IsPortOf, clients_path, paths_of};
 ghost use Rattle.roam_serving.specs.Peers.{Asks, Changes, Lives};
 
@@ -51,6 +51,8 @@ pub struct ServerPorts<R> {
     alloc: Global,
     is_udp_next: bool,
     looked: u64,
+    // Whether a program may have come to the socket `panes` since it was looked there.
+    may_come: bool,
 }
 
 // Binds the sockets beside those of the panes. `Bind` where one can't be bound, `OutOfMemory`; then none stays.
@@ -158,6 +160,7 @@ impl<R: Clock + Drop> ServerPorts<R> {
                 alloc,
                 is_udp_next: false,
                 looked: 0,
+                may_come: true,
             }),
             Err(fault) => {
                 panes.remove(rt);
@@ -183,7 +186,7 @@ impl<R: Clock + Drop> ServerPorts<R> {
         self.moments = Moments::Set(moment);
     }
 
-    // Takes client starts that wait at their socket, once in 20 milliseconds and after each wait.
+    // Takes client starts that wait at their socket, once in 20 milliseconds and after each wait; so it is with those who follow the panes.
     fn look(&mut self, alloc: Global, has_waited: bool)
         ensures clients { Accepts self.old.clients self.new.clients }
         ensures panes { self.new.panes ≡ self.old.panes }
@@ -192,6 +195,7 @@ impl<R: Clock + Drop> ServerPorts<R> {
         if has_waited || self.moment.wrapping_sub(self.looked) >= LOOKS {
             self.clients.accept(alloc, &self.waits);
             self.looked = self.moment;
+            self.may_come = true;
         }
     }
 
@@ -211,18 +215,27 @@ impl<R: Clock + Drop> ServerPorts<R> {
         self.look(self.alloc, waits);
     }
 
+    // Takes the programs that wait at the socket `panes`, where one may.
+    fn take_followers(&mut self)
+        ensures came { AreOldOrFresh self.old.followers.all.items self.new.followers.all.items }
+        ensures panes { self.new.panes ≡ self.old.panes }
+    {
+        if self.may_come {
+            self.followers.accept(self.alloc, self.waits.registry());
+            self.may_come = false;
+        }
+    }
+
     /// Tells the programs that follow the session's panes what is new of them, one that comes all; and has its own start close those that
     /// they ask for.
     pub fn tell_panes(&mut self, now: &PaneList)
         ensures panes { self.new.panes ≡ self.old.panes }
+        ensures told { AreTold now.now self.old.followers.all.items self.new.followers.all.items }
     {
-        let may_ask = self.followers.tell(
-            self.alloc,
-            self.waits.registry(),
-            now,
-            &mut self.closer,
-            self.moment,
-        );
+        self.take_followers();
+        let may_ask = self
+            .followers
+            .tell(self.alloc, now, &mut self.closer, self.moment);
         if may_ask {
             self.waits.stir();
         }

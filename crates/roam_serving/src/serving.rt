@@ -11,7 +11,7 @@ use crate::server_ports::{OwnStart, ServerPorts};
 use roam_cells::Fault;
 use roam_faults::RunFault;
 use roam_hub::Server;
-use roam_links::{Moments, is_own, random_id, write_alone};
+use roam_links::{Moments, own_folder, random_id, write_alone};
 use roam_pane_list::{ListedPane, PaneList};
 use roam_turns::serve_turn;
 use std::alloc::Global;
@@ -176,7 +176,7 @@ pub fn run_serve<R: Files + Net + Clock + RandomSource + Eprint + AllocGlobal>(
     ensures serves { IfOk result (λ _. Serves serve.now.session serve.now.turns) }
     ensures faults { IfErr result (λ fault. (fault ≡ RunFault.Bind) ⊎ (fault ≡ RunFault.Core Fault.OutOfMemory) ⊎ (fault ≡ RunFault.Read)) }
 {
-    if !is_own(rt, serve.folder, serve.port.is_none()) {
+    if own_folder(rt, serve.folder, serve.port.is_none()).is_err() {
         return Err(RunFault::Bind);
     }
     let session = session_for(rt, serve)?;
