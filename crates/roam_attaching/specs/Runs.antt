@@ -1,17 +1,20 @@
 -- What a run of a client start types: the acts that its turns take.
 use Rattle.std.specs.Prelude.{◌≡◌, ℕ, ◌-◌, ◌≤◌, Bool, true, false, List, [], ◌∷◌, ◌++◌, length, Option, Some, None}
-use Rattle.std.specs.Io.KnownBytes.{Consumes}
+use Rattle.std.specs.Io.KnownBytes.{Appends, Consumes}
 use Rattle.roam_acts.specs.declared.acts.Act.{Act}
 use Rattle.roam_hub.specs.Clients.{ClientView, Stands as ClientStands}
 use Rattle.roam_hub.specs.declared.addresses.Addr.{Addr}
 use Rattle.roam_turns.specs.Cores.{client_step}
+use Rattle.roam_turns.specs.Painting.{Led}
 use Rattle.roam_turns.specs.Parts.{Makes}
 use Rattle.roam_turns.specs.Turns.{AttachTurn}
 use Rattle.roam_turns.specs.declared.outer.Noted.{Noted}
 use Rattle.roam_wire.specs.declared.versions.Version.{Version}
 use Rattle.roam_wire.specs.declared.versions.Version.TheVariants.{One, Two}
+use Rattle.roam_attaching.specs.declared.client_ports.ClientPorts.{ClientPorts}
 use Rattle.roam_attaching.specs.declared.attaching.Home.{Home}
 use Rattle.roam_attaching.specs.declared.attaching.Home.TheVariants.{Port, Folder}
+use Rattle.roam_terminals.specs.Silence.{notice_of}
 use Rattle.roam_typing.specs.declared.typing.ActLines.{ActLines}
 use Rattle.roam_typing.specs.declared.typing.Stream.{Stream}
 use Rattle.roam_typing.specs.declared.typing.Stream.TheVariants.{Absent, Open, Ended, Spoiled, SpoiledLast}
@@ -49,28 +52,49 @@ IsHanded None took waiting = waiting ≡ []
 IsHanded (Some act) true waiting = Unit {0}
 IsHanded (Some act) false waiting = (rest : List Act) × (waiting ≡ act ∷ rest)
 
--- a client start took such a turn
-abbrev pub TakesTurn : Addr → Turn → ClientView → ClientView → Type 0
-TakesTurn to turn old new =
-    (outer outer' : Option Noted) × Makes client_step
-    (AttachTurn new.receiver.newest.number new.receiver.newest.state outer outer' to turn.next turn.took) None None None None old new
+-- what is noted of an outer terminal, what was written to it, where that is known, and for how many seconds of silence is told there
+pub record Painted : Type 0 where
+  pub noted : Option Noted
+  pub written : Option (List ℕ)
+  pub notice : Option ℕ
+
+abbrev pub painted_by : {R W : Type 0} → (W → Option (List ℕ)) → Option Noted → ClientPorts R W → Painted
+painted_by contents noted ports = record { noted = noted; written = contents ports.outer; notice = ports.silence.told }
+
+-- A client start took such a turn with its outer terminal: what was written leads it from what was noted to what is noted then, and what is
+-- told of silence stays.
+pub record TakesTurn (to : Addr) (turn : Turn) (outer outer' : Painted) (old new : ClientView) : Type 0 where
+  pub makes : Makes client_step (AttachTurn new.receiver.newest.number new.receiver.newest.state outer.noted outer'.noted to turn.next turn.took)
+      None None None None old new
+  pub led : Led outer.noted outer.written outer'.noted outer'.written
+  pub notice : outer'.notice ≡ outer.notice
+
+-- Between two turns a silence was told over what the terminal shows, or not; where one that is told is over, or not all of it was taken,
+-- nothing is noted of the terminal any more.
+pub data Tells (outer outer' : Painted) : Type 0 where
+  quiet : outer' ≡ outer → Tells outer outer'
+  told : (seconds : ℕ) → outer'.noted ≡ outer.noted → outer'.notice ≡ Some seconds
+      → Appends outer.written outer'.written (notice_of seconds) → Tells outer outer'
+  unknown : outer'.noted ≡ None → outer'.notice ≡ None → Tells outer outer'
 
 -- it took one after another
-abbrev pub TakesTurns : Addr → List Turn → ClientView → ClientView → Type 0
-TakesTurns to [] old new = new ≡ old
-TakesTurns to (turn ∷ turns) old new = (mid : ClientView) × TakesTurn to turn old mid × TakesTurns to turns mid new
+abbrev pub TakesTurns : Addr → List Turn → Painted → Painted → ClientView → ClientView → Type 0
+TakesTurns to [] outer outer' old new = (outer' ≡ outer) × (new ≡ old)
+TakesTurns to (turn ∷ turns) outer outer' old new =
+    (painted told : Painted) × (mid : ClientView) × TakesTurn to turn outer painted old mid × Tells painted told
+    × TakesTurns to turns told outer' mid new
 
 -- So many turns were taken while these bytes of a stream were read: whatever was before, the acts that the turns took are the next ones, in
 -- order and each once.
-pub record RunsOn (to : Addr) (before after : Option (List ℕ)) (old new : ActLines) (client client' : ClientView) (count : ℕ) : Type 0
-  where
-    pub bytes : List ℕ
-    pub turns : List Turn
-    pub consumed : Consumes before after bytes
-    pub takes : TakesTurns to turns client client'
-    pub stands : (first : List Act) (log : List ℕ) (taken : List Act) → Stands old first log taken
-        → Stands new first (log ++ bytes) (taken ++ taken_in turns)
-    pub counts : length turns ≡ count
+pub record RunsOn (to : Addr) (before after : Option (List ℕ)) (old new : ActLines) (outer outer' : Painted) (client client' : ClientView)
+    (count : ℕ) : Type 0 where
+  pub bytes : List ℕ
+  pub turns : List Turn
+  pub consumed : Consumes before after bytes
+  pub takes : TakesTurns to turns outer outer' client client'
+  pub stands : (first : List Act) (log : List ℕ) (taken : List Act) → Stands old first log taken
+      → Stands new first (log ++ bytes) (taken ++ taken_in turns)
+  pub counts : length turns ≡ count
 
 -- every act that a start took is acknowledged
 abbrev pub IsSettled : ClientView → Type 0

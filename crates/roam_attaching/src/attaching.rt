@@ -1,9 +1,10 @@
 //! `roam attach`: a client start round its socket and the outer terminal.
-ghost use Rattle.std.specs.Prelude.{◌≡◌, ◌⊎◌, ◌+◌, ◌-◌, ◌<◌, [], ◌&&◌, ℕ, true, false, None, Some, Ok, All, IfErr, IfOk, OnOk, IsOkUnless};
+ghost use Rattle.std.specs.Prelude.{◌≡◌, ◌⊎◌, ◌+◌, ◌-◌, ◌<◌, [], ◌&&◌, ℕ, true, false, Option, None, Some, Ok, All, IfErr, IfOk, OnOk, IsOkUnless};
 ghost use Rattle.roam_acts.specs.Acts.{IsInRange};
 ghost use Rattle.roam_turns.specs.Painting.{IsBehind};
 ghost use Rattle.roam_attaching.specs.Notices.{end_by};
-ghost use Rattle.roam_attaching.specs.Runs.{IsHanded, IsOver, IsPending, IsSettled, RunsOn, TakesTurn, Turn, home_of, is_two, longest_end, seen_at};
+ghost use Rattle.roam_attaching.specs.Runs.{IsHanded, IsOver, IsPending, IsSettled, Painted, RunsOn, TakesTurn, Tells, Turn, home_of, is_two, longest_end, painted_by, seen_at};
+ghost use Rattle.roam_turns.specs.declared.outer.Noted.{Noted};
 ghost use Rattle.roam_attaching.specs.Ways.{has_ended};
 ghost use Rattle.roam_typing.specs.Typing.{refused_at};
 ghost use Rattle.roam_typing.specs.declared.typing.Stream.TheVariants.{Ended};
@@ -175,8 +176,22 @@ fn client_for<R: Files + RandomSource + AllocGlobal>(
     Ok(client)
 }
 
-// The act that waits next is handed to a turn of a start, where one waits; where nothing is taken the program rests. `Act` where none waits
-// and the next line is no act, `OutOfMemory`.
+// Tells of a silence, where one is to be told; where what the outer terminal shows isn't known then, nothing is noted of it any more.
+fn tell<C: Clock + Drop, W: Write + Drop>(
+    alloc: Global,
+    shown: &mut Outer,
+    ports: &mut ClientPorts<C, W>,
+)
+    ensures tells { Tells (painted_by W.contents shown.old ports.old) (painted_by W.contents shown.new ports.new) }
+    ensures shown { (shown.new ≡ shown.old) ⊎ (shown.new ≡ None) }
+{
+    if ports.tell_silence(alloc) {
+        *shown = Outer::new();
+    }
+}
+
+// The act that waits next is handed to a turn of a start, where one waits; where nothing is taken the program rests; and a silence is told.
+// `Act` where none waits and the next line is no act, `OutOfMemory`.
 fn type_turn<C: Clock + Drop, W: Write + Drop, T: Read>(
     alloc: Global,
     typist: &mut Typist<T>,
@@ -190,13 +205,15 @@ fn type_turn<C: Clock + Drop, W: Write + Drop, T: Read>(
     ensures in_range { OnOk result (All IsInRange typist.new.lines.waiting.items) }
     ensures behind { OnOk result (IsBehind shown.new client.new.receiver.newest.number client.new.receiver.newest.state) }
     ensures typed { OnOk result (RunsOn to (T.remaining typist.old.reader) (T.remaining typist.new.reader)
-        typist.old.lines typist.new.lines client.old client.new 1) }
-    ensures handed { OnOk result ((turn : Turn) × TakesTurn to turn client.old client.new
+        typist.old.lines typist.new.lines (painted_by W.contents shown.old ports.old) (painted_by W.contents shown.new ports.new)
+        client.old client.new 1) }
+    ensures handed { OnOk result ((turn : Turn) × (painted : Painted)
+        × TakesTurn to turn (painted_by W.contents shown.old ports.old) painted client.old client.new
         × IsHanded turn.next turn.took typist.new.lines.waiting.items) }
     ensures refused { IfErr result (λ fault. (fault ≡ RunFault.Core Fault.OutOfMemory) ⊎ ((k : ℕ) × (fault ≡ RunFault.Act k)
         × (refused_at typist.new.lines.stream typist.new.lines.waiting.items ≡ Some k)
-        × RunsOn to (T.remaining typist.old.reader) (T.remaining typist.new.reader)
-        typist.old.lines typist.new.lines client.old client.new 0)) }
+        × RunsOn to (T.remaining typist.old.reader) (T.remaining typist.new.reader) typist.old.lines typist.new.lines
+        (painted_by W.contents shown.old ports.old) (painted_by W.contents shown.new ports.new) client.old client.new 0)) }
 {
     typist.read_more()?;
     if let Some(number) = typist.refused() {
@@ -205,9 +222,11 @@ fn type_turn<C: Clock + Drop, W: Write + Drop, T: Read>(
     if attach_turn(alloc, client, shown, ports, to, typist.next()) {
         typist.took();
         ports.flush();
+        tell(alloc, shown, ports);
         return Ok(());
     }
     ports.rest();
+    tell(alloc, shown, ports);
     Ok(())
 }
 
@@ -272,25 +291,24 @@ fn follow<C: Clock + Drop, W: Write + Drop, T: Read>(
     ensures well { IfOk result (λ _. (ports.new.failing ≡ None) × (ports.new.connection.waits.unread ≡ false)) }
     ensures heard { IfOk result (λ end. end ≡ end_by (has_ended ports.new.connection.way) ports.new.silence) }
     // All turns were taken, or the stream's acts are over, or the server has ended.
-    ensures typed { IfOk result (λ _. (turns : ℕ) × RunsOn (home_of attach.now.home) (T.remaining typist.old.reader)
-        (T.remaining typist.new.reader) typist.old.lines typist.new.lines client.old client.new turns
+    ensures typed { IfOk result (λ _. (turns : ℕ) × (noted : Option Noted) × RunsOn (home_of attach.now.home)
+        (T.remaining typist.old.reader) (T.remaining typist.new.reader) typist.old.lines typist.new.lines
+        (painted_by W.contents None ports.old) (painted_by W.contents noted ports.new) client.old client.new turns
         × ((turns ≡ attach.now.turns) ⊎ ((since : ℕ) × IsOver typist.new.lines client.new since ports.new.silence.moment)
         ⊎ (has_ended ports.new.connection.way ≡ true))) }
     ensures faults { IfErr result (λ fault. (fault ≡ RunFault.Core Fault.OutOfMemory) ⊎ (fault ≡ RunFault.Write)
         ⊎ ((k : ℕ) × (fault ≡ RunFault.Act k)
         × (refused_at typist.new.lines.stream typist.new.lines.waiting.items ≡ Some k))) }
-    ensures broken_off { IfErr result (λ fault. (fault ≡ RunFault.Core Fault.OutOfMemory) ⊎ ((turns : ℕ)
+    ensures broken_off { IfErr result (λ fault. (fault ≡ RunFault.Core Fault.OutOfMemory) ⊎ ((turns : ℕ) × (noted : Option Noted)
         × RunsOn (home_of attach.now.home) (T.remaining typist.old.reader) (T.remaining typist.new.reader)
-        typist.old.lines typist.new.lines client.old client.new turns)) }
+        typist.old.lines typist.new.lines (painted_by W.contents None ports.old) (painted_by W.contents noted ports.new)
+        client.old client.new turns)) }
 {
     let mut shown = Outer::new();
     let mut since = None;
     let to = home_of(attach.home);
     for _ in 0..attach.turns {
         type_turn(alloc, typist, client, &mut shown, ports, to)?;
-        if ports.tell_silence(alloc) {
-            shown = Outer::new();
-        }
         if ports.is_unread() || ports.has_given_up() {
             return Err(RunFault::Write);
         }

@@ -1,6 +1,6 @@
 //! The ports of a client start over sockets. What they carried isn't told.
 ghost use Rattle.std.specs.Prelude.{◌≡◌, ◌⊎◌, ◌↔◌, IsTrue, ◌-◌, ◌≤◌, [], ◌∷◌, ℕ, true, false, length, is_some, None, Some, IfOk, IfSome, IsSome, IfErr};
-ghost use Rattle.std.specs.Io.KnownBytes.{Appends};
+ghost use Rattle.std.specs.Io.KnownBytes.{Appends, Keeps};
 ghost use Rattle.roam_terminals.specs.Silence.{due_of, is_over, end_of, notice_of};
 ghost use Rattle.roam_attaching.specs.Notices.{failing_after, has_given_up};
 ghost use Rattle.roam_links.specs.declared.moments.Moments.{Moments};
@@ -142,6 +142,10 @@ impl<R: Clock + Drop, W: Write + Drop> ClientPorts<R, W> {
         ensures told { IfSome self.new.silence.told (λ seconds. (self.old.silence.told ≡ Some seconds)
             ⊎ ((due_of self.old.silence ≡ Some seconds)
             × Appends (W.contents self.old.outer) (W.contents self.new.outer) (notice_of seconds))) }
+        // Where the terminal is still known, nothing was written, or this silence is told over what it shows.
+        ensures known { result ≡ false → (self.new ≡ self.old) ⊎ ((seconds : ℕ) × (due_of self.old.silence ≡ Some seconds)
+            × (self.new.silence.told ≡ Some seconds)
+            × Appends (W.contents self.old.outer) (W.contents self.new.outer) (notice_of seconds)) }
         ensures heard { self.new.silence ≡ record self.old.silence { told = self.new.silence.told } }
     {
         if self.silence.is_over() {
@@ -161,6 +165,8 @@ impl<R: Clock + Drop, W: Write + Drop> ClientPorts<R, W> {
         ensures stays { result ≡ false → IfSome self.old.silence.told (λ _. IsSome self.new.silence.told) }
         ensures told { IfSome self.new.silence.told (λ told. (self.old.silence.told ≡ Some told)
             ⊎ ((told ≡ seconds) × Appends (W.contents self.old.outer) (W.contents self.new.outer) (notice_of seconds))) }
+        ensures known { result ≡ false → (self.new ≡ self.old) ⊎ ((self.new.silence.told ≡ Some seconds)
+            × Appends (W.contents self.old.outer) (W.contents self.new.outer) (notice_of seconds)) }
         ensures heard { self.new.silence ≡ record self.old.silence { told = self.new.silence.told } }
     {
         let Ok(text) = notice(alloc, seconds) else {
@@ -185,9 +191,15 @@ impl<R: Clock + Drop, W: Write + Drop> ClientPorts<R, W> {
 }
 
 impl<R: Clock + Drop, W: Write + Drop> Ports for ClientPorts<R, W> {
+    ghost written = { λ ports. W.contents ports.outer };
+
+    ghost notice = { λ ports. ports.silence.told };
+
     fn now(&mut self) -> u64
         ensures set { (moment : ℕ) → self.old.connection.moments ≡ Moments.Set moment → result ≡ moment }
         ensures moment { self.new.silence ≡ record self.old.silence { moment = result } }
+        ensures written { Keeps (W.contents self.old.outer) (W.contents self.new.outer) }
+        ensures notice { self.new.silence.told ≡ self.old.silence.told }
     {
         let moment = self.connection.now();
         self.silence.at(moment);
@@ -199,28 +211,39 @@ impl<R: Clock + Drop, W: Write + Drop> Ports for ClientPorts<R, W> {
         ensures heard { IfSome result (λ _. self.new.silence ≡ record self.old.silence { heard = Some self.old.silence.moment }) }
         ensures unheard { result ≡ None → self.new.silence ≡ self.old.silence }
         ensures stirs { IfSome result (λ _. self.new.connection.waits.quiet ≡ false) }
+        ensures written { Keeps (W.contents self.old.outer) (W.contents self.new.outer) }
+        ensures notice { self.new.silence.told ≡ self.old.silence.told }
     {
         let came = self.connection.receive(buf)?;
         self.silence.hear();
         Some(came)
     }
 
-    fn send(&mut self, to: Addr, bytes: &[u8]) -> bool {
+    fn send(&mut self, to: Addr, bytes: &[u8]) -> bool
+        ensures written { Keeps (W.contents self.old.outer) (W.contents self.new.outer) }
+        ensures notice { self.new.silence.told ≡ self.old.silence.told }
+    {
         self.connection.send(to, bytes)
     }
 
     fn pane_lives(&mut self, _pane: u8, _life: Option<u64>)
         ensures same { self.new ≡ self.old }
+        ensures written { Keeps (W.contents self.old.outer) (W.contents self.new.outer) }
+        ensures notice { self.new.silence.told ≡ self.old.silence.told }
     {}
 
     fn pane_in(&mut self, _pane: u8, _buf: &mut [u8]) -> Option<usize>
         ensures none { result ≡ None }
+        ensures written { Keeps (W.contents self.old.outer) (W.contents self.new.outer) }
+        ensures notice { self.new.silence.told ≡ self.old.silence.told }
     {
         None
     }
 
     fn pane_out(&mut self, _pane: u8, _bytes: &[u8]) -> usize
         ensures none { result ≡ 0 }
+        ensures written { Keeps (W.contents self.old.outer) (W.contents self.new.outer) }
+        ensures notice { self.new.silence.told ≡ self.old.silence.told }
     {
         0
     }
@@ -231,6 +254,7 @@ impl<R: Clock + Drop, W: Write + Drop> Ports for ClientPorts<R, W> {
         ensures failing { self.old.silence.told ≡ None
             → self.new.failing ≡ failing_after self.old.failing result self.old.silence.moment }
         ensures written { result ≡ true → Appends (W.contents self.old.outer) (W.contents self.new.outer) bytes.now }
+        ensures notice { self.new.silence.told ≡ self.old.silence.told }
     {
         !self.silence.is_told() && self.put(bytes)
     }

@@ -5,7 +5,9 @@ mod attaching;
 mod client_ports;
 mod connecting;
 mod hosting;
+mod refused;
 
 pub use attaching::{Attach, Home, Typed, follow_session, run_attach};
 pub use client_ports::ClientPorts;
 pub use connecting::Connection;
+pub use refused::tell_failed;

@@ -1,7 +1,7 @@
-use Rattle.std.proofs.Common.{All}
+use Rattle.std.proofs.Common.{All, None}
 use Rattle.roam_acts.specs.Acts.{IsInRange}
 use Rattle.roam_turns.specs.Painting.{IsBehind}
-use Rattle.roam_attaching.specs.Runs.{RunsOn}
+use Rattle.roam_attaching.specs.Runs.{RunsOn, painted_by}
 use Rattle.roam_attaching.proofs.attaching.follow.Given as goal
 
 abbrev pub invariant-loop : goal.invariant-loop
@@ -9,5 +9,6 @@ invariant-loop g l = record {
   behind : IsBehind l.shown l.client.receiver.newest.number l.client.receiver.newest.state;
   in_range : All IsInRange l.typist.lines.waiting.items;
   runs : RunsOn l.to (g.T.Read.remaining l.initial.typist.reader) (g.T.Read.remaining l.typist.reader) l.initial.typist.lines
-      l.typist.lines l.initial.client l.client l.counter;
+      l.typist.lines (painted_by g.W.Write.contents None l.initial.ports) (painted_by g.W.Write.contents l.shown l.ports)
+      l.initial.client l.client l.counter;
 }
