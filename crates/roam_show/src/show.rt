@@ -171,7 +171,7 @@ fn text_shown<R: Read>(
 }
 
 /// Feeds a terminal of this size with all that the reader gives, and writes its screen, row by row between bars, its cursor,
-/// and what it answered in hexadecimal. Refuses another size than 2 to 100 rows and 4 to 250 columns, and want of memory; a
+/// and what it answered in hexadecimal. Refuses another size than 2 to 200 rows and 4 to 500 columns, and want of memory; a
 /// reader that fails, or that hasn't ended after 16,777,216 reads, is `Read`; a writer that fails is `Write`.
 pub fn run_show<R: Read, W: Write>(
     alloc: Global,

@@ -87,18 +87,25 @@ steps_come v w n from now bytes result view st l one known comes = go comes
     go : Comes w.server from bytes now result view → Steps w (ToServer n from now) (taken_by result) (record v { server = view })
     go (server.no_datagram why none e stands) = absurd (readable w n bytes why l s none)
     go (server.refused d fault text c e stands) =
-        record { left = w; step = refused d fault (read d text) c (ap taken_by e) refl; stands = stands_serving v w view st stands }
+        record {
+          left = w;
+          step = refused d fault (read d text) c (ap taken_by e) refl;
+          stands = stands_serving v w view st stands;
+          memory = λ want. (s.datagram, s.at);
+        }
     go (server.fragment d g text c e stands) =
         record {
           left = with_server w (after_note w.server d from (moment w.server now) g);
           step = fragment d g (read d text) c (ap taken_by e) refl;
           stands = stands_served v w view (after_note w.server d from (moment w.server now) g) st refl stands;
+          memory = λ want. (s.datagram, s.at);
         }
     go (server.unread d g said why text c says e stands) =
         record {
           left = w;
           step = unread d g said why (read d text) c says (ap taken_by e) refl;
           stands = stands_serving v w view st stands;
+          memory = λ want. (s.datagram, s.at);
         }
     go (server.all_taken d g said u text c says room e stands) =
         record {
@@ -106,6 +113,7 @@ steps_come v w n from now bytes result view st l one known comes = go comes
           step = all_taken d g said u (read d text) c says room (ap taken_by e) refl;
           stands =
               stands_served v w view (after_acts w.server d from (moment w.server now) g u (length (new_acts w.server d u))) st refl stands;
+          memory = λ want. (s.datagram, s.at);
         }
     go (server.no_room d g said u text c says room e stands) =
         record {
@@ -115,6 +123,7 @@ steps_come v w n from now bytes result view st l one known comes = go comes
           stands =
               stands_served v w view (after_acts w.server d from (moment w.server now) (w.server.records d.client).gathering u
               (room_for w.server d u)) st refl stands;
+          memory = λ want. (s.datagram, s.at);
         }
     go (server.no_memory_at_act d g said u k text c says low e stands) =
         record {
@@ -123,9 +132,15 @@ steps_come v w n from now bytes result view st l one known comes = go comes
           stands =
               stands_served v w view (after_acts w.server d from (moment w.server now) (w.server.records d.client).gathering u k) st refl
               stands;
+          memory = λ want. (s.datagram, s.at);
         }
     go (server.no_memory x is e stands) =
-        record { left = w; step = no_memory (ap taken_by e) refl; stands = stands_serving v w view st stands }
+        record {
+          left = w;
+          step = no_memory (ap taken_by e) refl;
+          stands = stands_serving v w view st stands;
+          memory = λ want. (s.datagram, s.at);
+        }
 
 -- ---- to a client start
 
@@ -157,30 +172,40 @@ steps_heard v w slot n now bytes result c c' st l one known lt at hears = go (he
           left = w;
           step = refused i.id d fault i.at (read d text) a (ap heard_by e) refl;
           stands = stands_kept v w slot c c' st lt i stands;
+          memory = λ want. (i.id, i.at, (s.datagram, s.at));
         }
     go (client.fragment d h g text a e stands) =
         record {
           left = with_client w i.id (after_fragment (w.clients i.id) (moment_of (w.clients i.id) now) g);
           step = fragment i.id d (hearing_in h) g i.at (read d text) a (ap heard_by e) refl;
           stands = stands_put v w slot c c' (after_fragment (w.clients i.id) (moment_of (w.clients i.id) now) g) st lt i i.made stands;
+          memory = λ want. (i.id, i.at, (s.datagram, s.at));
         }
     go (client.unread d g said why text a says e stands) =
         record {
           left = w;
           step = unread i.id d g said why i.at (read d text) a says (ap heard_by e) refl;
           stands = stands_kept v w slot c c' st lt i stands;
+          memory = λ want. (i.id, i.at, (s.datagram, s.at));
         }
     go (client.bad_change d g said x base text a says new held bad e stands) =
         record {
           left = w;
           step = bad_change i.id d g said x base i.at (read d text) a says new held bad (ap heard_by e) refl;
           stands = stands_kept v w slot c c' st lt i stands;
+          memory = λ want. (i.id, i.at, (s.datagram, s.at));
         }
     go (client.whole d h g said x r text a says told e is stands) =
         record {
           left = with_client w i.id (after_whole (w.clients i.id) (moment_of (w.clients i.id) now) g r x);
           step = whole i.id d g said x r i.at (read d text) a says told (ap heard_by e ∙ ap (λ (y : Hearing). Heard y) is) refl;
           stands = stands_put v w slot c c' (after_whole (w.clients i.id) (moment_of (w.clients i.id) now) g r x) st lt i i.made stands;
+          memory = λ want. (i.id, i.at, (s.datagram, s.at));
         }
     go (client.no_memory x is e stands) =
-        record { left = w; step = no_memory (ap heard_by e) refl; stands = stands_kept v w slot c c' st lt i stands }
+        record {
+          left = w;
+          step = no_memory (ap heard_by e) refl;
+          stands = stands_kept v w slot c c' st lt i stands;
+          memory = λ want. (i.id, i.at, (s.datagram, s.at));
+        }

@@ -3,11 +3,12 @@ use Rattle.std.proofs.Common.{◌≡◌, ℕ, ◌<◌, ◌⊎◌, List, [], ◌�
 use Rattle.std.specs.Prelude.{nat_eq, ◌||◌}
 use Rattle.std.specs.List.{list_any}
 use Rattle.std.proofs.lemmas.Bool.Decides.{nat_tests}
+use Rattle.roam_cells.specs.declared.faults.Fault.TheVariants.{OutOfMemory}
 use Rattle.roam_world.specs.Lists.{IsIn, with_value}
 use Rattle.roam_wire.specs.declared.versions.Version.{Version}
 use Rattle.roam_world.specs.Clients.{new_client}
-use Rattle.roam_world.specs.Worlds.{World, Start, Done, Refused, after_start}
-use Rattle.roam_world.specs.Steps.{used, started, unfit, is_unfit}
+use Rattle.roam_world.specs.Worlds.{World, Start, Done, Failed, Refused, after_start}
+use Rattle.roam_world.specs.Steps.{used, started, unfit, is_unfit, no_memory}
 use Rattle.roam_hub.specs.Clients.{ClientView, Stands as ClientStands}
 use Rattle.roam_simulation.specs.Worlds.{WorldView, StartsStand, Stands, Steps}
 use Rattle.roam_simulation.proofs.Slots.{starts_new}
@@ -34,11 +35,37 @@ not_in id (x ∷ ids) e i =
 
 pub steps_unfit : (v : WorldView) (w : World) (slot id : ℕ) (version : Version) (watches : Bool) → Stands v w
     → is_unfit version watches ≡ true → Steps w (Start slot id version watches) Refused v
-steps_unfit v w slot id version watches st e = record { left = w; step = unfit e refl refl; stands = st }
+steps_unfit v w slot id version watches st e =
+    record { left = w; step = unfit e refl refl; stands = st; memory = λ want. absurd want }
 
 pub steps_used : (v : WorldView) (w : World) (slot id : ℕ) (version : Version) (watches : Bool) → Stands v w
     → list_any (λ (x : ℕ). nat_eq x id) v.used ≡ true → Steps w (Start slot id version watches) Refused v
-steps_used v w slot id version watches st e = record { left = w; step = used (st.starts.just id (is_in id v.used e)) refl refl; stands = st }
+steps_used v w slot id version watches st e =
+    record {
+      left = w;
+      step = used (st.starts.just id (is_in id v.used e)) refl refl;
+      stands = st;
+      memory = λ want. absurd want;
+    }
+
+not_made : (v : WorldView) (w : World) (id : ℕ) → Stands v w → list_any (λ (x : ℕ). nat_eq x id) v.used ≡ false
+    → (w.clients id).made ≡ false
+not_made v w id st e = go (w.clients id).made refl
+  where
+    go : (b : Bool) → (w.clients id).made ≡ b → (w.clients id).made ≡ false
+    go true f = absurd (not_in id v.used e (st.starts.all id f))
+    go false f = f
+
+-- there is no memory for a start
+pub steps_not_started : (v : WorldView) (w : World) (slot id : ℕ) (version : Version) (watches : Bool) → Stands v w
+    → list_any (λ (x : ℕ). nat_eq x id) v.used ≡ false → is_unfit version watches ≡ false
+    → Steps w (Start slot id version watches) (Failed OutOfMemory) v
+steps_not_started v w slot id version watches st e fit =
+    record { left = w; step = no_memory refl refl; stands = st; memory = λ want. (not_made v w id st e, fit) }
+
+-- the list of the ids that were used can be another one that is the same
+pub used_same : (v : WorldView) (w : World) (ids : List ℕ) → Stands v w → ids ≡ v.used → Stands (record v { used = ids }) w
+used_same v w ids st e = subst (λ xs. Stands (record v { used = xs }) w) (sym e) st
 
 pub steps_started : (v : WorldView) (w : World) (slot id : ℕ) (version : Version) (watches : Bool) (client : ClientView) (ids : List ℕ)
     → Stands v w → slot < length v.slots
@@ -60,11 +87,8 @@ steps_started v w slot id version watches client ids st lt e fit stands more =
                 (subst (λ (n : ℕ). ClientStands client n id (new_client version watches)) st.session stands));
             sent = st.sent;
           };
+      memory = λ want. absurd want;
     }
   where
-    go : (b : Bool) → (w.clients id).made ≡ b → (w.clients id).made ≡ false
-    go true f = absurd (not_in id v.used e (st.starts.all id f))
-    go false f = f
-
     free : (w.clients id).made ≡ false
-    free = go (w.clients id).made refl
+    free = not_made v w id st e

@@ -99,6 +99,10 @@ texts_of_parcels xs ps e =
     right [] = refl
     right (q ∷ qs) = ap (λ (zs : List (List ℕ)). datagram_text q.datagram ∷ zs) (right qs)
 
+-- there is no room for what a tick would send
+pub no_room : (v : WorldView) (w : World) (now : ℕ) → Stands v w → Steps w (ServerTick now) (Failed OutOfMemory) v
+no_room v w now st = record { left = w; step = no_memory refl refl; stands = st; memory = λ want. tt }
+
 pub steps_not_ticked : (v : WorldView) (w : World) (now : ℕ) (fault : Fault) (server : ServerView) → Stands v w → TakesActsInOrder w
     → Limits w → Ticks w.server now (Err fault) server → Steps w (ServerTick now) (Failed fault) (record v { server = server })
 steps_not_ticked v w now fault server st t l (ticks_spent s e stands) =
@@ -106,6 +110,7 @@ steps_not_ticked v w now fault server st t l (ticks_spent s e stands) =
       left = w;
       step = spent (sym (no_number_spent w (moment w.server now) t l) ∙ s) (let f : fault ≡ Spent = cc in ap (λ x. Failed x) f) refl;
       stands = stands_serving v w server st stands;
+      memory = λ want. tt;
     }
 steps_not_ticked v w now fault server st t l (ticks_ticked all s e p stands) = absurd (cc)
 steps_not_ticked v w now fault server st t l (ticks_no_memory due free e stands) =
@@ -113,6 +118,7 @@ steps_not_ticked v w now fault server st t l (ticks_no_memory due free e stands)
       left = w;
       step = no_memory (let f : fault ≡ OutOfMemory = cc in ap (λ x. Failed x) f) refl;
       stands = stands_serving v w server st stands;
+      memory = λ want. tt;
     }
 
 pub steps_ticked : (v : WorldView) (w : World) (now : ℕ) (all : Vec (Addr × Vec ℕ Global) Global) (server : ServerView)
@@ -135,6 +141,7 @@ steps_ticked v w now all server texts first count st t l (ticks_ticked every s e
             sent = added w (map (λ (q : Parcel). q.datagram) (sent_by w.server (moment w.server now))) v.sent texts
                 (texts_in (FromServer all)) st.sent more told;
           };
+      memory = λ want. tt;
     }
   where
     same : every ≡ all
@@ -154,7 +161,8 @@ steps_ticked v w now all server texts first count st t l (ticks_ticked every s e
 
 pub steps_no_start : (v : WorldView) (w : World) (slot now : ℕ) → Stands v w → start_in v.slots slot ≡ None
     → Steps w (ClientTick slot now) Refused v
-steps_no_start v w slot now st at = record { left = w; step = empty_slot (vacant v w slot st at) refl refl; stands = st }
+steps_no_start v w slot now st at =
+    record { left = w; step = empty_slot (vacant v w slot st at) refl refl; stands = st; memory = λ want. absurd want }
 
 pub steps_not_sent : (v : WorldView) (w : World) (slot now : ℕ) (fault : Fault) (c c' : ClientView) → Stands v w → slot < length v.slots
     → start_in v.slots slot ≡ Some c
@@ -173,6 +181,7 @@ steps_not_sent v w slot now fault c c' st lt at sends = go (sends w.server.sessi
           left = w;
           step = spent s.id s.at d p (let f : fault ≡ Spent = cc in ap (λ x. Failed x) f) refl;
           stands = stands_kept v w slot c c' st lt s stands;
+          memory = λ want. (s.id, s.at);
         }
     go (sends_sent all d p e t stands) = absurd (cc)
     go (sends_no_memory due free e stands) =
@@ -180,6 +189,7 @@ steps_not_sent v w slot now fault c c' st lt at sends = go (sends w.server.sessi
           left = w;
           step = no_memory (let f : fault ≡ OutOfMemory = cc in ap (λ x. Failed x) f) refl;
           stands = stands_kept v w slot c c' st lt s stands;
+          memory = λ want. (s.id, s.at);
         }
 
 pub steps_sent : (v : WorldView) (w : World) (slot now : ℕ) (all : Vec (Vec ℕ Global) Global) (c c' : ClientView) (texts : List (List ℕ))
@@ -212,6 +222,7 @@ steps_sent v w slot now all c c' texts first count st lt at sends more is many =
                 sent =
                     more ∙ ap (λ (xs : List (List ℕ)). v.sent ++ xs) none_sent ∙ append-nil v.sent ∙ st.sent;
               };
+          memory = λ want. (s.id, s.at);
         }
       where
         none_sent : texts_in (FromClient all) ≡ []
@@ -235,6 +246,7 @@ steps_sent v w slot now all c c' texts first count st lt at sends more is many =
                     added w (datagrams_from w.server.session s.id (w.clients s.id)) v.sent texts (texts_in (FromClient all)) st.sent more
                     told;
               };
+          memory = λ want. (s.id, s.at);
         }
       where
         told : texts_in (FromClient all) ≡ map datagram_text (datagrams_from w.server.session s.id (w.clients s.id))

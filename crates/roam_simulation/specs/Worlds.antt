@@ -1,13 +1,14 @@
 -- What a world of the code stands for.
-use Rattle.std.specs.Prelude.{◌≡◌, ℕ, List, map, slice_index_or, Option, Some, None, true, ◌≤◌, length}
-use Rattle.roam_cells.specs.declared.faults.Fault.TheVariants.{BadChange}
-use Rattle.roam_wire.specs.Datagrams.{datagram_text}
+use Rattle.std.specs.Prelude.{◌≡◌, ℕ, List, map, slice_index_or, Option, Some, None, true, false, ◌≤◌, length}
+use Rattle.roam_acts.specs.Senders.{IsFull, IsSpent}
+use Rattle.roam_cells.specs.declared.faults.Fault.TheVariants.{BadChange, OutOfMemory}
+use Rattle.roam_wire.specs.Datagrams.{DatagramValue, datagram_text}
 use Rattle.roam_session.specs.Sessions.{SessionSize}
 use Rattle.roam_world.specs.Lists.{IsIn}
 use Rattle.roam_world.specs.Clients.{Client}
 use Rattle.roam_world.specs.ClientArrivals.{IsGap}
-use Rattle.roam_world.specs.Worlds.{World, Event, ToClient, Reply, Done, Sent, Taken, Heard, Refused, Failed, Stopped}
-use Rattle.roam_world.specs.Steps.{wstep}
+use Rattle.roam_world.specs.Worlds.{World, Event, PaneBytes, Typed, ServerTick, ClientTick, ToServer, ToClient, Start, Drain, Reply, Done, Sent, Taken, Heard, Refused, Failed, Stopped, datagram_at}
+use Rattle.roam_world.specs.Steps.{is_unfit, wstep}
 use Rattle.roam_world.specs.Laws.{Reaches, TakesActsInOrder}
 use Rattle.roam_world.specs.Numbers.{screen}
 use Rattle.roam_hub.specs.Clients.{ClientView, Stands as ClientStands}
@@ -63,11 +64,33 @@ pub record IsReached (w : World) : Type 0 where
   pub replies : List Reply
   pub reaches : Reaches session size events replies w
 
--- an event with its reply makes of a world another one, for which this stands
+-- memory was wanting
+abbrev pub IsWant : Reply → Type 0
+IsWant (Failed OutOfMemory) = Unit {0}
+IsWant (Stopped OutOfMemory taken) = Unit {0}
+IsWant _ = ⊥
+
+-- Memory may be wanting for an event: an act that a start would take; a tick, whose room is made first; a datagram that was sent; a start of
+-- an id that wasn't used, of a version that can do what it is to do. Bytes from a pane's program, or to it, take none.
+abbrev pub MayWant : World → Event → Type 0
+MayWant w (PaneBytes pane bytes) = ⊥
+MayWant w (Typed slot act) =
+    (id : ℕ) × (w.slots slot ≡ Some id) × ((w.clients id).watches ≡ false) × (IsFull (w.clients id).acts → ⊥)
+    × (IsSpent (w.clients id).acts → ⊥)
+MayWant w (ServerTick now) = Unit {0}
+MayWant w (ClientTick slot now) = (id : ℕ) × (w.slots slot ≡ Some id)
+MayWant w (ToServer k from now) = (d : DatagramValue) × (datagram_at w.sent k ≡ Some d)
+MayWant w (ToClient slot k now) =
+    (id : ℕ) × (w.slots slot ≡ Some id) × ((d : DatagramValue) × (datagram_at w.sent k ≡ Some d))
+MayWant w (Start slot id version watches) = ((w.clients id).made ≡ false) × (is_unfit version watches ≡ false)
+MayWant w (Drain pane n) = ⊥
+
+-- an event with its reply makes of a world another one, for which this stands; memory is wanting only where it may be
 pub record Steps (w : World) (e : Event) (r : Reply) (new : WorldView) : Type 0 where
   pub left : World
   pub step : wstep w e r left
   pub stands : Stands new left
+  pub memory : IsWant r → MayWant w e
 
 -- Each start in a slot shows a number that was made, or 0, and exactly the screen of that number; and the acts of each start that were
 -- taken are the first of those typed there, each once and in order.

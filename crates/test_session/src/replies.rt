@@ -53,7 +53,28 @@ type 1 char 61: watching
 ctick 1 20: sent 6 1
 up 6 5003 20: taken 0
 stick 20: sent 7 1
-down 1 7 20: new";
+down 1 7 20: new
+type 0 char 62: done
+ctick 0 40: sent 8 1
+type 0 char 62: done
+ctick 0 60: sent 9 1
+type 0 char 62: done
+ctick 0 80: sent 10 1
+type 0 char 62: done
+ctick 0 100: sent 11 1
+type 0 char 62: done
+ctick 0 120: sent 12 1
+type 0 char 62: done
+ctick 0 140: sent 13 1
+type 0 char 62: done
+ctick 0 160: sent 14 1
+type 0 char 62: done
+ctick 0 180: sent 15 1
+type 0 char 62: done
+ctick 0 200: sent 16 1
+type 0 char 62: done
+ctick 0 220: sent 17 1
+up 17 5002 240: taken 10";
 
 /// A letter is written before each of three ticks; the newest datagram comes, and then the one before it.
 const LETTERS: &str = "\

@@ -97,8 +97,8 @@ fn serve(alloc: Global, stage: &mut Stage, round: u64, fails: u64) -> Result<(),
     carry_down(&stage.ports, &mut stage.second)
 }
 
-// A round: the first start splits in round 0, and the second types a letter for pane 2 in round 2. An act that isn't taken waits for the
-// next round.
+// A round: the first start splits in round 0, and the second types a letter for pane 2 in round 4, after moment 1,000. An act that isn't
+// taken waits for the next round.
 fn play_round(alloc: Global, stage: &mut Stage, round: u64, failures: Failures) -> Result<(), Fault>
     requires first { IsBehind stage.old.first.outer stage.old.first.client.receiver.newest.number
         stage.old.first.client.receiver.newest.state }
@@ -113,7 +113,7 @@ fn play_round(alloc: Global, stage: &mut Stage, round: u64, failures: Failures) 
     let split = Act::SplitRight;
     let key = Act::Key(Key::Char('x'));
     let first = next_of(!stage.is_split, &split);
-    let second = next_of(!stage.is_typed && round >= 2, &key);
+    let second = next_of(!stage.is_typed && round >= 4, &key);
     let first_fails = failures.in_turn(round, Who::First);
     let second_fails = failures.in_turn(round, Who::Second);
     stage.is_split = stage.first.turn(alloc, now, first_fails, first) || stage.is_split;
@@ -229,7 +229,7 @@ fn a_failed_call_of_a_start_is_made_good(rt: HostRuntime) {
 
 // The first pair that isn't made good, of a call of the server's turn in a round and one of a start's, that round or the one before.
 fn first_lost_pair(alloc: Global, starts: Who) -> Option<(u64, u64)> {
-    for round in 1..4 {
+    for round in 2..5 {
         for call in 1..8 {
             let of_server = Failure {
                 round,
