@@ -6,7 +6,7 @@ ghost use Rattle.roam_cells.specs.Limits.{IsSize};
 ghost use Rattle.roam_cells.specs.Place.{AreWhole, AreUnguarded};
 ghost use Rattle.roam_update.specs.Marks.{StaysUnmarked};
 ghost use Rattle.roam_update.specs.Shots.{applied_two};
-ghost use Rattle.roam_update.specs.Tabled.{HasHead, head_of_text};
+ghost use Rattle.roam_update.specs.Tabled.{HasStart};
 ghost use Rattle.roam_update.specs.Sizes.{sized_cells};
 
 use crate::change_text::Head;
@@ -73,7 +73,7 @@ pub fn begun(
 fn made(alloc: Global, base: &RowShot, text: &[u8]) -> Result<RowShot, Fault>
     ensures ok { IfOk result (λ shot. applied_two base.now text.now ≡ Some shot) }
     ensures bad { IsErrOf result Fault.BadChange → applied_two base.now text.now ≡ None }
-    ensures memory { IsErrOf result Fault.OutOfMemory → HasHead (head_of_text text.now) }
+    ensures memory { IsErrOf result Fault.OutOfMemory → HasStart text.now }
     ensures fault { IfErr result (λ fault. (fault ≡ Fault.OutOfMemory) ⊎ (fault ≡ Fault.BadChange)) }
 {
     let mut marks = [false; MOST_ROWS as usize];
@@ -104,8 +104,8 @@ impl Synced for RowShot {
     fn apply(&mut self, alloc: Global, change: &[u8]) -> Result<(), Fault>
         ensures ok { OnOk result (applied_two self.old change.now ≡ Some self.new) }
         ensures bad { IsErrOf result Fault.BadChange → applied_two self.old change.now ≡ None }
-        // A text that begins with no head is told so, whatever memory there is.
-        ensures memory { IsErrOf result Fault.OutOfMemory → HasHead (head_of_text change.now) }
+        // A text that begins with no head, or with no table behind it, is told so, whatever memory there is.
+        ensures memory { IsErrOf result Fault.OutOfMemory → HasStart change.now }
         ensures err { OnErr result (self.new ≡ self.old) }
         ensures fault { IfErr result (λ fault. (fault ≡ Fault.OutOfMemory) ⊎ (fault ≡ Fault.BadChange)) }
     {

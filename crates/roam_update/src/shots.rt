@@ -10,7 +10,7 @@ ghost use Rattle.roam_update.specs.Marks.{StaysUnmarked};
 ghost use Rattle.roam_update.specs.Numbers.{styles_in, AreNumbers, form_in, styles_of, form_behind, runs_said};
 ghost use Rattle.roam_update.specs.Put.{cells_by};
 ghost use Rattle.roam_update.specs.TableText.{joined_text};
-ghost use Rattle.roam_update.specs.Tabled.{head_of_text, HasHead, cells_in, old_head_of_text, HasOldHead, old_cells_in};
+ghost use Rattle.roam_update.specs.Tabled.{head_of_text, HasTable, HasStart, cells_in, old_head_of_text, HasOldHead, old_cells_in};
 ghost use Rattle.roam_update.specs.Shots.{applied_one, applied_two, change_to, difference_one, difference_two, shown_by};
 ghost use Rattle.roam_update.specs.Sizes.{AreSameSize, sized_cells};
 
@@ -203,8 +203,8 @@ fn are_few(head: Head, count: usize) -> bool
     count <= head.rows as usize * head.cols as usize
 }
 
-// The cells that the table and the runs behind a head make of a base; it marks the rows that the runs name. A table that is too long is
-// refused before it is read.
+// The cells that the table and the runs behind a head make of a base; it marks the rows that the runs name. A table that is too long or
+// is cut short is refused before it is read.
 fn changed_cells<B: Seen>(
     alloc: Global,
     base: &B,
@@ -221,6 +221,8 @@ fn changed_cells<B: Seen>(
         StaysUnmarked head.cols marks.new (sized_cells head.rows head.cols (B.screen base.now)) cells.items) }
     ensures bad { IsErrOf result Fault.BadChange → (cells : List Glyph)
         → cells_in (B.screen base.now) head text.now ≡ Some cells → ¬ AreWhole head.rows head.cols cells }
+    ensures table { IfOk result (λ _. HasTable head text.now) }
+    ensures memory { IsErrOf result Fault.OutOfMemory → HasTable head text.now }
     ensures fault { IfErr result (λ fault. (fault ≡ Fault.OutOfMemory) ⊎ (fault ≡ Fault.BadChange)) }
 {
     let count = BigEndian::read_u24(&text[9..]) as usize;
@@ -228,11 +230,11 @@ fn changed_cells<B: Seen>(
         return Err(Fault::BadChange);
     }
     let (_, entries) = text.split_at(12);
-    let table = read_table(alloc, count, entries)?;
-    let (_, rest) = entries.split_at(9 * count);
-    if rest.len() < 4 {
+    if entries.len() < 9 * count + 4 {
         return Err(Fault::BadChange);
     }
+    let table = read_table(alloc, count, entries)?;
+    let (_, rest) = entries.split_at(9 * count);
     let n = BigEndian::read_u32(rest);
     let (_, runs) = rest.split_at(4);
     let mut form = Spelling::by_table(table);
@@ -253,9 +255,9 @@ pub fn changed<B: Seen>(
     ensures stays { IfOk result (λ made.
         StaysUnmarked made.0.cols marks.new (sized_cells made.0.rows made.0.cols (B.screen base.now)) made.1.items) }
     ensures bad { IsErrOf result Fault.BadChange → applied_two (B.screen base.now) text.now ≡ None }
-    ensures head { IfOk result (λ _. HasHead (head_of_text text.now)) }
-    // A text that begins with no head is told so, whatever memory there is.
-    ensures memory { IsErrOf result Fault.OutOfMemory → HasHead (head_of_text text.now) }
+    ensures start { IfOk result (λ _. HasStart text.now) }
+    // A text that begins with no head, or with no table behind it, is told so, whatever memory there is.
+    ensures memory { IsErrOf result Fault.OutOfMemory → HasStart text.now }
     ensures fault { IfErr result (λ fault. (fault ≡ Fault.OutOfMemory) ⊎ (fault ≡ Fault.BadChange)) }
 {
     base.facts();

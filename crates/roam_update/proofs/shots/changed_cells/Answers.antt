@@ -1,14 +1,18 @@
-use Rattle.std.proofs.Common.{◌≡◌, ◌<◌, ◌*◌, ◌-◌, ℕ, List, [], length, take, drop, length-drop, Some, sym, ap, ◌∙◌, arith, rules, inl, inr}
-use Rattle.std.specs.Prelude.{IsTrue}
+use Rattle.std.proofs.Common.{◌≡◌, ◌<◌, ◌≤◌, ◌+◌, ◌*◌, ◌-◌, ◌⊎◌, ℕ, List, [], length, take, drop, length-drop, Some, sym, ap, subst, ◌∙◌, arith, rules, inl, inr}
+use Rattle.std.specs.Prelude.{IsTrue, IsSome}
 use Rattle.std.proofs.lemmas.Bool.{cases_lt}
 use Rattle.std.proofs.lemmas.List.{take_all}
+use Rattle.std.proofs.lemmas.Result.{IfOk-weaker}
 use Rattle.byteorder.specs.Endian.{big_number}
 use Rattle.roam_cells.specs.declared.styles.Style.{Style}
 use Rattle.roam_update.specs.Put.{cells_by}
 use Rattle.roam_update.specs.Styles.{Numbered}
-use Rattle.roam_update.specs.TableText.{table_read, table_in}
-use Rattle.roam_update.proofs.Applying.{cells_in_is, no_cells_in}
-use Rattle.roam_update.proofs.Few.{too_many}
+use Rattle.roam_update.specs.TableText.{entry_read, table_read, table_in}
+use Rattle.roam_update.specs.Tabled.{HasTable}
+use Rattle.roam_update.specs.declared.change_text.Head.{Head}
+use Rattle.roam_update.proofs.Entries.{first_entry}
+use Rattle.roam_update.proofs.Applying.{cells_in_is, head_long}
+use Rattle.roam_update.proofs.Few.{too_many, too_short}
 use Rattle.roam_update.proofs.shots.changed_cells.Goals as goal
 
 -- the number that is read behind the nine bytes of a front
@@ -36,15 +40,56 @@ returns-then-not-are_few-clause-bad g c =
     ] in
     too_many (g.B.Seen.screen c.args.base.now) h text cells (λ i. omega (arith, c.type_inv.text i)) (omega (arith, many, count)) is
 
-pub returns-then-rest-lt4-clause-bad : goal.returns-then-rest-lt4-clause-bad
-returns-then-rest-lt4-clause-bad g c =
+-- a table may be read behind a head, by what was tested
+has_table : (h : Head) (text entries : List ℕ) (count : ℕ) → count ≡ big_number 3 (drop 9 text) → entries ≡ drop 12 text → count ≤ h.rows * h.cols
+    → 12 ≤ length text → 9 * count + 4 ≤ length entries → (count ≡ 0) ⊎ IsSome (entry_read entries) → HasTable h text
+has_table h text entries count c e few head long first =
+    record {
+      few = omega (arith, few, c);
+      long = omega (arith, long, c, head, ap length e, length-drop 12 text);
+      first =
+          elim first [
+            | inl none ↦ inl (sym c ∙ none)
+            | inr some ↦ inr (subst (λ (t : List ℕ). IsSome (entry_read t)) e some)
+          ];
+    }
+
+pub returns-then-entries-count-clause-bad : goal.returns-then-entries-count-clause-bad
+returns-then-entries-count-clause-bad g c =
     λ e cells is whole.
     let text = c.args.text.now in
-    let rest = c.split_at-2.result.1.now in
     let count = number_behind text c.read_u24-count.result c.read_u24-count.ensures in
-    let table = by_parts text c.split_at.result.1.now rest c.read_u24-count.result c.in_ok-table.table.items count c.split_at.ensures.back c.in_ok-table.ensures.ok c.split_at-2.ensures.back in
-    let none = no_cells_in (g.B.Seen.screen c.args.base.now) c.args.head text (record { styles = c.in_ok-table.table.items; rest = rest }) table (omega arith) in
-    absurd cc
+    too_short (g.B.Seen.screen c.args.base.now) c.args.head text cells (omega (arith, count, ap length c.split_at.ensures.back)) is
+
+pub returns-in_err-table-clause-memory : goal.returns-in_err-table-clause-memory
+returns-in_err-table-clause-memory g c =
+    λ e.
+    let text = c.args.text.now in
+    let count = number_behind text c.read_u24-count.result c.read_u24-count.ensures in
+    let yes : IsTrue c.are_few.result = search rules in
+    has_table c.args.head text c.split_at.result.1.now c.read_u24-count.result count c.split_at.ensures.back (c.are_few.ensures.few.0 yes)
+    (head_long (g.B.Seen.screen c.args.base.now) text c.args.head c.requires.head) (omega arith) (inr (c.in_err-table.ensures.memory (search rules)))
+
+pub returns-clause-table : goal.returns-clause-table
+returns-clause-table g c =
+    let text = c.args.text.now in
+    let entries = c.split_at.result.1.now in
+    let count = number_behind text c.read_u24-count.result c.read_u24-count.ensures in
+    let yes : IsTrue c.are_few.result = search rules in
+    IfOk-weaker c.patched.result _ (λ _. HasTable c.args.head text) (λ _ _. has_table c.args.head text entries c.read_u24-count.result count c.split_at.ensures.back (c.are_few.ensures.few.0 yes)
+    (head_long (g.B.Seen.screen c.args.base.now) text c.args.head c.requires.head) (omega arith)
+    (first_entry c.read_u24-count.result entries (record { styles = c.in_ok-table.table.items; rest = drop (9 * c.read_u24-count.result) entries }) c.in_ok-table.ensures.ok)) c.patched.ensures.whole
+
+pub returns-clause-memory : goal.returns-clause-memory
+returns-clause-memory g c =
+    λ e.
+    let text = c.args.text.now in
+    let entries = c.split_at.result.1.now in
+    let count = number_behind text c.read_u24-count.result c.read_u24-count.ensures in
+    let yes : IsTrue c.are_few.result = search rules in
+    has_table c.args.head text entries c.read_u24-count.result count c.split_at.ensures.back (c.are_few.ensures.few.0 yes)
+    (head_long (g.B.Seen.screen c.args.base.now) text c.args.head c.requires.head) (omega arith)
+    (first_entry c.read_u24-count.result entries (record { styles = c.in_ok-table.table.items; rest = drop (9 * c.read_u24-count.result) entries }) c.in_ok-table.ensures.ok)
 
 pub returns-clause-bad : goal.returns-clause-bad
 returns-clause-bad g c =
