@@ -2,7 +2,6 @@ use Rattle.std.proofs.Common.{◌≡◌, ◌<◌, ◌≤◌, ◌+◌, ◌*◌, �
 use Rattle.std.specs.Prelude.{IsTrue, IsSome}
 use Rattle.std.proofs.lemmas.Bool.{cases_lt}
 use Rattle.std.proofs.lemmas.List.{take_all}
-use Rattle.std.proofs.lemmas.Result.{IfOk-weaker}
 use Rattle.byteorder.specs.Endian.{big_number}
 use Rattle.roam_cells.specs.declared.styles.Style.{Style}
 use Rattle.roam_update.specs.Put.{cells_by}
@@ -13,7 +12,7 @@ use Rattle.roam_update.specs.declared.change_text.Head.{Head}
 use Rattle.roam_update.proofs.Entries.{first_entry}
 use Rattle.roam_update.proofs.Applying.{cells_in_is, head_long}
 use Rattle.roam_update.proofs.Few.{too_many, too_short}
-use Rattle.roam_update.proofs.shots.changed_cells.Goals as goal
+use Rattle.roam_update.proofs.shots.changed_rows.Goals as goal
 
 -- the number that is read behind the nine bytes of a front
 number_behind : (text : List ℕ) (count : ℕ) → count ≡ big_number 3 (take (length text - 9) (drop 9 text)) → count ≡ big_number 3 (drop 9 text)
@@ -28,7 +27,7 @@ by_parts : (text entries rest : List ℕ) (count : ℕ) (styles : List Style) �
 by_parts text entries rest count styles c e t r = (λ i. table_read (sym c i) [] (sym e i)) ∙ t ∙ (λ i. Some (record { styles = styles; rest = sym r i }))
 
 pub returns-then-not-are_few-clause-bad : goal.returns-then-not-are_few-clause-bad
-returns-then-not-are_few-clause-bad g c =
+returns-then-not-are_few-clause-bad c =
     λ e cells is whole.
     let h = c.args.head in
     let text = c.args.text.now in
@@ -38,7 +37,7 @@ returns-then-not-are_few-clause-bad g c =
       | inl lt ↦ lt
       | inr le ↦ let yes : IsTrue c.are_few.result = c.are_few.ensures.few.1 le in absurd (search rules)
     ] in
-    too_many (g.B.Seen.screen c.args.base.now) h text cells (λ i. omega (arith, c.type_inv.text i)) (omega (arith, many, count)) is
+    too_many c.args.base.now h text cells (λ i. omega (arith, c.type_inv.text i)) (omega (arith, many, count)) is
 
 -- a table may be read behind a head, by what was tested
 has_table : (h : Head) (text entries : List ℕ) (count : ℕ) → count ≡ big_number 3 (drop 9 text) → entries ≡ drop 12 text → count ≤ h.rows * h.cols
@@ -55,46 +54,36 @@ has_table h text entries count c e few head long first =
     }
 
 pub returns-then-entries-count-clause-bad : goal.returns-then-entries-count-clause-bad
-returns-then-entries-count-clause-bad g c =
+returns-then-entries-count-clause-bad c =
     λ e cells is whole.
     let text = c.args.text.now in
     let count = number_behind text c.read_u24-count.result c.read_u24-count.ensures in
-    too_short (g.B.Seen.screen c.args.base.now) c.args.head text cells (omega (arith, count, ap length c.split_at.ensures.back)) is
+    too_short c.args.base.now c.args.head text cells (omega (arith, count, ap length c.split_at.ensures.back)) is
 
 pub returns-in_err-table-clause-memory : goal.returns-in_err-table-clause-memory
-returns-in_err-table-clause-memory g c =
+returns-in_err-table-clause-memory c =
     λ e.
     let text = c.args.text.now in
     let count = number_behind text c.read_u24-count.result c.read_u24-count.ensures in
     let yes : IsTrue c.are_few.result = search rules in
     has_table c.args.head text c.split_at.result.1.now c.read_u24-count.result count c.split_at.ensures.back (c.are_few.ensures.few.0 yes)
-    (head_long (g.B.Seen.screen c.args.base.now) text c.args.head c.requires.head) (omega arith) (inr (c.in_err-table.ensures.memory (search rules)))
-
-pub returns-clause-table : goal.returns-clause-table
-returns-clause-table g c =
-    let text = c.args.text.now in
-    let entries = c.split_at.result.1.now in
-    let count = number_behind text c.read_u24-count.result c.read_u24-count.ensures in
-    let yes : IsTrue c.are_few.result = search rules in
-    IfOk-weaker c.patched.result _ (λ _. HasTable c.args.head text) (λ _ _. has_table c.args.head text entries c.read_u24-count.result count c.split_at.ensures.back (c.are_few.ensures.few.0 yes)
-    (head_long (g.B.Seen.screen c.args.base.now) text c.args.head c.requires.head) (omega arith)
-    (first_entry c.read_u24-count.result entries (record { styles = c.in_ok-table.table.items; rest = drop (9 * c.read_u24-count.result) entries }) c.in_ok-table.ensures.ok)) c.patched.ensures.whole
+    (head_long c.args.base.now text c.args.head c.requires.head) (omega arith) (inr (c.in_err-table.ensures.memory (search rules)))
 
 pub returns-clause-memory : goal.returns-clause-memory
-returns-clause-memory g c =
+returns-clause-memory c =
     λ e.
     let text = c.args.text.now in
     let entries = c.split_at.result.1.now in
     let count = number_behind text c.read_u24-count.result c.read_u24-count.ensures in
     let yes : IsTrue c.are_few.result = search rules in
     has_table c.args.head text entries c.read_u24-count.result count c.split_at.ensures.back (c.are_few.ensures.few.0 yes)
-    (head_long (g.B.Seen.screen c.args.base.now) text c.args.head c.requires.head) (omega arith)
+    (head_long c.args.base.now text c.args.head c.requires.head) (omega arith)
     (first_entry c.read_u24-count.result entries (record { styles = c.in_ok-table.table.items; rest = drop (9 * c.read_u24-count.result) entries }) c.in_ok-table.ensures.ok)
 
 pub returns-clause-bad : goal.returns-clause-bad
-returns-clause-bad g c =
+returns-clause-bad c =
     λ e cells is.
-    let base = g.B.Seen.screen c.args.base.now in
+    let base = c.args.base.now in
     let h = c.args.head in
     let text = c.args.text.now in
     let rest = c.split_at-2.result.1.now in
