@@ -1,4 +1,5 @@
 pub mod Ascii
+pub mod Differences
 pub mod Digits
 pub mod Gathered
 pub mod Joining

@@ -32,6 +32,14 @@ impl Line {
         Ok(Line { cells })
     }
 
+    /// A row of cells that have memory of their own: none is copied.
+    pub fn from_cells(cells: Vec<Cell>) -> Result<Line, AllocError>
+        ensures line { IfOk result (λ line. line ≡ cells.items) }
+    {
+        let cells = RcSlice::from_vec(cells)?;
+        Ok(Line { cells })
+    }
+
     /// A row of so many blanks.
     pub fn blank(alloc: Global, cols: usize) -> Result<Line, AllocError>
         ensures line { IfOk result (λ line. line ≡ replicate cols blank) }

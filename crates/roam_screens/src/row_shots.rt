@@ -90,8 +90,8 @@ impl RowShot {
         })
     }
 
-    // The screen of these rows.
-    pub(crate) fn of_lines(
+    /// The screen of these rows, with its cursor at a row and a column from 1; it takes no memory.
+    pub fn of_lines(
         rows: u16,
         cols: u16,
         lines: Vec<Line>,
@@ -109,6 +109,14 @@ impl RowShot {
             cursor,
             visible,
         }
+    }
+
+    /// Row `i`, from 0, which another screen may share.
+    pub fn line(&self, i: u16) -> &Line
+        requires row { i < self.now.rows }
+        ensures line { result.now ≡ row_of self.now.cols self.now.cells i }
+    {
+        &self.lines[i as usize]
     }
 
     /// Puts cells in the place of row `i`, from 0, in memory of their own; screens that share the row keep it.

@@ -13,7 +13,7 @@ use Rattle.roam_update.specs.CellText.{IsPlain}
 use Rattle.roam_update.specs.ChangeText.{change_of, runs_read}
 use Rattle.roam_update.specs.Styles.{Numbered}
 use Rattle.roam_update.specs.TableText.{Table, has_front, front_at, numbered_read, table_in}
-use Rattle.roam_update.specs.Tabled.{head_of_text, cells_behind, cells_in}
+use Rattle.roam_update.specs.Tabled.{head_of_text, HasHead, HasTable, HasStart, cells_behind, cells_in}
 use Rattle.roam_update.specs.Put.{cells_by}
 use Rattle.roam_update.specs.Runs.{Run, patched_cells}
 use Rattle.roam_update.specs.Shots.{applied_two, if_screenshot, screen_by, shown_by}
@@ -79,6 +79,9 @@ module _ (base : Screenshot) (text : List ℕ) (h : Head) (read : head_of_text t
 
   pub head_long : 12 ≤ length text
   head_long = leb-true 12 (length text) (and_parts (leb 12 (length text)) _ parts.0).0
+
+  pub has_start : IsPlace h.rows h.cols h.cursor_row h.cursor_col → HasTable h text → HasStart text
+  has_start place table = (subst HasHead (sym read) place, subst (λ (x : Head). HasTable x text) (sym parts.1) table)
 
   off_screen : ¬ IsPlace h.rows h.cols h.cursor_row h.cursor_col → (o : Option (List Glyph)) → finished h o ≡ None
   off_screen n None = refl

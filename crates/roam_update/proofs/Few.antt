@@ -1,5 +1,6 @@
--- A table with more styles than a screen has places makes nothing of a base.
-use Rattle.std.proofs.Common.{◌≡◌, ℕ, ◌*◌, ◌<◌, leb, List, length, drop, Some, arith}
+-- A table with more styles than a screen has places makes nothing of a base, nor does one that is cut short.
+use Rattle.std.proofs.Common.{◌≡◌, ℕ, ◌+◌, ◌*◌, ◌<◌, leb, List, [], length, drop, Some, arith}
+use Rattle.std.proofs.lemmas.Bool.{leb-true}
 use Rattle.std.proofs.lemmas.Option.{option_and_then_some}
 use Rattle.byteorder.specs.Endian.{big_number}
 use Rattle.byteorder.specs.Numbers.{big_from-lt}
@@ -14,6 +15,7 @@ use Rattle.roam_update.specs.TableText.{Table, table_in}
 use Rattle.roam_update.specs.Tabled.{cells_behind, cells_in}
 use Rattle.roam_update.specs.declared.change_text.Head.{Head}
 use Rattle.roam_update.proofs.Bytes.{AreBytes, bytes-drop}
+use Rattle.roam_update.proofs.Entries.{table_length}
 use Rattle.roam_update.proofs.Plain.{if_some}
 use Rattle.roam_update.proofs.Sizing.{length_sized}
 use Rattle.roam_update.proofs.TableSpelled.{few_entries}
@@ -30,3 +32,12 @@ too_many base h text cells fits many e =
     (big_from-lt 0 3 (drop 9 text) (bytes-drop 9 text fits)) f j in
     let all = length_sized h.rows h.cols base in
     absurd (omega (arith, few, all, many))))
+
+pub too_short : (base : Screenshot) (h : Head) (text : List ℕ) (cells : List Glyph) → length (drop 12 text) < 9 * big_number 3 (drop 9 text) + 4
+    → cells_in base h text ≡ Some cells → ⊥
+too_short base h text cells short e =
+    option_and_then_some (λ (table : Table). cells_behind base h table) (table_in text) cells e (λ table f g.
+    let a = if_some (leb 4 (length table.rest)) (cells_by (Numbered table.styles 0) (big_number 4 table.rest) base h (drop 4 table.rest)) cells g in
+    let four = leb-true 4 (length table.rest) a.0 in
+    let long = table_length (big_number 3 (drop 9 text)) [] (drop 12 text) table f in
+    absurd (omega (arith, four, long, short)))

@@ -21,6 +21,7 @@ pub mod Joined
 pub mod Said
 pub mod Placed
 pub mod Lookup
+pub mod Drafted
 pub mod Entries
 pub mod TableAgain
 pub mod TableSpelled

@@ -1,5 +1,5 @@
 -- Reading the text of one thing more, and putting it into its place.
-use Rattle.std.proofs.Common.{◌≡◌, ℕ, zero, suc, ◌+◌, ◌-◌, ◌*◌, ◌^◌, ◌<◌, ◌≤◌, true, false, cond, eqb, leb, ◌&&◌, List, [], ◌∷◌, length, drop, set, Option, Some, None, refl, sym, ap, ◌∙◌, arith}
+use Rattle.std.proofs.Common.{◌≡◌, ℕ, zero, suc, ◌+◌, ◌-◌, ◌*◌, ◌<◌, ◌≤◌, true, false, cond, eqb, leb, ◌&&◌, List, [], ◌∷◌, length, drop, set, Option, Some, None, refl, sym, ap, ◌∙◌, arith}
 use Rattle.std.specs.Prelude.{IfSome, option_and_then}
 use Rattle.std.proofs.lemmas.List.{drop-drop, length-drop}
 use Rattle.std.proofs.lemmas.Option.{cond_some, option_and_then_some}
@@ -58,7 +58,7 @@ unfolding cells_read with_cells_at
 cells_put_none f zero first cells text h = refl
 cells_put_none f (suc n) first cells text h = absurd (omega arith)
 
-abbrev laid : ℕ → List Glyph → Front (List Glyph) → Option (Front (List Glyph))
+abbrev pub laid : ℕ → List Glyph → Front (List Glyph) → Option (Front (List Glyph))
 laid first cells cs = Some (record { value = with_cells_at cells first cs.value; rest = cs.rest; form = cs.form })
 
 abbrev after : Glyph → Front (List Glyph) → Option (Front (List Glyph))
@@ -70,7 +70,7 @@ unfolding with_cells_at
 regroup first cells g None = refl
 regroup first cells g (Some cs) = refl
 
-cells_put_suc : (f : Form) (n first : ℕ) (cells : List Glyph) (text : List ℕ) (g : Glyph) → glyph_read f text ≡ Some g
+pub cells_put_suc : (f : Form) (n first : ℕ) (cells : List Glyph) (text : List ℕ) (g : Glyph) → glyph_read f text ≡ Some g
     → cells_put f (suc n) first cells text ≡ cells_put (form_after f text) n (first + 1) (set cells first g) (drop (cell_size f text) text)
 unfolding cells_read
 cells_put_suc f n first cells text g e = rw e (regroup first cells g (cells_read (form_after f text) n (drop (cell_size f text) text)))
@@ -150,7 +150,7 @@ abbrev some_of : Option (Front (List Glyph)) → Front (List Glyph)
 some_of None = record { value = []; rest = []; form = Whole }
 some_of (Some f) = f
 
-some_path : {a b : Front (List Glyph)} → maybe a ≡ maybe b → a ≡ b
+pub some_path : {a b : Front (List Glyph)} → maybe a ≡ maybe b → a ≡ b
 some_path e = ap some_of e
 
 regroup_runs : (cells : List Glyph) (text : List ℕ) (cs : List Glyph) (o : Option (List Run))

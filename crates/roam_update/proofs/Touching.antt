@@ -1,26 +1,19 @@
--- Rows that no run names stay, and a base brought to a size has whole characters.
-use Rattle.std.proofs.Common.{◌≡◌, ℕ, zero, suc, ◌+◌, ◌-◌, ◌*◌, ◌/◌, ◌<◌, ◌≤◌, Bool, true, false, cond, eqb, ltb, ◌&&◌, List, [], ◌∷◌, length, get_or, drop, set, Some, refl, sym, ap, subst, ◌∙◌, arith, inl, inr}
-use Rattle.std.specs.Prelude.{◌⊎◌, ◌↔◌, option_and_then, slice_range}
-use Rattle.std.proofs.Math.Nat.{mul-le-mul_right, mod-add-div'}
-use Rattle.std.proofs.lemmas.Bool.{cases_lt, false≢true, ltb-true, eq-eqb}
-use Rattle.std.proofs.lemmas.List.{get_or-set_other, get_or-take, get_or-drop, length-drop, length-take-le}
-use Rattle.std.proofs.lemmas.Nat.{mod_below}
+-- How many cells are read, and that a base brought to a size has whole characters.
+use Rattle.std.proofs.Common.{◌≡◌, ℕ, zero, suc, ◌+◌, ◌-◌, ◌<◌, Bool, true, false, cond, eqb, ltb, ◌&&◌, List, [], ◌∷◌, length, Some, refl, sym, ap, ◌∙◌, arith}
+use Rattle.std.specs.Prelude.{option_and_then}
+use Rattle.std.proofs.lemmas.Bool.{false≢true, ltb-true, eq-eqb}
 use Rattle.std.proofs.lemmas.Option.{option_and_then_some}
 use Rattle.roam_cells.specs.Glyph.{Glyph, is_wide, is_right_half, right_of, space_in, blank, is_wide_text, is_empty_text}
 use Rattle.roam_cells.specs.Place.{cell_at, IsWholeAt, IsWholeLine, AreWhole}
 use Rattle.roam_screens.specs.Screenshot.{Screenshot, IsScreenshot}
-use Rattle.roam_cells.proofs.Places.{get_or-table, place_of}
+use Rattle.roam_cells.proofs.Places.{get_or-table}
 use Rattle.roam_cells.proofs.CellLists.{is_wide-blank}
 use Rattle.roam_update.specs.CellText.{Front, cell_read, cells_read}
-use Rattle.roam_update.specs.Put.{cells_put}
 use Rattle.roam_update.specs.Styles.{Form}
-use Rattle.roam_update.specs.Runs.{with_cells_at}
 use Rattle.roam_update.specs.Sizes.{sized_cells, sized_at}
 use Rattle.roam_update.proofs.Sizing.{kept_at}
 
--- ---- cells outside a run
-
-cells_count : (form : Form) (n : ℕ) (text : List ℕ) (cs : Front (List Glyph)) → cells_read form n text ≡ Some cs → length cs.value ≡ n
+pub cells_count : (form : Form) (n : ℕ) (text : List ℕ) (cs : Front (List Glyph)) → cells_read form n text ≡ Some cs → length cs.value ≡ n
 unfolding cells_read
 cells_count form zero text cs e = let none : record { value = []; rest = text; form = form } ≡ cs = cc in sym (ap (λ (f : Front (List Glyph)). length f.value) none)
 cells_count form (suc n) text cs e =
@@ -29,55 +22,6 @@ cells_count form (suc n) text cs e =
     option_and_then_some (λ (more : Front (List Glyph)). Some (record { value = c.value ∷ more.value; rest = more.rest; form = more.form })) (cells_read c.form n c.rest) cs g (λ more h k.
     let same : record { value = c.value ∷ more.value; rest = more.rest; form = more.form } ≡ cs = cc in
     sym (ap (λ (f : Front (List Glyph)). length f.value) same) ∙ ap suc (cells_count c.form n c.rest more h)))
-
-placed_outside : (cells : List Glyph) (k : ℕ) (gs : List Glyph) (i : ℕ) → (i < k) ⊎ (k + length gs ≤ i) → get_or (with_cells_at cells k gs) i blank ≡ get_or cells i blank
-unfolding with_cells_at
-placed_outside cells k [] i h = refl
-placed_outside cells k (g ∷ gs) i h =
-    let other : ¬ (i ≡ k) = λ e. elim h [ inl p ↦ absurd (omega (arith, p, e)) | inr p ↦ absurd (omega (arith, p, e)) ] in
-    let next : (i < k + 1) ⊎ (k + 1 + length gs ≤ i) = elim h [ inl p ↦ inl (omega (arith, p)) | inr p ↦ inr (omega (arith, p)) ] in
-    placed_outside (set cells k g) (k + 1) gs i next ∙ get_or-set_other cells k i g blank other
-
-pub put_outside : (form : Form) (n first : ℕ) (cells : List Glyph) (text : List ℕ) (r : Front (List Glyph)) (i : ℕ) → cells_put form n first cells text ≡ Some r
-    → (i < first) ⊎ (first + n ≤ i) → get_or r.value i blank ≡ get_or cells i blank
-put_outside form n first cells text r i e h =
-    option_and_then_some (λ (cs : Front (List Glyph)). Some (record { value = with_cells_at cells first cs.value; rest = cs.rest; form = cs.form })) (cells_read form n text) r e (λ cs f g.
-    let same : record { value = with_cells_at cells first cs.value; rest = cs.rest; form = cs.form } ≡ r = cc in
-    let count = cells_count form n text cs f in
-    let far : (i < first) ⊎ (first + length cs.value ≤ i) = elim h [ inl p ↦ inl p | inr p ↦ inr (omega (arith, p, count)) ] in
-    sym (ap (λ (x : Front (List Glyph)). get_or x.value i blank) same) ∙ placed_outside cells first cs.value i far)
-
--- a row before the first and one behind the last that a run names
-pub row_outside : (first len cols r c : ℕ) → 0 < cols → 0 < len → c < cols → (r < first / cols) ⊎ ((first + len - 1) / cols < r) → (r * cols + c < first) ⊎ (first + len ≤ r * cols + c)
-row_outside first len cols r c some any in_row h =
-    elim h [
-      | inl p ↦
-          let up : (r + 1) * cols ≤ first / cols * cols = mul-le-mul_right cols (omega (arith, p)) in
-          let all = mod-add-div' first cols in
-          inl (omega (arith, up, all, in_row))
-      | inr p ↦
-          let last = first + len - 1 in
-          let down : (last / cols + 1) * cols ≤ r * cols = mul-le-mul_right cols (omega (arith, p)) in
-          let all = mod-add-div' last cols in
-          let rest = mod_below last cols some in
-          inr (omega (arith, down, all, rest, any))
-    ]
-
--- the rows that a run names
-pub rows_named : (first len cols rows : ℕ) → 0 < cols → 1 ≤ len → first + len ≤ rows * cols → (first / cols ≤ (first + len - 1) / cols) × ((first + len - 1) / cols < rows)
-rows_named first len cols rows some any fits =
-    let last = first + len - 1 in
-    let below = place_of rows cols last (omega (arith, any, fits)) in
-    let rise : first / cols ≤ last / cols = elim (cases_lt (last / cols) (first / cols)) [
-      | inl p ↦
-          let up : (last / cols + 1) * cols ≤ first / cols * cols = mul-le-mul_right cols (omega (arith, p)) in
-          let one = mod-add-div' first cols in
-          let two = mod-add-div' last cols in
-          let rest = mod_below last cols some in
-          absurd (omega (arith, up, one, two, rest, any))
-      | inr p ↦ p
-    ] in
-    (rise, below.0)
 
 -- ---- rows
 
@@ -92,28 +36,6 @@ line_like cols a b like h c p =
           let both = (h c p).half (ap is_right_half (like c p) ∙ w) in
           (both.0, sym (ap is_wide (like (c - 1) (omega (arith, p)))) ∙ both.1);
     }
-
-pub row_count : (row cols : ℕ) (cells : List Glyph) → (row + 1) * cols ≤ length cells → length (slice_range cells (row * cols) (row * cols + cols)) ≡ 1 * cols
-row_count row cols cells h =
-    let wide : row * cols + cols - row * cols ≡ 1 * cols = omega arith in
-    length-take-le (row * cols + cols - row * cols) (drop (row * cols) cells) (omega (arith, length-drop (row * cols) cells, h)) ∙ wide
-
-row_at : (row cols : ℕ) (cells : List Glyph) (c : ℕ) → c < cols → cell_at cols (slice_range cells (row * cols) (row * cols + cols)) 0 c ≡ cell_at cols cells row c
-row_at row cols cells c p =
-    let wide : row * cols + cols - row * cols ≡ cols = omega arith in
-    let z : 0 * cols + c ≡ c = omega arith in
-    ap (λ (k : ℕ). get_or (slice_range cells (row * cols) (row * cols + cols)) k blank) z
-    ∙ get_or-take (row * cols + cols - row * cols) (drop (row * cols) cells) c blank (omega (arith, p, wide)) ∙ get_or-drop (row * cols) cells c blank
-
-pub one_row : (row cols : ℕ) (cells : List Glyph) → AreWhole 1 cols (slice_range cells (row * cols) (row * cols + cols)) ↔ IsWholeLine cols (cell_at cols cells row)
-one_row row cols cells =
-    let part = slice_range cells (row * cols) (row * cols + cols) in (
-      λ h. line_like cols (cell_at cols part 0) (cell_at cols cells row) (row_at row cols cells) (h 0 (omega arith)),
-      λ h r p.
-          let e : 0 ≡ r = omega arith in
-          subst (λ (k : ℕ). IsWholeLine cols (cell_at cols part k)) e
-          (line_like cols (cell_at cols cells row) (cell_at cols part 0) (λ c q. sym (row_at row cols cells c q)) h),
-    )
 
 -- ---- a base brought to a size
 

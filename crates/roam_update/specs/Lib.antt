@@ -4,7 +4,7 @@ pub mod Sizes
 pub mod CellText
 pub mod ChangeText
 pub mod Put
-pub mod Marks
+pub mod Drafts
 pub mod Tested
 pub mod TableText
 pub mod Numbers

@@ -1,5 +1,5 @@
 -- What a text with a table says behind its head.
-use Rattle.std.specs.Prelude.{ℕ, ◌≤◌, nat_le, List, length, drop, Option, Some, None, option_and_then, if◌then◌else◌}
+use Rattle.std.specs.Prelude.{◌≡◌, ℕ, ◌+◌, ◌*◌, ◌≤◌, ◌⊎◌, IsSome, nat_le, List, length, drop, Option, Some, None, option_and_then, if◌then◌else◌}
 use Rattle.byteorder.specs.Endian.{big_number}
 use Rattle.roam_cells.specs.Limits.{most_old_rows, most_old_columns}
 use Rattle.roam_cells.specs.Glyph.{Glyph}
@@ -7,7 +7,7 @@ use Rattle.roam_screens.specs.Screenshot.{Screenshot, IsPlace}
 use Rattle.roam_update.specs.ChangeText.{has_head, head_at}
 use Rattle.roam_update.specs.Put.{cells_by}
 use Rattle.roam_update.specs.Styles.{Whole, Numbered}
-use Rattle.roam_update.specs.TableText.{Table, has_front, front_at, table_in}
+use Rattle.roam_update.specs.TableText.{Table, has_front, front_at, entry_read, table_in}
 use Rattle.roam_update.specs.declared.change_text.Head.{Head}
 
 -- the head of a text, where a change with a table may begin so
@@ -18,6 +18,17 @@ head_of_text text = if has_front text then Some (front_at text) else None
 abbrev pub HasHead : Option Head → Type 0
 HasHead None = ⊥
 HasHead (Some h) = IsPlace h.rows h.cols h.cursor_row h.cursor_col
+
+-- a table may be read behind a head: it has no more styles than the screen has places, its bytes and a number of runs are there, and the
+-- first of them, where there is one, is a style
+pub record HasTable (h : Head) (text : List ℕ) : Type 0 where
+  pub few : big_number 3 (drop 9 text) ≤ h.rows * h.cols
+  pub long : 9 * big_number 3 (drop 9 text) + 16 ≤ length text
+  pub first : (big_number 3 (drop 9 text) ≡ 0) ⊎ IsSome (entry_read (drop 12 text))
+
+-- there is a head, its cursor is on its screen, and a table may be read behind it
+abbrev pub HasStart : List ℕ → Type 0
+HasStart text = HasHead (head_of_text text) × HasTable (front_at text) text
 
 -- the cells of a base brought to a head's size, after the runs behind a table replace what they name
 abbrev pub cells_behind : Screenshot → Head → Table → Option (List Glyph)

@@ -1,27 +1,25 @@
 //! The text of a change, written and read.
 
-ghost use Rattle.std.specs.Prelude.{◌≡◌, ◌≤◌, ◌+◌, ◌*◌, ◌-◌, ◌<◌, ◌^◌, List, [], ◌++◌, length, slice_range, IfOk, IfSome, OnOk, IsTrue, IsFalse};
-ghost use Rattle.roam_cells.specs.Glyph.{Glyph};
-ghost use Rattle.roam_cells.specs.Place.{AreWhole};
+ghost use Rattle.std.specs.Prelude.{◌≡◌, ◌≤◌, ◌+◌, ◌*◌, ◌-◌, ◌<◌, ◌^◌, List, [], ◌++◌, length, slice_range, ◌⊎◌, Some, None, IfOk, IfErr, OnOk, IsErrOf, IsOkUnless};
+ghost use Rattle.roam_screens.specs.Lines.{cells_in_order, AreLines};
 ghost use Rattle.roam_update.specs.Runs.{runs_between};
 ghost use Rattle.roam_update.specs.ChangeText.{may_begin, head_text};
 ghost use Rattle.roam_update.specs.Numbers.{AreNumbers, form_in, styles_of, form_over, form_behind, cells_said, run_said, runs_said};
 ghost use Rattle.roam_update.specs.TableText.{front_text};
 ghost use Rattle.roam_update.specs.Tabled.{head_of_text, old_head_of_text};
-ghost use Rattle.roam_update.specs.Marks.{StaysUnmarked};
 ghost use Rattle.roam_update.specs.Put.{cells_put, runs_put};
 ghost use Rattle.roam_update.specs.Sizes.{AreSameSize};
 
 use crate::cell_text::{add_number, read_cell};
-use crate::marks::{are_whole, mark_rows};
+use crate::drafts::{Row, put_run};
 use crate::numbers::{Numbers, add_cells};
 use crate::spelling::Spelling;
 use crate::walks::{first_difference, first_same};
 use byteorder::{BigEndian, ByteOrder};
-use roam_cells::Cell;
 use roam_cells::limits::is_size;
+use roam_cells::{Cell, Fault};
 use roam_screens::Seen;
-use std::alloc::AllocError;
+use std::alloc::{AllocError, Global};
 
 /// What stands before the runs of a change: its size, its cursor's row and column, whether the cursor is visible, and the number of runs.
 #[derive(Clone, Copy)]
@@ -203,25 +201,27 @@ pub fn add_runs<B: Seen, S: Seen>(
     Ok(count)
 }
 
-// Puts n cells of a text into places from one on, and answers the rest of the text.
+/// Puts n cells of a text into places from one on, and answers the rest of the text; if it isn't that of n cells, some places may have
+/// been written.
 #[tactic(auto, using(crate::proofs::Putting::cells_put_none, crate::proofs::Putting::cells_put_fails))]
-fn put_cells<'a>(
+pub fn put_cells<'a>(
     form: &mut Spelling,
     cells: &mut [Cell],
     first: usize,
     n: usize,
     text: &'a [u8],
-) -> Option<&'a [u8]>
+) -> Result<&'a [u8], Fault>
     requires there { first + n ≤ length cells.old }
     ensures len { length cells.new ≡ length cells.old }
-    ensures some { IfSome result (λ rest. cells_put form.old n first cells.old text.now
+    ensures ok { IfOk result (λ rest. cells_put form.old n first cells.old text.now
         ≡ Some (record { value = cells.new; rest = rest.now; form = form.new })) }
-    ensures none { result ≡ None → cells_put form.old n first cells.old text.now ≡ None }
+    ensures bad { IsErrOf result Fault.BadChange → cells_put form.old n first cells.old text.now ≡ None }
+    ensures fault { IsOkUnless result Fault.BadChange }
 {
     let mut rest = text;
     for k in 0..n {
         match read_cell(form, rest) {
-            None => return None,
+            None => return Err(Fault::BadChange),
             Some(cell) => {
                 cells[first + k] = cell;
                 let size = form.head_size() + 4 * rest[0] as usize;
@@ -230,7 +230,7 @@ fn put_cells<'a>(
             }
         }
     }
-    Some(rest)
+    Ok(rest)
 }
 
 // Whether a run may begin a text: not before `least`, of one place or more, and not past the end.
@@ -245,68 +245,40 @@ fn may_begin(least: usize, end: usize, text: &[u8]) -> bool
     least <= first && 1 <= len && first + len <= end
 }
 
-/// Puts the n runs of a text into their places, marks the rows of `cols` columns that they name, and answers whether the
-/// whole text is that of n runs; if not, some places may have been written.
+/// Puts the n runs of a text into rows of `cols` columns; `BadChange` where the whole text isn't that of n runs that use all styles of a
+/// table. After a refusal some places may have been written.
 #[tactic(auto, using(crate::proofs::Putting::put_steps))]
 pub fn put_runs(
+    rows: &mut Vec<Row>,
+    alloc: Global,
     form: &mut Spelling,
-    cells: &mut [Cell],
     cols: usize,
-    marks: &mut [bool],
     n: u32,
     text: &[u8],
-) -> bool
-    requires few { length cells.old < 2 ^ 32 }
+) -> Result<(), Fault>
+    requires few { length rows.old.items * cols < 2 ^ 32 }
     requires cols { 0 < cols }
-    requires marks { length cells.old ≤ length marks.old * cols }
-    ensures len { length cells.new ≡ length cells.old }
-    ensures marks { length marks.new ≡ length marks.old }
-    ensures yes { IsTrue result → runs_put form.old n 0 cells.old text.now ≡ Some cells.new }
-    ensures no { IsFalse result → runs_put form.old n 0 cells.old text.now ≡ None }
-    ensures stays { IsTrue result → StaysUnmarked cols marks.new cells.old cells.new }
+    requires lines { AreLines (length rows.old.items) cols rows.old.items }
+    ensures lines { OnOk result (AreLines (length rows.old.items) cols rows.new.items) }
+    ensures ok { OnOk result (runs_put form.old n 0 (cells_in_order rows.old.items) text.now ≡ Some (cells_in_order rows.new.items)) }
+    ensures bad { IsErrOf result Fault.BadChange → runs_put form.old n 0 (cells_in_order rows.old.items) text.now ≡ None }
+    ensures fault { IfErr result (λ fault. (fault ≡ Fault.OutOfMemory) ⊎ (fault ≡ Fault.BadChange)) }
 {
+    let end = rows.len() * cols;
     let mut rest = text;
     let mut least = 0;
     for _k in 0..n {
-        if !may_begin(least, cells.len(), rest) {
-            return false;
+        if !may_begin(least, end, rest) {
+            return Err(Fault::BadChange);
         }
         let first = BigEndian::read_u32(rest) as usize;
         let len = BigEndian::read_u32(&rest[4..]) as usize;
-        match put_cells(form, cells, first, len, &rest[8..]) {
-            None => return false,
-            Some(after) => rest = after,
-        }
-        mark_rows(marks, first / cols, (first + len - 1) / cols);
+        rest = put_run(rows, alloc, form, cols, first, len, &rest[8..])?;
         least = first + len + 1;
     }
-    rest.is_empty() && form.is_used_up()
-}
-
-/// Puts the n runs of a text into the cells of whole rows, marks the rows that they name, and answers whether the whole text is that of n
-/// runs and leaves whole rows; if not, some places may have been written. It looks at no row that the text does not name.
-pub fn put_whole(
-    form: &mut Spelling,
-    cells: &mut [Cell],
-    rows: usize,
-    cols: usize,
-    marks: &mut [bool],
-    n: u32,
-    text: &[u8],
-) -> bool
-    requires size { (rows ≤ 200) × (0 < cols) × (cols ≤ 500) }
-    requires count { length cells.old ≡ rows * cols }
-    requires whole { AreWhole rows cols cells.old }
-    requires marks { rows ≤ length marks.old }
-    ensures len { length cells.new ≡ length cells.old }
-    ensures marks { length marks.new ≡ length marks.old }
-    ensures yes { IsTrue result → (runs_put form.old n 0 cells.old text.now ≡ Some cells.new) × AreWhole rows cols cells.new }
-    ensures no { IsFalse result → (after : List Glyph) → runs_put form.old n 0 cells.old text.now ≡ Some after
-        → ¬ AreWhole rows cols after }
-    ensures stays { IsTrue result → StaysUnmarked cols marks.new cells.old cells.new }
-{
-    if !put_runs(form, cells, cols, marks, n, text) {
-        return false;
+    if rest.is_empty() && form.is_used_up() {
+        Ok(())
+    } else {
+        Err(Fault::BadChange)
     }
-    are_whole(cells, rows, cols, marks)
 }

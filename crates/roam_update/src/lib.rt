@@ -5,8 +5,8 @@ pub use synced::Synced;
 
 mod cell_text;
 mod change_text;
+mod drafts;
 pub mod laws;
-mod marks;
 mod numbers;
 mod old_shots;
 mod row_shots;

@@ -1,34 +1,14 @@
 //! The change of a screen of version 1, in the text of version 1.
 
-ghost use Rattle.std.specs.Prelude.{◌≡◌, Some, None, IfOk, OnOk, OnErr, IfErr, IsErrOf, ◌⊎◌};
-ghost use Rattle.roam_screens.specs.Narrow.{IsOldScreenshot};
+ghost use Rattle.std.specs.Prelude.{◌≡◌, Some, None, OnOk, OnErr, IfErr, IsErrOf, ◌⊎◌};
 ghost use Rattle.roam_update.specs.Shots.{applied_one};
 ghost use Rattle.roam_update.specs.Tabled.{HasOldHead, old_head_of_text};
 
-use crate::row_shots::{begun, put_rows};
 use crate::shots::{old_change_text, old_changed};
 use crate::synced::Synced;
 use roam_cells::Fault;
-use roam_cells::limits::MOST_ROWS;
-use roam_screens::{RowShot, RowShot1};
+use roam_screens::RowShot1;
 use std::alloc::Global;
-
-// The screen that a change makes of a base: where the size stays, it shares each row that no run names.
-fn made(alloc: Global, base: &RowShot, text: &[u8]) -> Result<RowShot, Fault>
-    requires old { IsOldScreenshot base.now }
-    ensures ok { IfOk result (λ shot. applied_one base.now text.now ≡ Some shot) }
-    ensures shown { IfOk result (λ shot. IsOldScreenshot shot) }
-    ensures bad { IsErrOf result Fault.BadChange → applied_one base.now text.now ≡ None }
-    ensures memory { IsErrOf result Fault.OutOfMemory → HasOldHead (old_head_of_text text.now) }
-    ensures fault { IfErr result (λ fault. (fault ≡ Fault.OutOfMemory) ⊎ (fault ≡ Fault.BadChange)) }
-{
-    let mut marks = [false; MOST_ROWS as usize];
-    let (head, cells) = old_changed(alloc, base, &mut marks, text)?;
-    let mut shot = begun(alloc, base, &mut marks, head)?;
-    put_rows(&mut shot, alloc, &cells, &marks)?;
-    shot.set_cursor((head.cursor_row, head.cursor_col), head.visible);
-    Ok(shot)
-}
 
 impl Synced for RowShot1 {
     ghost use Rattle.roam_update.specs.Shots.{applied_one, difference_one};
@@ -55,7 +35,7 @@ impl Synced for RowShot1 {
         ensures err { OnErr result (self.new ≡ self.old) }
         ensures fault { IfErr result (λ fault. (fault ≡ Fault.OutOfMemory) ⊎ (fault ≡ Fault.BadChange)) }
     {
-        let shot = made(alloc, self.shot(), change)?;
+        let shot = old_changed(alloc, self.shot(), change)?;
         *self = RowShot1::new(shot);
         Ok(())
     }

@@ -6,24 +6,25 @@ ghost use Rattle.roam_cells.specs.Limits.{IsSize};
 ghost use Rattle.roam_screens.specs.Narrow.{IsOldScreenshot};
 ghost use Rattle.roam_cells.specs.Place.{AreWhole};
 ghost use Rattle.roam_screens.specs.Screenshot.{IsPlace, IsScreenshot};
-ghost use Rattle.roam_update.specs.Marks.{StaysUnmarked};
+ghost use Rattle.roam_screens.specs.Lines.{cells_in_order, AreLines};
 ghost use Rattle.roam_update.specs.Numbers.{styles_in, AreNumbers, form_in, styles_of, form_behind, runs_said};
 ghost use Rattle.roam_update.specs.Put.{cells_by};
 ghost use Rattle.roam_update.specs.TableText.{joined_text};
-ghost use Rattle.roam_update.specs.Tabled.{head_of_text, HasHead, cells_in, old_head_of_text, HasOldHead, old_cells_in};
+ghost use Rattle.roam_update.specs.Tabled.{head_of_text, HasTable, HasStart, cells_in, old_head_of_text, HasOldHead, old_cells_in};
 ghost use Rattle.roam_update.specs.Shots.{applied_one, applied_two, change_to, difference_one, difference_two, shown_by};
 ghost use Rattle.roam_update.specs.Sizes.{AreSameSize, sized_cells};
 
 use crate::cell_text::add_number;
-use crate::change_text::{Head, add_runs, put_whole};
+use crate::change_text::{Head, add_runs, put_runs};
+use crate::drafts::{lines_of, rows_of};
 use crate::numbers::{Numbers, add_short_number};
 use crate::sizes::sized;
 use crate::spelling::Spelling;
 use crate::tables::read_table;
 use byteorder::{BigEndian, ByteOrder};
-use roam_cells::{Cell, Fault};
+use roam_cells::Fault;
 use roam_screens::narrowing::{OLD_COLUMNS, OLD_ROWS};
-use roam_screens::{Seen, Shot};
+use roam_screens::{Line, RowShot, Seen, Shot};
 use std::alloc::{AllocError, Global};
 
 /// Whether two screens are of one size.
@@ -147,42 +148,45 @@ pub fn old_change_text<B: Seen, S: Seen>(
     Ok(text)
 }
 
-// The cells of a base brought to a change's size, with its runs put in, where that leaves whole rows; it marks the rows that they name.
-#[tactic(auto, using(crate::proofs::Sizing::area, crate::proofs::Sizing::length_sized))]
-fn patched<B: Seen>(
+// The rows of a base brought to a change's size, with its runs put in, where that leaves whole characters. A row that no run names is that
+// of the base where the size stays.
+#[tactic(auto, using(crate::proofs::Sizing::area))]
+fn patched(
     alloc: Global,
-    base: &B,
-    marks: &mut [bool],
+    base: &RowShot,
     head: Head,
     form: &mut Spelling,
     n: u32,
     text: &[u8],
-) -> Result<Vec<Cell>, Fault>
+) -> Result<Vec<Line>, Fault>
     requires size { IsSize head.rows head.cols }
-    requires marks { length marks.old ≡ 200 }
-    ensures marks { length marks.new ≡ 200 }
-    ensures ok { IfOk result (λ cells. cells_by form.old n (B.screen base.now) head text.now ≡ Some cells.items) }
-    ensures whole { IfOk result (λ cells. AreWhole head.rows head.cols cells.items) }
-    ensures stays { IfOk result (λ cells.
-        StaysUnmarked head.cols marks.new (sized_cells head.rows head.cols (B.screen base.now)) cells.items) }
+    ensures lines { IfOk result (λ lines. AreLines head.rows head.cols lines.items) }
+    ensures ok { IfOk result (λ lines. cells_by form.old n base.now head text.now ≡ Some (cells_in_order lines.items)) }
+    ensures whole { IfOk result (λ lines. AreWhole head.rows head.cols (cells_in_order lines.items)) }
     ensures bad { IsErrOf result Fault.BadChange → (cells : List Glyph)
-        → cells_by form.old n (B.screen base.now) head text.now ≡ Some cells → ¬ AreWhole head.rows head.cols cells }
+        → cells_by form.old n base.now head text.now ≡ Some cells → ¬ AreWhole head.rows head.cols cells }
     ensures fault { IfErr result (λ fault. (fault ≡ Fault.OutOfMemory) ⊎ (fault ≡ Fault.BadChange)) }
 {
-    base.facts();
-    let mut cells = sized(alloc, base, head.rows, head.cols)?;
-    if !put_whole(
-        form,
-        &mut cells,
-        head.rows as usize,
-        head.cols as usize,
-        marks,
-        n,
-        text,
-    ) {
-        return Err(Fault::BadChange);
-    }
-    Ok(cells)
+    let cols = head.cols as usize;
+    let mut rows = rows_of(alloc, base, head.rows, head.cols)?;
+    put_runs(&mut rows, alloc, form, cols, n, text)?;
+    let lines = lines_of(alloc, rows, cols)?;
+    Ok(lines)
+}
+
+// The screen of a change's rows and its cursor.
+fn screen(head: Head, lines: Vec<Line>) -> RowShot
+    requires lines { AreLines head.rows head.cols lines.items }
+    requires screen { IsScreenshot (shown_by head (cells_in_order lines.items)) }
+    ensures screen { result ≡ shown_by head (cells_in_order lines.items) }
+{
+    RowShot::of_lines(
+        head.rows,
+        head.cols,
+        lines,
+        (head.cursor_row, head.cursor_col),
+        head.visible,
+    )
 }
 
 fn is_place(rows: u16, cols: u16, row: u16, col: u16) -> bool
@@ -203,24 +207,15 @@ fn are_few(head: Head, count: usize) -> bool
     count <= head.rows as usize * head.cols as usize
 }
 
-// The cells that the table and the runs behind a head make of a base; it marks the rows that the runs name. A table that is too long is
-// refused before it is read.
-fn changed_cells<B: Seen>(
-    alloc: Global,
-    base: &B,
-    marks: &mut [bool],
-    head: Head,
-    text: &[u8],
-) -> Result<Vec<Cell>, Fault>
+// The rows that the table and the runs behind a head make of a base. A table that is too long or is cut short is refused before it is read.
+fn changed_rows(alloc: Global, base: &RowShot, head: Head, text: &[u8]) -> Result<Vec<Line>, Fault>
     requires head { head_of_text text.now ≡ Some head }
-    requires marks { length marks.old ≡ 200 }
-    ensures marks { length marks.new ≡ 200 }
-    ensures ok { IfOk result (λ cells. cells_in (B.screen base.now) head text.now ≡ Some cells.items) }
-    ensures whole { IfOk result (λ cells. AreWhole head.rows head.cols cells.items) }
-    ensures stays { IfOk result (λ cells.
-        StaysUnmarked head.cols marks.new (sized_cells head.rows head.cols (B.screen base.now)) cells.items) }
+    ensures lines { IfOk result (λ lines. AreLines head.rows head.cols lines.items) }
+    ensures ok { IfOk result (λ lines. cells_in base.now head text.now ≡ Some (cells_in_order lines.items)) }
+    ensures whole { IfOk result (λ lines. AreWhole head.rows head.cols (cells_in_order lines.items)) }
     ensures bad { IsErrOf result Fault.BadChange → (cells : List Glyph)
-        → cells_in (B.screen base.now) head text.now ≡ Some cells → ¬ AreWhole head.rows head.cols cells }
+        → cells_in base.now head text.now ≡ Some cells → ¬ AreWhole head.rows head.cols cells }
+    ensures memory { IsErrOf result Fault.OutOfMemory → HasTable head text.now }
     ensures fault { IfErr result (λ fault. (fault ≡ Fault.OutOfMemory) ⊎ (fault ≡ Fault.BadChange)) }
 {
     let count = BigEndian::read_u24(&text[9..]) as usize;
@@ -228,34 +223,23 @@ fn changed_cells<B: Seen>(
         return Err(Fault::BadChange);
     }
     let (_, entries) = text.split_at(12);
-    let table = read_table(alloc, count, entries)?;
-    let (_, rest) = entries.split_at(9 * count);
-    if rest.len() < 4 {
+    if entries.len() < 9 * count + 4 {
         return Err(Fault::BadChange);
     }
+    let table = read_table(alloc, count, entries)?;
+    let (_, rest) = entries.split_at(9 * count);
     let n = BigEndian::read_u32(rest);
     let (_, runs) = rest.split_at(4);
     let mut form = Spelling::by_table(table);
-    patched(alloc, base, marks, head, &mut form, n, runs)
+    patched(alloc, base, head, &mut form, n, runs)
 }
 
-/// The head of a text of version 2 and the cells of the screen that it makes of a base; it marks the rows that its runs name.
-pub fn changed<B: Seen>(
-    alloc: Global,
-    base: &B,
-    marks: &mut [bool],
-    text: &[u8],
-) -> Result<(Head, Vec<Cell>), Fault>
-    requires marks { length marks.old ≡ 200 }
-    ensures marks { length marks.new ≡ 200 }
-    ensures ok { IfOk result (λ made. applied_two (B.screen base.now) text.now ≡ Some (shown_by made.0 made.1.items)) }
-    ensures shown { IfOk result (λ made. IsScreenshot (shown_by made.0 made.1.items)) }
-    ensures stays { IfOk result (λ made.
-        StaysUnmarked made.0.cols marks.new (sized_cells made.0.rows made.0.cols (B.screen base.now)) made.1.items) }
-    ensures bad { IsErrOf result Fault.BadChange → applied_two (B.screen base.now) text.now ≡ None }
-    ensures head { IfOk result (λ _. HasHead (head_of_text text.now)) }
-    // A text that begins with no head is told so, whatever memory there is.
-    ensures memory { IsErrOf result Fault.OutOfMemory → HasHead (head_of_text text.now) }
+/// The screen that a text of version 2 makes of a base; where the size stays, it shares each row that no run names.
+pub fn changed(alloc: Global, base: &RowShot, text: &[u8]) -> Result<RowShot, Fault>
+    ensures ok { IfOk result (λ shot. applied_two base.now text.now ≡ Some shot) }
+    ensures bad { IsErrOf result Fault.BadChange → applied_two base.now text.now ≡ None }
+    // A text that begins with no head, or with no table behind it, is told so, whatever memory there is.
+    ensures memory { IsErrOf result Fault.OutOfMemory → HasStart text.now }
     ensures fault { IfErr result (λ fault. (fault ≡ Fault.OutOfMemory) ⊎ (fault ≡ Fault.BadChange)) }
 {
     base.facts();
@@ -266,8 +250,8 @@ pub fn changed<B: Seen>(
     if !is_place(head.rows, head.cols, head.cursor_row, head.cursor_col) {
         return Err(Fault::BadChange);
     }
-    let cells = changed_cells(alloc, base, marks, head, text)?;
-    Ok((head, cells))
+    let lines = changed_rows(alloc, base, head, text)?;
+    Ok(screen(head, lines))
 }
 
 // Whether a size is one of version 1.
@@ -277,47 +261,33 @@ fn is_old_size(rows: u16, cols: u16) -> bool
     rows <= OLD_ROWS && cols <= OLD_COLUMNS
 }
 
-// The cells that the runs behind a head of version 1 make of a base; it marks the rows that the runs name.
+// The rows that the runs behind a head of version 1 make of a base.
 #[tactic(auto, using(crate::proofs::OldApplying::head_size, crate::proofs::OldApplying::head_long))]
-fn old_changed_cells<B: Seen>(
+fn old_changed_rows(
     alloc: Global,
-    base: &B,
-    marks: &mut [bool],
+    base: &RowShot,
     head: Head,
     text: &[u8],
-) -> Result<Vec<Cell>, Fault>
+) -> Result<Vec<Line>, Fault>
     requires head { old_head_of_text text.now ≡ Some head }
-    requires marks { length marks.old ≡ 200 }
-    ensures marks { length marks.new ≡ 200 }
-    ensures ok { IfOk result (λ cells. old_cells_in (B.screen base.now) head text.now ≡ Some cells.items) }
-    ensures whole { IfOk result (λ cells. AreWhole head.rows head.cols cells.items) }
-    ensures stays { IfOk result (λ cells.
-        StaysUnmarked head.cols marks.new (sized_cells head.rows head.cols (B.screen base.now)) cells.items) }
+    ensures lines { IfOk result (λ lines. AreLines head.rows head.cols lines.items) }
+    ensures ok { IfOk result (λ lines. old_cells_in base.now head text.now ≡ Some (cells_in_order lines.items)) }
+    ensures whole { IfOk result (λ lines. AreWhole head.rows head.cols (cells_in_order lines.items)) }
     ensures bad { IsErrOf result Fault.BadChange → (cells : List Glyph)
-        → old_cells_in (B.screen base.now) head text.now ≡ Some cells → ¬ AreWhole head.rows head.cols cells }
+        → old_cells_in base.now head text.now ≡ Some cells → ¬ AreWhole head.rows head.cols cells }
     ensures fault { IfErr result (λ fault. (fault ≡ Fault.OutOfMemory) ⊎ (fault ≡ Fault.BadChange)) }
 {
     let mut form = Spelling::whole(alloc);
     let (_, runs) = text.split_at(13);
-    patched(alloc, base, marks, head, &mut form, head.runs, runs)
+    patched(alloc, base, head, &mut form, head.runs, runs)
 }
 
-/// The head of a text of version 1 and the cells of the screen that it makes of a base; it marks the rows that its runs name.
-pub fn old_changed<B: Seen>(
-    alloc: Global,
-    base: &B,
-    marks: &mut [bool],
-    text: &[u8],
-) -> Result<(Head, Vec<Cell>), Fault>
-    requires marks { length marks.old ≡ 200 }
-    requires old { IsOldScreenshot (B.screen base.now) }
-    ensures marks { length marks.new ≡ 200 }
-    ensures ok { IfOk result (λ made. applied_one (B.screen base.now) text.now ≡ Some (shown_by made.0 made.1.items)) }
-    ensures shown { IfOk result (λ made. IsOldScreenshot (shown_by made.0 made.1.items)) }
-    ensures stays { IfOk result (λ made.
-        StaysUnmarked made.0.cols marks.new (sized_cells made.0.rows made.0.cols (B.screen base.now)) made.1.items) }
-    ensures bad { IsErrOf result Fault.BadChange → applied_one (B.screen base.now) text.now ≡ None }
-    ensures head { IfOk result (λ _. HasOldHead (old_head_of_text text.now)) }
+/// The screen that a text of version 1 makes of a base; where the size stays, it shares each row that no run names.
+pub fn old_changed(alloc: Global, base: &RowShot, text: &[u8]) -> Result<RowShot, Fault>
+    requires old { IsOldScreenshot base.now }
+    ensures ok { IfOk result (λ shot. applied_one base.now text.now ≡ Some shot) }
+    ensures shown { IfOk result (λ shot. IsOldScreenshot shot) }
+    ensures bad { IsErrOf result Fault.BadChange → applied_one base.now text.now ≡ None }
     // A text that begins with no head is told so, whatever memory there is.
     ensures memory { IsErrOf result Fault.OutOfMemory → HasOldHead (old_head_of_text text.now) }
     ensures fault { IfErr result (λ fault. (fault ≡ Fault.OutOfMemory) ⊎ (fault ≡ Fault.BadChange)) }
@@ -332,6 +302,6 @@ pub fn old_changed<B: Seen>(
     if !is_old_size(head.rows, head.cols) {
         return Err(Fault::BadChange);
     }
-    let cells = old_changed_cells(alloc, base, marks, head, text)?;
-    Ok((head, cells))
+    let lines = old_changed_rows(alloc, base, head, text)?;
+    Ok(screen(head, lines))
 }

@@ -11,7 +11,7 @@ use std::alloc::{AllocError, Global};
 
 /// The cells of a screen brought to a size: those that stay keep their row and column, new ones are blank, and a wide
 /// cell that is cut in two becomes a space in its style.
-#[tactic(auto, using(crate::proofs::Sizing::table_none, crate::proofs::Sizing::table_more, crate::proofs::Sizing::sized_at_same))]
+#[tactic(auto, using(crate::proofs::Sizing::table_none, crate::proofs::Sizing::table_more))]
 pub fn sized<B: Seen>(
     alloc: Global,
     base: &B,
@@ -21,31 +21,21 @@ pub fn sized<B: Seen>(
     requires few { (rows ≤ 200) × (cols ≤ 500) }
     ensures cells { IfOk result (λ cells. cells.items ≡ sized_cells rows cols (B.screen base.now)) }
 {
-    base.facts();
     let mut cells = Vec::with_capacity(alloc, rows as usize * cols as usize)?;
-    if base.rows() == rows && base.cols() == cols {
-        add_all(&mut cells, base)?;
-        return Ok(cells);
-    }
     for row in 0..rows {
         add_row(&mut cells, base, cols, row)?;
     }
     Ok(cells)
 }
 
-// Adds the cells of a screen, row by row.
-fn add_all<B: Seen>(cells: &mut Vec<Cell>, base: &B) -> Result<(), AllocError>
-    ensures cells { OnOk result (cells.new.items ≡ cells.old.items ++ (B.screen base.now).cells) }
-{
-    base.facts();
-    for row in 0..base.rows() {
-        cells.extend_from_slice(base.row(row))?;
-    }
-    Ok(())
-}
-
+/// Adds the cells of a row of a screen brought to a number of columns.
 #[tactic(auto, using(crate::proofs::Sizing::row_more, crate::proofs::Sizing::row_none))]
-fn add_row<B: Seen>(cells: &mut Vec<Cell>, base: &B, cols: u16, row: u16) -> Result<(), AllocError>
+pub fn add_row<B: Seen>(
+    cells: &mut Vec<Cell>,
+    base: &B,
+    cols: u16,
+    row: u16,
+) -> Result<(), AllocError>
     requires few { (row < 200) × (cols ≤ 500) }
     ensures row { OnOk result (cells.new.items ≡ cells.old.items
         ++ map (sized_at cols (B.screen base.now) row) (range_with_len 0 cols)) }

@@ -1,7 +1,7 @@
 //! The table of styles of a change, as it is read.
 
 ghost use Rattle.roam_cells.specs.Inks.{style_numbered};
-ghost use Rattle.std.specs.Prelude.{◌≡◌, ◌≤◌, ◌+◌, ◌*◌, [], length, drop, map, IfOk, OnOk, IfErr, IsErrOf, ◌⊎◌, Some, None};
+ghost use Rattle.std.specs.Prelude.{◌≡◌, ◌≤◌, ◌+◌, ◌*◌, [], length, drop, map, IfOk, OnOk, IsSome, IfErr, IsErrOf, ◌⊎◌, Some, None};
 ghost use Rattle.roam_update.specs.CellText.{style_of};
 ghost use Rattle.roam_update.specs.TableText.{colour_at, entry_read, table_read};
 
@@ -46,6 +46,7 @@ fn add_entries(
         ≡ Some (record { styles = table.new.items; rest = drop (9 * n) text.now })) }
     ensures long { OnOk result (9 * n ≤ length text.now) }
     ensures bad { IsErrOf result Fault.BadChange → table_read n table.old.items text.now ≡ None }
+    ensures memory { IsErrOf result Fault.OutOfMemory → IsSome (entry_read text.now) }
     ensures fault { IfErr result (λ fault. (fault ≡ Fault.OutOfMemory) ⊎ (fault ≡ Fault.BadChange)) }
 {
     let mut rest = text;
@@ -71,6 +72,8 @@ pub fn read_table(alloc: Global, n: usize, text: &[u8]) -> Result<Vec<Style>, Fa
     ensures ok { IfOk result (λ table. table_read n [] text.now ≡ Some (record { styles = table.items; rest = drop (9 * n) text.now })) }
     ensures long { IfOk result (λ _. 9 * n ≤ length text.now) }
     ensures bad { IsErrOf result Fault.BadChange → table_read n [] text.now ≡ None }
+    // No memory is asked for before the first style is read.
+    ensures memory { IsErrOf result Fault.OutOfMemory → IsSome (entry_read text.now) }
     ensures fault { IfErr result (λ fault. (fault ≡ Fault.OutOfMemory) ⊎ (fault ≡ Fault.BadChange)) }
 {
     let mut table = Vec::new(alloc);

@@ -4,6 +4,7 @@ use crate::changes::{bytes_of, holds, is_changed_or_kept, is_kept, made, made_by
 use crate::narrow_change;
 use roam_cells::{Cell, Colour, Fault, Style};
 use roam_screens::{RowShot, RowShot1, Seen};
+use roam_update::Synced;
 use std::alloc::Global;
 use std::test::*;
 
@@ -130,11 +131,33 @@ fn keeps_the_largest(alloc: Global, blank: &RowShot) -> bool {
     matches!(largest(alloc), Ok(text) if text.len() == 2_500_024 && is_kept(alloc, blank, &text))
 }
 
+// Texts that are no change, which is told whatever memory there is: nine styles for eight places, a table of eight that is cut short, no
+// number of runs, and a first style that is none.
+const REFUSED_AT_ONCE: &str = "\
+0002 0004 0001 0001 01 000009 000000000000000000 010000000000000000 020000000000000000 030000000000000000 040000000000000000 \
+    050000000000000000 060000000000000000 070000000000000000 080000000000000000 00000000
+0002 0004 0001 0001 01 000008 000000000000000000 010000000000000000 020000000000000000 00000000
+0002 0004 0001 0001 01 000001 000000000000000000 000000
+0002 0004 0001 0001 01 000002 000300000000000000 010000000000000000 00000000";
+
+fn are_refused_at_once(alloc: Global, old: &mut RowShot) -> Result<bool, Fault> {
+    for row in REFUSED_AT_ONCE.lines() {
+        let text = bytes_of(alloc, row)?;
+        if old.apply(alloc, &text) != Err(Fault::BadChange) {
+            return Ok(false);
+        }
+    }
+    Ok(true)
+}
+
 // What the screens themselves have no memory for ends it.
 fn survives(alloc: Global) -> Result<bool, Fault> {
     let mut old = RowShot::blank(alloc, 2, 8)?;
     let text = bytes_of(alloc, CORNERS)?;
     let new = made(alloc, &old, &text)?;
+    if !are_refused_at_once(alloc, &mut old)? {
+        return Ok(false);
+    }
     Ok(is_changed_or_kept(alloc, &mut old, &new, &text))
 }
 

@@ -1,10 +1,10 @@
-use Rattle.std.proofs.Common.{◌≡◌, ◌+◌, ◌*◌, ◌-◌, ℕ, List, map, Some, true, false, length, drop, eqb, sym, ap, ◌∙◌, arith}
+use Rattle.std.proofs.Common.{◌≡◌, ◌+◌, ◌*◌, ◌-◌, ℕ, List, map, Some, true, false, length, drop, eqb, sym, ap, ◌∙◌, inr, arith}
 use Rattle.std.specs.List.{list_any}
 use Rattle.std.proofs.lemmas.List.{drop-drop, length-drop}
 use Rattle.roam_cells.specs.Inks.{style_numbered}
 use Rattle.roam_update.specs.Styles.{has_style}
 use Rattle.roam_update.specs.TableText.{entry_read}
-use Rattle.roam_update.proofs.Entries.{table_twice, table_go, key_tells, keys_last}
+use Rattle.roam_update.proofs.Entries.{first_read, table_twice, table_go, key_tells, keys_last}
 use Rattle.roam_update.proofs.Lookup.{not_added, was_added}
 use Rattle.roam_update.proofs.tables.add_entries.Goals as goal
 
@@ -36,7 +36,16 @@ loop-k-preserved c =
       keys = ap (λ (x : List ℕ). map style_numbered x) c.in_ok-insert.ensures.keys ∙ keys_last k ks s table c.number.ensures.style c.loop-k.invariant.keys fresh ∙ sym c.in_ok-push.ensures.items;
       rest = c.split_at.ensures.back ∙ moved;
       long = omega (arith, ap length c.loop-k.invariant.rest, length-drop (9 * c.loop-k._k) c.args.text.now);
+      first = inr (first_read c.loop-k._k c.args.text.now rest s c.loop-k.invariant.rest entry c.loop-k.invariant.first);
       same =
           rw (c.in_ok-push.ensures.items, c.split_at.ensures.back)
           (table_go c.args.n c.loop-k._k table rest s (omega arith) (omega arith) entry none ∙ c.loop-k.invariant.same);
     }
+
+pub returns-in_err-insert-clause-memory : goal.returns-in_err-insert-clause-memory
+returns-in_err-insert-clause-memory c = λ _.
+    first_read c.loop-k._k c.args.text.now c.loop-k.rest.now c.in-Some.style c.loop-k.invariant.rest (sym c.read_entry.ensures.style ∙ c.in-Some.is) c.loop-k.invariant.first
+
+pub returns-in_err-push-clause-memory : goal.returns-in_err-push-clause-memory
+returns-in_err-push-clause-memory c = λ _.
+    first_read c.loop-k._k c.args.text.now c.loop-k.rest.now c.in-Some.style c.loop-k.invariant.rest (sym c.read_entry.ensures.style ∙ c.in-Some.is) c.loop-k.invariant.first
