@@ -25,8 +25,8 @@ pub trait Pictures {
         ensures row { IfOk result (λ _. cells.new.items ≡ cells.old.items
             ++ row_of (picture_at (shots self.now) place).cols (picture_at (shots self.now) place).cells row) };
 
-    /// The cursor of a pane's picture, row and column from 1, and whether it is visible; a visible one in the first row and column where the
-    /// list has no such pane.
+    /// The cursor of a pane's picture, row and column from 1, and whether it is visible; where the list has no such pane, a visible one in
+    /// the first row and column.
     fn cursor(&self, pane: u8) -> ((u16, u16), bool)
         ensures row { result.0.0 ≡ (picture_in (shots self.now) pane).cursor_row }
         ensures col { result.0.1 ≡ (picture_in (shots self.now) pane).cursor_col }
