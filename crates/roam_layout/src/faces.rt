@@ -121,18 +121,18 @@ fn push_pane<P: Pictures>(
     row: u16,
     rect: Rect,
     pictures: &P,
-    place: usize,
+    index: usize,
 ) -> Result<(), AllocError>
-    requires place { place < length (P.shots pictures.now) }
-    requires size { ((picture_at (P.shots pictures.now) place).rows ≡ rect.rows)
-        × ((picture_at (P.shots pictures.now) place).cols ≡ rect.cols) }
+    requires index { index < length (P.shots pictures.now) }
+    requires size { ((picture_at (P.shots pictures.now) index).rows ≡ rect.rows)
+        × ((picture_at (P.shots pictures.now) index).cols ≡ rect.cols) }
     ensures segment { IfOk result (λ _. cells.new.items
-        ≡ cells.old.items ++ pane_segment row rect (picture_at (P.shots pictures.now) place)) }
+        ≡ cells.old.items ++ pane_segment row rect (picture_at (P.shots pictures.now) index)) }
 {
     if !rect.has_row(row) {
         return Ok(());
     }
-    pictures.push_row(place, row - rect.row, cells)
+    pictures.push_row(index, row - rect.row, cells)
 }
 
 fn push_border(cells: &mut Vec<Cell>, row: u16, border: (Way, Rect)) -> Result<(), AllocError>

@@ -18,12 +18,12 @@ pub trait Pictures {
     fn facts(&self)
         ensures screenshots { All (λ (x : ℕ × Screenshot). IsScreenshot x.1) (shots self.now) };
 
-    /// Adds a row, from 0, of the picture at a place in the list, from 0, to a list of cells. Refuses want of memory.
-    fn push_row(&self, place: usize, row: u16, cells: &mut Vec<Cell>) -> Result<(), AllocError>
-        requires place { place < length (shots self.now) }
-        requires row { row < (picture_at (shots self.now) place).rows }
+    /// Adds a row, from 0, of the picture at an index of the list, from 0, to a list of cells. Refuses want of memory.
+    fn push_row(&self, index: usize, row: u16, cells: &mut Vec<Cell>) -> Result<(), AllocError>
+        requires index { index < length (shots self.now) }
+        requires row { row < (picture_at (shots self.now) index).rows }
         ensures row { IfOk result (λ _. cells.new.items ≡ cells.old.items
-            ++ row_of (picture_at (shots self.now) place).cols (picture_at (shots self.now) place).cells row) };
+            ++ row_of (picture_at (shots self.now) index).cols (picture_at (shots self.now) index).cells row) };
 
     /// The cursor of a pane's picture, row and column from 1, and whether it is visible; where the list has no such pane, a visible one in
     /// the first row and column.
@@ -40,8 +40,8 @@ impl Pictures for &[(u8, Shot)] {
         facts_of(self);
     }
 
-    fn push_row(&self, place: usize, row: u16, cells: &mut Vec<Cell>) -> Result<(), AllocError> {
-        push_row(&self[place].1, row, cells)
+    fn push_row(&self, index: usize, row: u16, cells: &mut Vec<Cell>) -> Result<(), AllocError> {
+        push_row(&self[index].1, row, cells)
     }
 
     fn cursor(&self, pane: u8) -> ((u16, u16), bool) {

@@ -27,8 +27,8 @@ impl Pictures for PanePictures<'_> {
 
     fn facts(&self) {}
 
-    fn push_row(&self, place: usize, row: u16, cells: &mut Vec<Cell>) -> Result<(), AllocError> {
-        push_row_at(self.layout, self.terms, place, row, cells)
+    fn push_row(&self, index: usize, row: u16, cells: &mut Vec<Cell>) -> Result<(), AllocError> {
+        push_row_at(self.layout, self.terms, index, row, cells)
     }
 
     fn cursor(&self, pane: u8) -> ((u16, u16), bool) {
@@ -76,22 +76,22 @@ fn push_row(
     term_of(terms, pane).push_row(view, row, cells)
 }
 
-// Adds a row, from 0, of what the pane at a place in tree order shows.
+// Adds a row, from 0, of what the pane at an index in tree order shows.
 fn push_row_at(
     layout: &Layout,
     terms: &[Option<Term>],
-    place: usize,
+    index: usize,
     row: u16,
     cells: &mut Vec<Cell>,
 ) -> Result<(), AllocError>
-    requires place { place < length (panes layout.now) }
+    requires index { index < length (panes layout.now) }
     requires there { AreThere layout.now terms.now }
-    requires row { row < (picture_at (shots_of layout.now terms.now) place).rows }
+    requires row { row < (picture_at (shots_of layout.now terms.now) index).rows }
     ensures row { IfOk result (λ _. cells.new.items ≡ cells.old.items
-        ++ row_of (picture_at (shots_of layout.now terms.now) place).cols (picture_at (shots_of layout.now terms.now) place).cells row) }
+        ++ row_of (picture_at (shots_of layout.now terms.now) index).cols (picture_at (shots_of layout.now terms.now) index).cells row) }
 {
     layout.facts();
-    let pane = layout.rects()[place].0;
+    let pane = layout.rects()[index].0;
     push_row(layout, terms, pane, row, cells)
 }
 

@@ -14,7 +14,7 @@ push_pane-requires g c =
     let ps = c.args.rects.now in
     let ss = g.P.Pictures.shots c.args.pictures.now in
     record {
-      place = omega (arith, same_count ps ss c.requires.pictures, c.loop-k-test.true);
+      index = omega (arith, same_count ps ss c.requires.pictures, c.loop-k-test.true);
       size = sizes_at ps ss c.loop-k.k _ none c.requires.pictures c.loop-k-test.true;
     }
 
