@@ -6,7 +6,6 @@ use Rattle.std.specs.List.{All}
 use Rattle.std.proofs.lemmas.Bool.{cond_both, cases_lt, cases_eq, leb-false}
 use Rattle.std.proofs.lemmas.Bool.Decides.{nat_tests}
 use Rattle.std.proofs.lemmas.List.{get_or_past, get_or-replicate}
-use Rattle.std.proofs.lemmas.List.Elements.{All-nil, All-cons}
 use Rattle.roam_cells.specs.Glyph.{Glyph, IsShown, IsStyle, default_style, blank}
 use Rattle.roam_cells.specs.Place.{IsWholeRow, AreUnguarded}
 use Rattle.roam_screens.specs.Screenshot.{Screenshot, IsScreenshot}

@@ -91,6 +91,10 @@ abbrev pub picture_in : List (ℕ × Screenshot) → ℕ → Screenshot
 picture_in [] p = blank_screenshot 2 4
 picture_in (x ∷ xs) p = if x.0 == p then x.1 else picture_in xs p
 
+-- the picture at an index of a list, from 0
+abbrev pub picture_at : List (ℕ × Screenshot) → ℕ → Screenshot
+picture_at shots k = (slice_index_or shots k (0, blank_screenshot 2 4)).1
+
 -- the pictures in a list are these
 abbrev pub Show : (ℕ → Screenshot) → List (ℕ × Screenshot) → Type 0
 Show picture shots = All (λ (x : ℕ × Screenshot). x.1 ≡ picture x.0) shots

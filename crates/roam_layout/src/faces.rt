@@ -1,14 +1,15 @@
 //! The face of a session: its panes' pictures in their rectangles, the borders between them, and the status text.
-ghost use Rattle.std.specs.Prelude.{◌≡◌, ℕ, true, [], ◌∷◌, ◌++◌, ◌*◌, ◌≤◌, length, map, IfOk, OnOk, IsOkUnless};
+ghost use Rattle.std.specs.Prelude.{◌≡◌, ℕ, true, [], ◌∷◌, ◌++◌, ◌*◌, ◌<◌, ◌≤◌, length, map, IfOk, OnOk, IsOkUnless};
 ghost use Rattle.std.specs.List.{All};
 ghost use Rattle.roam_cells.specs.Place.{AreUnguarded, IsWholeRow, AreWhole};
-ghost use Rattle.roam_screens.specs.Screenshot.{Screenshot, IsScreenshot, IsPlace};
+ghost use Rattle.roam_screens.specs.Screenshot.{Screenshot, IsPlace};
 ghost use Rattle.roam_cells.specs.Glyph.{default_style, is_cell_text};
 ghost use Rattle.roam_layout.specs.Layouts.{panes};
 ghost use Rattle.roam_layout.specs.Status.{IsPrintable};
-ghost use Rattle.roam_layout.specs.Faces.{character, sign, reverse_style, face, face_row, picture_in, ArePictures, Show, pane_segment, border_segment, segments};
+ghost use Rattle.roam_layout.specs.Faces.{character, sign, reverse_style, face, face_row, picture_at, ArePictures, Show, pane_segment, border_segment, segments};
 
 use crate::layouts::Layout;
+use crate::pictures::Pictures;
 use crate::rects::{Rect, Way};
 use roam_cells::{Cell, Fault, Style};
 use roam_screens::Shot;
@@ -23,7 +24,7 @@ pub fn face(alloc: Global, layout: &Layout, shots: &[(u8, Shot)]) -> Result<Shot
 {
     layout.facts();
     let cells = cells_of(alloc, layout, shots)?;
-    let (cursor, visible) = cursor(layout, shots);
+    let (cursor, visible) = cursor(layout, &shots);
     Ok(Shot::new(layout.rows(), layout.cols(), cells, cursor, visible))
 }
 
@@ -42,91 +43,72 @@ fn cells_of(alloc: Global, layout: &Layout, shots: &[(u8, Shot)]) -> Result<Vec<
         usize::from(layout.rows()) * usize::from(layout.cols()),
     )?;
     for above in 0..layout.rows() {
-        push_row(alloc, layout, shots, above + 1, &mut cells)?;
+        push_row(alloc, layout, &shots, above + 1, &mut cells)?;
     }
     Ok(cells)
 }
 
-// The cursor of the pane in focus where this pane stands, and whether it is visible.
-/// The cursor of the face, and whether it is visible.
-pub(crate) fn cursor(layout: &Layout, shots: &[(u8, Shot)]) -> ((u16, u16), bool)
-    requires pictures { ArePictures (panes layout.now) shots.now }
+/// The cursor of the face, that of the pane in focus where this pane stands, and whether it is visible.
+pub(crate) fn cursor<P: Pictures>(layout: &Layout, pictures: &P) -> ((u16, u16), bool)
+    requires pictures { ArePictures (panes layout.now) (P.shots pictures.now) }
     ensures place { IsPlace layout.now.rows layout.now.cols result.0.0 result.0.1 }
-    ensures row { (picture : ℕ → Screenshot) → Show picture shots.now → result.0.0 ≡ (face layout.now picture).cursor_row }
-    ensures col { (picture : ℕ → Screenshot) → Show picture shots.now → result.0.1 ≡ (face layout.now picture).cursor_col }
-    ensures visible { (picture : ℕ → Screenshot) → Show picture shots.now → result.1 ≡ (face layout.now picture).visible }
+    ensures row { (picture : ℕ → Screenshot) → Show picture (P.shots pictures.now)
+        → result.0.0 ≡ (face layout.now picture).cursor_row }
+    ensures col { (picture : ℕ → Screenshot) → Show picture (P.shots pictures.now)
+        → result.0.1 ≡ (face layout.now picture).cursor_col }
+    ensures visible { (picture : ℕ → Screenshot) → Show picture (P.shots pictures.now)
+        → result.1 ≡ (face layout.now picture).visible }
 {
     layout.facts();
-    facts_of(shots);
+    pictures.facts();
     let rect = layout.focus_rect();
-    let ((row, col), visible) = cursor_of(layout.focus(), shots);
+    let ((row, col), visible) = pictures.cursor(layout.focus());
     ((rect.row + row - 1, rect.col + col - 1), visible)
 }
 
-/// Adds a row of the face, from 1, to a list of cells; refuses want of memory.
-pub fn push_row(
+/// Adds a row of the face, from 1, to a list of cells: of each picture that has a part of it, that row alone is looked at. Refuses want of
+/// memory.
+pub fn push_row<P: Pictures>(
     alloc: Global,
     layout: &Layout,
-    shots: &[(u8, Shot)],
+    pictures: &P,
     row: u16,
     cells: &mut Vec<Cell>,
 ) -> Result<(), Fault>
     requires row { (1 ≤ row) × (row ≤ layout.now.rows) }
-    requires pictures { ArePictures (panes layout.now) shots.now }
-    ensures row { IfOk result (λ _. (picture : ℕ → Screenshot) → Show picture shots.now
+    requires pictures { ArePictures (panes layout.now) (P.shots pictures.now) }
+    ensures row { IfOk result (λ _. (picture : ℕ → Screenshot) → Show picture (P.shots pictures.now)
         → cells.new.items ≡ cells.old.items ++ face_row layout.now picture row) }
-    ensures whole { OnOk result ((picture : ℕ → Screenshot) → Show picture shots.now → IsWholeRow (face_row layout.now picture row)) }
-    ensures unguarded { OnOk result ((picture : ℕ → Screenshot) → Show picture shots.now → AreUnguarded (face_row layout.now picture row)) }
+    ensures whole { OnOk result ((picture : ℕ → Screenshot) → Show picture (P.shots pictures.now)
+        → IsWholeRow (face_row layout.now picture row)) }
+    ensures unguarded { OnOk result ((picture : ℕ → Screenshot) → Show picture (P.shots pictures.now)
+        → AreUnguarded (face_row layout.now picture row)) }
     ensures fault { IsOkUnless result Fault.OutOfMemory }
 {
     layout.facts();
-    facts_of(shots);
+    pictures.facts();
     if row == layout.rows() {
         let text = layout.status(alloc)?;
         push_text(cells, &text)?;
     } else {
-        push_segments(cells, row, layout.rects(), layout.borders(), shots)?;
+        push_segments(cells, row, layout.rects(), layout.borders(), pictures)?;
     }
     Ok(())
 }
 
-// What is true of pictures in a list.
-fn facts_of(shots: &[(u8, Shot)])
-    ensures screenshots { All (λ (x : ℕ × Screenshot). IsScreenshot x.1) shots.now }
-{
-    for k in 0..shots.len() {
-        shots[k].1.facts();
-    }
-}
-
-// The cursor of a pane's picture, and whether it is visible.
-fn cursor_of(pane: u8, shots: &[(u8, Shot)]) -> ((u16, u16), bool)
-    ensures row { result.0.0 ≡ (picture_in shots.now pane).cursor_row }
-    ensures col { result.0.1 ≡ (picture_in shots.now pane).cursor_col }
-    ensures visible { result.1 ≡ (picture_in shots.now pane).visible }
-{
-    if shots.is_empty() {
-        ((1, 1), true)
-    } else if shots[0].0 == pane {
-        (shots[0].1.cursor(), shots[0].1.visible())
-    } else {
-        cursor_of(pane, &shots[1..])
-    }
-}
-
-fn push_segments(
+fn push_segments<P: Pictures>(
     cells: &mut Vec<Cell>,
     row: u16,
     rects: &[(u8, Rect)],
     borders: &[(Way, Rect)],
-    shots: &[(u8, Shot)],
+    pictures: &P,
 ) -> Result<(), AllocError>
-    requires pictures { ArePictures rects.now shots.now }
-    requires screenshots { All (λ (x : ℕ × Screenshot). IsScreenshot x.1) shots.now }
-    ensures segments { IfOk result (λ _. cells.new.items ≡ cells.old.items ++ segments row rects.now borders.now shots.now) }
+    requires pictures { ArePictures rects.now (P.shots pictures.now) }
+    ensures segments { IfOk result (λ _. cells.new.items
+        ≡ cells.old.items ++ segments row rects.now borders.now (P.shots pictures.now)) }
 {
     for k in 0..rects.len() {
-        push_pane(cells, row, rects[k].1, &shots[k].1)?;
+        push_pane(cells, row, rects[k].1, pictures, k)?;
         if k < borders.len() {
             push_border(cells, row, borders[k])?;
         }
@@ -134,17 +116,23 @@ fn push_segments(
     Ok(())
 }
 
-fn push_pane(cells: &mut Vec<Cell>, row: u16, rect: Rect, shot: &Shot) -> Result<(), AllocError>
-    requires size { (shot.now.rows ≡ rect.rows) × (shot.now.cols ≡ rect.cols) }
-    ensures segment { IfOk result (λ _. cells.new.items ≡ cells.old.items ++ pane_segment row rect shot.now) }
+fn push_pane<P: Pictures>(
+    cells: &mut Vec<Cell>,
+    row: u16,
+    rect: Rect,
+    pictures: &P,
+    index: usize,
+) -> Result<(), AllocError>
+    requires index { index < length (P.shots pictures.now) }
+    requires size { ((picture_at (P.shots pictures.now) index).rows ≡ rect.rows)
+        × ((picture_at (P.shots pictures.now) index).cols ≡ rect.cols) }
+    ensures segment { IfOk result (λ _. cells.new.items
+        ≡ cells.old.items ++ pane_segment row rect (picture_at (P.shots pictures.now) index)) }
 {
     if !rect.has_row(row) {
         return Ok(());
     }
-    shot.facts();
-    let cols = usize::from(rect.cols);
-    let start = usize::from(row - rect.row) * cols;
-    cells.extend_from_slice(&shot.cells()[start..start + cols])
+    pictures.push_row(index, row - rect.row, cells)
 }
 
 fn push_border(cells: &mut Vec<Cell>, row: u16, border: (Way, Rect)) -> Result<(), AllocError>

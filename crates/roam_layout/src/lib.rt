@@ -5,6 +5,7 @@ pub use changes::{Changes, PaneSize};
 pub use faces::{face, push_row};
 pub use kept::face_over;
 pub use layouts::Layout;
+pub use pictures::Pictures;
 pub use rects::{Rect, Way};
 
 pub mod changes;
@@ -13,6 +14,7 @@ mod kept;
 pub mod laws;
 pub mod layouts;
 mod limits;
+pub mod pictures;
 pub mod rects;
 mod status;
 mod trees;

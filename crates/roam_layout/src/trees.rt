@@ -1,5 +1,5 @@
 //! The tree of splits, whose leaves are panes.
-ghost use Rattle.std.specs.Prelude.{◌≡◌, ◌+◌, ◌≤◌, ◌++◌, pos, negsuc, ◌≤ℤ◌, ◌+ℤ◌, IfOk, OnOk, Some, None, is_some, if◌then◌else◌};
+ghost use Rattle.std.specs.Prelude.{◌≡◌, ◌+◌, ◌≤◌, ◌++◌, pos, negsuc, ◌≤ℤ◌, ◌+ℤ◌, ◌-ℤ◌, IfOk, OnOk, Some, None, is_some, if◌then◌else◌};
 ghost use Rattle.roam_layout.specs.Rects.{first_length, first_part, second_part, border_part, length_along, nearest_in_range, middle, rects_of, borders, spot, is_roomy, after_growth, after_stretch, Fits, IsOnScreen};
 ghost use Rattle.roam_layout.specs.Trees.{One, Two, shape_of, least, least_rows, least_cols, has, is_one, first_leaf, with_subtree, without_pane, heir, free, free_among, IsModest, AreModest};
 
@@ -91,6 +91,34 @@ impl Split {
         let low = self.first.least(self.way);
         let high = rect.length_along(self.way) - 1 - self.second.least(self.way);
         low as i16 <= wanted && wanted <= high as i16
+    }
+
+    // Whether the children's least lengths allow that the first child is so much longer.
+    fn can_lengthen(&self, by: i16, rect: Rect) -> bool
+        requires fits { Fits (Two self.now.way self.now.shift (shape_of self.now.first) (shape_of self.now.second)) rect }
+        requires limits { IsOnScreen rect }
+        requires modest { IsModest self.now.shift }
+        requires by { (negsuc 98 ≤ℤ by) × (by ≤ℤ pos 99) }
+        ensures stretched { is_some (after_stretch self.now.way
+            (pos (first_length self.now.way self.now.shift (shape_of self.now.first) (shape_of self.now.second) rect) +ℤ by)
+            (shape_of self.now.first) (shape_of self.now.second) rect) ≡ result }
+    {
+        let length = self.first_length(rect) as i16;
+        self.can_stretch(length + by, rect)
+    }
+
+    // Whether the children's least lengths allow that the first child is so much shorter.
+    fn can_shorten(&self, by: i16, rect: Rect) -> bool
+        requires fits { Fits (Two self.now.way self.now.shift (shape_of self.now.first) (shape_of self.now.second)) rect }
+        requires limits { IsOnScreen rect }
+        requires modest { IsModest self.now.shift }
+        requires by { (negsuc 98 ≤ℤ by) × (by ≤ℤ pos 99) }
+        ensures stretched { is_some (after_stretch self.now.way
+            (pos (first_length self.now.way self.now.shift (shape_of self.now.first) (shape_of self.now.second) rect) -ℤ by)
+            (shape_of self.now.first) (shape_of self.now.second) rect) ≡ result }
+    {
+        let length = self.first_length(rect) as i16;
+        self.can_stretch(length - by, rect)
     }
 
     /// The rectangles of its children and its border.
@@ -400,11 +428,10 @@ impl Tree {
             Tree::Leaf(_) => false,
             Tree::Fork(split) => {
                 let parts = split.parts(rect);
-                let length = split.first_length(rect) as i16;
                 if split.first.is_one(pane) {
-                    split.can_stretch(length + by, rect)
+                    split.can_lengthen(by, rect)
                 } else if split.second.is_one(pane) {
-                    split.can_stretch(length - by, rect)
+                    split.can_shorten(by, rect)
                 } else if split.first.has(pane) {
                     split.first.can_grow(pane, by, parts.first)
                 } else {

@@ -1,24 +1,31 @@
--- What terminals show at their panes' views.
-use Rattle.std.specs.Prelude.{◌≡◌, ℕ, List, slice_index, Option, Some, None}
-use Rattle.roam_screens.specs.Screenshot.{Screenshot}
-use Rattle.roam_text.specs.Log.{Item}
-use Rattle.roam_term.specs.Stands.{TermView, Shows, HasSize}
-use Rattle.roam_term.specs.Picture.{picture, picture_of}
+-- What the panes of a layout show at their views.
+use Rattle.std.specs.Prelude.{◌≡◌, ℕ, true, is_some, List, map, Option}
+use Rattle.std.specs.List.{All}
+use Rattle.std.specs.Coded.{Unit-prop, le_prop}
+use Rattle.roam_cells.specs.Glyph.{IsColour}
+use Rattle.roam_cells.specs.declared.styles.Colour.{Colour}
+use Rattle.roam_cells.specs.declared.styles.Colour.TheVariants.{Default, Index, Rgb}
+use Rattle.roam_screens.specs.Screenshot.{Screenshot, IsScreenshot}
+use Rattle.roam_term.specs.Stands.{TermView}
+use Rattle.roam_layout.specs.Trees.{has}
+use Rattle.roam_layout.specs.Layouts.{Plan, panes}
 use Rattle.roam_layout.specs.declared.rects.Rect.{Rect}
-use Rattle.roam_session.specs.Stands.{term_at}
+use Rattle.roam_session.specs.Stands.{shown_by, term_at}
 
--- a screen is what a terminal shows at a view
-pub record IsPicture (t : TermView) (view : ℕ) (shot : Screenshot) : Type 0 where
-  pub size : HasSize t shot.rows shot.cols
-  pub now : shot ≡ picture_of t.live t.history view
-  pub picture : (rows cols lines : ℕ) (log : List Item) → Shows t rows cols lines log → shot ≡ picture rows cols lines log view
+-- the panes of a layout in tree order, each with what its terminal shows at its view
+abbrev pub shots_of : Plan → List (Option TermView) → List (ℕ × Screenshot)
+shots_of plan terms = map (λ (x : ℕ × Rect). (x.0, shown_by plan terms x.0)) (panes plan)
 
--- and nothing is said where no terminal is
-abbrev pub IsPictureAt : Option TermView → ℕ → Screenshot → Type 0
-IsPictureAt None view shot = Unit {0}
-IsPictureAt (Some t) view shot = IsPicture t view shot
+-- each pane of a layout has a terminal
+abbrev pub AreThere : Plan → List (Option TermView) → Type 0
+AreThere plan terms = (p : ℕ) → has p plan.tree ≡ true → is_some (term_at terms p) ≡ true
 
--- a pane of a layout has a screen, which is what its terminal shows at its view
-pub record IsPictured (terms : List (Option TermView)) (views : List ℕ) (pane : ℕ × Rect) (shot : ℕ × Screenshot) : Type 0 where
-  pub number : shot.0 ≡ pane.0
-  pub picture : IsPictureAt (term_at terms pane.0) (slice_index views pane.0) shot.1
+-- what they show are screens
+abbrev pub AreScreens : Plan → List (Option TermView) → Type 0
+AreScreens plan terms = All (λ (x : ℕ × Screenshot). IsScreenshot x.1) (shots_of plan terms)
+
+-- a colour is one in no more than one way
+pub colour_prop : (c : Colour) → IsProp (IsColour c)
+colour_prop Default = Unit-prop
+colour_prop (Index n) = le_prop
+colour_prop (Rgb r g b) = λ x y i. (le_prop x.0 y.0 i, le_prop x.1 y.1 i, le_prop x.2 y.2 i)

@@ -1,19 +1,40 @@
-//! What the panes of a layout show.
-ghost use Rattle.std.specs.Prelude.{◌≡◌, ◌<◌, ℕ, true, Option, length, slice_index, slice_index_or, IfOk, IsOkUnless};
+//! What the panes of a layout show, of which a row can be asked without the whole.
+ghost use Rattle.std.specs.Prelude.{◌≡◌, ◌<◌, ◌++◌, ℕ, true, Some, is_some, length, slice_index, IfOk};
+ghost use Rattle.std.proofs.Props.{props};
+ghost use Rattle.roam_cells.specs.Place.{row_of};
 ghost use Rattle.roam_layout.specs.Trees.{has};
 ghost use Rattle.roam_layout.specs.Layouts.{panes};
-ghost use Rattle.roam_layout.specs.Faces.{ArePictures, Show};
-ghost use Rattle.roam_layout.specs.declared.rects.Rect.{Rect as RectOfLayout};
-ghost use Rattle.roam_session.specs.Panes.{Pane};
-ghost use Rattle.roam_session.specs.Faces.{picture_at};
-ghost use Rattle.roam_session.specs.Stands.{Agrees, ArePlaced, shown_by, term_at};
-ghost use Rattle.roam_session.specs.Pictures.{IsPictureAt, IsPictured};
+ghost use Rattle.roam_layout.specs.Faces.{picture_at, picture_in};
+ghost use Rattle.roam_session.specs.Stands.{shown_by, term_at};
+ghost use Rattle.roam_session.specs.Pictures.{AreScreens, AreThere, colour_prop, shots_of};
 
-use roam_cells::Fault;
-use roam_layout::Layout;
-use roam_screens::Shot;
+use roam_cells::Cell;
+use roam_layout::{Layout, Pictures};
 use roam_term::Term;
-use std::alloc::Global;
+use std::alloc::AllocError;
+
+/// What the panes of a layout show at their views.
+#[derive(Drop)]
+pub struct PanePictures<'a> {
+    pub layout: &'a Layout,
+    pub terms: &'a [Option<Term>],
+    ghost there: { AreThere layout.now terms.now },
+    ghost screens: { AreScreens layout.now terms.now } by { Prim.hlevel (props, colour_prop) },
+}
+
+impl Pictures for PanePictures<'_> {
+    ghost shots = { λ s. shots_of s.layout.now s.terms.now };
+
+    fn facts(&self) {}
+
+    fn push_row(&self, index: usize, row: u16, cells: &mut Vec<Cell>) -> Result<(), AllocError> {
+        push_row_at(self.layout, self.terms, index, row, cells)
+    }
+
+    fn cursor(&self, pane: u8) -> ((u16, u16), bool) {
+        cursor(self.layout, self.terms, pane)
+    }
+}
 
 // By how many rows a pane is scrolled back.
 fn view_of(layout: &Layout, pane: u8) -> u16
@@ -26,55 +47,63 @@ fn view_of(layout: &Layout, pane: u8) -> u16
     }
 }
 
-// What the terminal at a number shows; a blank screen where none is.
-fn picture_at(alloc: Global, terms: &[Option<Term>], pane: u8, view: u16) -> Result<Shot, Fault>
-    requires number { pane < length terms.now }
-    ensures picture { IfOk result (λ shot. IsPictureAt (term_at terms.now pane) view shot) }
-    ensures fault { IsOkUnless result Fault.OutOfMemory }
+// The terminal at a number that has one.
+fn term_of(terms: &[Option<Term>], pane: u8) -> &Term
+    requires there { is_some (term_at terms.now pane) ≡ true }
+    ensures term { term_at terms.now pane ≡ Some result.now }
 {
-    match &terms[usize::from(pane)] {
-        Some(term) => term.shot(alloc, view),
-        None => Shot::blank(alloc, 2, 4),
+    match terms.get(usize::from(pane)) {
+        Some(Some(term)) => term,
+        Some(None) | None => unreachable!(),
     }
 }
 
-// A pane of a layout with what it shows.
-fn pictured(
-    alloc: Global,
+// Adds a row, from 0, of what a pane of a layout shows.
+fn push_row(
     layout: &Layout,
     terms: &[Option<Term>],
-    k: usize,
-) -> Result<(u8, Shot), Fault>
-    requires number { k < length (panes layout.now) }
-    requires ten { length terms.now ≡ 10 }
-    ensures pictured { IfOk result (λ picture. (d : ℕ × RectOfLayout)
-        → IsPictured terms.now layout.now.views (slice_index_or (panes layout.now) k d) picture) }
-    ensures fault { IsOkUnless result Fault.OutOfMemory }
+    pane: u8,
+    row: u16,
+    cells: &mut Vec<Cell>,
+) -> Result<(), AllocError>
+    requires pane { has pane layout.now.tree ≡ true }
+    requires there { AreThere layout.now terms.now }
+    requires row { row < (shown_by layout.now terms.now pane).rows }
+    ensures row { IfOk result (λ _. cells.new.items ≡ cells.old.items
+        ++ row_of (shown_by layout.now terms.now pane).cols (shown_by layout.now terms.now pane).cells row) }
 {
-    layout.facts();
-    let pane = layout.rects()[k].0;
     let view = view_of(layout, pane);
-    Ok((pane, picture_at(alloc, terms, pane, view)?))
+    term_of(terms, pane).push_row(view, row, cells)
 }
 
-/// The pictures of a layout's panes at their views, in tree order. Refuses want of memory.
-pub fn pictures(
-    alloc: Global,
+// Adds a row, from 0, of what the pane at an index in tree order shows.
+fn push_row_at(
     layout: &Layout,
     terms: &[Option<Term>],
-) -> Result<Vec<(u8, Shot)>, Fault>
-    requires ten { length terms.now ≡ 10 }
-    requires placed { ArePlaced layout.now terms.now }
-    ensures sizes { IfOk result (λ shots. ArePictures (panes layout.now) shots.items) }
-    ensures show { IfOk result (λ shots. (pane : ℕ → Option Pane) → ((k : ℕ) → Agrees (term_at terms.now k) (pane k))
-        → Show (λ k. picture_at (slice_index layout.now.views k) (pane k)) shots.items) }
-    ensures now { IfOk result (λ shots. Show (shown_by layout.now terms.now) shots.items) }
-    ensures fault { IsOkUnless result Fault.OutOfMemory }
+    index: usize,
+    row: u16,
+    cells: &mut Vec<Cell>,
+) -> Result<(), AllocError>
+    requires index { index < length (panes layout.now) }
+    requires there { AreThere layout.now terms.now }
+    requires row { row < (picture_at (shots_of layout.now terms.now) index).rows }
+    ensures row { IfOk result (λ _. cells.new.items ≡ cells.old.items
+        ++ row_of (picture_at (shots_of layout.now terms.now) index).cols (picture_at (shots_of layout.now terms.now) index).cells row) }
 {
     layout.facts();
-    let mut shots = Vec::with_capacity(alloc, layout.rects().len())?;
-    for k in 0..layout.rects().len() {
-        shots.push(pictured(alloc, layout, terms, k)?)?;
+    let pane = layout.rects()[index].0;
+    push_row(layout, terms, pane, row, cells)
+}
+
+// The cursor of what a pane shows, and whether it is visible; that of a blank screen where the layout has no such pane.
+fn cursor(layout: &Layout, terms: &[Option<Term>], pane: u8) -> ((u16, u16), bool)
+    requires there { AreThere layout.now terms.now }
+    ensures row { result.0.0 ≡ (picture_in (shots_of layout.now terms.now) pane).cursor_row }
+    ensures col { result.0.1 ≡ (picture_in (shots_of layout.now terms.now) pane).cursor_col }
+    ensures visible { result.1 ≡ (picture_in (shots_of layout.now terms.now) pane).visible }
+{
+    match layout.view(pane) {
+        Some(view) => term_of(terms, pane).cursor_at(view),
+        None => ((1, 1), true),
     }
-    Ok(shots)
 }

@@ -19,7 +19,7 @@ ghost use Rattle.roam_term.specs.Limits.{most_output};
 use crate::faces::{blank_of, face_of};
 use crate::lives::count_lives;
 use crate::marks::mark_laid;
-use crate::pictures::pictures;
+use crate::pictures::PanePictures;
 use crate::steps::{perform, prepare};
 use crate::{lives, queues};
 use roam_acts::{Act, Key};
@@ -181,7 +181,7 @@ impl Session {
     }
 
     /// The screen that the session shows: its panes at their views, the borders between them, and the status text. Its marked rows are
-    /// built, the others are those of the face that was kept. Refuses want of memory.
+    /// built, the others are those of the face that was kept; of a pane without a marked row no cell is looked at. Refuses want of memory.
     pub fn face(&self, alloc: Global) -> Result<RowShot, Fault>
         ensures face { IfOk result (λ shot. (size : SessionSize) (log : List Entry)
             → Stands self.now size log → shot ≡ face size log) }
@@ -189,8 +189,11 @@ impl Session {
         ensures fault { IsOkUnless result Fault.OutOfMemory }
     {
         self.layout.facts();
-        let shots = pictures(alloc, &self.layout, &self.terms)?;
-        face_of(alloc, &self.layout, &shots, &self.kept, &self.marks)
+        let pictures = PanePictures {
+            layout: &self.layout,
+            terms: &self.terms,
+        };
+        face_of(alloc, &self.layout, &pictures, &self.kept, &self.marks)
     }
 
     /// For each row of the session, from 0, whether it may show something else than in the face that was kept; all at first. It takes no

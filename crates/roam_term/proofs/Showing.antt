@@ -1,18 +1,18 @@
 -- What a terminal shows.
-use Rattle.std.proofs.Common.{◌≡◌, ◌<◌, ◌≤◌, ℕ, ◌+◌, ◌*◌, ◌-◌, Bool, true, List, ◌++◌, map, min, take, drop, length, length-drop, slice_range, sym, ap, ◌∙◌, arith}
+use Rattle.std.proofs.Common.{◌≡◌, ◌<◌, ◌≤◌, ℕ, ◌+◌, ◌*◌, ◌-◌, Bool, true, false, if◌then◌else◌, min, List, [], ◌++◌, map, take, drop, length, get_or, length-drop, sym, ap, ◌∙◌, subst, arith}
 use Rattle.std.specs.Prelude.{All}
-use Rattle.std.proofs.lemmas.List.{get_or-map, length-map, take_min}
+use Rattle.std.proofs.lemmas.List.{get_or-map, get_or-drop, length-map, take-map, drop-map, take-take, drop-take}
 use Rattle.std.proofs.lemmas.List.Elements.{All-drop}
-use Rattle.std.proofs.Math.Seq.{take-add}
+use Rattle.std.proofs.Math.Nat.{mul-le-mul_right}
 use Rattle.roam_text.specs.Log.{Item}
 use Rattle.roam_cells.specs.Glyph.{Glyph, blank, is_wide, is_right_half, right_of}
-use Rattle.roam_cells.specs.Place.{cell_at, AreWhole, AreUnguarded}
+use Rattle.roam_cells.specs.Place.{cell_at, row_of, AreWhole, AreUnguarded}
 use Rattle.roam_cells.proofs.Places.{place_below}
-use Rattle.roam_history.specs.Histories.{Scrollback, IsRow}
+use Rattle.roam_grid.specs.Screen.{Screen, IsFrame, IsScreen}
+use Rattle.roam_history.specs.Histories.{Scrollback, IsScrollback, IsRow, last}
 use Rattle.roam_term.specs.Terminal.{Live, term}
-use Rattle.roam_term.specs.Picture.{shown_glyph, picture, picture_of}
-use Rattle.roam_term.proofs.Lists.{map-append}
-use Rattle.roam_term.proofs.Views.{flat, view_is}
+use Rattle.roam_term.specs.Picture.{shown_glyph, cells_in_view, picture_with, picture, picture_of}
+use Rattle.roam_term.proofs.Views.{flat, row_among, row_below, view_size}
 
 -- what a log shows is what lives and the history show
 pub picture_is : (rows cols lines : ℕ) (log : List Item) (view : ℕ) (l : Live) (h : Scrollback) → l ≡ (term rows cols lines log).live
@@ -21,20 +21,68 @@ unfolding picture
 picture_is rows cols lines log view l h live history =
     ap (λ x. picture_of x h view) live ∙ ap (λ x. picture_of (term rows cols lines log).live x view) history
 
--- the rows of a view, those of the history first
-pub view_parts : (reversed : Bool) (cols r v : ℕ) (rows : List (List Glyph)) (cells : List Glyph) → All (IsRow cols) rows → v ≤ length rows
-    → map (shown_glyph reversed) (flat (take (min r v) (drop (length rows - v) rows))) ++ map (shown_glyph reversed) (take ((r - min r v) * cols) cells)
-    ≡ map (shown_glyph reversed) (take (r * cols) (flat (drop (length rows - v) rows) ++ cells))
-view_parts reversed cols r v rows cells each fits =
-    let last = drop (length rows - v) rows in
-    let len : length last ≡ v = length-drop (length rows - v) rows ∙ omega arith in
-    let left : r - min r v ≡ r - length last = omega (arith, len) in
-    sym (map-append (shown_glyph reversed) (flat (take (min r v) last)) (take ((r - min r v) * cols) cells))
-    ∙ ap (map (shown_glyph reversed))
-    (ap (λ n. flat (take (min r n) last) ++ take ((r - min r v) * cols) cells) (sym len)
-    ∙ ap (λ l. flat l ++ take ((r - min r v) * cols) cells) (take_min r last)
-    ∙ ap (λ n. flat (take r last) ++ take (n * cols) cells) left
-    ∙ sym (view_is cols r last cells (All-drop (IsRow cols) (length rows - v) rows each)))
+-- a view shows no more rows than the history has
+pub low_in_view : (alternate : Bool) (view n : ℕ) → (if alternate then 0 else min view n) ≤ n
+low_in_view true view n = omega arith
+low_in_view false view n = omega arith
+
+pub last_each : (h : Scrollback) (cols v : ℕ) → h.cols ≡ cols → IsScrollback h → All (IsRow cols) (last v h.rows)
+last_each h cols v e is = All-drop (IsRow cols) (length h.rows - v) h.rows (subst (λ n. All (IsRow n) h.rows) e is.each)
+
+-- a view has as many cells as the screen
+pub shown_size : (v : ℕ) (l : Live) (h : Scrollback) → IsScreen l.screen → IsScrollback h → h.cols ≡ l.screen.cols
+    → length (picture_with v l h).cells ≡ l.screen.rows * l.screen.cols
+shown_size v l h is rows e =
+    length-map (cells_in_view v l h) (shown_glyph l.modes.reverse_screen)
+    ∙ view_size l.screen.cols l.screen.rows (last v h.rows) l.screen.cells (last_each h l.screen.cols v e rows) is.size
+
+pub framed : (s t : Screen) → s ≡ t → IsFrame t → IsFrame s
+framed s t e is = rw e is
+
+-- ---- a row as it is shown
+
+-- a row of shown cells is the row as it is shown
+row_shown : (reversed : Bool) (cols n r : ℕ) (cells : List Glyph) → r < n
+    → row_of cols (map (shown_glyph reversed) (take (n * cols) cells)) r ≡ map (shown_glyph reversed) (row_of cols cells r)
+row_shown reversed cols n r cells low =
+    let show = map (shown_glyph reversed) in
+    let size = (r + 1) * cols - r * cols in
+    let from = r * cols in
+    let next : (r + 1) * cols ≤ n * cols = let one : r + 1 ≤ n = omega (arith, low) in mul-le-mul_right cols one in
+    let rest = n * cols - from in
+    let all : n * cols ≡ from + rest = omega (arith, next) in
+    let fits : size ≤ rest = omega (arith, next) in
+    ap (take size) (drop-map (shown_glyph reversed) from (take (n * cols) cells))
+    ∙ take-map (shown_glyph reversed) size (drop from (take (n * cols) cells))
+    ∙ ap (λ m. show (take size (drop from (take m cells)))) all
+    ∙ ap (λ l. show (take size l)) (drop-take from rest cells)
+    ∙ ap show (take-take size rest (drop from cells) fits)
+
+module _ (reversed : Bool) (cols n v r : ℕ) (rows : List (List Glyph)) (cells : List Glyph) (each : All (IsRow cols) rows) (fits : v ≤ length rows)
+    (low : r < n) where
+  abbrev above : List (List Glyph)
+  above = drop (length rows - v) rows
+
+  count : length above ≡ v
+  count = length-drop (length rows - v) rows ∙ omega (arith, fits)
+
+  each_above : All (IsRow cols) above
+  each_above = All-drop (IsRow cols) (length rows - v) rows each
+
+  -- the first rows of a view are the last of the history
+  pub history_row : r < v → map (shown_glyph reversed) (get_or rows (length rows - v + r) [])
+      ≡ row_of cols (map (shown_glyph reversed) (take (n * cols) (flat above ++ cells))) r
+  history_row within =
+      ap (map (shown_glyph reversed)) (sym (row_among cols above cells r each_above (omega (arith, count, within)) ∙ get_or-drop (length rows - v) rows r []))
+      ∙ sym (row_shown reversed cols n r (flat above ++ cells) low)
+
+  -- the rows below them are the first of the screen
+  pub screen_row : v ≤ r → map (shown_glyph reversed) (row_of cols cells (r - v))
+      ≡ row_of cols (map (shown_glyph reversed) (take (n * cols) (flat above ++ cells))) r
+  screen_row below =
+      let at : length above + (r - v) ≡ r = omega (arith, count, below) in
+      ap (map (shown_glyph reversed)) (sym (row_below cols above cells (r - v) each_above) ∙ ap (row_of cols (flat above ++ cells)) at)
+      ∙ sym (row_shown reversed cols n r (flat above ++ cells) low)
 
 -- ---- cells as they are shown
 
@@ -60,13 +108,3 @@ module _ (reversed : Bool) (rows cols : ℕ) (cells : List Glyph) (size : length
 -- no shown cell is guarded
 pub shown_unguarded : (reversed : Bool) (cells : List Glyph) → AreUnguarded (map (shown_glyph reversed) cells)
 shown_unguarded reversed cells k h = ap (λ (g : Glyph). g.guarded) (get_or-map (shown_glyph reversed) cells k blank blank (omega (arith, h, length-map cells (shown_glyph reversed))))
-
--- one more row
-pub rows-more : (reversed : Bool) (cells : List Glyph) (i cols : ℕ)
-    → map (shown_glyph reversed) (take (i * cols) cells) ++ map (shown_glyph reversed) (slice_range cells (i * cols) ((i + 1) * cols)) ≡ map (shown_glyph reversed) (take ((i + 1) * cols) cells)
-rows-more reversed cells i cols =
-    let gap : (i + 1) * cols - i * cols ≡ cols = omega arith in
-    let sum : (i + 1) * cols ≡ i * cols + cols = omega arith in
-    ap (λ n. map (shown_glyph reversed) (take (i * cols) cells) ++ map (shown_glyph reversed) (take n (drop (i * cols) cells))) gap
-    ∙ sym (map-append (shown_glyph reversed) (take (i * cols) cells) (take cols (drop (i * cols) cells)))
-    ∙ sym (ap (map (shown_glyph reversed)) (ap (λ n. take n cells) sum ∙ take-add (i * cols) cols cells))

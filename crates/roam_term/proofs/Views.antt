@@ -1,45 +1,59 @@
 -- What a terminal shows: rows of the history, and below them the screen.
-use Rattle.std.proofs.Common.{◌≡◌, ◌<◌, ◌≤◌, ℕ, zero, suc, ◌+◌, ◌*◌, ◌-◌, List, [], ◌∷◌, ◌++◌, take, length, get_or, length-append, replicate, refl, sym, ap, ◌∙◌, append_assoc, arith, subst}
+use Rattle.std.proofs.Common.{◌≡◌, ◌<◌, ◌≤◌, ℕ, zero, suc, ◌+◌, ◌*◌, ◌-◌, List, [], ◌∷◌, ◌++◌, take, drop, length, get_or, length-append, replicate, refl, sym, ap, ◌∙◌, append_assoc, arith, subst}
 use Rattle.std.specs.Prelude.{All}
 use Rattle.std.specs.List.{flat_map}
 use Rattle.std.proofs.lemmas.List.{get_or_append_left, get_or-append_right, get_or-take, length-take-le, length-replicate}
 use Rattle.std.proofs.lemmas.List.Edits.{get_or-between}
-use Rattle.std.proofs.Math.Seq.{take-append-add}
+use Rattle.std.proofs.Math.Seq.{take-add, take-append_seam, drop-append-add}
 use Rattle.roam_cells.specs.Glyph.{Glyph, blank, is_wide, is_right_half, right_of}
 use Rattle.roam_cells.specs.Place.{cell_at, glyph_at, IsWholeLine, IsWholeRow, AreWhole, row_of}
 use Rattle.roam_cells.proofs.Places.{place_below}
 use Rattle.roam_history.specs.Histories.{IsRow}
 use Rattle.roam_history.specs.Lines.{with_blanks}
-use Rattle.roam_term.proofs.Lists.{append-nil}
 
 -- the cells of rows, one row after another
 abbrev pub flat : List (List Glyph) → List Glyph
 flat rows = flat_map (λ (row : List Glyph). row) rows
 
--- one more row
-pub flat-more : (rows : List (List Glyph)) (row : List Glyph) → flat (rows ++ row ∷ []) ≡ flat rows ++ row
-flat-more [] row = append-nil row
-flat-more (first ∷ rows) row = ap (λ l. first ++ l) (flat-more rows row) ∙ sym (append_assoc first (flat rows) row)
-
 each_later : (cols : ℕ) (row : List Glyph) (rows : List (List Glyph)) → All (IsRow cols) (row ∷ rows) → All (IsRow cols) rows
 each_later cols row rows each = λ k d h. each (suc k) d (omega (arith, h))
 
--- as many cells as so many rows have are whole rows of the history, and then whole rows of the screen
-pub view_is : (cols r : ℕ) (rows : List (List Glyph)) (cells : List Glyph) → All (IsRow cols) rows
-    → take (r * cols) (flat rows ++ cells) ≡ flat (take r rows) ++ take ((r - length rows) * cols) cells
-view_is cols zero [] cells each = refl
-view_is cols zero (row ∷ rows) cells each =
+-- the rows of the history stand one after another
+pub row_among : (cols : ℕ) (rows : List (List Glyph)) (cells : List Glyph) (r : ℕ) → All (IsRow cols) rows → r < length rows
+    → row_of cols (flat rows ++ cells) r ≡ get_or rows r []
+row_among cols [] cells r each low = absurd (omega (arith, low))
+row_among cols (row ∷ rows) cells zero each low =
+    let count : length row ≡ cols = (each 0 row (omega arith)).count in
+    let size : (0 + 1) * cols - 0 * cols ≡ length row = omega (arith, count) in
     let none : 0 * cols ≡ 0 = omega arith in
-    let left : 0 - length (row ∷ rows) ≡ 0 = omega arith in
-    ap (λ n. take n (flat (row ∷ rows) ++ cells)) none ∙ sym (ap (λ n. take (n * cols) cells) left ∙ ap (λ n. take n cells) none)
-view_is cols (suc r) [] cells each = ap (λ n. take (n * cols) cells) (omega arith)
-view_is cols (suc r) (row ∷ rows) cells each =
-    let size : suc r * cols ≡ length row + r * cols = omega (arith, (each 0 row (omega arith)).count) in
-    let left : r - length rows ≡ suc r - length (row ∷ rows) = omega arith in
-    ap (take (suc r * cols)) (append_assoc row (flat rows) cells) ∙ ap (λ n. take n (row ++ (flat rows ++ cells))) size
-    ∙ take-append-add row (flat rows ++ cells) (r * cols) ∙ ap (λ l. row ++ l) (view_is cols r rows cells (each_later cols row rows each))
-    ∙ sym (append_assoc row (flat (take r rows)) (take ((r - length rows) * cols) cells))
-    ∙ ap (λ n. flat (take (suc r) (row ∷ rows)) ++ take (n * cols) cells) left
+    (λ i. take (size i) (drop (none i) (append_assoc row (flat rows) cells i))) ∙ take-append_seam row (flat rows ++ cells)
+row_among cols (row ∷ rows) cells (suc r) each low =
+    let count : length row ≡ cols = (each 0 row (omega arith)).count in
+    let size : (suc r + 1) * cols - suc r * cols ≡ (r + 1) * cols - r * cols = omega arith in
+    let from : suc r * cols ≡ length row + r * cols = omega (arith, count) in
+    (λ i. take (size i) (drop (from i) (append_assoc row (flat rows) cells i)))
+    ∙ ap (take ((r + 1) * cols - r * cols)) (drop-append-add row (flat rows ++ cells) (r * cols))
+    ∙ row_among cols rows cells r (each_later cols row rows each) (omega (arith, low))
+
+-- and what comes below them begins with its own first row
+pub row_below : (cols : ℕ) (rows : List (List Glyph)) (cells : List Glyph) (r : ℕ) → All (IsRow cols) rows
+    → row_of cols (flat rows ++ cells) (length rows + r) ≡ row_of cols cells r
+row_below cols [] cells r each = let same : 0 + r ≡ r = omega arith in ap (row_of cols cells) same
+row_below cols (row ∷ rows) cells r each =
+    let count : length row ≡ cols = (each 0 row (omega arith)).count in
+    let k = length rows + r in
+    let size : (suc (length rows) + r + 1) * cols - (suc (length rows) + r) * cols ≡ (k + 1) * cols - k * cols = omega arith in
+    let from : (suc (length rows) + r) * cols ≡ length row + k * cols = omega (arith, count) in
+    (λ i. take (size i) (drop (from i) (append_assoc row (flat rows) cells i)))
+    ∙ ap (take ((k + 1) * cols - k * cols)) (drop-append-add row (flat rows ++ cells) (k * cols))
+    ∙ row_below cols rows cells r (each_later cols row rows each)
+
+-- one more row
+pub rows_more : (cols i : ℕ) (cells : List Glyph) → take (i * cols) cells ++ row_of cols cells i ≡ take ((i + 1) * cols) cells
+rows_more cols i cells =
+    let size : (i + 1) * cols - i * cols ≡ cols = omega arith in
+    let next : (i + 1) * cols ≡ i * cols + cols = omega arith in
+    ap (λ n. take (i * cols) cells ++ take n (drop (i * cols) cells)) size ∙ sym (ap (λ n. take n cells) next ∙ take-add (i * cols) cols cells)
 
 -- what a line is depends on its own columns alone
 line_same : (cols : ℕ) (f g : ℕ → Glyph) → ((c : ℕ) → c < cols → g c ≡ f c) → IsWholeLine cols f → IsWholeLine cols g

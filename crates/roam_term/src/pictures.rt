@@ -1,12 +1,10 @@
 //! A terminal's screen as it is shown.
-ghost use Rattle.std.specs.Prelude.{◌≡◌, ◌≤◌, ◌<◌, ◌+◌, ◌*◌, ◌++◌, List, [], slice_index_or, map, take, drop, length, IfOk, IsOkUnless};
-ghost use Rattle.std.specs.List.{flat_map};
-ghost use Rattle.roam_cells.specs.Glyph.{Glyph};
-ghost use Rattle.roam_term.specs.Picture.{shown_glyph, shown_style, rows_in_view, cells_in_view, picture_of};
+ghost use Rattle.std.specs.Prelude.{◌≡◌, ◌≤◌, ◌<◌, ◌++◌, [], slice_index_or, map, length, IfOk, IsOkUnless};
+ghost use Rattle.roam_cells.specs.Place.{row_of};
+ghost use Rattle.roam_term.specs.Picture.{shown_glyph, shown_style, rows_in_view, picture_with, picture_of};
 
 use crate::canvases::Canvas;
 use roam_cells::{Cell, Fault, Style};
-use roam_grid::Grid;
 use roam_history::History;
 use roam_screens::Shot;
 use std::alloc::{AllocError, Global};
@@ -70,41 +68,28 @@ fn kept_row(history: &History, i: usize) -> &[Cell]
     history.row(i).unwrap()
 }
 
-// Rows of the history as they are shown, the oldest first.
-fn show_history(
+// Adds a row of the screen as it is shown, from 0, below the last v rows of the history.
+fn push_shown(
     cells: &mut Vec<Cell>,
+    canvas: &Canvas,
     history: &History,
-    from: usize,
-    count: usize,
-    reversed: bool,
+    v: usize,
+    row: usize,
 ) -> Result<(), AllocError>
-    requires within { from + count ≤ length history.now.rows }
-    ensures cells { IfOk result (λ _. cells.new.items ≡ cells.old.items
-        ++ map (shown_glyph reversed) (flat_map (λ (row : List Glyph). row) (take count (drop from history.now.rows)))) }
+    requires cols { history.now.cols ≡ canvas.now.live.screen.cols }
+    requires within { v ≤ length history.now.rows }
+    requires row { row < canvas.now.live.screen.rows }
+    ensures row { IfOk result (λ _. cells.new.items ≡ cells.old.items
+        ++ row_of canvas.now.live.screen.cols (picture_with v canvas.now.live history.now).cells row) }
 {
+    canvas.facts();
     history.facts();
-    for i in 0..count {
-        show_row(cells, kept_row(history, from + i), reversed)?;
+    let reversed = canvas.modes().reverse_screen;
+    if row < v {
+        let first = history.len() - v;
+        return show_row(cells, kept_row(history, first + row), reversed);
     }
-    Ok(())
-}
-
-// The first rows of the screen as they are shown.
-fn show_screen(
-    cells: &mut Vec<Cell>,
-    grid: &Grid,
-    count: usize,
-    reversed: bool,
-) -> Result<(), AllocError>
-    requires within { count ≤ grid.now.screen.rows }
-    ensures cells { IfOk result (λ _. cells.new.items ≡ cells.old.items
-        ++ map (shown_glyph reversed) (take (count * grid.now.screen.cols) grid.now.screen.cells)) }
-{
-    grid.facts();
-    for i in 0..count {
-        show_row(cells, grid.row(i), reversed)?;
-    }
-    Ok(())
+    show_row(cells, canvas.grid().row(row - v), reversed)
 }
 
 // The last v rows of the history, and below them the screen, as far as they fit, as they are shown.
@@ -116,18 +101,48 @@ fn shown_cells(
 ) -> Result<Vec<Cell>, AllocError>
     requires cols { history.now.cols ≡ canvas.now.live.screen.cols }
     requires within { v ≤ length history.now.rows }
-    ensures cells { IfOk result (λ cells.
-        cells.items ≡ map (shown_glyph canvas.now.live.modes.reverse_screen) (cells_in_view v canvas.now.live history.now)) }
+    ensures cells { IfOk result (λ cells. cells.items ≡ (picture_with v canvas.now.live history.now).cells) }
 {
     canvas.facts();
     history.facts();
     let grid = canvas.grid();
-    let reversed = canvas.modes().reverse_screen;
-    let count = grid.rows().min(v);
     let mut cells = Vec::with_capacity(alloc, grid.rows() * grid.cols())?;
-    show_history(&mut cells, history, history.len() - v, count, reversed)?;
-    show_screen(&mut cells, grid, grid.rows() - count, reversed)?;
+    for row in 0..grid.rows() {
+        push_shown(&mut cells, canvas, history, v, row)?;
+    }
     Ok(cells)
+}
+
+/// Adds a row of the screen as it is shown, from 0, scrolled back by a view; refuses want of memory.
+pub fn push_row(
+    cells: &mut Vec<Cell>,
+    canvas: &Canvas,
+    history: &History,
+    view: u16,
+    row: u16,
+) -> Result<(), AllocError>
+    requires cols { history.now.cols ≡ canvas.now.live.screen.cols }
+    requires row { row < canvas.now.live.screen.rows }
+    ensures row { IfOk result (λ _. cells.new.items ≡ cells.old.items
+        ++ row_of canvas.now.live.screen.cols (picture_of canvas.now.live history.now view).cells row) }
+{
+    let v = rows_in_view(canvas, history, view);
+    push_shown(cells, canvas, history, v, usize::from(row))
+}
+
+/// The cursor of the screen as it is shown, scrolled back by a view, and whether it is visible.
+pub fn cursor_at(canvas: &Canvas, history: &History, view: u16) -> ((u16, u16), bool)
+    ensures row { result.0.0 ≡ (picture_of canvas.now.live history.now view).cursor_row }
+    ensures col { result.0.1 ≡ (picture_of canvas.now.live history.now view).cursor_col }
+    ensures visible { result.1 ≡ (picture_of canvas.now.live history.now view).visible }
+{
+    canvas.facts();
+    history.facts();
+    let v = rows_in_view(canvas, history, view);
+    let grid = canvas.grid();
+    let (row, col) = grid.cursor();
+    let visible = canvas.modes().cursor_visible && row + v <= grid.rows();
+    (((row + v).min(grid.rows()) as u16, col as u16), visible)
 }
 
 /// The screen as it is shown, scrolled back by a view; refuses want of memory.
@@ -140,14 +155,13 @@ pub fn draw(alloc: Global, canvas: &Canvas, history: &History, view: u16) -> Res
     history.facts();
     let v = rows_in_view(canvas, history, view);
     let cells = shown_cells(alloc, canvas, history, v)?;
+    let (cursor, visible) = cursor_at(canvas, history, view);
     let grid = canvas.grid();
-    let (row, col) = grid.cursor();
-    let visible = canvas.modes().cursor_visible && row + v <= grid.rows();
     Ok(Shot::new(
         grid.rows() as u16,
         grid.cols() as u16,
         cells,
-        ((row + v).min(grid.rows()) as u16, col as u16),
+        cursor,
         visible,
     ))
 }

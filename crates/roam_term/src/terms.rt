@@ -3,6 +3,7 @@ ghost use Rattle.std.specs.Prelude.{◌≡◌, ◌⊎◌, ◌+◌, ◌*◌, ◌�
 ghost use Rattle.roam_text.specs.Log.{Item};
 ghost use Rattle.roam_text.specs.Dispatched.{function_of, functions_by};
 ghost use Rattle.roam_controls.specs.Commands.{command_of, parameters_of};
+ghost use Rattle.roam_cells.specs.Place.{row_of};
 ghost use Rattle.roam_grid.specs.Marks.{all_off, all_on};
 ghost use Rattle.roam_term.specs.Marks.{marked_by, marked_through};
 ghost use Rattle.roam_term.specs.Picture.{picture, picture_of};
@@ -14,14 +15,14 @@ use crate::canvases::Canvas;
 use crate::leaving::stays;
 use crate::limits::{MOST_ANSWER, MOST_LINES, MOST_OUTPUT, MOST_PIECE};
 use crate::outputs::Output;
-use crate::pictures::draw;
-use roam_cells::Fault;
+use crate::pictures::{cursor_at, draw, push_row};
 use roam_cells::limits::is_size;
+use roam_cells::{Cell, Fault};
 use roam_controls::{Command, command_of};
 use roam_history::History;
 use roam_screens::Shot;
 use roam_text::{Dispatch, Dispatched, REPLACEMENT, Reader};
-use std::alloc::Global;
+use std::alloc::{AllocError, Global};
 use std::marker::Model;
 
 // What a dispatched function asks for, with what the reader lends.
@@ -404,5 +405,30 @@ impl Term {
     {
         let shot = draw(alloc, &self.canvas, &self.history, view)?;
         Ok(shot)
+    }
+
+    /// Adds a row of the screen that `shot` makes, from 0, to a list of cells: no other row is looked at. Refuses want of memory.
+    pub fn push_row(&self, view: u16, row: u16, cells: &mut Vec<Cell>) -> Result<(), AllocError>
+        requires row { row < self.now.live.screen.rows }
+        ensures picture { IfOk result (λ _. (rows cols lines : ℕ) (log : List Item) → Shows self.now rows cols lines log
+            → cells.new.items ≡ cells.old.items
+            ++ row_of (picture rows cols lines log view).cols (picture rows cols lines log view).cells row) }
+        ensures now { IfOk result (λ _. cells.new.items ≡ cells.old.items
+            ++ row_of self.now.live.screen.cols (picture_of self.now.live self.now.history view).cells row) }
+    {
+        push_row(cells, &self.canvas, &self.history, view, row)
+    }
+
+    /// The cursor of the screen that `shot` makes, and whether it is visible. It takes no memory.
+    pub fn cursor_at(&self, view: u16) -> ((u16, u16), bool)
+        ensures picture { (rows cols lines : ℕ) (log : List Item) → Shows self.now rows cols lines log
+            → (result.0.0 ≡ (picture rows cols lines log view).cursor_row)
+            × (result.0.1 ≡ (picture rows cols lines log view).cursor_col)
+            × (result.1 ≡ (picture rows cols lines log view).visible) }
+        ensures row { result.0.0 ≡ (picture_of self.now.live self.now.history view).cursor_row }
+        ensures col { result.0.1 ≡ (picture_of self.now.live self.now.history view).cursor_col }
+        ensures visible { result.1 ≡ (picture_of self.now.live self.now.history view).visible }
+    {
+        cursor_at(&self.canvas, &self.history, view)
     }
 }

@@ -290,7 +290,7 @@ fn is_row_by_row(
 {
     let mut cells = Vec::new(alloc);
     for above in 0..layout.rows() {
-        push_row(alloc, layout, shots, above + 1, &mut cells)?;
+        push_row(alloc, layout, &shots, above + 1, &mut cells)?;
     }
     Ok(is_well_formed(&cells, usize::from(layout.cols())) && are_same_cells(whole.cells(), &cells))
 }
@@ -302,7 +302,7 @@ fn made_anew(alloc: Global, layout: &Layout, shots: &[(u8, Shot)]) -> Result<Row
     layout.facts();
     let blank = RowShot::blank(alloc, layout.rows(), layout.cols())?;
     let marks = [true; 200];
-    face_over(alloc, layout, shots, &blank, &marks)
+    face_over(alloc, layout, &shots, &blank, &marks)
 }
 
 fn is_face(shot: &RowShot, whole: &Shot) -> bool {

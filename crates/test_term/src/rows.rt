@@ -1,5 +1,8 @@
 //! How rows of tables are written and read.
+ghost use Rattle.std.specs.Prelude.{◌≡◌};
+
 use roam_cells::Fault;
+use roam_cells::shapes::are_same_cells;
 use roam_screens::Shot;
 use roam_term::Term;
 use std::alloc::Global;
@@ -49,10 +52,22 @@ fn is_shown(alloc: Global, shot: &Shot, wanted: &str) -> Result<bool, Fault> {
     Ok(same && is_cursor(shot, parts.next().unwrap_or("")) && parts.next().is_none())
 }
 
-/// Whether a view shows the screen of a text; refuses want of memory.
+// Whether the rows of a view one by one, and its cursor, are those of its screen.
+fn is_row_by_row(alloc: Global, term: &Term, view: u16, shot: &Shot) -> Result<bool, Fault>
+    requires rows { shot.now.rows ≡ term.now.live.screen.rows }
+{
+    let mut cells = Vec::new(alloc);
+    for row in 0..shot.rows() {
+        term.push_row(view, row, &mut cells)?;
+    }
+    let (cursor, visible) = term.cursor_at(view);
+    Ok(are_same_cells(shot.cells(), &cells) && cursor == shot.cursor() && visible == shot.visible())
+}
+
+/// Whether a view shows the screen of a text, whole and row by row; refuses want of memory.
 pub fn shown(alloc: Global, term: &Term, view: u16, wanted: &str) -> Result<bool, Fault> {
     let shot = term.shot(alloc, view)?;
-    is_shown(alloc, &shot, wanted)
+    Ok(is_shown(alloc, &shot, wanted)? && is_row_by_row(alloc, term, view, &shot)?)
 }
 
 /// Whether a view shows the screen of a text.

@@ -4,7 +4,7 @@ use Rattle.roam_layout.proofs.FaceOver.{over_is}
 use Rattle.roam_layout.proofs.kept.face_over.Goals as goal
 
 pub returns-clause-face : goal.returns-clause-face
-returns-clause-face c = λ picture show.
+returns-clause-face g c = λ picture show.
     let s = c.args.layout.now in
     let k = c.in_ok-shot.shot in
     let same : k ≡ c.args.kept.now = c.in_ok-shot.ensures.same in

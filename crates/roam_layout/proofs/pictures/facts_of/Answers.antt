@@ -1,7 +1,7 @@
 use Rattle.std.proofs.Common.{ℕ, sym, take, take_all, arith}
 use Rattle.std.proofs.lemmas.List.Elements.{All-more, All-same}
 use Rattle.roam_screens.specs.Screenshot.{Screenshot, IsScreenshot}
-use Rattle.roam_layout.proofs.faces.facts_of.Goals as goal
+use Rattle.roam_layout.proofs.pictures.facts_of.Goals as goal
 
 pub loop-k-preserved : goal.loop-k-preserved
 loop-k-preserved c =
