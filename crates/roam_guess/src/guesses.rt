@@ -1,5 +1,5 @@
 //! Guesses, and what is true of them.
-ghost use Rattle.std.specs.Prelude.{◌≡◌, IfOk, IsOkUnless};
+ghost use Rattle.std.specs.Prelude.{◌≡◌, IfOk, IsOkUnless, length};
 ghost use Rattle.roam_guess.specs.Guesses.{are_shown, none};
 
 use roam_cells::{Cell, Fault};
@@ -74,6 +74,13 @@ impl Guesses {
             trusted: false,
             ends_with: None,
         })
+    }
+
+    /// How many guesses there are.
+    pub fn len(&self) -> usize
+        ensures len { result ≡ length self.now.list }
+    {
+        self.list.len()
     }
 
     /// Whether anything is shown over a screen.

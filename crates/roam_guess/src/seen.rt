@@ -2,6 +2,7 @@
 ghost use Rattle.std.specs.Prelude.{◌≡◌, ◌↔◌, ◌<◌, ◌≤◌, true, length, map, drop};
 ghost use Rattle.std.specs.Vec.{vec_capacity};
 ghost use Rattle.roam_guess.specs.Guesses.{dropped};
+ghost use Rattle.roam_guess.specs.Overlay.{cursor_line};
 ghost use Rattle.roam_guess.specs.Verdicts.{Follows, begun, confirmed, count_over, count_right, expired, has_credit, is_any_wrong, is_over, is_right, is_told_later, is_way, is_written, judged, shows, with_told};
 
 use crate::guesses::{Guess, Guesses, Told};
@@ -232,6 +233,16 @@ impl Guesses {
             self.trusted = false;
             self.ends_with = None;
         }
+    }
+
+    /// How many guesses, from the first on, a screen shows to be right. It takes no memory.
+    pub fn count_right<S: Seen>(&self, shown: &S) -> usize
+        ensures count { result ≡ count_right (cursor_line (S.screen shown.now)) (S.screen shown.now).cursor_col self.now.list }
+        ensures most { result ≤ length self.now.list }
+    {
+        shown.facts();
+        let (row, col) = shown.cursor();
+        count_right(shown.row(row - 1), col, &self.list)
     }
 
     // What is shown tells which guesses are right.
