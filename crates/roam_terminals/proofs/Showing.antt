@@ -7,7 +7,7 @@ use Rattle.roam_screens.specs.Screenshot.{Screenshot}
 use Rattle.roam_text.specs.Log.{Item, Byte}
 use Rattle.roam_turns.specs.Painting.{Fits, Led, Shows}
 use Rattle.roam_turns.specs.declared.outer.Noted.{Noted}
-use Rattle.roam_terminals.specs.Overlaid.{Between, IsBack, IsForth, IsOver, IsSize, Lays, TakesBack, on_show}
+use Rattle.roam_terminals.specs.Overlaid.{Between, IsBack, IsForth, IsOver, IsSize, Lays, TakenBackIsNoted, TakesBack, on_show}
 use Rattle.roam_terminals.specs.Overlaid.Lays.{none, laid}
 use Rattle.roam_terminals.specs.Overlaid.TakesBack.{nothing, back, lost}
 use Rattle.roam_terminals.specs.declared.laying.Taken.{Taken}
@@ -58,6 +58,12 @@ module _ (painted_leads : PaintedLeadsOver) where
   between_leads one other text b rows cols lines log ready =
       painted_leads rows cols lines log one other b.screen ready (omega (arith, ready.shows.rows, b.size.rows))
       (omega (arith, ready.shows.cols, b.size.cols))
+
+  pub taken_back : TakenBackIsNoted
+  taken_back over None text is = tt
+  taken_back over (Some noted) text is =
+      λ rows cols lines log ready fits. subst (λ l. Displays rows cols lines (log ++ map Byte l) noted.screen) (sym is.text_is)
+      (between_leads over noted.screen text is rows cols lines log ready).displays
 
   -- what takes back a screen comes first
   back_first : (o : Screenshot) (noted : Noted) (b text : List ℕ) (s : Screenshot) → Between o noted.screen b

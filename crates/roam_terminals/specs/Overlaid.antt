@@ -7,6 +7,7 @@ use Rattle.roam_guess.specs.Typing.{typed_by}
 use Rattle.roam_guess.specs.Underlined.{underlined}
 use Rattle.roam_paint.specs.Painting.{text_between}
 use Rattle.roam_screens.specs.Screenshot.{Screenshot, IsScreenshot}
+use Rattle.roam_turns.specs.Painting.{Leads}
 use Rattle.roam_turns.specs.declared.outer.Noted.{Noted}
 use Rattle.roam_terminals.specs.declared.laying.Taken.{Taken}
 use Rattle.roam_terminals.specs.declared.overlay.Overlay.{Overlay}
@@ -70,3 +71,10 @@ pub data Lays (outer : Option Noted) (wanted over : Option Screenshot) (waiting 
   none : over ≡ None → waiting' ≡ waiting → Lays outer wanted over waiting waiting'
   laid : (s : Screenshot) (text : List ℕ) → wanted ≡ Some s → over ≡ Some s → waiting' ≡ waiting ++ text → IsForth outer s text
       → Lays outer wanted over waiting waiting'
+
+-- ---- the law
+
+-- once what stood over a screen that is noted is taken back, a ground terminal that showed it shows the screen that is noted
+abbrev pub TakenBackIsNoted : Type 0
+TakenBackIsNoted =
+    (over : Screenshot) (outer : Option Noted) (text : List ℕ) → IsBack over outer text → Leads (on_show (Some over) outer) text outer

@@ -36,7 +36,7 @@ fn is_size<O: Seen, N: Seen>(one: &O, other: &N) -> bool
     one.rows() == other.rows() && one.cols() == other.cols()
 }
 
-// Whether the first rows of two screens of one size are the same.
+// Whether the rows of two screens of one size are the same.
 fn are_same_rows(one: &RowShot, other: &RowShot) -> bool
     requires size { IsSize one.now other.now }
     ensures same { result ≡ true → one.now.cells ≡ other.now.cells }
@@ -61,7 +61,7 @@ fn is_same(one: &RowShot, other: &RowShot) -> bool
         && are_same_rows(one, other)
 }
 
-// The text that takes back what stands over the screen that is noted. `OutOfMemory`.
+// The text that takes back what stands over the screen that is noted; none where that has another size, or there is no memory.
 fn text_back(alloc: Global, over: &RowShot, outer: &Outer) -> Option<Vec<u8>>
     ensures back { IfSome result (λ text. IsBack over.now outer.now text.items) }
 {
@@ -75,7 +75,7 @@ fn text_back(alloc: Global, over: &RowShot, outer: &Outer) -> Option<Vec<u8>>
     Some(text)
 }
 
-// The text that lays a screen over the one that is noted. `OutOfMemory`.
+// The text that lays a screen over the one that is noted; none where that has another size, or there is no memory.
 fn text_forth(alloc: Global, outer: &Outer, over: &RowShot) -> Option<Vec<u8>>
     ensures forth { IfSome result (λ text. IsForth outer.now over.now text.items) }
 {
