@@ -1,5 +1,5 @@
 -- Guesses: what keys are guessed to show in the row of the cursor (this project's profile, after Mosh's speculative local echo).
-use Rattle.std.specs.Prelude.{◌≡◌, ℕ, ◌≤◌, Bool, true, false, not, ◌&&◌, List, [], ◌∷◌, length, Option, None, Some, IfSome, All, Vec}
+use Rattle.std.specs.Prelude.{◌≡◌, ℕ, ◌-◌, ◌==◌, ◌≤◌, Bool, true, false, not, ◌&&◌, List, [], ◌∷◌, length, Option, None, Some, IfSome, All, Vec, if◌then◌else◌}
 use Rattle.std.specs.Vec.{vec_capacity}
 use Rattle.std.specs.declared.alloc.Global.{Global}
 use Rattle.roam_cells.specs.Glyph.{Glyph, is_right_half, is_wide}
@@ -46,6 +46,11 @@ dropped guesses = record { list = []; trusted = false; ends_with = last_act gues
 abbrev pub is_none : List Guess → Bool
 is_none [] = true
 is_none (guess ∷ guesses) = false
+
+-- the number of the act of a guess, from 0 on in their order
+abbrev pub number_in : List Guess → ℕ → Option ℕ
+number_in [] place = None
+number_in (guess ∷ guesses) place = if place == 0 then Some guess.number else number_in guesses (place - 1)
 
 -- whether anything is shown over a screen
 abbrev pub are_shown : GuessesOf → Bool

@@ -1,5 +1,5 @@
 -- How long what is typed takes to be shown, and what that means for guesses (this project's profile, after Mosh's adaptive display).
-use Rattle.std.specs.Prelude.{ℕ, ◌+◌, ◌-◌, Bool, false, not, ◌&&◌, ◌||◌, nat_lt, nat_le, List, [], ◌∷◌, length, if◌then◌else◌}
+use Rattle.std.specs.Prelude.{ℕ, ◌+◌, ◌-◌, Bool, false, not, ◌&&◌, ◌||◌, nat_lt, nat_le, min, max, List, [], ◌∷◌, length, Option, None, Some, if◌then◌else◌}
 
 -- how many delays are above a limit
 abbrev pub count_above : List ℕ → ℕ → ℕ
@@ -26,3 +26,19 @@ waits_long (moment ∷ moments) now = nat_le 250 (now - moment)
 -- guessed cells are underlined where the median is above 80 ms, or one has waited for 250 ms
 abbrev pub is_long : List ℕ → List ℕ → ℕ → Bool
 is_long last since now = are_most_above last 80 || waits_long since now
+
+-- the longest of the last delays
+abbrev pub longest : List ℕ → ℕ
+longest [] = 0
+longest (delay ∷ delays) = max (longest delays) delay
+
+-- how many of those that wait, from the first on, have waited so long
+abbrev pub count_old : List ℕ → ℕ → ℕ → ℕ
+count_old [] long now = 0
+count_old (moment ∷ moments) long now = if nat_lt (now - moment) long then 0 else 1 + count_old moments long now
+
+-- An act is told to guesses as acknowledged once its guess has waited as long as the slowest of the last ten, since an echo comes after it,
+-- and later where the link loses: up to the act before the first guess that hasn't.
+abbrev pub told_by : ℕ → Option ℕ → ℕ
+told_by acknowledged None = acknowledged
+told_by acknowledged (Some number) = min acknowledged (number - 1)

@@ -1,6 +1,6 @@
 //! How long what is typed takes to be shown, by the last ten guesses that were right.
 ghost use Rattle.std.specs.Prelude.{◌≡◌, ◌≤◌, length};
-ghost use Rattle.roam_terminals.specs.Delays.{are_most_above, are_most_within, count_above, is_long, is_slow, waits_long};
+ghost use Rattle.roam_terminals.specs.Delays.{are_most_above, are_most_within, count_above, count_old, is_long, is_slow, longest, waits_long};
 
 use roam_cells::Fault;
 use std::alloc::Global;
@@ -77,6 +77,27 @@ fn waits_long(since: &[u64], now: u64) -> bool
     }
 }
 
+// The longest of the last delays.
+fn longest(delays: &[u64]) -> u64
+    ensures longest { result ≡ longest delays.now }
+{
+    if delays.is_empty() {
+        return 0;
+    }
+    longest(&delays[1..]).max(delays[0])
+}
+
+// How many of those that wait, from the first on, have waited so long at a moment.
+fn count_old(since: &[u64], long: u64, now: u64) -> usize
+    ensures count { result ≡ count_old since.now long now }
+    ensures most { result ≤ length since.now }
+{
+    if since.is_empty() || now.saturating_sub(since[0]) < long {
+        return 0;
+    }
+    1 + count_old(&since[1..], long, now)
+}
+
 // Adds a delay, and drops the oldest of ten.
 fn push_delay(last: &mut Vec<u64>, delay: u64) {
     if last.len() >= MOST_KEPT {
@@ -123,6 +144,13 @@ impl Delays {
     pub(crate) fn keep(&mut self, count: usize) {
         let gone = self.since.len().saturating_sub(count);
         drop_front(&mut self.since, gone);
+    }
+
+    /// How many wait, from the first on, that have waited as long at a moment as the slowest of the last ten took.
+    pub(crate) fn count_old(&self, now: u64) -> usize
+        ensures count { result ≡ count_old self.now.since.items (longest self.now.last.items) now }
+    {
+        count_old(&self.since, longest(&self.last), now)
     }
 
     /// Whether what is typed takes long enough to be shown that guesses are.

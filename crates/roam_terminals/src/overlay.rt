@@ -1,6 +1,7 @@
 //! What the keys of an outer terminal are guessed to show, over the screen that is noted of it.
 ghost use Rattle.std.specs.Prelude.{◌≡◌, IfSome};
 ghost use Rattle.roam_screens.specs.Screenshot.{Screenshot};
+ghost use Rattle.roam_terminals.specs.Delays.{told_by};
 ghost use Rattle.roam_terminals.specs.Overlaid.{IsLaid, after_typed_each};
 
 use crate::delays::Delays;
@@ -36,6 +37,16 @@ fn type_each<S: Seen>(guesses: &mut Guesses, first: u64, acts: &[Act], shown: &S
     }
     guesses.typed(first, &acts[0], shown);
     type_each(guesses, first.saturating_add(1), &acts[1..], shown);
+}
+
+// How many acts are told to guesses as acknowledged, where the first guess that hasn't waited long has a number.
+fn told_by(acknowledged: u64, young: Option<u64>) -> u64
+    ensures told { result ≡ told_by acknowledged young }
+{
+    match young {
+        None => acknowledged,
+        Some(number) => acknowledged.min(number.saturating_sub(1)),
+    }
 }
 
 // Judges guesses by the screen that is noted, after the one that was.
@@ -99,17 +110,21 @@ impl Overlay {
         now: u64,
     ) {
         self.delays.wait(self.guesses.len(), now);
-        self.delays.show(self.guesses.count_right(screen), now);
-        judge(
-            &mut self.guesses,
-            &self.seen,
-            number,
-            screen,
-            acknowledged,
-            now,
-        );
+        let right = self.guesses.count_right(screen);
+        self.delays.show(right, now);
+        let told = self.told(acknowledged, right, now);
+        judge(&mut self.guesses, &self.seen, number, screen, told, now);
         self.delays.keep(self.guesses.len());
         note(alloc, &mut self.seen, number, screen);
+    }
+
+    // How many acts are told to the guesses as acknowledged at a moment, where so many are right.
+    fn told(&self, acknowledged: u64, right: usize, now: u64) -> u64 {
+        let old = self.delays.count_old(now);
+        told_by(
+            acknowledged,
+            self.guesses.number_of(old.saturating_add(right)),
+        )
     }
 
     // Whether what is guessed is shown.
