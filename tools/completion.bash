@@ -11,13 +11,15 @@ _roam_mux() {
     local word=${COMP_WORDS[COMP_CWORD]} words= mux=("${COMP_WORDS[0]}")
     [ "${COMP_WORDS[1]}" != mux ] || mux+=(mux)
     case ${COMP_WORDS[COMP_CWORD - 1]} in
-    ssh) mapfile -t COMPREPLY < <(compgen -A hostname -W "--ssh --far --help" -- "$word") && return ;;
+    ssh) mapfile -t COMPREPLY < <(compgen -A hostname -W "--ssh --far --guess --help" -- "$word") && return ;;
     mux | roam-mux | */mux | */roam-mux) words="$_roam_mux_words $(_roam_mux_names "${mux[@]}")" ;;
-    attach | watch | send) words="--help $(_roam_mux_names "${mux[@]}")" ;;
+    attach) words="--guess --help $(_roam_mux_names "${mux[@]}")" ;;
+    watch | send) words="--help $(_roam_mux_names "${mux[@]}")" ;;
     kill) words="-f --help $(_roam_mux_names "${mux[@]}")" ;;
     capture) words="--svg --help $(_roam_mux_names "${mux[@]}")" ;;
     --svg | -f) words=$(_roam_mux_names "${mux[@]}") ;;
-    new) words="-d --help" ;;
+    new) words="-d --guess --help" ;;
+    --guess) words="adaptive always never" ;;
     help) words=$_roam_mux_words ;;
     esac
     mapfile -t COMPREPLY < <(compgen -W "$words" -- "$word")
@@ -27,7 +29,8 @@ _roam_attach() {
     local word=${COMP_WORDS[COMP_CWORD]}
     case ${COMP_WORDS[COMP_CWORD - 1]} in
     --dir) mapfile -t COMPREPLY < <(compgen -d -- "$word") ;;
-    *) mapfile -t COMPREPLY < <(compgen -W "--watch --dir --server --help" -- "$word") ;;
+    --guess) mapfile -t COMPREPLY < <(compgen -W "adaptive always never" -- "$word") ;;
+    *) mapfile -t COMPREPLY < <(compgen -W "--watch --guess --dir --server --help" -- "$word") ;;
     esac
 }
 

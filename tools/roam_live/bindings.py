@@ -9,6 +9,9 @@ from roam_live.program import Fault
 PREFIXES = {f"C-{letter}": chr(ord(letter) & 31) for letter in string.ascii_lowercase + "]\\^_"}
 PREFIX = "C-b"
 
+# When what keys are guessed to show is shown before the session has shown it; where nothing says so it is the first of them.
+GUESSING = ("adaptive", "always", "never")
+
 # Keys after the prefix that are acts, and those that are wishes. An arrow is the wish to have the pane there in focus.
 BINDINGS = {"o": "next", **{str(pane): f"focus {pane}" for pane in range(1, 10)}}
 WISHES = {"%": "split right", '"': "split down", "x": "close", "d": "detach", "r": "repaint", "?": "help", "up": "up", "down": "down",
@@ -47,6 +50,14 @@ def chosen_prefix():
     name = os.environ.get("ROAM_PREFIX") or PREFIX
     if name not in PREFIXES:
         raise Fault(f"ROAM_PREFIX is {name!r}, and may be C-a to C-z, C-], C-\\, C-^ or C-_")
+    return name
+
+
+def chosen_guessing(asked=None):
+    """When guesses are shown: as asked, else as the environment's ROAM_GUESS says, where it is there."""
+    name = asked or os.environ.get("ROAM_GUESS") or GUESSING[0]
+    if name not in GUESSING:
+        raise Fault(f"ROAM_GUESS is {name!r}, and may be adaptive, always or never")
     return name
 
 

@@ -36,14 +36,14 @@ SILENCE = re.compile(rb"(roam: no answer for \d+ s)(\x1b\[0m)")
 class Client:
     """A person at a terminal, and the session there."""
 
-    def __init__(self, place, watches, prefix):
+    def __init__(self, place, watches, prefix, guessing):
         self.place = place
         self.wakeup = woken(signal.SIGWINCH, signal.SIGCONT, *LEAVING)
         served = place.process(place.served)
         self.server = opened_process(served) if served else None
         self.shells = ShellsWatch(place)
         self.bells = BellFollower(place.folder)
-        self.link = Link(place.terminals, watches)
+        self.link = Link(place.terminals, watches, guessing)
         self.keeper = Keeper(place, self.link)
         self.moments = Moments()
         self.display = Display(self.moments, lambda: self.link.say("repaint"))
@@ -177,12 +177,12 @@ class Client:
         return self.status
 
 
-def follow(place, watches, prefix):
-    """Has a person follow a session at this terminal, and tells the status."""
+def follow(place, watches, prefix, guessing):
+    """Has a person follow a session at this terminal, and tells the status; guesses are shown always, where that helps, or never."""
     note = None
     try:
         note = noted_client(place.folder, "watches" if watches else "edits")
-        return Client(place, watches, prefix).run()
+        return Client(place, watches, prefix, guessing).run()
     finally:
         place.close()
         if note:

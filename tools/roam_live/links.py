@@ -29,8 +29,9 @@ LET_GO = "this terminal was let go; what was typed last may be lost"
 class Link:
     """A terminal's connection to the start. Each line goes whole to one connection: what of a line came to one that is lost is nothing."""
 
-    def __init__(self, path, watches):
+    def __init__(self, path, watches, guessing="never"):
         self.path, self.watches = path, watches
+        self.guessing = b"" if guessing == "never" else f"guess {guessing}\n".encode()
         self.peer = None
         self.waiting = bytearray()
         self.given = 0
@@ -50,6 +51,8 @@ class Link:
         self.acts = 0
         if self.watches:
             self.waiting[:] = b"watch\n"
+        elif not self.waiting.startswith(self.guessing):
+            self.waiting[:0] = self.guessing
 
     def say(self, line):
         """Adds a line at the end."""

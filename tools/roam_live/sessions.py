@@ -20,8 +20,9 @@ NAME = re.compile(r"[A-Za-z0-9_-]{1,32}")
 # A socket's path has at most so many bytes.
 LONGEST_PATH = 107
 
-# What a session's note is like. An earlier roam had one without this number: its session has no start for terminals.
-VERSION = 2
+# What a session's note is like. An earlier roam had one without this number: its session has no start for terminals. One of 2 knows no
+# guesses.
+VERSION = 3
 
 # So many seconds after the last terminal left a relay ends.
 ALONE = 3600

@@ -1,15 +1,15 @@
 -- An epoch is hidden until a screen confirms a guess of it, and ends with an act that isn't guessed.
-use Rattle.std.proofs.Common.{◌≡◌, ℕ, zero, suc, Bool, true, false, cond, ◌&&◌, List, [], ◌∷◌, take, drop, map, Option, Some, None, ◌⊎◌, inl, inr, refl, sym, ap, ◌∙◌}
+use Rattle.std.proofs.Common.{◌≡◌, ℕ, zero, suc, Bool, true, false, cond, ◌&&◌, List, [], ◌∷◌, take, map, Option, Some, None, ◌⊎◌, inl, inr, refl, sym, ap, ◌∙◌}
 use Rattle.std.specs.List.{fold}
 use Rattle.std.specs.Prelude.{is_some, not, ◌||◌}
 use Rattle.std.proofs.lemmas.Bool.{false≢true}
 use Rattle.roam_cells.specs.Glyph.{Glyph}
 use Rattle.roam_screens.specs.Screenshot.{Screenshot}
-use Rattle.roam_guess.specs.Guesses.{GuessesOf, dropped, is_none, none}
+use Rattle.roam_guess.specs.Guesses.{GuessesOf, dropped, is_none, last_act, lost, none}
 use Rattle.roam_guess.specs.Laws.{EpochsEnd, NothingShows, NoneConfirms, Step, Typed, Seen, Ended, TrustIsEarned, UnconfirmedIsHidden, after, confirms, seen_by}
 use Rattle.roam_guess.specs.Overlay.{cursor_line, guessed}
 use Rattle.roam_guess.specs.Typing.{guess_for, with_guess_or_end}
-use Rattle.roam_guess.specs.Verdicts.{confirmed, count_over, count_right, expired, has_credit, is_any_wrong, is_ended, shows, with_told}
+use Rattle.roam_guess.specs.Verdicts.{confirmed, count_right, expired, has_credit, is_any_over, is_any_wrong, is_ended, shows, with_told}
 use Rattle.roam_guess.specs.declared.guesses.Guess.{Guess}
 
 -- ---- nothing is shown
@@ -62,11 +62,11 @@ begun_trusted : (guesses : GuessesOf) (b : Bool) → (cond b none guesses).trust
 begun_trusted guesses true e = absurd (false≢true e)
 begun_trusted guesses false e = e
 
-expired_trusted : (now : ℕ) (guesses : GuessesOf) (b : Bool)
-    → (cond b (dropped guesses) (record guesses { list = drop (count_over now guesses.list) guesses.list })).trusted ≡ true
-    → guesses.trusted ≡ true
-expired_trusted now guesses true e = absurd (false≢true e)
-expired_trusted now guesses false e = e
+expired_trusted : (guesses : GuessesOf) (wrong over : Bool)
+    → (cond wrong (dropped guesses) (cond over (lost guesses) guesses)).trusted ≡ true → guesses.trusted ≡ true
+expired_trusted guesses true over e = absurd (false≢true e)
+expired_trusted guesses false true e = e
+expired_trusted guesses false false e = e
 
 seen_trusted : (number acknowledged now : ℕ) (s : Screenshot) (guesses : GuessesOf)
     → (seen_by number acknowledged now s guesses).trusted ≡ true
@@ -78,7 +78,7 @@ seen_trusted number acknowledged now s guesses e =
     record right { list = map (with_told acknowledged (record { at = now; number = number })) right.list } in
     let left = expired number now noted in
     let kept = begun_trusted left (is_none left.list && is_ended left.ends_with acknowledged) e in
-    let before = expired_trusted now noted (is_any_wrong number now noted.list) kept in
+    let before = expired_trusted noted (is_any_wrong number now noted.list) (is_any_over now noted.list) kept in
     elim (either guesses.trusted (has_credit (cursor_line s) (take count guesses.list)) before) [
       | inl was ↦ inl was
       | inr credit ↦ inr (credit_of (cursor_line s) count guesses.list credit)
@@ -92,7 +92,7 @@ pub trust_is_earned : TrustIsEarned
 trust_is_earned guesses = record {
   typed = λ number act s. typed_trusted number guesses (guess_for number act s guesses);
   seen = λ number acknowledged now s e. seen_trusted number acknowledged now s guesses e;
-  ends = λ acknowledged. dropped_hidden guesses (true && is_ended guesses.ends_with acknowledged);
+  ends = λ acknowledged. dropped_hidden guesses (true && is_ended (last_act guesses.ends_with guesses.list) acknowledged);
 }
 
 -- ---- the act that ends an epoch
@@ -101,10 +101,11 @@ no_guess : (ended few visible : Bool) (guess : Option Guess) → ended ≡ true 
 no_guess true few visible guess e = refl
 no_guess false few visible guess e = absurd (false≢true e)
 
-expired_ends : (now : ℕ) (guesses : GuessesOf) (b : Bool)
-    → (cond b (dropped guesses) (record guesses { list = drop (count_over now guesses.list) guesses.list })).ends_with ≡ guesses.ends_with
-expired_ends now guesses true = refl
-expired_ends now guesses false = refl
+expired_ends : (guesses : GuessesOf) (last : ℕ) (wrong over : Bool) → guesses.ends_with ≡ Some last
+    → (cond wrong (dropped guesses) (cond over (lost guesses) guesses)).ends_with ≡ Some last
+expired_ends guesses last true over was = ap (λ (o : Option ℕ). last_act o guesses.list) was
+expired_ends guesses last false true was = ap (λ (o : Option ℕ). last_act o guesses.list) was
+expired_ends guesses last false false was = was
 
 begun_none : (guesses : GuessesOf) (last : ℕ) (b : Bool) → guesses.ends_with ≡ Some last → (cond b none guesses).ends_with ≡ None
     → cond b none guesses ≡ none
@@ -119,7 +120,7 @@ seen_none guesses last was number acknowledged now s e =
     record right { list = map (with_told acknowledged (record { at = now; number = number })) right.list } in
     let left = expired number now noted in
     begun_none left last (is_none left.list && is_ended left.ends_with acknowledged)
-    (expired_ends now noted (is_any_wrong number now noted.list) ∙ was) e
+    (expired_ends noted last (is_any_wrong number now noted.list) (is_any_over now noted.list) was) e
 
 pub epochs_end : EpochsEnd
 epochs_end guesses last was = record {
@@ -146,7 +147,8 @@ step_hidden guesses (Seen number acknowledged now shown) hidden e =
     not_trusted (seen_by number acknowledged now shown guesses).trusted
     (λ is. neither guesses.trusted (has_credit (cursor_line shown) guesses.list) hidden
     (seen_trusted number acknowledged now shown guesses is) e)
-step_hidden guesses (Ended acknowledged) hidden e = dropped_hidden guesses (true && is_ended guesses.ends_with acknowledged)
+step_hidden guesses (Ended acknowledged) hidden e =
+    dropped_hidden guesses (true && is_ended (last_act guesses.ends_with guesses.list) acknowledged)
 
 run_hidden : (steps : List Step) (guesses : GuessesOf) → guesses.trusted ≡ false → NoneConfirms guesses steps
     → (fold after guesses steps).trusted ≡ false

@@ -7,9 +7,11 @@ use Rattle.std.proofs.lemmas.List.{length-map}
 use Rattle.roam_cells.specs.Glyph.{Glyph, is_cell_text}
 use Rattle.roam_cells.specs.Width.{width_of}
 use Rattle.roam_cells.specs.declared.styles.Style.{Style}
-use Rattle.roam_guess.specs.Guesses.{IsGuess, is_narrow}
+use Rattle.roam_guess.specs.Guesses.{IsGuess, MayStand, is_narrow}
 use Rattle.roam_guess.specs.Typing.{may_write, narrow_cell, style_left, with_cell, written_guess}
+use Rattle.roam_guess.specs.Underlined.{underlined_guess, underlined_place}
 use Rattle.roam_guess.specs.Verdicts.{with_told}
+use Rattle.roam_guess.specs.declared.guesses.Place.{Place}
 use Rattle.roam_guess.specs.declared.guesses.Guess.{Guess}
 use Rattle.roam_guess.specs.declared.guesses.Told.{Told}
 
@@ -62,3 +64,23 @@ noted_kept acknowledged told (guess ∷ guesses) all =
 pub noted_length : (acknowledged : ℕ) (told : Told) (guesses : List Guess)
     → length (map (with_told acknowledged told) guesses) ≡ length guesses
 noted_length acknowledged told guesses = length-map guesses (with_told acknowledged told)
+
+-- ---- underlined
+
+stands_by : (b : Bool) (place : Place) → MayStand place
+    → MayStand (record place { cell = cond b (record place.cell { style = record place.cell.style { underline = true } }) place.cell })
+stands_by true place h = record { narrow = h.narrow; unguarded = h.unguarded }
+stands_by false place h = h
+
+place_stands : (place : Option Place) → IfSome place MayStand → IfSome (underlined_place place) MayStand
+place_stands None h = tt
+place_stands (Some place) h = stands_by (is_cell_text place.cell.points) place h
+
+pub underlined_kept : (guesses : List Guess) → All IsGuess guesses → All IsGuess (map underlined_guess guesses)
+underlined_kept [] all = All-nil IsGuess
+underlined_kept (guess ∷ guesses) all =
+    All-cons IsGuess (underlined_guess guess) (map underlined_guess guesses)
+    (place_stands guess.place (All-head IsGuess guess guesses all)) (underlined_kept guesses (All-tail IsGuess guess guesses all))
+
+pub underlined_length : (guesses : List Guess) → length (map underlined_guess guesses) ≡ length guesses
+underlined_length guesses = length-map guesses underlined_guess

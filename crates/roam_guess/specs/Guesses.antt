@@ -1,5 +1,5 @@
 -- Guesses: what keys are guessed to show in the row of the cursor (this project's profile, after Mosh's speculative local echo).
-use Rattle.std.specs.Prelude.{◌≡◌, ℕ, ◌≤◌, Bool, true, false, not, ◌&&◌, List, [], ◌∷◌, length, Option, None, IfSome, All, Vec}
+use Rattle.std.specs.Prelude.{◌≡◌, ℕ, ◌-◌, ◌==◌, ◌≤◌, Bool, true, false, not, ◌&&◌, List, [], ◌∷◌, length, Option, None, Some, IfSome, All, Vec, if◌then◌else◌}
 use Rattle.std.specs.Vec.{vec_capacity}
 use Rattle.std.specs.declared.alloc.Global.{Global}
 use Rattle.roam_cells.specs.Glyph.{Glyph, is_right_half, is_wide}
@@ -25,13 +25,32 @@ pub record GuessesOf : Type 0 where
 abbrev pub none : GuessesOf
 none = record { list = []; trusted = false; ends_with = None }
 
--- the same, with the act that ends the epoch
+-- the number of the last of these guesses, or another one where there is none
+abbrev pub last_of : Option ℕ → List Guess → Option ℕ
+last_of before [] = before
+last_of before (guess ∷ guesses) = last_of (Some guess.number) guesses
+
+-- the act with which an epoch ends whose guesses all go: the one that wasn't guessed, else the last one that was
+abbrev pub last_act : Option ℕ → List Guess → Option ℕ
+last_act None guesses = last_of None guesses
+last_act (Some number) guesses = Some number
+
+-- all guesses go without a verdict: nothing more is guessed until what was typed is acknowledged, since where it goes isn't known
+abbrev pub lost : GuessesOf → GuessesOf
+lost guesses = record { list = []; trusted = guesses.trusted; ends_with = last_act guesses.ends_with guesses.list }
+
+-- all guesses go, and the epoch isn't trusted any more
 abbrev pub dropped : GuessesOf → GuessesOf
-dropped guesses = record { list = []; trusted = false; ends_with = guesses.ends_with }
+dropped guesses = record { list = []; trusted = false; ends_with = last_act guesses.ends_with guesses.list }
 
 abbrev pub is_none : List Guess → Bool
 is_none [] = true
 is_none (guess ∷ guesses) = false
+
+-- the number of the act of a guess, from 0 on in their order
+abbrev pub number_in : List Guess → ℕ → Option ℕ
+number_in [] place = None
+number_in (guess ∷ guesses) place = if place == 0 then Some guess.number else number_in guesses (place - 1)
 
 -- whether anything is shown over a screen
 abbrev pub are_shown : GuessesOf → Bool

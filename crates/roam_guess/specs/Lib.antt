@@ -1,5 +1,6 @@
 pub mod Guesses
 pub mod Overlay
 pub mod Typing
+pub mod Underlined
 pub mod Verdicts
 pub mod Laws

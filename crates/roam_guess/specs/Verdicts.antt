@@ -4,7 +4,7 @@ use Rattle.std.specs.Str.{bytes_eq}
 use Rattle.roam_cells.specs.Glyph.{Glyph}
 use Rattle.roam_cells.specs.Place.{glyph_at, row_of}
 use Rattle.roam_screens.specs.Screenshot.{Screenshot}
-use Rattle.roam_guess.specs.Guesses.{GuessesOf, dropped, grace, is_none, none}
+use Rattle.roam_guess.specs.Guesses.{GuessesOf, dropped, grace, is_none, lost, none}
 use Rattle.roam_guess.specs.Overlay.{cursor_line, has_place}
 use Rattle.roam_guess.specs.Typing.{latest}
 use Rattle.roam_guess.specs.declared.guesses.Guess.{Guess}
@@ -88,19 +88,16 @@ is_any_wrong number now [] = false
 is_any_wrong number now (guess ∷ guesses) =
     (is_over now guess && is_told_later number guess) || is_any_wrong number now guesses
 
--- how many there are up to the last whose time is over
-abbrev pub count_on : Bool → ℕ → ℕ
-count_on over more = if nat_lt 0 more || over then 1 + more else 0
+-- the time of one is over
+abbrev pub is_any_over : ℕ → List Guess → Bool
+is_any_over now [] = false
+is_any_over now (guess ∷ guesses) = is_over now guess || is_any_over now guesses
 
-abbrev pub count_over : ℕ → List Guess → ℕ
-count_over now [] = 0
-count_over now (guess ∷ guesses) = count_on (is_over now guess) (count_over now guesses)
-
--- those whose time is over go; where one of them is wrong, all go, and the epoch ends
+-- where the time of one is over all go, as those behind it stand where it would; where one is wrong, the epoch isn't trusted any more
 abbrev pub expired : ℕ → ℕ → GuessesOf → GuessesOf
 expired number now guesses =
     if is_any_wrong number now guesses.list then dropped guesses
-    else record guesses { list = drop (count_over now guesses.list) guesses.list }
+    else if is_any_over now guesses.list then lost guesses else guesses
 
 -- what a screen tells of the guesses: which are right, which acknowledgements were seen, and whose time is over
 abbrev pub judged : ℕ → ℕ → ℕ → Screenshot → GuessesOf → GuessesOf

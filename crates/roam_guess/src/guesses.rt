@@ -1,6 +1,6 @@
 //! Guesses, and what is true of them.
-ghost use Rattle.std.specs.Prelude.{◌≡◌, IfOk, IsOkUnless};
-ghost use Rattle.roam_guess.specs.Guesses.{are_shown, none};
+ghost use Rattle.std.specs.Prelude.{◌≡◌, IfOk, IsOkUnless, length};
+ghost use Rattle.roam_guess.specs.Guesses.{are_shown, none, number_in};
 
 use roam_cells::{Cell, Fault};
 use std::alloc::Global;
@@ -62,6 +62,19 @@ impl Model for Guesses {
     ghost invariant = { λ g. IsKept g.list };
 }
 
+// The number of the act of a guess, from 0 on, where there are so many.
+fn number_in(guesses: &[Guess], place: usize) -> Option<u64>
+    ensures number { result ≡ number_in guesses.now place }
+{
+    if guesses.is_empty() {
+        return None;
+    }
+    if place == 0 {
+        return Some(guesses[0].number);
+    }
+    number_in(&guesses[1..], place - 1)
+}
+
 impl Guesses {
     /// No guess, in an epoch that is hidden; refuses want of memory. No later call but `over` takes any.
     pub fn new(alloc: Global) -> Result<Guesses, Fault>
@@ -74,6 +87,20 @@ impl Guesses {
             trusted: false,
             ends_with: None,
         })
+    }
+
+    /// How many guesses there are.
+    pub fn len(&self) -> usize
+        ensures len { result ≡ length self.now.list }
+    {
+        self.list.len()
+    }
+
+    /// The number of the act of a guess, from 0 on in their order, where there are so many.
+    pub fn number_of(&self, place: usize) -> Option<u64>
+        ensures number { result ≡ number_in self.now.list place }
+    {
+        number_in(&self.list, place)
     }
 
     /// Whether anything is shown over a screen.

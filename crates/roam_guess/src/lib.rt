@@ -9,5 +9,6 @@ pub mod laws;
 mod over;
 mod seen;
 mod typed;
+mod underlined;
 
 pub use guesses::{Guess, Guesses, Place, Told};

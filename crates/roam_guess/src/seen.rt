@@ -1,8 +1,9 @@
 //! Which guesses are right, wrong or over.
 ghost use Rattle.std.specs.Prelude.{◌≡◌, ◌↔◌, ◌<◌, ◌≤◌, true, length, map, drop};
 ghost use Rattle.std.specs.Vec.{vec_capacity};
-ghost use Rattle.roam_guess.specs.Guesses.{dropped};
-ghost use Rattle.roam_guess.specs.Verdicts.{Follows, begun, confirmed, count_over, count_right, expired, has_credit, is_any_wrong, is_over, is_right, is_told_later, is_way, is_written, judged, shows, with_told};
+ghost use Rattle.roam_guess.specs.Guesses.{dropped, last_act, last_of, lost};
+ghost use Rattle.roam_guess.specs.Overlay.{cursor_line};
+ghost use Rattle.roam_guess.specs.Verdicts.{Follows, begun, confirmed, count_right, expired, has_credit, is_any_over, is_any_wrong, is_over, is_right, is_told_later, is_way, is_written, judged, shows, with_told};
 
 use crate::guesses::{Guess, Guesses, Told};
 use crate::over::has_place;
@@ -133,19 +134,33 @@ fn is_any_wrong(guesses: &[Guess], number: u64, now: u64) -> bool
         || is_any_wrong(&guesses[1..], number, now)
 }
 
-// How many guesses there are up to the last whose time is over.
-fn count_over(guesses: &[Guess], now: u64) -> usize
-    ensures count { result ≡ count_over now guesses.now }
-    ensures most { result ≤ length guesses.now }
+// Whether the time of one of the guesses is over.
+fn is_any_over(guesses: &[Guess], now: u64) -> bool
+    ensures over { result ≡ is_any_over now guesses.now }
 {
     if guesses.is_empty() {
-        return 0;
+        return false;
     }
-    let more = count_over(&guesses[1..], now);
-    if 0 < more || is_over(&guesses[0], now) {
-        1 + more
-    } else {
-        0
+    is_over(&guesses[0], now) || is_any_over(&guesses[1..], now)
+}
+
+// The number of the last of these guesses, or another one where there is none.
+fn last_of(before: Option<u64>, guesses: &[Guess]) -> Option<u64>
+    ensures last { result ≡ last_of before guesses.now }
+{
+    if guesses.is_empty() {
+        return before;
+    }
+    last_of(Some(guesses[0].number), &guesses[1..])
+}
+
+// The act with which an epoch ends whose guesses all go: the one that wasn't guessed, else the last one that was.
+fn last_act(ends_with: Option<u64>, guesses: &[Guess]) -> Option<u64>
+    ensures last { result ≡ last_act ends_with guesses.now }
+{
+    match ends_with {
+        None => last_of(None, guesses),
+        Some(number) => Some(number),
     }
 }
 
@@ -173,10 +188,19 @@ fn follows<S: Seen>(before: &S, shown: &S, guesses: &[Guess]) -> bool
 }
 
 impl Guesses {
-    // No guess; another epoch begins hidden.
+    // All guesses go without a verdict: nothing more is guessed until what was typed is acknowledged.
+    fn lose_all(&mut self)
+        ensures lost { self.new ≡ lost self.old }
+    {
+        self.ends_with = last_act(self.ends_with, &self.list);
+        self.list.clear();
+    }
+
+    // All guesses go, and the epoch isn't trusted any more.
     fn drop_all(&mut self)
         ensures dropped { self.new ≡ dropped self.old }
     {
+        self.ends_with = last_act(self.ends_with, &self.list);
         self.list.clear();
         self.trusted = false;
     }
@@ -206,16 +230,14 @@ impl Guesses {
         self.drop_first(count);
     }
 
-    // The guesses whose time is over go; where one of them is wrong, all go, and the epoch ends.
+    // Where the time of a guess is over all go, since those behind it stand where it would; where one is wrong, the epoch isn't trusted.
     fn expire(&mut self, number: u64, now: u64)
         ensures expired { self.new ≡ expired number now self.old }
     {
-        let is_wrong = is_any_wrong(&self.list, number, now);
-        let count = count_over(&self.list, now);
-        if is_wrong {
+        if is_any_wrong(&self.list, number, now) {
             self.drop_all();
-        } else {
-            self.drop_first(count);
+        } else if is_any_over(&self.list, now) {
+            self.lose_all();
         }
     }
 
@@ -234,6 +256,16 @@ impl Guesses {
         }
     }
 
+    /// How many guesses, from the first on, a screen shows to be right. It takes no memory.
+    pub fn count_right<S: Seen>(&self, shown: &S) -> usize
+        ensures count { result ≡ count_right (cursor_line (S.screen shown.now)) (S.screen shown.now).cursor_col self.now.list }
+        ensures most { result ≤ length self.now.list }
+    {
+        shown.facts();
+        let (row, col) = shown.cursor();
+        count_right(shown.row(row - 1), col, &self.list)
+    }
+
     // What is shown tells which guesses are right.
     fn judge<S: Seen>(&mut self, number: u64, acknowledged: u64, shown: &S, now: u64)
         ensures judged { self.new ≡ judged number acknowledged now (S.screen shown.now) self.old }
@@ -246,8 +278,7 @@ impl Guesses {
     }
 
     /// The screen of a number is shown at a moment in milliseconds, after another one, and so many acts are acknowledged. Guesses that are
-    /// right go; those whose time is over go, and where one of them is wrong, all; and all go where the screen doesn't follow the one
-    /// before. It takes no memory.
+    /// right go; all go where the time of one is over, and where the screen doesn't follow the one before. It takes no memory.
     pub fn seen<S: Seen>(&mut self, number: u64, acknowledged: u64, before: &S, shown: &S, now: u64)
         ensures goes_on { Follows (S.screen before.now) (S.screen shown.now) self.old.list
             → self.new ≡ begun acknowledged (judged number acknowledged now (S.screen shown.now) self.old) }

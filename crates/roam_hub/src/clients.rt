@@ -3,6 +3,7 @@ ghost use Rattle.std.specs.Prelude.{◌≡◌, ◌+◌, ◌⊎◌, ◌↔◌, �
 ghost use Rattle.std.specs.List.{All};
 ghost use Rattle.roam_acts.specs.Acts.{HasKey, IsInRange};
 ghost use Rattle.roam_acts.specs.Limits.{most_unacknowledged};
+ghost use Rattle.roam_acts.specs.Senders.{last_number};
 ghost use Rattle.roam_wire.specs.Datagrams.{datagram_text, datagram_value};
 ghost use Rattle.roam_wire.specs.Cutting.{texts_of};
 ghost use Rattle.roam_screens.specs.Shown.{shown_by};
@@ -294,6 +295,20 @@ impl Client {
         ensures most { result ≤ most_unacknowledged }
     {
         self.acts.unacknowledged()
+    }
+
+    /// How many acts that were typed here are acknowledged: the number of the last of them. It takes no memory.
+    pub fn acknowledged(&self) -> u64
+        ensures acknowledged { result ≡ self.now.acts.acked }
+    {
+        self.acts.waiting().0 - 1
+    }
+
+    /// How many acts were typed here in all: the number of the last of them. It takes no memory.
+    pub fn typed_count(&self) -> u64
+        ensures count { result ≡ last_number self.now.acts }
+    {
+        self.acts.waiting().0 - 1 + self.acts.unacknowledged() as u64
     }
 
     /// Takes the bytes of a datagram that came at a moment. Refuses `BadDatagram` for bytes that are no datagram to a client; then

@@ -1,5 +1,5 @@
 -- What is noted of terminals was shown before, whatever is shown later.
-use Rattle.std.proofs.Common.{◌≡◌, ℕ, Bool, true, false, List, [], ◌∷◌, ◌++◌, Option, None, Some, refl, sym, subst, arith, ◌+◌, ◌∙◌, ap, append-nil, length, take, drop, inl, inr}
+use Rattle.std.proofs.Common.{◌≡◌, ℕ, Bool, true, false, List, [], ◌∷◌, ◌++◌, Option, None, Some, sym, subst, arith, ◌∙◌, ap, append-nil, length, take, drop, inl, inr}
 use Rattle.std.proofs.Math.Seq.{drop-length, take-length}
 use Rattle.std.specs.Prelude.{◌⊎◌}
 use Rattle.std.specs.List.{All, items_where_true}
@@ -8,7 +8,7 @@ use Rattle.std.proofs.lemmas.List.Elements.{All-cons, All-head, All-tail}
 use Rattle.roam_screens.specs.Screenshot.{Screenshot}
 use Rattle.roam_turns.specs.Painting.{Follows, IsBehind}
 use Rattle.roam_turns.specs.declared.outer.Noted.{Noted}
-use Rattle.roam_terminals.specs.Sharing.{AreBehind, AreEachBehind}
+use Rattle.roam_terminals.specs.Sharing.{AreEachBehind}
 use Rattle.roam_terminals.specs.declared.terminal.Terminal.{Terminal}
 
 follows_both : (n n' n'' : ℕ) (s s' s'' : Screenshot) → Follows n s n' s' → Follows n' s' n'' s'' → Follows n s n'' s''

@@ -1,4 +1,5 @@
 mod Behind
+mod Showing
 mod Standing
 mod Taking
 mod Writing

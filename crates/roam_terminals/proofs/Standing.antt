@@ -1,13 +1,12 @@
 -- What stands first of the bytes of a stream of lines.
-use Rattle.std.proofs.Common.{◌≡◌, ℕ, ◌+◌, ◌<◌, ◌≤◌, Bool, true, false, eqb, ltb, List, [], ◌∷◌, ◌++◌, length, take, drop, get_or, Option, Some, None, refl, sym, ap, ◌∙◌, arith, subst}
+use Rattle.std.proofs.Common.{◌≡◌, ℕ, ◌+◌, ◌<◌, Bool, true, false, eqb, List, [], ◌∷◌, ◌++◌, length, take, drop, get_or, Option, Some, None, refl, sym, ap, ◌∙◌, arith, subst}
 use Rattle.std.specs.Prelude.{if◌then◌else◌, nat_lt}
-use Rattle.std.specs.List.{position, flat_map}
+use Rattle.std.specs.List.{position}
 use Rattle.std.proofs.lemmas.Bool.{eqb-true}
 use Rattle.std.proofs.lemmas.List.{length-take-le, take-append-drop, take_more}
 use Rattle.std.proofs.lemmas.List.Quantifiers.{position-Some}
-use Rattle.roam_terminals.specs.declared.lines.Front.{Front}
 use Rattle.roam_terminals.specs.declared.lines.Front.TheVariants.{Line, Part, TooLong}
-use Rattle.roam_terminals.specs.Lines.{IsFirst, ended, ended_all, front_by, front_of, longest_line}
+use Rattle.roam_terminals.specs.Lines.{IsFirst, ended, front_by, front_of, longest_line}
 
 -- a byte ends a line
 abbrev pub is_end : ℕ → Bool

@@ -1,4 +1,6 @@
+pub mod Delays
 pub mod Lines
+pub mod Overlaid
 pub mod Sharing
 pub mod Silence
 pub mod Terminals

@@ -9,6 +9,7 @@ use Rattle.roam_turns.specs.Painting.{IsBehind, Led}
 use Rattle.roam_turns.specs.Parts.{Makes}
 use Rattle.roam_turns.specs.Turns.{AttachTurn}
 use Rattle.roam_turns.specs.declared.outer.Noted.{Noted}
+use Rattle.roam_terminals.specs.Overlaid.{IsOver, on_show}
 use Rattle.roam_terminals.specs.Terminals.{Hears}
 use Rattle.roam_terminals.specs.declared.terminal.Terminal.{Terminal}
 
@@ -42,12 +43,18 @@ HearsAll remaining (t ∷ ts) (t' ∷ ts') client client' =
     × Hears (remaining t.stream) (remaining t'.stream) t.lines.kept t'.lines.kept t.watches t'.watches t'.state client mid
     × HearsAll remaining ts ts' mid client'
 
--- a terminal took a turn of the start: what waits for it then leads it from what was noted to what is
+-- A terminal took a turn of the start: what waits for it then leads it from what it showed to what it shows, the screen that is noted with
+-- what is guessed over it. Where there is no memory to take back what was laid over the one that was noted, nothing is noted.
 pub record Turns {S : Type 0} (to : Addr) (old new : Terminal S) (client client' : ClientView) : Type 0 where
   pub ready : old.waiting ≡ []
-  pub makes : Makes client_step (AttachTurn client'.receiver.newest.number client'.receiver.newest.state old.outer new.outer to None false)
+  pub before : Option Noted
+  pub after : Option Noted
+  pub begins : (before ≡ old.outer) ⊎ (before ≡ None)
+  pub makes : Makes client_step (AttachTurn client'.receiver.newest.number client'.receiver.newest.state before after to None false)
       None None None None client client'
-  pub led : Led old.outer (Some []) new.outer (Some new.waiting)
+  pub ends : (new.outer ≡ after) ⊎ (new.outer ≡ None)
+  pub led : Led (on_show old.over old.outer) (Some []) (on_show new.over new.outer) (Some new.waiting)
+  pub over : IsOver new.guessing new.outer new.over
 
 -- it took one, or was left as it was
 abbrev pub MayTurn : {S : Type 0} → Addr → Terminal S → Terminal S → ClientView → ClientView → Type 0

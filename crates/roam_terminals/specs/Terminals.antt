@@ -5,7 +5,7 @@ use Rattle.roam_acts.specs.declared.acts.Act.{Act}
 use Rattle.roam_hub.specs.Clients.{ClientView, Stands as ClientStands, after_typed_all}
 use Rattle.roam_typing.specs.Entries.{Says, acts_in}
 use Rattle.roam_typing.specs.declared.entries.Entry.{Entry}
-use Rattle.roam_typing.specs.declared.entries.Entry.TheVariants.{Acts, Repaint, Watch, End}
+use Rattle.roam_typing.specs.declared.entries.Entry.TheVariants.{Acts, Repaint, Watch, Guess, End}
 use Rattle.roam_terminals.specs.Lines.{IsFirst, ended_all}
 use Rattle.roam_terminals.specs.declared.terminal.State.{State}
 use Rattle.roam_terminals.specs.declared.terminal.State.TheVariants.{Gone}
@@ -15,6 +15,7 @@ abbrev pub watches_after : Entry → Bool → Bool
 watches_after (Acts acts) watches = watches
 watches_after Repaint watches = watches
 watches_after Watch watches = true
+watches_after (Guess guessing) watches = watches
 watches_after End watches = watches
 
 -- the acts of an entry that are typed: none of a terminal that only watches

@@ -2,8 +2,11 @@
 //! is painted of what it shows.
 #![tactic(auto)]
 
+mod delays;
 pub mod laws;
+mod laying;
 mod lines;
+mod overlay;
 mod painter;
 mod sharing;
 mod silence;

@@ -23,6 +23,9 @@ const SOON: u64 = 10;
 
 const LATER: u64 = 1000;
 
+/// How many milliseconds it waits at most where a terminal has guesses: they go by and by.
+const GUESSED: u64 = 20;
+
 /// A client start with its outer terminals.
 #[derive(Drop)]
 pub struct SharedStart<S> {
@@ -195,6 +198,17 @@ impl<S: Read + Write + Drop> SharedStart<S> {
         self.all.iter().any(|terminal| terminal.is_waiting())
     }
 
+    // How many milliseconds may be waited at most, where it is no longer than a wait.
+    fn wait_for(&self, wait: u64) -> u64 {
+        if self.is_waiting() {
+            wait.min(LATER)
+        } else if self.all.iter().any(|terminal| terminal.is_guessing()) {
+            wait.min(GUESSED)
+        } else {
+            wait
+        }
+    }
+
     // Takes turns: with each terminal that is ready for it, or with nobody where none is.
     fn turn<P: Ports + Drop>(&mut self, alloc: Global, painter: &mut Painter<P>, to: Addr)
         ensures turns { TurnsAll to self.old.all self.new.all self.old.client self.new.client
@@ -231,12 +245,10 @@ impl<S: Read + Write + Drop> SharedStart<S> {
         let was_flooded = self.is_waiting();
         self.turn(alloc, painter, to);
         self.write(alloc, painter.silence());
-        if self.is_waiting() {
-            wait.min(LATER)
-        } else if was_flooded {
+        if was_flooded && !self.is_waiting() {
             0
         } else {
-            wait
+            self.wait_for(wait)
         }
     }
 }

@@ -15,6 +15,7 @@ ghost use Rattle.roam_turns.specs.Turns.{AttachTurn};
 ghost use Rattle.roam_typing.specs.Entries.{Says, acts_in};
 
 use crate::lines::{Front, Lines};
+use crate::overlay::Overlay;
 use crate::painter::Painter;
 use crate::silence::{Silence, notice};
 use roam_acts::Act;
@@ -22,8 +23,9 @@ use roam_acts::limits::MOST_ACTS;
 use roam_cells::Fault;
 use roam_frames::Outbox;
 use roam_hub::{Addr, Client};
+use roam_screens::RowShot;
 use roam_turns::{Outer, Ports, attach_turn};
-use roam_typing::{Entry, read_entry};
+use roam_typing::{Entry, Guessing, read_entry};
 use std::alloc::Global;
 use std::io;
 use std::io::{ErrorKind, Read, Write};
@@ -81,6 +83,9 @@ pub struct Terminal<S> {
     pub(crate) stream: S,
     pub(crate) lines: Lines,
     pub(crate) outer: Outer,
+    pub(crate) guessing: Option<Overlay>,
+    // What stands over the screen that is noted: that screen with what was guessed.
+    pub(crate) over: Option<RowShot>,
     pub(crate) waiting: Outbox,
     pub(crate) watches: bool,
     pub(crate) told: Option<u64>,
@@ -93,11 +98,21 @@ fn is_for_now(error: &io::Error) -> bool {
     matches!(error.kind(), ErrorKind::WouldBlock | ErrorKind::Interrupted)
 }
 
+// What guesses are shown by, where they are to be and there is memory for it.
+fn overlay_for(alloc: Global, guessing: Guessing) -> Option<Overlay> {
+    match guessing {
+        Guessing::Always => Overlay::new(alloc, false).ok(),
+        Guessing::Adaptive => Overlay::new(alloc, true).ok(),
+        Guessing::Never => None,
+    }
+}
+
 impl<S: Read + Write + Drop> Terminal<S> {
     /// A terminal at the other end of a stream: nothing came, nothing is known of it, and nothing waits.
     pub fn new(alloc: Global, stream: S) -> Terminal<S>
         ensures stream { result.stream ≡ stream }
         ensures lines { (result.lines ≡ nothing_came) × (result.watches ≡ false) }
+        ensures guessing { (result.guessing ≡ None) × (result.over ≡ None) }
         ensures painted { (result.outer ≡ None) × (result.waiting ≡ []) × (result.told ≡ None) × (result.stuck ≡ None) }
         ensures here { result.state ≡ State.Here }
     {
@@ -105,6 +120,8 @@ impl<S: Read + Write + Drop> Terminal<S> {
             stream,
             lines: Lines::new(alloc),
             outer: Outer::new(),
+            guessing: None,
+            over: None,
             waiting: Outbox::new(alloc),
             watches: false,
             told: None,
@@ -132,8 +149,16 @@ impl<S: Read + Write + Drop> Terminal<S> {
         self.waiting.len() > 0
     }
 
+    /// Whether something is guessed of what it is to show.
+    pub(crate) fn is_guessing(&self) -> bool {
+        match &self.guessing {
+            Some(overlay) => overlay.is_guessing(),
+            None => false,
+        }
+    }
+
     // What it shows isn't known any more: it is opened and painted anew.
-    fn forget(&mut self)
+    pub(crate) fn forget(&mut self)
         ensures outer { self.new ≡ record self.old { outer = None } }
     {
         self.outer = Outer::new();
@@ -208,23 +233,45 @@ impl<S: Read + Write + Drop> Terminal<S> {
         }
     }
 
+    // Acts were typed at the start, the first under a number: what they show is guessed, where that is wanted.
+    fn guess(&mut self, first: u64, acts: &[Act], client: &Client)
+        ensures others { self.new ≡ record self.old { guessing = self.new.guessing } }
+    {
+        if let Some(overlay) = &mut self.guessing {
+            overlay.typed(first, acts, client);
+        }
+    }
+
+    // Guesses are shown from now on, or aren't any more; a terminal that watches has none, and one for which there is no memory.
+    fn set_guessing(&mut self, alloc: Global, guessing: Guessing)
+        ensures others { self.new ≡ record self.old { guessing = self.new.guessing } }
+    {
+        self.guessing = if self.watches {
+            None
+        } else {
+            overlay_for(alloc, guessing)
+        };
+    }
+
     // Types the acts of the line that stands first, all or none.
     fn type_acts(&mut self, client: &mut Client, acts: &[Act]) -> Taking
         requires in_range { All IsInRange acts.now }
         requires first { (line rest : List ℕ) × IsFirst self.old.lines.kept line rest }
         ensures takes { TypesLine acts.now self.old.lines.kept self.new.lines.kept self.old.watches client.old client.new }
         ensures number { client.new.receiver ≡ client.old.receiver }
-        ensures others { self.new ≡ record self.old { lines = self.new.lines } }
+        ensures others { self.new ≡ record self.old { lines = self.new.lines; guessing = self.new.guessing } }
     {
         if self.watches {
             self.lines.took();
             return Taking::Line;
         }
+        let first = client.typed_count().saturating_add(1);
         if client.unacknowledged().saturating_add(acts.len()) > MOST_ACTS {
             return Taking::Waits;
         }
         match client.typed_all(acts) {
             Ok(()) => {
+                self.guess(first, acts, client);
                 self.lines.took();
                 Taking::Line
             }
@@ -259,6 +306,11 @@ impl<S: Read + Write + Drop> Terminal<S> {
             Entry::Watch => {
                 self.refuse(alloc, Fault::BadAct);
                 Taking::Nothing
+            }
+            Entry::Guess(guessing) => {
+                self.set_guessing(alloc, *guessing);
+                self.lines.took();
+                Taking::Line
             }
             Entry::End => {
                 self.lines.took();
@@ -302,7 +354,7 @@ impl<S: Read + Write + Drop> Terminal<S> {
     }
 
     // Takes a turn of the start with it: what is painted waits to be written, whole.
-    fn turn<P: Ports + Drop>(
+    pub(crate) fn turn<P: Ports + Drop>(
         &mut self,
         alloc: Global,
         client: &mut Client,
@@ -345,7 +397,7 @@ impl<S: Read + Write + Drop> Terminal<S> {
         if !self.is_ready() {
             return false;
         }
-        self.turn(alloc, client, painter, to);
+        self.turn_over(alloc, client, painter, to);
         true
     }
 
@@ -376,7 +428,7 @@ impl<S: Read + Write + Drop> Terminal<S> {
         if seen.is_over() {
             self.told = None;
             self.forget();
-        } else if self.waiting.len() == 0 && self.state == State::Here {
+        } else if self.waiting.len() == 0 && self.over.is_none() && self.state == State::Here {
             if let Some(seconds) = seen.due() {
                 self.tell(alloc, seconds);
             }

@@ -1,6 +1,6 @@
 -- What a turn shows leads the outer terminal from what was noted to what is noted then.
 use Rattle.std.proofs.Common.{◌≡◌, ℕ, zero, suc, List, [], ◌∷◌, ◌++◌, map, append-nil, append_assoc, Bool, Option, Some, None, refl, sym, ap, ◌∙◌, subst, inl, inr, arith}
-use Rattle.std.proofs.KnownBytes.{Appends-nil, Appends-trans, Appends-kept}
+use Rattle.std.proofs.KnownBytes.{Appends-nil, Appends-kept}
 use Rattle.std.proofs.lemmas.List.{map-append}
 use Rattle.std.specs.Io.KnownBytes.{Appends, Keeps}
 use Rattle.roam_screens.specs.Screenshot.{Screenshot, IsScreenshot, blank_screenshot}

@@ -1,5 +1,5 @@
 //! What is known of the outer terminal.
-ghost use Rattle.std.specs.Prelude.{◌≡◌, ◌↔◌, None, Some, IsTrue, IfOk};
+ghost use Rattle.std.specs.Prelude.{◌≡◌, ◌↔◌, None, Some, IsTrue, IfOk, IfSome};
 ghost use Rattle.roam_screens.specs.Shown.{shown_by};
 ghost use Rattle.roam_turns.specs.Painting.{IsNoted, text_for};
 
@@ -63,6 +63,17 @@ impl Outer {
         ensures none { result ≡ None }
     {
         Outer { noted: None }
+    }
+
+    /// The number and the screen that are noted, lent, or none. It takes no memory.
+    pub fn noted(&self) -> Option<(u64, Shown<'_>)>
+        ensures some { IfSome result (λ lent. self.now ≡ Some (record { number = lent.0; screen = shown_by lent.1 })) }
+        ensures none { result ≡ None → self.now ≡ None }
+    {
+        match &self.noted {
+            None => None,
+            Some(noted) => Some((noted.number, noted.screen.shown())),
+        }
     }
 
     // Whether a screen of this number is noted.

@@ -4,7 +4,9 @@ use Rattle.std.specs.Option.{option_map}
 use Rattle.roam_acts.specs.declared.acts.Act.{Act}
 use Rattle.roam_typing.specs.Keys.{AreLinesOf}
 use Rattle.roam_typing.specs.declared.entries.Entry.{Entry}
-use Rattle.roam_typing.specs.declared.entries.Entry.TheVariants.{Acts, Repaint, Watch, End}
+use Rattle.roam_typing.specs.declared.entries.Entry.TheVariants.{Acts, Repaint, Watch, Guess, End}
+use Rattle.roam_typing.specs.declared.entries.Guessing.{Guessing}
+use Rattle.roam_typing.specs.declared.entries.Guessing.TheVariants.{Always, Adaptive, Never}
 
 -- a line has at most so many acts: as many as one instruction
 abbrev pub most_cuts : ℕ
@@ -29,16 +31,24 @@ unfoldable pub parts_of : ℕ → List ℕ → List (List ℕ)
 parts_of zero text = text ∷ []
 parts_of (suc n) text = cut_by (parts_of n) text (cut_of text)
 
+-- what says when guesses are shown
+abbrev pub guessing_line : Guessing → List ℕ
+guessing_line Always = codes "guess always"
+guessing_line Adaptive = codes "guess adaptive"
+guessing_line Never = codes "guess never"
+
 -- a line is no word
 pub record IsNoWord (line : List ℕ) : Type 0 where
   pub repaint : line ≢ codes "repaint"
   pub watch : line ≢ codes "watch"
   pub end : line ≢ codes "end"
+  pub guess : (guessing : Guessing) → line ≢ guessing_line guessing
 
 -- a line says an entry
 abbrev pub Says : List ℕ → Entry → Type 0
 Says line Repaint = line ≡ codes "repaint"
 Says line Watch = line ≡ codes "watch"
+Says line (Guess guessing) = line ≡ guessing_line guessing
 Says line End = line ≡ codes "end"
 Says line (Acts acts) = IsNoWord line × AreLinesOf (parts_of most_cuts line) acts.items
 
@@ -47,4 +57,5 @@ abbrev pub acts_in : Entry → List Act
 acts_in (Acts acts) = acts.items
 acts_in Repaint = []
 acts_in Watch = []
+acts_in (Guess guessing) = []
 acts_in End = []

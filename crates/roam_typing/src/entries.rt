@@ -1,11 +1,12 @@
 //! What a line of an outer terminal asks for.
-ghost use Rattle.std.specs.Prelude.{◌≡◌, ◌⊎◌, ◌+◌, ◌<◌, ◌≤◌, ◌++◌, ◌∷◌, [], List, true, length, None, IfErr, IfOk, IfSome, ◌-◌, MatchResult, OnOk, OnErr, IsTrue, ◌↔◌, codes};
+ghost use Rattle.std.specs.Prelude.{◌≡◌, ◌≢◌, ◌⊎◌, ◌+◌, ◌<◌, ◌≤◌, ◌++◌, ◌∷◌, [], List, true, length, None, IfErr, IfOk, IfSome, ◌-◌, MatchResult, OnOk, OnErr, IsTrue, ◌↔◌, codes};
 ghost use Rattle.std.specs.List.{All};
 ghost use Rattle.roam_acts.specs.declared.acts.Act.{Act as ActOf};
 ghost use Rattle.roam_acts.specs.Acts.{IsInRange};
 ghost use Rattle.roam_typing.specs.Keys.{AreLinesOf, IsLineOf};
-ghost use Rattle.roam_typing.specs.Entries.{Says, acts_in, begins_separator, cut_of, most_cuts, parts_of};
+ghost use Rattle.roam_typing.specs.Entries.{Says, acts_in, begins_separator, cut_of, guessing_line, most_cuts, parts_of};
 ghost use Rattle.roam_typing.specs.declared.entries.Entry.{Entry as EntryOf};
+ghost use Rattle.roam_typing.specs.declared.entries.Guessing.{Guessing as GuessingOf};
 
 use roam_acts::{Act, read_act};
 use roam_cells::Fault;
@@ -16,6 +17,19 @@ const MOST_CUTS: u8 = 63;
 
 /// How many bytes a separator has.
 const SEPARATOR: usize = 3;
+
+/// When an outer terminal is shown what its keys are guessed to show.
+#[derive(Clone, Copy, Debug, PartialEq, Eq)]
+pub enum Guessing {
+    /// As soon as there is anything to show.
+    Always,
+
+    /// Where what is typed takes long to be shown.
+    Adaptive,
+
+    /// Never.
+    Never,
+}
 
 /// What a line of an outer terminal asks for.
 #[derive(Drop)]
@@ -28,6 +42,9 @@ pub enum Entry {
 
     /// None of its acts is taken; the first line alone says so.
     Watch,
+
+    /// What its keys are guessed to show is shown from now on, or isn't any more.
+    Guess(Guessing),
 
     /// The client start ends.
     End,
@@ -96,6 +113,23 @@ fn push_acts(acts: &mut Vec<Act>, text: &[u8], cuts: u8) -> Result<(), Fault>
     }
 }
 
+// When guesses are to be shown, where a line says so.
+fn read_guessing(line: &[u8]) -> Option<Guessing>
+    ensures found { IfSome result (λ guessing. line.now ≡ guessing_line guessing) }
+    ensures none { result ≡ None → (guessing : GuessingOf) → line.now ≢ guessing_line guessing }
+{
+    if line == b"guess always".as_slice() {
+        return Some(Guessing::Always);
+    }
+    if line == b"guess adaptive".as_slice() {
+        return Some(Guessing::Adaptive);
+    }
+    if line == b"guess never".as_slice() {
+        return Some(Guessing::Never);
+    }
+    None
+}
+
 /// What a line without its end asks for. `BadAct` where it asks for nothing, `OutOfMemory`.
 pub fn read_entry(alloc: Global, line: &[u8]) -> Result<Entry, Fault>
     // What is read is said so.
@@ -113,6 +147,9 @@ pub fn read_entry(alloc: Global, line: &[u8]) -> Result<Entry, Fault>
     }
     if line == b"end".as_slice() {
         return Ok(Entry::End);
+    }
+    if let Some(guessing) = read_guessing(line) {
+        return Ok(Entry::Guess(guessing));
     }
     let mut acts = Vec::new(alloc);
     push_acts(&mut acts, line, MOST_CUTS)?;

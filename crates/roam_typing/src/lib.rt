@@ -5,6 +5,6 @@ mod entries;
 mod keys;
 mod typing;
 
-pub use entries::{Entry, read_entry};
+pub use entries::{Entry, Guessing, read_entry};
 pub use keys::acts_of;
 pub use typing::{ActLines, Stream, Typist};

@@ -167,7 +167,9 @@ shows $ ab|5
 at 100
 shows $ a|4
 type char 63
-shows $ ac|5
+shows $ a|4
+feed bc
+shows $ abc|6
 
 feed $\x20
 type char 61

@@ -1,4 +1,4 @@
-use Rattle.std.proofs.Common.{◌≡◌, ◌∷◌, sym, subst}
+use Rattle.std.proofs.Common.{◌∷◌, subst}
 use Rattle.roam_terminals.specs.Sharing.{AreEachBehind}
 use Rattle.roam_terminals.proofs.Behind.{behind_kept, each_cons, each_head, each_tail}
 use Rattle.roam_terminals.proofs.sharing.+hear_all.Goals as goal

@@ -1,4 +1,4 @@
-use Rattle.std.proofs.Common.{◌≡◌, ◌∷◌, rules, arith, sym, subst}
+use Rattle.std.proofs.Common.{◌∷◌, rules, arith, subst}
 use Rattle.roam_terminals.specs.Sharing.{AreEachBehind}
 use Rattle.roam_terminals.proofs.Behind.{behind_later, each_cons, each_later, each_tail}
 use Rattle.roam_terminals.proofs.sharing.+turn_all.Goals as goal

@@ -1,4 +1,4 @@
-use Rattle.std.proofs.Common.{◌≡◌, ◌∷◌, sym, subst}
+use Rattle.std.proofs.Common.{◌∷◌, sym, subst}
 use Rattle.roam_terminals.specs.Sharing.{AreEachBehind}
 use Rattle.roam_turns.specs.Painting.{IsBehind}
 use Rattle.roam_terminals.proofs.Behind.{behind_kept, each_cons, each_head, each_tail}

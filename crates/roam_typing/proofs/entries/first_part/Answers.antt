@@ -1,5 +1,4 @@
-use Rattle.std.proofs.Common.{◌∷◌, arith, sym, ap, ◌∙◌}
-use Rattle.roam_typing.specs.Entries.{parts_of}
+use Rattle.std.proofs.Common.{arith}
 use Rattle.roam_typing.proofs.Parting.{cut, no_cut, uncut}
 use Rattle.roam_typing.proofs.entries.first_part.Goals as goal
 

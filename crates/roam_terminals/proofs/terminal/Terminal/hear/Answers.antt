@@ -1,4 +1,4 @@
-use Rattle.std.proofs.Common.{◌≡◌, rules, refl, sym, ap, subst}
+use Rattle.std.proofs.Common.{rules, sym, subst}
 use Rattle.std.specs.Prelude.{◌≢◌}
 use Rattle.roam_terminals.specs.Terminals.{Hears, Reads}
 use Rattle.roam_terminals.specs.declared.terminal.State.TheVariants.{Gone}

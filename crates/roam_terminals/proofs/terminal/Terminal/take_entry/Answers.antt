@@ -1,4 +1,4 @@
-use Rattle.std.proofs.Common.{◌≡◌, refl, sym, ap, ◌∙◌, subst}
+use Rattle.std.proofs.Common.{◌≡◌, sym, ap, ◌∙◌, subst}
 use Rattle.roam_typing.specs.Entries.{acts_in}
 use Rattle.roam_terminals.specs.Lines.{IsFirst}
 use Rattle.roam_terminals.specs.Terminals.{TypesLine, watches_after}
@@ -30,6 +30,16 @@ returns-in-Watch-clause-takes g c =
     word_takes c.args.entry.now c.args.self.now.lines.kept c.took-in-Watch.new.self.kept c.args.self.now.watches _
     c.args.client.now (ap acts_in c.in-Watch.is) (sym (ap (λ e. watches_after e c.args.self.now.watches) c.in-Watch.is))
     says.0 says.1 says.2 says.3 (c.took-in-Watch.ensures.took says.0 says.1 says.2)
+
+pub returns-in-Guess-clause-takes : goal.returns-in-Guess-clause-takes
+returns-in-Guess-clause-takes g c =
+    let says = c.requires.says in
+    let watches : c.set_guessing.new.self.watches ≡ c.args.self.now.watches = ap (λ t. t.watches) c.set_guessing.ensures.others in
+    let kept : c.set_guessing.new.self.lines.kept ≡ c.args.self.now.lines.kept = ap (λ t. t.lines.kept) c.set_guessing.ensures.others in
+    word_takes c.args.entry.now c.args.self.now.lines.kept c.took-in-Guess.new.self.kept c.args.self.now.watches
+    c.set_guessing.new.self.watches c.args.client.now (ap acts_in c.in-Guess.is)
+    (watches ∙ sym (ap (λ e. watches_after e c.args.self.now.watches) c.in-Guess.is)) says.0 says.1 says.2 says.3
+    (c.took-in-Guess.ensures.took says.0 says.1 (subst (λ l. IsFirst l says.0 says.1) (sym kept) says.2))
 
 pub returns-then-self-clause-takes : goal.returns-then-self-clause-takes
 returns-then-self-clause-takes g c =

@@ -1,0 +1,253 @@
+//! What is guessed is laid over the screen that is noted of an outer terminal, and taken back before another is painted.
+ghost use Rattle.std.specs.Prelude.{◌≡◌, ◌⊎◌, ◌++◌, ◌≤◌, [], Option, true, false, None, Some, IfSome, IfOk, OnOk, OnErr, IsOkUnless};
+ghost use Rattle.roam_screens.specs.Screenshot.{Screenshot};
+ghost use Rattle.roam_terminals.specs.Overlaid.{IsBack, IsForth, IsOver, IsSize, Lays, TakesBack, on_show};
+ghost use Rattle.roam_terminals.specs.Sharing.{Turns};
+ghost use Rattle.roam_turns.specs.Painting.{Follows, IsBehind, Led};
+ghost use Rattle.roam_turns.specs.declared.outer.Noted.{Noted as NotedOf};
+
+use crate::painter::Painter;
+use crate::silence::Silence;
+use crate::terminal::Terminal;
+use roam_cells::{Fault, are_same_cells};
+use roam_frames::Outbox;
+use roam_hub::{Addr, Client};
+use roam_paint::laws::painted_leads_over;
+use roam_paint::paint;
+use roam_screens::{RowShot, Seen, Shown};
+use roam_turns::{Outer, Ports};
+use std::alloc::Global;
+use std::io::{Read, Write};
+
+/// After so many seconds of silence nothing is shown over a screen: the silence is told.
+const SILENT: u64 = 10;
+
+/// What stood over the screen that is noted, and the text that takes it back.
+#[derive(Drop)]
+pub(crate) struct Taken {
+    pub(crate) over: RowShot,
+    pub(crate) text: Vec<u8>,
+}
+
+// Whether one screen has the size of another.
+fn is_size<O: Seen, N: Seen>(one: &O, other: &N) -> bool
+    ensures size { result ≡ true → IsSize (O.screen one.now) (N.screen other.now) }
+{
+    one.rows() == other.rows() && one.cols() == other.cols()
+}
+
+// Whether the rows of two screens of one size are the same.
+fn are_same_rows(one: &RowShot, other: &RowShot) -> bool
+    requires size { IsSize one.now other.now }
+    ensures same { result ≡ true → one.now.cells ≡ other.now.cells }
+{
+    one.facts();
+    other.facts();
+    for row in 0..one.rows() {
+        if !are_same_cells(one.row(row), other.row(row)) {
+            return false;
+        }
+    }
+    true
+}
+
+// Whether two screens are the same.
+fn is_same(one: &RowShot, other: &RowShot) -> bool
+    ensures same { result ≡ true → one.now ≡ other.now }
+{
+    is_size(one, other)
+        && one.cursor() == other.cursor()
+        && one.visible() == other.visible()
+        && are_same_rows(one, other)
+}
+
+// The text that takes back what stands over the screen that is noted; none where that has another size, or there is no memory.
+fn text_back(alloc: Global, over: &RowShot, outer: &Outer) -> Option<Vec<u8>>
+    ensures back { IfSome result (λ text. IsBack over.now outer.now text.items) }
+{
+    let (_, screen) = outer.noted()?;
+    if !is_size(over, &screen) {
+        return None;
+    }
+    screen.facts();
+    let mut text = Vec::new(alloc);
+    paint(over, &screen, &mut text).ok()?;
+    Some(text)
+}
+
+// The text that lays a screen over the one that is noted; none where that has another size, or there is no memory.
+fn text_forth(alloc: Global, outer: &Outer, over: &RowShot) -> Option<Vec<u8>>
+    ensures forth { IfSome result (λ text. IsForth outer.now over.now text.items) }
+{
+    let (_, screen) = outer.noted()?;
+    if !is_size(over, &screen) {
+        return None;
+    }
+    over.facts();
+    let mut text = Vec::new(alloc);
+    paint(&screen, over, &mut text).ok()?;
+    Some(text)
+}
+
+// What stands over the screen that is noted, with the text that takes it back.
+fn taken_of(alloc: Global, over: RowShot, outer: &Outer) -> Option<Taken>
+    ensures back { IfSome result (λ taken. (taken.over ≡ over) × IsBack over outer.now taken.text.items) }
+{
+    let text = text_back(alloc, &over, outer)?;
+    Some(Taken { over, text })
+}
+
+// Puts a text before what waits, where there is memory for it.
+fn put_before(alloc: Global, waiting: &mut Outbox, text: &[u8]) -> bool
+    ensures put { result ≡ true → waiting.new ≡ text.now ++ waiting.old }
+{
+    let mut both = Outbox::new(alloc);
+    if both.push(text).is_err() || both.push(waiting.as_slice()).is_err() {
+        return false;
+    }
+    std::mem::swap(waiting, &mut both);
+    true
+}
+
+// Lays a screen over the one that is noted, behind what waits, where one is wanted and there is memory for it.
+fn put_forth(
+    alloc: Global,
+    waiting: &mut Outbox,
+    outer: &Outer,
+    wanted: Option<RowShot>,
+) -> Option<RowShot>
+    ensures lays { Lays outer.now wanted result waiting.old waiting.new }
+{
+    let over = wanted?;
+    let text = text_forth(alloc, outer, &over)?;
+    waiting.push(&text).ok()?;
+    Some(over)
+}
+
+// Whether nothing waits, and what is to stand over the screen that is noted stands there.
+fn is_there(waiting: &Outbox, taken: &Taken, over: &Option<RowShot>) -> bool
+    ensures none { result ≡ true → waiting.now ≡ [] }
+    ensures there { result ≡ true → over.now ≡ Some taken.now.over }
+{
+    match over {
+        None => false,
+        Some(over) => waiting.len() == 0 && is_same(over, &taken.over),
+    }
+}
+
+impl<S: Read + Write + Drop> Terminal<S> {
+    // Takes back what stands over the screen that is noted: the text for it stands first in the next entry. Where there is no memory for
+    // it nothing is noted any more.
+    pub(crate) fn take_back(&mut self, alloc: Global) -> Option<Taken>
+        ensures taken { TakesBack self.old.over self.old.outer self.new.outer result }
+        ensures others { self.new ≡ record self.old { over = None; outer = self.new.outer } }
+    {
+        let over = self.over.take()?;
+        match taken_of(alloc, over, &self.outer) {
+            Some(taken) => Some(taken),
+            None => {
+                self.forget();
+                None
+            }
+        }
+    }
+
+    // The guesses are judged by the screen that is noted.
+    fn judge(&mut self, alloc: Global, client: &Client, now: u64)
+        ensures others { self.new ≡ record self.old { guessing = self.new.guessing } }
+    {
+        if let Some(overlay) = &mut self.guessing
+            && let Some((number, Shown::New(screen))) = self.outer.noted()
+        {
+            overlay.judge(alloc, number, screen, client.acknowledged(), now);
+        }
+    }
+
+    // What is to stand over the screen that is noted.
+    fn wanted(&self, alloc: Global, silence: Silence) -> Option<RowShot>
+        ensures over { IsOver self.now.guessing self.now.outer result }
+    {
+        if silence.seconds() >= SILENT {
+            return None;
+        }
+        let overlay = self.guessing.as_ref()?;
+        match self.outer.noted() {
+            Some((_, Shown::New(screen))) => overlay.over(alloc, screen, silence.moment()),
+            _ => None,
+        }
+    }
+
+    // Lays a screen over the one that is noted, behind what waits.
+    fn lay_over(&mut self, alloc: Global, wanted: Option<RowShot>)
+        ensures lays { Lays self.old.outer wanted self.new.over self.old.waiting self.new.waiting }
+        ensures others { self.new ≡ record self.old { over = self.new.over; waiting = self.new.waiting } }
+    {
+        self.over = put_forth(alloc, &mut self.waiting, &self.outer, wanted);
+    }
+
+    // The same where another one stood over the one that was noted before: the text that takes it back stands first. Where nothing
+    // changed nothing waits; where there is no memory for that text nothing is noted any more.
+    fn lay_again(&mut self, alloc: Global, wanted: Option<RowShot>, taken: Taken)
+        requires bare { self.old.over ≡ None }
+        ensures led { (over : Screenshot) (outer : Option NotedOf) → taken.over ≡ over → IsBack over outer taken.text.items
+            → Led outer (Some []) self.old.outer (Some self.old.waiting)
+            → Led (on_show (Some over) outer) (Some []) (on_show self.new.over self.new.outer) (Some self.new.waiting) }
+        ensures over { IsOver self.old.guessing self.old.outer wanted → IsOver self.old.guessing self.new.outer self.new.over }
+        ensures outer { (self.new.outer ≡ self.old.outer) ⊎ (self.new.outer ≡ None) }
+        ensures others { self.new ≡ record self.old { over = self.new.over; outer = self.new.outer; waiting = self.new.waiting } }
+    {
+        painted_leads_over();
+        if is_there(&self.waiting, &taken, &wanted) {
+            self.over = Some(taken.over);
+            return;
+        }
+        if !put_before(alloc, &mut self.waiting, &taken.text) {
+            self.forget();
+            self.waiting.clear();
+            return;
+        }
+        self.lay_over(alloc, wanted);
+    }
+
+    // Lays a screen over the one that is noted, behind what waits and what takes back the one that stood there.
+    fn lay(&mut self, alloc: Global, wanted: Option<RowShot>, taken: Option<Taken>)
+        requires bare { self.old.over ≡ None }
+        ensures led { (over : Option Screenshot) (outer mid : Option NotedOf) → TakesBack over outer mid taken
+            → Led mid (Some []) self.old.outer (Some self.old.waiting)
+            → Led (on_show over outer) (Some []) (on_show self.new.over self.new.outer) (Some self.new.waiting) }
+        ensures over { IsOver self.old.guessing self.old.outer wanted → IsOver self.old.guessing self.new.outer self.new.over }
+        ensures outer { (self.new.outer ≡ self.old.outer) ⊎ (self.new.outer ≡ None) }
+        ensures others { self.new ≡ record self.old { over = self.new.over; outer = self.new.outer; waiting = self.new.waiting } }
+    {
+        painted_leads_over();
+        match taken {
+            Some(taken) => self.lay_again(alloc, wanted, taken),
+            None => self.lay_over(alloc, wanted),
+        }
+    }
+
+    /// Takes a turn of the start with it: what stands over the screen that is noted is taken back first, and what is guessed is laid over
+    /// the one that is noted then. All of it waits to be written, whole.
+    pub(crate) fn turn_over<P: Ports + Drop>(
+        &mut self,
+        alloc: Global,
+        client: &mut Client,
+        painter: &mut Painter<P>,
+        to: Addr,
+    )
+        requires ready { (self.old.waiting ≡ []) × (painter.old.painting ≡ []) }
+        requires behind { IsBehind self.old.outer client.old.receiver.newest.number client.old.receiver.newest.state }
+        ensures turns { Turns to self.old self.new client.old client.new }
+        ensures follows { Follows client.old.receiver.newest.number client.old.receiver.newest.state
+            client.new.receiver.newest.number client.new.receiver.newest.state }
+        ensures behind { IsBehind self.new.outer client.new.receiver.newest.number client.new.receiver.newest.state }
+        ensures painted { painter.new.painting ≡ [] }
+    {
+        let taken = self.take_back(alloc);
+        self.turn(alloc, client, painter, to);
+        let silence = painter.silence();
+        self.judge(alloc, client, silence.moment());
+        let wanted = self.wanted(alloc, silence);
+        self.lay(alloc, wanted, taken);
+    }
+}
