@@ -1,6 +1,6 @@
 -- A client start with its outer terminals, and a round of it: each is heard, and then each that is ready takes a turn.
 use Rattle.std.specs.Prelude.{◌≡◌, ◌⊎◌, ℕ, Bool, false, List, [], ◌∷◌, Option, Some, None}
-use Rattle.std.specs.List.{All}
+use Rattle.std.specs.List.{All, Contains}
 use Rattle.roam_hub.specs.Clients.{ClientView}
 use Rattle.roam_hub.specs.declared.addresses.Addr.{Addr}
 use Rattle.roam_screens.specs.Screenshot.{Screenshot}
@@ -74,10 +74,24 @@ TurnsAlone to client client' =
     (outer outer' : Option Noted) × Makes client_step
     (AttachTurn client'.receiver.newest.number client'.receiver.newest.state outer outer' to None false) None None None None client client'
 
--- A round: all terminals are heard first, and so what they typed stands in one instruction; then turns are taken.
+-- A terminal was told of a silence or not, and some of what waited for it was written: what is noted of it stays, or nothing is; and nothing
+-- is where what is told there of silence is another than it was, as where it is over.
+pub record Settles {S : Type 0} (old new : Terminal S) : Type 0 where
+  pub noted : (new.outer ≡ old.outer) ⊎ (new.outer ≡ None)
+  pub told : (new.told ≡ old.told) ⊎ (new.outer ≡ None)
+  pub lines : new.lines ≡ old.lines
+  pub watches : new.watches ≡ old.watches
+
+-- each of those that are left was there, and settled so
+abbrev pub AreSettled : {S : Type 0} → List (Terminal S) → List (Terminal S) → Type 0
+AreSettled {S} olds news = All (λ (new : Terminal S). (old : Terminal S) × Contains olds old × Settles old new) news
+
+-- A round: all terminals are heard first, and so what they typed stands in one instruction; then turns are taken; and then
+-- each is told of a silence or not.
 pub record Rounds {S : Type 0} (remaining : S → Option (List ℕ)) (to : Addr) (old new : Shared S) : Type 0 where
   pub heard : List (Terminal S)
   pub turned : List (Terminal S)
   pub client : ClientView
   pub hears : HearsAll remaining old.all heard old.client client
   pub turns : TurnsAll to heard turned client new.client ⊎ ((turned ≡ heard) × TurnsAlone to client new.client)
+  pub settled : AreSettled turned new.all

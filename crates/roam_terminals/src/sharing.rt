@@ -1,7 +1,7 @@
 //! A client start that stays while outer terminals come and go, one after the other.
-ghost use Rattle.std.specs.Prelude.{◌≡◌, ◌⊎◌, ◌<◌, ◌++◌, ◌∷◌, [], true, false, length, ℕ, None, OnOk, OnErr, IfErr};
+ghost use Rattle.std.specs.Prelude.{◌≡◌, ◌⊎◌, ◌<◌, ◌++◌, ◌∷◌, [], true, false, length, ℕ, List, None, OnOk, OnErr, IfErr};
 ghost use Rattle.roam_screens.specs.Screenshot.{Screenshot};
-ghost use Rattle.roam_terminals.specs.Sharing.{AreEachBehind, HearsAll, Rounds, Turns, TurnsAll, TurnsAlone, most_terminals};
+ghost use Rattle.roam_terminals.specs.Sharing.{AreEachBehind, AreSettled, HearsAll, Rounds, Turns, TurnsAll, TurnsAlone, most_terminals};
 ghost use Rattle.roam_terminals.specs.declared.terminal.Terminal.{Terminal as TerminalOf};
 ghost use Rattle.roam_turns.specs.Painting.{Follows};
 
@@ -103,6 +103,7 @@ fn turn_all<S: Read + Write + Drop, P: Ports + Drop>(
 // Tells each terminal of a silence, and writes what waits for it.
 fn write_all<S: Read + Write + Drop>(alloc: Global, all: &mut [Terminal<S>], silence: Silence)
     ensures len { length all.new ≡ length all.old }
+    ensures settled { AreSettled all.old all.new }
     ensures behind { (n : ℕ) (s : Screenshot) → AreEachBehind all.old n s → AreEachBehind all.new n s }
 {
     let Some((first, others)) = all.split_first_mut() else {
@@ -115,6 +116,7 @@ fn write_all<S: Read + Write + Drop>(alloc: Global, all: &mut [Terminal<S>], sil
 
 // Lets those go that left.
 fn retain<S: Read + Write + Drop>(all: &mut Vec<Terminal<S>>)
+    ensures settled { (olds : List (TerminalOf S)) → AreSettled olds all.old.items → AreSettled olds all.new.items }
     ensures behind { (n : ℕ) (s : Screenshot) → AreEachBehind all.old.items n s → AreEachBehind all.new.items n s }
 {
     all.retain(|terminal| !terminal.is_gone());
@@ -123,6 +125,7 @@ fn retain<S: Read + Write + Drop>(all: &mut Vec<Terminal<S>>)
 // The first terminal is the last from now on.
 fn rotate<S: Drop>(all: &mut [Terminal<S>])
     ensures len { length all.new ≡ length all.old }
+    ensures settled { (olds : List (TerminalOf S)) → AreSettled olds all.old → AreSettled olds all.new }
     ensures behind { (n : ℕ) (s : Screenshot) → AreEachBehind all.old n s → AreEachBehind all.new n s }
 {
     if all.len() > 1 {
@@ -223,6 +226,7 @@ impl<S: Read + Write + Drop> SharedStart<S> {
     // Tells each terminal of a silence, writes what waits for it, and lets those go that left.
     fn write(&mut self, alloc: Global, silence: Silence)
         ensures client { self.new.client ≡ self.old.client }
+        ensures settled { AreSettled self.old.all self.new.all }
     {
         write_all(alloc, &mut self.all, silence);
         retain(&mut self.all);

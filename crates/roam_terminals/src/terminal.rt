@@ -485,6 +485,7 @@ impl<S: Read + Write + Drop> Terminal<S> {
     fn write_waiting(&mut self) -> bool
         ensures writes { Writes (S.contents self.old.stream) (S.contents self.new.stream) self.old.waiting self.new.waiting }
         ensures outer { self.new.outer ≡ self.old.outer }
+        ensures told { self.new.told ≡ self.old.told }
         ensures lines { (self.new.lines ≡ self.old.lines) × (self.new.watches ≡ self.old.watches) }
     {
         let mut has_taken = false;
@@ -501,6 +502,7 @@ impl<S: Read + Write + Drop> Terminal<S> {
     pub(crate) fn flush(&mut self, now: u64)
         ensures writes { Writes (S.contents self.old.stream) (S.contents self.new.stream) self.old.waiting self.new.waiting }
         ensures outer { self.new.outer ≡ self.old.outer }
+        ensures told { self.new.told ≡ self.old.told }
         ensures lines { (self.new.lines ≡ self.old.lines) × (self.new.watches ≡ self.old.watches) }
     {
         let has_taken = self.write_waiting();

@@ -1,5 +1,5 @@
 use Rattle.std.proofs.Common.{length, rules, sym, subst, ap, ◌∙◌}
-use Rattle.roam_terminals.specs.Sharing.{AreEachBehind}
+use Rattle.roam_terminals.specs.Sharing.{AreEachBehind, AreSettled}
 use Rattle.roam_terminals.proofs.Behind.{whole_back}
 use Rattle.roam_terminals.proofs.sharing.SharedStart.write.Goals as goal
 
@@ -18,3 +18,15 @@ invariant_of-self g c =
       each = subst (λ l. AreEachBehind l r.number r.state) (sym again) third;
       alone = c.self.invariant.alone;
     }
+
+pub returns-clause-settled : goal.returns-clause-settled
+returns-clause-settled g c =
+    let olds = c.self.inside.all.items in
+    let first = subst (λ l. AreSettled l c.write_all.new.all) c.deref_mut.ensures.value c.write_all.ensures.settled in
+    let back = whole_back c.self.inside.all.len c.write_all.new.all olds (c.write_all.ensures.len ∙ ap length c.deref_mut.ensures.value)
+    (search rules) in
+    let second = c.retain.ensures.settled olds (subst (λ l. AreSettled olds l) (sym back) first) in
+    let third = c.rotate.ensures.settled olds (subst (λ l. AreSettled olds l) (sym c.deref_mut-2.ensures.value) second) in
+    let again = whole_back c.retain.new.all.len c.rotate.new.all c.retain.new.all.items
+    (c.rotate.ensures.len ∙ ap length c.deref_mut-2.ensures.value) (search rules) in
+    subst (λ v. AreSettled v.all _) c.self.view_is (subst (λ l. AreSettled olds l) (sym again) third)

@@ -8,6 +8,7 @@ pub loop-preserved : goal.loop-preserved
 loop-preserved g c = record {
   watches = cc;
   lines = cc;
+  told = cc;
   outer = cc;
   writes = writes_more _ _ _ _ _ _ c.loop.invariant.writes c.write_piece.ensures.writes;
 }

@@ -6,6 +6,7 @@ abbrev pub invariant-loop : goal.invariant-loop
 invariant-loop g l = record {
   watches : l.self.watches ≡ l.initial.self.watches;
   lines : l.self.lines ≡ l.initial.self.lines;
+  told : l.self.told ≡ l.initial.self.told;
   outer : l.self.outer ≡ l.initial.self.outer;
   writes : Writes (g.S.Write.contents l.initial.self.stream) (g.S.Write.contents l.self.stream) l.initial.self.waiting l.self.waiting;
 }
