@@ -115,7 +115,7 @@ class Client:
     # ---- the loop
 
     def ready(self):
-        """Waits until something can be read or written, or something is due."""
+        """Waits until something can be read or written, or something is due, and tells what can be read."""
         outer, link = self.display.outer, self.link
         sources = [self.wakeup, *([self.server] if self.server else []), *self.shells.sources(), *self.bells.sources()]
         targets = [outer.end] if outer.waiting else []
@@ -125,12 +125,11 @@ class Client:
             sources += [link] if len(outer.waiting) < PAINTED_LIMIT else []
             targets += [link] if link.waiting else []
         waits = [wait for wait in (self.moments.wait_time(), self.shells.wait_time()) if wait is not None]
-        readable, writable, _ = select.select(sources, targets, [], min(waits, default=None))
-        return readable, writable
+        return select.select(sources, targets, [], min(waits, default=None))[0]
 
     def turn(self):
         """Does what can be done now."""
-        readable, writable = self.ready()
+        readable = self.ready()
         outer = self.display.outer
         if self.server in readable:
             self.leave(*self.place.ending())
@@ -141,23 +140,24 @@ class Client:
             if piece == b"":
                 self.leave("", 1)
             self.commands.fed(piece or b"")
-        self.carry(readable, writable)
+        self.carry(readable)
         said = self.shells.turn(readable) if self.left is None else ""
         if said:
             self.display.tell(said, LOSS_TOLD)
         for pane in self.bells.rung(readable):
             self.commands.ring(pane)
-        if outer.end in writable and not write(outer.end, outer.waiting):
+        # What is at hand goes at once, where it is taken: a person waits for each key.
+        if outer.waiting and not write(outer.end, outer.waiting):
             self.leave("", 1)
         self.moments.do_due()
 
-    def carry(self, readable, writable):
+    def carry(self, readable):
         """Carries what goes between the start and the terminal."""
         link = self.link
         piece = link.painted() if link in readable else None
         if piece:
             self.display.painted(SILENCE.sub(rb"\1; %s d leaves\2" % self.commands.prefix.encode(), piece))
-        if piece == b"" or link in writable and not link.send():
+        if piece == b"" or link.peer and link.waiting and not link.send():
             self.lost()
 
     def run(self):
