@@ -8,7 +8,7 @@ use Rattle.std.proofs.lemmas.List.Elements.{All-cons, All-head, All-tail, All-we
 use Rattle.roam_screens.specs.Screenshot.{Screenshot}
 use Rattle.roam_turns.specs.Painting.{Follows, IsBehind}
 use Rattle.roam_turns.specs.declared.outer.Noted.{Noted}
-use Rattle.roam_terminals.specs.Sharing.{AreEachBehind}
+use Rattle.roam_terminals.specs.Sharing.{AreEachBehind, AreSettled, Settles}
 use Rattle.roam_terminals.specs.declared.terminal.Terminal.{Terminal}
 
 follows_both : (n n' n'' : ℕ) (s s' s'' : Screenshot) → Follows n s n' s' → Follows n' s' n'' s'' → Follows n s n'' s''

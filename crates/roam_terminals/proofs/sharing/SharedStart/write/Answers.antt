@@ -1,4 +1,4 @@
-use Rattle.std.proofs.Common.{length, rules, sym, subst, ap, ◌∙◌}
+use Rattle.std.proofs.Common.{◌++◌, drop, length, take, rules, sym, subst, ap, ◌∙◌}
 use Rattle.roam_terminals.specs.Sharing.{AreEachBehind, AreSettled}
 use Rattle.roam_terminals.proofs.Behind.{whole_back}
 use Rattle.roam_terminals.proofs.sharing.SharedStart.write.Goals as goal
@@ -29,4 +29,5 @@ returns-clause-settled g c =
     let third = c.rotate.ensures.settled olds (subst (λ l. AreSettled olds l) (sym c.deref_mut-2.ensures.value) second) in
     let again = whole_back c.retain.new.all.len c.rotate.new.all c.retain.new.all.items
     (c.rotate.ensures.len ∙ ap length c.deref_mut-2.ensures.value) (search rules) in
-    subst (λ v. AreSettled v.all _) c.self.view_is (subst (λ l. AreSettled olds l) (sym again) third)
+    subst (λ l. AreSettled l (take c.retain.new.all.len (c.rotate.new.all ++ drop (length c.rotate.new.all) c.retain.new.all.items)))
+    (ap (λ v. v.all) c.self.view_is) (subst (λ l. AreSettled olds l) (sym again) third)
