@@ -19,9 +19,6 @@ use roam_turns::{Outer, Ports};
 use std::alloc::Global;
 use std::io::{Read, Write};
 
-/// After so many seconds of silence nothing is shown over a screen: the silence is told.
-const SILENT: u64 = 10;
-
 /// What stood over the screen that is noted, and the text that takes it back.
 #[derive(Drop)]
 pub(crate) struct Taken {
@@ -163,11 +160,11 @@ impl<S: Read + Write + Drop> Terminal<S> {
         }
     }
 
-    // What is to stand over the screen that is noted.
+    // What is to stand over the screen that is noted: nothing in a silence, which is told.
     fn wanted(&self, alloc: Global, silence: Silence) -> Option<RowShot>
         ensures over { IsOver self.now.guessing self.now.outer result }
     {
-        if silence.seconds() >= SILENT {
+        if silence.is_long() {
             return None;
         }
         let overlay = self.guessing.as_ref()?;

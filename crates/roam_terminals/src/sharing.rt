@@ -201,11 +201,11 @@ impl<S: Read + Write + Drop> SharedStart<S> {
         self.all.iter().any(|terminal| terminal.is_waiting())
     }
 
-    // How many milliseconds may be waited at most, where it is no longer than a wait.
-    fn wait_for(&self, wait: u64) -> u64 {
+    // How many milliseconds may be waited at most, where it is no longer than a wait. In a silence no guess is shown.
+    fn wait_for(&self, wait: u64, silence: Silence) -> u64 {
         if self.is_waiting() {
             wait.min(LATER)
-        } else if self.all.iter().any(|terminal| terminal.is_guessing()) {
+        } else if !silence.is_long() && self.all.iter().any(|terminal| terminal.is_guessing()) {
             wait.min(GUESSED)
         } else {
             wait
@@ -252,7 +252,7 @@ impl<S: Read + Write + Drop> SharedStart<S> {
         if was_flooded && !self.is_waiting() {
             0
         } else {
-            self.wait_for(wait)
+            self.wait_for(wait, painter.silence())
         }
     }
 }

@@ -1,5 +1,5 @@
 //! What a client start knows of its server without asking: for how long it heard nothing, and what the outer terminal says of that.
-ghost use Rattle.std.specs.Prelude.{◌≡◌, ◌↔◌, ◌≤◌, ◌-◌, Some, None, is_some, IsTrue, IfOk, IsOkUnless};
+ghost use Rattle.std.specs.Prelude.{◌≡◌, ◌↔◌, ◌≤◌, ◌-◌, Some, None, is_some, nat_le, IsTrue, IfOk, IsOkUnless};
 ghost use Rattle.roam_terminals.specs.Silence.{seconds_of, due_of, is_over, end_of, notice_of, wait_of};
 
 use roam_cells::Fault;
@@ -112,6 +112,13 @@ impl Silence {
             Some(moment) => moment,
         };
         self.moment.saturating_sub(heard) / 1000
+    }
+
+    /// Whether nothing was heard for ten seconds or more.
+    pub(crate) fn is_long(&self) -> bool
+        ensures long { result ≡ nat_le 10 (seconds_of self.now) }
+    {
+        self.seconds() >= LONG
     }
 
     /// What is to be told: a silence of ten seconds and more, each second once.
