@@ -13,7 +13,7 @@ returns c =
       | in-Some-read_close+in-Gone w ↦ subst (λ f. Replies c.read_line.new.self f) (sym w.self-is) (none_said _ _ refl refl)
       | in-Some-read_close+in-LastPane w ↦ subst (λ f. Replies c.read_line.new.self f) (sym w.self-is) w.say-in-LastPane.ensures.replies
       | in-Some-read_close+in-Acts+then-is_err w ↦ subst (λ f. Replies c.read_line.new.self f) (sym w.self-is)
-      w.say-then-is_err.ensures.replies
+          w.say-then-is_err.ensures.replies
       | in-Some-read_close+in-Acts+else-is_err w ↦ subst (λ f. Replies c.read_line.new.self f) (sym w.self-is) (none_said _ _ refl refl)
     ] in
     record { replies = both_said _ _ _ (both_said _ _ _ read mid) (none_said c.match-read_close.self _ refl refl) }

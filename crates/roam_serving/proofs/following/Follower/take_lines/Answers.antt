@@ -9,7 +9,7 @@ returns-then-not-is_free c = record {
   replies = elim c.then-not-is_free.branch [
     | then-not-is_free-via-then-not-is_free w ↦ subst (λ f. Replies c.args.self.now f) (sym w.self-is) c.loop.invariant
     | then-not-is_free-via-else-not-is_free+then-not-take_line w ↦ subst (λ f. Replies c.args.self.now f) (sym w.self-is)
-    (both_said _ _ _ c.loop.invariant w.take_line.ensures.replies)
+        (both_said _ _ _ c.loop.invariant w.take_line.ensures.replies)
   ];
 }
 
