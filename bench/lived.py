@@ -20,8 +20,8 @@ from latency import LETTERS, drained, key_sides, until
 
 MARK = "LIVED_SIDE"
 
-# Shows a Z, of which neither this command nor what runs before it has one.
-DONE = rb"printf '\132\n'"
+# Show a letter each, of which no other command and nothing that they show has one.
+DONE = {b"Z": rb"printf '\132\n'", b"X": rb"printf '\130\n'", b"J": rb"printf '\112\n'"}
 LIMIT = 60.0
 TICK = os.sysconf("SC_CLK_TCK")
 PASTED = 20000
@@ -94,17 +94,17 @@ def echo_time(side, count):
 
 def paste(side):
     """Pastes lines to wc, which has to count them all."""
-    os.write(side, b"stty -echo; wc -c; stty echo; " + DONE + b"\r")
+    os.write(side, b"stty -echo; wc -c; stty echo; " + DONE[b"Z"] + b"\r")
     time.sleep(0.5)
     line = b"a line of text that is pasted, of fifty bytes, yes.\r"[-50:]
     seen = write_all(side, line * (PASTED // 50) + b"\x04")
     wait_for(side, b"Z", seen)
 
 
-def run(side, command):
+def run(side, command, letter):
     """Runs a command of the shell to its end."""
-    os.write(side, command.encode() + b"; " + DONE + b"\r")
-    wait_for(side, b"Z")
+    os.write(side, command.encode() + b"; " + DONE[letter] + b"\r")
+    wait_for(side, letter)
 
 
 def timed(folder, do):
@@ -129,7 +129,8 @@ def main():
             marked = os.path.join(folder, name)
             drained(side)
             tried = [timed(marked, lambda: paste(side))]
-            tried += [timed(marked, lambda command=command: run(side, command)) for command in ("seq 1 2000000", f"cat {large}")]
+            for command, letter in (("seq 1 2000000", b"X"), (f"cat {large}", b"J")):
+                tried.append(timed(marked, lambda command=command, letter=letter: run(side, command, letter)))
             told = " ".join(f"{clock:7.2f} {spent:7.2f}" for clock, spent in tried)
             print(f"{name:<8} {echo_time(side, count):8.2f} {told}", flush=True)
 
