@@ -180,7 +180,7 @@ def pane_sides(stack, program, folder):
 
 
 def key_sides(stack, program, folder, known=lambda name: {}):
-    """How a person types, and where it is shown; what each side's processes find in their environment is told by its name."""
+    """How a person types, and where it is shown; what the processes of each side find in their environment, by its name."""
     masters = {"roam": stack.enter_context(roam_keys(program, folder, **known("roam")))}
     if shutil.which("tmux"):
         masters["tmux"] = stack.enter_context(tmux(folder, "exec sh", "tmux_keys", **known("tmux")))
@@ -192,7 +192,8 @@ def key_sides(stack, program, folder, known=lambda name: {}):
 def main():
     program = os.path.abspath(sys.argv[1])
     count = int(sys.argv[2]) if len(sys.argv) > 2 else 1000
-    for title, sides_of, before in (("ms from a pane's program", pane_sides, b"\r"), ("ms from a key, by a shell's echo", key_sides, ERASE)):
+    ways = (("ms from a pane's program", pane_sides, b"\r"), ("ms from a key, by a shell's echo", key_sides, ERASE))
+    for title, sides_of, before in ways:
         with tempfile.TemporaryDirectory() as folder, ExitStack() as stack:
             sides = sides_of(stack, program, folder)
             time.sleep(1)
