@@ -107,6 +107,9 @@ fn list_of(words: &str) -> Option<PaneList> {
 fn is_told(alloc: Global, ports: &mut ServerPorts<&HostRuntime>, words: &str) -> bool {
     match list_of(words) {
         Some(panes) => {
+            // As between the turns of a run that bring nothing: the second waits, and those who came meanwhile are taken.
+            ports.rest(Some(0));
+            ports.rest(Some(0));
             ports.tell_panes(&panes);
             true
         }
