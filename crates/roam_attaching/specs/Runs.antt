@@ -64,7 +64,8 @@ painted_by contents noted ports = record { noted = noted; written = contents por
 -- A client start took such a turn with its outer terminal: what was written leads it from what was noted to what is noted then, and what is
 -- told of silence stays.
 pub record TakesTurn (to : Addr) (turn : Turn) (outer outer' : Painted) (old new : ClientView) : Type 0 where
-  pub makes : Makes client_step (AttachTurn new.receiver.newest.number new.receiver.newest.state outer.noted outer'.noted to turn.next turn.took)
+  pub makes : Makes client_step
+      (AttachTurn new.receiver.newest.number new.receiver.newest.state outer.noted outer'.noted to turn.next turn.took)
       None None None None old new
   pub led : Led outer.noted outer.written outer'.noted outer'.written
   pub notice : outer'.notice ≡ outer.notice

@@ -70,8 +70,8 @@ IsWant (Failed OutOfMemory) = Unit {0}
 IsWant (Stopped OutOfMemory taken) = Unit {0}
 IsWant _ = ⊥
 
--- Memory may be wanting for an event: an act that a start would take; a tick, whose room is made first; a datagram that was sent; a start of
--- an id that wasn't used, of a version that can do what it is to do. Bytes from a pane's program, or to it, take none.
+-- Memory may be wanting for an event: an act that a start would take; a tick, whose room is made first; a datagram that was sent; a start
+-- of an id that wasn't used, of a version that can do what it is to do. Bytes from a pane's program, or to it, take none.
 abbrev pub MayWant : World → Event → Type 0
 MayWant w (PaneBytes pane bytes) = ⊥
 MayWant w (Typed slot act) =

@@ -74,8 +74,8 @@ TurnsAlone to client client' =
     (outer outer' : Option Noted) × Makes client_step
     (AttachTurn client'.receiver.newest.number client'.receiver.newest.state outer outer' to None false) None None None None client client'
 
--- A terminal was told of a silence or not, and some of what waited for it was written: what is noted of it stays, or nothing is; and nothing
--- is where what is told there of silence is another than it was, as where it is over.
+-- A terminal was told of a silence or not, and some of what waited for it was written: what is noted of it stays, or nothing is; and
+-- nothing is where what is told there of silence is another than it was, as where it is over.
 pub record Settles {S : Type 0} (old new : Terminal S) : Type 0 where
   pub noted : (new.outer ≡ old.outer) ⊎ (new.outer ≡ None)
   pub told : (new.told ≡ old.told) ⊎ (new.outer ≡ None)
