@@ -2,11 +2,11 @@
 ghost use Rattle.std.specs.Prelude.{◌↔◌, IsTrue};
 ghost use Rattle.roam_cells.specs.Limits.{IsSize};
 
-/// The fewest rows of a screen.
+/// The least number of rows of a screen.
 pub const LEAST_ROWS: u16 = 2;
 /// The most rows of a screen.
 pub const MOST_ROWS: u16 = 200;
-/// The fewest columns of a screen.
+/// The least number of columns of a screen.
 pub const LEAST_COLUMNS: u16 = 4;
 /// The most columns of a screen.
 pub const MOST_COLUMNS: u16 = 500;

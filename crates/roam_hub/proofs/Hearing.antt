@@ -14,7 +14,7 @@ use Rattle.roam_acts.specs.Senders.{Typing, acked_to, last_number}
 use Rattle.roam_sync.specs.declared.receivers.Step.{Step}
 use Rattle.roam_sync.specs.declared.receivers.Step.TheVariants as step
 use Rattle.roam_sync.specs.Receivers.{Receiving, pairs, state_at, from_floor, step_for}
-use Rattle.roam_sync.specs.Lines.{Delivers}
+use Rattle.roam_sync.specs.Links.{Delivers}
 use Rattle.roam_wire.specs.declared.versions.Version.{Version}
 use Rattle.roam_wire.specs.Datagrams.{DatagramValue, IsDatagram, datagram_text}
 use Rattle.roam_wire.specs.Gatherers.{Gathering, Answer, Whole, gather, fragment_of}

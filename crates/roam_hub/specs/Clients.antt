@@ -10,7 +10,7 @@ use Rattle.roam_acts.specs.Senders.{Typing, HasNoRoom, IsFull, IsShort, IsSpent,
 use Rattle.roam_sync.specs.declared.receivers.Step.{Step}
 use Rattle.roam_sync.specs.declared.receivers.Step.TheVariants as step
 use Rattle.roam_sync.specs.Receivers.{Receiving, pairs, state_at, step_for}
-use Rattle.roam_sync.specs.Lines.{Delivers}
+use Rattle.roam_sync.specs.Links.{Delivers}
 use Rattle.roam_wire.specs.Cutting.{texts_of}
 use Rattle.roam_wire.specs.Datagrams.{DatagramValue, IsDatagram, datagram_text}
 use Rattle.roam_wire.specs.Gatherers.{Gathering}

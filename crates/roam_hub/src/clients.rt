@@ -21,8 +21,7 @@ ghost use Rattle.roam_hub.specs.Clients.{Stands, Types, TypesAll, Delivered, Not
 
 use crate::ends::AnyReceiver;
 use crate::moments::{
-    HEARTBEAT, RESEND_AFTER, answer_from, by_clock, earlier, has_passed, is_overdue, moment_after,
-    owed_after,
+    answer_from, by_clock, earlier, has_passed, is_overdue, moment_after, owed_after,
 };
 use crate::packing::{Heading, packed};
 use crate::records::is_same_version;
@@ -31,6 +30,7 @@ use roam_acts::{Act, ActSender, Key};
 use roam_cells::{Fault, Reason};
 use roam_screens::Shown;
 use roam_sync::Step;
+use roam_sync::limits::{HEARTBEAT, RESEND_AFTER};
 use roam_wire::{
     Datagram, Gathered, Gatherer, Kind, Up, Version, read_datagram, read_down, write_up,
 };

@@ -1,4 +1,4 @@
-//! The two ends of a line of screens, in the version of their start: each call is that of the end of its kind of screens.
+//! The two ends of a link of screens, in the version of their start: each call is that of the end of its kind of screens.
 ghost use Rattle.std.specs.Prelude.{◌≡◌, ◌≢◌, ◌⊎◌, ◌<◌, ◌≤◌, Some, None, Ok, IfOk, IfErr, IfSome, OnOk, OnErr, IsErrOf, IsOkUnless};
 ghost use Rattle.roam_screens.specs.Narrow.{narrow};
 ghost use Rattle.roam_screens.specs.Screenshot.{Screenshot, blank_screenshot};
@@ -10,9 +10,10 @@ ghost use Rattle.roam_hub.specs.Waits.{PassesFrom};
 ghost use Rattle.roam_hub.specs.Ends.{version_of, sending_of, version_in, receiving_in};
 ghost use Rattle.roam_sync.specs.Limits.{most_held};
 
-use crate::moments::{HEARTBEAT, RESEND_AFTER, moment_after};
+use crate::moments::moment_after;
 use roam_cells::Fault;
 use roam_screens::{RowShot, RowShot1, Shown};
+use roam_sync::limits::{HEARTBEAT, RESEND_AFTER};
 use roam_sync::{Instruction, Receiver, Sender, Step};
 use roam_update::Synced;
 use roam_wire::Version;
@@ -32,7 +33,7 @@ pub enum AnyReceiver {
     Two(Receiver<RowShot>),
 }
 
-// The screen that both ends of a line of version 1 begin with.
+// The screen that both ends of a link of version 1 begin with.
 fn first_old(alloc: Global) -> Result<RowShot1, Fault>
     ensures blank { IfOk result (λ shot. shot ≡ blank_screenshot 24 80) }
     ensures fault { IsOkUnless result Fault.OutOfMemory }

@@ -5,6 +5,3 @@ pub(crate) const MOST_EDITING: usize = 64;
 
 /// The most client starts of a session that only watch.
 pub(crate) const MOST_WATCHING: usize = 16;
-
-/// The most states that a sender holds.
-pub(crate) const MOST_HELD: usize = 8;

@@ -9,12 +9,6 @@ pub(crate) const FRAME_INTERVAL: u64 = 20;
 /// An answer that is owed is given after so long.
 const ANSWER_DELAY: u64 = 100;
 
-/// Acts that aren't acknowledged are sent again after so long.
-pub(crate) const RESEND_AFTER: u64 = 250;
-
-/// A start sends something after so long in any case.
-pub(crate) const HEARTBEAT: u64 = 3000;
-
 /// A start from which nothing came for so long is sent nothing.
 const FORGET_AFTER: u64 = 60_000;
 

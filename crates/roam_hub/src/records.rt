@@ -18,7 +18,6 @@ ghost use Rattle.roam_sync.specs.Limits.{most_held};
 
 use crate::addresses::Addr;
 use crate::ends::AnySender;
-use crate::limits::MOST_HELD;
 use crate::moments::{answer_from, earlier, is_heard, is_overdue, owed_after};
 use crate::packing::{Heading, packed};
 use crate::taking::{Taking, take_acts};
@@ -27,6 +26,7 @@ use roam_acts::{Act, ActTaker};
 use roam_cells::{Fault, Reason};
 use roam_screens::{RowShot, RowShot1};
 use roam_session::Session;
+use roam_sync::limits::MOST_HELD;
 use roam_wire::{Datagram, Down, Gathered, Gatherer, Kind, Version, read_up, write_down};
 use std::alloc::Global;
 use std::marker::Model;

@@ -5,7 +5,7 @@ use Rattle.roam_acts.specs.declared.acts.Act.TheVariants.{Key, SplitRight, Split
 use Rattle.roam_cells.specs.declared.faults.Fault.{Fault}
 use Rattle.roam_cells.specs.declared.faults.Fault.TheVariants.{OutOfMemory, BadSize, TooSmall, NoPane, PanesFull, LastPane}
 use Rattle.roam_cells.specs.Limits.{most_rows, most_columns}
-use Rattle.roam_layout.specs.Limits.{fewest_session_rows, fewest_session_columns, most_view}
+use Rattle.roam_layout.specs.Limits.{least_session_rows, least_session_columns, most_view}
 use Rattle.roam_layout.specs.Trees.{Shape, One, leaves, has, is_one, first_leaf, with_split, without_pane, heir, free, AreDistinct, AreNumbers, AreModest}
 use Rattle.roam_layout.specs.Rects.{rects_of, borders, spot, Fits, fits_in, is_roomy, after_growth}
 use Rattle.roam_layout.specs.declared.rects.Way.{Way}
@@ -27,11 +27,11 @@ pub data Outcome : Type 0 where
 
 -- a session's size
 abbrev pub IsSessionSize : ℕ → ℕ → Type 0
-IsSessionSize rows cols = (fewest_session_rows ≤ rows) × (rows ≤ most_rows) × (fewest_session_columns ≤ cols) × (cols ≤ most_columns)
+IsSessionSize rows cols = (least_session_rows ≤ rows) × (rows ≤ most_rows) × (least_session_columns ≤ cols) × (cols ≤ most_columns)
 
 abbrev pub is_session_size : ℕ → ℕ → Bool
 is_session_size rows cols =
-    nat_le fewest_session_rows rows && nat_le rows most_rows && nat_le fewest_session_columns cols && nat_le cols most_columns
+    nat_le least_session_rows rows && nat_le rows most_rows && nat_le least_session_columns cols && nat_le cols most_columns
 
 -- all rows but the last, which has the status text
 abbrev pub area : ℕ → ℕ → Rect

@@ -16,13 +16,13 @@ shape_of (Fork' p way g first second) = Two way g (shape_of first) (shape_of sec
 
 -- ---- the least size
 
--- the fewest rows: 2 for a pane; below one another they add up, with one more for the border
+-- the least number of rows: 2 for a pane; below one another they add up, with one more for the border
 abbrev pub least_rows : Shape → ℕ
 least_rows (One p) = 2
 least_rows (Two Right g a b) = max (least_rows a) (least_rows b)
 least_rows (Two Down g a b) = least_rows a + least_rows b + 1
 
--- the fewest columns: 4 for a pane; beside one another they add up, with one more for the border
+-- the least number of columns: 4 for a pane; beside one another they add up, with one more for the border
 abbrev pub least_cols : Shape → ℕ
 least_cols (One p) = 4
 least_cols (Two Right g a b) = least_cols a + least_cols b + 1

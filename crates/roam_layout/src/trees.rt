@@ -186,7 +186,7 @@ impl Tree {
         Ok(Tree::Fork(Box::new(alloc, split)?))
     }
 
-    /// The fewest rows that it can have.
+    /// The least number of rows that it can have.
     pub fn least_rows(&self) -> u16
         requires limit { least_rows (shape_of self.now) ≤ 500 }
         ensures rows { result ≡ least_rows (shape_of self.now) }
@@ -200,7 +200,7 @@ impl Tree {
         }
     }
 
-    /// The fewest columns that it can have.
+    /// The least number of columns that it can have.
     pub fn least_cols(&self) -> u16
         requires limit { least_cols (shape_of self.now) ≤ 500 }
         ensures cols { result ≡ least_cols (shape_of self.now) }

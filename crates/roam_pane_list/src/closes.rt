@@ -6,6 +6,7 @@ ghost use Rattle.roam_pane_list.specs.Closes.{Acts, IsAlone, IsClose, close_text
 ghost use Rattle.roam_pane_list.specs.Reading.{close_in, first_word, life_and_focus_in, pane_in};
 
 use crate::pane_list::PaneList;
+use roam_acts::limits::PANES_END;
 use roam_numbers::number;
 
 /// What a follower may ask for: a pane, and which making of its number it is, and which pane is to have the focus then.
@@ -115,7 +116,7 @@ fn is_making(list: &PaneList, pane: u8, life: u64) -> bool
 fn is_alone(list: &PaneList, pane: u8) -> bool
     ensures alone { result ≡ true ↔ IsAlone list.now pane }
 {
-    for other in 1..10u8 {
+    for other in 1..PANES_END {
         if other != pane && is_there(list, other) {
             return false;
         }

@@ -4,6 +4,7 @@ ghost use Rattle.roam_pane_list.specs.Known.{is_same};
 ghost use Rattle.roam_pane_list.specs.Lines.{Line, Here, Gone, Focus, Starts, Watchers, line_text, lines_text, lines_for, count_to_tell, lines_of_counts, lines_between};
 
 use crate::pane_list::{ListedPane, PaneList};
+use roam_acts::limits::PANES_END;
 use roam_cells::Fault;
 use std::alloc::Global;
 
@@ -143,7 +144,7 @@ pub fn lines_between(alloc: Global, told: &PaneList, now: &PaneList) -> Result<S
     ensures fault { IsOkUnless result Fault.OutOfMemory }
 {
     let mut text = String::new(alloc);
-    for pane in 1..10u8 {
+    for pane in 1..PANES_END {
         push_pane(alloc, &mut text, pane, told.get(pane), now.get(pane))?;
     }
     if told.focus() != now.focus() {

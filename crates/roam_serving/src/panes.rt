@@ -7,15 +7,13 @@ ghost use Rattle.roam_serving.specs.Peers.{Changes, Lives, Asks};
 use crate::peers::{Making, has_peer, live, read, write};
 use mio::net::UnixListener;
 use mio::{Interest, Registry, Token};
+use roam_acts::limits::{MOST_PANES, PANES_END};
 use roam_cells::Fault;
 use roam_faults::RunFault;
 use roam_links::listen;
 use std::alloc::Global;
 use std::fs::{Files, remove_file};
 use std::net::Net;
-
-/// How many panes there may be.
-const PANES: usize = 9;
 
 /// The socket of a pane, and which making of the pane is there with its peer.
 #[derive(Drop)]
@@ -103,7 +101,7 @@ impl Panes {
         if folder.is_empty() {
             return Err(RunFault::Bind);
         }
-        let Ok(all) = Vec::with_capacity(alloc, PANES) else {
+        let Ok(all) = Vec::with_capacity(alloc, MOST_PANES as usize) else {
             return Err(RunFault::Core(Fault::OutOfMemory));
         };
         let mut panes = Panes { all };
@@ -129,7 +127,7 @@ impl Panes {
         ensures none { OnOk result (All (λ pane. pane.making ≡ None) self.new.all.items) }
         ensures faults { IfErr result (λ fault. (fault ≡ RunFault.Bind) ⊎ (fault ≡ RunFault.Core Fault.OutOfMemory)) }
     {
-        for number in 1..10u8 {
+        for number in 1..PANES_END {
             let pane = Pane::bind(rt, alloc, registry, folder, number)?;
             self.add(pane)?;
         }

@@ -8,6 +8,7 @@ ghost use Rattle.roam_serving.specs.Following.{ArePanesOf, pane_of};
 ghost use Rattle.roam_serving.specs.Runs.{Serves, ServesTurns};
 
 use crate::server_ports::{OwnStart, ServerPorts};
+use roam_acts::limits::PANES_END;
 use roam_cells::Fault;
 use roam_faults::RunFault;
 use roam_hub::Server;
@@ -64,7 +65,7 @@ fn panes_of(server: &Server) -> PaneList
     ensures panes { (s : ServerOf) → Stands server.now s → ArePanesOf s result }
 {
     let mut panes = PaneList::unknown();
-    for pane in 1..10u8 {
+    for pane in 1..PANES_END {
         panes.set(pane, pane_of(server, pane));
     }
     panes.set_focus(server.focus());

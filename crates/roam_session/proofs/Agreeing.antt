@@ -27,14 +27,14 @@ moved_of from to old new pane is of = by_size (is_same_size from to) refl
     by_size true e = subst (λ (t : TermView). IsOf t pane) (sym (is.stays e)) of
     by_size false e =
         let fit = is.fitted e in
-        record { shows = fit.stands pane.rows pane.cols 500 pane.log of.shows; waiting = fit.waiting ∙ of.waiting }
+        record { stands = fit.stands pane.rows pane.cols 500 pane.log of.stands; waiting = fit.waiting ∙ of.waiting }
 
 pub agrees_given : (from to : Option Rect) (old new : Option TermView) (pane : Option Pane) → IsGiven from to old new → Agrees old pane
     → Agrees new (pane_after_act from to pane)
 agrees_given from None old None pane is of = tt
 agrees_given from None old (Some new) pane is of = absurd is
 agrees_given None (Some to) old None pane is of = absurd is
-agrees_given None (Some to) old (Some new) pane is of = record { shows = is.shows; waiting = is.waiting }
+agrees_given None (Some to) old (Some new) pane is of = record { stands = is.stands; waiting = is.waiting }
 agrees_given (Some from) (Some to) None None None is of = tt
 agrees_given (Some from) (Some to) None None (Some pane) is of = absurd of
 agrees_given (Some from) (Some to) None (Some new) pane is of = absurd is
@@ -92,22 +92,22 @@ drop-front (x ∷ xs) ys = drop-front xs ys
 
 pub does_fed : (bytes : List ℕ) (plan : Plan) (p : ℕ) (before after : List Bool) → Does' (IsFed bytes plan p before after) (after_feed bytes)
 does_fed bytes plan p before after old new pane is of =
-    let gains = is.fed.gains pane.rows pane.cols 500 pane.log of.shows in
-    let mid = is.fed.stands pane.rows pane.cols 500 pane.log of.shows in
+    let gains = is.fed.gains pane.rows pane.cols 500 pane.log of.stands in
+    let mid = is.fed.stands pane.rows pane.cols 500 pane.log of.stands in
     let told = reports pane.rows pane.cols 500 pane.log in
     let more : answers pane bytes ≡ gains.more = ap (drop (length told)) gains.answers ∙ drop-front told gains.more in
     subst (λ (t : TermView). IsOf t (after_feed bytes pane)) (sym is.quiet) (record {
-      shows = record { reads = mid.reads; live = mid.live; history = mid.history };
+      stands = record { reads = mid.reads; live = mid.live; history = mid.history };
       waiting = gains.queue ∙ (λ i. of.waiting i ++ sym more i);
     })
 
 pub does_keyed : (key : Key) → Does' (IsKeyed key) (after_key key)
 does_keyed key old new pane is of =
     record {
-      shows = is.keeps.shows pane.rows pane.cols 500 pane.log of.shows;
-      waiting = is.waiting ∙ (λ i. of.waiting i ++ bytes_of_key (key_modes (of.shows.live i).modes) key);
+      stands = is.keeps.stands pane.rows pane.cols 500 pane.log of.stands;
+      waiting = is.waiting ∙ (λ i. of.waiting i ++ bytes_of_key (key_modes (of.stands.live i).modes) key);
     }
 
 pub does_drained : (n : ℕ) → Does' (IsDrained n) (after_drain n)
 does_drained n old new pane is of =
-    record { shows = is.keeps.shows pane.rows pane.cols 500 pane.log of.shows; waiting = is.waiting ∙ ap (drop n) of.waiting }
+    record { stands = is.keeps.stands pane.rows pane.cols 500 pane.log of.stands; waiting = is.waiting ∙ ap (drop n) of.waiting }

@@ -178,7 +178,7 @@ fulls : (key : Key) (t : Option TermView) (pane : Option Pane) → Agrees t pane
 fulls key None None of = refl
 fulls key None (Some p) of = absurd of
 fulls key (Some t) None of = absurd of
-fulls key (Some t) (Some p) of = λ i. fault_if (ltb 65536 (length (of.waiting i) + length (bytes_of_key (key_modes (of.shows.live i).modes) key)))
+fulls key (Some t) (Some p) of = λ i. fault_if (ltb 65536 (length (of.waiting i) + length (bytes_of_key (key_modes (of.stands.live i).modes) key)))
 
 pub stopped_is : (s : SessionView) (act : Act) (key : Key) → key_in act ≡ Some key → (size : SessionSize) (log : List Entry)
     → Stands s size log

@@ -18,7 +18,7 @@ shown_is : (view : ℕ) (o : Option TermView) (p : Option Pane) → Agrees o p �
 shown_is view None None of = refl
 shown_is view None (Some p) of = absurd of
 shown_is view (Some t) None of = absurd of
-shown_is view (Some t) (Some p) of = shows_now t p.rows p.cols 500 p.log view of.shows
+shown_is view (Some t) (Some p) of = shows_now t p.rows p.cols 500 p.log view of.stands
 
 pub face_is_now : (s : SessionView) (size : SessionSize) (log : List Entry) → Stands s size log → face_now s ≡ face size log
 unfolding face

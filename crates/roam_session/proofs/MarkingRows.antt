@@ -23,10 +23,10 @@ named_is : (bytes : List ℕ) (plan : Plan) (p : ℕ) (before after : List Bool)
     → (fed : IsFed bytes plan p before after t u) → IsQuiet t → Agrees (Some t) pane → fed.read.marks ≡ named_by bytes pane
 named_is bytes plan p before after t u None fed quiet of = absurd of
 named_is bytes plan p before after t u (Some pane) fed quiet of =
-    let gains = fed.fed.marks pane.rows pane.cols 500 pane.log of.shows in
+    let gains = fed.fed.marks pane.rows pane.cols 500 pane.log of.stands in
     let told = functions_of pane.log in
     let more : functions_given pane bytes ≡ gains.more = ap (drop (length told)) gains.functions ∙ drop-front told gains.more in
-    gains.marks ∙ ap (marked_through t.live gains.more) quiet.marks ∙ ap (λ l. marked_through l gains.more all_off) of.shows.live
+    gains.marks ∙ ap (marked_through t.live gains.more) quiet.marks ∙ ap (λ l. marked_through l gains.more all_off) of.stands.live
     ∙ ap (λ fs. marked_through (live_of pane) fs all_off) (sym more)
 
 pub marks_fed : (plan : Plan) (ts us : List (Option TermView)) (before after : List Bool) (p : ℕ) (bytes : List ℕ) (size : SessionSize)

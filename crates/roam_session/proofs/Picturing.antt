@@ -63,7 +63,7 @@ sizes_of (Some t) r view placed = placed
 screen_of : (o : Option TermView) (r : Rect) (view : ℕ) → IsPlaced (Some r) o → IsQuietAt o → IsScreenshot (shown_at view o)
 screen_of None r view placed quiet = absurd placed
 screen_of (Some t) r view placed quiet =
-    subst IsScreenshot (sym (shows_now t quiet.rows quiet.cols quiet.lines quiet.log view quiet.shows))
+    subst IsScreenshot (sym (shows_now t quiet.rows quiet.cols quiet.lines quiet.log view quiet.stands))
     (picture_screen quiet.rows quiet.cols quiet.lines quiet.log view quiet.size quiet.sizes).shown
 
 -- ---- all panes

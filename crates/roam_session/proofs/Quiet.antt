@@ -8,7 +8,7 @@ use Rattle.roam_text.specs.Log.{Item, Byte, Resized}
 use Rattle.roam_keys.specs.declared.keys.Key.{Key}
 use Rattle.roam_term.specs.Marks.{marked_through}
 use Rattle.roam_term.specs.Picture.{picture, picture_of}
-use Rattle.roam_term.specs.Stands.{TermView, Shows, Fed}
+use Rattle.roam_term.specs.Stands.{TermView, Stands as TermStands, Fed}
 use Rattle.roam_term.specs.Terminal.{term}
 use Rattle.roam_term.specs.Unmarked.{IsSameRow}
 use Rattle.roam_term.proofs.Showing.{picture_is}
@@ -23,20 +23,20 @@ use Rattle.roam_session.proofs.Screening.{sizes-append, bytes_sizes}
 
 -- ---- what a terminal shows
 
-pub shows_now : (t : TermView) (rows cols lines : ℕ) (log : List Item) (view : ℕ) → Shows t rows cols lines log
+pub shows_now : (t : TermView) (rows cols lines : ℕ) (log : List Item) (view : ℕ) → TermStands t rows cols lines log
     → picture_of t.live t.history view ≡ picture rows cols lines log view
-shows_now t rows cols lines log view shows = picture_is rows cols lines log view t.live t.history shows.live shows.history
+shows_now t rows cols lines log view stands = picture_is rows cols lines log view t.live t.history shows.live shows.history
 
 -- a row that bytes leave without a mark
 pub read_rows : (bytes : List ℕ) (t u : TermView) (k : ℕ) → IsQuiet t → Fed t u bytes → k < u.live.screen.rows
     → is_marked u.marks k ≡ false → IsSameRow k (picture_of t.live t.history 0) (picture_of u.live u.history 0)
 read_rows bytes t u k q fed low off =
     let later = q.log ++ map Byte bytes in
-    let gains = fed.marks q.rows q.cols q.lines q.log q.shows in
-    let before = shows_now t q.rows q.cols q.lines q.log 0 q.shows in
-    let after = shows_now u q.rows q.cols q.lines later 0 (fed.stands q.rows q.cols q.lines q.log q.shows) in
+    let gains = fed.marks q.rows q.cols q.lines q.log q.stands in
+    let before = shows_now t q.rows q.cols q.lines q.log 0 q.stands in
+    let after = shows_now u q.rows q.cols q.lines later 0 (fed.stands q.rows q.cols q.lines q.log q.stands) in
     let marks : u.marks ≡ marked_through (term q.rows q.cols q.lines q.log).live gains.more t.marks =
-    gains.marks ∙ ap (λ l. marked_through l gains.more t.marks) q.shows.live in
+    gains.marks ∙ ap (λ l. marked_through l gains.more t.marks) q.stands.live in
     let same =
     unmarked_rows_stay q.rows q.cols q.lines q.log later gains.more t.marks q.size (sizes-append q.log (map Byte bytes) q.sizes (bytes_sizes bytes))
     gains.functions k
@@ -58,7 +58,7 @@ kept_quiet old new keeps q = record {
   log = q.log;
   size = q.size;
   sizes = q.sizes;
-  shows = keeps.shows q.rows q.cols q.lines q.log q.shows;
+  stands = keeps.stands q.rows q.cols q.lines q.log q.stands;
   marks = keeps.marks ∙ q.marks;
 }
 
@@ -70,7 +70,7 @@ drained_quiet n old new is q = kept_quiet old new is.keeps q
 
 pub fed_quiet : (bytes : List ℕ) (plan : Plan) (p : ℕ) (before after : List Bool) → StaysQuiet (IsFed bytes plan p before after)
 fed_quiet bytes plan p before after old new is q =
-    let mid = is.fed.stands q.rows q.cols q.lines q.log q.shows in
+    let mid = is.fed.stands q.rows q.cols q.lines q.log q.stands in
     subst IsQuiet (sym is.quiet) (record {
       rows = q.rows;
       cols = q.cols;
@@ -78,7 +78,7 @@ fed_quiet bytes plan p before after old new is q =
       log = q.log ++ map Byte bytes;
       size = q.size;
       sizes = sizes-append q.log (map Byte bytes) q.sizes (bytes_sizes bytes);
-      shows = record { reads = mid.reads; live = mid.live; history = mid.history };
+      stands = record { reads = mid.reads; live = mid.live; history = mid.history };
       marks = refl;
     })
 
@@ -116,7 +116,7 @@ moved_quiet from to old new size is q = by_size (is_same_size from to) refl
           log = q.log ++ Resized to.rows to.cols ∷ [];
           size = q.size;
           sizes = sizes-append q.log (Resized to.rows to.cols ∷ []) q.sizes (size, tt);
-          shows = fit.stands q.rows q.cols q.lines q.log q.shows;
+          stands = fit.stands q.rows q.cols q.lines q.log q.stands;
           marks = fit.marks;
         }
 
@@ -132,7 +132,7 @@ quiet_given None (Some to) old (Some new) size is q = record {
   log = [];
   size = size to refl;
   sizes = tt;
-  shows = is.shows;
+  stands = is.stands;
   marks = is.marks;
 }
 quiet_given (Some from) (Some to) None None size is q = tt

@@ -7,7 +7,7 @@ use Rattle.roam_text.specs.Log.{Item}
 use Rattle.roam_keys.specs.declared.keys.Key.{Key}
 use Rattle.roam_keys.specs.Sent.{bytes_of_key}
 use Rattle.roam_term.specs.Keys.{key_modes}
-use Rattle.roam_term.specs.Stands.{TermView, Shows, Fed, HasSize}
+use Rattle.roam_term.specs.Stands.{TermView, Stands as TermStands, Fed, HasSize}
 use Rattle.roam_grid.specs.Marks.{all_off}
 use Rattle.roam_layout.specs.Rects.{rect_in}
 use Rattle.roam_layout.specs.Layouts.{Plan, panes}
@@ -16,7 +16,7 @@ use Rattle.roam_session.specs.Stands.{term_at}
 
 -- a terminal stands for what it stood for, and what lives, the history and the marks are the same
 pub record Keeps (old new : TermView) : Type 0 where
-  pub shows : (rows cols lines : ℕ) (log : List Item) → Shows old rows cols lines log → Shows new rows cols lines log
+  pub stands : (rows cols lines : ℕ) (log : List Item) → TermStands old rows cols lines log → TermStands new rows cols lines log
   pub live : new.live ≡ old.live
   pub history : new.history ≡ old.history
   pub marks : new.marks ≡ old.marks

@@ -9,7 +9,7 @@ use Rattle.roam_grid.specs.Marks.{is_marked, all_off}
 use Rattle.roam_text.specs.Log.{Item}
 use Rattle.roam_term.specs.Picture.{picture_of}
 use Rattle.roam_term.specs.Screens.{AreSizes}
-use Rattle.roam_term.specs.Stands.{TermView, Shows, HasSize}
+use Rattle.roam_term.specs.Stands.{TermView, Stands as TermStands, HasSize}
 use Rattle.roam_layout.specs.Faces.{KeepsRows, face as face_of}
 use Rattle.roam_layout.specs.declared.rects.Rect.{Rect}
 use Rattle.roam_layout.specs.Rects.{rect_in}
@@ -61,7 +61,7 @@ pub record IsQuiet (t : TermView) : Type 0 where
   pub log : List Item
   pub size : IsSize rows cols
   pub sizes : AreSizes log
-  pub shows : Shows t rows cols lines log
+  pub stands : TermStands t rows cols lines log
   pub marks : t.marks ≡ all_off
 
 abbrev pub IsQuietAt : Option TermView → Type 0
@@ -96,7 +96,7 @@ keeping shot s = record s { marks = all_off; kept = shot }
 
 -- a terminal is that of a pane
 pub record IsOf (t : TermView) (p : Pane) : Type 0 where
-  pub shows : Shows t p.rows p.cols pane_lines p.log
+  pub stands : TermStands t p.rows p.cols pane_lines p.log
   pub waiting : t.waiting ≡ p.waiting
 
 -- a terminal stands where a pane stands, and none where none

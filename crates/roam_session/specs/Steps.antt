@@ -4,7 +4,7 @@ use Rattle.roam_term.specs.Limits.{pane_lines}
 use Rattle.roam_cells.specs.Limits.{IsSize}
 use Rattle.roam_grid.specs.Marks.{all_off}
 use Rattle.roam_text.specs.Log.{Item, Resized}
-use Rattle.roam_term.specs.Stands.{TermView, Shows, HasSize}
+use Rattle.roam_term.specs.Stands.{TermView, Stands as TermStands, HasSize}
 use Rattle.roam_layout.specs.declared.rects.Rect.{Rect}
 use Rattle.roam_layout.specs.Rects.{rect_in}
 use Rattle.roam_session.specs.Panes.{is_same_size}
@@ -15,15 +15,15 @@ use Rattle.roam_session.specs.declared.steps.Step.TheVariants.{Keep, End, Begin,
 
 -- a terminal that begins in a rectangle
 pub record IsFresh (t : TermView) (r : Rect) : Type 0 where
-  pub shows : Shows t r.rows r.cols pane_lines []
+  pub stands : TermStands t r.rows r.cols pane_lines []
   pub waiting : t.waiting ≡ []
   pub marks : t.marks ≡ all_off
   pub size : HasSize t r.rows r.cols
 
 -- a terminal that was brought to a size
 pub record IsFitted (rows cols : ℕ) (old new : TermView) : Type 0 where
-  pub stands : (first wide lines : ℕ) (log : List Item) → Shows old first wide lines log
-      → Shows new first wide lines (log ++ Resized rows cols ∷ [])
+  pub stands : (first wide lines : ℕ) (log : List Item) → TermStands old first wide lines log
+      → TermStands new first wide lines (log ++ Resized rows cols ∷ [])
   pub waiting : new.waiting ≡ old.waiting
   pub marks : new.marks ≡ all_off
   pub size : HasSize new rows cols

@@ -3,7 +3,7 @@ ghost use Rattle.std.specs.Prelude.{◌≡◌, ◌≢◌, ◌⊎◌, ◌↔◌, 
 ghost use Rattle.std.specs.Io.KnownBytes.{Consumes, IsAtEnd, Appends, Keeps};
 ghost use Rattle.roam_text.specs.Log.{Item, Byte};
 ghost use Rattle.roam_term.specs.Terminal.{reports};
-ghost use Rattle.roam_term.specs.Stands.{Shows, IsTermSize};
+ghost use Rattle.roam_term.specs.Stands.{Stands, IsTermSize};
 ghost use Rattle.roam_show.specs.ShowText.{row_line, screen_text, output_line, show_text};
 ghost use Rattle.roam_term.specs.Limits.{pane_lines};
 
@@ -30,8 +30,8 @@ fn feed_all<R: Read>(
     requires report { (rows cols lines : ℕ) → report.old.items ≡ reports rows cols lines [] }
     ensures fed { OnOk result ((log : List ℕ) × Consumes (R.remaining reader.old) (R.remaining reader.new) log
         × IsAtEnd (R.remaining reader.new)
-        × ((rows cols lines : ℕ) → Shows term.old rows cols lines [] →
-        (Shows term.new rows cols lines (map Byte log)) × (report.new.items ≡ reports rows cols lines (map Byte log)))) }
+        × ((rows cols lines : ℕ) → Stands term.old rows cols lines [] →
+        (Stands term.new rows cols lines (map Byte log)) × (report.new.items ≡ reports rows cols lines (map Byte log)))) }
     ensures err { IfErr result (λ e. (e ≡ RunFault.Read) ⊎ (e ≡ RunFault.Core Fault.OutOfMemory)) }
 {
     let mut piece = [0u8; MOST_PIECE];
@@ -52,7 +52,7 @@ fn feed_all<R: Read>(
 fn take_report(alloc: Global, term: &mut Term, report: &mut Vec<u8>) -> Result<(), Fault>
     ensures waiting { OnOk result (term.new.waiting ≡ []) }
     ensures report { OnOk result (report.new.items ≡ report.old.items ++ term.old.waiting) }
-    ensures stands { (rows cols lines : ℕ) (log : List Item) → Shows term.old rows cols lines log → Shows term.new rows cols lines log }
+    ensures stands { (rows cols lines : ℕ) (log : List Item) → Stands term.old rows cols lines log → Stands term.new rows cols lines log }
     ensures fault { IsOkUnless result Fault.OutOfMemory }
 {
     let mut out = vec![in alloc; 0u8; term.output_len()]?;
@@ -128,7 +128,7 @@ fn push_output(alloc: Global, text: &mut String, report: &[u8]) -> Result<(), Al
 
 // The text of a terminal's screen and of what it answered.
 fn text_of(alloc: Global, term: &Term, report: &[u8]) -> Result<String, Fault>
-    ensures text { IfOk result (λ text. (rows cols : ℕ) (log : List ℕ) → Shows term.now rows cols pane_lines (map Byte log) →
+    ensures text { IfOk result (λ text. (rows cols : ℕ) (log : List ℕ) → Stands term.now rows cols pane_lines (map Byte log) →
         report.now ≡ reports rows cols pane_lines (map Byte log) → string_bytes text ≡ show_text rows cols log) }
     ensures fault { IsOkUnless result Fault.OutOfMemory }
 {
@@ -144,7 +144,7 @@ fn text_after<R: Read>(alloc: Global, term: &mut Term, reader: &mut R) -> Result
     requires waiting { term.old.waiting ≡ [] }
     ensures text { IfOk result (λ text. (log : List ℕ) × Consumes (R.remaining reader.old) (R.remaining reader.new) log
         × IsAtEnd (R.remaining reader.new)
-        × ((rows cols : ℕ) → Shows term.old rows cols pane_lines [] → string_bytes text ≡ show_text rows cols log)) }
+        × ((rows cols : ℕ) → Stands term.old rows cols pane_lines [] → string_bytes text ≡ show_text rows cols log)) }
     ensures err { IfErr result (λ e. (e ≡ RunFault.Read) ⊎ (e ≡ RunFault.Core Fault.OutOfMemory)) }
 {
     nothing_read_answers_nothing();

@@ -3,13 +3,11 @@ ghost use Rattle.std.specs.Prelude.{◌≡◌, ◌+◌, ◌++◌, ◌<◌, ◌^�
 ghost use Rattle.std.specs.Option.{option_copied};
 ghost use Rattle.roam_simulation.specs.Networks.{texts_in, text_at};
 
+use roam_acts::limits::NUMBER_LIMIT;
 use roam_cells::Fault;
 use roam_hub::Addr;
 use std::alloc::Global;
 use std::marker::Model;
-
-/// More datagrams than any memory holds.
-const MANY: u64 = 1 << 62;
 
 /// The datagrams of one tick, in their order.
 #[derive(Drop)]
@@ -80,7 +78,8 @@ impl Network {
         ensures few { OnOk result (length self.new.texts < 2 ^ 62) }
         ensures fault { IsOkUnless result Fault.OutOfMemory }
     {
-        if self.count >= MANY {
+        // More datagrams than any memory holds: where there were as many, no number would be left for one more.
+        if self.count >= NUMBER_LIMIT {
             return Err(Fault::OutOfMemory);
         }
         self.batches.reserve(1)?;

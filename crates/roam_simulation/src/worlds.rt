@@ -302,7 +302,7 @@ impl World {
         ensures no_gap { (session : ℕ) (size : SessionSize) (es : List EventOf) (rs : List ReplyOf)
             → StandsFor self.old session size es rs → IsNoGap (event_of event.now) (reply_of result) }
     {
-        laws::lines_stay_true();
+        laws::links_stay_true();
         event.facts();
         match self.perform(alloc, event) {
             Ok(reply) => reply,
@@ -355,13 +355,13 @@ impl World {
 
     /// No client start and no sender of a record of this world holds a ninth screen, and each datagram of a tick goes to the source of the
     /// greatest-numbered datagram that came from its client start.
-    pub fn keeps_its_lines(&self)
+    pub fn keeps_its_links(&self)
         ensures eight { (session : ℕ) (size : SessionSize) (es : List EventOf) (rs : List ReplyOf)
             → (stands : StandsFor self.now session size es rs) → HoldAtMostEight stands.world }
         ensures address { (session : ℕ) (size : SessionSize) (es : List EventOf) (rs : List ReplyOf)
             → (stands : StandsFor self.now session size es rs) → RepliesToLatest stands.world }
     {
-        laws::lines_stay_true();
+        laws::links_stay_true();
         laws::datagrams_keep_their_rules();
     }
 }

@@ -1,4 +1,4 @@
--- The numbers that each end of a line has, before and after its steps.
+-- The numbers that each end of a link has, before and after its steps.
 use Rattle.std.proofs.Common.{◌≡◌, ℕ, ◌<◌, ◌≤◌, true, false, eqb, leb, List, [], ◌∷◌, ◌++◌, length, map, filter, refl, sym, ap, ◌∙◌, inl, inr, arith}
 use Rattle.std.specs.Prelude.{is_none}
 use Rattle.std.proofs.lemmas.Bool.{cases_Bool}
@@ -9,7 +9,7 @@ use Rattle.roam_sync.specs.declared.receivers.Pair.{Pair}
 use Rattle.roam_sync.specs.declared.receivers.Step.TheVariants as step
 use Rattle.roam_sync.specs.Senders.{AreAbove, last_of, after_ack, is_held, mark_base, mark_last}
 use Rattle.roam_sync.specs.Receivers.{Receiving, pairs, first_number, AreBelow, state_at, from_floor, step_for}
-use Rattle.roam_sync.specs.Lines.{IsAmong, IsRising}
+use Rattle.roam_sync.specs.Links.{IsAmong, IsRising}
 use Rattle.roam_sync.proofs.Numbers.{among_right}
 
 -- ---- a sender's

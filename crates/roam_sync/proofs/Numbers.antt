@@ -2,7 +2,7 @@
 use Rattle.std.proofs.Common.{◌≡◌, ◌⊎◌, ℕ, ◌<◌, ◌≤◌, Bool, true, false, leb, ltb, List, [], ◌∷◌, ◌++◌, length, filter, refl, sym, ap, ◌∙◌, inl, inr, arith}
 use Rattle.std.proofs.lemmas.Bool.{cases_Bool}
 use Rattle.std.proofs.lemmas.Bool.Decides.{nat_tests}
-use Rattle.roam_sync.specs.Lines.{IsAmong, IsRising}
+use Rattle.roam_sync.specs.Links.{IsAmong, IsRising}
 
 pub among_left : (n : ℕ) (ns ms : List ℕ) → IsAmong n ns → IsAmong n (ns ++ ms)
 among_left n [] ms h = absurd h

@@ -1,12 +1,12 @@
--- What follows where both ends of a line are in step: no gap, no ninth pair, and one round brings the newest.
+-- What follows where both ends of a link are in step: no gap, no ninth pair, and one round brings the newest.
 use Rattle.std.proofs.Common.{◌≡◌, ◌⊎◌, ℕ, ◌<◌, ◌≤◌, true, false, eqb, leb, List, [], ◌∷◌, length, filter, Option, refl, sym, ◌∙◌, inl, inr, arith}
 use Rattle.std.proofs.lemmas.Bool.{eq-eqb, ne_eqb}
 use Rattle.roam_sync.specs.declared.senders.Held.{Held}
 use Rattle.roam_sync.specs.declared.receivers.Step.TheVariants as step
 use Rattle.roam_sync.specs.Senders.{Sending, AreAbove, newest, last_of, acked, after_ack}
 use Rattle.roam_sync.specs.Receivers.{Receiving, pairs, from_floor, step_for}
-use Rattle.roam_sync.specs.Lines.{Update, Hears, Delivers, IsAmong, numbers_had}
-use Rattle.roam_sync.specs.Links.{Window, Link}
+use Rattle.roam_sync.specs.Links.{Update, Hears, Delivers, IsAmong, numbers_had}
+use Rattle.roam_sync.specs.InStep.{Window, AreInStep}
 use Rattle.roam_sync.proofs.Numbers.{among_filter, low_from, rising-filter, no_longer}
 use Rattle.roam_sync.proofs.Ends.{above_all, last_among, last_greatest, had_rises, newest_greatest, newest_among, floor_length, meets_new, meets_old}
 
@@ -14,7 +14,7 @@ cases_le : (a b : ℕ) → (a ≤ b) ⊎ (b < a)
 cases_le a b = grind arith
 
 module _ {S : Type 0} (s : Sending S) (r : Receiving S) (WasSent : Update → Type 0) (WasAnswered : ℕ → Type 0)
-    (l : Link s r WasSent WasAnswered) where
+    (l : AreInStep s r WasSent WasAnswered) where
   -- an update that was ever sent starts from a pair that is there, and there is room for its own, where it is above the newest
   pub room_for : (u : Update) → WasSent u → r.newest.number < u.new
       → IsAmong u.old (numbers_had r) × (length (from_floor u.floor (pairs r)) ≤ 7)

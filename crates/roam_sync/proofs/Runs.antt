@@ -1,4 +1,4 @@
--- What holds of one line after every list of events.
+-- What holds of one link after every list of events.
 use Rattle.std.proofs.Common.{◌≡◌, ◌⊎◌, ℕ, false, List, [], ◌∷◌, ◌++◌, Option, Some, refl, sym, ap, subst, ◌∙◌, inl, inr, arith, length-append}
 use Rattle.std.specs.Prelude.{Contains}
 use Rattle.std.proofs.lemmas.Bool.{cases_Bool}
@@ -6,14 +6,14 @@ use Rattle.std.proofs.lemmas.List.Elements.{All-contains, Contains-push, Contain
 use Rattle.roam_sync.specs.declared.receivers.Step.TheVariants as step
 use Rattle.roam_sync.specs.Senders.{Sending, newest, acked, is_held, sent_at}
 use Rattle.roam_sync.specs.Receivers.{pairs}
-use Rattle.roam_sync.specs.Lines.{Update, update_of}
-use Rattle.roam_sync.specs.TrueLines.{TrueLine}
-use Rattle.roam_sync.specs.Links.{Link}
-use Rattle.roam_sync.specs.Laws.{Line, begun, Event, Offer, Send, Deliver, Answer, Acknowledge, Follows, Becomes, Runs, last_offered, IsOf, EachPairIsTrue, NumbersRise, BaseIsShared, UpdatesLeadOn, NoUpdateMakesAGap, NoChangeIsBad, NoNinthPair, OneRoundSuffices}
+use Rattle.roam_sync.specs.Links.{Update, update_of}
+use Rattle.roam_sync.specs.TrueLinks.{TrueLink}
+use Rattle.roam_sync.specs.InStep.{AreInStep}
+use Rattle.roam_sync.specs.Laws.{Link, begun, Event, Offer, Send, Deliver, Answer, Acknowledge, Follows, Becomes, Runs, last_offered, IsOf, EachPairIsTrue, NumbersRise, BaseIsShared, UpdatesLeadOn, NoUpdateMakesAGap, NoChangeIsBad, NoNinthPair, OneRoundSuffices}
 use Rattle.roam_sync.proofs.Sending.{after_ack-none, newest_of_more}
 use Rattle.roam_sync.proofs.TrueStates.{IsHad, found_true, true_at_first, true_offered, true_acked, true_sent, true_heard}
 use Rattle.roam_sync.proofs.Ends.{acked_last, had_rises, held_rises, marked_newest}
-use Rattle.roam_sync.proofs.Steps.{link_at_first, link_offered, link_acked, link_answered, link_sent, link_heard}
+use Rattle.roam_sync.proofs.Steps.{in_step_at_first, in_step_offered, in_step_acked, in_step_answered, in_step_sent, in_step_heard}
 use Rattle.roam_sync.proofs.Rounds.{old_or_new, one_round, alone}
 
 nothing : {X : Type 0} (x : X) → Contains [] x → ⊥
@@ -30,16 +30,16 @@ acked_newest s k =
     ]
 
 module _ {S : Type 0} (applied : S → List ℕ → Option S) (states : ℕ → S) where
-  abbrev WasSent : Line S → Update → Type 0
-  WasSent line = Contains line.updates
+  abbrev WasSent : Link S → Update → Type 0
+  WasSent link = Contains link.updates
 
-  abbrev WasAnswered : Line S → ℕ → Type 0
-  WasAnswered line = Contains line.answers
+  abbrev WasAnswered : Link S → ℕ → Type 0
+  WasAnswered link = Contains link.answers
 
   -- the states are true, and the ends are in step
-  record Holds (line : Line S) : Type 0 where
-    truth : TrueLine applied (IsOf states) line.sender line.receiver (WasSent line)
-    link : Link line.sender line.receiver (WasSent line) (WasAnswered line)
+  record Holds (link : Link S) : Type 0 where
+    truth : TrueLink applied (IsOf states) link.sender link.receiver (WasSent link)
+    in_step : AreInStep link.sender link.receiver (WasSent link) (WasAnswered link)
 
   one_state : (n : ℕ) (a b : S) → IsOf states n a → IsOf states n b → a ≡ b
   one_state n a b is is' = is ∙ sym is'
@@ -47,130 +47,130 @@ module _ {S : Type 0} (applied : S → List ℕ → Option S) (states : ℕ → 
   holds_at_first : Holds (begun (states 0))
   holds_at_first = record {
     truth = true_at_first applied (IsOf states) (states 0) (Contains []) refl nothing;
-    link = link_at_first (states 0) (Contains []) (Contains []) nothing nothing;
+    in_step = in_step_at_first (states 0) (Contains []) (Contains []) nothing nothing;
   }
 
   -- what a step leaves: the small invariant, then the large one
-  holds_then : (line after : Line S) (e : Event) → Follows applied states line e after → Holds line → Holds after
-  holds_then line after (Offer n) f h =
+  holds_then : (link after : Link S) (e : Event) → Follows applied states link e after → Holds link → Holds after
+  holds_then link after (Offer n) f h =
       subst Holds (sym f.2) (record {
-        truth = true_offered applied (IsOf states) line.sender line.receiver (WasSent line) h.truth n (states n) refl;
-        link = link_offered line.sender line.receiver (WasSent line) (WasAnswered line) h.link n (states n) f.0 f.1;
+        truth = true_offered applied (IsOf states) link.sender link.receiver (WasSent link) h.truth n (states n) refl;
+        in_step = in_step_offered link.sender link.receiver (WasSent link) (WasAnswered link) h.in_step n (states n) f.0 f.1;
       })
-  holds_then line after (Send now change) f h =
-      let more = one_more line.updates (update_of line.sender change) in
-      let sent = Contains (line.updates ++ update_of line.sender change ∷ []) in
+  holds_then link after (Send now change) f h =
+      let more = one_more link.updates (update_of link.sender change) in
+      let sent = Contains (link.updates ++ update_of link.sender change ∷ []) in
       subst Holds (sym f.1) (record {
-        truth = true_sent applied (IsOf states) line.sender line.receiver (WasSent line) h.truth sent now change f.0 more;
-        link = link_sent line.sender line.receiver (WasSent line) (WasAnswered line) h.link sent now change more;
+        truth = true_sent applied (IsOf states) link.sender link.receiver (WasSent link) h.truth sent now change f.0 more;
+        in_step = in_step_sent link.sender link.receiver (WasSent link) (WasAnswered link) h.in_step sent now change more;
       })
-  holds_then line after (Deliver u) f h =
+  holds_then link after (Deliver u) f h =
       subst Holds (sym f.1.2) (record {
-        truth = true_heard applied (IsOf states) line.sender line.receiver (WasSent line) h.truth f.1.0 u one_state f.0 f.1.1;
-        link = link_heard line.sender line.receiver (WasSent line) (WasAnswered line) h.link applied f.1.0 u f.0 f.1.1;
+        truth = true_heard applied (IsOf states) link.sender link.receiver (WasSent link) h.truth f.1.0 u one_state f.0 f.1.1;
+        in_step = in_step_heard link.sender link.receiver (WasSent link) (WasAnswered link) h.in_step applied f.1.0 u f.0 f.1.1;
       })
-  holds_then line after Answer f h =
-      let number = line.receiver.newest.number in
+  holds_then link after Answer f h =
+      let number = link.receiver.newest.number in
       subst Holds (sym f) (record {
         truth = h.truth;
-        link = link_answered line.sender line.receiver (WasSent line) (WasAnswered line) h.link
-            (Contains (line.answers ++ number ∷ [])) (one_more line.answers number);
+        in_step = in_step_answered link.sender link.receiver (WasSent link) (WasAnswered link) h.in_step
+            (Contains (link.answers ++ number ∷ [])) (one_more link.answers number);
       })
-  holds_then line after (Acknowledge n) f h =
+  holds_then link after (Acknowledge n) f h =
       subst Holds (sym f.1) (record {
-        truth = true_acked applied (IsOf states) line.sender line.receiver (WasSent line) h.truth n;
-        link = link_acked line.sender line.receiver (WasSent line) (WasAnswered line) h.link n f.0;
+        truth = true_acked applied (IsOf states) link.sender link.receiver (WasSent link) h.truth n;
+        in_step = in_step_acked link.sender link.receiver (WasSent link) (WasAnswered link) h.in_step n f.0;
       })
 
-  holds_after : (line after : Line S) (es : List Event) → Becomes applied states line es after → Holds line → Holds after
-  holds_after line after [] run h = subst Holds (sym run) h
-  holds_after line after (e ∷ es) run h = holds_after run.0 after es run.2 (holds_then line run.0 e run.1 h)
+  holds_after : (link after : Link S) (es : List Event) → Becomes applied states link es after → Holds link → Holds after
+  holds_after link after [] run h = subst Holds (sym run) h
+  holds_after link after (e ∷ es) run h = holds_after run.0 after es run.2 (holds_then link run.0 e run.1 h)
 
-  holds : (es : List Event) (line : Line S) → Runs applied states es line → Holds line
-  holds es line run = holds_after (begun (states 0)) line es run holds_at_first
+  holds : (es : List Event) (link : Link S) → Runs applied states es link → Holds link
+  holds es link run = holds_after (begun (states 0)) link es run holds_at_first
 
-  abbrev newest_number : Line S → ℕ
-  newest_number line = (newest line.sender).number
+  abbrev newest_number : Link S → ℕ
+  newest_number link = (newest link.sender).number
 
   -- what an event makes of the newest number
-  offered_then : (line after : Line S) (e : Event) (es : List Event) → Follows applied states line e after
-      → last_offered (newest_number after) es ≡ last_offered (newest_number line) (e ∷ es)
-  offered_then line after (Offer n) es f =
-      let more = newest_of_more line.sender.base line.sender.later (record { number = n; state = states n; sent = false }) in
+  offered_then : (link after : Link S) (e : Event) (es : List Event) → Follows applied states link e after
+      → last_offered (newest_number after) es ≡ last_offered (newest_number link) (e ∷ es)
+  offered_then link after (Offer n) es f =
+      let more = newest_of_more link.sender.base link.sender.later (record { number = n; state = states n; sent = false }) in
       ap (λ m. last_offered m es) (ap newest_number f.2 ∙ ap (λ h. h.number) more)
-  offered_then line after (Send now change) es f =
-      ap (λ m. last_offered m es) (ap newest_number f.1 ∙ marked_newest line.sender.base line.sender.later)
-  offered_then line after (Deliver u) es f = ap (λ m. last_offered m es) (ap newest_number f.1.2)
-  offered_then line after Answer es f = ap (λ m. last_offered m es) (ap newest_number f)
-  offered_then line after (Acknowledge n) es f = ap (λ m. last_offered m es) (ap newest_number f.1 ∙ acked_newest line.sender n)
+  offered_then link after (Send now change) es f =
+      ap (λ m. last_offered m es) (ap newest_number f.1 ∙ marked_newest link.sender.base link.sender.later)
+  offered_then link after (Deliver u) es f = ap (λ m. last_offered m es) (ap newest_number f.1.2)
+  offered_then link after Answer es f = ap (λ m. last_offered m es) (ap newest_number f)
+  offered_then link after (Acknowledge n) es f = ap (λ m. last_offered m es) (ap newest_number f.1 ∙ acked_newest link.sender n)
 
   -- the newest that is held is the last that was offered
-  offered_after : (line after : Line S) (es : List Event) → Becomes applied states line es after
-      → newest_number after ≡ last_offered (newest_number line) es
-  offered_after line after [] run = ap newest_number run
-  offered_after line after (e ∷ es) run = offered_after run.0 after es run.2 ∙ offered_then line run.0 e es run.1
+  offered_after : (link after : Link S) (es : List Event) → Becomes applied states link es after
+      → newest_number after ≡ last_offered (newest_number link) es
+  offered_after link after [] run = ap newest_number run
+  offered_after link after (e ∷ es) run = offered_after run.0 after es run.2 ∙ offered_then link run.0 e es run.1
 
 -- ---- the laws
 
 module _ {S : Type 0} (applied : S → List ℕ → Option S) where
   pub each_pair : EachPairIsTrue applied
-  each_pair states events line run = let h = holds applied states events line run in (h.truth.sender, h.truth.receiver)
+  each_pair states events link run = let h = holds applied states events link run in (h.truth.sender, h.truth.receiver)
 
   pub numbers_rise : NumbersRise applied
-  numbers_rise states events line run =
-      let l = (holds applied states events line run).link in (
-        held_rises line.sender.base.number line.sender.later l.sender_rises,
-        had_rises line.receiver.earlier line.receiver.newest l.receiver_rises,
+  numbers_rise states events link run =
+      let l = (holds applied states events link run).in_step in (
+        held_rises link.sender.base.number link.sender.later l.sender_rises,
+        had_rises link.receiver.earlier link.receiver.newest l.receiver_rises,
       )
 
   pub base_shared : BaseIsShared applied
-  base_shared states events line run = let l = (holds applied states events line run).link in (l.base_there, l.from_base)
+  base_shared states events link run = let l = (holds applied states events link run).in_step in (l.base_there, l.from_base)
 
   pub updates_lead_on : UpdatesLeadOn applied
-  updates_lead_on states events line run u sent =
-      let h = holds applied states events line run in
+  updates_lead_on states events link run u sent =
+      let h = holds applied states events link run in
       let l = h.truth.updates u sent in
-      (ap (λ b. applied b u.change) (sym l.from_true) ∙ l.leads ∙ ap Some l.to_true, (h.link.told u sent).known)
+      (ap (λ b. applied b u.change) (sym l.from_true) ∙ l.leads ∙ ap Some l.to_true, (h.in_step.told u sent).known)
 
   pub no_gap : NoUpdateMakesAGap applied
-  no_gap states events line run u sent is =
-      let h = holds applied states events line run in
-      elim (old_or_new line.sender line.receiver (Contains line.updates) (Contains line.answers) h.link u sent) [
+  no_gap states events link run u sent is =
+      let h = holds applied states events link run in
+      elim (old_or_new link.sender link.receiver (Contains link.updates) (Contains link.answers) h.in_step u sent) [
         | inl old ↦ (let no : step.Old ≡ step.Gap = sym old.0 ∙ is in cc)
         | inr new ↦ (let no : step.New ≡ step.Gap = sym new ∙ is in cc)
       ]
 
   pub no_bad_change : NoChangeIsBad applied
-  no_bad_change states events line run u sent base there =
-      let h = holds applied states events line run in
-      let same : base ≡ states u.old = found_true (IsOf states) u.old (pairs line.receiver) base h.truth.receiver there in
-      ap (λ b. applied b u.change) same ∙ (updates_lead_on states events line run u sent).0
+  no_bad_change states events link run u sent base there =
+      let h = holds applied states events link run in
+      let same : base ≡ states u.old = found_true (IsOf states) u.old (pairs link.receiver) base h.truth.receiver there in
+      ap (λ b. applied b u.change) same ∙ (updates_lead_on states events link run u sent).0
 
   pub no_ninth : NoNinthPair applied
-  no_ninth states events line run =
-      let l = (holds applied states events line run).link in
+  no_ninth states events link run =
+      let l = (holds applied states events link run).in_step in
       let few = l.receiver_few in
-      (l.sender_few, omega (arith, length-append line.receiver.earlier (line.receiver.newest ∷ []), few))
+      (l.sender_few, omega (arith, length-append link.receiver.earlier (link.receiver.newest ∷ []), few))
 
   pub round : OneRoundSuffices applied
-  round states events line run now change is r delivers =
-      let h = holds applied states events line run in
-      let u = update_of line.sender change in
-      let sent = Contains (line.updates ++ u ∷ []) in
-      let sender = sent_at line.sender now in
-      let more = one_more line.updates u in
-      let this = Contains-push line.updates u in
-      let link = link_sent line.sender line.receiver (Contains line.updates) (Contains line.answers) h.link sent now change more in
-      let truth = true_sent applied (IsOf states) line.sender line.receiver (Contains line.updates) h.truth sent now change is more in
-      let marked : (newest sender).number ≡ (newest line.sender).number = marked_newest line.sender.base line.sender.later in
-      let got = one_round sender line.receiver sent (Contains line.answers) link applied r u this (sym marked) delivers in
-      let then : TrueLine applied (IsOf states) sender r sent =
+  round states events link run now change is r delivers =
+      let h = holds applied states events link run in
+      let u = update_of link.sender change in
+      let sent = Contains (link.updates ++ u ∷ []) in
+      let sender = sent_at link.sender now in
+      let more = one_more link.updates u in
+      let this = Contains-push link.updates u in
+      let in_step = in_step_sent link.sender link.receiver (Contains link.updates) (Contains link.answers) h.in_step sent now change more in
+      let truth = true_sent applied (IsOf states) link.sender link.receiver (Contains link.updates) h.truth sent now change is more in
+      let marked : (newest sender).number ≡ (newest link.sender).number = marked_newest link.sender.base link.sender.later in
+      let got = one_round sender link.receiver sent (Contains link.answers) in_step applied r u this (sym marked) delivers in
+      let then : TrueLink applied (IsOf states) sender r sent =
       elim got.0 [
         | inl same ↦ rw same truth
-        | inr hears ↦ true_heard applied (IsOf states) sender line.receiver sent truth r u (one_state applied states) this hears
+        | inr hears ↦ true_heard applied (IsOf states) sender link.receiver sent truth r u (one_state applied states) this hears
       ] in
-      let number = got.1 ∙ marked ∙ offered_after applied states (begun (states 0)) line events run in
+      let number = got.1 ∙ marked ∙ offered_after applied states (begun (states 0)) link events run in
       let state : r.newest.state ≡ states r.newest.number =
       All-contains (IsHad (IsOf states)) (pairs r) r.newest then.receiver (Contains-push r.earlier r.newest) in
-      let only = ap (λ n. (acked sender n).later) got.1 ∙ alone sender link.sender_rises in
+      let only = ap (λ n. (acked sender n).later) got.1 ∙ alone sender in_step.sender_rises in
       (number, state ∙ ap states number, rw only refl)

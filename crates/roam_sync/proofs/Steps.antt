@@ -1,22 +1,22 @@
--- The two ends of a line keep in step, whichever step comes next.
+-- The two ends of a link keep in step, whichever step comes next.
 use Rattle.std.proofs.Common.{◌≡◌, ◌⊎◌, ℕ, ◌<◌, ◌≤◌, true, false, leb, ltb, List, [], ◌∷◌, ◌++◌, length, filter, Option, refl, sym, ap, subst, ◌∙◌, inl, inr, arith, length-append}
 use Rattle.std.proofs.lemmas.Bool.{cases_Bool}
 use Rattle.std.proofs.lemmas.List.{map-append, length-map}
 use Rattle.roam_sync.specs.declared.senders.Held.{Held}
 use Rattle.roam_sync.specs.Senders.{Sending, AreAbove, newest, last_of, count, offered, acked, is_held, mark_base, sent_at, start as sender_start}
 use Rattle.roam_sync.specs.Receivers.{Receiving, pairs, from_floor, Takes, start as receiver_start}
-use Rattle.roam_sync.specs.Lines.{Update, update_of, Hears, IsAmong, numbers_held, numbers_had}
-use Rattle.roam_sync.specs.Links.{Told, Window, Link}
+use Rattle.roam_sync.specs.Links.{Update, update_of, Hears, IsAmong, numbers_held, numbers_had}
+use Rattle.roam_sync.specs.InStep.{Told, Window, AreInStep}
 use Rattle.roam_sync.proofs.Sending.{AreAbove-push, AreAbove-mark, length-mark, number-mark_base, after_ack-none, after_ack-rising, newest_of_more}
 use Rattle.roam_sync.proofs.Receiving.{AreBelow-push, AreBelow-floor}
 use Rattle.roam_sync.proofs.Numbers.{among_left, among_cases, among_filter, among_from, among_below, rising-filter, fewer_below}
 use Rattle.roam_sync.proofs.Ends.{held_numbers, held_rises, base_least, last_among, acked_held, acked_base, acked_among, acked_last, marked_numbers, marked_newest, had_numbers, numbers_of_pairs, newest_among, floor_numbers, fresh_means}
 
 -- before anything was sent
-pub link_at_first : {S : Type 0} (state : S) (WasSent : Update → Type 0) (WasAnswered : ℕ → Type 0)
+pub in_step_at_first : {S : Type 0} (state : S) (WasSent : Update → Type 0) (WasAnswered : ℕ → Type 0)
     → ((u : Update) → WasSent u → ⊥) → ((n : ℕ) → WasAnswered n → ⊥)
-    → Link (sender_start state) (receiver_start state) WasSent WasAnswered
-link_at_first state WasSent WasAnswered none quiet =
+    → AreInStep (sender_start state) (receiver_start state) WasSent WasAnswered
+in_step_at_first state WasSent WasAnswered none quiet =
     record {
       sender_rises = tt;
       sender_few = omega arith;
@@ -34,11 +34,11 @@ cases_le : (a b : ℕ) → (a ≤ b) ⊎ (b < a)
 cases_le a b = grind arith
 
 module _ {S : Type 0} (s : Sending S) (r : Receiving S) (WasSent : Update → Type 0) (WasAnswered : ℕ → Type 0)
-    (l : Link s r WasSent WasAnswered) where
+    (l : AreInStep s r WasSent WasAnswered) where
   -- no more was sent or acknowledged
-  pub link_still : (IsSentNow : Update → Type 0) (IsAnsweredNow : ℕ → Type 0)
-      → ((u : Update) → IsSentNow u → WasSent u) → ((n : ℕ) → IsAnsweredNow n → WasAnswered n) → Link s r IsSentNow IsAnsweredNow
-  link_still IsSentNow IsAnsweredNow fewer less =
+  pub in_step_still : (IsSentNow : Update → Type 0) (IsAnsweredNow : ℕ → Type 0)
+      → ((u : Update) → IsSentNow u → WasSent u) → ((n : ℕ) → IsAnsweredNow n → WasAnswered n) → AreInStep s r IsSentNow IsAnsweredNow
+  in_step_still IsSentNow IsAnsweredNow fewer less =
       record {
         sender_rises = l.sender_rises;
         sender_few = l.sender_few;
@@ -59,8 +59,8 @@ module _ {S : Type 0} (s : Sending S) (r : Receiving S) (WasSent : Update → Ty
       }
 
   -- a state is offered, with a number above the newest, where fewer than eight are held
-  pub link_offered : (n : ℕ) (state : S) → (newest s).number < n → count s < 8 → Link (offered s n state) r WasSent WasAnswered
-  link_offered n state above room =
+  pub in_step_offered : (n : ℕ) (state : S) → (newest s).number < n → count s < 8 → AreInStep (offered s n state) r WasSent WasAnswered
+  in_step_offered n state above room =
       record {
         sender_rises = AreAbove-push s.base s.later more l.sender_rises above;
         sender_few = omega (arith, length-append s.later (more ∷ []), room);
@@ -90,7 +90,7 @@ module _ {S : Type 0} (s : Sending S) (r : Receiving S) (WasSent : Update → Ty
       still m held = rw (map-append (λ h. h.number) s.later (more ∷ [])) (among_left m (numbers_held s) (n ∷ []) held)
 
   -- the base moves to a number that is held, and was acknowledged
-  base_moved : (k : ℕ) → is_held s.later k ≡ true → WasAnswered k → Link (acked s k) r WasSent WasAnswered
+  base_moved : (k : ℕ) → is_held s.later k ≡ true → WasAnswered k → AreInStep (acked s k) r WasSent WasAnswered
   base_moved k there answered =
       record {
         sender_rises = rest.1;
@@ -135,17 +135,17 @@ module _ {S : Type 0} (s : Sending S) (r : Receiving S) (WasSent : Update → Ty
           ]
 
   -- an acknowledgement that was ever sent comes
-  pub link_acked : (k : ℕ) → WasAnswered k → Link (acked s k) r WasSent WasAnswered
-  link_acked k answered =
+  pub in_step_acked : (k : ℕ) → WasAnswered k → AreInStep (acked s k) r WasSent WasAnswered
+  in_step_acked k answered =
       elim (cases_Bool (is_held s.later k)) [
         | inl there ↦ base_moved k there answered
         | inr e ↦ rw (after_ack-none (s.base, s.later) s.later k e) l
       ]
 
   -- the receiver acknowledges its newest
-  pub link_answered : (IsAnsweredNow : ℕ → Type 0) → ((n : ℕ) → IsAnsweredNow n → WasAnswered n ⊎ (n ≡ r.newest.number))
-      → Link s r WasSent IsAnsweredNow
-  link_answered IsAnsweredNow only =
+  pub in_step_answered : (IsAnsweredNow : ℕ → Type 0) → ((n : ℕ) → IsAnsweredNow n → WasAnswered n ⊎ (n ≡ r.newest.number))
+      → AreInStep s r WasSent IsAnsweredNow
+  in_step_answered IsAnsweredNow only =
       record {
         sender_rises = l.sender_rises;
         sender_few = l.sender_few;
@@ -163,9 +163,9 @@ module _ {S : Type 0} (s : Sending S) (r : Receiving S) (WasSent : Update → Ty
       }
 
   -- the newest is sent at a moment, with whatever change
-  pub link_sent : (IsSentNow : Update → Type 0) (now : ℕ) (change : List ℕ)
-      → ((u : Update) → IsSentNow u → WasSent u ⊎ (u ≡ update_of s change)) → Link (sent_at s now) r IsSentNow WasAnswered
-  link_sent IsSentNow now change only =
+  pub in_step_sent : (IsSentNow : Update → Type 0) (now : ℕ) (change : List ℕ)
+      → ((u : Update) → IsSentNow u → WasSent u ⊎ (u ≡ update_of s change)) → AreInStep (sent_at s now) r IsSentNow WasAnswered
+  in_step_sent IsSentNow now change only =
       record {
         sender_rises = rw base (AreAbove-mark s.base.number s.later l.sender_rises);
         sender_few = let few = l.sender_few in omega (arith, length-mark s.later, few);
@@ -262,9 +262,9 @@ module _ {S : Type 0} (s : Sending S) (r : Receiving S) (WasSent : Update → Ty
       }
 
   -- an update that was ever sent is new to the receiver
-  pub link_heard : (applied : S → List ℕ → Option S) (r' : Receiving S) (u : Update) → WasSent u → Hears applied r u r'
-      → Link s r' WasSent WasAnswered
-  link_heard applied r' u sent hears =
+  pub in_step_heard : (applied : S → List ℕ → Option S) (r' : Receiving S) (u : Update) → WasSent u → Hears applied r u r'
+      → AreInStep s r' WasSent WasAnswered
+  in_step_heard applied r' u sent hears =
       record {
         sender_rises = l.sender_rises;
         sender_few = l.sender_few;

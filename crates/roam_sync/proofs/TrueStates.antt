@@ -1,4 +1,4 @@
--- The states at both ends of a line stay true. Of "is the true state of the number" it is used that a number has one true state.
+-- The states at both ends of a link stay true. Of "is the true state of the number" it is used that a number has one true state.
 use Rattle.std.proofs.Common.{◌≡◌, ◌⊎◌, ℕ, true, false, eqb, leb, List, [], ◌∷◌, All, Option, Some, sym, ap, subst, ◌∙◌, inl, inr, arith}
 use Rattle.std.proofs.lemmas.Bool.{cases_Bool}
 use Rattle.std.proofs.lemmas.Bool.Decides.{nat_tests}
@@ -7,8 +7,8 @@ use Rattle.roam_sync.specs.declared.senders.Held.{Held}
 use Rattle.roam_sync.specs.declared.receivers.Pair.{Pair}
 use Rattle.roam_sync.specs.Senders.{Sending, newest, last_of, offered, acked, after_ack, mark_base, mark_last, sent_at, start as sender_start}
 use Rattle.roam_sync.specs.Receivers.{Receiving, pairs, state_at, from_floor, start as receiver_start}
-use Rattle.roam_sync.specs.Lines.{Update, update_of, IsChange, Hears}
-use Rattle.roam_sync.specs.TrueLines.{LeadsTruly, TrueLine}
+use Rattle.roam_sync.specs.Links.{Update, update_of, IsChange, Hears}
+use Rattle.roam_sync.specs.TrueLinks.{LeadsTruly, TrueLink}
 
 module _ {S : Type 0} (Is : ℕ → S → Type 0) where
   -- the pair of a sender is true
@@ -65,12 +65,12 @@ module _ {S : Type 0} (Is : ℕ → S → Type 0) where
         | inr t ↦ found_true n ps s (All-tail IsHad p ps all) (rw t at e)
       ]
 
--- ---- the line stays true
+-- ---- the link stays true
 
 module _ {S : Type 0} (applied : S → List ℕ → Option S) (Is : ℕ → S → Type 0) where
   -- before anything was sent
   pub true_at_first : (state : S) (WasSent : Update → Type 0) → Is 0 state → ((u : Update) → WasSent u → ⊥)
-      → TrueLine applied Is (sender_start state) (receiver_start state) WasSent
+      → TrueLink applied Is (sender_start state) (receiver_start state) WasSent
   true_at_first state WasSent is none = record {
     sender = All-cons (IsPair Is) (record { number = 0; state = state; sent = false }) [] is (All-nil (IsPair Is));
     receiver = All-cons (IsHad Is) (record { number = 0; state = state }) [] is (All-nil (IsHad Is));
@@ -78,71 +78,71 @@ module _ {S : Type 0} (applied : S → List ℕ → Option S) (Is : ℕ → S �
   }
 
 module _ {S : Type 0} (applied : S → List ℕ → Option S) (Is : ℕ → S → Type 0) (s : Sending S) (r : Receiving S) (WasSent : Update → Type 0)
-    (line : TrueLine applied Is s r WasSent) where
+    (link : TrueLink applied Is s r WasSent) where
   -- a true state is offered
-  pub true_offered : (n : ℕ) (state : S) → Is n state → TrueLine applied Is (offered s n state) r WasSent
+  pub true_offered : (n : ℕ) (state : S) → Is n state → TrueLink applied Is (offered s n state) r WasSent
   true_offered n state is = record {
-    sender = All-push (IsPair Is) (s.base ∷ s.later) (record { number = n; state = state; sent = false }) line.sender is;
-    receiver = line.receiver;
-    updates = line.updates;
+    sender = All-push (IsPair Is) (s.base ∷ s.later) (record { number = n; state = state; sent = false }) link.sender is;
+    receiver = link.receiver;
+    updates = link.updates;
   }
 
   -- an acknowledgement comes, of whatever number
-  pub true_acked : (n : ℕ) → TrueLine applied Is (acked s n) r WasSent
+  pub true_acked : (n : ℕ) → TrueLink applied Is (acked s n) r WasSent
   true_acked n = record {
-    sender = after_ack_true Is s.base s.later s.later n line.sender (All-tail (IsPair Is) s.base s.later line.sender);
-    receiver = line.receiver;
-    updates = line.updates;
+    sender = after_ack_true Is s.base s.later s.later n link.sender (All-tail (IsPair Is) s.base s.later link.sender);
+    receiver = link.receiver;
+    updates = link.updates;
   }
 
   -- the newest is sent at a moment
   pub true_sent : (IsSentNow : Update → Type 0) (now : ℕ) (change : List ℕ) → IsChange applied s change
-      → ((u : Update) → IsSentNow u → WasSent u ⊎ (u ≡ update_of s change)) → TrueLine applied Is (sent_at s now) r IsSentNow
+      → ((u : Update) → IsSentNow u → WasSent u ⊎ (u ≡ update_of s change)) → TrueLink applied Is (sent_at s now) r IsSentNow
   true_sent IsSentNow now change leads only = record {
     sender = All-cons (IsPair Is) (mark_base s.base s.later) (mark_last s.later) (mark_base_true Is s.base s.later base)
-        (mark_last_true Is s.later (All-tail (IsPair Is) s.base s.later line.sender));
-    receiver = line.receiver;
+        (mark_last_true Is s.later (All-tail (IsPair Is) s.base s.later link.sender));
+    receiver = link.receiver;
     updates = λ u sent. elim (only u sent) [
-      | inl before ↦ line.updates u before
+      | inl before ↦ link.updates u before
       | inr this ↦ subst (LeadsTruly applied Is) (sym this) truly
     ];
   }
     where
       base : IsPair Is s.base
-      base = All-head (IsPair Is) s.base s.later line.sender
+      base = All-head (IsPair Is) s.base s.later link.sender
 
       truly : LeadsTruly applied Is (update_of s change)
       truly = record {
         base = s.base.state;
         state = (newest s).state;
         from_true = base;
-        to_true = last_true Is s.base s.later line.sender;
+        to_true = last_true Is s.base s.later link.sender;
         leads = leads;
       }
 
   -- an update that was ever sent is new to the receiver
   pub true_heard : (r' : Receiving S) (u : Update) → ((n : ℕ) (a b : S) → Is n a → Is n b → a ≡ b) → WasSent u → Hears applied r u r'
-      → TrueLine applied Is s r' WasSent
+      → TrueLink applied Is s r' WasSent
   true_heard r' u one sent hears =
       let t = hears.takes in
-      let l = line.updates u sent in
-      let same : t.base ≡ l.base = one u.old t.base l.base (found_true Is u.old (pairs r) t.base line.receiver t.held) l.from_true in
+      let l = link.updates u sent in
+      let same : t.base ≡ l.base = one u.old t.base l.base (found_true Is u.old (pairs r) t.base link.receiver t.held) l.from_true in
       let e : Some l.state ≡ Some r'.newest.state = sym l.leads ∙ sym (ap (λ b. applied b u.change) same) ∙ t.leads in
       let state : l.state ≡ r'.newest.state = cc in
       let is : Is u.new r'.newest.state = subst (Is u.new) state l.to_true in
       record {
-        sender = line.sender;
-        receiver = All-push (IsHad Is) r'.earlier r'.newest (rw t.earlier (floor_true Is u.floor (pairs r) line.receiver)) (rw t.number is);
-        updates = line.updates;
+        sender = link.sender;
+        receiver = All-push (IsHad Is) r'.earlier r'.newest (rw t.earlier (floor_true Is u.floor (pairs r) link.receiver)) (rw t.number is);
+        updates = link.updates;
       }
 
   -- what is true stays true, and no more was sent
   pub true_still : (Then : ℕ → S → Type 0) (IsSentNow : Update → Type 0) → ((n : ℕ) (a : S) → Is n a → Then n a)
-      → ((u : Update) → IsSentNow u → WasSent u) → TrueLine applied Then s r IsSentNow
+      → ((u : Update) → IsSentNow u → WasSent u) → TrueLink applied Then s r IsSentNow
   true_still Then IsSentNow still fewer = record {
-    sender = All-weaker (IsPair Is) (IsPair Then) (λ h. still h.number h.state) (s.base ∷ s.later) line.sender;
-    receiver = All-weaker (IsHad Is) (IsHad Then) (λ p. still p.number p.state) (pairs r) line.receiver;
-    updates = λ u sent. let l = line.updates u (fewer u sent) in record {
+    sender = All-weaker (IsPair Is) (IsPair Then) (λ h. still h.number h.state) (s.base ∷ s.later) link.sender;
+    receiver = All-weaker (IsHad Is) (IsHad Then) (λ p. still p.number p.state) (pairs r) link.receiver;
+    updates = λ u sent. let l = link.updates u (fewer u sent) in record {
       base = l.base;
       state = l.state;
       from_true = still u.old l.base l.from_true;

@@ -1,10 +1,10 @@
--- One line worked by hand, over numbers as states: an update is lost and another comes, and an acknowledgement moves the base. So the laws
+-- One link worked by hand, over numbers as states: an update is lost and another comes, and an acknowledgement moves the base. So the laws
 -- speak of runs that there are.
 use Rattle.std.proofs.Common.{◌≡◌, ℕ, List, [], ◌∷◌, ◌++◌, Option, Some, None, refl, arith}
 use Rattle.roam_sync.specs.Senders.{offered, acked, sent_at}
 use Rattle.roam_sync.specs.Receivers.{Receiving}
-use Rattle.roam_sync.specs.Lines.{Update, update_of, Hears, numbers_held, numbers_had}
-use Rattle.roam_sync.specs.Laws.{Line, begun, Event, Offer, Send, Deliver, Answer, Acknowledge, Runs}
+use Rattle.roam_sync.specs.Links.{Update, update_of, Hears, numbers_held, numbers_had}
+use Rattle.roam_sync.specs.Laws.{Link, begun, Event, Offer, Send, Deliver, Answer, Acknowledge, Runs}
 
 -- a change is the new number
 abbrev applied : ℕ → List ℕ → Option ℕ
@@ -21,11 +21,11 @@ events =
     ∷ Deliver (update 2 5) ∷ []
 
 -- a state is offered, and the newest is sent
-abbrev with_offer : Line ℕ → ℕ → Line ℕ
-with_offer line n = record line { sender = offered line.sender n n }
+abbrev with_offer : Link ℕ → ℕ → Link ℕ
+with_offer link n = record link { sender = offered link.sender n n }
 
-abbrev with_sending : Line ℕ → ℕ → List ℕ → Line ℕ
-with_sending line now change = record line { sender = sent_at line.sender now; updates = line.updates ++ update_of line.sender change ∷ [] }
+abbrev with_sending : Link ℕ → ℕ → List ℕ → Link ℕ
+with_sending link now change = record link { sender = sent_at link.sender now; updates = link.updates ++ update_of link.sender change ∷ [] }
 
 -- the receiver after each of the two updates that come
 abbrev first_taken : Receiving ℕ
@@ -34,17 +34,17 @@ first_taken = record { earlier = record { number = 0; state = 0 } ∷ []; newest
 abbrev second_taken : Receiving ℕ
 second_taken = record { earlier = record { number = 2; state = 2 } ∷ []; newest = record { number = 5; state = 5 } }
 
--- the line after the first four events, after the next four, and at the end
-abbrev sent_twice : Line ℕ
+-- the link after the first four events, after the next four, and at the end
+abbrev sent_twice : Link ℕ
 sent_twice = with_sending (with_offer (with_sending (with_offer (begun 0) 1) 20 (1 ∷ [])) 2) 40 (2 ∷ [])
 
-abbrev answered : Line ℕ
+abbrev answered : Link ℕ
 answered = record sent_twice { receiver = first_taken; answers = 2 ∷ [] }
 
-abbrev base_moved : Line ℕ
+abbrev base_moved : Link ℕ
 base_moved = record answered { sender = acked (offered answered.sender 5 5) 2 }
 
-abbrev at_last : Line ℕ
+abbrev at_last : Link ℕ
 at_last = record (with_sending base_moved 60 (5 ∷ [])) { receiver = second_taken }
 
 -- the numbers at both ends after these events

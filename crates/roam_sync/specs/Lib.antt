@@ -2,7 +2,7 @@ pub mod Moments
 pub mod Limits
 pub mod Senders
 pub mod Receivers
-pub mod Lines
-pub mod TrueLines
 pub mod Links
+pub mod TrueLinks
+pub mod InStep
 pub mod Laws

@@ -1,46 +1,54 @@
--- The two ends of a line keep in step, whatever is lost, late, repeated or reordered. `WasSent u` says that the update u was ever sent,
--- `WasAnswered n` that the receiver ever acknowledged the number n. A state in a comment names the numbers alone that each end has.
-use Rattle.std.specs.Prelude.{◌≡◌, ◌⊎◌, ℕ, ◌<◌, ◌≤◌, List, length}
-use Rattle.roam_sync.specs.Limits.{most_held}
-use Rattle.roam_sync.specs.Senders.{Sending, newest, count, AreAbove}
-use Rattle.roam_sync.specs.Receivers.{Receiving, AreBelow}
-use Rattle.roam_sync.specs.Lines.{Update, IsAmong, IsRising, numbers_held, numbers_had}
+-- The link between a sender and a receiver: the pairs at both ends, and the updates that go from one to the other (this project's profile
+-- of Mosh's State Synchronization Protocol).
+use Rattle.std.specs.Prelude.{◌≡◌, ◌≢◌, ◌⊎◌, ℕ, ◌<◌, List, [], ◌∷◌, Option, map}
+use Rattle.roam_sync.specs.declared.senders.Held.{Held}
+use Rattle.roam_sync.specs.declared.receivers.Step.TheVariants as step
+use Rattle.roam_sync.specs.Senders.{Sending, newest}
+use Rattle.roam_sync.specs.Receivers.{Receiving, pairs, step_for, Takes}
 
--- what holds of an update that was ever sent
-pub record Told {S : Type 0} (s : Sending S) (r : Receiving S) (u : Update) : Type 0 where
-  pub floor : u.floor ≡ u.old
-  -- Sender 0 3 4, receiver 0 3, and an update from 3 to 4:
-  -- once it comes, the receiver has 3 and 4, and the base is gone there.
-  pub old_low : u.old ≤ s.base.number
-  pub new_low : u.new ≤ (newest s).number
-  -- Sender 3 4, receiver 3, and an update from 3 to 5:
-  -- once it comes, the receiver has 5, which the sender doesn't hold.
-  pub new_held : s.base.number ≤ u.new → IsAmong u.new (numbers_held s)
-  pub known : IsAmong u.old (numbers_had r) ⊎ (u.new ≤ r.newest.number)
+-- what an instruction tells (Mosh: a transport instruction)
+pub record Update : Type 0 where
+  pub old : ℕ
+  pub new : ℕ
+  pub floor : ℕ
+  pub change : List ℕ
 
--- The numbers that the sender held below an update's when it sent it: at most seven, and all that the receiver can ever have there.
--- Sender 7 8, receiver 0 to 7, and an update from 0 to 8:
--- once it comes, there is no room for it.
-pub record Window {S : Type 0} (r : Receiving S) (WasSent : Update → Type 0) (u : Update) : Type 0 where
-  pub below : List ℕ
-  pub rising : IsRising below
-  pub few : length below ≤ 7
-  pub had : (n : ℕ) → IsAmong n (numbers_had r) → u.old ≤ n → n < u.new → IsAmong n below
-  pub coming : (v : Update) → WasSent v → u.old ≤ v.new → v.new < u.new → IsAmong v.new below
+-- the update with this change that leads from the base to the newest, and lets all below the base be dropped
+abbrev pub update_of : {S : Type 0} → Sending S → List ℕ → Update
+update_of s change = record { old = s.base.number; new = (newest s).number; floor = s.base.number; change = change }
 
--- what holds of a line after each step
-pub record Link {S : Type 0} (s : Sending S) (r : Receiving S) (WasSent : Update → Type 0) (WasAnswered : ℕ → Type 0) : Type 0 where
-  pub sender_rises : AreAbove s.base.number s.later
-  pub sender_few : count s ≤ most_held
-  pub receiver_rises : AreBelow r.earlier r.newest.number
-  pub receiver_few : length r.earlier ≤ 7
-  pub base_there : IsAmong s.base.number (numbers_had r)
-  pub from_base : (n : ℕ) → IsAmong n (numbers_had r) → s.base.number ≤ n → IsAmong n (numbers_held s)
-  -- Sender 0 3, receiver 0, and an acknowledgement of 3 that was sent:
-  -- once it comes, the sender's base is 3, and the receiver doesn't have it.
-  pub answers : (n : ℕ) → WasAnswered n → s.base.number ≤ n → IsAmong n (numbers_had r)
-  pub told : (u : Update) → WasSent u → Told s r u
-  -- Sender 3 4 5, receiver 0 3, and updates from 0 to 5 and from 3 to 4:
-  -- once the second comes, 0 is gone at the receiver, and the first, still above 4, makes a gap.
-  pub order : (u v : Update) → WasSent u → WasSent v → u.old < v.old → u.new ≤ v.new
-  pub window : (u : Update) → WasSent u → Window r WasSent u
+-- a change that leads from the base to the newest
+abbrev pub IsChange : {S : Type 0} → (S → List ℕ → Option S) → Sending S → List ℕ → Type 0
+IsChange applied s change = applied s.base.state change ≡ Option.Some (newest s).state
+
+-- an update is new to a receiver, which takes it
+pub record Hears {S : Type 0} (applied : S → List ℕ → Option S) (r : Receiving S) (u : Update) (r' : Receiving S) : Type 0 where
+  pub fresh : step_for r u.old u.new u.floor ≡ step.New
+  pub takes : Takes applied r u.old u.new u.floor u.change r'
+
+-- an update comes to a receiver, and memory isn't wanting: where it is new, it is taken; else nothing changes
+pub record Delivers {S : Type 0} (applied : S → List ℕ → Option S) (r : Receiving S) (u : Update) (r' : Receiving S) : Type 0 where
+  pub fresh : step_for r u.old u.new u.floor ≡ step.New → Takes applied r u.old u.new u.floor u.change r'
+  pub other : step_for r u.old u.new u.floor ≢ step.New → r' ≡ r
+
+-- all pairs that a sender holds
+abbrev pub held : {S : Type 0} → Sending S → List (Held S)
+held s = s.base ∷ s.later
+
+-- the numbers that a sender holds
+abbrev pub numbers_held : {S : Type 0} → Sending S → List ℕ
+numbers_held s = map (λ h. h.number) (held s)
+
+-- the numbers that a receiver has
+abbrev pub numbers_had : {S : Type 0} → Receiving S → List ℕ
+numbers_had r = map (λ p. p.number) (pairs r)
+
+-- this number is among them
+abbrev pub IsAmong : ℕ → List ℕ → Type 0
+IsAmong n [] = ⊥
+IsAmong n (m ∷ ms) = (m ≡ n) ⊎ IsAmong n ms
+
+-- the numbers rise
+abbrev pub IsRising : List ℕ → Type 0
+IsRising [] = Unit {0}
+IsRising (n ∷ ns) = ((m : ℕ) → IsAmong m ns → n < m) × IsRising ns

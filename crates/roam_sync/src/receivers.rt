@@ -4,14 +4,12 @@ ghost use Rattle.std.specs.Prelude.{◌≡◌, ◌≢◌, ◌≤◌, ◌<◌, �
 ghost use Rattle.std.specs.Option.{option_copied};
 ghost use Rattle.roam_sync.specs.Receivers.{Receiving, pairs, state_at, from_floor, step_for, Takes, start};
 
+use crate::limits::MOST_HELD;
 use roam_cells::Fault;
 use roam_update::Synced;
 use std::alloc::Global;
 use std::marker::Model;
 use std::mem;
-
-/// The most states that an end holds.
-const MOST: usize = 8;
 
 /// A state with its number, as a receiver holds it.
 #[derive(Drop)]
@@ -101,7 +99,7 @@ impl<S: Synced> Receiver<S> {
         let Some(base) = state_of(self.earlier.as_slice(), &self.newest, old) else {
             return Ok(Step::Gap);
         };
-        if kept(self.earlier.as_slice(), &self.newest, floor) >= MOST {
+        if kept(self.earlier.as_slice(), &self.newest, floor) >= MOST_HELD {
             return Ok(Step::Gap);
         }
         let mut state = base.copy(alloc)?;

@@ -3,19 +3,11 @@
 ghost use Rattle.std.specs.Prelude.{◌≡◌, ◌+◌, ◌<◌, ◌≤◌, ◌↔◌, ◌⊎◌, false, length, Some, Ok, IfOk, IfErr, OnOk, OnErr, IsTrue, IsErrOf, IsOkUnless};
 ghost use Rattle.roam_sync.specs.Senders.{newest, last_of, is_held, after_ack, mark_base, mark_last, count, start, offered, withdrawn, acked, sent_at, is_due};
 
+use crate::limits::{HEARTBEAT, MOST_HELD, RESEND_AFTER};
 use roam_cells::Fault;
 use roam_update::Synced;
 use std::alloc::Global;
 use std::marker::Model;
-
-/// The most states that an end holds.
-const MOST: usize = 8;
-
-/// Milliseconds after which a newest state that the other end isn't known to have is sent again.
-const RESEND: u64 = 250;
-
-/// Milliseconds after which the newest state is sent again in any case.
-const HEARTBEAT: u64 = 3000;
 
 /// A state with its number, as a sender holds it.
 #[derive(Drop)]
@@ -101,7 +93,7 @@ impl<S: Synced> Sender<S> {
         ensures err { OnErr result (self.new ≡ self.old) }
         ensures fault { IfErr result (λ e. (e ≡ Fault.OutOfMemory) ⊎ (e ≡ Fault.SendFull)) }
     {
-        if self.later.len() + 1 == MOST {
+        if self.later.len() + 1 == MOST_HELD {
             return Err(Fault::SendFull);
         }
         self.later.push(Held {
@@ -158,7 +150,7 @@ impl<S: Synced> Sender<S> {
     {
         let top = newest_of(&self.base, self.later.as_slice());
         let passed = now.saturating_sub(self.last);
-        !top.sent || (!self.later.is_empty() && passed >= RESEND) || passed >= HEARTBEAT
+        !top.sent || (!self.later.is_empty() && passed >= RESEND_AFTER) || passed >= HEARTBEAT
     }
 
     /// Notes that the newest state is sent at this moment.

@@ -3,10 +3,10 @@ use Rattle.std.proofs.Common.{◌≡◌, ℕ, List, [], ◌∷◌, ◌++◌, map
 use Rattle.roam_text.specs.declared.functions.Function.{Function}
 use Rattle.roam_text.specs.Log.{Item, Byte}
 use Rattle.roam_text.specs.Functions.{functions_of}
-use Rattle.roam_text.specs.Stands.{Stands}
+use Rattle.roam_text.specs.Stands.{Stands as Reads}
 use Rattle.roam_term.specs.Terminal.{Terminal, changed_by, answer, after, run, live_after, kept_by, answers_after, started_terminal, term, reports}
 use Rattle.roam_term.specs.Marks.{marked_through}
-use Rattle.roam_term.specs.Stands.{TermView, Shows, Follows, Fed}
+use Rattle.roam_term.specs.Stands.{TermView, Stands, Follows, Fed}
 use Rattle.roam_term.proofs.Lists.{append-nil, map-append}
 use Rattle.roam_term.proofs.Marking.{marked-append}
 
@@ -31,13 +31,13 @@ run-answers t (f ∷ fs) = run-answers (after f t) fs ∙ append_assoc t.answers
 
 -- the reader's clauses, and what the functions changed and answered
 module _ (old new : TermView) (items : List Item) (out : List Function)
-    (reads : (log : List Item) → Stands old.reader log → Stands new.reader (log ++ items))
-    (gained : (log : List Item) → Stands old.reader log → functions_of (log ++ items) ≡ functions_of log ++ out)
+    (reads : (log : List Item) → Reads old.reader log → Reads new.reader (log ++ items))
+    (gained : (log : List Item) → Reads old.reader log → functions_of (log ++ items) ≡ functions_of log ++ out)
     (live : new.live ≡ live_after old.live out)
     (history : new.history ≡ kept_by old.live out old.history)
     (waiting : new.waiting ≡ old.waiting ++ answers_after old.live out)
     (marks : new.marks ≡ marked_through old.live out old.marks) where
-  later : (rows cols lines : ℕ) (log : List Item) → Stands old.reader log → term rows cols lines (log ++ items) ≡ run (term rows cols lines log) out
+  later : (rows cols lines : ℕ) (log : List Item) → Reads old.reader log → term rows cols lines (log ++ items) ≡ run (term rows cols lines log) out
   unfolding term
   later rows cols lines log stands = ap (run (started_terminal rows cols lines)) (gained log stands) ∙ run-append (started_terminal rows cols lines) (functions_of log) out
 
@@ -67,7 +67,7 @@ module _ (old new : TermView) (items : List Item) (out : List Function)
 
 pub fed-none : (t : TermView) → Fed t t []
 fed-none t = record {
-  stands = λ rows cols lines log shows. subst (λ l. Shows t rows cols lines l) (sym (append-nil log)) shows;
+  stands = λ rows cols lines log shows. subst (λ l. Stands t rows cols lines l) (sym (append-nil log)) shows;
   gains = λ rows cols lines log shows. record {
     more = [];
     answers = ap (reports rows cols lines) (append-nil log) ∙ sym (append-nil (reports rows cols lines log));
@@ -84,8 +84,8 @@ together : (log : List Item) (xs ys : List ℕ) → (log ++ map Byte xs) ++ map 
 together log xs ys = append_assoc log (map Byte xs) (map Byte ys) ∙ sym (ap (λ l. log ++ l) (map-append Byte xs ys))
 
 -- what lives in two terminals that stand for one log and a later one
-live-after : (a b : TermView) (rows cols lines : ℕ) (log later : List Item) (fs : List Function) → Shows a rows cols lines log
-    → Shows b rows cols lines later → functions_of later ≡ functions_of log ++ fs → b.live ≡ live_after a.live fs
+live-after : (a b : TermView) (rows cols lines : ℕ) (log later : List Item) (fs : List Function) → Stands a rows cols lines log
+    → Stands b rows cols lines later → functions_of later ≡ functions_of log ++ fs → b.live ≡ live_after a.live fs
 unfolding term
 live-after a b rows cols lines log later fs before after gained =
     after.live ∙ ap (λ gs. (run (started_terminal rows cols lines) gs).live) gained
@@ -96,7 +96,7 @@ live-after a b rows cols lines log later fs before after gained =
 pub fed-then : (a b c : TermView) (xs ys : List ℕ) → Fed a b xs → Fed b c ys → Fed a c (xs ++ ys)
 fed-then a b c xs ys p q = record {
   stands = λ rows cols lines log shows.
-      subst (λ l. Shows c rows cols lines l) (together log xs ys) (q.stands rows cols lines (log ++ map Byte xs) (p.stands rows cols lines log shows));
+      subst (λ l. Stands c rows cols lines l) (together log xs ys) (q.stands rows cols lines (log ++ map Byte xs) (p.stands rows cols lines log shows));
   gains = λ rows cols lines log shows.
       let first = p.gains rows cols lines log shows in
       let second = q.gains rows cols lines (log ++ map Byte xs) (p.stands rows cols lines log shows) in

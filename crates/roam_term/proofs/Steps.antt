@@ -176,8 +176,8 @@ module _ (k : Constants) where
   -- ---- a character is printed where the cursor stands and no wrap is pending
 
   -- the cursor after a cell of so many columns
-  abbrev Stands : ℕ → ℕ → ℕ → Bool → Type 0
-  Stands col n col' pending' = ((pending' ≡ false) × (col' ≡ col + n)) ⊎ ((pending' ≡ true) × (col' ≡ k.cols - 1) × (col + n ≡ k.cols))
+  abbrev StandsAt : ℕ → ℕ → ℕ → Bool → Type 0
+  StandsAt col n col' pending' = ((pending' ≡ false) × (col' ≡ col + n)) ⊎ ((pending' ≡ true) × (col' ≡ k.cols - 1) × (col + n ≡ k.cols))
 
   -- its cell stands there, and every other place is what writing its first character left; inside the row the cursor stands after it
   pub record Printed (cells : List Glyph) (row col : ℕ) (x : Glyph) (visible : Bool) (t : Live) : Type 0 where
@@ -189,7 +189,7 @@ module _ (k : Constants) where
     pub size : length cells' ≡ k.rows * k.cols
     pub hit : cell_at k.cols cells' row col ≡ x
     pub other : (i j : ℕ) → i < k.rows → j < k.cols → (i ≡ row → j ≡ col → ⊥) → cell_at k.cols cells' i j ≡ cell_at k.cols (mapped_cells k.rows k.cols cells (in_row row (writing_source (first_of x) col))) i j
-    pub after : Stands col (columns x) col' pending'
+    pub after : StandsAt col (columns x) col' pending'
 
   pub stands : (cells : List Glyph) (row col : ℕ) (x : Glyph) (visible : Bool) (t : Live) (p : Printed cells row col x visible t) → col + columns x < k.cols
       → (p.col' ≡ col + columns x) × (p.pending' ≡ false)

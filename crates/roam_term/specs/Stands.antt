@@ -6,7 +6,7 @@ use Rattle.roam_cells.specs.Limits.{IsSize}
 use Rattle.roam_history.specs.Histories.{Scrollback}
 use Rattle.roam_text.specs.Functions.{functions_of}
 use Rattle.roam_text.specs.Log.{Item, Byte, Resized}
-use Rattle.roam_text.specs.Stands.{Stands, View}
+use Rattle.roam_text.specs.Stands.{Stands as Reads, View}
 use Rattle.roam_text.specs.declared.functions.Function.{Function}
 use Rattle.roam_term.specs.Marks.{marked_through}
 use Rattle.roam_term.specs.Terminal.{Live, term, reports}
@@ -25,9 +25,9 @@ pub record IsTermSize (rows cols lines : ℕ) : Type 0 where
   pub screen : IsSize rows cols
   pub history : lines ≤ most_lines
 
--- the terminal is what a size, a number of lines and a log make
-pub record Shows (t : TermView) (rows cols lines : ℕ) (log : List Item) : Type 0 where
-  pub reads : Stands t.reader log
+-- a terminal stands for a size, a number of lines and a log: it is what they make
+pub record Stands (t : TermView) (rows cols lines : ℕ) (log : List Item) : Type 0 where
+  pub reads : Reads t.reader log
   pub live : t.live ≡ (term rows cols lines log).live
   pub history : t.history ≡ (term rows cols lines log).history
 
@@ -54,10 +54,10 @@ pub record GainsMarks (old new : TermView) (log later : List Item) : Type 0 wher
 
 -- items make one terminal of another: for every log that the old one stood for, the new one stands for it followed by the items
 pub record Follows (old new : TermView) (items : List Item) : Type 0 where
-  pub stands : (rows cols lines : ℕ) (log : List Item) → Shows old rows cols lines log → Shows new rows cols lines (log ++ items)
-  pub gains : (rows cols lines : ℕ) (log : List Item) → Shows old rows cols lines log
+  pub stands : (rows cols lines : ℕ) (log : List Item) → Stands old rows cols lines log → Stands new rows cols lines (log ++ items)
+  pub gains : (rows cols lines : ℕ) (log : List Item) → Stands old rows cols lines log
       → Gains old.waiting new.waiting rows cols lines log (log ++ items)
-  pub marks : (rows cols lines : ℕ) (log : List Item) → Shows old rows cols lines log → GainsMarks old new log (log ++ items)
+  pub marks : (rows cols lines : ℕ) (log : List Item) → Stands old rows cols lines log → GainsMarks old new log (log ++ items)
 
 -- a piece makes one terminal of another
 abbrev pub Fed : TermView → TermView → List ℕ → Type 0

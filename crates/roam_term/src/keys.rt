@@ -3,7 +3,7 @@ ghost use Rattle.std.specs.Prelude.{◌≡◌, ◌+◌, ◌≤◌, ◌↔◌, �
 ghost use Rattle.roam_keys.specs.Sent.{bytes_of_key};
 ghost use Rattle.roam_text.specs.Log.{Item};
 ghost use Rattle.roam_term.specs.Keys.{key_modes};
-ghost use Rattle.roam_term.specs.Stands.{Shows};
+ghost use Rattle.roam_term.specs.Stands.{Stands};
 ghost use Rattle.roam_term.specs.Limits.{most_output};
 
 use crate::limits::MOST_OUTPUT;
@@ -28,8 +28,8 @@ impl Term {
     pub fn key(&mut self, key: &Key) -> Result<(), Fault>
         ensures ok { IsOk result ↔ (length self.old.waiting + length (bytes_of_key (key_modes self.old.live.modes) key.now) ≤ most_output) }
         ensures waiting { OnOk result (self.new.waiting ≡ self.old.waiting ++ bytes_of_key (key_modes self.old.live.modes) key.now) }
-        ensures stands { OnOk result ((rows cols lines : ℕ) (log : List Item) → Shows self.old rows cols lines log
-            → Shows self.new rows cols lines log) }
+        ensures stands { OnOk result ((rows cols lines : ℕ) (log : List Item) → Stands self.old rows cols lines log
+            → Stands self.new rows cols lines log) }
         ensures live { self.new.live ≡ self.old.live }
         ensures marks { self.new.marks ≡ self.old.marks }
         ensures history { self.new.history ≡ self.old.history }

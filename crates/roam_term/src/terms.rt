@@ -8,7 +8,7 @@ ghost use Rattle.roam_grid.specs.Marks.{all_off, all_on};
 ghost use Rattle.roam_term.specs.Marks.{marked_by, marked_through};
 ghost use Rattle.roam_term.specs.Picture.{picture, picture_of};
 ghost use Rattle.roam_term.specs.Terminal.{changed_by, history_after, answer, live_after, kept_by, answers_after};
-ghost use Rattle.roam_term.specs.Stands.{Shows, Fed, HasSize, IsTermSize, IsAccepted};
+ghost use Rattle.roam_term.specs.Stands.{Stands, Fed, HasSize, IsTermSize, IsAccepted};
 ghost use Rattle.roam_term.specs.Limits.{most_output, longest_piece};
 
 use crate::canvases::Canvas;
@@ -75,7 +75,7 @@ impl Term {
     /// A terminal that has read nothing, of 2 to 200 rows and 4 to 500 columns, with up to 500 lines of history.
     /// Refuses another size or number of lines, and want of memory.
     pub fn new(alloc: Global, rows: u16, cols: u16, lines: u16) -> Result<Self, Fault>
-        ensures stands { IfOk result (λ t. Shows t rows cols lines []) }
+        ensures stands { IfOk result (λ t. Stands t rows cols lines []) }
         ensures waiting { IfOk result (λ t. t.waiting ≡ []) }
         ensures marks { IfOk result (λ t. t.marks ≡ all_on) }
         ensures screen { IfOk result (λ t. HasSize t rows cols) }
@@ -370,7 +370,7 @@ impl Term {
     pub fn take_output(&mut self, n: usize)
         requires waiting { n ≤ length self.old.waiting }
         ensures waiting { self.new.waiting ≡ drop n self.old.waiting }
-        ensures stands { (rows cols lines : ℕ) (log : List Item) → Shows self.old rows cols lines log → Shows self.new rows cols lines log }
+        ensures stands { (rows cols lines : ℕ) (log : List Item) → Stands self.old rows cols lines log → Stands self.new rows cols lines log }
         ensures live { self.new.live ≡ self.old.live }
         ensures marks { self.new.marks ≡ self.old.marks }
         ensures history { self.new.history ≡ self.old.history }
@@ -397,7 +397,7 @@ impl Term {
     /// The screen as it is shown, scrolled back by up to `view` rows of the history; the alternate screen isn't scrolled back. Refuses
     /// want of memory.
     pub fn shot(&self, alloc: Global, view: u16) -> Result<Shot, Fault>
-        ensures picture { IfOk result (λ shot. (rows cols lines : ℕ) (log : List Item) → Shows self.now rows cols lines log
+        ensures picture { IfOk result (λ shot. (rows cols lines : ℕ) (log : List Item) → Stands self.now rows cols lines log
             → shot ≡ picture rows cols lines log view) }
         ensures now { IfOk result (λ shot. shot ≡ picture_of self.now.live self.now.history view) }
         ensures size { IfOk result (λ shot. HasSize self.now shot.rows shot.cols) }
@@ -410,7 +410,7 @@ impl Term {
     /// Adds a row of the screen that `shot` makes, from 0, to a list of cells: no other row is looked at. Refuses want of memory.
     pub fn push_row(&self, view: u16, row: u16, cells: &mut Vec<Cell>) -> Result<(), AllocError>
         requires row { row < self.now.live.screen.rows }
-        ensures picture { IfOk result (λ _. (rows cols lines : ℕ) (log : List Item) → Shows self.now rows cols lines log
+        ensures picture { IfOk result (λ _. (rows cols lines : ℕ) (log : List Item) → Stands self.now rows cols lines log
             → cells.new.items ≡ cells.old.items
             ++ row_of (picture rows cols lines log view).cols (picture rows cols lines log view).cells row) }
         ensures now { IfOk result (λ _. cells.new.items ≡ cells.old.items
@@ -421,7 +421,7 @@ impl Term {
 
     /// The cursor of the screen that `shot` makes, and whether it is visible. It takes no memory.
     pub fn cursor_at(&self, view: u16) -> ((u16, u16), bool)
-        ensures picture { (rows cols lines : ℕ) (log : List Item) → Shows self.now rows cols lines log
+        ensures picture { (rows cols lines : ℕ) (log : List Item) → Stands self.now rows cols lines log
             → (result.0.0 ≡ (picture rows cols lines log view).cursor_row)
             × (result.0.1 ≡ (picture rows cols lines log view).cursor_col)
             × (result.1 ≡ (picture rows cols lines log view).visible) }

@@ -8,7 +8,7 @@ use Rattle.roam_cells.specs.declared.faults.Reason.TheVariants as reason
 use Rattle.roam_screens.specs.Screenshot.{Screenshot}
 use Rattle.roam_sync.specs.declared.receivers.Step.TheVariants as step
 use Rattle.roam_sync.specs.Receivers.{Receiving, pairs, state_at, from_floor, step_for}
-use Rattle.roam_sync.specs.Lines.{Delivers}
+use Rattle.roam_sync.specs.Links.{Delivers}
 use Rattle.roam_sync.proofs.Ends.{meets_old}
 use Rattle.roam_wire.specs.Cutting.{fragments_of, joined_fragments}
 use Rattle.roam_wire.specs.Datagrams.{DatagramValue, IsDatagram, datagram_text}

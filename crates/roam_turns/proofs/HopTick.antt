@@ -33,7 +33,7 @@ use Rattle.roam_world.specs.Moments.{is_spent, is_overdue}
 use Rattle.roam_world.specs.Numbers.{screen}
 use Rattle.roam_world.specs.Texts.{Address, datagram_with, datagrams_of}
 use Rattle.roam_world.specs.Servers.{Record, no_record, Server, moment}
-use Rattle.roam_world.specs.Ticks.{makes, cuts_after, number_after, screen_to, is_live, is_offered, holds_after, sends, down_from, down_to, fragments_to, datagrams_to, is_record_spent, Parcel, parcel, parcels_to, sent_by, is_tick_spent}
+use Rattle.roam_world.specs.Ticks.{makes, cuts_after, number_after, screen_to, is_live, is_offered, holds_after, sends, down_from, down_to, fragments_to, datagrams_to, is_record_spent, Parcel as WorldParcel, parcel, parcels_to, sent_by, is_tick_spent}
 use Rattle.roam_world.proofs.Versions.{change_short}
 use Rattle.roam_world.proofs.Members.{IsIn-map, IsIn-flat_map, IsIn-enumerate, slice_get-within}
 use Rattle.roam_world.proofs.Places.{map_here, flat_here}
@@ -42,7 +42,7 @@ use Rattle.roam_world.proofs.ServerKeeps.{to_record}
 use Rattle.roam_hub.specs.declared.addresses.Addr.{Addr}
 use Rattle.roam_hub.specs.Servers.{RecordView, ServerView, Stands, address_of, parcel_text, is_ack_spent, is_number_spent, Ticks}
 use Rattle.roam_hub.specs.Servers.Ticks.{spent, ticked, no_memory}
-use Rattle.roam_turns.specs.Calls.{Letter, letters_in, letters_of}
+use Rattle.roam_turns.specs.Calls.{Parcel, parcels_in, parcels_of}
 
 -- ---- lists
 
@@ -89,26 +89,26 @@ has_arrived v s id st known = go (lookup (nat_eq id) v.records) refl
 
 -- ---- the texts of a tick
 
-abbrev told_well : List Letter → Result (List Letter) Fault
-told_well letters = Ok letters
+abbrev told_well : List Parcel → Result (List Parcel) Fault
+told_well parcels = Ok parcels
 
-ok_is : (a b : List Letter) → told_well a ≡ told_well b → a ≡ b
+ok_is : (a b : List Parcel) → told_well a ≡ told_well b → a ≡ b
 ok_is a b e = cc
 
--- the letters are the texts of what is sent
+-- the parcels are the texts of what is sent
 pub texts_sent : (s : Server) (now : ℕ) (result : Result (Vec (Addr × Vec ℕ Global) Global) Fault) (new : ServerView)
-    (letters : List Letter) → letters_of result ≡ Ok letters → Ticks s now result new
+    (parcels : List Parcel) → parcels_of result ≡ Ok parcels → Ticks s now result new
     → (is_number_spent s (moment s now) ≡ false)
-    × (map (λ (l : Letter). l.1) letters ≡ map (λ (p : Parcel). datagram_text p.datagram) (sent_by s (moment s now)))
-texts_sent s now result new letters e (spent a b st) = absurd (let no : Err Spent ≡ Ok letters = sym (ap letters_of b) ∙ e in cc)
-texts_sent s now result new letters e (no_memory due free b st) = absurd (let no : Err OutOfMemory ≡ Ok letters = sym (ap letters_of b) ∙ e in cc)
-texts_sent s now result new letters e (ticked all a b parcels st) =
-    let is : letters_in all.items ≡ letters = ok_is (letters_in all.items) letters (sym (ap letters_of b) ∙ e) in (
+    × (map (λ (l : Parcel). l.1) parcels ≡ map (λ (p : WorldParcel). datagram_text p.datagram) (sent_by s (moment s now)))
+texts_sent s now result new parcels e (spent a b st) = absurd (let no : Err Spent ≡ Ok parcels = sym (ap parcels_of b) ∙ e in cc)
+texts_sent s now result new parcels e (no_memory due free b st) = absurd (let no : Err OutOfMemory ≡ Ok parcels = sym (ap parcels_of b) ∙ e in cc)
+texts_sent s now result new parcels e (ticked all a b are st) =
+    let is : parcels_in all.items ≡ parcels = ok_is (parcels_in all.items) parcels (sym (ap parcels_of b) ∙ e) in (
       a,
-      ap (map (λ (l : Letter). l.1)) (sym is)
-          ∙ (map_both (λ (p : Addr × Vec ℕ Global). (p.0, p.1.items)) (λ (l : Letter). l.1) all.items
+      ap (map (λ (l : Parcel). l.1)) (sym is)
+          ∙ (map_both (λ (p : Addr × Vec ℕ Global). (p.0, p.1.items)) (λ (l : Parcel). l.1) all.items
           ∙ (sym (map_both (λ (p : Addr × Vec ℕ Global). (address_of p.0, p.1.items)) (λ (l : Address × List ℕ). l.1) all.items)
-          ∙ (ap (map (λ (l : Address × List ℕ). l.1)) parcels
+          ∙ (ap (map (λ (l : Address × List ℕ). l.1)) are
           ∙ map_both parcel_text (λ (l : Address × List ℕ). l.1) (sent_by s (moment s now))))),
     )
 
@@ -150,15 +150,15 @@ tells_client d lt =
 
 -- of what a tick sends, a text that tells a start's id is that of a datagram to the start
 pub of_start : (s : Server) (m id : ℕ) (bytes : List ℕ) → ((j : ℕ) → IsIn j s.arrival → j < 2 ^ 64)
-    → IsIn bytes (map (λ (p : Parcel). datagram_text p.datagram) (sent_by s m)) → (header_at bytes).client ≡ id
+    → IsIn bytes (map (λ (p : WorldParcel). datagram_text p.datagram) (sent_by s m)) → (header_at bytes).client ≡ id
     → (d : DatagramValue) × IsIn d (datagrams_to s.session id (s.records id) (number_after s m) (screen_to s m id) m)
     × (datagram_text d ≡ bytes)
 of_start s m id bytes ids i to =
-    let a = IsIn-map (λ (p : Parcel). datagram_text p.datagram) bytes (sent_by s m) i in
+    let a = IsIn-map (λ (p : WorldParcel). datagram_text p.datagram) bytes (sent_by s m) i in
     let f = IsIn-flat_map (parcels_to s m) a.0 s.arrival a.1 in
     let p = IsIn-map (parcel (s.records f.0).address) a.0
     (datagrams_to s.session f.0 (s.records f.0) (number_after s m) (screen_to s m f.0) m) f.2 in
-    let text : datagram_text p.0 ≡ bytes = ap (λ (x : Parcel). datagram_text x.datagram) p.2 ∙ a.2 in
+    let text : datagram_text p.0 ≡ bytes = ap (λ (x : WorldParcel). datagram_text x.datagram) p.2 ∙ a.2 in
     let client : p.0.client ≡ f.0 =
     (to_record s.session f.0 (s.records f.0) (number_after s m) (screen_to s m f.0) m p.0 p.1).client_is in
     let at : f.0 ≡ id = sym client ∙ (sym (tells_client p.0 (subst (λ (k : ℕ). k < 2 ^ 64) (sym client) (ids f.0 f.1)))
@@ -170,9 +170,9 @@ of_start s m id bytes ids i to =
 -- and each datagram to the start is sent
 pub is_sent : (s : Server) (m id : ℕ) (d : DatagramValue) → IsIn id s.arrival
     → IsIn d (datagrams_to s.session id (s.records id) (number_after s m) (screen_to s m id) m)
-    → IsIn (datagram_text d) (map (λ (p : Parcel). datagram_text p.datagram) (sent_by s m))
+    → IsIn (datagram_text d) (map (λ (p : WorldParcel). datagram_text p.datagram) (sent_by s m))
 is_sent s m id d there i =
-    map_here (λ (p : Parcel). datagram_text p.datagram) (parcel (s.records id).address d) (sent_by s m)
+    map_here (λ (p : WorldParcel). datagram_text p.datagram) (parcel (s.records id).address d) (sent_by s m)
     (flat_here (parcels_to s m) id (parcel (s.records id).address d) s.arrival there
     (map_here (parcel (s.records id).address) d
     (datagrams_to s.session id (s.records id) (number_after s m) (screen_to s m id) m) i))

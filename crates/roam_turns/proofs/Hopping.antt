@@ -19,14 +19,14 @@ use Rattle.roam_world.specs.Versions.{seen_by, IsSeenBy}
 use Rattle.roam_world.specs.Lists.{IsIn}
 use Rattle.roam_world.specs.Texts.{datagram_with, datagrams_of}
 use Rattle.roam_world.specs.Servers.{Record, Server, moment}
-use Rattle.roam_world.specs.Ticks.{number_after, screen_to, Parcel, sent_by}
+use Rattle.roam_world.specs.Ticks.{number_after, screen_to, Parcel as WorldParcel, sent_by}
 use Rattle.roam_world.specs.Clients.{Client, shown_screen}
 use Rattle.roam_world.proofs.Versions.{seen_is}
 use Rattle.roam_world.proofs.Places.{map_here, enumerate_here, some_at}
 use Rattle.roam_hub.specs.declared.clients.Heard.{Heard}
 use Rattle.roam_hub.specs.Servers.{is_number_spent}
 use Rattle.roam_hub.specs.Clients.{ClientView}
-use Rattle.roam_turns.specs.Calls.{Letter, ClientCall}
+use Rattle.roam_turns.specs.Calls.{Parcel, ClientCall}
 use Rattle.roam_turns.specs.Calls.ClientCall.{Typed, ToClient, ClientTick}
 use Rattle.roam_turns.specs.Hops.{IsHandedOver, Hop, seen_face, Arrives}
 use Rattle.roam_turns.proofs.HopTick.{has_arrived, texts_sent, of_start, is_sent, is_to, told, is_live_then, datagrams_then, is_of, are_datagrams, instruction_low, datagrams_low, told_down, screen_made, told_short}
@@ -67,8 +67,8 @@ module _ (faces : (size : SessionSize) (log : List Entry) → IsSessionSize size
   seen = subst (IsSeenBy r.version) (sym is_screen) (seen_is r.version (face s.size s.log) (faces s.size s.log h.ids.size))
 
   texts : (is_number_spent s m ≡ false)
-      × (map (λ (l : Letter). l.1) h.letters ≡ map (λ (p : Parcel). datagram_text p.datagram) (sent_by s m))
-  texts = let t = h.ticks s h.server_stands in texts_sent s now t.0 h.ticked h.letters t.1 t.2
+      × (map (λ (l : Parcel). l.1) h.parcels ≡ map (λ (p : WorldParcel). datagram_text p.datagram) (sent_by s m))
+  texts = let t = h.ticks s h.server_stands in texts_sent s now t.0 h.ticked h.parcels t.1 t.2
 
   low : r.sender.base.number ≤ number_after s m
   low = let from = h.ready.from in let below = h.ready.below in omega (arith, from, below)
@@ -91,7 +91,7 @@ module _ (faces : (size : SessionSize) (log : List Entry) → IsSessionSize size
   good : (call : ClientCall) → IsIn call h.calls → IsGood s.session id (number_after s m) c r shot h.ready seen down call
   good call i = go call (h.hands_over.just call i)
     where
-      go : (call : ClientCall) → IsHandedOver h.letters id call → IsGood s.session id (number_after s m) c r shot h.ready seen down call
+      go : (call : ClientCall) → IsHandedOver h.parcels id call → IsGood s.session id (number_after s m) c r shot h.ready seen down call
       go (Typed act answer) given = absurd given
       go (ClientTick at answer) given = absurd given
       go (ToClient bytes at answer) given =

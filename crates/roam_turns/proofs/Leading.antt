@@ -10,9 +10,9 @@ use Rattle.roam_paint.specs.Ground.{Displays, PaintedLeadsOver, OpenedBeginsBlan
 use Rattle.roam_paint.specs.Painting.{text_between, blanking_text}
 use Rattle.roam_hub.specs.declared.addresses.Addr.{Addr}
 use Rattle.roam_turns.specs.declared.outer.Noted.{Noted}
-use Rattle.roam_turns.specs.Calls.{Letter, PortCall, ClientCall}
+use Rattle.roam_turns.specs.Calls.{Parcel, PortCall, ClientCall}
 use Rattle.roam_turns.specs.Calls.PortCall.{Now, Received, NothingReceived, Sent, PaneLives, PaneGave, PaneGaveNothing, PaneTook, Showed}
-use Rattle.roam_turns.specs.Painting.{IsNoted, IsBehind, IsReady, Fits, Shows, Leads, Led, text_for}
+use Rattle.roam_turns.specs.Painting.{IsNoted, IsBehind, DisplaysNoted, Fits, Shows, Leads, Led, text_for}
 use Rattle.roam_turns.specs.Parts.{Call, ReceivesUpTo}
 use Rattle.roam_turns.specs.Parts.Call.{Port, Core}
 use Rattle.roam_turns.specs.Turns.{Sends, Types, IsToClient, Paints, ClientTicks, AttachTurn, shown_in}
@@ -46,10 +46,10 @@ receives_quiet now (suc n) xs (inr more) =
     ap shown_in more.all ∙ (shown_both more.before more.after
     ∙ (ap (λ l. l ++ shown_in more.after) (ap shown_in more.first.all) ∙ receives_quiet now n more.after more.later))
 
-sends_quiet : (letters : List Letter) (sent : List PortCall) → Sends letters sent → shown_in {C = ClientCall} (map Port sent) ≡ []
+sends_quiet : (parcels : List Parcel) (sent : List PortCall) → Sends parcels sent → shown_in {C = ClientCall} (map Port sent) ≡ []
 sends_quiet [] sent h = ap (λ l. shown_in {C = ClientCall} (map Port l)) h
-sends_quiet (letter ∷ letters) sent h =
-    ap (λ l. shown_in {C = ClientCall} (map Port l)) h.2 ∙ sends_quiet letters h.1 h.3
+sends_quiet (parcel ∷ parcels) sent h =
+    ap (λ l. shown_in {C = ClientCall} (map Port l)) h.2 ∙ sends_quiet parcels h.1 h.3
 
 ticks_quiet : (now : ℕ) (to : Addr) (xs : List (Call ClientCall)) → ClientTicks now to xs → shown_in xs ≡ []
 ticks_quiet now to xs h = ap shown_in h.2 ∙ sends_quiet _ h.1 h.3
@@ -64,7 +64,7 @@ shows_noted outer (Some noted) bytes n s leads behind is = subst (Shows outer by
 
 module _ (painted_leads : PaintedLeadsOver) (opened_begins : OpenedBeginsBlank) where
   text_leads : (outer : Option Noted) (s : Screenshot) → IsScreenshot s → (rows cols lines : ℕ) (log : List Item)
-      → IsReady rows cols lines log outer → Fits rows cols lines log s → Displays rows cols lines (log ++ map Byte (text_for outer s)) s
+      → DisplaysNoted rows cols lines log outer → Fits rows cols lines log s → Displays rows cols lines (log ++ map Byte (text_for outer s)) s
   text_leads None s is rows cols lines log ready fits =
       let open_text = opened_begins rows cols lines log ready.0 ready.1 in
       let blank = blank_screenshot s.rows s.cols in

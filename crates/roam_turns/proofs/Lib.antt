@@ -1,6 +1,6 @@
 pub mod Making
 pub mod Taking
-pub mod Letters
+pub mod Parcels
 pub mod Starts
 pub mod Painted
 pub mod Leading

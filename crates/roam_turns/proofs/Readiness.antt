@@ -8,9 +8,9 @@ use Rattle.roam_screens.specs.Screenshot.{Screenshot}
 use Rattle.roam_sync.specs.declared.senders.Held.{Held}
 use Rattle.roam_sync.specs.Senders.{newest, count}
 use Rattle.roam_sync.specs.Receivers.{pairs, state_at, from_floor}
-use Rattle.roam_sync.specs.Lines.{IsAmong, numbers_held, numbers_had}
-use Rattle.roam_sync.specs.Links.{Link}
-use Rattle.roam_sync.specs.TrueLines.{TrueLine}
+use Rattle.roam_sync.specs.Links.{IsAmong, numbers_held, numbers_had}
+use Rattle.roam_sync.specs.InStep.{AreInStep}
+use Rattle.roam_sync.specs.TrueLinks.{TrueLink}
 use Rattle.roam_sync.proofs.Ends.{held_rises, had_rises, newest_greatest, floor_length, found}
 use Rattle.roam_sync.proofs.Numbers.{among_filter, low_from, rising-filter, no_longer}
 use Rattle.roam_sync.proofs.Rounds.{not_above}
@@ -44,11 +44,11 @@ module _ (w : World) (h : Holds w) (id now : ℕ) (e : IsOffered w.server id now
   abbrev Is : ℕ → Screenshot → Type 0
   Is = IsScreenOf (w.clients id).version w.server.size w.server.log w.server.cuts
 
-  link : Link r.sender x.receiver (Tells r.instructions) (Acks x.instructions)
-  link = (h.lines id).link
+  in_step : AreInStep r.sender x.receiver (Tells r.instructions) (Acks x.instructions)
+  in_step = (h.links id).in_step
 
-  truth : TrueLine (applied_by x.version) Is r.sender x.receiver (Tells r.instructions)
-  truth = (h.lines id).truth
+  truth : TrueLink (applied_by x.version) Is r.sender x.receiver (Tells r.instructions)
+  truth = (h.links id).truth
 
   parts : (is_live r (moment w.server now) ≡ true) × (nat_lt (newest r.sender).number (number_by w.server now) ≡ true)
       × (nat_lt (count r.sender) 8 ≡ true)
@@ -70,7 +70,7 @@ module _ (w : World) (h : Holds w) (id now : ℕ) (e : IsOffered w.server id now
   base_held : state_at r.sender.base.number (pairs x.receiver) ≡ Some r.sender.base.state
   base_held =
       let at = some_there (state_at r.sender.base.number (pairs x.receiver))
-      (found r.sender.base.number (pairs x.receiver) link.base_there) in
+      (found r.sender.base.number (pairs x.receiver) in_step.base_there) in
       let mine = found_true Is r.sender.base.number (pairs x.receiver) at.0 truth.receiver at.1 in
       let theirs = All-head (λ (k : Held Screenshot). Is k.number k.state) r.sender.base r.sender.later truth.sender in
       let same = one_screen x.version w.server.size w.server.log w.server.cuts r.sender.base.number at.0 r.sender.base.state mine theirs in
@@ -81,8 +81,8 @@ module _ (w : World) (h : Holds w) (id now : ℕ) (e : IsOffered w.server id now
   few_from =
       let base = r.sender.base.number in
       let kept = filter (leb base) (numbers_had x.receiver) in
-      let rising = rising-filter (leb base) (numbers_had x.receiver) (had_rises x.receiver.earlier x.receiver.newest link.receiver_rises) in
-      let fits = no_longer kept (numbers_held r.sender) rising (held_rises base r.sender.later link.sender_rises) within in
+      let rising = rising-filter (leb base) (numbers_had x.receiver) (had_rises x.receiver.earlier x.receiver.newest in_step.receiver_rises) in
+      let fits = no_longer kept (numbers_held r.sender) rising (held_rises base r.sender.later in_step.sender_rises) within in
       let same = floor_length base (pairs x.receiver) in
       let long = length-map (r.sender.base ∷ r.sender.later) (λ (k : Held Screenshot). k.number) in
       let few = few_held in
@@ -92,18 +92,18 @@ module _ (w : World) (h : Holds w) (id now : ℕ) (e : IsOffered w.server id now
           → IsAmong n (numbers_held (w.server.records id).sender)
       within n a =
           let had = among_filter (leb (w.server.records id).sender.base.number) n (numbers_had (w.clients id).receiver) a in
-          link.from_base n had (low_from (w.server.records id).sender.base.number n (numbers_had (w.clients id).receiver) a)
+          in_step.from_base n had (low_from (w.server.records id).sender.base.number n (numbers_had (w.clients id).receiver) a)
 
   ready : IsReady (number_by w.server now) r x
   ready =
       let up = above in
-      let top = not_above r.sender x.receiver (Tells r.instructions) (Acks x.instructions) link in
+      let top = not_above r.sender x.receiver (Tells r.instructions) (Acks x.instructions) in_step in
       record {
         version = sym ((h.fits id).version known);
         base = base_held;
-        from = newest_greatest x.receiver.earlier x.receiver.newest r.sender.base.number link.receiver_rises link.base_there;
+        from = newest_greatest x.receiver.earlier x.receiver.newest r.sender.base.number in_step.receiver_rises in_step.base_there;
         below = omega (arith, up, top);
-        gathered = (h.lines id).gathers_down.low;
+        gathered = (h.links id).gathers_down.low;
         few = few_from;
       }
 

@@ -13,7 +13,7 @@ use Rattle.roam_wire.specs.declared.versions.Version.{Version}
 use Rattle.roam_sync.specs.declared.receivers.Step.{Step}
 use Rattle.roam_sync.specs.declared.receivers.Step.TheVariants as step
 use Rattle.roam_sync.specs.Receivers.{Receiving, step_for}
-use Rattle.roam_sync.specs.Lines.{Update, Delivers}
+use Rattle.roam_sync.specs.Links.{Update, Delivers}
 use Rattle.roam_wire.specs.Instructions.{UpValue}
 use Rattle.roam_world.specs.Texts.{update_in}
 use Rattle.roam_world.specs.Clients.{Client as ClientOf}

@@ -44,8 +44,8 @@ pane_gave pane room (Some n) buf = PaneGave pane room (take n buf)
 -- ---- cores
 
 -- a datagram's text, and where it goes
-abbrev pub Letter : Type 0
-Letter = Addr × List ℕ
+abbrev pub Parcel : Type 0
+Parcel = Addr × List ℕ
 
 -- A call of the server with its answer: a datagram that came from somewhere at a moment; which making of a pane is there; how much room
 -- there is for the output of a pane; bytes of a pane's program; the first bytes, so many at most, that wait for one; so many of them that
@@ -57,7 +57,7 @@ pub data ServerCall : Type 0 where
   PaneBytes : ℕ → List ℕ → Result (Unit {0}) Fault → ServerCall
   Output : ℕ → ℕ → Option (List ℕ) → ServerCall
   Drain : ℕ → ℕ → Result (Unit {0}) Fault → ServerCall
-  ServerTick : ℕ → Result (List Letter) Fault → ServerCall
+  ServerTick : ℕ → Result (List Parcel) Fault → ServerCall
 
 -- a call of a client start with its answer: an act that was typed; a datagram that came at a moment; a tick at a moment
 pub data ClientCall : Type 0 where
@@ -70,13 +70,13 @@ abbrev pub copied_bytes : Option ℕ → List ℕ → Option (List ℕ)
 copied_bytes None out = None
 copied_bytes (Some n) out = Some (take n out)
 
-abbrev pub letters_in : List (Addr × Vec ℕ Global) → List Letter
-letters_in all = map (λ p. (p.0, p.1.items)) all
+abbrev pub parcels_in : List (Addr × Vec ℕ Global) → List Parcel
+parcels_in all = map (λ p. (p.0, p.1.items)) all
 
--- the letters of a server's tick
-abbrev pub letters_of : Result (Vec (Addr × Vec ℕ Global) Global) Fault → Result (List Letter) Fault
-letters_of (Ok all) = Ok (letters_in all.items)
-letters_of (Err fault) = Err fault
+-- the parcels of a server's tick
+abbrev pub parcels_of : Result (Vec (Addr × Vec ℕ Global) Global) Fault → Result (List Parcel) Fault
+parcels_of (Ok all) = Ok (parcels_in all.items)
+parcels_of (Err fault) = Err fault
 
 -- the texts of a client start's tick
 abbrev pub texts_in : Result (Vec (Vec ℕ Global) Global) Fault → Result (List (List ℕ)) Fault

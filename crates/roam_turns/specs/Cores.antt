@@ -11,7 +11,7 @@ use Rattle.roam_world.specs.Clients.{Client as ClientOf}
 use Rattle.roam_hub.specs.Servers.{ServerView, Stands as ServerStands, Feeds, Drains, Comes, Ticks, address_of}
 use Rattle.roam_hub.specs.Clients.{ClientView, Stands as ClientStands, Types, Hears, Sends}
 use Rattle.roam_hub.specs.declared.addresses.Addr.{Addr}
-use Rattle.roam_turns.specs.Calls.{ServerCall, ClientCall, letters_of, texts_in}
+use Rattle.roam_turns.specs.Calls.{ServerCall, ClientCall, parcels_of, texts_in}
 use Rattle.roam_turns.specs.Calls.ServerCall.{ToServer, Life, Room, PaneBytes, Output, Drain, ServerTick}
 use Rattle.roam_turns.specs.Calls.ClientCall.{Typed, ToClient, ClientTick}
 
@@ -29,7 +29,7 @@ server_step old (Output pane most answer) new = (new ≡ old)
     × ((s : ServerOf) → ServerStands old s → answer ≡ option_map (take most) (output_at s.size s.log pane))
 server_step old (Drain pane n answer) new = (s : ServerOf) → ServerStands old s → Drains s pane n answer new
 server_step old (ServerTick now answer) new = (s : ServerOf) → ServerStands old s
-    → (result : Result (Vec (Addr × Vec ℕ Global) Global) Fault) × (letters_of result ≡ answer) × Ticks s now result new
+    → (result : Result (Vec (Addr × Vec ℕ Global) Global) Fault) × (parcels_of result ≡ answer) × Ticks s now result new
 
 -- for every start that it stood for: what the call answers, and which start it stands for then
 abbrev pub client_step : ClientView → ClientCall → ClientView → Type 0

@@ -19,7 +19,7 @@ use Rattle.roam_world.specs.Worlds.{World}
 use Rattle.roam_hub.specs.Servers.{ServerView, Stands as ServerStands}
 use Rattle.roam_hub.specs.Clients.{ClientView, Stands as ClientStands}
 use Rattle.roam_hub.specs.declared.clients.Heard.{Heard}
-use Rattle.roam_turns.specs.Calls.{Letter, ClientCall, RunOf}
+use Rattle.roam_turns.specs.Calls.{Parcel, ClientCall, RunOf}
 use Rattle.roam_turns.specs.Calls.ServerCall.{ServerTick}
 use Rattle.roam_turns.specs.Calls.ClientCall.{Typed, ToClient, ClientTick}
 use Rattle.roam_turns.specs.Cores.{server_step, client_step}
@@ -63,20 +63,20 @@ pub record IsReadyForTicks (w : World) : Type 0 where
 abbrev pub IsTo : ℕ → List ℕ → Type 0
 IsTo id bytes = (header_at bytes).client ≡ id
 
--- a start is handed a letter to it, and memory isn't wanting
-abbrev pub IsHandedOver : List Letter → ℕ → ClientCall → Type 0
-IsHandedOver letters id (ToClient bytes now answer) =
-    IsIn bytes (map (λ (l : Letter). l.1) letters) × IsTo id bytes × ((answer ≡ Err OutOfMemory) → ⊥)
-IsHandedOver letters id (Typed act answer) = ⊥
-IsHandedOver letters id (ClientTick now answer) = ⊥
+-- a start is handed a parcel to it, and memory isn't wanting
+abbrev pub IsHandedOver : List Parcel → ℕ → ClientCall → Type 0
+IsHandedOver parcels id (ToClient bytes now answer) =
+    IsIn bytes (map (λ (l : Parcel). l.1) parcels) × IsTo id bytes × ((answer ≡ Err OutOfMemory) → ⊥)
+IsHandedOver parcels id (Typed act answer) = ⊥
+IsHandedOver parcels id (ClientTick now answer) = ⊥
 
--- just the letters to a start are handed to it, each at least once, in any order, and memory is never wanting
-pub record HandsOver (letters : List Letter) (id : ℕ) (calls : List ClientCall) : Type 0 where
-  pub just : (call : ClientCall) → IsIn call calls → IsHandedOver letters id call
-  pub all : (bytes : List ℕ) → IsIn bytes (map (λ (l : Letter). l.1) letters) → IsTo id bytes
+-- just the parcels to a start are handed to it, each at least once, in any order, and memory is never wanting
+pub record HandsOver (parcels : List Parcel) (id : ℕ) (calls : List ClientCall) : Type 0 where
+  pub just : (call : ClientCall) → IsIn call calls → IsHandedOver parcels id call
+  pub all : (bytes : List ℕ) → IsIn bytes (map (λ (l : Parcel). l.1) parcels) → IsTo id bytes
       → (now : ℕ) × (answer : Result Heard Fault) × IsIn (ToClient bytes now answer) calls
 
--- A tick of a server makes a number and offers it to a start that is ready for it, and just the letters to it come there. Of both ends it
+-- A tick of a server makes a number and offers it to a start that is ready for it, and just the parcels to it come there. Of both ends it
 -- is known what the contracts of their calls say, and nothing else.
 pub record Hop (s : Server) (id now : ℕ) (c : Client) (after : ClientView) : Type 0 where
   pub ids : HasIds s
@@ -85,13 +85,13 @@ pub record Hop (s : Server) (id now : ℕ) (c : Client) (after : ClientView) : T
   pub ready : IsReady (number_by s now) (s.records id) c
   pub server : ServerView
   pub server_stands : ServerStands server s
-  pub letters : List Letter
+  pub parcels : List Parcel
   pub ticked : ServerView
-  pub ticks : server_step server (ServerTick now (Ok letters)) ticked
+  pub ticks : server_step server (ServerTick now (Ok parcels)) ticked
   pub client : ClientView
   pub client_stands : ClientStands client s.session id c
   pub calls : List ClientCall
-  pub hands_over : HandsOver letters id calls
+  pub hands_over : HandsOver parcels id calls
   pub come : RunOf client_step client calls after
 
 -- the face of all that was put into the session, as a start's version is shown it

@@ -33,9 +33,9 @@ IsBehind (Some noted) n s = Follows noted.number noted.screen n s
 -- ---- what the terminal shows
 
 -- a terminal of a size, with so many lines of history, shows after a log what is noted; where nothing is, it is any terminal
-abbrev pub IsReady : ℕ → ℕ → ℕ → List Item → Option Noted → Type 0
-IsReady rows cols lines log None = (1 ≤ (term rows cols lines log).live.screen.rows) × (1 ≤ (term rows cols lines log).live.screen.cols)
-IsReady rows cols lines log (Some noted) = Displays rows cols lines log noted.screen
+abbrev pub DisplaysNoted : ℕ → ℕ → ℕ → List Item → Option Noted → Type 0
+DisplaysNoted rows cols lines log None = (1 ≤ (term rows cols lines log).live.screen.rows) × (1 ≤ (term rows cols lines log).live.screen.cols)
+DisplaysNoted rows cols lines log (Some noted) = Displays rows cols lines log noted.screen
 
 -- a screen has at most the terminal's rows and columns
 pub record Fits (rows cols lines : ℕ) (log : List Item) (s : Screenshot) : Type 0 where
@@ -46,7 +46,7 @@ pub record Fits (rows cols lines : ℕ) (log : List Item) (s : Screenshot) : Typ
 -- terminal between sequences.
 abbrev pub Shows : Option Noted → List ℕ → Screenshot → Type 0
 Shows outer bytes screen =
-    (rows cols lines : ℕ) (log : List Item) → IsReady rows cols lines log outer → Fits rows cols lines log screen
+    (rows cols lines : ℕ) (log : List Item) → DisplaysNoted rows cols lines log outer → Fits rows cols lines log screen
     → Displays rows cols lines (log ++ map Byte bytes) screen
 
 -- once they are written it shows what is noted then

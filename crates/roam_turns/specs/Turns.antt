@@ -7,7 +7,7 @@ use Rattle.roam_acts.specs.declared.acts.Act.{Act}
 use Rattle.roam_hub.specs.declared.addresses.Addr.{Addr}
 use Rattle.roam_hub.specs.declared.addresses.Stop.{Stop}
 use Rattle.roam_hub.specs.declared.clients.Heard.{Heard}
-use Rattle.roam_turns.specs.Calls.{Letter, PortCall, ServerCall, ClientCall}
+use Rattle.roam_turns.specs.Calls.{Parcel, PortCall, ServerCall, ClientCall}
 use Rattle.roam_turns.specs.Calls.PortCall.{Now, Sent, PaneLives, PaneGave, PaneGaveNothing, PaneTook, Showed}
 use Rattle.roam_turns.specs.Calls.ServerCall.{ToServer, Life, Room, PaneBytes, Output, Drain, ServerTick}
 use Rattle.roam_turns.specs.Calls.ClientCall.{Typed, ToClient, ClientTick}
@@ -23,11 +23,11 @@ abbrev pub sent_in : {L : Type 0} → Result (List L) Fault → List L
 sent_in (Ok all) = all
 sent_in (Err fault) = []
 
--- each letter is sent, in their order
-abbrev pub Sends : List Letter → List PortCall → Type 0
+-- each parcel is sent, in their order
+abbrev pub Sends : List Parcel → List PortCall → Type 0
 Sends [] calls = calls ≡ []
-Sends (letter ∷ letters) calls =
-    (went : Bool) × (rest : List PortCall) × (calls ≡ Sent letter.0 letter.1 went ∷ rest) × Sends letters rest
+Sends (parcel ∷ parcels) calls =
+    (went : Bool) × (rest : List PortCall) × (calls ≡ Sent parcel.0 parcel.1 went ∷ rest) × Sends parcels rest
 
 -- ---- the server's turn
 
@@ -67,10 +67,10 @@ pub data FillsPane (pane : ℕ) (calls : List (Call ServerCall)) : Type 0 where
       → calls ≡ Core (Output pane longest_piece (Some bytes)) ∷ Port (PaneTook pane bytes n) ∷ Core (Drain pane n answer) ∷ []
       → FillsPane pane calls
 
--- a tick, and each of its letters is sent; a refused tick sends nothing
+-- a tick, and each of its parcels is sent; a refused tick sends nothing
 abbrev pub ServerTicks : ℕ → List (Call ServerCall) → Type 0
 ServerTicks now calls =
-    (answer : Result (List Letter) Fault) × (sent : List PortCall)
+    (answer : Result (List Parcel) Fault) × (sent : List PortCall)
     × (calls ≡ Core (ServerTick now answer) ∷ map Port sent) × Sends (sent_in answer) sent
 
 -- the server's turn: the moment; at most 32 datagrams of up to 2,048 bytes; the lives of panes 1 to 9 are told, then these panes are asked,
@@ -104,14 +104,14 @@ pub data Paints (number : ℕ) (screen : Screenshot) (outer outer' : Option Note
   failed : (IsNoted number outer → ⊥) → calls ≡ Port (Showed (text_for outer screen) false) ∷ [] → outer' ≡ None
       → Paints number screen outer outer' calls
 
-abbrev pub letter_to : Addr → List ℕ → Letter
-letter_to to text = (to, text)
+abbrev pub parcel_to : Addr → List ℕ → Parcel
+parcel_to to text = (to, text)
 
 -- a tick, and each of its texts is sent to an address; a refused tick sends nothing
 abbrev pub ClientTicks : ℕ → Addr → List (Call ClientCall) → Type 0
 ClientTicks now to calls =
     (answer : Result (List (List ℕ)) Fault) × (sent : List PortCall)
-    × (calls ≡ Core (ClientTick now answer) ∷ map Port sent) × Sends (map (letter_to to) (sent_in answer)) sent
+    × (calls ≡ Core (ClientTick now answer) ∷ map Port sent) × Sends (map (parcel_to to) (sent_in answer)) sent
 
 -- the turn of a client start: the moment; the next act; at most 32 datagrams of up to 2,048 bytes; its screen; a tick
 pub record AttachTurn (number : ℕ) (screen : Screenshot) (outer outer' : Option Noted) (to : Addr) (next : Option Act) (taken : Bool)

@@ -4,7 +4,7 @@ ghost use Rattle.roam_acts.specs.Acts.{IsInRange};
 ghost use Rattle.roam_screens.specs.Screenshot.{Screenshot};
 ghost use Rattle.roam_screens.specs.Shown.{shown_by};
 ghost use Rattle.roam_session.specs.Queues.{IsWithin};
-ghost use Rattle.roam_turns.specs.Calls.{Tells, ServerCall, ClientCall, copied_bytes, letters_of, texts_in};
+ghost use Rattle.roam_turns.specs.Calls.{Tells, ServerCall, ClientCall, copied_bytes, parcels_of, texts_in};
 ghost use Rattle.roam_turns.specs.Calls.ServerCall.{ToServer, Life, Room, PaneBytes, Output, Drain, ServerTick};
 ghost use Rattle.roam_turns.specs.Calls.ClientCall.{Typed, ToClient, ClientTick};
 ghost use Rattle.roam_session.specs.Stands.{waiting_at};
@@ -63,8 +63,8 @@ pub trait ServerCore {
 
     /// The datagrams to send at a moment, each with where it goes.
     fn tick(&mut self, alloc: Global, now: u64) -> Result<Vec<(Addr, Vec<u8>)>, Fault>
-        ensures tells { Tells (made self.old) (made self.new) (ServerTick now (letters_of result) ∷ []) }
-        ensures step { step self.old (ServerTick now (letters_of result)) self.new };
+        ensures tells { Tells (made self.old) (made self.new) (ServerTick now (parcels_of result) ∷ []) }
+        ensures step { step self.old (ServerTick now (parcels_of result)) self.new };
 }
 
 /// A client start, as a turn calls it.

@@ -2,7 +2,7 @@
 ghost use Rattle.roam_world.specs.Laws.{Always};
 ghost use Rattle.roam_turns.specs.Hops.{IsReadyForTicks, OneHop};
 
-/// One hop. Where a tick of a server makes a number and offers it to a client start that is ready for it, and just the letters to that
+/// One hop. Where a tick of a server makes a number and offers it to a client start that is ready for it, and just the parcels to that
 /// start come there, each at least once, in any order: the start shows the face of all that was put into the session until then, as its
 /// version is shown it, and the text of `paint` leads a terminal that displayed what the start showed before to that face.
 pub fn one_hop()

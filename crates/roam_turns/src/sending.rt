@@ -2,18 +2,18 @@
 ghost use Rattle.std.specs.Prelude.{◌≡◌, List, map};
 ghost use Rattle.std.specs.Io.KnownBytes.{Keeps};
 ghost use Rattle.roam_wire.specs.Cutting.{texts_of};
-ghost use Rattle.roam_turns.specs.Calls.{PortCall, Tells, letters_in};
-ghost use Rattle.roam_turns.specs.Turns.{Sends, letter_to};
+ghost use Rattle.roam_turns.specs.Calls.{PortCall, Tells, parcels_in};
+ghost use Rattle.roam_turns.specs.Turns.{Sends, parcel_to};
 
 use crate::ports::Ports;
 use roam_hub::Addr;
 
 // Sends each datagram to where it goes.
-pub(crate) fn send_letters<P: Ports>(ports: &mut P, letters: &[(Addr, Vec<u8>)])
-    ensures sends { (calls : List PortCall) × Tells (P.told ports.old) (P.told ports.new) calls × Sends (letters_in letters.now) calls }
+pub(crate) fn send_parcels<P: Ports>(ports: &mut P, parcels: &[(Addr, Vec<u8>)])
+    ensures sends { (calls : List PortCall) × Tells (P.told ports.old) (P.told ports.new) calls × Sends (parcels_in parcels.now) calls }
     ensures written { Keeps (P.written ports.old) (P.written ports.new) }
 {
-    for (to, bytes) in letters {
+    for (to, bytes) in parcels {
         ports.send(*to, bytes);
     }
 }
@@ -21,7 +21,7 @@ pub(crate) fn send_letters<P: Ports>(ports: &mut P, letters: &[(Addr, Vec<u8>)])
 // Sends each datagram to one address.
 pub(crate) fn send_texts<P: Ports>(ports: &mut P, to: Addr, texts: &[Vec<u8>])
     ensures sends { (calls : List PortCall) × Tells (P.told ports.old) (P.told ports.new) calls
-        × Sends (map (letter_to to) (texts_of texts.now)) calls }
+        × Sends (map (parcel_to to) (texts_of texts.now)) calls }
     ensures written { Keeps (P.written ports.old) (P.written ports.new) }
     ensures notice { P.notice ports.new ≡ P.notice ports.old }
 {

@@ -5,7 +5,9 @@ ghost use Rattle.roam_turns.specs.Turns.{TellsLife, TakesPiece, AsksPane, FillsP
 
 use crate::cores::ServerCore;
 use crate::ports::Ports;
-use crate::sending::send_letters;
+use crate::sending::send_parcels;
+use roam_acts::limits::PANES_END;
+use roam_term::MOST_PIECE;
 use std::alloc::Global;
 
 /// How many datagrams a turn takes at most.
@@ -14,11 +16,8 @@ pub(crate) const MOST_RECEIVES: u32 = 32;
 /// How many bytes of a datagram are taken at most.
 pub(crate) const DATAGRAM: usize = 2048;
 
-/// How many bytes of a pane's program, or for it, go over in a turn at most.
-const PIECE: usize = 1024;
-
 /// How many bytes may have to wait for a pane's program as answers to a full piece: 12 for each byte.
-const PIECE_ROOM: usize = 12 * PIECE;
+const PIECE_ROOM: usize = 12 * MOST_PIECE;
 
 // Hands each datagram that comes to the server; one that is refused is dropped.
 fn receive_all<C: ServerCore, P: Ports>(alloc: Global, server: &mut C, ports: &mut P, now: u64)
@@ -49,7 +48,7 @@ fn tell_lives<C: ServerCore, P: Ports>(server: &mut C, ports: &mut P)
     ensures tells { Makes C.step (Each TellsLife 1 9) (P.told ports.old) (P.told ports.new)
         (C.made server.old) (C.made server.new) server.old server.new }
 {
-    for number in 1..10u8 {
+    for number in 1..PANES_END {
         tell_life(server, ports, number);
     }
 }
@@ -71,7 +70,7 @@ fn ask_pane<C: ServerCore, P: Ports>(server: &mut C, ports: &mut P, pane: u8)
     if !takes_piece(server.room(pane)) {
         return;
     }
-    let mut buf = [0; PIECE];
+    let mut buf = [0; MOST_PIECE];
     match ports.pane_in(pane, &mut buf) {
         None => (),
         Some(0) => (),
@@ -85,7 +84,7 @@ fn ask_panes<C: ServerCore, P: Ports>(server: &mut C, ports: &mut P)
     ensures asks { Makes C.step (Each AsksPane 1 9) (P.told ports.old) (P.told ports.new)
         (C.made server.old) (C.made server.new) server.old server.new }
 {
-    for pane in 1..10u8 {
+    for pane in 1..PANES_END {
         ask_pane(server, ports, pane);
     }
 }
@@ -95,7 +94,7 @@ fn fill_pane<C: ServerCore, P: Ports>(server: &mut C, ports: &mut P, pane: u8)
     ensures fills { Makes C.step (FillsPane pane) (P.told ports.old) (P.told ports.new)
         (C.made server.old) (C.made server.new) server.old server.new }
 {
-    let mut buf = [0; PIECE];
+    let mut buf = [0; MOST_PIECE];
     match server.output(pane, &mut buf) {
         None => (),
         Some(0) => (),
@@ -112,7 +111,7 @@ fn fill_panes<C: ServerCore, P: Ports>(server: &mut C, ports: &mut P)
     ensures fills { Makes C.step (Each FillsPane 1 9) (P.told ports.old) (P.told ports.new)
         (C.made server.old) (C.made server.new) server.old server.new }
 {
-    for pane in 1..10u8 {
+    for pane in 1..PANES_END {
         fill_pane(server, ports, pane);
     }
 }
@@ -123,7 +122,7 @@ fn tick_and_send<C: ServerCore, P: Ports>(alloc: Global, server: &mut C, ports: 
         (C.made server.old) (C.made server.new) server.old server.new }
 {
     match server.tick(alloc, now) {
-        Ok(letters) => send_letters(ports, &letters),
+        Ok(parcels) => send_parcels(ports, &parcels),
         Err(_) => (),
     }
 }

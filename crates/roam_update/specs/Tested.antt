@@ -2,7 +2,7 @@
 use Rattle.std.specs.Prelude.{ℕ, zero, suc, ◌+◌, ◌-◌, ◌*◌, Bool, true, ◌&&◌, ◌==◌, nat_le, nat_lt, not, length, List, if◌then◌else◌}
 use Rattle.std.specs.List.{list_all}
 use Rattle.roam_cells.specs.Glyph.{Glyph, is_wide, is_right_half, right_of, is_text}
-use Rattle.roam_cells.specs.Limits.{fewest_rows, most_rows, fewest_columns, most_columns, most_old_rows, most_old_columns}
+use Rattle.roam_cells.specs.Limits.{least_rows, most_rows, least_columns, most_columns, most_old_rows, most_old_columns}
 use Rattle.roam_screens.specs.Narrow.{is_plain_style}
 use Rattle.roam_cells.specs.Place.{cell_at}
 use Rattle.roam_screens.specs.Screenshot.{Screenshot}
@@ -16,7 +16,7 @@ all_below (suc n) test = all_below n test && test n
 
 -- whether a screen may have this size
 abbrev pub is_size : ℕ → ℕ → Bool
-is_size rows cols = nat_le fewest_rows rows && (nat_le rows most_rows && (nat_le fewest_columns cols && nat_le cols most_columns))
+is_size rows cols = nat_le least_rows rows && (nat_le rows most_rows && (nat_le least_columns cols && nat_le cols most_columns))
 
 -- whether a screen of this size has the row and the column, both from 1
 abbrev pub is_place : ℕ → ℕ → ℕ → ℕ → Bool

@@ -11,7 +11,7 @@ use Rattle.roam_acts.specs.Senders.{IsFull, IsSpent}
 use Rattle.roam_sync.specs.declared.receivers.Step.{Step}
 use Rattle.roam_sync.specs.declared.receivers.Step.TheVariants as step
 use Rattle.roam_sync.specs.Receivers.{Receiving, pairs, state_at, step_for}
-use Rattle.roam_sync.specs.Lines.{Update, Delivers}
+use Rattle.roam_sync.specs.Links.{Update, Delivers}
 use Rattle.roam_wire.specs.Gatherers.{Gathering}
 use Rattle.roam_wire.specs.Instructions.{DownValue, UpValue}
 use Rattle.roam_wire.proofs.Texts.{one_down, one_up}

@@ -5,7 +5,7 @@ use Rattle.std.proofs.lemmas.Bool.Decides.{nat_tests}
 use Rattle.roam_cells.specs.declared.faults.Fault.TheVariants.{OutOfMemory, BadDatagram, OtherSession, OtherClient}
 use Rattle.roam_cells.specs.declared.faults.Reason.TheVariants as reason
 use Rattle.roam_sync.specs.Senders.{newest}
-use Rattle.roam_sync.specs.Lines.{Delivers}
+use Rattle.roam_sync.specs.Links.{Delivers}
 use Rattle.roam_sync.proofs.Rounds.{one_round}
 use Rattle.roam_wire.specs.Cutting.{joined_fragments}
 use Rattle.roam_wire.specs.Gatherers.{Gathering, Answer, Part, Old, Whole, gather, fragment_of}
@@ -95,7 +95,7 @@ arriving_leaves w id n m shown v d h t is =
     go false x true y true z true q =
         let part = is_part (w.clients id).gathering (fragment_of d) in
         gathered_leaves w id n m shown v d t is (gather (w.clients id).gathering (fragment_of d))
-        (well (cuts_of down_text (w.server.records id).instructions) (w.clients id).gathering (fragment_of d) (h.lines id).gathers_down.of
+        (well (cuts_of down_text (w.server.records id).instructions) (w.clients id).gathering (fragment_of d) (h.links id).gathers_down.of
         is.fragment_of_it) part.0 part.1
 
 -- one delivery
@@ -139,7 +139,7 @@ deliver w w' slot k now id n m v d r h s at t is step fine = go step
     sent_one = numbered-is_in (w.server.records id).instructions n v t.told
 
     says_it : (text : List ℕ) (u : DownValue) → text ≡ down_text v → SaysDown text u → v ≡ u
-    says_it text u e says = says_down (w.server.records id).instructions text u v (h.lines id).downs sent_one e says
+    says_it text u e says = says_down (w.server.records id).instructions text u v (h.links id).downs sent_one e says
 
     go : ToClientStep w slot k now r w' → Delivered w w' id n m d
     go (empty_slot x e z) = absurd (let f : Some id ≡ None = sym s ∙ x in cc)
@@ -162,7 +162,7 @@ deliver w w' slot k now id n m v d r h s at t is step fine = go step
         }
     go (unread id' d' g text why x y a none e z) =
         let p = leaves id' d' (completed g text) x y a in
-        absurd (none.none v ((h.lines id).downs v sent_one) p.1)
+        absurd (none.none v ((h.links id).downs v sent_one) p.1)
     go (bad_change id' d' g text u base x y a says new there none e z) =
         let i = some_same id id' (w.slots slot) s x in
         let p = leaves id' d' (completed g text) x y a in
@@ -183,7 +183,7 @@ deliver w w' slot k now id n m v d r h s at t is step fine = go step
         subst (λ (j : ℕ). Delivers (applied_by (w.clients j).version) (w.clients j).receiver (update_in v) q) (sym i)
         (subst (λ (b : DownValue). Delivers (applied_by (w.clients id').version) (w.clients id').receiver (update_in b) q) (sym same) heard) in
         let top = one_round (w.server.records id).sender (w.clients id).receiver (Tells (w.server.records id).instructions)
-        (Acks (w.clients id).instructions) (h.lines id).link (applied_by (w.clients id).version) q (update_in v)
+        (Acks (w.clients id).instructions) (h.links id).in_step (applied_by (w.clients id).version) q (update_in v)
         (v, sent_one, refl) (t.new ∙ t.top) heard' in
         record {
           server = ap (λ (j : World). j.server) z';

@@ -8,7 +8,7 @@ use Rattle.roam_sync.specs.declared.receivers.Step.TheVariants as step
 use Rattle.roam_sync.specs.Senders.{newest, count, offered}
 use Rattle.roam_sync.specs.Receivers.{pairs, state_at}
 use Rattle.roam_sync.proofs.Sending.{newest_of_more}
-use Rattle.roam_sync.specs.TrueLines.{HoldsTrueStates}
+use Rattle.roam_sync.specs.TrueLinks.{HoldsTrueStates}
 use Rattle.roam_sync.proofs.TrueStates.{true_at_first, found_true}
 use Rattle.roam_session.specs.Sessions.{SessionSize, Entry, Did}
 use Rattle.roam_sync.proofs.Rounds.{old_or_new}
@@ -43,11 +43,11 @@ use Rattle.roam_wire.specs.Datagrams.{DatagramValue}
 pub headline : (w : World) → Holds w → Headline w
 headline w h =
     let is = (λ (id : ℕ). newest_true (IsScreenOf (w.clients id).version w.server.size w.server.log w.server.cuts) (w.clients id).receiver
-    (h.lines id).truth.receiver) in (
+    (h.links id).truth.receiver) in (
       record { made = (λ id. (is id).made); same = (λ id. (is id).same) },
       record {
-        front = (λ id. front_is (acts_of id w.server.log) (w.clients id).typed (w.server.records id).taken (h.lines id).acts.front);
-        count = (λ id. (h.lines id).acts.count);
+        front = (λ id. front_is (acts_of id w.server.log) (w.clients id).typed (w.server.records id).taken (h.links id).acts.front);
+        count = (λ id. (h.links id).acts.count);
       },
     )
 
@@ -59,21 +59,21 @@ first_held v size log cuts = (true_at_first (applied_by v) (IsScreenOf v size lo
     (λ u t. t.1)).sender
 
 pub hold_true : (w : World) → Holds w → HoldTrueScreens w
-hold_true w h = record { receivers = (λ id. (h.lines id).truth.receiver); senders = (λ id. go id (w.server.records id).known refl) }
+hold_true w h = record { receivers = (λ id. (h.links id).truth.receiver); senders = (λ id. go id (w.server.records id).known refl) }
   where
     go : (id : ℕ) (b : Bool) → (w.server.records id).known ≡ b
         → HoldsTrueStates (IsScreenOf (w.server.records id).version w.server.size w.server.log w.server.cuts) (w.server.records id).sender
     go id true e = subst (λ (v : Version). HoldsTrueStates (IsScreenOf v w.server.size w.server.log w.server.cuts)
-        (w.server.records id).sender) (sym ((h.fits id).version e)) (h.lines id).truth.sender
+        (w.server.records id).sender) (sym ((h.fits id).version e)) (h.links id).truth.sender
     go id false e = subst (λ (r : Record). HoldsTrueStates (IsScreenOf (w.server.records id).version w.server.size w.server.log w.server.cuts)
         r.sender) (sym ((h.fits id).none e)) (first_held (w.server.records id).version w.server.size w.server.log w.server.cuts)
 
 pub at_most_eight : (w : World) → Holds w → HoldAtMostEight w
 at_most_eight w h =
     record {
-      receivers = (λ id. let few = (h.lines id).link.receiver_few in omega
+      receivers = (λ id. let few = (h.links id).in_step.receiver_few in omega
           (arith, few, length-append (w.clients id).receiver.earlier ((w.clients id).receiver.newest ∷ [])));
-      senders = (λ id. (h.lines id).link.sender_few);
+      senders = (λ id. (h.links id).in_step.sender_few);
     }
 
 -- a change of an instruction that was sent is a good one
@@ -82,7 +82,7 @@ pub good_change : (w : World) (id : ℕ) (v : DownValue) (base : Screenshot)
     → state_at v.old (pairs (w.clients id).receiver) ≡ Some base
     → applied_by (w.clients id).version base v.change ≡ None → Holds w → ⊥
 good_change w id v base sent at none h =
-    let t = (h.lines id).truth in
+    let t = (h.links id).truth in
     let leads = t.updates (update_in v) (v, sent, refl) in
     let mine : IsScreenOf (w.clients id).version w.server.size w.server.log w.server.cuts v.old base =
     found_true (IsScreenOf (w.clients id).version w.server.size w.server.log w.server.cuts) v.old (pairs (w.clients id).receiver) base t.receiver at in
@@ -93,7 +93,7 @@ good_change w id v base sent at none h =
 no_gap_for : (w : World) (id : ℕ) (v : DownValue) → Rattle.roam_world.specs.Lists.IsIn v (w.server.records id).instructions → Holds w
     → hearing_of (step_of (w.clients id) v) ≡ IsGap → ⊥
 no_gap_for w id v sent h e =
-    let l = (h.lines id).link in
+    let l = (h.links id).in_step in
     elim (old_or_new (w.server.records id).sender (w.clients id).receiver (Tells (w.server.records id).instructions)
     (Acks (w.clients id).instructions) l (update_in v) (v, sent, refl)) [
       | inl old ↦ (let f : hearing_of step.Old ≡ IsGap = ap hearing_of (sym old.0) ∙ e in cc)
@@ -124,7 +124,7 @@ no_gap w h slot k now r w' s = go s
 pub replies_to_latest : (w : World) → Holds w → RepliesToLatest w
 replies_to_latest w h now p i =
     let t = in_tick w.server now p i in
-    t.to ∙ ap (λ (b : Note). b.source) (sym (h.lines p.datagram.client).notes)
+    t.to ∙ ap (λ (b : Note). b.source) (sym (h.links p.datagram.client).notes)
 
 same_text : (cuts : ℕ → List (List ℕ)) (d e : DatagramValue) → d.id ≡ e.id → IsFragmentOf cuts (fragment_of d) → IsFragmentOf cuts (fragment_of e)
     → (d.count ≡ e.count) × (d.index ≡ e.index → d.payload ≡ e.payload)
@@ -167,7 +167,7 @@ offered_newest r n s now live low or = go (nat_lt (newest r.sender).number n) re
 pub offers_newest : (w : World) → Holds w → OffersNewest w
 offers_newest w h id now live or =
     let r = w.server.records id in
-    let top = (top_true (IsScreenOf (w.clients id).version w.server.size w.server.log w.server.cuts) r.sender (h.lines id).truth.sender).made in
+    let top = (top_true (IsScreenOf (w.clients id).version w.server.size w.server.log w.server.cuts) r.sender (h.links id).truth.sender).made in
     let low : (newest r.sender).number ≤ number_after w.server (moment w.server now) = grows (makes w.server (moment w.server now)) top in
     let n = number_after w.server (moment w.server now) in
     let s = screen_to w.server (moment w.server now) id in
@@ -208,7 +208,7 @@ records_fit w h id known = let f = h.fits id in (f.made known, f.version known, 
 pub all_of_it : (w : World) → Holds w → KeepsAll w
 all_of_it w h =
     record {
-      updates = (λ id v i. let t = (h.lines id).truth.updates (update_in v) (v, i, refl) in (
+      updates = (λ id v i. let t = (h.links id).truth.updates (update_in v) (v, i, refl) in (
         t.from_true.made,
         t.to_true.made,
         ap (λ (s : Screenshot). applied_by (w.clients id).version s v.change) (sym t.from_true.same) ∙ t.leads ∙ ap Some t.to_true.same,
@@ -216,11 +216,11 @@ all_of_it w h =
       ids = one_text w h;
       pairs = hold_true w h;
       step = (λ id. record {
-        base = (h.lines id).link.base_there;
-        later = (h.lines id).link.from_base;
-        gathered = (h.lines id).gathers_down.low;
+        base = (h.links id).in_step.base_there;
+        later = (h.links id).in_step.from_base;
+        gathered = (h.links id).gathers_down.low;
       });
-      known = (λ id v i. ((h.lines id).link.told (update_in v) (v, i, refl)).known);
+      known = (λ id v i. ((h.links id).in_step.told (update_in v) (v, i, refl)).known);
       count = (headline w h).1;
     }
 
@@ -229,7 +229,7 @@ all_of_it w h =
 pub watchers_take_no_part : (w : World) → Holds w → WatchersTakeNoPart w
 watchers_take_no_part w h id watches =
     let none = (h.watchers id watches).0 in
-    (none, (h.lines id).acts.front ∙ ap (take (w.server.records id).taken) none ∙ take_none (w.server.records id).taken)
+    (none, (h.links id).acts.front ∙ ap (take (w.server.records id).taken) none ∙ take_none (w.server.records id).taken)
   where
     take_none : (n : ℕ) → take {A = Rattle.roam_acts.specs.declared.acts.Act.Act} n [] ≡ []
     take_none zero = refl
@@ -325,10 +325,10 @@ pub limits : (w : World) → Holds w → Counts w → Limits w
 limits w h k =
     record {
       numbers = h.numbers;
-      typed = (λ id. (h.lines id).acts.below);
-      unacknowledged = (λ id. (h.lines id).acts.few);
-      downs = (λ id. (h.lines id).downs);
-      ups = (λ id. (h.lines id).ups);
+      typed = (λ id. (h.links id).acts.below);
+      unacknowledged = (λ id. (h.links id).acts.few);
+      downs = (λ id. (h.links id).downs);
+      ups = (λ id. (h.links id).ups);
       known = k.few;
       datagrams = k.sent;
     }

@@ -12,11 +12,11 @@ use Rattle.roam_sync.specs.declared.receivers.Pair.{Pair}
 use Rattle.roam_sync.specs.declared.receivers.Step.TheVariants as step
 use Rattle.roam_sync.specs.Senders.{Sending}
 use Rattle.roam_sync.specs.Receivers.{Receiving, pairs, step_for}
-use Rattle.roam_sync.specs.Lines.{Update, Hears, Delivers}
-use Rattle.roam_sync.specs.TrueLines.{HasTrueStates, TrueLine}
-use Rattle.roam_sync.specs.Links.{Link}
+use Rattle.roam_sync.specs.Links.{Update, Hears, Delivers}
+use Rattle.roam_sync.specs.TrueLinks.{HasTrueStates, TrueLink}
+use Rattle.roam_sync.specs.InStep.{AreInStep}
 use Rattle.roam_sync.proofs.TrueStates.{true_at_first, true_still, true_heard}
-use Rattle.roam_sync.proofs.Steps.{link_answered, link_heard}
+use Rattle.roam_sync.proofs.Steps.{in_step_answered, in_step_heard}
 use Rattle.roam_sync.proofs.Rounds.{old_or_new}
 use Rattle.roam_wire.specs.Gatherers.{Gathering, fragment_of}
 use Rattle.roam_wire.specs.AnyOrder.{IsFragmentOf}
@@ -33,7 +33,7 @@ use Rattle.roam_world.specs.Clients.{Client, nobody, new_client, shown_number, a
 use Rattle.roam_world.specs.ClientArrivals.{after_fragment, after_whole}
 use Rattle.roam_world.specs.Sendings.{up_from, fragments_from, datagrams_from, is_client_spent, after_sending, after_quiet}
 use Rattle.roam_world.specs.Worlds.{World, with_server, with_client, after_client_sent, after_start}
-use Rattle.roam_world.specs.Holds.{cuts_of, Gathers, Tells, Acks, ActsOf, LineOf, IsFragment, Bears, Fits, AreCuts, Holds, OnlyWatches}
+use Rattle.roam_world.specs.Holds.{cuts_of, Gathers, Tells, Acks, ActsOf, LinkOf, IsFragment, Bears, Fits, AreCuts, Holds, OnlyWatches}
 use Rattle.roam_world.proofs.Members.{IsIn-append_cases, IsIn-push_cases, on_put, put_same}
 use Rattle.roam_world.proofs.Screens.{one_screen, first_is, is_more, cuts_more, screens_more, acts_of-append}
 use Rattle.roam_world.proofs.Acting.{has_typed-more, has_typed-acked, acked_few, stretch-waiting, stretch-more}
@@ -46,14 +46,14 @@ use Rattle.roam_wire.specs.declared.versions.Version.TheVariants.{One, Two}
 -- ---- an input
 
 -- the log grows, but by no act of this start
-pub line-more : (size : SessionSize) (log more : List Entry) (cuts : List ℕ) (taken taken' : List Act) (r : Record) (c : Client)
+pub link-more : (size : SessionSize) (log more : List Entry) (cuts : List ℕ) (taken taken' : List Act) (r : Record) (c : Client)
     → AreCuts log cuts
-    → taken' ≡ taken → LineOf size log cuts taken r c → LineOf size (log ++ more) cuts taken' r c
-line-more size log more cuts taken taken' r c low same l =
+    → taken' ≡ taken → LinkOf size log cuts taken r c → LinkOf size (log ++ more) cuts taken' r c
+link-more size log more cuts taken taken' r c low same l =
     record {
       truth = true_still (applied_by c.version) (IsScreenOf c.version size log cuts) r.sender c.receiver (Tells r.instructions) l.truth
           (IsScreenOf c.version size (log ++ more) cuts) (Tells r.instructions) (is_more c.version size log more cuts low) (λ u t. t);
-      link = l.link;
+      in_step = l.in_step;
       acts = subst (λ (t : List Act). ActsOf t r c) (sym same) l.acts;
       downs = l.downs;
       ups = l.ups;
@@ -70,12 +70,12 @@ keeps-input w entry none h =
       numbers = h.numbers;
       cuts = cuts_more w.server.log (entry ∷ []) w.server.cuts h.cuts;
       screens = screens_more w.server.size w.server.log (entry ∷ []) w.server.cuts h.cuts h.screens;
-      lines = (λ id.
+      links = (λ id.
           let same : acts_of id (w.server.log ++ entry ∷ []) ≡ acts_of id w.server.log =
           acts_of-append id w.server.log (entry ∷ []) ∙ ap (λ (xs : List Act). acts_of id w.server.log ++ xs) (none id)
           ∙ append-nil (acts_of id w.server.log) in
-          line-more w.server.size w.server.log (entry ∷ []) w.server.cuts (acts_of id w.server.log)
-          (acts_of id (w.server.log ++ entry ∷ [])) (w.server.records id) (w.clients id) h.cuts same (h.lines id));
+          link-more w.server.size w.server.log (entry ∷ []) w.server.cuts (acts_of id w.server.log)
+          (acts_of id (w.server.log ++ entry ∷ [])) (w.server.records id) (w.clients id) h.cuts same (h.links id));
       fragments = h.fragments;
       bears = h.bears;
       fits = h.fits;
@@ -86,22 +86,22 @@ keeps-input w entry none h =
 
 -- ---- a client start
 
--- the line of a start and its record
-abbrev pub Line : World → ℕ → Record → Client → Type 0
-Line w id r c = LineOf w.server.size w.server.log w.server.cuts (acts_of id w.server.log) r c
+-- the link of a start and its record
+abbrev pub Link : World → ℕ → Record → Client → Type 0
+Link w id r c = LinkOf w.server.size w.server.log w.server.cuts (acts_of id w.server.log) r c
 
 -- a client start that was made changes, and sent nothing
 pub keeps-client : (w : World) (id : ℕ) (c : Client) → c.made ≡ true → c.version ≡ (w.clients id).version → c.watches ≡ (w.clients id).watches → OnlyWatches c
     → c.instructions ≡ (w.clients id).instructions
-    → Line w id (w.server.records id) c
+    → Link w id (w.server.records id) c
     → Holds w → Holds (with_client w id c)
-keeps-client w id c made version watches alone same line h =
+keeps-client w id c made version watches alone same link h =
     record {
       size = h.size;
       numbers = h.numbers;
       cuts = h.cuts;
       screens = h.screens;
-      lines = on_put (λ j x. Line w j (w.server.records j) x) w.clients id c line (λ j e. h.lines j);
+      links = on_put (λ j x. Link w j (w.server.records j) x) w.clients id c link (λ j e. h.links j);
       fragments = (λ d i. on_put (λ j x. IsFragment (is_to_server d.kind) d (w.server.records d.client) (w.clients j)
           → IsFragment (is_to_server d.kind) d (w.server.records d.client) x) w.clients id c (like (is_to_server d.kind) d) (λ j e p. p)
           d.client (h.fragments d i));
@@ -145,7 +145,7 @@ pub keeps-typed : (w : World) (id : ℕ) (act : Act) → (w.clients id).made ≡
     → Holds w → Holds (with_client w id (after_typed (w.clients id) act))
 keeps-typed w id act made edits is full spent h =
     let c = w.clients id in
-    let l = h.lines id in
+    let l = h.links id in
     let a = l.acts in
     let r = w.server.records id in
     let few = a.few in
@@ -157,7 +157,7 @@ keeps-typed w id act made edits is full spent h =
     keeps-client w id (after_typed (w.clients id) act) made refl refl (λ z. absurd (let no : true ≡ false = sym z ∙ edits in cc)) refl
     (record {
       truth = l.truth;
-      link = l.link;
+      in_step = l.in_step;
       acts = record {
         count = a.count;
         front = a.front ∙ sym (take-append-le r.taken c.typed (act ∷ []) low);
@@ -193,12 +193,12 @@ keeps-typed w id act made edits is full spent h =
 pub keeps-quiet : (w : World) (id now : ℕ) → (w.clients id).made ≡ true → Holds w
     → Holds (with_client w id (after_quiet (w.clients id) now))
 keeps-quiet w id now made h =
-    let l = h.lines id in
+    let l = h.links id in
     let a = l.acts in
     keeps-client w id (after_quiet (w.clients id) now) made refl refl (h.watchers id) refl
     (record {
       truth = l.truth;
-      link = l.link;
+      in_step = l.in_step;
       acts = record {
         count = a.count;
         front = a.front;
@@ -221,12 +221,12 @@ pub keeps-fragment : (w : World) (id now : ℕ) (g : Gathering) → (w.clients i
     → Gathers down_text (w.server.records id).instructions g
     → Holds w → Holds (with_client w id (after_fragment (w.clients id) now g))
 keeps-fragment w id now g made of h =
-    let l = h.lines id in
+    let l = h.links id in
     let a = l.acts in
     keeps-client w id (after_fragment (w.clients id) now g) made refl refl (h.watchers id) refl
     (record {
       truth = l.truth;
-      link = l.link;
+      in_step = l.in_step;
       acts = record {
         count = a.count;
         front = a.front;
@@ -245,26 +245,26 @@ keeps-fragment w id now g made of h =
       notes = l.notes;
     }) h
 
--- an update that was sent comes: it is old or new, and the line stays true and in step
+-- an update that was sent comes: it is old or new, and the link stays true and in step
 pub record Hearken {S : Type 0} (applied : S → List ℕ → Option S) (Is : ℕ → S → Type 0) (s : Sending S) (r r' : Receiving S) (u : Update)
     (WasSent : Update → Type 0) (WasAnswered : ℕ → Type 0) : Type 0 where
   pub how : (r' ≡ r) ⊎ Hears applied r u r'
-  pub truth : TrueLine applied Is s r' WasSent
-  pub link : Link s r' WasSent WasAnswered
+  pub truth : TrueLink applied Is s r' WasSent
+  pub in_step : AreInStep s r' WasSent WasAnswered
 
 pub hearken : {S : Type 0} (applied : S → List ℕ → Option S) (Is : ℕ → S → Type 0) (s : Sending S) (r r' : Receiving S) (u : Update)
     (WasSent : Update → Type 0) (WasAnswered : ℕ → Type 0) → ((n : ℕ) (a b : S) → Is n a → Is n b → a ≡ b)
-    → TrueLine applied Is s r WasSent → Link s r WasSent WasAnswered → WasSent u → Delivers applied r u r'
+    → TrueLink applied Is s r WasSent → AreInStep s r WasSent WasAnswered → WasSent u → Delivers applied r u r'
     → Hearken applied Is s r r' u WasSent WasAnswered
-hearken {S} applied Is s r r' u WasSent WasAnswered one truth link sent delivers =
-    elim (old_or_new s r WasSent WasAnswered link u sent) [
+hearken {S} applied Is s r r' u WasSent WasAnswered one truth in_step sent delivers =
+    elim (old_or_new s r WasSent WasAnswered in_step u sent) [
       | inl old ↦ (
           let other : step_for r u.old u.new u.floor ≡ step.New → ⊥ = λ new. (let no : step.Old ≡ step.New = sym old.0 ∙ new in cc) in
           let same : r' ≡ r = delivers.other other in
           record {
             how = inl same;
-            truth = subst (λ (q : Receiving S). TrueLine applied Is s q WasSent) (sym same) truth;
-            link = subst (λ (q : Receiving S). Link s q WasSent WasAnswered) (sym same) link;
+            truth = subst (λ (q : Receiving S). TrueLink applied Is s q WasSent) (sym same) truth;
+            in_step = subst (λ (q : Receiving S). AreInStep s q WasSent WasAnswered) (sym same) in_step;
           }
           )
       | inr new ↦ (
@@ -272,7 +272,7 @@ hearken {S} applied Is s r r' u WasSent WasAnswered one truth link sent delivers
           record {
             how = inr hears;
             truth = true_heard applied Is s r WasSent truth r' u one sent hears;
-            link = link_heard s r WasSent WasAnswered link applied r' u sent hears;
+            in_step = in_step_heard s r WasSent WasAnswered in_step applied r' u sent hears;
           }
           )
     ]
@@ -284,16 +284,16 @@ pub keeps-whole : (w : World) (id now : ℕ) (g : Gathering) (r' : Receiving Scr
 keeps-whole w id now g r' v made of sent delivers h =
     let c = w.clients id in
     let r = w.server.records id in
-    let l = h.lines id in
+    let l = h.links id in
     let a = l.acts in
     let few = a.few in
     let t = hearken (applied_by c.version) (IsScreenOf c.version w.server.size w.server.log w.server.cuts) r.sender c.receiver r' (update_in v)
     (Tells r.instructions) (Acks c.instructions)
-    (one_screen c.version w.server.size w.server.log w.server.cuts) l.truth l.link (v, sent, refl) delivers in
+    (one_screen c.version w.server.size w.server.log w.server.cuts) l.truth l.in_step (v, sent, refl) delivers in
     keeps-client w id (after_whole (w.clients id) now g r' v) made refl refl (h.watchers id) refl
     (record {
       truth = t.truth;
-      link = t.link;
+      in_step = t.in_step;
       acts = record {
         count = a.count;
         front = a.front;
@@ -329,7 +329,7 @@ or_right false b e = e
 up_is : (w : World) (id : ℕ) → is_client_spent (w.clients id) ≡ false → Holds w → IsUp (up_from (w.clients id))
 up_is w id e h =
     let c = w.clients id in
-    let l = h.lines id in
+    let l = h.links id in
     let a = l.acts in
     let made = (newest_true (IsScreenOf c.version w.server.size w.server.log w.server.cuts) c.receiver l.truth.receiver).made in
     let numbers = h.numbers in
@@ -351,9 +351,9 @@ keeps-sending w id now made e h =
       numbers = h.numbers;
       cuts = h.cuts;
       screens = h.screens;
-      lines = on_put (λ j x. Line w j (w.server.records j) x) w.clients id c' (record {
+      links = on_put (λ j x. Link w j (w.server.records j) x) w.clients id c' (record {
         truth = l.truth;
-        link = link_answered r.sender c.receiver (Tells r.instructions) (Acks c.instructions) l.link
+        in_step = in_step_answered r.sender c.receiver (Tells r.instructions) (Acks c.instructions) l.in_step
             (Acks (c.instructions ++ up_from c ∷ [])) acks;
         acts = record {
           count = a.count;
@@ -376,7 +376,7 @@ keeps-sending w id now made e h =
         gathers_down = l.gathers_down;
         gathers_up = gathers-more up_text c.instructions (up_from c ∷ []) r.gathering l.gathers_up;
         notes = l.notes;
-      }) (λ j f. h.lines j);
+      }) (λ j f. h.links j);
       fragments = (λ d i. elim (IsIn-append_cases d w.sent (datagrams_from w.server.session id c) i) [
         | inl o ↦ on_put (λ j x. IsFragment (is_to_server d.kind) d (w.server.records d.client) (w.clients j)
             → IsFragment (is_to_server d.kind) d (w.server.records d.client) x) w.clients id c' (like (is_to_server d.kind) d)
@@ -410,8 +410,8 @@ keeps-sending w id now made e h =
     c' : Client
     c' = after_sending (w.clients id) now
 
-    l : Line w id (w.server.records id) (w.clients id)
-    l = h.lines id
+    l : Link w id (w.server.records id) (w.clients id)
+    l = h.links id
 
     a : ActsOf (acts_of id w.server.log) (w.server.records id) (w.clients id)
     a = l.acts
@@ -455,10 +455,10 @@ unknown r c made f = go r.known refl
 
 -- both ends have the first screen alone, which is one screen in each version
 first_true : (v : Version) (watches : Bool) (size : SessionSize) (log : List Entry) (cuts : List ℕ) (r : Record) → r ≡ no_record
-    → TrueLine (applied_by v) (IsScreenOf v size log cuts) r.sender (new_client v watches).receiver (Tells r.instructions)
+    → TrueLink (applied_by v) (IsScreenOf v size log cuts) r.sender (new_client v watches).receiver (Tells r.instructions)
 unfolding no_record nobody
 first_true v watches size log cuts r is =
-    subst (λ (x : Record). TrueLine (applied_by v) (IsScreenOf v size log cuts) x.sender (new_client v watches).receiver (Tells x.instructions))
+    subst (λ (x : Record). TrueLink (applied_by v) (IsScreenOf v size log cuts) x.sender (new_client v watches).receiver (Tells x.instructions))
     (sym is) (true_at_first (applied_by v) (IsScreenOf v size log cuts) first_screen (Tells []) (first_is v size log cuts) (λ u t. t.1))
 
 none_typed : (v : Version) (watches : Bool) → (new_client v watches).typed ≡ []
@@ -473,7 +473,7 @@ pub keeps-start : (w : World) (slot id : ℕ) (v : Version) (watches : Bool) →
     → is_unfit v watches ≡ false → Holds w → Holds (after_start w slot id v watches)
 keeps-start w slot id v watches made fit h =
     let is = h.unused id made in
-    let l = subst (λ (x : Client). Line w id (w.server.records id) x) is (h.lines id) in
+    let l = subst (λ (x : Client). Link w id (w.server.records id) x) is (h.links id) in
     let a = l.acts in
     let none = unknown (w.server.records id) (w.clients id) made (h.fits id) in
     record {
@@ -481,9 +481,9 @@ keeps-start w slot id v watches made fit h =
       numbers = h.numbers;
       cuts = h.cuts;
       screens = h.screens;
-      lines = on_put (λ j x. Line w j (w.server.records j) x) w.clients id (new_client v watches) (record {
+      links = on_put (λ j x. Link w j (w.server.records j) x) w.clients id (new_client v watches) (record {
         truth = first_true v watches w.server.size w.server.log w.server.cuts (w.server.records id) none;
-        link = l.link;
+        in_step = l.in_step;
         acts = record {
           count = a.count;
           front = a.front;
@@ -500,7 +500,7 @@ keeps-start w slot id v watches made fit h =
         gathers_down = l.gathers_down;
         gathers_up = l.gathers_up;
         notes = l.notes;
-      }) (λ j e. h.lines j);
+      }) (λ j e. h.links j);
       fragments = (λ d i. on_put (λ j x. IsFragment (is_to_server d.kind) d (w.server.records d.client) (w.clients j)
           → IsFragment (is_to_server d.kind) d (w.server.records d.client) x) w.clients id (new_client v watches)
           (λ p. like (is_to_server d.kind) d (subst (λ (x : Client). IsFragment (is_to_server d.kind) d (w.server.records d.client) x) is p))

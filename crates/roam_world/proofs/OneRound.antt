@@ -175,7 +175,7 @@ round_of w now id unspent h k0 d0 some =
     let first = to_start w.server now id d0 (late w.sent new k0 d0 some.0 some.1) some.2 in
     let sends' = sends_to w.server.session id r n s now d0 first.1 in
     let t = sent_top r n s now sends'.0 in
-    let low = (h.lines id).gathers_down.low in
+    let low = (h.links id).gathers_down.low in
     record {
       holds = keeps-tick w now unspent h;
       slots = refl;
@@ -244,7 +244,7 @@ over w w' w'' slot id ks rs s round k0 d0 some all run fine =
     let each : EachIsOne w' id round.n ks = λ k later i. let j = all.just k later i in (j.0, j.1.1, round.one k j.0 j.1) in
     let went = goes w' w'' slot id round.n (newest (w'.server.records id).sender).number round.v ks rs round.holds
     (ap (λ (q : ℕ → Option ℕ). q slot) round.slots ∙ s) round.top each run fine in
-    let of = (round.holds.lines id).gathers_down.of in
+    let of = (round.holds.links id).gathers_down.of in
     let later = round.later in
     let comes : (i : ℕ) → i < length (cuts_of down_text (w'.server.records id).instructions round.n) → Comes i went.ps = (λ i lt.
     let e = round.each i lt in

@@ -10,8 +10,8 @@ use Rattle.roam_acts.specs.Senders.{last_number, IsStretch}
 use Rattle.roam_sync.specs.declared.receivers.Step.{Step}
 use Rattle.roam_sync.specs.declared.receivers.Step.TheVariants as step
 use Rattle.roam_sync.specs.Receivers.{Receiving, pairs, state_at, from_floor}
-use Rattle.roam_sync.specs.Lines.{Delivers}
-use Rattle.roam_sync.specs.TrueLines.{LeadsTruly}
+use Rattle.roam_sync.specs.Links.{Delivers}
+use Rattle.roam_sync.specs.TrueLinks.{LeadsTruly}
 use Rattle.roam_sync.proofs.TrueStates.{found_true}
 use Rattle.roam_wire.specs.Gatherers.{Gathering, Answer, Part, Old, Whole, gather, fragment_of}
 use Rattle.roam_wire.specs.Instructions.{DownValue, UpValue}
@@ -312,9 +312,9 @@ server_reply w k from now h (Some d) e = go (coming w.server d) refl (comes w k 
         let b = h.bears d (was_sent w k d e) in
         room g text of.value x (record {
           is = record {
-            is = (h.lines d.client).ups of.value of.there;
+            is = (h.links d.client).ups of.value of.there;
             none = (λ z. no_acts (w.clients d.client).typed of.value.acts of.value.first
-                (h.watchers d.client (sym (b.watches goes) ∙ z)).0 ((h.lines d.client).acts.told of.value of.there));
+                (h.watchers d.client (sym (b.watches goes) ∙ z)).0 ((h.links d.client).acts.told of.value of.there));
           };
           spelled = of.is;
         })
@@ -330,7 +330,7 @@ heard_by w id v was h = go (step_of (w.clients id) v) refl (state_at v.old (pair
     c = (w.clients id).receiver
 
     leads : LeadsTruly (applied_by (w.clients id).version) (IsScreenOf (w.clients id).version w.server.size w.server.log w.server.cuts) (update_in v)
-    leads = (h.lines id).truth.updates (update_in v) (v, was, refl)
+    leads = (h.links id).truth.updates (update_in v) (v, was, refl)
 
     there : (o : Option Screenshot) → state_at v.old (pairs (w.clients id).receiver) ≡ o → step_of (w.clients id) v ≡ step.New
         → is_none o ≡ true → ⊥
@@ -358,7 +358,7 @@ heard_by w id v was h = go (step_of (w.clients id) v) refl (state_at v.old (pair
     go step.New e (Some base) f =
         let mine : IsScreenOf (w.clients id).version w.server.size w.server.log w.server.cuts v.old base =
         found_true (IsScreenOf (w.clients id).version w.server.size w.server.log w.server.cuts) v.old (pairs (w.clients id).receiver) base
-        (h.lines id).truth.receiver f in
+        (h.links id).truth.receiver f in
         let same : base ≡ leads.base = one_screen (w.clients id).version w.server.size w.server.log w.server.cuts v.old base leads.base mine leads.from_true in
         let r' : Receiving Screenshot = record {
           earlier = from_floor v.floor (pairs c);
@@ -410,7 +410,7 @@ client_reply w slot k now h (Some id) e (Some d) f = go (arriving w.server.sessi
         record {
           reply = Heard (hearing_of (step_of (w.clients id) of.value));
           left = with_client w id (after_whole (w.clients id) (moment_of (w.clients id) now) g r.0 of.value);
-          step = whole id d g text of.value r.0 e f x (record { is = (h.lines id).downs of.value of.there; spelled = of.is }) r.1 refl refl;
+          step = whole id d g text of.value r.0 e f x (record { is = (h.links id).downs of.value of.there; spelled = of.is }) r.1 refl refl;
           ample = heard_ample (hearing_of (step_of (w.clients id) of.value));
         }
 

@@ -5,7 +5,7 @@ use Rattle.std.proofs.lemmas.List.Elements.{All-nil}
 use Rattle.roam_acts.specs.declared.acts.Act.{Act}
 use Rattle.roam_acts.specs.Acts.{IsAct}
 use Rattle.roam_sync.proofs.TrueStates.{true_at_first}
-use Rattle.roam_sync.proofs.Steps.{link_at_first}
+use Rattle.roam_sync.proofs.Steps.{in_step_at_first}
 use Rattle.roam_wire.specs.Instructions.{DownValue, down_text, UpValue, up_text}
 use Rattle.roam_layout.specs.Layouts.{IsSessionSize}
 use Rattle.roam_session.specs.Sessions.{SessionSize, Entry, Given, Did, Drained}
@@ -47,14 +47,14 @@ was_sent w k d e = go (nat_eq k 0) e
 pub comes : (w : World) (k : ℕ) (d : DatagramValue) → datagram_at w.sent k ≡ Some d → Holds w
     → ComesWell (w.clients d.client).instructions (coming w.server d)
 comes w k d e h = coming_well w.server (w.server.records d.client) (w.clients d.client) d refl (h.fragments d (was_sent w k d e))
-    (h.lines d.client).gathers_up
+    (h.links d.client).gathers_up
 
 pub arrives : (w : World) (id k : ℕ) (d : DatagramValue) → datagram_at w.sent k ≡ Some d → Holds w
     → ArrivesWell (w.server.records id).instructions (arriving w.server.session id (w.clients id) d)
 arrives w id k d e h =
     arriving_well w.server.session id (w.server.records id) (w.clients id) d
     (λ same. subst (λ (i : ℕ). IsFragment (is_to_server d.kind) d (w.server.records i) (w.clients i)) same (h.fragments d (was_sent w k d e)))
-    (h.lines id).gathers_down
+    (h.links id).gathers_down
 
 pub reach_low : (size : SessionSize) (log : List Entry) (id : ℕ) (acts : List Act) → reach size log id acts ≤ length acts
 reach_low size log id [] = omega arith
@@ -103,7 +103,7 @@ came : (w : World) (d : DatagramValue) (text : List ℕ) (u : UpValue) → IsTex
     → SaysUp (is_watching d.kind) text u → Holds w → IsIn u (w.clients d.client).instructions
 came w d text u of says h =
     subst (λ (x : UpValue). IsIn x (w.clients d.client).instructions)
-    (says_up (w.clients d.client).instructions text u of.value (is_watching d.kind) (h.lines d.client).ups of.there of.is says) of.there
+    (says_up (w.clients d.client).instructions text u of.value (is_watching d.kind) (h.links d.client).ups of.there of.is says) of.there
 
 keeps-to_server : (w : World) (k : ℕ) (from : Address) (now : ℕ) (r : Reply) (w' : World) → ToServerStep w k from now r w' → Holds w
     → Holds w'
@@ -121,11 +121,11 @@ keeps-to_server w k from now r w' (all_taken d g text u x y z a e is) h =
 keeps-to_server w k from now r w' (no_room d g text u x y z a e is) h =
     let c = subst (ComesWell (w.clients d.client).instructions) y (comes w k d x h) in
     subst Holds (sym is) (keeps-acts w d from (moment w.server now) (w.server.records d.client).gathering u (room_for w.server d u)
-    (subst (IsTo (is_to_server d.kind)) y (to_server w.server d)) (h.bears d (was_sent w k d x)) (h.lines d.client).gathers_up (came w d text u c.1 z h) (omega arith) h)
+    (subst (IsTo (is_to_server d.kind)) y (to_server w.server d)) (h.bears d (was_sent w k d x)) (h.links d.client).gathers_up (came w d text u c.1 z h) (omega arith) h)
 keeps-to_server w k from now r w' (no_memory_at_act d g text u n x y z lt e is) h =
     let c = subst (ComesWell (w.clients d.client).instructions) y (comes w k d x h) in
     subst Holds (sym is) (keeps-acts w d from (moment w.server now) (w.server.records d.client).gathering u n
-    (subst (IsTo (is_to_server d.kind)) y (to_server w.server d)) (h.bears d (was_sent w k d x)) (h.lines d.client).gathers_up (came w d text u c.1 z h)
+    (subst (IsTo (is_to_server d.kind)) y (to_server w.server d)) (h.bears d (was_sent w k d x)) (h.links d.client).gathers_up (came w d text u c.1 z h)
     (omega (arith, lt, reach_low w.server.size w.server.log d.client (new_acts w.server d u))) h)
 keeps-to_server w k from now r w' (no_memory e is) h = subst Holds (sym is) h
 
@@ -134,7 +134,7 @@ pub arrived : (w : World) (id : ℕ) (text : List ℕ) (v : DownValue) → IsTex
     → SaysDown text v → Holds w → IsIn v (w.server.records id).instructions
 arrived w id text v of says h =
     subst (λ (x : DownValue). IsIn x (w.server.records id).instructions)
-    (says_down (w.server.records id).instructions text v of.value (h.lines id).downs of.there of.is says) of.there
+    (says_down (w.server.records id).instructions text v of.value (h.links id).downs of.there of.is says) of.there
 
 keeps-to_client : (w : World) (slot k now : ℕ) (r : Reply) (w' : World) → ToClientStep w slot k now r w' → Holds w → Holds w'
 keeps-to_client w slot k now r w' (empty_slot x e is) h = subst Holds (sym is) h
@@ -176,9 +176,9 @@ holds-new session size limits =
       numbers = omega arith;
       cuts = (λ k lt. omega arith);
       screens = (λ v n le. let z : 0 ≡ n = omega arith in subst (λ (m : ℕ). IsSeenBy v (screen v size [] [] m)) z (first_seen v));
-      lines = (λ id. record {
+      links = (λ id. record {
         truth = true_at_first (applied_by Two) (IsScreenOf Two size [] []) first_screen (Tells []) (first_is Two size [] []) (λ u t. t.1);
-        link = link_at_first first_screen (Tells []) (Acks []) (λ u t. t.1) (λ a t. t.1);
+        in_step = in_step_at_first first_screen (Tells []) (Acks []) (λ u t. t.1) (λ a t. t.1);
         acts = record {
           count = refl;
           front = refl;

@@ -8,12 +8,12 @@ use Rattle.roam_screens.specs.Screenshot.{Screenshot}
 use Rattle.roam_acts.specs.declared.acts.Act.{Act}
 use Rattle.roam_sync.specs.declared.senders.Held.{Held}
 use Rattle.roam_sync.specs.Senders.{Sending, newest, last_of, count, offered, is_due}
-use Rattle.roam_sync.specs.Lines.{Update, update_of, IsChange}
-use Rattle.roam_sync.specs.TrueLines.{HoldsTrueStates, TrueLine}
-use Rattle.roam_sync.specs.Links.{Link}
+use Rattle.roam_sync.specs.Links.{Update, update_of, IsChange}
+use Rattle.roam_sync.specs.TrueLinks.{HoldsTrueStates, TrueLink}
+use Rattle.roam_sync.specs.InStep.{AreInStep}
 use Rattle.roam_sync.proofs.Ends.{base_least, last_among}
 use Rattle.roam_sync.proofs.TrueStates.{true_still, true_offered, true_acked, true_sent}
-use Rattle.roam_sync.proofs.Steps.{link_offered, link_acked, link_sent}
+use Rattle.roam_sync.proofs.Steps.{in_step_offered, in_step_acked, in_step_sent}
 use Rattle.roam_wire.specs.Gatherers.{Gathering, fragment_of}
 use Rattle.roam_wire.specs.AnyOrder.{IsFragmentOf}
 use Rattle.roam_wire.specs.Instructions.{DownValue, IsDown, down_text, UpValue, up_text}
@@ -30,13 +30,13 @@ use Rattle.roam_world.specs.Ticks.{makes, cuts_after, number_after, screen_to, i
 use Rattle.roam_world.specs.Clients.{Client}
 use Rattle.roam_world.specs.Worlds.{World, with_server, after_server_tick}
 use Rattle.roam_world.specs.Laws.{greatest_from, no_note}
-use Rattle.roam_world.specs.Holds.{cuts_of, Gathers, Tells, Acks, ActsOf, LineOf, IsFragment, Bears, Fits, AreCuts, AreScreens, Holds}
+use Rattle.roam_world.specs.Holds.{cuts_of, Gathers, Tells, Acks, ActsOf, LinkOf, IsFragment, Bears, Fits, AreCuts, AreScreens, Holds}
 use Rattle.roam_world.proofs.Members.{IsIn-append_cases, IsIn-push_cases, IsIn-map, IsIn-flat_map, on_put}
 use Rattle.roam_world.proofs.Screens.{is_more, is_cut, cuts_more, cuts_cut, screens_more, screens_cut, acts_of-append, acts_of-own, acts_of-other}
 use Rattle.roam_world.proofs.Versions.{difference_leads}
 use Rattle.roam_world.proofs.Acting.{front_more, front_low}
 use Rattle.roam_world.proofs.Fragments.{fragment-more, gathers-more, IsPacked, packed_is}
-use Rattle.roam_world.proofs.Keeps.{line-more, Line, not_past, or_left}
+use Rattle.roam_world.proofs.Keeps.{link-more, Link, not_past, or_left}
 use Rattle.roam_wire.specs.declared.versions.Version.{Version}
 use Rattle.roam_wire.specs.declared.datagrams.Kind.{Kind}
 use Rattle.roam_wire.specs.declared.datagrams.Kind.TheVariants.{ToClient}
@@ -89,16 +89,16 @@ pub keeps-note : (w : World) (d : DatagramValue) (from : Address) (now : ℕ) (g
     → Holds w → Holds (with_server w (after_note w.server d from now g))
 keeps-note w d from now g to bears of h =
     let r = w.server.records d.client in
-    let l = h.lines d.client in
+    let l = h.links d.client in
     let a = l.acts in
     record {
       size = h.size;
       numbers = h.numbers;
       cuts = h.cuts;
       screens = h.screens;
-      lines = on_put (λ j x. Line w j x (w.clients j)) w.server.records d.client (heard_from r d from now g) (record {
+      links = on_put (λ j x. Link w j x (w.clients j)) w.server.records d.client (heard_from r d from now g) (record {
         truth = l.truth;
-        link = l.link;
+        in_step = l.in_step;
         acts = record {
           count = a.count;
           front = a.front;
@@ -115,7 +115,7 @@ keeps-note w d from now g to bears of h =
         gathers_down = l.gathers_down;
         gathers_up = of;
         notes = latest_noted r d.number from l.notes;
-      }) (λ j e. h.lines j);
+      }) (λ j e. h.links j);
       fragments = (λ x i. on_put (λ j y. IsFragment (is_to_server x.kind) x (w.server.records j) (w.clients x.client)
           → IsFragment (is_to_server x.kind) x y (w.clients x.client)) w.server.records d.client (heard_from r d from now g)
           (fragment-record (is_to_server x.kind) x r (heard_from r d from now g) (w.clients x.client) refl) (λ j e p. p) x.client (h.fragments x i));
@@ -137,12 +137,12 @@ keeps-acts w d from now g u n to bears of sent few h =
       numbers = h.numbers;
       cuts = cuts_more log more cuts h.cuts;
       screens = screens_more size log more cuts h.cuts h.screens;
-      lines = on_put (λ j x. LineOf size (log ++ more) cuts (acts_of j (log ++ more)) x (w.clients j)) w.server.records d.client r'
+      links = on_put (λ j x. LinkOf size (log ++ more) cuts (acts_of j (log ++ more)) x (w.clients j)) w.server.records d.client r'
           (record {
             truth = true_acked (applied_by c.version) (IsScreenOf c.version size (log ++ more) cuts) r.sender c.receiver (Tells r.instructions)
                 (true_still (applied_by c.version) (IsScreenOf c.version size log cuts) r.sender c.receiver (Tells r.instructions) l.truth
                 (IsScreenOf c.version size (log ++ more) cuts) (Tells r.instructions) (is_more c.version size log more cuts h.cuts) (λ u t. t)) u.acked;
-            link = link_acked r.sender c.receiver (Tells r.instructions) (Acks c.instructions) l.link u.acked (u, sent, refl);
+            in_step = in_step_acked r.sender c.receiver (Tells r.instructions) (Acks c.instructions) l.in_step u.acked (u, sent, refl);
             acts =
                 (let count = a.count in
                 let stretch = a.told u sent in
@@ -167,9 +167,9 @@ keeps-acts w d from now g u n to bears of sent few h =
             gathers_up = of;
             notes = latest_noted r d.number from l.notes;
           })
-          (λ j e. line-more size log more cuts (acts_of j log) (acts_of j (log ++ more)) (w.server.records j) (w.clients j) h.cuts
+          (λ j e. link-more size log more cuts (acts_of j log) (acts_of j (log ++ more)) (w.server.records j) (w.clients j) h.cuts
           (acts_of-append j log more ∙ ap (λ (xs : List Act). acts_of j log ++ xs) (acts_of-other j id (take n new) (flip j e))
-          ∙ append-nil (acts_of j log)) (h.lines j));
+          ∙ append-nil (acts_of j log)) (h.links j));
       fragments = (λ x i. on_put (λ j y. IsFragment (is_to_server x.kind) x (w.server.records j) (w.clients x.client)
           → IsFragment (is_to_server x.kind) x y (w.clients x.client)) w.server.records d.client r'
           (fragment-record (is_to_server x.kind) x r r' (w.clients x.client) refl) (λ j e p. p) x.client (h.fragments x i));
@@ -208,8 +208,8 @@ keeps-acts w d from now g u n to bears of sent few h =
     r' : Record
     r' = informed_from (w.server.records d.client) d from now g u n
 
-    l : Line w d.client (w.server.records d.client) (w.clients d.client)
-    l = h.lines d.client
+    l : Link w d.client (w.server.records d.client) (w.clients d.client)
+    l = h.links d.client
 
     a : ActsOf (acts_of d.client w.server.log) (w.server.records d.client) (w.clients d.client)
     a = l.acts
@@ -229,11 +229,11 @@ top_true Is s are = go s.base s.later are
     go base [] are = All-head (λ (h : Held Screenshot). Is h.number h.state) base [] are
     go base (h ∷ hs) are = go h hs (All-tail (λ (h : Held Screenshot). Is h.number h.state) base (h ∷ hs) are)
 
--- what a line is that holds, with the sender s
+-- what a link is that holds, with the sender s
 record HoldsLine (size : SessionSize) (log : List Entry) (cuts : List ℕ) (s : Sending Screenshot) (vs : List DownValue)
     (c : Client) : Type 0 where
-  truth : TrueLine (applied_by c.version) (IsScreenOf c.version size log cuts) s c.receiver (Tells vs)
-  link : Link s c.receiver (Tells vs) (Acks c.instructions)
+  truth : TrueLink (applied_by c.version) (IsScreenOf c.version size log cuts) s c.receiver (Tells vs)
+  in_step : AreInStep s c.receiver (Tells vs) (Acks c.instructions)
 
 pub and_right : (a b : Bool) → (a && b) ≡ true → b ≡ true
 and_right true b e = e
@@ -260,7 +260,7 @@ none_held n s now = refl
 module _ (size : SessionSize) (log : List Entry) (cuts : List ℕ) (taken : List Act) (r : Record) (c : Client) (n : ℕ) (s : Screenshot)
     (now : ℕ)
     (is : r.known ≡ true → IsScreenOf c.version size log cuts n s) (fit : Fits r c) (screens : AreScreens size log cuts) (few : length cuts < 2 ^ 62)
-    (l : LineOf size log cuts taken r c) where
+    (l : LinkOf size log cuts taken r c) where
   -- after the offer
   offer_holds : HoldsLine size log cuts (holds_after r n s now) r.instructions c
   unfolding holds_after
@@ -276,10 +276,10 @@ module _ (size : SessionSize) (log : List Entry) (cuts : List ℕ) (taken : List
           record {
             truth = true_offered (applied_by c.version) (IsScreenOf c.version size log cuts) r.sender c.receiver (Tells r.instructions) l.truth n s
                 (is (live_known r now live));
-            link = link_offered r.sender c.receiver (Tells r.instructions) (Acks c.instructions) l.link n s (grind (arith, nat_tests))
+            in_step = in_step_offered r.sender c.receiver (Tells r.instructions) (Acks c.instructions) l.in_step n s (grind (arith, nat_tests))
                 (grind (arith, nat_tests));
           }
-      go false e = record { truth = l.truth; link = l.link }
+      go false e = record { truth = l.truth; in_step = l.in_step }
 
   -- what is told is a screen
   pub newest_shown : IsSeenBy c.version (newest (holds_after r n s now)).state
@@ -299,7 +299,7 @@ module _ (size : SessionSize) (log : List Entry) (cuts : List ℕ) (taken : List
   down_is =
       let held = holds_after r n s now in
       let top = (top_true (IsScreenOf c.version size log cuts) (holds_after r n s now) offer_holds.truth.sender).made in
-      let rises = base_least held.base held.later (newest held).number offer_holds.link.sender_rises (last_among held.base held.later) in
+      let rises = base_least held.base held.later (newest held).number offer_holds.in_step.sender_rises (last_among held.base held.later) in
       let low = l.acts.low in
       let below = l.acts.below in
       record { floor = omega arith; old = rises; new = omega (arith, top, few); acked = omega (arith, low, below) }
@@ -309,18 +309,18 @@ module _ (size : SessionSize) (log : List Entry) (cuts : List ℕ) (taken : List
   tells u t = elim (IsIn-push_cases t.0 (down_to r n s now) r.instructions t.1)
       [ inl o ↦ inl (t.0, o, t.2) | inr e ↦ inr (sym t.2 ∙ ap update_in (sym e)) ]
 
-  pub line_ticked : LineOf size log cuts taken (ticked_record r n s now) c
-  line_ticked = go (sends r n s now) refl
+  pub link_ticked : LinkOf size log cuts taken (ticked_record r n s now) c
+  link_ticked = go (sends r n s now) refl
     where
       a : ActsOf taken r c
       a = l.acts
 
-      go : (b : Bool) → sends r n s now ≡ b → LineOf size log cuts taken (cond b (after_sent r n s now) (record r { sender = holds_after r n s now })) c
+      go : (b : Bool) → sends r n s now ≡ b → LinkOf size log cuts taken (cond b (after_sent r n s now) (record r { sender = holds_after r n s now })) c
       go true e = record {
         truth = true_sent (applied_by c.version) (IsScreenOf c.version size log cuts) (holds_after r n s now) c.receiver (Tells r.instructions) offer_holds.truth
             (Tells (r.instructions ++ down_to r n s now ∷ [])) now (down_to r n s now).change
             (change_leads (sends_known r n s now e)) tells;
-        link = link_sent (holds_after r n s now) c.receiver (Tells r.instructions) (Acks c.instructions) offer_holds.link
+        in_step = in_step_sent (holds_after r n s now) c.receiver (Tells r.instructions) (Acks c.instructions) offer_holds.in_step
             (Tells (r.instructions ++ down_to r n s now ∷ [])) now (down_to r n s now).change tells;
         acts = record {
           count = a.count;
@@ -342,7 +342,7 @@ module _ (size : SessionSize) (log : List Entry) (cuts : List ℕ) (taken : List
       }
       go false e = record {
         truth = offer_holds.truth;
-        link = offer_holds.link;
+        in_step = offer_holds.in_step;
         acts = record {
           count = a.count;
           front = a.front;
@@ -361,14 +361,14 @@ module _ (size : SessionSize) (log : List Entry) (cuts : List ℕ) (taken : List
         notes = l.notes;
       }
 
-line-cut : (size : SessionSize) (log : List Entry) (cuts : List ℕ) (k : ℕ) (taken : List Act) (r : Record) (c : Client)
-    → LineOf size log cuts taken r c
-    → LineOf size log (cuts ++ k ∷ []) taken r c
-line-cut size log cuts k taken r c l =
+link-cut : (size : SessionSize) (log : List Entry) (cuts : List ℕ) (k : ℕ) (taken : List Act) (r : Record) (c : Client)
+    → LinkOf size log cuts taken r c
+    → LinkOf size log (cuts ++ k ∷ []) taken r c
+link-cut size log cuts k taken r c l =
     record {
       truth = true_still (applied_by c.version) (IsScreenOf c.version size log cuts) r.sender c.receiver (Tells r.instructions) l.truth
           (IsScreenOf c.version size log (cuts ++ k ∷ [])) (Tells r.instructions) (λ n s i. is_cut c.version size log cuts k n s i) (λ u t. t);
-      link = l.link;
+      in_step = l.in_step;
       acts = l.acts;
       downs = l.downs;
       ups = l.ups;
@@ -459,7 +459,7 @@ record CutsHold (w : World) (cuts : List ℕ) : Type 0 where
   numbers : length cuts < 2 ^ 62
   cuts_low : AreCuts w.server.log cuts
   screens : AreScreens w.server.size w.server.log cuts
-  lines : (id : ℕ) → LineOf w.server.size w.server.log cuts (acts_of id w.server.log) (w.server.records id) (w.clients id)
+  links : (id : ℕ) → LinkOf w.server.size w.server.log cuts (acts_of id w.server.log) (w.server.records id) (w.clients id)
 
 cuts_hold : (w : World) (now : ℕ) → is_tick_spent w.server now ≡ false → Holds w
     → CutsHold w (cuts_after w.server now)
@@ -476,9 +476,9 @@ cuts_hold w now spent h = go (makes w.server now) refl (or_left _ _ spent)
       numbers = not_past (length (s.cuts ++ length s.log ∷ [])) f;
       cuts_low = cuts_cut s.log s.cuts h.cuts;
       screens = screens_cut s.size s.log s.cuts h.screens (face_is s.size s.log h.size);
-      lines = λ id. line-cut s.size s.log s.cuts (length s.log) (acts_of id s.log) (s.records id) (w.clients id) (h.lines id);
+      links = λ id. link-cut s.size s.log s.cuts (length s.log) (acts_of id s.log) (s.records id) (w.clients id) (h.links id);
     }
-    go false e f = record { numbers = h.numbers; cuts_low = h.cuts; screens = h.screens; lines = h.lines }
+    go false e f = record { numbers = h.numbers; cuts_low = h.cuts; screens = h.screens; links = h.links }
 
 -- the screen of the newest number for a record is one of its start's version
 screen_for : (w : World) (now id : ℕ) → Fits (w.server.records id) (w.clients id) → (w.server.records id).known ≡ true
@@ -497,7 +497,7 @@ newest_screen w now spent h id =
     let c = cuts_hold w now spent h in
     newest_shown w.server.size w.server.log (cuts_after w.server now) (acts_of id w.server.log) (w.server.records id) (w.clients id)
     (number_after w.server now) (screen_to w.server now id) now
-    (screen_for w now id (h.fits id)) (h.fits id) c.screens c.numbers (c.lines id)
+    (screen_for w now id (h.fits id)) (h.fits id) c.screens c.numbers (c.links id)
 
 pub keeps-tick : (w : World) (now : ℕ) → is_tick_spent w.server now ≡ false → Holds w
     → Holds (after_server_tick w now)
@@ -507,9 +507,9 @@ keeps-tick w now spent h =
       numbers = c.numbers;
       cuts = c.cuts_low;
       screens = c.screens;
-      lines = (λ id. line_ticked w.server.size w.server.log (cuts_after w.server now) (acts_of id w.server.log) (w.server.records id)
+      links = (λ id. link_ticked w.server.size w.server.log (cuts_after w.server now) (acts_of id w.server.log) (w.server.records id)
           (w.clients id) (number_after w.server now) (screen_to w.server now id) now
-          (screen_for w now id (h.fits id)) (h.fits id) c.screens c.numbers (c.lines id));
+          (screen_for w now id (h.fits id)) (h.fits id) c.screens c.numbers (c.links id));
       fragments = (λ d i. elim (IsIn-append_cases d w.sent (map (λ (p : Parcel). p.datagram) (sent_by w.server now)) i) [
         | inl o ↦ fragment_ticked (is_to_server d.kind) d (w.server.records d.client) (w.clients d.client) (number_after w.server now)
             (screen_to w.server now d.client) now (h.fragments d o)

@@ -5,9 +5,9 @@ use Rattle.roam_acts.specs.declared.acts.Act.{Act}
 use Rattle.roam_acts.specs.Acts.{IsAct}
 use Rattle.roam_acts.specs.Senders.{HasTyped, IsStretch}
 use Rattle.roam_world.specs.Versions.{IsSeenBy, applied_by}
-use Rattle.roam_sync.specs.Lines.{Update}
-use Rattle.roam_sync.specs.TrueLines.{TrueLine}
-use Rattle.roam_sync.specs.Links.{Link}
+use Rattle.roam_sync.specs.Links.{Update}
+use Rattle.roam_sync.specs.TrueLinks.{TrueLink}
+use Rattle.roam_sync.specs.InStep.{AreInStep}
 use Rattle.roam_wire.specs.Cutting.{fragments_of}
 use Rattle.roam_wire.specs.Gatherers.{Gathering, fragment_of}
 use Rattle.roam_wire.specs.AnyOrder.{IsFragmentOf, GathersOf}
@@ -64,9 +64,9 @@ pub record ActsOf (taken : List Act) (r : Record) (c : Client) : Type 0 where
   pub told : (u : UpValue) → IsIn u c.instructions → IsStretch c.typed u.first u.acts
 
 -- of one client start and its record
-pub record LineOf (size : SessionSize) (log : List Entry) (cuts : List ℕ) (taken : List Act) (r : Record) (c : Client) : Type 0 where
-  pub truth : TrueLine (applied_by c.version) (IsScreenOf c.version size log cuts) r.sender c.receiver (Tells r.instructions)
-  pub link : Link r.sender c.receiver (Tells r.instructions) (Acks c.instructions)
+pub record LinkOf (size : SessionSize) (log : List Entry) (cuts : List ℕ) (taken : List Act) (r : Record) (c : Client) : Type 0 where
+  pub truth : TrueLink (applied_by c.version) (IsScreenOf c.version size log cuts) r.sender c.receiver (Tells r.instructions)
+  pub in_step : AreInStep r.sender c.receiver (Tells r.instructions) (Acks c.instructions)
   pub acts : ActsOf taken r c
   pub downs : (v : DownValue) → IsIn v r.instructions → IsDown v
   pub ups : (u : UpValue) → IsIn u c.instructions → IsUp u
@@ -109,7 +109,7 @@ pub record Holds (w : World) : Type 0 where
   pub numbers : length w.server.cuts < number_limit
   pub cuts : AreCuts w.server.log w.server.cuts
   pub screens : AreScreens w.server.size w.server.log w.server.cuts
-  pub lines : (id : ℕ) → LineOf w.server.size w.server.log w.server.cuts (acts_of id w.server.log) (w.server.records id) (w.clients id)
+  pub links : (id : ℕ) → LinkOf w.server.size w.server.log w.server.cuts (acts_of id w.server.log) (w.server.records id) (w.clients id)
   pub fragments : (d : DatagramValue) → IsIn d w.sent → IsFragment (is_to_server d.kind) d (w.server.records d.client) (w.clients d.client)
   pub bears : (d : DatagramValue) → IsIn d w.sent → Bears d (w.clients d.client)
   pub fits : (id : ℕ) → Fits (w.server.records id) (w.clients id)

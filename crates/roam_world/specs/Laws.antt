@@ -5,10 +5,10 @@ use Rattle.roam_cells.specs.declared.faults.Fault.TheVariants.{OutOfMemory, BadC
 use Rattle.roam_acts.specs.Acts.{IsAct}
 use Rattle.roam_sync.specs.Senders.{newest, count}
 use Rattle.roam_sync.specs.Receivers.{pairs}
-use Rattle.roam_sync.specs.TrueLines.{HoldsTrueStates, HasTrueStates}
+use Rattle.roam_sync.specs.TrueLinks.{HoldsTrueStates, HasTrueStates}
 use Rattle.roam_layout.specs.Layouts.{IsSessionSize}
 use Rattle.roam_session.specs.Sessions.{SessionSize}
-use Rattle.roam_sync.specs.Lines.{IsAmong, numbers_held, numbers_had}
+use Rattle.roam_sync.specs.Links.{IsAmong, numbers_held, numbers_had}
 use Rattle.roam_wire.specs.Instructions.{DownValue}
 use Rattle.roam_world.specs.Versions.{applied_by}
 use Rattle.roam_world.specs.Lists.{IsIn, IsFront}

@@ -10,7 +10,7 @@ use Rattle.roam_acts.specs.Senders.{IsFull, IsSpent}
 use Rattle.roam_world.specs.Versions.{applied_by}
 use Rattle.roam_sync.specs.declared.receivers.Step.TheVariants as step
 use Rattle.roam_sync.specs.Receivers.{Receiving, pairs, state_at}
-use Rattle.roam_sync.specs.Lines.{Delivers}
+use Rattle.roam_sync.specs.Links.{Delivers}
 use Rattle.roam_wire.specs.Gatherers.{Gathering}
 use Rattle.roam_wire.specs.Instructions.{DownValue, UpValue}
 use Rattle.roam_session.specs.Sessions.{Given, Drained}

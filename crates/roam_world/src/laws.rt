@@ -26,7 +26,7 @@ pub fn what_always_holds()
 
 /// After every list of events: each pair that either end holds is a number with its screen, neither end ever has a ninth pair, and no
 /// datagram that was sent leaves a gap or has a bad change, whenever and however often it comes.
-pub fn lines_stay_true()
+pub fn links_stay_true()
     ensures pairs { Always HoldTrueScreens }
     ensures eight { Always HoldAtMostEight }
     ensures gap { Always LeavesNoGap }

@@ -1,4 +1,4 @@
-//! The two ends of a line of numbered states, over numbers and over screens: what each call leaves, and what comes over.
+//! The two ends of a link of numbered states, over numbers and over screens: what each call leaves, and what comes over.
 //!
 //! A case is a name and what is done, a line each, with what is wanted of it. `offer N` gives the sender a state under its number;
 //! `withdraw` takes the newest back; `acked N` acknowledges a number; `sent T` tells it a moment in milliseconds, and `due T` asks whether
@@ -8,7 +8,7 @@
 //! wrote; where it is `bad`, of seven bytes.
 ghost use Rattle.std.specs.Prelude.{◌≡◌, ◌≤◌, ℕ, List, OnOk, Ok};
 ghost use Rattle.roam_sync.specs.Senders.{acked, sent_at};
-ghost use Rattle.roam_sync.specs.Lines.{update_of, IsChange, Delivers};
+ghost use Rattle.roam_sync.specs.Links.{update_of, IsChange, Delivers};
 ghost use Rattle.roam_sync.specs.Laws.{EachPairIsTrue, OneRoundSuffices};
 
 use crate::counters::Counter;
@@ -230,14 +230,14 @@ fn round<S: Synced>(
 
 /// Both ends, and the updates that were sent.
 #[derive(Drop)]
-struct Line<S> {
+struct Link<S> {
     sender: Sender<S>,
     receiver: Receiver<S>,
     sent: Vec<Instruction>,
 }
 
-fn begun<S: Numbered>(alloc: Global) -> Result<Line<S>, Fault> {
-    Ok(Line {
+fn begun<S: Numbered>(alloc: Global) -> Result<Link<S>, Fault> {
+    Ok(Link {
         sender: Sender::new(alloc, S::of(alloc, 0)?)?,
         receiver: Receiver::new(alloc, S::of(alloc, 0)?)?,
         sent: Vec::new(alloc),
@@ -287,10 +287,10 @@ fn answers<S: Numbered>(
     told.is_empty()
 }
 
-fn send<S: Numbered>(alloc: Global, line: &mut Line<S>) -> Result<(), Fault> {
-    let instruction = line.sender.instruction(alloc)?;
-    line.sent.push(instruction)?;
-    line.sender.sent(0);
+fn send<S: Numbered>(alloc: Global, link: &mut Link<S>) -> Result<(), Fault> {
+    let instruction = link.sender.instruction(alloc)?;
+    link.sent.push(instruction)?;
+    link.sender.sent(0);
     Ok(())
 }
 
@@ -324,18 +324,18 @@ fn taken<S: Numbered>(
 }
 
 // Whether the update of that number comes so, and this number is shown then.
-fn comes<S: Numbered>(alloc: Global, line: &mut Line<S>, row: [u64; 3], told: &str) -> bool {
-    let Some(update) = line.sent.get(row[0] as usize) else {
+fn comes<S: Numbered>(alloc: Global, link: &mut Link<S>, row: [u64; 3], told: &str) -> bool {
+    let Some(update) = link.sent.get(row[0] as usize) else {
         return false;
     };
     let numbers = [update.old, update.new, update.floor];
-    taken(alloc, &mut line.receiver, numbers, &update.change) == told
-        && shows(&line.receiver, row[1])
+    taken(alloc, &mut link.receiver, numbers, &update.change) == told
+        && shows(&link.receiver, row[1])
 }
 
-fn goes_round<S: Numbered>(alloc: Global, line: &mut Line<S>, row: [u64; 3], told: &str) -> bool {
-    let step = round(alloc, &mut line.sender, &mut line.receiver, 0);
-    step_word(step) == told && shows(&line.receiver, row[0]) && line.sender.len() as u64 == row[1]
+fn goes_round<S: Numbered>(alloc: Global, link: &mut Link<S>, row: [u64; 3], told: &str) -> bool {
+    let step = round(alloc, &mut link.sender, &mut link.receiver, 0);
+    step_word(step) == told && shows(&link.receiver, row[0]) && link.sender.len() as u64 == row[1]
 }
 
 // The change that leads from the state of one number to that of another; or seven bytes, which lead nowhere.
@@ -365,17 +365,17 @@ fn takes<S: Numbered>(
 
 fn happens<S: Numbered>(
     alloc: Global,
-    line: &mut Line<S>,
+    link: &mut Link<S>,
     verb: &str,
     row: [u64; 3],
     told: &str,
 ) -> bool {
     match verb {
-        "send" => send(alloc, line).is_ok(),
-        "comes" => comes(alloc, line, row, told),
-        "round" => goes_round(alloc, line, row, told),
-        "take" => takes(alloc, &mut line.receiver, row, told) == Ok(true),
-        _ => answers(alloc, &mut line.sender, verb, row, told),
+        "send" => send(alloc, link).is_ok(),
+        "comes" => comes(alloc, link, row, told),
+        "round" => goes_round(alloc, link, row, told),
+        "take" => takes(alloc, &mut link.receiver, row, told) == Ok(true),
+        _ => answers(alloc, &mut link.sender, verb, row, told),
     }
 }
 
@@ -398,18 +398,18 @@ fn numbers_of(verb: &str, text: &str) -> Option<[u64; 3]> {
     if is_read { Some(row) } else { None }
 }
 
-fn holds<S: Numbered>(alloc: Global, line: &mut Line<S>, words: &str) -> bool {
+fn holds<S: Numbered>(alloc: Global, link: &mut Link<S>, words: &str) -> bool {
     let (asked, told) = halves(words, ": ");
     let (verb, numbers) = halves(asked, " ");
     match numbers_of(verb, numbers) {
-        Some(row) => happens(alloc, line, verb, row, told),
+        Some(row) => happens(alloc, link, verb, row, told),
         None => false,
     }
 }
 
-fn all_hold<S: Numbered>(alloc: Global, line: &mut Line<S>, case: &str) -> bool {
+fn all_hold<S: Numbered>(alloc: Global, link: &mut Link<S>, case: &str) -> bool {
     for words in case.lines().skip(1) {
-        if !words.starts_with("# ") && !holds(alloc, line, words) {
+        if !words.starts_with("# ") && !holds(alloc, link, words) {
             return false;
         }
     }
@@ -418,7 +418,7 @@ fn all_hold<S: Numbered>(alloc: Global, line: &mut Line<S>, case: &str) -> bool 
 
 fn plays<S: Numbered>(alloc: Global, case: &str) -> bool {
     match begun::<S>(alloc) {
-        Ok(mut line) => all_hold(alloc, &mut line, case),
+        Ok(mut link) => all_hold(alloc, &mut link, case),
         Err(_) => false,
     }
 }
@@ -439,27 +439,27 @@ fn lines_of_numbers_and_of_screens(rt: HostRuntime) {
 }
 
 // Whether an end that was refused memory is as before: the sender by its length, the receiver by the number that it shows.
-fn stands<S: Numbered>(line: &Line<S>, len: usize, number: u64) -> bool {
-    line.sender.len() == len && shows(&line.receiver, number)
+fn stands<S: Numbered>(link: &Link<S>, len: usize, number: u64) -> bool {
+    link.sender.len() == len && shows(&link.receiver, number)
 }
 
 // Two offers and a round, stopped at the first refusal, which leaves both ends as they were.
-fn refused_leaves<S: Numbered>(alloc: Global, line: &mut Line<S>) -> bool {
+fn refused_leaves<S: Numbered>(alloc: Global, link: &mut Link<S>) -> bool {
     for number in 1..3u64 {
-        if let Err(fault) = offer(alloc, &mut line.sender, number) {
-            return fault == Fault::OutOfMemory && stands(line, number as usize, 0);
+        if let Err(fault) = offer(alloc, &mut link.sender, number) {
+            return fault == Fault::OutOfMemory && stands(link, number as usize, 0);
         }
     }
-    match round(alloc, &mut line.sender, &mut line.receiver, 0) {
-        Err(fault) => fault == Fault::OutOfMemory && stands(line, 3, 0),
-        Ok(step) => step == Step::New && stands(line, 1, 2),
+    match round(alloc, &mut link.sender, &mut link.receiver, 0) {
+        Err(fault) => fault == Fault::OutOfMemory && stands(link, 3, 0),
+        Ok(step) => step == Step::New && stands(link, 1, 2),
     }
 }
 
-// The same of a new line; where there is no memory for it, nothing is left.
+// The same of a new link; where there is no memory for it, nothing is left.
 fn refused_leaves_a_line<S: Numbered>(alloc: Global) -> bool {
     match begun::<S>(alloc) {
-        Ok(mut line) => refused_leaves(alloc, &mut line),
+        Ok(mut link) => refused_leaves(alloc, &mut link),
         Err(fault) => fault == Fault::OutOfMemory,
     }
 }

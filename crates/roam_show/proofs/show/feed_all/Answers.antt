@@ -2,7 +2,7 @@ use Rattle.std.proofs.Common.{rules, ◌≡◌, ◌≤◌, ◌++◌, [], map, ta
 use Rattle.std.proofs.KnownBytes.{Consumes-nil, Consumes-trans}
 use Rattle.roam_text.specs.Log.{Byte}
 use Rattle.roam_term.specs.Terminal.{reports}
-use Rattle.roam_term.specs.Stands.{Shows, IsAccepted}
+use Rattle.roam_term.specs.Stands.{Stands, IsAccepted}
 use Rattle.roam_show.proofs.ShowLaws.{map-append}
 use Rattle.roam_show.proofs.show.feed_all.Goals as goal
 
@@ -23,7 +23,7 @@ loop-preserved g c =
           let gained = fed.gains rows cols lines (map Byte log) was.0 in
           let waiting : c.feed.new.self.waiting ≡ gained.more = gained.queue ∙ ap (λ w. w ++ gained.more) c.loop.invariant.3 in (
             c.take_report.ensures.stands rows cols lines (map Byte (log ++ piece))
-                (subst (λ l. Shows c.feed.new.self rows cols lines l) together (fed.stands rows cols lines (map Byte log) was.0)),
+                (subst (λ l. Stands c.feed.new.self rows cols lines l) together (fed.stands rows cols lines (map Byte log) was.0)),
             c.in_ok-take_report.ensures.report ∙ ap (λ r. r ++ c.feed.new.self.waiting) was.1 ∙ ap (λ w. reports rows cols lines (map Byte log) ++ w) waiting
                 ∙ sym gained.answers ∙ ap (reports rows cols lines) together,
           ),

@@ -2,11 +2,11 @@ use Rattle.std.proofs.Common.{rules, ◌≡◌, ◌++◌, [], ◌∷◌, map, ta
 use Rattle.std.proofs.KnownBytes.{Keeps-refl, Keeps-trans}
 use Rattle.std.proofs.lemmas.List.{take_more, map-append}
 use Rattle.roam_wire.specs.Cutting.{texts_of}
-use Rattle.roam_turns.specs.Calls.{Tells, Letter}
+use Rattle.roam_turns.specs.Calls.{Tells, Parcel}
 use Rattle.roam_turns.specs.Calls.PortCall.{Sent}
-use Rattle.roam_turns.specs.Turns.{Sends, letter_to}
+use Rattle.roam_turns.specs.Turns.{Sends, parcel_to}
 use Rattle.roam_turns.proofs.Making.{tells_none, tells_both}
-use Rattle.roam_turns.proofs.Letters.{sends_more}
+use Rattle.roam_turns.proofs.Parcels.{sends_more}
 use Rattle.roam_turns.proofs.sending.send_texts.Goals as goal
 
 pub loop-bytes-init : goal.loop-bytes-init
@@ -18,7 +18,7 @@ loop-bytes-preserved g c =
     let to = c.args.to in
     let i = c.loop-bytes.bytes-index in
     let item = c.bytes-item.result in
-    let letter : Letter = (to, item.items) in
+    let parcel : Parcel = (to, item.items) in
     let within : i < length all = search rules in
     let h = c.loop-bytes.invariant in
     let call = Sent to item.items c.send.result in
@@ -27,12 +27,12 @@ loop-bytes-preserved g c =
     let more : texts_of (take (i + 1) all) ≡ texts_of (take i all) ++ item.items ∷ [] =
     ap texts_of (take_more all i item within) ∙ (map-append (λ v. v.items) (take i all) (get_or all i item ∷ [])
     ∙ ap (λ x. texts_of (take i all) ++ x.items ∷ []) (sym c.bytes-item.is)) in
-    let letters : map (letter_to to) (texts_of (take (i + 1) all)) ≡ map (letter_to to) (texts_of (take i all)) ++ letter ∷ [] =
-    ap (map (letter_to to)) more ∙ map-append (letter_to to) (texts_of (take i all)) (item.items ∷ []) in (
+    let parcels : map (parcel_to to) (texts_of (take (i + 1) all)) ≡ map (parcel_to to) (texts_of (take i all)) ++ parcel ∷ [] =
+    ap (map (parcel_to to)) more ∙ map-append (parcel_to to) (texts_of (take i all)) (item.items ∷ []) in (
       h.0 ++ call ∷ [],
       tells_both _ _ _ h.0 (call ∷ []) h.1 told,
       Keeps-trans _ _ _ h.2 c.send.ensures.written,
-      subst (λ ls. Sends ls (h.0 ++ call ∷ [])) (sym letters)
-          (sends_more (map (letter_to to) (texts_of (take i all))) h.0 letter c.send.result h.3),
+      subst (λ ls. Sends ls (h.0 ++ call ∷ [])) (sym parcels)
+          (sends_more (map (parcel_to to) (texts_of (take i all))) h.0 parcel c.send.result h.3),
       c.send.ensures.notice ∙ h.4,
     )

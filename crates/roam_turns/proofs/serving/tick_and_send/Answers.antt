@@ -2,7 +2,7 @@ use Rattle.std.proofs.Common.{◌++◌, ℕ, List, Vec, refl, subst, ap, ◌∙�
 use Rattle.std.specs.Prelude.{Ok, Err}
 use Rattle.std.specs.declared.alloc.Global.{Global}
 use Rattle.roam_hub.specs.declared.addresses.Addr.{Addr}
-use Rattle.roam_turns.specs.Calls.{letters_in}
+use Rattle.roam_turns.specs.Calls.{parcels_in}
 use Rattle.roam_turns.specs.Calls.ServerCall.{ServerTick}
 use Rattle.roam_turns.specs.Parts.Call.{Port, Core}
 use Rattle.roam_turns.specs.Turns.{Sends, ServerTicks}
@@ -12,15 +12,15 @@ use Rattle.roam_turns.proofs.serving.tick_and_send.Goals as goal
 pub returns-in-Ok : goal.returns-in-Ok
 returns-in-Ok g c =
     let step = g.C.ServerCore.step in
-    let sends = c.send_letters.ensures.sends in
-    let each = subst (λ (letters : List (Addr × Vec ℕ Global)). Sends (letters_in letters) sends.0) c.deref.ensures.value sends.2 in
-    let call = ServerTick c.args.now (Ok (letters_in c.in-Ok.letters.items)) in
+    let sends = c.send_parcels.ensures.sends in
+    let each = subst (λ (parcels : List (Addr × Vec ℕ Global)). Sends (parcels_in parcels) sends.0) c.deref.ensures.value sends.2 in
+    let call = ServerTick c.args.now (Ok (parcels_in c.in-Ok.parcels.items)) in
     record {
       ticks =
           makes_both step (Just (Core call ∷ [])) (Just (map Port sends.0)) (ServerTicks c.args.now)
           (makes_core step [] call (makes_none step) c.in-Ok.ensures.tells c.in-Ok.ensures.step)
           (makes_ports step sends.0 sends.1)
-          (λ xs ys e f. (Ok (letters_in c.in-Ok.letters.items), sends.0, ap (λ l. l ++ ys) e ∙ ap (λ l. Core call ∷ l) f, each));
+          (λ xs ys e f. (Ok (parcels_in c.in-Ok.parcels.items), sends.0, ap (λ l. l ++ ys) e ∙ ap (λ l. Core call ∷ l) f, each));
     }
 
 pub returns-in-Err : goal.returns-in-Err

@@ -16,7 +16,7 @@ returns-in-Ok c =
           (c.in-Ok.ensures.steps st.world (reached _ session size es rs st) st.stands);
       no_gap =
           λ session size es rs st.
-          no_gap st.world _ _ _ (c.lines_stay_true.ensures.gap session size es rs st.world st.reached)
+          no_gap st.world _ _ _ (c.links_stay_true.ensures.gap session size es rs st.world st.reached)
           (c.in-Ok.ensures.steps st.world (reached _ session size es rs st) st.stands);
     }
 
@@ -34,6 +34,6 @@ returns-in-Err c =
           (c.in-Err.ensures.steps st.world (reached _ session size es rs st) st.stands);
       no_gap =
           λ session size es rs st.
-          no_gap st.world _ _ _ (c.lines_stay_true.ensures.gap session size es rs st.world st.reached)
+          no_gap st.world _ _ _ (c.links_stay_true.ensures.gap session size es rs st.world st.reached)
           (c.in-Err.ensures.steps st.world (reached _ session size es rs st) st.stands);
     }

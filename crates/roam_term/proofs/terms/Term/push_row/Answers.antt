@@ -4,7 +4,7 @@ use Rattle.roam_text.specs.Log.{Item}
 use Rattle.roam_cells.specs.Place.{row_of}
 use Rattle.roam_screens.specs.Screenshot.{Screenshot}
 use Rattle.roam_term.specs.Picture.{picture, picture_of}
-use Rattle.roam_term.specs.Stands.{TermView, Shows}
+use Rattle.roam_term.specs.Stands.{TermView, Stands}
 use Rattle.roam_term.proofs.Showing.{picture_is}
 use Rattle.roam_term.proofs.terms.Term.push_row.Goals as goal
 
@@ -15,7 +15,7 @@ returns-clause-picture c =
     let old = c.args.cells.now.items in
     let new = c.push_row.new.cells.items in
     IfOk-weaker c.push_row.result (λ _. new ≡ old ++ row_of l.screen.cols (picture_of l h c.args.view).cells c.args.row)
-    (λ _. (rows cols lines : ℕ) (log : List Item) → Shows c.args.self.now rows cols lines log
+    (λ _. (rows cols lines : ℕ) (log : List Item) → Stands c.args.self.now rows cols lines log
     → new ≡ old ++ row_of (picture rows cols lines log c.args.view).cols (picture rows cols lines log c.args.view).cells c.args.row)
     (λ _ is rows cols lines log shows.
     subst (λ (shot : Screenshot). new ≡ old ++ row_of shot.cols shot.cells c.args.row)

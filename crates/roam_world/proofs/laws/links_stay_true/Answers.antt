@@ -1,4 +1,4 @@
-use Rattle.roam_world.proofs.laws.lines_stay_true.Goals as goal
+use Rattle.roam_world.proofs.laws.links_stay_true.Goals as goal
 use Rattle.roam_world.proofs.Runs.{holds-reached}
 use Rattle.roam_world.proofs.Follows.{hold_true, at_most_eight, no_gap}
 

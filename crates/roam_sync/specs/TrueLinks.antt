@@ -1,9 +1,9 @@
--- The states at both ends of a line are true, whatever is lost, late, repeated or reordered. `Is n s` says that s is the true state of the
+-- The states at both ends of a link are true, whatever is lost, late, repeated or reordered. `Is n s` says that s is the true state of the
 -- number n, and `WasSent u` that the update u was ever sent.
 use Rattle.std.specs.Prelude.{◌≡◌, ℕ, List, All, Option, Some}
 use Rattle.roam_sync.specs.Senders.{Sending}
 use Rattle.roam_sync.specs.Receivers.{Receiving, pairs}
-use Rattle.roam_sync.specs.Lines.{Update, held}
+use Rattle.roam_sync.specs.Links.{Update, held}
 
 -- each pair that the sender holds is true
 abbrev pub HoldsTrueStates : {S : Type 0} → (ℕ → S → Type 0) → Sending S → Type 0
@@ -21,8 +21,8 @@ pub record LeadsTruly {S : Type 0} (applied : S → List ℕ → Option S) (Is :
   pub to_true : Is u.new state
   pub leads : applied base u.change ≡ Some state
 
--- what is true of a line after each step: that the base is among the sender's pairs is the form of `Sending`
-pub record TrueLine {S : Type 0} (applied : S → List ℕ → Option S) (Is : ℕ → S → Type 0) (s : Sending S) (r : Receiving S)
+-- what is true of a link after each step: that the base is among the sender's pairs is the form of `Sending`
+pub record TrueLink {S : Type 0} (applied : S → List ℕ → Option S) (Is : ℕ → S → Type 0) (s : Sending S) (r : Receiving S)
     (WasSent : Update → Type 0) : Type 0 where
   pub sender : HoldsTrueStates Is s
   pub receiver : HasTrueStates Is r
