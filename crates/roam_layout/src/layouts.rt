@@ -46,7 +46,7 @@ impl Model for Layout {
     ghost invariant = { IsKept };
 }
 
-/// All rows but the last.
+/// All rows but the last, in which a tree is measured (docs/DECISIONS.md, 31).
 fn area_of(rows: u16, cols: u16) -> Rect
     requires rows { 1 ≤ rows }
     ensures area { result ≡ area rows cols }

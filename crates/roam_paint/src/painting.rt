@@ -182,7 +182,8 @@ fn close_painting(text: &mut Vec<u8>, cursor: (u16, u16), visible: bool) -> Resu
     Ok(())
 }
 
-// The text is put together apart, so that want of memory leaves what was there as it was.
+// The text is put together apart, so that want of memory leaves what was there as it was (docs/DECISIONS.md, 52). Where sizes differ all
+// is erased first (51).
 fn painting<O: Seen, N: Seen>(alloc: Global, old: &O, new: &N) -> Result<Vec<u8>, AllocError>
     ensures text { IfOk result (λ text. text.items ≡ text_between (O.screen old.now) (N.screen new.now)) }
 {

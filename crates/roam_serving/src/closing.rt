@@ -17,7 +17,8 @@ pub(crate) const OWN: Addr = Addr {
     port: 0,
 };
 
-/// The server's own start, made when it is needed first: its one datagram is what the first receive of the next turn brings.
+/// The server's own start, made when it is needed first: its one datagram is what the first receive of the next turn brings. Why a start
+/// closes a pane, and no call of its own: docs/DECISIONS.md, 97.
 #[derive(Drop)]
 pub(crate) struct Closer {
     session: u64,

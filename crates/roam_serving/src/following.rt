@@ -30,7 +30,8 @@ const MOST_READS: u32 = 4;
 /// How many lines of a program are taken after a turn at most.
 const MOST_LINES: u32 = 16;
 
-/// A program that follows the session's panes: what it was told, what waits for it, and the lines that came from it.
+/// A program that follows the session's panes: what it was told, what waits for it, and the lines that came from it. It stands beside the
+/// turn, and not in it (docs/DECISIONS.md, 64).
 #[derive(Drop)]
 pub(crate) struct Follower {
     peer: Peer,

@@ -39,7 +39,7 @@ fn type_each<S: Seen>(guesses: &mut Guesses, first: u64, acts: &[Act], shown: &S
     type_each(guesses, first.saturating_add(1), &acts[1..], shown);
 }
 
-// How many acts are told to guesses as acknowledged, where the first guess that hasn't waited long has a number.
+// How many acts are told to guesses as acknowledged, where the first guess that hasn't waited long has a number (docs/DECISIONS.md, 102).
 fn told_by(acknowledged: u64, young: Option<u64>) -> u64
     ensures told { result ≡ told_by acknowledged young }
 {

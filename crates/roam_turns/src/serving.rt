@@ -130,7 +130,7 @@ fn tick_and_send<C: ServerCore, P: Ports>(alloc: Global, server: &mut C, ports: 
 /// One turn of a server round its ports: the moment; at most 32 datagrams of up to 2,048 bytes, until one receive brings nothing; of each
 /// pane, 1 to 9, which making of it is there, before any of their programs is asked; up to 1,024 bytes of the program of each pane that
 /// would take a full piece; up to 1,024 bytes for the program of each pane, of which what it took goes; and a tick, whose datagrams are
-/// sent. What the server refuses is dropped, and a datagram that isn't sent is lost.
+/// sent. What the server refuses is dropped, and a datagram that isn't sent is lost. It never waits (docs/DECISIONS.md, 58).
 pub fn serve_turn<C: ServerCore, P: Ports>(alloc: Global, server: &mut C, ports: &mut P)
     ensures turn { Makes C.step ServeTurn (P.told ports.old) (P.told ports.new)
         (C.made server.old) (C.made server.new) server.old server.new }

@@ -76,6 +76,7 @@ pub fn read_table(alloc: Global, n: usize, text: &[u8]) -> Result<Vec<Style>, Fa
     ensures memory { IsErrOf result Fault.OutOfMemory → IsSome (entry_read text.now) }
     ensures fault { IfErr result (λ fault. (fault ≡ Fault.OutOfMemory) ⊎ (fault ≡ Fault.BadChange)) }
 {
+    // A list that grows as styles are read: which refusal comes first is told in docs/DECISIONS.md, 34.
     let mut table = Vec::new(alloc);
     let mut keys: IndexSet<u64> = IndexSet::new(alloc);
     add_entries(&mut keys, &mut table, n, text)?;

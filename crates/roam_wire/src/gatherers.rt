@@ -168,6 +168,7 @@ impl Gatherer {
     pub fn untake(&mut self)
         ensures untaken { self.new ≡ untaken self.old }
     {
+        // The last take alone, also one that was Old (docs/DECISIONS.md, 37).
         match mem::replace(&mut self.undo, Undo::Nothing) {
             Undo::Nothing | Undo::Same => {}
             Undo::Fragment(index) => self.fragments.take_out(index),
