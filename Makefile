@@ -44,6 +44,7 @@ bench: all
 
 try: all
 	tools/worked_callers
+	tools/clauses
 	tools/names
 	tools/two_processes
 	tools/try_live

@@ -1,6 +1,7 @@
 //! The end that sends.
 
 ghost use Rattle.std.specs.Prelude.{◌≡◌, ◌+◌, ◌<◌, ◌≤◌, ◌↔◌, ◌⊎◌, false, length, Some, Ok, IfOk, IfErr, OnOk, OnErr, IsTrue, IsErrOf, IsOkUnless};
+ghost use Rattle.roam_sync.specs.Limits.{most_held};
 ghost use Rattle.roam_sync.specs.Senders.{newest, last_of, is_held, after_ack, mark_base, mark_last, count, start, offered, withdrawn, acked, sent_at, is_due};
 
 use crate::limits::{HEARTBEAT, MOST_HELD, RESEND_AFTER};
@@ -67,7 +68,7 @@ impl<S: Synced> Sender<S> {
     /// How many states are held.
     pub fn len(&self) -> usize
         ensures value { result ≡ count self.now }
-        ensures most { result ≤ 8 }
+        ensures most { result ≤ most_held }
     {
         self.later.len() + 1
     }
@@ -89,7 +90,7 @@ impl<S: Synced> Sender<S> {
         // The condition of `withdraw`, which takes the offer back.
         ensures several { OnOk result (2 ≤ count self.new) }
         ensures back { OnOk result (withdrawn self.new ≡ self.old) }
-        ensures full { IsErrOf result Fault.SendFull ↔ (count self.old ≡ 8) }
+        ensures full { IsErrOf result Fault.SendFull ↔ (count self.old ≡ most_held) }
         ensures err { OnErr result (self.new ≡ self.old) }
         ensures fault { IfErr result (λ e. (e ≡ Fault.OutOfMemory) ⊎ (e ≡ Fault.SendFull)) }
     {
