@@ -10,8 +10,9 @@ use Rattle.roam_numbers.specs.Numbers.{number_in}
 use Rattle.roam_numbers.proofs.Spelled.{number_again, number_found}
 use Rattle.roam_pane_list.specs.declared.closes.Close.{Close}
 use Rattle.roam_pane_list.specs.Closes.{IsClose, IsPane, close_head, close_text, focus_text}
-use Rattle.roam_pane_list.specs.Reading.{above_zero, close_at, close_in, close_of, first_word, life_alone, life_and_focus_at, life_and_focus_in, life_in, life_with, pane_in}
-use Rattle.roam_pane_list.proofs.Wording.{IsWord, digits_are_word, word_again, word_alone, word_found}
+use Rattle.roam_numbers.specs.Words.{first_word}
+use Rattle.roam_pane_list.specs.Reading.{above_zero, close_at, close_in, close_of, life_alone, life_and_focus_at, life_and_focus_in, life_in, life_with, pane_in}
+use Rattle.roam_numbers.proofs.Wording.{IsWord, digits_are_word, word_again, word_alone, word_found}
 
 -- what stands behind the head of a close
 abbrev pub words : Close → List ℕ

@@ -1,17 +1,8 @@
 -- How the code reads a follower's line, step by step. No public clause speaks of it: what reading means is said by the text of Closes.
-use Rattle.std.specs.Prelude.{ℕ, ◌+◌, ◌==◌, List, take, drop, Option, Some, None, if◌then◌else◌}
-use Rattle.std.specs.List.{position}
+use Rattle.std.specs.Prelude.{ℕ, ◌==◌, List, Option, Some, None, if◌then◌else◌}
 use Rattle.roam_numbers.specs.Numbers.{number_in}
+use Rattle.roam_numbers.specs.Words.{first_word}
 use Rattle.roam_pane_list.specs.declared.closes.Close.{Close}
-
--- what stands before the space at a place, and what follows it
-abbrev pub word_at : List ℕ → Option ℕ → Option (List ℕ × List ℕ)
-word_at text None = None
-word_at text (Some space) = Some (take space text, drop (space + 1) text)
-
--- what stands before the first space, and what follows it
-abbrev pub first_word : List ℕ → Option (List ℕ × List ℕ)
-first_word text = word_at text (position (λ byte. byte == 0x20) text)
 
 -- a number that isn't 0
 abbrev pub above_zero : Option ℕ → Option ℕ

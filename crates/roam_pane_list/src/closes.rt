@@ -1,13 +1,12 @@
 //! A follower's line that closes a pane, and what it comes to.
 ghost use Rattle.std.specs.Prelude.{◌≡◌, ◌↔◌, ◌==◌, false, true, None, Some, IfSome, MatchOption};
-ghost use Rattle.std.specs.List.{position};
 ghost use Rattle.roam_pane_list.specs.declared.closes.Close.{Close as CloseOf};
 ghost use Rattle.roam_pane_list.specs.Closes.{Acts, IsAlone, IsClose, close_text, focus_after, is_there, is_making, may_follow};
-ghost use Rattle.roam_pane_list.specs.Reading.{close_in, first_word, life_and_focus_in, pane_in};
+ghost use Rattle.roam_pane_list.specs.Reading.{close_in, life_and_focus_in, pane_in};
 
 use crate::pane_list::PaneList;
 use roam_acts::limits::PANES_END;
-use roam_numbers::number;
+use roam_numbers::{first_word, number};
 
 /// What a follower may ask for: a pane, and which making of its number it is, and which pane is to have the focus then.
 #[derive(Clone, Copy, Debug, PartialEq, Eq)]
@@ -36,21 +35,6 @@ pub enum Closing {
     },
 }
 
-// The place of the first space.
-fn space_in(text: &[u8]) -> Option<usize>
-    ensures place { result ≡ position (λ byte. byte == 0x20) text.now }
-{
-    text.iter().position(|byte| *byte == b' ')
-}
-
-// What stands before the first space, and what follows it.
-fn word(text: &[u8]) -> Option<(&[u8], &[u8])>
-    ensures word { MatchOption result (first_word text.now ≡ None) (λ p. first_word text.now ≡ Some (p.0.now, p.1.now)) }
-{
-    let space = space_in(text)?;
-    Some((text.split_at(space).0, text.split_at(space + 1).1))
-}
-
 // The pane, 1 to 9, that a text writes.
 fn pane(text: &[u8]) -> Option<u8>
     ensures pane { result ≡ pane_in text.now }
@@ -65,7 +49,7 @@ fn pane(text: &[u8]) -> Option<u8>
 fn life_and_focus(text: &[u8]) -> Option<(u64, Option<u8>)>
     ensures both { result ≡ life_and_focus_in text.now }
 {
-    match word(text) {
+    match first_word(text) {
         None => Some((number(text, u64::MAX)?, None)),
         Some((life, focus)) => Some((number(life, u64::MAX)?, Some(pane(focus)?))),
     }
@@ -75,7 +59,7 @@ fn life_and_focus(text: &[u8]) -> Option<(u64, Option<u8>)>
 fn close_behind(text: &[u8]) -> Option<Close>
     ensures close { result ≡ close_in text.now }
 {
-    let (first, rest) = word(text)?;
+    let (first, rest) = first_word(text)?;
     let pane = pane(first)?;
     let (life, focus) = life_and_focus(rest)?;
     Some(Close { pane, life, focus })

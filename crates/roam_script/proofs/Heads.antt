@@ -15,7 +15,8 @@ use Rattle.roam_script.specs.declared.lines.LineFault.TheVariants.{BadEvent, Out
 use Rattle.roam_script.specs.Values.{LineValue, IsLine}
 use Rattle.roam_script.specs.Kinds.{head_of, headed_in, kind_of, kinds}
 use Rattle.roam_script.specs.Lines.{BeginsPane, IsArgument, Says, value_of}
-use Rattle.roam_script.specs.Reading.{byte_in, bytes_in, each_of, first_word, pair_of, plain_in, two_in}
+use Rattle.roam_numbers.specs.Words.{first_word}
+use Rattle.roam_script.specs.Reading.{byte_in, bytes_in, each_of, pair_of, plain_in, two_in}
 use Rattle.roam_script.specs.Arguments.{IsRead, IsLineWith, IsNoLineWith}
 use Rattle.roam_script.proofs.Telling.{IsPlain, OneAct, one_line, pane_bytes_none, plain_again, plain_found}
 

@@ -20,10 +20,12 @@ use Rattle.roam_script.specs.Values.{LineValue, IsLine, Session, Start, Watch, P
 use Rattle.roam_script.specs.Kinds.{kind_of}
 use Rattle.roam_numbers.specs.Numbers.{IsId, id_in, number_in}
 use Rattle.roam_script.specs.Lines.{AreBytes, IsArgument, IsStart}
-use Rattle.roam_script.specs.Reading.{byte_in, bytes_in, face_in, first_word, long_in, pair_of, plain_in, short_in, slot_in, start_at, start_in, two_in, version_in}
+use Rattle.roam_numbers.specs.Words.{first_word}
+use Rattle.roam_script.specs.Reading.{byte_in, bytes_in, face_in, long_in, pair_of, plain_in, short_in, slot_in, start_at, start_in, two_in, version_in}
 use Rattle.roam_script.specs.Arguments.{IsLineWith, IsNoLineWith}
 use Rattle.roam_numbers.proofs.Spelled.{id_again, id_found, number_again, number_found}
-use Rattle.roam_script.proofs.Wording.{digits_are_word, pair_found, two_again, two_found, word_again, word_alone, word_found, IsWord}
+use Rattle.roam_numbers.proofs.Wording.{digits_are_word, word_again, word_alone, word_found, IsWord}
+use Rattle.roam_script.proofs.Wording.{pair_found, two_again, two_found}
 
 -- ---- words
 

@@ -1,10 +1,10 @@
 -- How the code reads lines, step by step. No public clause speaks of it: what reading means is said by the grammar of Lines.
 use Rattle.std.specs.Prelude.{ℕ, ◌+◌, ◌==◌, List, [], ◌∷◌, take, drop, Option, Some, None, option_and_then}
-use Rattle.std.specs.List.{position}
 use Rattle.std.specs.Option.{option_map}
 use Rattle.std.specs.Result.{result_ok}
 use Rattle.hex.specs.Hex.{decode_of}
 use Rattle.roam_numbers.specs.Numbers.{id_in, number_in}
+use Rattle.roam_numbers.specs.Words.{first_word}
 use Rattle.roam_script.specs.declared.kinds.Kind.{Kind}
 use Rattle.roam_script.specs.declared.kinds.Kind.TheVariants as kind
 use Rattle.roam_wire.specs.declared.versions.Version.{Version}
@@ -16,15 +16,6 @@ use Rattle.roam_script.specs.Values.{LineValue, Session, Start, Watch, ServerTic
 abbrev pub bytes_in : List ℕ → Option (List ℕ)
 bytes_in [] = None
 bytes_in (digit ∷ digits) = result_ok (decode_of (digit ∷ digits))
-
--- what stands before the space at a place, and what follows it
-abbrev pub word_at : List ℕ → Option ℕ → Option (List ℕ × List ℕ)
-word_at text None = None
-word_at text (Some space) = Some (take space text, drop (space + 1) text)
-
--- what stands before the first space, and what follows it
-abbrev pub first_word : List ℕ → Option (List ℕ × List ℕ)
-first_word text = word_at text (position (λ byte. byte == 0x20) text)
 
 -- two things that are both there
 abbrev pub pair_of : {A B : Type 0} → Option A → Option B → Option (A × B)

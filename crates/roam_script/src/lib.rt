@@ -5,6 +5,5 @@ mod kinds;
 pub mod laws;
 pub mod lines;
 mod numbers;
-mod words;
 
 pub use lines::{Line, LineFault, is_skipped, read_line};

@@ -9,11 +9,10 @@ ghost use Rattle.roam_script.specs.Arguments.{IsRead};
 
 use crate::kinds::Kind;
 use crate::numbers::{byte, long, short, slot};
-use crate::words::word;
 use hex::FromHexError;
 use roam_acts::laws::one_act_a_line;
 use roam_acts::{Act, read_act};
-use roam_numbers::id;
+use roam_numbers::{first_word, id};
 use roam_wire::Version;
 use std::alloc::Global;
 use thiserror::Error;
@@ -87,9 +86,9 @@ pub fn is_skipped(line: &[u8]) -> bool
 fn session(text: &[u8]) -> Option<Line>
     ensures line { option_map value_of result ≡ plain_in Kind.Session text.now }
 {
-    let (first, rest) = word(text)?;
+    let (first, rest) = first_word(text)?;
     let id = id(first)?;
-    let (rows, cols) = word(rest)?;
+    let (rows, cols) = first_word(rest)?;
     Some(Line::Session(id, short(rows)?, short(cols)?))
 }
 
@@ -108,7 +107,7 @@ fn version(text: &[u8]) -> Option<Version>
 fn started(text: &[u8]) -> Option<(u64, Version)>
     ensures started { result ≡ start_in text.now }
 {
-    match word(text) {
+    match first_word(text) {
         None => Some((id(text)?, Version::One)),
         Some((first, rest)) => Some((id(first)?, version(rest)?)),
     }
@@ -118,7 +117,7 @@ fn started(text: &[u8]) -> Option<(u64, Version)>
 fn start(text: &[u8]) -> Option<Line>
     ensures line { option_map value_of result ≡ plain_in Kind.Start text.now }
 {
-    let (first, rest) = word(text)?;
+    let (first, rest) = first_word(text)?;
     let slot = slot(first)?;
     let (id, version) = started(rest)?;
     Some(Line::Start(slot, id, version))
@@ -128,7 +127,7 @@ fn start(text: &[u8]) -> Option<Line>
 fn watch(text: &[u8]) -> Option<Line>
     ensures line { option_map value_of result ≡ plain_in Kind.Watch text.now }
 {
-    let (first, rest) = word(text)?;
+    let (first, rest) = first_word(text)?;
     Some(Line::Watch(slot(first)?, id(rest)?))
 }
 
@@ -136,7 +135,7 @@ fn watch(text: &[u8]) -> Option<Line>
 fn client_tick(text: &[u8]) -> Option<Line>
     ensures line { option_map value_of result ≡ plain_in Kind.ClientTick text.now }
 {
-    let (first, rest) = word(text)?;
+    let (first, rest) = first_word(text)?;
     Some(Line::ClientTick(slot(first)?, long(rest)?))
 }
 
@@ -144,9 +143,9 @@ fn client_tick(text: &[u8]) -> Option<Line>
 fn to_server(text: &[u8]) -> Option<Line>
     ensures line { option_map value_of result ≡ plain_in Kind.ToServer text.now }
 {
-    let (first, rest) = word(text)?;
+    let (first, rest) = first_word(text)?;
     let number = long(first)?;
-    let (port, now) = word(rest)?;
+    let (port, now) = first_word(rest)?;
     Some(Line::ToServer(number, short(port)?, long(now)?))
 }
 
@@ -154,9 +153,9 @@ fn to_server(text: &[u8]) -> Option<Line>
 fn to_client(text: &[u8]) -> Option<Line>
     ensures line { option_map value_of result ≡ plain_in Kind.ToClient text.now }
 {
-    let (first, rest) = word(text)?;
+    let (first, rest) = first_word(text)?;
     let slot = slot(first)?;
-    let (number, now) = word(rest)?;
+    let (number, now) = first_word(rest)?;
     Some(Line::ToClient(slot, long(number)?, long(now)?))
 }
 
@@ -164,7 +163,7 @@ fn to_client(text: &[u8]) -> Option<Line>
 fn drained(text: &[u8]) -> Option<Line>
     ensures line { option_map value_of result ≡ plain_in Kind.Drained text.now }
 {
-    let (first, rest) = word(text)?;
+    let (first, rest) = first_word(text)?;
     Some(Line::Drained(byte(first)?, long(rest)?))
 }
 
@@ -218,7 +217,7 @@ fn bytes(alloc: Global, text: &[u8]) -> Result<Vec<u8>, LineFault>
 fn pane_bytes(alloc: Global, text: &[u8]) -> Result<Line, LineFault>
     ensures read { IsRead Kind.PaneBytes text.now result }
 {
-    let Some((first, rest)) = word(text) else {
+    let Some((first, rest)) = first_word(text) else {
         return Err(LineFault::BadEvent);
     };
     let Some(pane) = byte(first) else {
@@ -233,7 +232,7 @@ fn typed(text: &[u8]) -> Result<Line, LineFault>
     ensures read { IsRead Kind.Typed text.now result }
     ensures memory { IsErrOf result LineFault.OutOfMemory → ⊥ }
 {
-    let Some((first, rest)) = word(text) else {
+    let Some((first, rest)) = first_word(text) else {
         return Err(LineFault::BadEvent);
     };
     let Some(slot) = slot(first) else {

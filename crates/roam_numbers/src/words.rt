@@ -1,7 +1,7 @@
 //! The words of a line, one space apart.
 ghost use Rattle.std.specs.Prelude.{◌≡◌, ◌==◌, None, Some, MatchOption};
 ghost use Rattle.std.specs.List.{position};
-ghost use Rattle.roam_script.specs.Reading.{first_word};
+ghost use Rattle.roam_numbers.specs.Words.{first_word};
 
 // The place of the first space.
 fn space_in(text: &[u8]) -> Option<usize>
@@ -11,7 +11,7 @@ fn space_in(text: &[u8]) -> Option<usize>
 }
 
 /// What stands before the first space, and what follows it.
-pub(crate) fn word(text: &[u8]) -> Option<(&[u8], &[u8])>
+pub fn first_word(text: &[u8]) -> Option<(&[u8], &[u8])>
     ensures word { MatchOption result (first_word text.now ≡ None) (λ p. first_word text.now ≡ Some (p.0.now, p.1.now)) }
 {
     let space = space_in(text)?;

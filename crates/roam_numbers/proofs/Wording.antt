@@ -9,7 +9,7 @@ use Rattle.std.specs.List.{list_all, position, prefix_len}
 use Rattle.std.specs.Char.{digit_value}
 use Rattle.std.specs.Prelude.{not}
 use Rattle.std.specs.Str.Parse.{AllDigits}
-use Rattle.roam_pane_list.specs.Reading.{first_word, word_at}
+use Rattle.roam_numbers.specs.Words.{first_word, word_at}
 use Rattle.roam_numbers.proofs.Spelled.{chosen_some}
 
 -- a byte that is no space
