@@ -128,11 +128,6 @@ Fits n (Column d) (Fresh y) = Unit {0}
 Fits n (Fresh x) (Column d') = Unit {0}
 Fits n (Fresh x) (Fresh y) = is_wide x ≡ true → is_right_half y ≡ true → y ≡ right_of x
 
--- a source that is a column of the row
-abbrev pub InRow : ℕ → RowSource → Type 0
-InRow cols (Column d) = d < cols
-InRow cols (Fresh x) = Unit {0}
-
 -- a source that is a column of the row, or a cell that isn't wide
 abbrev pub IsPlain : ℕ → RowSource → Type 0
 IsPlain n (Column d) = d < n

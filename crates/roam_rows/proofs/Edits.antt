@@ -5,7 +5,7 @@ use Rattle.std.proofs.lemmas.Grind.{common_steps}
 use borrow.Rule.Slice.PartMut.{put_mid}
 use Rattle.roam_cells.specs.Glyph.{Glyph, is_wide, blank}
 use Rattle.roam_cells.specs.Place.{cell_at, glyph_at, IsWholeRow}
-use Rattle.roam_rows.specs.Row.{RowSource, Column, Fresh, row_taken, are_neighbours, mended_glyph, row_moved, row_moved_at}
+use Rattle.roam_rows.specs.Row.{RowSource, Column, Fresh, row_taken, are_neighbours, mended_glyph, row_moved, row_moved_at, IsInRow}
 use Rattle.roam_rows.specs.Places.{mapped_cells, in_row}
 use Rattle.roam_rows.specs.Halves.{AreParted}
 use Rattle.roam_rows.specs.Turned.{IsTurned, in_order, brought_back}
@@ -14,7 +14,7 @@ use Rattle.roam_rows.specs.Writing.{writing_source, written_run}
 use Rattle.roam_rows.specs.Erasing.{erasure_source}
 use Rattle.roam_rows.specs.Kept.{AreLengths}
 use Rattle.roam_rows.proofs.Mending.{mended-blank}
-use Rattle.roam_rows.proofs.Columns.{InRow, row_at, length-row}
+use Rattle.roam_rows.proofs.Columns.{row_at, length-row}
 use Rattle.roam_rows.proofs.Inking.{by}
 use Rattle.roam_rows.proofs.Lifting.{part_at, put_here, put_before, put_after, length-put, fits, length-slice, lifted, lifted_turned}
 use Rattle.roam_rows.proofs.Written.{still_lengths, past_length, row_here, rest_same}
@@ -48,10 +48,16 @@ blank_fresh row one c x q e h =
     ∙ ap (λ y. mended_glyph (row_taken row y) (ltb (c + 1) (length row) && are_neighbours (one c) (one (c + 1))) (ltb 0 c && are_neighbours (one (c - 1)) (one c))) (e ∙ ap (λ y. Fresh y) h)
     ∙ mended-blank (ltb (c + 1) (length row) && are_neighbours (one c) (one (c + 1))) (ltb 0 c && are_neighbours (one (c - 1)) (one c))
 
-blank_by : (row : List Glyph) (one : ℕ → RowSource) (len c : ℕ) → c < length row → ((d : ℕ) → len ≤ d → d < length row → glyph_at row d ≡ blank)
+pub blank_by : (row : List Glyph) (one : ℕ → RowSource) (len c : ℕ) → c < length row → ((d : ℕ) → len ≤ d → d < length row → glyph_at row d ≡ blank)
     → (x : RowSource) → one c ≡ x → IsBlankSource (length row) len x → glyph_at (row_moved row one) c ≡ blank
 blank_by row one len c q rest (Column d) e h = blank_from row one c d q e (rest d h.0 h.1)
 blank_by row one len c q rest (Fresh x) e h = blank_fresh row one c x q e h
+
+-- a changed row is blank from a column on where each column from there on comes from one past the length that was, or is a new blank
+pub blank_past : (row : List Glyph) (one : ℕ → RowSource) (len w : ℕ) → ((d : ℕ) → len ≤ d → d < length row → glyph_at row d ≡ blank)
+    → ((c : ℕ) → w ≤ c → c < length row → IsBlankSource (length row) len (one c)) → (new : List Glyph) → new ≡ row_moved row one
+    → (c : ℕ) → w ≤ c → c < length row → glyph_at new c ≡ blank
+blank_past row one len w rest blanks new new_is c p q = ap (λ l. glyph_at l c) new_is ∙ blank_by row one len c q rest (one c) refl (blanks c p q)
 
 module _ (rows cols first R at a m : ℕ) (buffer : List Glyph) (lengths : List ℕ) (turned : IsTurned rows cols first buffer) (kept : AreLengths rows cols buffer lengths) (R_in : R < rows)
     (at_is : at ≡ brought_back rows (first + R)) (at_in : at < rows) (a_is : a ≡ at * cols) (m_is : m ≡ cols) where
@@ -64,7 +70,7 @@ module _ (rows cols first R at a m : ℕ) (buffer : List Glyph) (lengths : List 
       let low : c < cols = omega (arith, length-slice rows cols first R a m buffer turned R_in a_turned m_is) in
       part_at a m c buffer (omega arith) ∙ past_length rows cols at a c buffer lengths kept at_in a_is p low
 
-  module _ (ys : List Glyph) (one : ℕ → RowSource) (stays : (c : ℕ) → c < cols → InRow cols (one c)) (ys_is : ys ≡ row_moved (take m (drop a buffer)) one) (whole : IsWholeRow ys)
+  module _ (ys : List Glyph) (one : ℕ → RowSource) (stays : (c : ℕ) → c < cols → IsInRow cols (one c)) (ys_is : ys ≡ row_moved (take m (drop a buffer)) one) (whole : IsWholeRow ys)
       (w : ℕ) (w_in : w ≤ cols) (rest : (c : ℕ) → w ≤ c → c < cols → glyph_at ys c ≡ blank) where
     same_length : length ys ≡ length (take m (drop a buffer))
     same_length = ap length ys_is ∙ length-row (length (take m (drop a buffer))) (row_moved_at (take m (drop a buffer)) one)
@@ -82,22 +88,6 @@ module _ (rows cols first R at a m : ℕ) (buffer : List Glyph) (lengths : List 
               w w_in (λ c p q. put_here a m c buffer ys room long (omega (arith, m_is)) ∙ rest c p q),
           lifted rows cols first R a m buffer turned R_in a_turned m_is ys same_length one stays ys_is,
         )
-
-  -- the length w of a row is right where each column from it on comes from one past the length that was, or is a new blank
-  pub edited_by : (ys : List Glyph) (one : ℕ → RowSource) → ((c : ℕ) → c < cols → InRow cols (one c)) → ys ≡ row_moved (take m (drop a buffer)) one → IsWholeRow ys
-      → (w : ℕ) → w ≤ cols → ((c : ℕ) → w ≤ c → c < cols → IsBlankSource cols (get_or lengths at 0) (one c))
-      → (cells : List Glyph) → cells ≡ put_mid a m buffer ys → (next : List ℕ) → next ≡ set lengths at w
-      → (IsTurned rows cols first cells) × (AreLengths rows cols cells next) × (in_order cols first cells ≡ mapped_cells rows cols (in_order cols first buffer) (in_row R one))
-  edited_by ys one stays ys_is whole w w_in blanks cells cells_are next next_is =
-      let row = take m (drop a buffer) in
-      let size : length row ≡ cols = length-slice rows cols first R a m buffer turned R_in a_turned m_is in
-      let done = edited ys one stays ys_is whole w w_in (λ c p q.
-      ap (λ l. glyph_at l c) ys_is
-      ∙ blank_by row one (get_or lengths at 0) c (omega (arith, size)) row_rest (one c) refl (subst (λ (n : ℕ). IsBlankSource n (get_or lengths at 0) (one c)) (sym size) (blanks c p q))) in (
-        subst (λ (l : List Glyph). IsTurned rows cols first l) (sym cells_are) done.0,
-        subst (λ (l : List Glyph). AreLengths rows cols l next) (sym cells_are) (subst (λ (u : List ℕ). AreLengths rows cols (put_mid a m buffer ys) u) (sym next_is) done.1),
-        ap (in_order cols first) cells_are ∙ done.2,
-      )
 
   -- a row is replaced by another
   pub replaced : (ys : List Glyph) → length ys ≡ cols → IsWholeRow ys → (w : ℕ) → w ≤ cols → ((c : ℕ) → w ≤ c → c < cols → glyph_at ys c ≡ blank) → (cells : List Glyph) → cells ≡ put_mid a m buffer ys

@@ -4,11 +4,11 @@ use Rattle.std.proofs.lemmas.Bool.{false≢true, cases_lt, cases_eq}
 use Rattle.std.proofs.lemmas.Grind.{common_steps}
 use Rattle.roam_cells.specs.Glyph.{Glyph, is_wide, blank}
 use Rattle.roam_cells.specs.Place.{glyph_at, IsWholeRow}
-use Rattle.roam_rows.specs.Row.{Column, Fresh, row_taken, are_neighbours, row_moved}
+use Rattle.roam_rows.specs.Row.{Column, Fresh, row_taken, are_neighbours, row_moved, IsInRow}
 use Rattle.roam_rows.specs.Halves.{AreParted}
 use Rattle.roam_rows.specs.Erasing.{unguarded_blanked}
 use Rattle.roam_rows.proofs.Mending.{is_wide-blank}
-use Rattle.roam_rows.proofs.Columns.{AgreesAt, InRow, IsPlain, plain_whole, row_moved_by}
+use Rattle.roam_rows.proofs.Columns.{AgreesAt, IsPlain, plain_whole, row_moved_by}
 use Rattle.roam_rows.proofs.Parting.{cut_open, guards_same}
 use Rattle.roam_rows.proofs.Edits.{IsBlankSource, parted_blank}
 
@@ -87,11 +87,11 @@ module _ (from to : ℕ) (row : List Glyph) (whole : IsWholeRow row) (some : fro
       (λ c q. shows c q (goes from to c (glyph_at row c).guarded) refl)
       (λ c q. agrees c q (goes from to c (glyph_at row c).guarded) refl)
 
-in_unguarded : (cols c : ℕ) (b : Bool) → c < cols → InRow cols (cond b (Fresh blank) (Column c))
+in_unguarded : (cols c : ℕ) (b : Bool) → c < cols → IsInRow cols (cond b (Fresh blank) (Column c))
 in_unguarded cols c true q = tt
 in_unguarded cols c false q = q
 
-pub unguarded_stays : (cols from to c : ℕ) (row : List Glyph) → c < cols → InRow cols (unguarded_blanked row from to c)
+pub unguarded_stays : (cols from to c : ℕ) (row : List Glyph) → c < cols → IsInRow cols (unguarded_blanked row from to c)
 unguarded_stays cols from to c row q = in_unguarded cols c (goes from to c (glyph_at row c).guarded) q
 
 past_by : (cols len c : ℕ) (b : Bool) → len ≤ c → c < cols → IsBlankSource cols len (cond b (Fresh blank) (Column c))

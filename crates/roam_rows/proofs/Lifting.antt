@@ -7,10 +7,10 @@ use borrow.Rule.Slice.PartMut.{put_mid}
 use Rattle.roam_cells.specs.Glyph.{Glyph, is_wide, is_right_half, right_of, blank}
 use Rattle.roam_cells.specs.Place.{cell_at, AreWhole, glyph_at, IsWholeRow}
 use Rattle.roam_cells.proofs.Places.{table_is, row_from, get_or-table}
-use Rattle.roam_rows.specs.Row.{RowSource, Column, Fresh, row_taken, are_neighbours, mended_glyph, row_moved, row_moved_at}
+use Rattle.roam_rows.specs.Row.{RowSource, Column, Fresh, row_taken, are_neighbours, mended_glyph, row_moved, row_moved_at, IsInRow}
 use Rattle.roam_rows.specs.Places.{From, glyph_of_source, are_joined, mapped_cells, moved_at, at_row, in_row}
 use Rattle.roam_rows.specs.Turned.{IsTurned, in_order, brought_back}
-use Rattle.roam_rows.proofs.Columns.{InRow, row_at}
+use Rattle.roam_rows.proofs.Columns.{row_at}
 use Rattle.roam_rows.proofs.Vertical.{row_stays, shown, shown_by}
 use Rattle.roam_rows.proofs.Turning.{turned_at, length-in_order, others_stay, back_below}
 
@@ -20,11 +20,11 @@ same R = grind (arith, common_steps)
 pub other : (r R : ℕ) → r ≢ R → eqb r R ≡ false
 other r R ne = grind (arith, common_steps)
 
-pub in_row_or : (cols c : ℕ) (x : Glyph) (a : Bool) → c < cols → InRow cols (cond a (Fresh x) (Column c))
+pub in_row_or : (cols c : ℕ) (x : Glyph) (a : Bool) → c < cols → IsInRow cols (cond a (Fresh x) (Column c))
 in_row_or cols c x true h = tt
 in_row_or cols c x false h = h
 
-pub in_row_else : (cols c : ℕ) (x y : Glyph) (a b : Bool) → c < cols → InRow cols (cond a (Fresh x) (cond b (Fresh y) (Column c)))
+pub in_row_else : (cols c : ℕ) (x y : Glyph) (a b : Bool) → c < cols → IsInRow cols (cond a (Fresh x) (cond b (Fresh y) (Column c)))
 in_row_else cols c x y true b h = tt
 in_row_else cols c x y false true h = tt
 in_row_else cols c x y false false h = h
@@ -42,11 +42,11 @@ joined_at R (Fresh x) (Column d) = refl
 joined_at R (Fresh x) (Fresh y) = refl
 
 module _ (rows cols R : ℕ) (cells row : List Glyph) (len : length row ≡ cols) (row_is : (c : ℕ) → c < cols → glyph_at row c ≡ cell_at cols cells R c) where
-  taken_at : (x : RowSource) → InRow cols x → row_taken row x ≡ glyph_of_source cols cells (at_row R x)
+  taken_at : (x : RowSource) → IsInRow cols x → row_taken row x ≡ glyph_of_source cols cells (at_row R x)
   taken_at (Column d) h = row_is d h
   taken_at (Fresh x) h = refl
 
-  shown_at : (c : ℕ) (x y z : RowSource) → InRow cols x
+  shown_at : (c : ℕ) (x y z : RowSource) → IsInRow cols x
       → mended_glyph (row_taken row x) (ltb (c + 1) (length row) && are_neighbours x y) (ltb 0 c && are_neighbours z x)
       ≡ shown cols cells c (at_row R x) (at_row R y) (at_row R z)
   shown_at c x y z h =
@@ -55,14 +55,14 @@ module _ (rows cols R : ℕ) (cells row : List Glyph) (len : length row ≡ cols
       ∙ ap (λ b. mended_glyph (glyph_of_source cols cells (at_row R x)) (ltb (c + 1) cols && b) (ltb 0 c && are_neighbours z x)) (joined_at R x y)
       ∙ ap (λ b. mended_glyph (glyph_of_source cols cells (at_row R x)) (ltb (c + 1) cols && are_joined (at_row R x) (at_row R y)) (ltb 0 c && b)) (joined_at R z x)
 
-  pub moved_here : (one : ℕ → RowSource) → ((c : ℕ) → c < cols → InRow cols (one c)) → R < rows → (c : ℕ) → c < cols
+  pub moved_here : (one : ℕ → RowSource) → ((c : ℕ) → c < cols → IsInRow cols (one c)) → R < rows → (c : ℕ) → c < cols
       → cell_at cols (mapped_cells rows cols cells (in_row R one)) R c ≡ glyph_at (row_moved row one) c
   moved_here one stays R_in c q =
       get_or-table rows cols (moved_at cols cells (in_row R one)) R c blank R_in q
       ∙ shown_by cols cells (in_row R one) R c (at_row R (one c)) (at_row R (one (c + 1))) (at_row R (one (c - 1))) (in_here R c one) (in_here R (c + 1) one) (in_here R (c - 1) one)
       ∙ sym (row_at (length row) (row_moved_at row one) c (omega (arith, len)) ∙ shown_at c (one c) (one (c + 1)) (one (c - 1)) (stays c q))
 
-  pub moved_in_row : (new : List Glyph) (one : ℕ → RowSource) → ((c : ℕ) → c < cols → InRow cols (one c)) → AreWhole rows cols cells → length new ≡ rows * cols
+  pub moved_in_row : (new : List Glyph) (one : ℕ → RowSource) → ((c : ℕ) → c < cols → IsInRow cols (one c)) → AreWhole rows cols cells → length new ≡ rows * cols
       → ((c : ℕ) → c < cols → cell_at cols new R c ≡ glyph_at (row_moved row one) c)
       → ((r c : ℕ) → r < rows → c < cols → r ≢ R → cell_at cols new r c ≡ cell_at cols cells r c)
       → new ≡ mapped_cells rows cols cells (in_row R one)
@@ -171,7 +171,7 @@ module _ (rows cols first R a m : ℕ) (buffer : List Glyph) (turned : IsTurned 
         (λ k h. put_after a m k buffer ys fits long (omega (arith, m_is, a_is)))
 
     -- what the screen is after one
-    pub lifted : (one : ℕ → RowSource) → ((c : ℕ) → c < cols → InRow cols (one c)) → ys ≡ row_moved (take m (drop a buffer)) one
+    pub lifted : (one : ℕ → RowSource) → ((c : ℕ) → c < cols → IsInRow cols (one c)) → ys ≡ row_moved (take m (drop a buffer)) one
         → in_order cols first (put_mid a m buffer ys) ≡ mapped_cells rows cols (in_order cols first buffer) (in_row R one)
     lifted one stays ys_is =
         moved_in_row rows cols R (in_order cols first buffer) (take m (drop a buffer)) length-slice row_before (in_order cols first (put_mid a m buffer ys)) one stays turned.whole

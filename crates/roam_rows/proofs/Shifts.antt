@@ -5,11 +5,11 @@ use Rattle.std.proofs.lemmas.Grind.{common_steps}
 use Rattle.std.specs.List.{CopiedTo, SameBelow, SameFrom}
 use Rattle.roam_cells.specs.Glyph.{Glyph, blank}
 use Rattle.roam_cells.specs.Place.{glyph_at, IsWholeRow}
-use Rattle.roam_rows.specs.Row.{RowSource, Column, Fresh, row_taken, row_moved}
+use Rattle.roam_rows.specs.Row.{RowSource, Column, Fresh, row_taken, row_moved, IsInRow}
 use Rattle.roam_rows.specs.Halves.{AreParted, cut_twice}
 use Rattle.roam_rows.specs.Editing.{insertion_source, deletion_source}
 use Rattle.roam_rows.proofs.Mending.{is_wide-blank, ltb-means}
-use Rattle.roam_rows.proofs.Columns.{Agrees, InRow, IsPlain, row_moved_is, row_unmoved, plain_whole}
+use Rattle.roam_rows.proofs.Columns.{Agrees, IsPlain, row_moved_is, row_unmoved, plain_whole}
 use Rattle.roam_rows.proofs.Edits.{IsBlankSource, parted_blank}
 
 not_below : (a b : ℕ) → ltb a b ≡ false → b ≤ a
@@ -156,18 +156,18 @@ deleted_past cols len col k w c left right p q false true h j = (right c p (not_
 deleted_past cols len col k w c left right p q false false h j = refl
 
 -- the sources are columns of the row
-in_inserted : (cols col k c : ℕ) (a b : Bool) → c < cols → InRow cols (cond a (Column c) (cond b (Fresh blank) (Column (c - k))))
+in_inserted : (cols col k c : ℕ) (a b : Bool) → c < cols → IsInRow cols (cond a (Column c) (cond b (Fresh blank) (Column (c - k))))
 in_inserted cols col k c true b q = q
 in_inserted cols col k c false true q = tt
 in_inserted cols col k c false false q = omega arith
 
-pub inserted_stays : (cols col k c : ℕ) → c < cols → InRow cols (insertion_source col k c)
+pub inserted_stays : (cols col k c : ℕ) → c < cols → IsInRow cols (insertion_source col k c)
 inserted_stays cols col k c q = in_inserted cols col k c (ltb c col) (ltb c (col + k)) q
 
-in_deleted : (cols k c : ℕ) (a b : Bool) → c < cols → ltb (c + k) cols ≡ b → InRow cols (cond a (Column c) (cond b (Column (c + k)) (Fresh blank)))
+in_deleted : (cols k c : ℕ) (a b : Bool) → c < cols → ltb (c + k) cols ≡ b → IsInRow cols (cond a (Column c) (cond b (Column (c + k)) (Fresh blank)))
 in_deleted cols k c true b q h = q
 in_deleted cols k c false true q h = ltb-means (c + k) cols h
 in_deleted cols k c false false q h = tt
 
-pub deleted_stays : (cols col k c : ℕ) → c < cols → InRow cols (deletion_source cols col k c)
+pub deleted_stays : (cols col k c : ℕ) → c < cols → IsInRow cols (deletion_source cols col k c)
 deleted_stays cols col k c q = in_deleted cols k c (ltb c col) (ltb (c + k) cols) q refl

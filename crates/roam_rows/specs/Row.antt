@@ -1,5 +1,5 @@
 -- Maps over the columns of one row, and what mends it.
-use Rattle.std.specs.Prelude.{ℕ, ◌+◌, ◌-◌, Bool, false, not, ◌&&◌, ◌==◌, nat_lt, List, length, map, if◌then◌else◌}
+use Rattle.std.specs.Prelude.{ℕ, ◌+◌, ◌-◌, ◌<◌, Bool, false, not, ◌&&◌, ◌==◌, nat_lt, List, length, map, if◌then◌else◌}
 use Rattle.std.specs.List.{range_with_len}
 use Rattle.roam_cells.specs.Glyph.{Glyph, is_wide, is_right_half, space_in}
 use Rattle.roam_cells.specs.Place.{glyph_at}
@@ -8,6 +8,11 @@ use Rattle.roam_cells.specs.Place.{glyph_at}
 pub data RowSource : Type 0 where
   Column : ℕ → RowSource
   Fresh : Glyph → RowSource
+
+-- a source is a column of a row of so many columns, or a new cell
+abbrev pub IsInRow : ℕ → RowSource → Type 0
+IsInRow cols (Column c) = c < cols
+IsInRow cols (Fresh x) = Unit {0}
 
 -- what a source of a row holds
 abbrev pub row_taken : List Glyph → RowSource → Glyph

@@ -4,6 +4,7 @@
 pub use rings::Ring;
 pub use sizing::Fitted;
 
+mod changing;
 mod editing;
 mod erasing;
 mod halves;

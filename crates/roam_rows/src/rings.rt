@@ -8,13 +8,12 @@ ghost use Rattle.roam_rows.specs.Erasing.{erasure_source, unguarded_blanked};
 ghost use Rattle.roam_rows.specs.Editing.{insertion_source, deletion_source};
 ghost use Rattle.roam_rows.specs.Vertical.{AreBlanked};
 
-use crate::editing::{delete, insert};
-use crate::erasing::{erase, erase_unguarded};
-use crate::lengths::{end_of, length_after, length_deleted, length_inserted, raise};
+use crate::changing::{Delete, Erase, EraseUnguarded, Insert, Put, PutRun, RowChange};
+use crate::lengths::raise;
 use crate::places::{bring_back, place, start_of};
 use crate::sizing::cut_into;
 use crate::spans::blank_between;
-use crate::writing::{base_column, write, write_run};
+use crate::writing::base_column;
 use roam_cells::Cell;
 use std::alloc::{AllocError, Global};
 use std::marker::Model;
@@ -123,6 +122,19 @@ impl Ring {
         &self.cells[start..start + self.lengths[at] as usize]
     }
 
+    // Changes the cells of row `row`, from 0.
+    #[inline]
+    fn change_row<C: RowChange>(&mut self, row: usize, change: C)
+        requires row_in { row < self.old.rows }
+        requires fits { C.fits change self.old.cols }
+        ensures ring { self.new ≡ with_row row (C.source change (row_of self.old.cols self.old.cells row)) self.old }
+    {
+        let at = place(self.rows, self.first, row);
+        let start = start_of(self.rows, self.cols, at);
+        let len = self.lengths[at];
+        self.lengths[at] = change.apply(&mut self.cells[start..start + self.cols], len);
+    }
+
     /// Writes a cell of one or two columns into row `row` at column `col`, both from 0, with its right half where it is wide.
     #[inline]
     pub fn put(&mut self, row: usize, col: usize, cell: Cell)
@@ -131,14 +143,7 @@ impl Ring {
         requires no_half { is_right_half cell ≡ false }
         ensures ring { self.new ≡ with_row row (writing_source cell col) self.old }
     {
-        let at = place(self.rows, self.first, row);
-        let start = start_of(self.rows, self.cols, at);
-        raise(
-            self.lengths.as_mut_slice(),
-            at,
-            end_of(&cell, col, self.cols),
-        );
-        write(&mut self.cells[start..start + self.cols], col, cell);
+        self.change_row(row, Put { col, cell });
     }
 
     /// Writes printable ASCII into row `row` from column `col` on, both from 0, in the style and guard of a pen.
@@ -149,10 +154,7 @@ impl Ring {
         requires printable { ArePrintable bytes.now }
         ensures ring { self.new ≡ with_row row (written_run (inked_bytes pen bytes.now) col) self.old }
     {
-        let at = place(self.rows, self.first, row);
-        let start = start_of(self.rows, self.cols, at);
-        self.lengths[at] = self.lengths[at].max((col + bytes.len()) as u16);
-        write_run(&mut self.cells[start..start + self.cols], col, pen, bytes);
+        self.change_row(row, PutRun { col, pen, bytes });
     }
 
     /// Blanks the columns of row `row` from `from` on and before `to`, all from 0; guarded cells too.
@@ -160,16 +162,7 @@ impl Ring {
         requires on_rows { (row < self.old.rows) × (from < to) × (to ≤ self.old.cols) }
         ensures ring { self.new ≡ with_row row (erasure_source from to) self.old }
     {
-        let at = place(self.rows, self.first, row);
-        let start = start_of(self.rows, self.cols, at);
-        let len = self.lengths[at];
-        self.lengths[at] = length_after(len, from, to);
-        erase(
-            &mut self.cells[start..start + self.cols],
-            from,
-            to,
-            len as usize,
-        );
+        self.change_row(row, Erase { from, to });
     }
 
     /// Blanks those that aren't guarded of the columns of row `row` from `from` on and before `to`, all from 0.
@@ -177,10 +170,7 @@ impl Ring {
         requires on_rows { (row < self.old.rows) × (from < to) × (to ≤ self.old.cols) }
         ensures ring { self.new ≡ with_row row (unguarded_blanked (row_of self.old.cols self.old.cells row) from to) self.old }
     {
-        let at = place(self.rows, self.first, row);
-        let start = start_of(self.rows, self.cols, at);
-        let len = self.lengths[at] as usize;
-        erase_unguarded(&mut self.cells[start..start + self.cols], from, to, len);
+        self.change_row(row, EraseUnguarded { from, to });
     }
 
     /// Joins a code point to the character that a column of a row is part of, both from 0; nothing changes where it joins none.
@@ -211,16 +201,7 @@ impl Ring {
         requires on_rows { (row < self.old.rows) × (col < self.old.cols) }
         ensures ring { self.new ≡ with_row row (insertion_source col n) self.old }
     {
-        let at = place(self.rows, self.first, row);
-        let start = start_of(self.rows, self.cols, at);
-        let len = self.lengths[at];
-        self.lengths[at] = length_inserted(len, col, n, self.cols);
-        insert(
-            &mut self.cells[start..start + self.cols],
-            col,
-            n,
-            len as usize,
-        );
+        self.change_row(row, Insert { col, n });
     }
 
     /// Takes n cells out at a column of a row, both from 0; those right of them go to the left, and blanks come in at the edge.
@@ -228,16 +209,8 @@ impl Ring {
         requires on_rows { (row < self.old.rows) × (col < self.old.cols) }
         ensures ring { self.new ≡ with_row row (deletion_source self.old.cols col n) self.old }
     {
-        let at = place(self.rows, self.first, row);
-        let start = start_of(self.rows, self.cols, at);
-        let len = self.lengths[at];
-        self.lengths[at] = length_deleted(len, col, n);
-        delete(
-            &mut self.cells[start..start + self.cols],
-            col,
-            n,
-            len as usize,
-        );
+        self.facts();
+        self.change_row(row, Delete { col, n });
     }
 
     /// Blanks a row.
