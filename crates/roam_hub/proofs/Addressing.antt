@@ -4,12 +4,12 @@ use Rattle.std.specs.Prelude.{nat_lt, ◌&&◌, ◌||◌, option_and_then}
 use Rattle.std.specs.List.{enumerate_from}
 use Rattle.std.specs.declared.alloc.Global.{Global}
 use Rattle.std.proofs.lemmas.List.FromFn.{length-enumerate_from}
-use Rattle.roam_sync.specs.declared.senders.Instruction.{Instruction}
 use Rattle.roam_wire.specs.declared.datagrams.Kind.TheVariants.{ToClient}
 use Rattle.roam_wire.specs.Datagrams.{DatagramValue, datagram_text}
 use Rattle.std.proofs.lemmas.List.{append_assoc, append-nil, map-append, length-map}
 use Rattle.roam_screens.specs.Screenshot.{Screenshot, IsScreenshot}
-use Rattle.roam_sync.specs.Senders.{Sending, newest, count, offered, sent_at}
+use Rattle.roam_sync.specs.declared.senders.Held.{Held}
+use Rattle.roam_sync.specs.Senders.{Sending, newest, count, offered, sent_at, mark_base}
 use Rattle.roam_sync.proofs.Ends.{marked_newest}
 use Rattle.roam_update.specs.ChangeText.{Change, change_read}
 use Rattle.roam_screens.specs.Narrow.{IsOldScreenshot}
@@ -25,7 +25,7 @@ use Rattle.roam_world.proofs.Versions.{change_short}
 use Rattle.roam_wire.specs.Cutting.{texts_of}
 use Rattle.roam_wire.specs.Instructions.{DownValue, down_text}
 use Rattle.roam_world.specs.Texts.{Address, datagram_with}
-use Rattle.roam_world.specs.Ticks.{holds_after, down_from}
+use Rattle.roam_world.specs.Ticks.{holds_after}
 use Rattle.roam_hub.specs.declared.addresses.Addr.{Addr}
 use Rattle.roam_hub.specs.Servers.{RecordView, address_of, parcels_of}
 use Rattle.roam_hub.specs.Records.{held_record, fragments_due, is_sent_to, fragments_sent, datagrams_for, parcels_for}
@@ -81,10 +81,6 @@ applied_screen : (v : Version) (base s : Screenshot) (text : List ℕ) → appli
 applied_screen One base s text e = applied_one_is base s text e
 applied_screen Two base s text e = applied_two_is base s text e
 
--- what is told, with how many acts were taken
-abbrev pub the_down : Instruction → ℕ → DownValue
-the_down told acked = record { old = told.old; new = told.new; floor = told.floor; acked = acked; change = told.change.items }
-
 down_length : (d : DownValue) → length (down_text d) ≡ 32 + length d.change
 down_length d = omega arith
 
@@ -97,13 +93,6 @@ down_short v d base s e leads =
     let same = ap (λ (xs : List ℕ). length xs) e in
     omega (arith, long, few, same)
 
-pub instruction_is : (v : Version) (s : Sending Screenshot) (taken : ℕ) (d : DownValue) (text : List ℕ) → d.old ≡ s.base.number
-    → d.new ≡ (newest s).number
-    → d.floor ≡ s.base.number → d.acked ≡ taken → d.change ≡ difference_by v s.base.state (newest s).state → text ≡ down_text d
-    → text ≡ down_text (down_from v s taken)
-instruction_is v s taken d text o n f a c e =
-    e ∙ (λ i. down_text (record { old = o i; new = n i; floor = f i; acked = a i; change = c i }))
-
 pub last_fits : (a b : Bool) → b ≡ false → (a || b) ≡ a
 last_fits true b e = refl
 last_fits false b e = e
@@ -112,6 +101,13 @@ last_fits false b e = e
 
 pub newest_sent : (s : Sending Screenshot) (now : ℕ) → (newest (sent_at s now)).number ≡ (newest s).number
 newest_sent s now = marked_newest s.base s.later
+
+base_marked : (base : Held Screenshot) (hs : List (Held Screenshot)) → (mark_base base hs).number ≡ base.number
+base_marked base [] = refl
+base_marked base (h ∷ hs) = refl
+
+pub base_sent : (s : Sending Screenshot) (now : ℕ) → (sent_at s now).base.number ≡ s.base.number
+base_sent s now = base_marked s.base s.later
 
 pub not_held : (v : RecordView) (n : ℕ) (s : Screenshot) (now : ℕ) (b : Bool)
     → b ≡ (nat_lt now (v.heard_at + 60000) && nat_lt (newest v.sender).number n && nat_lt (count v.sender) 8) → b ≡ false

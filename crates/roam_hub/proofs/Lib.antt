@@ -11,3 +11,5 @@ pub mod Addressing
 pub mod Waiting
 pub mod Settling
 pub mod Ticking
+pub mod Sharing
+pub mod Lending

@@ -15,7 +15,7 @@ use Rattle.roam_acts.specs.declared.acts.Act.{Act}
 use Rattle.roam_acts.specs.Acts.{IsInRange}
 use Rattle.roam_acts.specs.Takers.{fresh_of}
 use Rattle.roam_sync.specs.declared.senders.Held.{Held}
-use Rattle.roam_sync.specs.Senders.{Sending, start, newest, last_of, acked, after_ack}
+use Rattle.roam_sync.specs.Senders.{Sending, start, newest, last_of, count, acked, after_ack}
 use Rattle.roam_wire.specs.declared.gatherers.Gathered.{Gathered}
 use Rattle.roam_wire.specs.declared.gatherers.Gathered.TheVariants as gathered
 use Rattle.roam_wire.specs.Datagrams.{DatagramValue}
@@ -133,6 +133,44 @@ acked_last {S} all base (h ∷ hs) k e = go (nat_eq h.number k) (acked_last all 
 -- an acknowledgement leaves the newest
 pub newest_acked : {S : Type 0} (s : Sending S) (k : ℕ) → newest (acked s k) ≡ newest s
 newest_acked s k = acked_last (s.base, s.later) s.base s.later k refl
+
+-- the pairs from a number on are all that were held, or that number is held and fewer are
+ack_cases : {S : Type 0} (all : Held S × List (Held S)) (hs : List (Held S)) (k : ℕ) → (after_ack all hs k ≡ all)
+    ⊎ (((after_ack all hs k).0.number ≡ k) × (length (after_ack all hs k).1 < length hs))
+ack_cases all [] k = inl refl
+ack_cases {S} all (h ∷ hs) k = go (nat_eq h.number k) refl (ack_cases all hs k)
+  where
+    go : (b : Bool) → nat_eq h.number k ≡ b
+        → (after_ack all hs k ≡ all) ⊎ (((after_ack all hs k).0.number ≡ k) × (length (after_ack all hs k).1 < length hs))
+        → (cond {A = Held S × List (Held S)} b (h, hs) (after_ack all hs k) ≡ all)
+        ⊎ (((cond {A = Held S × List (Held S)} b (h, hs) (after_ack all hs k)).0.number ≡ k)
+        × (length (cond {A = Held S × List (Held S)} b (h, hs) (after_ack all hs k)).1 < length (h ∷ hs)))
+    go true e next = inr (let z : h.number ≡ k = grind (arith, nat_tests, e) in z, omega arith)
+    go false e (inl same) = inl same
+    go false e (inr less) = let few = less.1 in inr (less.0, omega (arith, few))
+
+-- where fewer are held after an acknowledgement, its number is the base's
+pub base_is : {S : Type 0} (s t : Sending S) (k base before after result : ℕ) → base ≡ s.base.number → before ≡ count s
+    → t ≡ acked s k → after ≡ count t → result ≡ (if nat_lt after before then k else base) → result ≡ t.base.number
+base_is s t k base before after result b e is f r =
+    r ∙ go (nat_lt after before) refl (ack_cases (s.base, s.later) s.later k) ∙ ap (λ x. x.base.number) (sym is)
+  where
+    left : after ≡ count (acked s k)
+    left = f ∙ ap count is
+
+    go : (c : Bool) → nat_lt after before ≡ c → (after_ack (s.base, s.later) s.later k ≡ (s.base, s.later))
+        ⊎ (((after_ack (s.base, s.later) s.later k).0.number ≡ k) × (length (after_ack (s.base, s.later) s.later k).1 < length s.later))
+        → cond c k base ≡ (acked s k).base.number
+    go true g (inl same) =
+        let some = ap (λ all. length all.1) same in
+        let low : after < before = grind (arith, nat_tests, g) in
+        absurd (omega (arith, some, low, left, e))
+    go true g (inr less) = sym less.0
+    go false g (inl same) = b ∙ ap (λ all. all.0.number) (sym same)
+    go false g (inr less) =
+        let few = less.1 in
+        let low : before ≤ after = grind (arith, nat_tests, g) in
+        absurd (omega (arith, few, low, left, e))
 
 pub acts_noted : (old : RecordView) (before after : SessionView) (d : DatagramValue) (from : Address) (now : ℕ) (text : List ℕ)
     (u : UpValue)

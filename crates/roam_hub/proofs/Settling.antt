@@ -1,5 +1,5 @@
 -- A tick goes through the records: each is prepared, then those after it are sent to, then it is settled.
-use Rattle.std.proofs.Common.{◌≡◌, ℕ, zero, suc, ◌+◌, ◌<◌, List, [], ◌∷◌, ◌++◌, length, map, take, drop, Option, Some, None, Bool, true, false, refl, sym, ap, ◌∙◌, cond, arith}
+use Rattle.std.proofs.Common.{◌≡◌, ℕ, zero, suc, ◌+◌, ◌<◌, List, [], ◌∷◌, ◌++◌, length, map, take, drop, Option, Some, None, Bool, true, false, refl, sym, ap, ◌∙◌, subst, cond, arith}
 use Rattle.std.specs.Prelude.{slice_get, ◌&&◌, ◌||◌}
 use Rattle.std.specs.List.{flat_map, list_any}
 use Rattle.std.proofs.lemmas.List.{append_assoc}
@@ -8,7 +8,9 @@ use Rattle.roam_screens.specs.Screenshot.{Screenshot}
 use Rattle.roam_world.specs.Moments.{is_spent}
 use Rattle.roam_world.specs.Texts.{Address}
 use Rattle.roam_world.proofs.Keeps.{not_past, or_left, or_right}
+use Rattle.roam_hub.specs.declared.shared.SharedChange.{SharedChange}
 use Rattle.roam_hub.specs.Servers.{RecordView}
+use Rattle.roam_hub.specs.Shared.{HoldMade, GoTogether, StayTogether}
 use Rattle.roam_hub.specs.Waits.{is_record_due, is_entry_due}
 use Rattle.roam_hub.proofs.Waiting.{or_second}
 use Rattle.roam_hub.specs.Records.{fragments_due, is_instruction_spent, is_sent_to, fragments_sent, parcels_for, settled_with, HasNumbersFor, held_record, texts_for, is_entry_spent, settled_entry}
@@ -189,3 +191,26 @@ is_within es k x v at = within es k (x, v) at
 pub value_is : (es : List (ℕ × RecordView)) (k x y : ℕ) (v w : RecordView) → slice_get es k ≡ Some (x, v)
     → slice_get es k ≡ Some (y, w) → w ≡ v
 value_is es k x y v w e f = same_value es k x y v w e f
+
+-- ---- the screens of the records and of the changes
+
+-- of the first of the records that are left
+pub together_first : (es : List (ℕ × RecordView)) (k : ℕ) (e : ℕ × RecordView) (n : ℕ) (s : Screenshot) (cs : List SharedChange)
+    → slice_get es k ≡ Some e → GoTogether n s (drop k es) cs → GoTogether n s (e ∷ []) cs
+together_first es k e n s cs at g =
+    let all = subst (HoldMade g.screens n) (drop_next es k e at) g.made in
+    record { screens = g.screens; last = g.last; made = (all.0, tt); between = g.between }
+
+-- and of those after it
+pub together_rest : (es : List (ℕ × RecordView)) (k : ℕ) (e : ℕ × RecordView) (w : RecordView) (n : ℕ) (s : Screenshot)
+    (cs cs2 : List SharedChange) → slice_get es k ≡ Some e → GoTogether n s (drop k es) cs → StayTogether n s e.1 cs cs2
+    → GoTogether n s (drop (k + 1) (set_value_at es k w)) cs2
+together_rest es k e w n s cs cs2 at g stay =
+    let all = subst (HoldMade g.screens n) (drop_next es k e at) g.made in
+    record {
+      screens = g.screens;
+      last = g.last;
+      made = subst (HoldMade g.screens n)
+          (sym (ap (λ (j : ℕ). drop j (set_value_at es k w)) (next_is k) ∙ drop_set es k w)) all.1;
+      between = stay g.screens g.last all.0 g.between;
+    }

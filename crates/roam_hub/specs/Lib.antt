@@ -3,3 +3,4 @@ pub mod Clients
 pub mod Servers
 pub mod Records
 pub mod Waits
+pub mod Shared

@@ -11,6 +11,7 @@ mod packing;
 mod records;
 mod sending;
 pub mod servers;
+mod shared;
 mod taking;
 mod waits;
 

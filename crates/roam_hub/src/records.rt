@@ -1,7 +1,7 @@
 //! What a server keeps of a client start.
-ghost use Rattle.std.specs.Prelude.{◌≡◌, ◌==◌, ◌⊎◌, ◌+◌, ◌++◌, ◌<◌, ◌≤◌, ◌^◌, ◌&&◌, ◌||◌, ℕ, List, length, map, max, nat_lt, true, false, is_some, if◌then◌else◌, IfOk, IfErr, IfSome, OnOk, OnErr, IsTrue, IsOkUnless};
+ghost use Rattle.std.specs.Prelude.{◌≡◌, ◌==◌, ◌⊎◌, ◌+◌, ◌++◌, ◌∷◌, [], ◌<◌, ◌≤◌, ◌^◌, ◌&&◌, ◌||◌, ℕ, List, length, map, max, nat_lt, true, false, is_some, if◌then◌else◌, IfOk, IfErr, IfSome, OnOk, OnErr, IsTrue, IsOkUnless};
 ghost use Rattle.roam_screens.specs.Narrow.{narrow};
-ghost use Rattle.roam_sync.specs.Senders.{newest, count, is_due};
+ghost use Rattle.roam_sync.specs.Senders.{newest, count, acked, is_due};
 ghost use Rattle.roam_wire.specs.Cutting.{texts_of};
 ghost use Rattle.roam_wire.specs.Datagrams.{datagram_text, datagram_value};
 ghost use Rattle.roam_wire.specs.Gatherers.{untaken};
@@ -13,6 +13,7 @@ ghost use Rattle.roam_hub.specs.Ends.{version_of, sending_of};
 ghost use Rattle.roam_hub.specs.Servers.{address_of, parcels_of};
 ghost use Rattle.roam_hub.specs.Records.{first_record, Fits, IsOther, Notes, NotHeard, is_instruction_spent, is_sent_to, fragments_sent, datagrams_for, parcels_for, settled_with, HasNumbersFor, back_from, held_record, is_entry_spent};
 ghost use Rattle.roam_hub.specs.Waits.{has_come, PassesFrom, is_active, is_record_due};
+ghost use Rattle.roam_hub.specs.Shared.{Agree, StayBetween, GoTogether, StayTogether};
 ghost use Rattle.roam_acts.specs.Limits.{number_limit};
 ghost use Rattle.roam_sync.specs.Limits.{most_held};
 
@@ -20,6 +21,7 @@ use crate::addresses::Addr;
 use crate::ends::AnySender;
 use crate::moments::{answer_from, earlier, is_heard, is_overdue, owed_after};
 use crate::packing::{Heading, packed};
+use crate::shared::{Shared, SharedChange, text_of};
 use crate::taking::{Taking, take_acts};
 use roam_acts::limits::NUMBER_LIMIT;
 use roam_acts::{Act, ActTaker};
@@ -27,7 +29,7 @@ use roam_cells::{Fault, Reason};
 use roam_screens::{RowShot, RowShot1};
 use roam_session::Session;
 use roam_sync::limits::MOST_HELD;
-use roam_wire::{Datagram, Down, Gathered, Gatherer, Kind, Version, read_up, write_down};
+use roam_wire::{Datagram, Gathered, Gatherer, Kind, Version, read_up};
 use std::alloc::Global;
 use std::marker::Model;
 
@@ -38,6 +40,8 @@ pub struct Record {
     gatherer: Gatherer,
     taker: ActTaker,
     sender: AnySender,
+    /// The number of the sender's base.
+    base: u64,
     heard_at: u64,
     latest: u64,
     address: Addr,
@@ -87,7 +91,8 @@ impl Model for Record {
     } };
 
     ghost invariant = { λ r. (r.taker < number_limit + most_acts) × ((newest (sending_of r.sender)).number < number_limit)
-        × (r.datagrams < number_limit) × (r.instructions < number_limit) × (r.sent_at ≡ (sending_of r.sender).last) };
+        × (r.datagrams < number_limit) × (r.instructions < number_limit) × (r.sent_at ≡ (sending_of r.sender).last)
+        × (r.base ≡ (sending_of r.sender).base.number) };
 }
 
 // Where the greatest-numbered datagram came from, where one of this number came from there.
@@ -104,6 +109,25 @@ fn keep_unless(gatherer: &mut Gatherer, stopped: bool)
     if stopped {
         gatherer.untake();
     }
+}
+
+// The number of a sender's base, once it dropped the states before this number where it is held: then fewer are left.
+fn base_after(base: u64, before: usize, after: usize, number: u64) -> u64
+    ensures base { result ≡ (if nat_lt after before then number else base) }
+{
+    if after < before { number } else { base }
+}
+
+// Drops a sender's states before this number, where it is held, and notes its base's number.
+fn acknowledge(sender: &mut AnySender, base: &mut u64, number: u64)
+    requires base { base.old ≡ (sending_of sender.old).base.number }
+    ensures acked { sending_of sender.new ≡ acked (sending_of sender.old) number }
+    ensures base { base.new ≡ (sending_of sender.new).base.number }
+    ensures version { version_of sender.new ≡ version_of sender.old }
+{
+    let held = sender.len();
+    sender.acked(number);
+    *base = base_after(*base, held, sender.len(), number);
 }
 
 // Whether a number may be offered to a start: it is new to its sender, and fewer than eight are held.
@@ -204,6 +228,7 @@ impl Record {
             gatherer: Gatherer::new(alloc),
             taker: ActTaker::new(),
             sender,
+            base: 0,
             heard_at: 0,
             latest: 0,
             address: Addr {
@@ -274,7 +299,7 @@ impl Record {
         let fresh = self.taker.fresh(up.first, up.acts.as_slice());
         let taking = take_acts(alloc, session, &mut self.taker, datagram.client, fresh);
         keep_unless(&mut self.gatherer, taking.stopped.is_some());
-        self.sender.acked(up.acked);
+        acknowledge(&mut self.sender, &mut self.base, up.acked);
         self.owed = owed_for(self.owed, up.acts.as_slice(), now);
         self.note(datagram.number, from, now);
         Ok(taking)
@@ -318,27 +343,27 @@ impl Record {
     }
 
     // The texts of the datagrams of the instruction to it. `Spent` exactly where a number that it needs would be 2^62; `OutOfMemory`.
-    fn instruction(&self, alloc: Global, session: u64, client: u64) -> Result<Vec<Vec<u8>>, Fault>
+    fn instruction(
+        &self,
+        alloc: Global,
+        session: u64,
+        client: u64,
+        changes: &mut Vec<SharedChange>,
+    ) -> Result<Vec<Vec<u8>>, Fault>
         requires session { session < 2 ^ 64 }
         requires client { client < 2 ^ 64 }
+        requires agree { Agree self.now.version self.now.sender changes.old.items }
         ensures written { IfOk result (λ all. texts_of all.items ≡ map datagram_text (datagrams_for session (client, self.now))) }
         ensures fit { OnOk result (is_instruction_spent self.now ≡ false) }
         ensures fault { IfErr result (λ fault. (fault ≡ Fault.OutOfMemory)
             ⊎ ((fault ≡ Fault.Spent) × (is_instruction_spent self.now ≡ true))) }
+        ensures stay { OnOk result (StayBetween self.now.version self.now.sender changes.old.items changes.new.items) }
     {
         let acked = self.taker.taken();
         if acked >= NUMBER_LIMIT {
             return Err(Fault::Spent);
         }
-        let update = self.sender.instruction(alloc)?;
-        let down = Down {
-            old: update.old,
-            new: update.new,
-            floor: update.floor,
-            acked,
-            change: update.change,
-        };
-        let text = write_down(alloc, &down)?;
+        let text = text_of(alloc, &self.sender, self.base, acked, changes)?;
         let heading = Heading {
             version: self.sender.version(),
             kind: Kind::ToClient,
@@ -356,10 +381,12 @@ impl Record {
         alloc: Global,
         news: News,
         client: u64,
+        changes: &mut Vec<SharedChange>,
         parcels: &mut Vec<(Addr, Vec<u8>)>,
     ) -> Result<Option<u64>, Fault>
         requires session { news.session < 2 ^ 64 }
         requires client { client < 2 ^ 64 }
+        requires agree { Agree self.now.version self.now.sender changes.old.items }
         ensures fragments { IfOk result (λ fragments. fragments ≡ fragments_sent self.now news.now) }
         ensures parcels { OnOk result (parcels_of parcels.new.items ≡ parcels_of parcels.old.items
             ++ parcels_for news.session news.now (client, self.now)) }
@@ -367,11 +394,12 @@ impl Record {
         ensures fault { IfErr result (λ fault. (fault ≡ Fault.OutOfMemory)
             ⊎ ((fault ≡ Fault.Spent) × ((is_sent_to self.now news.now && is_instruction_spent self.now) ≡ true))) }
         ensures memory { OnErr result (is_sent_to self.now news.now ≡ true) }
+        ensures stay { OnOk result (StayBetween self.now.version self.now.sender changes.old.items changes.new.items) }
     {
         if !is_sent_to(&self.sender, self.heard_at, self.owed, news.now) {
             return Ok(None);
         }
-        let texts = self.instruction(alloc, news.session, client)?;
+        let texts = self.instruction(alloc, news.session, client, changes)?;
         let fragments = texts.len() as u64;
         address(self.address, texts, parcels)?;
         Ok(Some(fragments))
@@ -386,13 +414,14 @@ impl Record {
         news: News,
         client: u64,
         screen: &RowShot,
-        kept: &mut Option<RowShot1>,
+        shared: &mut Shared,
         parcels: &mut Vec<(Addr, Vec<u8>)>,
     ) -> Result<Prepared, Fault>
         requires number { news.number < number_limit }
         requires session { news.session < 2 ^ 64 }
         requires client { client < 2 ^ 64 }
-        requires kept { IfSome kept.old (λ old. old ≡ narrow screen.now) }
+        requires narrow { IfSome shared.old.narrow (λ old. old ≡ narrow screen.now) }
+        requires together { GoTogether news.number screen.now ((client, self.old) ∷ []) shared.old.changes.items }
         ensures held { OnOk result (self.new ≡ held_record self.old news.number screen.now news.now) }
         ensures fragments { IfOk result (λ p. p.fragments ≡ fragments_sent self.new news.now) }
         ensures parcels { OnOk result (parcels_of parcels.new.items ≡ parcels_of parcels.old.items
@@ -404,12 +433,13 @@ impl Record {
         ensures fault { IfErr result (λ fault. (fault ≡ Fault.OutOfMemory)
             ⊎ ((fault ≡ Fault.Spent) × (is_entry_spent news.number screen.now news.now (client, self.old) ≡ true))) }
         ensures memory { OnErr result (is_record_due self.old news.number news.now ≡ true) }
-        ensures kept { IfSome kept.new (λ old. old ≡ narrow screen.now) }
+        ensures narrow { IfSome shared.new.narrow (λ old. old ≡ narrow screen.now) }
+        ensures stay { OnOk result (StayTogether news.number screen.now self.old shared.old.changes.items shared.new.changes.items) }
         ensures err { OnErr result (self.new ≡ self.old) }
     {
         let _invariant = &self.heard_at;
-        let offered = self.offer(alloc, news.number, screen, kept, news.now)?;
-        match self.send(alloc, news, client, parcels) {
+        let offered = self.offer(alloc, news.number, screen, &mut shared.narrow, news.now)?;
+        match self.send(alloc, news, client, &mut shared.changes, parcels) {
             Ok(fragments) => Ok(Prepared { offered, fragments }),
             Err(fault) => {
                 self.take_back(offered);

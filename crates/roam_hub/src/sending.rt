@@ -5,24 +5,27 @@ ghost use Rattle.roam_screens.specs.Narrow.{narrow};
 ghost use Rattle.roam_hub.specs.Servers.{parcels_of};
 ghost use Rattle.roam_hub.specs.Records.{texts_for, is_entry_spent, settled_entry};
 ghost use Rattle.roam_hub.specs.Waits.{is_entry_due};
+ghost use Rattle.roam_hub.specs.Shared.{GoTogether};
 ghost use Rattle.roam_acts.specs.Limits.{number_limit};
 
 use crate::addresses::Addr;
 use crate::records::{News, Record};
+use crate::shared::Shared;
 use indexmap::IndexMap;
 use roam_cells::Fault;
-use roam_screens::{RowShot, RowShot1};
+use roam_screens::RowShot;
 use std::alloc::Global;
 
 /// Offers the newest number with its screen to the records from a place on, each where it may be needed and as its version is shown it,
 /// adds the texts of the datagrams to those that are sent to, each with its address, and notes that they are sent. What version 1 shows of
-/// the screen is made once, where it is needed, and kept. `Spent` exactly where a number that one of them needs would be 2^62;
-/// `OutOfMemory`. A refusal leaves all records as they were: each is settled once all after it are prepared.
+/// the screen is made once, where it is needed, and so is the change of a version between two numbers; both are kept for the records after.
+/// `Spent` exactly where a number that one of them needs would be 2^62; `OutOfMemory`. A refusal leaves all records as they were: each is
+/// settled once all after it are prepared.
 pub fn send_from(
     alloc: Global,
     news: News,
     screen: &RowShot,
-    kept: &mut Option<RowShot1>,
+    shared: &mut Shared,
     records: &mut IndexMap<u64, Record>,
     at: usize,
     parcels: &mut Vec<(Addr, Vec<u8>)>,
@@ -30,7 +33,8 @@ pub fn send_from(
     requires within { at ≤ length records.old.entries }
     requires number { news.number < number_limit }
     requires session { news.session < 2 ^ 64 }
-    requires kept { IfSome kept.old (λ old. old ≡ narrow screen.now) }
+    requires narrow { IfSome shared.old.narrow (λ old. old ≡ narrow screen.now) }
+    requires together { GoTogether news.number screen.now (drop at records.old.entries) shared.old.changes.items }
     ensures settled { OnOk result (records.new.entries ≡ take at records.old.entries
         ++ map (settled_entry news.number screen.now news.now) (drop at records.old.entries)) }
     ensures parcels { OnOk result (parcels_of parcels.new.items ≡ parcels_of parcels.old.items
@@ -40,14 +44,14 @@ pub fn send_from(
         × (list_any (is_entry_spent news.number screen.now news.now) (drop at records.old.entries) ≡ true))) }
     ensures memory { OnErr result (list_any (is_entry_due news.number news.now) (drop at records.old.entries) ≡ true) }
     ensures err { OnErr result (records.new.entries ≡ records.old.entries) }
-    ensures kept { IfSome kept.new (λ old. old ≡ narrow screen.now) }
+    ensures narrow { IfSome shared.new.narrow (λ old. old ≡ narrow screen.now) }
 {
     if at == records.len() {
         return Ok(());
     }
     let (id, record) = records.pair_mut(at);
-    let prepared = record.prepare(alloc, news, *id, screen, kept, parcels)?;
-    match send_from(alloc, news, screen, kept, records, at + 1, parcels) {
+    let prepared = record.prepare(alloc, news, *id, screen, shared, parcels)?;
+    match send_from(alloc, news, screen, shared, records, at + 1, parcels) {
         Ok(()) => {
             let (_, record) = records.pair_mut(at);
             record.settle(prepared, news.now);

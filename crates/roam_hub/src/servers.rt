@@ -25,6 +25,7 @@ use crate::known::{alike, hear_in};
 use crate::moments::{FRAME_INTERVAL, by_clock, earlier, has_passed, moment_after};
 use crate::records::{News, Record};
 use crate::sending::send_from;
+use crate::shared::Shared;
 use crate::taking::Taking;
 use crate::waits::next_due_of;
 use indexmap::IndexMap;
@@ -56,6 +57,7 @@ impl Model for Server {
     ghost use Rattle.std.specs.Coded.{codes};
     ghost use Rattle.roam_layout.specs.Coding.{plan_code};
     ghost use Rattle.roam_hub.specs.Servers.{ServerView};
+    ghost use Rattle.roam_hub.specs.Shared.{HaveScreens};
 
     ghost Value = { ServerView };
 
@@ -72,7 +74,7 @@ impl Model for Server {
       records = s.records.entries;
     } };
 
-    ghost invariant = { λ s. (s.made < number_limit) × (s.id < 2 ^ 64) };
+    ghost invariant = { λ s. (s.made < number_limit) × (s.id < 2 ^ 64) × HaveScreens s.made s.screen s.records.entries };
 }
 
 // Whether a datagram goes to a server.
@@ -326,12 +328,12 @@ impl Server {
             now,
         };
         let mut parcels = Vec::new(alloc);
-        let mut kept = None;
+        let mut shared = Shared::new(alloc);
         send_from(
             alloc,
             news,
             &self.screen,
-            &mut kept,
+            &mut shared,
             &mut self.records,
             0,
             &mut parcels,
@@ -362,12 +364,12 @@ impl Server {
             now,
         };
         let mut parcels = Vec::new(alloc);
-        let mut kept = None;
+        let mut shared = Shared::new(alloc);
         send_from(
             alloc,
             news,
             &screen,
-            &mut kept,
+            &mut shared,
             &mut self.records,
             0,
             &mut parcels,

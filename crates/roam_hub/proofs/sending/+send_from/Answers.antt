@@ -5,7 +5,7 @@ use Rattle.indexmap.specs.Layout.{length-set_value_at}
 use Rattle.roam_sync.specs.Senders.{newest, count}
 use Rattle.roam_hub.specs.Servers.{RecordView, parcels_of}
 use Rattle.roam_hub.specs.Records.{is_sent_to, is_instruction_spent, HasNumbersFor, back_from}
-use Rattle.roam_hub.proofs.Settling.{IsAt, here_still, all_settled, all_sent, spent_is, first_spent, first_due, later_due, set_nothing, has_numbers, undone, still_there, is_within, value_is}
+use Rattle.roam_hub.proofs.Settling.{IsAt, here_still, all_settled, all_sent, spent_is, first_spent, first_due, later_due, set_nothing, has_numbers, undone, still_there, is_within, value_is, together_first, together_rest}
 use Rattle.roam_hub.proofs.sending.+send_from.Goals as goal
 
 pub returns-in_err-prepared-clause-fault : goal.returns-in_err-prepared-clause-fault
@@ -28,12 +28,22 @@ returns-in_err-prepared-clause-err t c =
     c.prepare.new.self
     c.pair_mut-record.ensures.value c.in_err-prepared.ensures.err)
 
+pub prepare-requires-clause-together : goal.prepare-requires-clause-together
+prepare-requires-clause-together t c =
+    together_first c.args.records.now.entries c.args.at (c.pair_mut-record.result.0.now, c.pair_mut-record.result.1.now) c.args.news.number
+    c.args.screen.now c.args.shared.now.changes.items c.pair_mut-record.ensures.value c.requires.together
+
 pub send_from-requires : goal.send_from-requires
 send_from-requires t c =
     let len = length-set_value_at c.args.records.now.entries c.args.at c.prepare.new.self in
     let low = is_within c.args.records.now.entries c.args.at c.pair_mut-record.result.0.now c.pair_mut-record.result.1.now
     c.pair_mut-record.ensures.value in
-    (omega (arith, len, low, c.decreases), (omega (arith, len, low), (c.requires.number, (c.requires.session, c.prepare.ensures.kept))))
+    let rest = together_rest c.args.records.now.entries c.args.at (c.pair_mut-record.result.0.now, c.pair_mut-record.result.1.now)
+    c.prepare.new.self c.args.news.number c.args.screen.now c.args.shared.now.changes.items c.prepare.new.shared.changes.items
+    c.pair_mut-record.ensures.value c.requires.together c.in_ok-prepared.ensures.stay in (
+      omega (arith, len, low, c.decreases),
+      (omega (arith, len, low), (c.requires.number, (c.requires.session, (c.prepare.ensures.narrow, rest)))),
+    )
 
 pub pair_mut-record-requires-in-Ok : goal.pair_mut-record-requires-in-Ok
 pair_mut-record-requires-in-Ok t c =

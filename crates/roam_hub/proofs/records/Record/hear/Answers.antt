@@ -92,12 +92,13 @@ invariant_of-self-2 c =
     (omega (arith, within, len)) in (
       omega (arith, low, c.take_acts-taking.ensures.count),
       subst (λ (n : ℕ). n < 2 ^ 62)
-          (sym (ap (λ (s : Sending Screenshot). (newest s).number) c.acked.ensures.acked
+          (sym (ap (λ (s : Sending Screenshot). (newest s).number) c.acknowledge.ensures.acked
           ∙ ap (λ (h : Held Screenshot). h.number) (newest_acked (sending_of c.self.inside.sender) c.in-Ok.up.acked)))
           c.self.invariant.1,
       c.self.invariant.2,
       c.self.invariant.3,
-      c.self.invariant.4 ∙ sym (ap (λ (s : Sending Screenshot). s.last) c.acked.ensures.acked),
+      c.self.invariant.4 ∙ sym (ap (λ (s : Sending Screenshot). s.last) c.acknowledge.ensures.acked),
+      c.acknowledge.ensures.base,
     )
 
 pub returns-clause-noted : goal.returns-clause-noted
@@ -119,9 +120,9 @@ returns-clause-noted c =
     (c.note-2.ensures.noted
     ∙ informed_as (the_view c.self.inside) (datagram_value c.args.datagram.now)
     (address_of c.args.from) c.args.now c.keep_unless.new.gatherer.current
-    (up_value c.in-Ok.up) c.take_acts-taking.result.taken (version_of c.acked.new.self) c.take_acts-taking.new.taker
-    (sending_of c.acked.new.self) c.owed_for-self-inside.result c.acked.ensures.version
-    c.take_acts-taking.ensures.count c.acked.ensures.acked
+    (up_value c.in-Ok.up) c.take_acts-taking.result.taken (version_of c.acknowledge.new.sender) c.take_acts-taking.new.taker
+    (sending_of c.acknowledge.new.sender) c.owed_for-self-inside.result c.acknowledge.ensures.version
+    c.take_acts-taking.ensures.count c.acknowledge.ensures.acked
     (c.owed_for-self-inside.ensures.owed
     ∙ ap (λ (xs : List Act). if nat_eq (length xs) 0 then c.self.inside.owed else owed_from c.self.inside.owed c.args.now)
     c.as_slice-3.ensures.value))

@@ -3,7 +3,7 @@ use Rattle.roam_screens.specs.Screenshot.{Screenshot}
 use Rattle.roam_sync.specs.Senders.{Sending, newest}
 use Rattle.roam_hub.specs.Ends.{sending_of}
 use Rattle.roam_hub.specs.Servers.{RecordView}
-use Rattle.roam_hub.proofs.Addressing.{newest_sent}
+use Rattle.roam_hub.proofs.Addressing.{newest_sent, base_sent}
 use Rattle.roam_hub.proofs.records.Record.settle.Goals as goal
 
 pub invariant_of-self : goal.invariant_of-self
@@ -21,4 +21,6 @@ invariant_of-self c =
       omega (arith, few, datagrams),
       omega (arith, more, instructions),
       sym (ap (λ (s : Sending Screenshot). s.last) c.sent.ensures.sent),
+      c.self.invariant.5 ∙ sym (ap (λ (s : Sending Screenshot). s.base.number) c.sent.ensures.sent
+          ∙ base_sent (sending_of c.self.inside.sender) c.args.now),
     )

@@ -4,6 +4,7 @@ use Rattle.std.proofs.lemmas.Result.{err_from_is_err_and}
 use Rattle.roam_wire.specs.Datagrams.{datagram_value}
 use Rattle.roam_hub.specs.Servers.{ServerView, Stands, Comes, address_of, stop_after}
 use Rattle.roam_hub.specs.Records.{answer_to_datagram}
+use Rattle.roam_hub.proofs.Sharing.{have_noted}
 use Rattle.roam_hub.proofs.Serving.{not_read_datagram, not_admitted, after_none, after_noted}
 use Rattle.roam_hub.specs.contracts.servers.Server.{the_view}
 use Rattle.roam_hub.proofs.servers.Server.hear.Goals.{then-self, else-self}
@@ -58,3 +59,12 @@ returns-clause-heard c s st =
     (subst (λ (v : ServerView). Stands v s) (sym c.self.view_is) st) (record { is = found.0; spelled = found.1 })
     (record { kind = c.in_ok-admit.ensures.kind; session = c.in_ok-admit.ensures.session })
     c.max-moment.ensures c.hear_in.ensures.unique c.in_ok-taking.ensures.noted)
+
+pub invariant_of-self-2 : goal.invariant_of-self-2
+invariant_of-self-2 c = (
+  c.self.invariant.0,
+  c.self.invariant.1,
+  have_noted c.self.inside.made c.self.inside.screen c.self.inside.records.entries c.hear_in.new.records.entries c.self.inside.session
+      c.hear_in.new.session (datagram_value c.in_ok-datagram.datagram) (address_of c.args.from) c.max-moment.result c.in_ok-taking.taking
+      c.in_ok-taking.ensures.noted c.self.invariant.2,
+)
