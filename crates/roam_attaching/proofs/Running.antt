@@ -157,7 +157,7 @@ handed_taken to o o' client client' (Some act) waiting turn = tt
 
 -- a turn as its clauses say it
 pub turn_taken : (to : Addr) (next : Option Act) (took : Bool) (o o' : Painted) (client client' : ClientView)
-    → Makes client_step (AttachTurn client'.receiver.newest.number client'.receiver.newest.state o.noted o'.noted to next took)
+    → Makes client_step (AttachTurn client'.kept.receiver.newest.number client'.kept.receiver.newest.state o.noted o'.noted to next took)
     None None None None client client'
     → Led o.noted o.written o'.noted o'.written → o'.notice ≡ o.notice → TakesTurn to (turn_of next took) o o' client client'
 turn_taken to next took o o' client client' makes led notice = record { makes = makes; led = led; notice = notice }

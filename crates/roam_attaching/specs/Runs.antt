@@ -2,7 +2,7 @@
 use Rattle.std.specs.Prelude.{◌≡◌, ℕ, ◌-◌, ◌≤◌, Bool, true, false, List, [], ◌∷◌, ◌++◌, length, Option, Some, None}
 use Rattle.std.specs.Io.KnownBytes.{Appends, Consumes}
 use Rattle.roam_acts.specs.declared.acts.Act.{Act}
-use Rattle.roam_hub.specs.Clients.{ClientView, Stands as ClientStands}
+use Rattle.roam_hub.specs.Clients.{ClientView}
 use Rattle.roam_hub.specs.declared.addresses.Addr.{Addr}
 use Rattle.roam_turns.specs.Cores.{client_step}
 use Rattle.roam_turns.specs.Painting.{Led}
@@ -65,7 +65,7 @@ painted_by contents noted ports = record { noted = noted; written = contents por
 -- told of silence stays.
 pub record TakesTurn (to : Addr) (turn : Turn) (outer outer' : Painted) (old new : ClientView) : Type 0 where
   pub makes : Makes client_step
-      (AttachTurn new.receiver.newest.number new.receiver.newest.state outer.noted outer'.noted to turn.next turn.took)
+      (AttachTurn new.kept.receiver.newest.number new.kept.receiver.newest.state outer.noted outer'.noted to turn.next turn.took)
       None None None None old new
   pub led : Led outer.noted outer.written outer'.noted outer'.written
   pub notice : outer'.notice ≡ outer.notice
@@ -99,12 +99,11 @@ pub record RunsOn (to : Addr) (before after : Option (List ℕ)) (old new : ActL
 
 -- every act that a start took is acknowledged
 abbrev pub IsSettled : ClientView → Type 0
-IsSettled view = (session id : ℕ) (c : _) → ClientStands view session id c → c.acts.acts ≡ []
+IsSettled view = view.kept.acts.acts ≡ []
 
 -- some act waits, or isn't acknowledged
 abbrev pub IsPending : ActLines → ClientView → Type 0
-IsPending lines view =
-    (session id : ℕ) (c : _) → ClientStands view session id c → lines.waiting.items ≡ [] → c.acts.acts ≡ [] → ⊥
+IsPending lines view = lines.waiting.items ≡ [] → view.kept.acts.acts ≡ [] → ⊥
 
 -- when the end of a stream was seen first
 abbrev pub seen_at : Stream → Option ℕ → ℕ → Option ℕ

@@ -201,9 +201,9 @@ fn type_turn<C: Clock + Drop, W: Write + Drop, T: Read>(
     to: Addr,
 ) -> Result<(), RunFault>
     requires in_range { All IsInRange typist.old.lines.waiting.items }
-    requires behind { IsBehind shown.old client.old.receiver.newest.number client.old.receiver.newest.state }
+    requires behind { IsBehind shown.old client.old.kept.receiver.newest.number client.old.kept.receiver.newest.state }
     ensures in_range { OnOk result (All IsInRange typist.new.lines.waiting.items) }
-    ensures behind { OnOk result (IsBehind shown.new client.new.receiver.newest.number client.new.receiver.newest.state) }
+    ensures behind { OnOk result (IsBehind shown.new client.new.kept.receiver.newest.number client.new.kept.receiver.newest.state) }
     ensures typed { OnOk result (RunsOn to (T.remaining typist.old.reader) (T.remaining typist.new.reader)
         typist.old.lines typist.new.lines (painted_by W.contents shown.old ports.old) (painted_by W.contents shown.new ports.new)
         client.old client.new 1) }

@@ -1,11 +1,11 @@
 -- What a client start makes of a datagram.
-use Rattle.std.proofs.Common.{◌≡◌, ◌⊎◌, ℕ, ◌-◌, ◌<◌, ◌≤◌, ◌^◌, max, List, Option, Some, None, Bool, true, false, inl, inr, refl, sym, ap, ◌∙◌, subst, cond, arith}
+use Rattle.std.proofs.Common.{◌≡◌, ◌⊎◌, ℕ, ◌-◌, ◌<◌, ◌≤◌, ◌^◌, List, Option, Some, None, Bool, true, false, inl, inr, refl, sym, ap, ◌∙◌, subst, cond, arith}
 use Rattle.std.proofs.lemmas.Bool.Decides.{nat_tests}
 use Rattle.std.specs.Prelude.{Result, Ok, Err, IsOk, nat_le, nat_lt, is_none, length, drop}
 use Rattle.std.specs.List.{All}
 use Rattle.std.proofs.lemmas.List.Elements.{All-drop}
 use Rattle.roam_cells.specs.declared.faults.Fault.{Fault}
-use Rattle.roam_cells.specs.declared.faults.Fault.TheVariants.{OutOfMemory, BadSize, TooSmall, NoPane, PanesFull, LastPane, Busy, TooLong, BadDatagram, OtherSession, OtherClient, ClientsFull, BadChange, SendFull, Spent, BadAct, Watching}
+use Rattle.roam_cells.specs.declared.faults.Fault.TheVariants.{OutOfMemory, BadDatagram, BadChange}
 use Rattle.roam_cells.specs.declared.faults.Reason.{Reason}
 use Rattle.roam_cells.specs.declared.faults.Reason.TheVariants.{Fragment, Short}
 use Rattle.roam_screens.specs.Screenshot.{Screenshot}
@@ -14,7 +14,6 @@ use Rattle.roam_acts.specs.Senders.{Typing, acked_to, last_number}
 use Rattle.roam_sync.specs.declared.receivers.Step.{Step}
 use Rattle.roam_sync.specs.declared.receivers.Step.TheVariants as step
 use Rattle.roam_sync.specs.Receivers.{Receiving, pairs, state_at, from_floor, step_for}
-use Rattle.roam_sync.specs.Links.{Delivers}
 use Rattle.roam_wire.specs.declared.versions.Version.{Version}
 use Rattle.roam_wire.specs.Datagrams.{DatagramValue, IsDatagram, datagram_text}
 use Rattle.roam_wire.specs.Gatherers.{Gathering, Answer, Whole, gather, fragment_of}
@@ -23,14 +22,14 @@ use Rattle.roam_wire.specs.Headers.{checked_header, datagram_at, datagram_if, da
 use Rattle.roam_wire.specs.Instructions.{DownValue, IsDown, down_text, reason_for}
 use Rattle.roam_world.specs.Moments.{owed_from}
 use Rattle.roam_world.specs.Versions.{applied_by}
-use Rattle.roam_world.specs.Texts.{SaysDown, update_in}
-use Rattle.roam_world.specs.Clients.{Client as ClientOf, moment_of}
-use Rattle.roam_world.specs.ClientArrivals.{arriving, arriving_gathered, hearing_of}
+use Rattle.roam_world.specs.Texts.{SaysDown}
+use Rattle.roam_world.specs.Clients.{moment_of}
+use Rattle.roam_world.specs.ClientArrivals.{arriving, arriving_gathered, after_fragment, hearing_of}
 use Rattle.roam_world.specs.Arrival.{turned_away, noted}
 use Rattle.roam_acts.proofs.Fields.{IsBytes}
 use Rattle.roam_wire.proofs.Heads.{found}
 use Rattle.roam_hub.specs.declared.clients.Heard.{Heard}
-use Rattle.roam_hub.specs.Clients.{ClientView, Stands, hearing_in, Delivered, NotDelivered, unread as not_read, bad_change as bad_change_of, no_memory as wants_memory, IsTextOf, Hears, no_datagram, refused, fragment, unread, bad_change, whole, no_memory}
+use Rattle.roam_hub.specs.Clients.{ClientView, keeping, hearing_in, Delivered, NotDelivered, unread as not_read, bad_change as bad_change_of, no_memory as wants_memory, IsTextOf, Hears, no_datagram, refused, fragment, unread, bad_change, whole, no_memory}
 
 -- ---- an instruction's text
 
@@ -109,122 +108,76 @@ text_there bytes fits ok =
         let read = found bytes p.0 p.1 long fits e in
         (datagram_with (header_at bytes) (drop 42 bytes) p.0 p.1, record { is = read.0; spelled = read.1 })
 
-pub not_datagram : (session id : ℕ) (c : ClientOf) (bytes : List ℕ) (now : ℕ) (fault : Fault) (new : ClientView)
-    → Stands new session id c → IsBytes bytes → Refuses (datagram_at bytes) fault
-    → ((d : DatagramValue) → IsDatagram d → bytes ≡ datagram_text d → fault ≡ OutOfMemory) → Hears session id c bytes now (Err fault) new
-not_datagram session id c bytes now OutOfMemory new st fits why only =
-    let t = text_there bytes fits why in no_memory t.0 t.1 refl st
-not_datagram session id c bytes now (BadDatagram r) new st fits why only =
+pub not_datagram : (v : ClientView) (bytes : List ℕ) (now : ℕ) (fault : Fault) → IsBytes bytes → Refuses (datagram_at bytes) fault
+    → ((d : DatagramValue) → IsDatagram d → bytes ≡ datagram_text d → fault ≡ OutOfMemory) → Hears v bytes now (Err fault) v
+not_datagram v bytes now OutOfMemory fits why only = let t = text_there bytes fits why in no_memory t.0 t.1 refl refl
+not_datagram v bytes now (BadDatagram r) fits why only =
     no_datagram r
     (record { none = (λ d is t. let z : BadDatagram r ≡ OutOfMemory = only d is t in absurd (cc)); reason = why })
-    refl st
-not_datagram session id c bytes now BadSize new st fits why only = absurd why
-not_datagram session id c bytes now TooSmall new st fits why only = absurd why
-not_datagram session id c bytes now NoPane new st fits why only = absurd why
-not_datagram session id c bytes now PanesFull new st fits why only = absurd why
-not_datagram session id c bytes now LastPane new st fits why only = absurd why
-not_datagram session id c bytes now Busy new st fits why only = absurd why
-not_datagram session id c bytes now TooLong new st fits why only = absurd why
-not_datagram session id c bytes now OtherSession new st fits why only = absurd why
-not_datagram session id c bytes now OtherClient new st fits why only = absurd why
-not_datagram session id c bytes now ClientsFull new st fits why only = absurd why
-not_datagram session id c bytes now BadChange new st fits why only = absurd why
-not_datagram session id c bytes now SendFull new st fits why only = absurd why
-not_datagram session id c bytes now Spent new st fits why only = absurd why
-not_datagram session id c bytes now BadAct new st fits why only = absurd why
-not_datagram session id c bytes now Watching new st fits why only = absurd why
+    refl refl
+not_datagram v bytes now _ fits why only = absurd why
 
 -- ---- a datagram
 
+-- what is said of a start is said of the same one
+pub heard_alike : {v v' new : ClientView} {bytes : List ℕ} {now : ℕ} {result : Result Heard Fault} → v ≡ v'
+    → Hears v bytes now result new → Hears v' bytes now result new
+heard_alike {v} {v'} {new} {bytes} {now} {result} same = subst (λ (x : ClientView). Hears x bytes now result new) same
+
 -- a datagram of this start: what it is there is decided by what was gathered
 abbrev pub Admits : ClientView → DatagramValue → Type 0
-Admits v d = (c : ClientOf) → c.version ≡ v.version
-    → arriving v.session v.id c d ≡ arriving_gathered (gather c.gathering (fragment_of d))
+Admits v d = arriving v.session v.id v.kept d ≡ arriving_gathered (gather v.kept.gathering (fragment_of d))
 
-pub not_admitted : (session id : ℕ) (c : ClientOf) (bytes : List ℕ) (now : ℕ) (before : ClientView) (d : DatagramValue) (fault : Fault)
-    → Stands before session id c → IsTextOf bytes d
-    → ((k : ClientOf) → k.version ≡ before.version → arriving before.session before.id k d ≡ turned_away fault)
-    → Hears session id c bytes now (Err fault) before
-not_admitted session id c bytes now before d fault st is back =
-    refused d fault is
-    (subst (λ (v : ClientView). arriving v.session v.id c d ≡ turned_away fault) st (back c (sym (ap (λ (v : ClientView). v.version) st))))
-    refl st
+pub not_gathered : (v : ClientView) (bytes : List ℕ) (now : ℕ) (d : DatagramValue) (fault : Fault) (g : Gathering)
+    → IsTextOf bytes d → Admits v d → (fault ≡ OutOfMemory) ⊎ (fault ≡ BadDatagram Fragment)
+    → (fault ≡ BadDatagram Fragment → gather v.kept.gathering (fragment_of d) ≡ None) → g ≡ v.kept.gathering
+    → Hears v bytes now (Err fault) (keeping v (record v.kept { gathering = g }))
+not_gathered v bytes now d fault g is ok (inl e) bad same =
+    no_memory d is (ap (λ f. Err f) e) (λ i. keeping v (record v.kept { gathering = same i }))
+not_gathered v bytes now d fault g is ok (inr e) bad same =
+    refused d fault is (ok ∙ ap arriving_gathered (bad e) ∙ ap turned_away (sym e)) refl
+    (λ i. keeping v (record v.kept { gathering = same i }))
 
-arrives : (session id : ℕ) (c : ClientOf) (before : ClientView) (d : DatagramValue) (x : Option (Answer × Gathering))
-    → Stands before session id c → Admits before d → gather before.gathering (fragment_of d) ≡ x
-    → arriving session id c d ≡ arriving_gathered x
-arrives session id c before d x st ok e =
-    subst (λ (v : ClientView). arriving v.session v.id c d ≡ arriving_gathered (gather c.gathering (fragment_of d))) st
-    (ok c (sym (ap (λ (v : ClientView). v.version) st)))
-    ∙ ap arriving_gathered (sym (ap (λ (v : ClientView). gather v.gathering (fragment_of d)) st) ∙ e)
+pub fragment_heard : (v : ClientView) (bytes : List ℕ) (now : ℕ) (d : DatagramValue) (h : Heard) (a : Answer) (g : Gathering) (moment : ℕ)
+    → IsTextOf bytes d → Admits v d → gather v.kept.gathering (fragment_of d) ≡ Some (a, g)
+    → arriving_gathered (Some (a, g)) ≡ noted (hearing_in h) g → moment ≡ moment_of v.kept now
+    → Hears v bytes now (Ok h) (keeping v (after_fragment v.kept moment g))
+fragment_heard v bytes now d h a g moment is ok e k m =
+    fragment d h g is (ok ∙ ap arriving_gathered e ∙ k) refl (λ i. keeping v (after_fragment v.kept (m i) g))
 
-gathers_as : (session id : ℕ) (c : ClientOf) (before : ClientView) (g : Gathering) → Stands before session id c → g ≡ before.gathering
-    → Stands (record before { gathering = g }) session id c
-gathers_as session id c before g st e = (λ i. record before { gathering = e i }) ∙ st
-
-pub not_gathered : (session id : ℕ) (c : ClientOf) (bytes : List ℕ) (now : ℕ) (before : ClientView) (d : DatagramValue) (fault : Fault)
-    (g : Gathering)
-    → Stands before session id c → IsTextOf bytes d → Admits before d → (fault ≡ OutOfMemory) ⊎ (fault ≡ BadDatagram Fragment)
-    → (fault ≡ BadDatagram Fragment → gather before.gathering (fragment_of d) ≡ None) → g ≡ before.gathering
-    → Hears session id c bytes now (Err fault) (record before { gathering = g })
-not_gathered session id c bytes now before d fault g st is ok (inl e) bad same =
-    no_memory d is (ap (λ f. Err f) e) (gathers_as session id c before g st same)
-not_gathered session id c bytes now before d fault g st is ok (inr e) bad same =
-    refused d fault is
-    (arrives session id c before d None st ok (bad e) ∙ ap turned_away (sym e)) refl (gathers_as session id c before g st same)
-
-pub fragment_heard : (session id : ℕ) (c : ClientOf) (bytes : List ℕ) (now : ℕ) (before : ClientView) (d : DatagramValue) (h : Heard)
-    (a : Answer) (g : Gathering) (moment : ℕ)
-    → Stands before session id c → IsTextOf bytes d → Admits before d → gather before.gathering (fragment_of d) ≡ Some (a, g)
-    → arriving_gathered (Some (a, g)) ≡ noted (hearing_in h) g → moment ≡ max now before.clock
-    → Hears session id c bytes now (Ok h) (record before { gathering = g; clock = moment })
-fragment_heard session id c bytes now before d h a g moment st is ok e k m =
-    fragment d h g is (arrives session id c before d (Some (a, g)) st ok e ∙ k) refl
-    (λ i. record (st i) { gathering = g; clock = (m ∙ ap (λ (v : ClientView). max now v.clock) st) i })
-
-pub not_delivered : (session id : ℕ) (c : ClientOf) (bytes : List ℕ) (now : ℕ) (before : ClientView) (d : DatagramValue) (fault : Fault)
-    (text : List ℕ) (g g' : Gathering) (version : Version) (acts : Typing) (r : Receiving Screenshot)
-    → Stands before session id c → IsTextOf bytes d → Admits before d → gather before.gathering (fragment_of d) ≡ Some (Whole text, g)
-    → NotDelivered before.version text before.receiver fault → g' ≡ before.gathering → version ≡ before.version → acts ≡ before.acts
-    → r ≡ before.receiver
-    → Hears session id c bytes now (Err fault) (record before { version = version; acts = acts; gathering = g'; receiver = r })
-not_delivered session id c bytes now before d fault text g g' version acts r st is ok e why same_g same_v same_a same_r = go why
+pub not_delivered : (v : ClientView) (bytes : List ℕ) (now : ℕ) (d : DatagramValue) (fault : Fault) (text : List ℕ) (g g' : Gathering)
+    (version : Version) (acts : Typing) (r : Receiving Screenshot)
+    → IsTextOf bytes d → Admits v d → gather v.kept.gathering (fragment_of d) ≡ Some (Whole text, g)
+    → NotDelivered v.kept.version text v.kept.receiver fault → g' ≡ v.kept.gathering → version ≡ v.kept.version → acts ≡ v.kept.acts
+    → r ≡ v.kept.receiver
+    → Hears v bytes now (Err fault) (keeping v (record v.kept { version = version; acts = acts; gathering = g'; receiver = r }))
+not_delivered v bytes now d fault text g g' version acts r is ok e why same_g same_v same_a same_r = go why
   where
-    stays : Stands (record before { version = version; acts = acts; gathering = g'; receiver = r }) session id c
-    stays = (λ i. record before { version = same_v i; acts = same_a i; gathering = same_g i; receiver = same_r i }) ∙ st
+    stays : keeping v (record v.kept { version = version; acts = acts; gathering = g'; receiver = r }) ≡ v
+    stays = λ i. keeping v (record v.kept { version = same_v i; acts = same_a i; gathering = same_g i; receiver = same_r i })
 
-    go : NotDelivered before.version text before.receiver fault
-        → Hears session id c bytes now (Err fault) (record before { version = version; acts = acts; gathering = g'; receiver = r })
-    go (not_read w says f) =
-        unread d g text w is (arrives session id c before d (Some (Whole text, g)) st ok e) says (ap (λ x. Err x) f) stays
-    go (bad_change_of v base says new held none f) =
-        bad_change d g text v base is (arrives session id c before d (Some (Whole text, g)) st ok e) says
-        (sym (ap (λ (x : ClientView). step_for x.receiver v.old v.new v.floor) st) ∙ new)
-        (sym (ap (λ (x : ClientView). state_at v.old (pairs x.receiver)) st) ∙ held)
-        (subst (λ (x : ClientView). applied_by x.version base v.change ≡ None) st none) (ap (λ x. Err x) f) stays
+    go : NotDelivered v.kept.version text v.kept.receiver fault
+        → Hears v bytes now (Err fault) (keeping v (record v.kept { version = version; acts = acts; gathering = g'; receiver = r }))
+    go (not_read w says f) = unread d g text w is (ok ∙ ap arriving_gathered e) says (ap (λ x. Err x) f) stays
+    go (bad_change_of u base says new held none f) =
+        bad_change d g text u base is (ok ∙ ap arriving_gathered e) says new held none (ap (λ x. Err x) f) stays
     go (wants_memory f) = no_memory d is (ap (λ x. Err x) f) stays
 
-pub is_sent_to : (session id : ℕ) (c : ClientOf) (bytes : List ℕ) (now : ℕ) (before : ClientView) (d : DatagramValue) (h : Heard)
-    (text : List ℕ) (g : Gathering) (answer : Step) (newer : Bool) (version : Version) (acts : Typing) (r : Receiving Screenshot)
-    (owed : Option ℕ) (moment : ℕ)
-    → Stands before session id c → IsTextOf bytes d → Admits before d → gather before.gathering (fragment_of d) ≡ Some (Whole text, g)
-    → Delivered before.version text before.acts before.receiver answer newer acts r → hearing_in h ≡ hearing_of answer
-    → version ≡ before.version
-    → owed ≡ cond newer (owed_from before.owed moment) before.owed → moment ≡ max now before.clock
-    → Hears session id c bytes now (Ok h)
-    (record before { version = version; acts = acts; gathering = g; receiver = r; owed = owed; clock = moment })
-is_sent_to session id c bytes now before d h text g answer newer version acts r owed moment st is ok e t how same_v owes m =
-    whole d h g text t.value r is (arrives session id c before d (Some (Whole text, g)) st ok e) t.says
-    (subst (λ (v : ClientView). Delivers (applied_by v.version) v.receiver (update_in t.value) r) st t.delivers) refl
-    (how ∙ ap hearing_of (t.step ∙ ap (λ (v : ClientView). step_for v.receiver t.value.old t.value.new t.value.floor) st))
-    (λ i. record (st i) {
-      version = (same_v ∙ ap (λ (v : ClientView). v.version) st) i;
-      acts = (t.acts ∙ ap (λ (v : ClientView). acked_to v.acts t.value.acked) st) i;
+pub is_sent_to : (v : ClientView) (bytes : List ℕ) (now : ℕ) (d : DatagramValue) (h : Heard) (text : List ℕ) (g : Gathering) (answer : Step)
+    (newer : Bool) (version : Version) (acts : Typing) (r : Receiving Screenshot) (owed : Option ℕ) (moment : ℕ)
+    → IsTextOf bytes d → Admits v d → gather v.kept.gathering (fragment_of d) ≡ Some (Whole text, g)
+    → Delivered v.kept.version text v.kept.acts v.kept.receiver answer newer acts r → hearing_in h ≡ hearing_of answer
+    → version ≡ v.kept.version
+    → owed ≡ cond newer (owed_from v.kept.owed moment) v.kept.owed → moment ≡ moment_of v.kept now
+    → Hears v bytes now (Ok h)
+    (keeping v (record v.kept { version = version; acts = acts; gathering = g; receiver = r; owed = owed; clock = moment }))
+is_sent_to v bytes now d h text g answer newer version acts r owed moment is ok e t how same_v owes m =
+    whole d h g text t.value r is (ok ∙ ap arriving_gathered e) t.says t.delivers refl (how ∙ ap hearing_of t.step)
+    (λ i. keeping v (record v.kept {
+      version = same_v i;
+      acts = t.acts i;
       gathering = g;
       receiver = r;
-      owed = (owes ∙ (λ j. cond (t.newer j) (owed_from ((st j).owed) (at j)) ((st j).owed))) i;
-      clock = at i;
-    })
-  where
-    at : moment ≡ moment_of c now
-    at = m ∙ ap (λ (v : ClientView). max now v.clock) st
+      owed = (owes ∙ (λ j. cond (t.newer j) (owed_from v.kept.owed (m j)) v.kept.owed)) i;
+      clock = m i;
+    }))

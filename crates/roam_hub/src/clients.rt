@@ -10,14 +10,14 @@ ghost use Rattle.roam_screens.specs.Shown.{shown_by};
 ghost use Rattle.roam_wire.specs.Gatherers.{gather, fragment_of};
 ghost use Rattle.roam_wire.specs.declared.versions.Version.TheVariants.{One, Two};
 ghost use Rattle.roam_world.specs.Moments.{is_spent};
-ghost use Rattle.roam_world.specs.Sendings.{is_client_due, last_waiting};
-ghost use Rattle.roam_world.specs.Clients.{Client as ClientOf, moment_of, new_client, shown_number, shown_screen};
+ghost use Rattle.roam_world.specs.Sendings.{is_client_due, is_client_spent, last_waiting, datagrams_from};
+ghost use Rattle.roam_world.specs.Clients.{Kept, moment_of, new_client};
 ghost use Rattle.roam_world.specs.Texts.{kind_from, is_to_server};
 ghost use Rattle.roam_world.specs.ClientArrivals.{arriving, arriving_gathered, hearing_of};
 ghost use Rattle.roam_world.specs.Arrival.{turned_away};
 ghost use Rattle.roam_hub.specs.Ends.{version_in, receiving_in};
 ghost use Rattle.roam_hub.specs.Waits.{has_come, PassesFrom};
-ghost use Rattle.roam_hub.specs.Clients.{Stands, Types, TypesAll, Delivered, NotDelivered, Hears, Sends, bare, datagrams_by, hearing_in, is_view_spent};
+ghost use Rattle.roam_hub.specs.Clients.{Stands, Types, TypesAll, Delivered, NotDelivered, Hears, Sends, hearing_in};
 
 use crate::ends::AnyReceiver;
 use crate::moments::{
@@ -84,17 +84,19 @@ impl Model for Client {
     ghost view = { λ c. record {
       session = c.session;
       id = c.id;
-      version = version_in c.receiver;
-      watches = c.watches;
-      acts = c.acts;
-      gathering = c.gatherer.current;
-      receiver = receiving_in c.receiver;
-      sent_at = c.sent_at;
-      sent_act = c.sent_act;
-      owed = c.owed;
-      clock = c.clock;
-      datagrams = c.datagrams;
-      instructions = c.instructions;
+      kept = record {
+        version = version_in c.receiver;
+        watches = c.watches;
+        acts = c.acts;
+        gathering = c.gatherer.current;
+        receiver = receiving_in c.receiver;
+        sent_at = c.sent_at;
+        sent_act = c.sent_act;
+        owed = c.owed;
+        clock = c.clock;
+        datagrams = c.datagrams;
+        instructions = c.instructions;
+      };
     } };
 
     ghost invariant = { λ c. All IsAct c.acts.acts × (c.datagrams < number_limit) × (c.instructions < number_limit)
@@ -146,10 +148,10 @@ fn is_to_client(kind: Kind) -> bool
 
 // Whether a datagram is for a start of this id in this session, and of its version.
 fn admit(session: u64, id: u64, version: Version, datagram: &Datagram) -> Result<(), Fault>
-    ensures ok { OnOk result ((c : ClientOf) → c.version ≡ version → arriving session id c (datagram_value datagram.now)
-        ≡ arriving_gathered (gather c.gathering (fragment_of (datagram_value datagram.now)))) }
-    ensures err { IfErr result (λ fault. (c : ClientOf) → c.version ≡ version
-        → arriving session id c (datagram_value datagram.now) ≡ turned_away fault) }
+    ensures ok { OnOk result ((k : Kept) → k.version ≡ version → arriving session id k (datagram_value datagram.now)
+        ≡ arriving_gathered (gather k.gathering (fragment_of (datagram_value datagram.now)))) }
+    ensures err { IfErr result (λ fault. (k : Kept) → k.version ≡ version
+        → arriving session id k (datagram_value datagram.now) ≡ turned_away fault) }
 {
     if !is_to_client(datagram.kind) {
         return Err(Fault::BadDatagram(Reason::Kind));
@@ -262,7 +264,7 @@ impl Client {
     /// its number would be 2^62, `OutOfMemory`; a refusal leaves the start as it was.
     pub fn typed(&mut self, act: Act) -> Result<(), Fault>
         requires in_range { IsInRange act }
-        ensures typed { (session id : ℕ) (c : ClientOf) → Stands self.old session id c → Types session id c act result self.new }
+        ensures typed { Types self.old act result self.new }
         ensures err { OnErr result (self.new ≡ self.old) }
     {
         if self.watches {
@@ -277,9 +279,9 @@ impl Client {
     /// start as it was.
     pub fn typed_all(&mut self, acts: &[Act]) -> Result<(), Fault>
         requires in_range { All IsInRange acts.now }
-        ensures typed { (session id : ℕ) (c : ClientOf) → Stands self.old session id c → TypesAll session id c acts.now result self.new }
+        ensures typed { TypesAll self.old acts.now result self.new }
         // What is shown stays.
-        ensures receiver { self.new.receiver ≡ self.old.receiver }
+        ensures receiver { self.new.kept.receiver ≡ self.old.kept.receiver }
         ensures err { OnErr result (self.new ≡ self.old) }
     {
         if self.watches {
@@ -291,7 +293,7 @@ impl Client {
 
     /// How many acts that were typed here aren't acknowledged, at most 1,024. It takes no memory.
     pub fn unacknowledged(&self) -> usize
-        ensures count { (session id : ℕ) (c : ClientOf) → Stands self.now session id c → result ≡ length c.acts.acts }
+        ensures count { result ≡ length self.now.kept.acts.acts }
         ensures most { result ≤ most_unacknowledged }
     {
         self.acts.unacknowledged()
@@ -299,14 +301,14 @@ impl Client {
 
     /// How many acts that were typed here are acknowledged: the number of the last of them. It takes no memory.
     pub fn acknowledged(&self) -> u64
-        ensures acknowledged { result ≡ self.now.acts.acked }
+        ensures acknowledged { result ≡ self.now.kept.acts.acked }
     {
         self.acts.waiting().0 - 1
     }
 
     /// How many acts were typed here in all: the number of the last of them. It takes no memory.
     pub fn typed_count(&self) -> u64
-        ensures count { result ≡ last_number self.now.acts }
+        ensures count { result ≡ last_number self.now.kept.acts }
     {
         self.acts.waiting().0 - 1 + self.acts.unacknowledged() as u64
     }
@@ -315,8 +317,7 @@ impl Client {
     /// `OtherSession`; `OtherClient`; `BadDatagram` for one of the other version, and for a fragment or an instruction that is none;
     /// `BadChange`; `OutOfMemory`. A refusal leaves the start as it was.
     pub fn datagram(&mut self, alloc: Global, bytes: &[u8], now: u64) -> Result<Heard, Fault>
-        ensures heard { (session id : ℕ) (c : ClientOf) → Stands self.old session id c
-            → Hears session id c bytes.now now result self.new }
+        ensures heard { Hears self.old bytes.now now result self.new }
         ensures err { OnErr result (self.new ≡ self.old) }
     {
         let datagram = read_datagram(alloc, bytes)?;
@@ -349,7 +350,7 @@ impl Client {
 
     // The number of the last act that would be sent.
     fn last_waiting(&self) -> u64
-        ensures last { result ≡ last_waiting (bare self.now) }
+        ensures last { result ≡ last_waiting self.now.kept }
     {
         let (first, acts) = self.acts.waiting();
         first - 1 + acts.len() as u64
@@ -357,7 +358,7 @@ impl Client {
 
     // Whether something is to be sent.
     fn is_due(&self, now: u64) -> bool
-        ensures due { result ≡ is_client_due (bare self.now) now }
+        ensures due { result ≡ is_client_due self.now.kept now }
     {
         let Some(since) = self.sent_at else {
             return true;
@@ -371,7 +372,7 @@ impl Client {
 
     // The moment from which on something is to be sent.
     fn due_from(&self) -> Option<u64>
-        ensures from { PassesFrom result (is_client_due (bare self.now)) }
+        ensures from { PassesFrom result (is_client_due self.now.kept) }
     {
         let Some(since) = self.sent_at else {
             return Some(0);
@@ -392,21 +393,21 @@ impl Client {
     /// at each one before it, or, where that is earlier, at the greatest moment so far, nothing is due; at it something is. It takes no
     /// memory.
     pub fn next_due(&self) -> Option<u64>
-        ensures before { (session id : ℕ) (c : ClientOf) → Stands self.now session id c → (now : ℕ) → now < 2 ^ 64
-            → has_come result now ≡ false → is_client_due c (moment_of c now) ≡ false }
-        ensures at { (session id : ℕ) (c : ClientOf) → Stands self.now session id c
-            → IfSome result (λ due. is_client_due c (moment_of c due) ≡ true) }
+        ensures before { (now : ℕ) → now < 2 ^ 64 → has_come result now ≡ false
+            → is_client_due self.now.kept (moment_of self.now.kept now) ≡ false }
+        ensures at { IfSome result (λ due. is_client_due self.now.kept (moment_of self.now.kept due) ≡ true) }
     {
         by_clock(self.due_from(), self.clock)
     }
 
     // The texts of the datagrams of the instruction that would be sent.
     fn instruction(&self, alloc: Global) -> Result<Vec<Vec<u8>>, Fault>
-        ensures written { IfOk result (λ all. texts_of all.items ≡ map datagram_text (datagrams_by self.now)) }
-        ensures fit { OnOk result (is_view_spent self.now ≡ false) }
+        ensures written { IfOk result (λ all. texts_of all.items
+            ≡ map datagram_text (datagrams_from self.now.session self.now.id self.now.kept)) }
+        ensures fit { OnOk result (is_client_spent self.now.kept ≡ false) }
         ensures fault { IfErr result (λ fault. (fault ≡ Fault.OutOfMemory)
-            ⊎ ((fault ≡ Fault.Spent) × (is_view_spent self.now ≡ true))) }
-        ensures memory { IsErrOf result Fault.OutOfMemory → is_spent (self.now.acts.acked + 1) ≡ false }
+            ⊎ ((fault ≡ Fault.Spent) × (is_client_spent self.now.kept ≡ true))) }
+        ensures memory { IsErrOf result Fault.OutOfMemory → is_spent (self.now.kept.acts.acked + 1) ≡ false }
     {
         let (first, acts) = self.acts.waiting();
         if first >= NUMBER_LIMIT {
@@ -432,7 +433,7 @@ impl Client {
     /// Answers the texts of the datagrams to send at a moment, in their order; none where nothing is due. `Spent` exactly where something
     /// is due and a number that it needs would be 2^62; `OutOfMemory`. A refusal leaves the start as it was.
     pub fn tick(&mut self, alloc: Global, now: u64) -> Result<Vec<Vec<u8>>, Fault>
-        ensures sent { (session id : ℕ) (c : ClientOf) → Stands self.old session id c → Sends session id c now result self.new }
+        ensures sent { Sends self.old now result self.new }
         ensures err { OnErr result (self.new ≡ self.old) }
     {
         let moment = now.max(self.clock);
@@ -452,15 +453,14 @@ impl Client {
 
     /// Whether every act that was typed here is acknowledged. It takes no memory.
     pub fn is_settled(&self) -> bool
-        ensures settled { (session id : ℕ) (c : ClientOf) → Stands self.now session id c → (IsTrue result ↔ (c.acts.acts ≡ [])) }
+        ensures settled { IsTrue result ↔ (self.now.kept.acts.acts ≡ []) }
     {
         self.acts.waiting().1.is_empty()
     }
 
     /// The number and the screen that the start shows. It takes no memory.
     pub fn shown(&self) -> (u64, Shown<'_>)
-        ensures shown { (session id : ℕ) (c : ClientOf) → Stands self.now session id c
-            → (result.0 ≡ shown_number c) × (shown_by result.1 ≡ shown_screen c) }
+        ensures shown { (result.0 ≡ self.now.kept.receiver.newest.number) × (shown_by result.1 ≡ self.now.kept.receiver.newest.state) }
     {
         self.receiver.newest()
     }

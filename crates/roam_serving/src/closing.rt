@@ -1,8 +1,7 @@
 //! The server's own client start, which closes a pane where a program asks for it that follows the panes.
 ghost use Rattle.std.specs.Prelude.{◌≡◌, ◌≤◌, ℕ, true, length, None, Some, IfSome, IsTrue, ◌↔◌, OnOk, OnErr};
 ghost use Rattle.roam_pane_list.specs.Closes.{IsPane};
-ghost use Rattle.roam_world.specs.Clients.{Client as ClientOf};
-ghost use Rattle.roam_hub.specs.Clients.{Stands, TypesAll};
+ghost use Rattle.roam_hub.specs.Clients.{TypesAll};
 ghost use Rattle.roam_serving.specs.Closing.{IsThere, closing_acts};
 
 use roam_acts::Act;
@@ -50,8 +49,7 @@ fn is_there(panes: &PaneList, pane: u8, life: u64) -> bool
 
 // Types the acts that close a pane and give the focus to another: they stand in one instruction. `NoPane` where one is none.
 fn type_close(client: &mut Client, pane: u8, after: Option<u8>) -> Result<(), Fault>
-    ensures typed { OnOk result ((session id : ℕ) (c : ClientOf) → Stands client.old session id c
-        → TypesAll session id c (closing_acts pane after) result client.new) }
+    ensures typed { OnOk result (TypesAll client.old (closing_acts pane after) result client.new) }
     ensures err { OnErr result (client.new ≡ client.old) }
 {
     if !is_pane(pane) {

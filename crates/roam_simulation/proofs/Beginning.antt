@@ -52,14 +52,15 @@ shows_session v w st screens acts =
       acts = acts;
     }
   where
-    made : (c : ClientView) (o : Option ℕ) → Fills w.server.session w.clients (Some c) o → c.receiver.newest.number ≤ length w.server.cuts
+    made : (c : ClientView) (o : Option ℕ) → Fills w.server.session w.clients (Some c) o
+        → c.kept.receiver.newest.number ≤ length w.server.cuts
     made c None f = absurd f
     made c (Some id) f =
-        subst (λ (x : ClientView). x.receiver.newest.number ≤ length w.server.cuts) (sym f) (screens.made id)
+        subst (λ (x : ClientView). x.kept.receiver.newest.number ≤ length w.server.cuts) (sym f) (screens.made id)
 
     same : (c : ClientView) (o : Option ℕ) → Fills w.server.session w.clients (Some c) o
-        → c.receiver.newest.state ≡ screen c.version w.server.size w.server.log w.server.cuts c.receiver.newest.number
+        → c.kept.receiver.newest.state ≡ screen c.kept.version w.server.size w.server.log w.server.cuts c.kept.receiver.newest.number
     same c None f = absurd f
     same c (Some id) f =
-        subst (λ (x : ClientView). x.receiver.newest.state
-        ≡ screen x.version w.server.size w.server.log w.server.cuts x.receiver.newest.number) (sym f) (screens.same id)
+        subst (λ (x : ClientView). x.kept.receiver.newest.state
+        ≡ screen x.kept.version w.server.size w.server.log w.server.cuts x.kept.receiver.newest.number) (sym f) (screens.same id)

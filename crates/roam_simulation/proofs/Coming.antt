@@ -1,5 +1,5 @@
 -- A datagram of those that were sent comes to the server, or to a start.
-use Rattle.std.proofs.Common.{◌≡◌, ℕ, ◌-◌, ◌<◌, List, length, set, Option, Some, None, Bool, true, false, refl, sym, ap, ◌∙◌, cond}
+use Rattle.std.proofs.Common.{◌≡◌, ℕ, ◌-◌, ◌<◌, List, length, set, Option, Some, None, Bool, true, false, refl, sym, ap, ◌∙◌, cond, subst}
 use Rattle.std.specs.Prelude.{Result, Ok, Err, map, nat_eq, slice_get}
 use Rattle.std.specs.Option.{option_map}
 use Rattle.std.proofs.lemmas.Option.{slice_get-map}
@@ -8,15 +8,15 @@ use Rattle.roam_wire.specs.Datagrams.{DatagramValue, IsDatagram, datagram_text}
 use Rattle.roam_world.specs.Texts.{Address}
 use Rattle.roam_world.specs.Servers.{moment}
 use Rattle.roam_world.specs.ServerArrivals.{after_note, after_acts, new_acts, room_for}
-use Rattle.roam_world.specs.Clients.{Client, moment_of}
+use Rattle.roam_world.specs.Clients.{moment_of}
 use Rattle.roam_world.specs.ClientArrivals.{Hearing, after_fragment, after_whole}
 use Rattle.roam_world.specs.Limits.{Limits}
-use Rattle.roam_world.specs.Worlds.{World, ToServer, ToClient, Reply, Taken, Heard, Failed, Stopped, datagram_at, with_server, with_client}
+use Rattle.roam_world.specs.Worlds.{World, ToServer, ToClient, Reply, Taken, Heard, Failed, Stopped, datagram_at, with_server, with_kept}
 use Rattle.roam_world.specs.Steps.{refused, fragment, unread, all_taken, no_room, no_memory_at_act, no_memory, bad_change, whole}
 use Rattle.roam_world.proofs.Runs.{was_sent}
 use Rattle.roam_hub.specs.declared.addresses.Stop.{Stop}
 use Rattle.roam_hub.specs.declared.clients.Heard.{Heard as HeardAs}
-use Rattle.roam_hub.specs.Clients.{ClientView, Stands as ClientStands, hearing_in, IsTextOf, IsNoDatagram, Hears}
+use Rattle.roam_hub.specs.Clients.{ClientView, view_of, hearing_in, IsTextOf, IsNoDatagram, Hears}
 use Rattle.roam_hub.specs.Clients as client
 use Rattle.roam_hub.specs.Servers.{ServerView, Comes}
 use Rattle.roam_hub.specs.Servers as server
@@ -151,9 +151,10 @@ heard_by (Err fault) = Failed fault
 
 pub steps_heard : (v : WorldView) (w : World) (slot n now : ℕ) (bytes : List ℕ) (result : Result HeardAs Fault) (c c' : ClientView)
     → Stands v w → Limits w → OneText → Some bytes ≡ text_at v.sent n → slot < length v.slots → start_in v.slots slot ≡ Some c
-    → ((session id : ℕ) (k : Client) → ClientStands c session id k → Hears session id k bytes now result c')
+    → Hears c bytes now result c'
     → Steps w (ToClient slot n now) (heard_by result) (record v { slots = set v.slots slot (Some c') })
-steps_heard v w slot n now bytes result c c' st l one known lt at hears = go (hears w.server.session i.id (w.clients i.id) i.stands)
+steps_heard v w slot n now bytes result c c' st l one known lt at hears =
+    go (subst (λ (x : ClientView). Hears x bytes now result c') i.stands hears)
   where
     s : IsSent w n bytes
     s = is_sent v w n bytes st known
@@ -164,7 +165,7 @@ steps_heard v w slot n now bytes result c c' st l one known lt at hears = go (he
     i : Sits w slot c
     i = sits v w slot c st at
 
-    go : Hears w.server.session i.id (w.clients i.id) bytes now result c'
+    go : Hears (view_of w.server.session i.id (w.clients i.id)) bytes now result c'
         → Steps w (ToClient slot n now) (heard_by result) (record v { slots = set v.slots slot (Some c') })
     go (client.no_datagram why none e stands) = absurd (readable w n bytes why l s none)
     go (client.refused d fault text a e stands) =
@@ -176,9 +177,9 @@ steps_heard v w slot n now bytes result c c' st l one known lt at hears = go (he
         }
     go (client.fragment d h g text a e stands) =
         record {
-          left = with_client w i.id (after_fragment (w.clients i.id) (moment_of (w.clients i.id) now) g);
+          left = with_kept w i.id (after_fragment (w.clients i.id).kept (moment_of (w.clients i.id).kept now) g);
           step = fragment i.id d (hearing_in h) g i.at (read d text) a (ap heard_by e) refl;
-          stands = stands_put v w slot c c' (after_fragment (w.clients i.id) (moment_of (w.clients i.id) now) g) st lt i i.made stands;
+          stands = stands_put v w slot c c' _ st lt i i.made stands;
           memory = λ want. (i.id, i.at, (s.datagram, s.at));
         }
     go (client.unread d g said why text a says e stands) =
@@ -197,9 +198,9 @@ steps_heard v w slot n now bytes result c c' st l one known lt at hears = go (he
         }
     go (client.whole d h g said x r text a says told e is stands) =
         record {
-          left = with_client w i.id (after_whole (w.clients i.id) (moment_of (w.clients i.id) now) g r x);
+          left = with_kept w i.id (after_whole (w.clients i.id).kept (moment_of (w.clients i.id).kept now) g r x);
           step = whole i.id d g said x r i.at (read d text) a says told (ap heard_by e ∙ ap (λ (y : Hearing). Heard y) is) refl;
-          stands = stands_put v w slot c c' (after_whole (w.clients i.id) (moment_of (w.clients i.id) now) g r x) st lt i i.made stands;
+          stands = stands_put v w slot c c' _ st lt i i.made stands;
           memory = λ want. (i.id, i.at, (s.datagram, s.at));
         }
     go (client.no_memory x is e stands) =

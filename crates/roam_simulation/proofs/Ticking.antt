@@ -1,5 +1,5 @@
 -- Ticks: what they send is added to all that was sent.
-use Rattle.std.proofs.Common.{◌≡◌, ℕ, ◌+◌, ◌<◌, ◌^◌, List, [], ◌∷◌, ◌++◌, length, set, Some, None, Bool, true, false, refl, sym, ap, ◌∙◌, arith, length-append, append-nil}
+use Rattle.std.proofs.Common.{◌≡◌, ℕ, ◌+◌, ◌<◌, ◌^◌, List, [], ◌∷◌, ◌++◌, length, set, Some, None, Bool, true, false, refl, sym, ap, ◌∙◌, arith, length-append, append-nil, subst}
 use Rattle.std.specs.Prelude.{Ok, Err, Vec, map, ◌&&◌, ◌||◌}
 use Rattle.std.specs.List.{list_any}
 use Rattle.std.specs.declared.alloc.Global.{Global}
@@ -15,14 +15,14 @@ use Rattle.roam_world.specs.Numbers.{acts_of}
 use Rattle.roam_world.specs.Texts.{Address}
 use Rattle.roam_world.specs.Servers.{moment}
 use Rattle.roam_world.specs.Ticks.{Parcel, sent_by, sends, number_after, screen_to, is_tick_spent}
-use Rattle.roam_world.specs.Clients.{Client, moment_of}
-use Rattle.roam_world.specs.Sendings.{datagrams_from, after_sending, after_quiet}
-use Rattle.roam_world.specs.Worlds.{World, ServerTick, ClientTick, Sent, Refused, Failed, with_client, after_server_tick, after_client_sent}
+use Rattle.roam_world.specs.Clients.{moment_of}
+use Rattle.roam_world.specs.Sendings.{datagrams_from, after_quiet}
+use Rattle.roam_world.specs.Worlds.{World, ServerTick, ClientTick, Sent, Refused, Failed, with_kept, after_server_tick, after_client_sent}
 use Rattle.roam_world.specs.Steps.{spent, ticked, no_memory, empty_slot, quiet, sent}
 use Rattle.roam_world.specs.Laws.{TakesActsInOrder}
 use Rattle.roam_world.specs.Limits.{Limits}
 use Rattle.roam_hub.specs.declared.addresses.Addr.{Addr}
-use Rattle.roam_hub.specs.Clients.{ClientView, Stands as ClientStands, Sends, quiet as sends_quiet, spent as sends_spent, sent as sends_sent, no_memory as sends_no_memory}
+use Rattle.roam_hub.specs.Clients.{ClientView, view_of, Sends, quiet as sends_quiet, spent as sends_spent, sent as sends_sent, no_memory as sends_no_memory}
 use Rattle.roam_hub.specs.Servers.{ServerView, Ticks, spent as ticks_spent, ticked as ticks_ticked, no_memory as ticks_no_memory, is_ack_spent, is_number_spent, parcels_of, parcel_text}
 use Rattle.roam_simulation.specs.declared.networks.Batch.TheVariants.{FromServer, FromClient}
 use Rattle.roam_simulation.specs.Networks.{texts_in}
@@ -166,14 +166,15 @@ steps_no_start v w slot now st at =
 
 pub steps_not_sent : (v : WorldView) (w : World) (slot now : ℕ) (fault : Fault) (c c' : ClientView) → Stands v w → slot < length v.slots
     → start_in v.slots slot ≡ Some c
-    → ((session id : ℕ) (k : Client) → ClientStands c session id k → Sends session id k now (Err fault) c')
+    → Sends c now (Err fault) c'
     → Steps w (ClientTick slot now) (Failed fault) (record v { slots = set v.slots slot (Some c') })
-steps_not_sent v w slot now fault c c' st lt at sends = go (sends w.server.session s.id (w.clients s.id) s.stands)
+steps_not_sent v w slot now fault c c' st lt at sends =
+    go (subst (λ (x : ClientView). Sends x now (Err fault) c') s.stands sends)
   where
     s : Sits w slot c
     s = sits v w slot c st at
 
-    go : Sends w.server.session s.id (w.clients s.id) now (Err fault) c'
+    go : Sends (view_of w.server.session s.id (w.clients s.id)) now (Err fault) c'
         → Steps w (ClientTick slot now) (Failed fault) (record v { slots = set v.slots slot (Some c') })
     go (sends_quiet none d e z stands) = absurd (cc)
     go (sends_spent d p e stands) =
@@ -194,11 +195,11 @@ steps_not_sent v w slot now fault c c' st lt at sends = go (sends w.server.sessi
 
 pub steps_sent : (v : WorldView) (w : World) (slot now : ℕ) (all : Vec (Vec ℕ Global) Global) (c c' : ClientView) (texts : List (List ℕ))
     (first count : ℕ) → Stands v w → slot < length v.slots → start_in v.slots slot ≡ Some c
-    → ((session id : ℕ) (k : Client) → ClientStands c session id k → Sends session id k now (Ok all) c')
+    → Sends c now (Ok all) c'
     → texts ≡ v.sent ++ texts_in (FromClient all) → first ≡ length v.sent + 1 → count ≡ length (texts_in (FromClient all))
     → Steps w (ClientTick slot now) (Sent first count) (record v { slots = set v.slots slot (Some c'); sent = texts })
 steps_sent v w slot now all c c' texts first count st lt at sends more is many =
-    go (sends w.server.session s.id (w.clients s.id) s.stands)
+    go (subst (λ (x : ClientView). Sends x now (Ok all) c') s.stands sends)
   where
     s : Sits w slot c
     s = sits v w slot c st at
@@ -206,19 +207,18 @@ steps_sent v w slot now all c c' texts first count st lt at sends more is many =
     at_once : first ≡ length w.sent + 1
     at_once = counted w v.sent first st.sent is
 
-    go : Sends w.server.session s.id (w.clients s.id) now (Ok all) c'
+    go : Sends (view_of w.server.session s.id (w.clients s.id)) now (Ok all) c'
         → Steps w (ClientTick slot now) (Sent first count) (record v { slots = set v.slots slot (Some c'); sent = texts })
     go (sends_quiet none d e z stands) =
         record {
-          left = with_client w s.id (after_quiet (w.clients s.id) (moment_of (w.clients s.id) now));
+          left = with_kept w s.id (after_quiet (w.clients s.id).kept (moment_of (w.clients s.id).kept now));
           step = quiet s.id s.at d (λ i. Sent (at_once i) (no_more i)) refl;
           stands =
               record {
                 session = st.session;
                 server = st.server;
                 starts =
-                    starts_put w.server.session v.slots v.used w.clients w.slots slot s.id c'
-                    (after_quiet (w.clients s.id) (moment_of (w.clients s.id) now)) st.starts lt s.at s.made stands;
+                    starts_put w.server.session v.slots v.used w.clients w.slots slot s.id c' _ st.starts lt s.at s.made stands;
                 sent =
                     more ∙ ap (λ (xs : List (List ℕ)). v.sent ++ xs) none_sent ∙ append-nil v.sent ∙ st.sent;
               };
@@ -233,25 +233,24 @@ steps_sent v w slot now all c c' texts first count st lt at sends more is many =
     go (sends_spent d p e stands) = absurd (cc)
     go (sends_sent every d p e t stands) =
         record {
-          left = after_client_sent w s.id (moment_of (w.clients s.id) now);
+          left = after_client_sent w s.id (moment_of (w.clients s.id).kept now);
           step = sent s.id s.at d p (λ i. Sent (at_once i) (size i)) refl;
           stands =
               record {
                 session = st.session;
                 server = st.server;
                 starts =
-                    starts_put w.server.session v.slots v.used w.clients w.slots slot s.id c'
-                    (after_sending (w.clients s.id) (moment_of (w.clients s.id) now)) st.starts lt s.at s.made stands;
+                    starts_put w.server.session v.slots v.used w.clients w.slots slot s.id c' _ st.starts lt s.at s.made stands;
                 sent =
-                    added w (datagrams_from w.server.session s.id (w.clients s.id)) v.sent texts (texts_in (FromClient all)) st.sent more
-                    told;
+                    added w (datagrams_from w.server.session s.id (w.clients s.id).kept) v.sent texts (texts_in (FromClient all)) st.sent
+                    more told;
               };
           memory = λ want. (s.id, s.at);
         }
       where
-        told : texts_in (FromClient all) ≡ map datagram_text (datagrams_from w.server.session s.id (w.clients s.id))
+        told : texts_in (FromClient all) ≡ map datagram_text (datagrams_from w.server.session s.id (w.clients s.id).kept)
         told = let same : every ≡ all = cc in sym (ap (λ (x : Vec (Vec ℕ Global) Global). texts_of x.items) same) ∙ t
 
-        size : count ≡ length (datagrams_from w.server.session s.id (w.clients s.id))
-        size = many ∙ lengthened (datagrams_from w.server.session s.id (w.clients s.id)) (texts_in (FromClient all)) told
+        size : count ≡ length (datagrams_from w.server.session s.id (w.clients s.id).kept)
+        size = many ∙ lengthened (datagrams_from w.server.session s.id (w.clients s.id).kept) (texts_in (FromClient all)) told
     go (sends_no_memory due free e stands) = absurd (cc)

@@ -3,24 +3,25 @@ use Rattle.std.proofs.Common.{◌≡◌, ℕ, ◌<◌, length, set, Some, None, 
 use Rattle.std.specs.Prelude.{Result}
 use Rattle.roam_cells.specs.declared.faults.Fault.{Fault}
 use Rattle.roam_acts.specs.declared.acts.Act.{Act}
-use Rattle.roam_world.specs.Clients.{Client, after_typed}
+use Rattle.roam_world.specs.Clients.{after_act}
 use Rattle.roam_world.specs.Worlds.{World, Typed, Refused, with_client}
 use Rattle.roam_world.specs.Steps.{empty_slot, watching, full, spent, typed, no_memory}
-use Rattle.roam_hub.specs.Clients.{ClientView, Stands as ClientStands, Types, watching as types_watching, full as types_full, spent as types_spent, typed as types_typed, no_memory as types_no_memory}
+use Rattle.roam_hub.specs.Clients.{ClientView, view_of, Types, watching as types_watching, full as types_full, spent as types_spent, typed as types_typed, no_memory as types_no_memory}
 use Rattle.roam_simulation.specs.Worlds.{IsWant, WorldView, start_in, Stands, Steps}
 use Rattle.roam_simulation.proofs.Inputs.{done_by}
 use Rattle.roam_simulation.proofs.Slots.{Sits, sits, vacant, stands_kept, stands_put}
 
 pub steps_typed : (v : WorldView) (w : World) (slot : ℕ) (act : Act) (result : Result (Unit {0}) Fault) (c c' : ClientView) → Stands v w
     → slot < length v.slots → start_in v.slots slot ≡ Some c
-    → ((session id : ℕ) (k : Client) → ClientStands c session id k → Types session id k act result c')
+    → Types c act result c'
     → Steps w (Typed slot act) (done_by result) (record v { slots = set v.slots slot (Some c') })
-steps_typed v w slot act result c c' st lt at types = go (types w.server.session s.id (w.clients s.id) s.stands)
+steps_typed v w slot act result c c' st lt at types =
+    go (subst (λ (x : ClientView). Types x act result c') s.stands types)
   where
     s : Sits w slot c
     s = sits v w slot c st at
 
-    go : Types w.server.session s.id (w.clients s.id) act result c'
+    go : Types (view_of w.server.session s.id (w.clients s.id)) act result c'
         → Steps w (Typed slot act) (done_by result) (record v { slots = set v.slots slot (Some c') })
     go (types_watching w' e stands) =
         record {
@@ -45,9 +46,9 @@ steps_typed v w slot act result c c' st lt at types = go (types w.server.session
         }
     go (types_typed n nf ns e stands) =
         record {
-          left = with_client w s.id (after_typed (w.clients s.id) act);
+          left = with_client w s.id (after_act (w.clients s.id) act);
           step = typed s.id s.at n nf ns (ap done_by e) refl;
-          stands = stands_put v w slot c c' (after_typed (w.clients s.id) act) st lt s s.made stands;
+          stands = stands_put v w slot c c' (after_act (w.clients s.id) act) st lt s s.made stands;
           memory = λ want. (s.id, s.at, n, nf, ns);
         }
     go (types_no_memory edits room low e stands) =

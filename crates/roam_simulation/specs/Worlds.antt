@@ -75,8 +75,8 @@ IsWant _ = ⊥
 abbrev pub MayWant : World → Event → Type 0
 MayWant w (PaneBytes pane bytes) = ⊥
 MayWant w (Typed slot act) =
-    (id : ℕ) × (w.slots slot ≡ Some id) × ((w.clients id).watches ≡ false) × (IsFull (w.clients id).acts → ⊥)
-    × (IsSpent (w.clients id).acts → ⊥)
+    (id : ℕ) × (w.slots slot ≡ Some id) × ((w.clients id).kept.watches ≡ false) × (IsFull (w.clients id).kept.acts → ⊥)
+    × (IsSpent (w.clients id).kept.acts → ⊥)
 MayWant w (ServerTick now) = Unit {0}
 MayWant w (ClientTick slot now) = (id : ℕ) × (w.slots slot ≡ Some id)
 MayWant w (ToServer k from now) = (d : DatagramValue) × (datagram_at w.sent k ≡ Some d)
@@ -95,9 +95,9 @@ pub record Steps (w : World) (e : Event) (r : Reply) (new : WorldView) : Type 0 
 -- Each start in a slot shows a number that was made, or 0, and exactly the screen of that number; and the acts of each start that were
 -- taken are the first of those typed there, each once and in order.
 pub record ShowsSession (v : WorldView) (w : World) : Type 0 where
-  pub made : (slot : ℕ) (c : ClientView) → start_in v.slots slot ≡ Some c → c.receiver.newest.number ≤ length w.server.cuts
+  pub made : (slot : ℕ) (c : ClientView) → start_in v.slots slot ≡ Some c → c.kept.receiver.newest.number ≤ length w.server.cuts
   pub same : (slot : ℕ) (c : ClientView) → start_in v.slots slot ≡ Some c
-      → c.receiver.newest.state ≡ screen c.version w.server.size w.server.log w.server.cuts c.receiver.newest.number
+      → c.kept.receiver.newest.state ≡ screen c.kept.version w.server.size w.server.log w.server.cuts c.kept.receiver.newest.number
   pub acts : TakesActsInOrder w
 
 -- a datagram to a client start isn't answered by a gap or a bad change

@@ -4,8 +4,7 @@ use Rattle.std.proofs.KnownBytes.{Consumes-nil, Consumes-trans}
 use Rattle.std.specs.Prelude.{◌≢◌, Option, Ok}
 use Rattle.std.specs.declared.alloc.Global.{Global}
 use Rattle.roam_acts.specs.declared.acts.Act.{Act}
-use Rattle.roam_world.specs.Clients.{Client}
-use Rattle.roam_hub.specs.Clients.{ClientView, Stands as ClientStands, TypesAll, after_typed_all}
+use Rattle.roam_hub.specs.Clients.{ClientView, TypesAll}
 use Rattle.roam_hub.specs.Clients.TypesAll.{watching, full, spent, typed as typed_now, no_memory}
 use Rattle.roam_typing.specs.Entries.{Says, acts_in}
 use Rattle.roam_typing.specs.declared.entries.Entry.{Entry}
@@ -20,7 +19,7 @@ use Rattle.roam_terminals.proofs.Standing.{first_is_ended}
 
 -- typing nothing leaves a start
 pub types_none : (client client' : ClientView) → client' ≡ client → Types [] client client'
-types_none client client' same = λ session id c stands. subst (λ v. ClientStands v session id c) (sym same) stands
+types_none client client' same = same
 
 -- one line more was taken
 pub takes_more : (lines : List (List ℕ)) (line : List ℕ) (entry : Entry) (w mid w' : Bool) (acts more : List Act) → TakesAll lines w mid acts
@@ -70,17 +69,12 @@ stands_taken entry kept kept' w w' acts log all (taken line first says watches t
 -- ---- the line that stands first
 
 -- acts that were typed all at once
-pub types_all : (acts : List Act) (client client' : ClientView)
-    → ((session id : ℕ) (c : Client) → ClientStands client session id c → TypesAll session id c acts (Ok tt) client')
-    → Types acts client client'
-types_all acts client client' h session id c stands = by (h session id c stands)
-  where
-    by : TypesAll session id c acts (Ok tt) client' → ClientStands client' session id (after_typed_all c acts)
-    by (watching w e s) = absurd cc
-    by (full w r e s) = absurd cc
-    by (spent w r e s) = absurd cc
-    by (typed_now w r n e s) = s
-    by (no_memory w r n some e s) = absurd cc
+pub types_all : (acts : List Act) (client client' : ClientView) → TypesAll client acts (Ok tt) client' → Types acts client client'
+types_all acts client client' (watching w e s) = absurd cc
+types_all acts client client' (full w r e s) = absurd cc
+types_all acts client client' (spent w r e s) = absurd cc
+types_all acts client client' (typed_now w r n e s) = s
+types_all acts client client' (no_memory w r n some e s) = absurd cc
 
 -- a word of the connection
 pub word_takes : (entry : Entry) (kept kept' : List ℕ) (w w' : Bool) (client : ClientView) → acts_in entry ≡ [] → w' ≡ watches_after entry w

@@ -50,7 +50,8 @@ pub record Turns {S : Type 0} (to : Addr) (old new : Terminal S) (client client'
   pub before : Option Noted
   pub after : Option Noted
   pub begins : (before ≡ old.outer) ⊎ (before ≡ None)
-  pub makes : Makes client_step (AttachTurn client'.receiver.newest.number client'.receiver.newest.state before after to None false)
+  pub makes : Makes client_step
+      (AttachTurn client'.kept.receiver.newest.number client'.kept.receiver.newest.state before after to None false)
       None None None None client client'
   pub ends : (new.outer ≡ after) ⊎ (new.outer ≡ None)
   pub led : Led (on_show old.over old.outer) (Some []) (on_show new.over new.outer) (Some new.waiting)
@@ -72,7 +73,8 @@ TurnsAll to (t ∷ ts) (t' ∷ ts') client client' =
 abbrev pub TurnsAlone : Addr → ClientView → ClientView → Type 0
 TurnsAlone to client client' =
     (outer outer' : Option Noted) × Makes client_step
-    (AttachTurn client'.receiver.newest.number client'.receiver.newest.state outer outer' to None false) None None None None client client'
+    (AttachTurn client'.kept.receiver.newest.number client'.kept.receiver.newest.state outer outer' to None false) None None None None client
+    client'
 
 -- A terminal was told of a silence or not, and some of what waited for it was written: what is noted of it stays, or nothing is; and
 -- nothing is where what is told there of silence is another than it was, as where it is over.

@@ -2,7 +2,7 @@
 use Rattle.std.specs.Prelude.{◌≡◌, ◌≢◌, ℕ, Bool, true, false, List, [], ◌∷◌, ◌++◌, Option}
 use Rattle.std.specs.Io.KnownBytes.{Consumes}
 use Rattle.roam_acts.specs.declared.acts.Act.{Act}
-use Rattle.roam_hub.specs.Clients.{ClientView, Stands as ClientStands, after_typed_all}
+use Rattle.roam_hub.specs.Clients.{ClientView, keeping, after_typed_all}
 use Rattle.roam_typing.specs.Entries.{Says, acts_in}
 use Rattle.roam_typing.specs.declared.entries.Entry.{Entry}
 use Rattle.roam_typing.specs.declared.entries.Entry.TheVariants.{Acts, Repaint, Watch, Guess, End}
@@ -38,7 +38,7 @@ pub record Stands (kept : List ℕ) (watches : Bool) (log : List ℕ) (typed : L
 
 -- these acts were typed at a start, in their order
 abbrev pub Types : List Act → ClientView → ClientView → Type 0
-Types acts old new = (session id : ℕ) (c : _) → ClientStands old session id c → ClientStands new session id (after_typed_all c acts)
+Types acts old new = new ≡ keeping old (after_typed_all old.kept acts)
 
 -- A terminal was heard: these bytes of its stream were read, and these acts typed: where it isn't let go, the next ones of its lines.
 pub record Hears (before after : Option (List ℕ)) (kept kept' : List ℕ) (watches watches' : Bool) (state' : State)

@@ -233,11 +233,11 @@ impl<S: Read + Write + Drop> Terminal<S> {
         to: Addr,
     )
         requires ready { (self.old.waiting ≡ []) × (painter.old.painting ≡ []) }
-        requires behind { IsBehind self.old.outer client.old.receiver.newest.number client.old.receiver.newest.state }
+        requires behind { IsBehind self.old.outer client.old.kept.receiver.newest.number client.old.kept.receiver.newest.state }
         ensures turns { Turns to self.old self.new client.old client.new }
-        ensures follows { Follows client.old.receiver.newest.number client.old.receiver.newest.state
-            client.new.receiver.newest.number client.new.receiver.newest.state }
-        ensures behind { IsBehind self.new.outer client.new.receiver.newest.number client.new.receiver.newest.state }
+        ensures follows { Follows client.old.kept.receiver.newest.number client.old.kept.receiver.newest.state
+            client.new.kept.receiver.newest.number client.new.kept.receiver.newest.state }
+        ensures behind { IsBehind self.new.outer client.new.kept.receiver.newest.number client.new.kept.receiver.newest.state }
         ensures painted { painter.new.painting ≡ [] }
     {
         let taken = self.take_back(alloc);

@@ -48,7 +48,7 @@ impl<S> Model for SharedStart<S> {
       is_ending = s.is_ending;
     } };
 
-    ghost invariant = { λ s. AreBehind s.all.items s.nobody s.client.receiver.newest.number s.client.receiver.newest.state };
+    ghost invariant = { λ s. AreBehind s.all.items s.nobody s.client.kept.receiver.newest.number s.client.kept.receiver.newest.state };
 }
 
 // Hears each terminal, and tells how long may be waited for more, and whether one asked for the end.
@@ -59,9 +59,9 @@ fn hear_all<S: Read + Write + Drop>(
 ) -> (u64, bool)
     ensures hears { HearsAll S.remaining all.old all.new client.old client.new }
     ensures len { length all.new ≡ length all.old }
-    ensures number { client.new.receiver ≡ client.old.receiver }
-    ensures behind { AreEachBehind all.old client.old.receiver.newest.number client.old.receiver.newest.state
-        → AreEachBehind all.new client.old.receiver.newest.number client.old.receiver.newest.state }
+    ensures number { client.new.kept.receiver ≡ client.old.kept.receiver }
+    ensures behind { AreEachBehind all.old client.old.kept.receiver.newest.number client.old.kept.receiver.newest.state
+        → AreEachBehind all.new client.old.kept.receiver.newest.number client.old.kept.receiver.newest.state }
 {
     let Some((first, others)) = all.split_first_mut() else {
         return (u64::MAX, false);
@@ -82,13 +82,13 @@ fn turn_all<S: Read + Write + Drop, P: Ports + Drop>(
     painter: &mut Painter<P>,
     to: Addr,
 ) -> bool
-    requires behind { AreEachBehind all.old client.old.receiver.newest.number client.old.receiver.newest.state }
+    requires behind { AreEachBehind all.old client.old.kept.receiver.newest.number client.old.kept.receiver.newest.state }
     requires painted { painter.old.painting ≡ [] }
     ensures turns { TurnsAll to all.old all.new client.old client.new }
     ensures len { length all.new ≡ length all.old }
-    ensures follows { Follows client.old.receiver.newest.number client.old.receiver.newest.state
-        client.new.receiver.newest.number client.new.receiver.newest.state }
-    ensures behind { AreEachBehind all.new client.new.receiver.newest.number client.new.receiver.newest.state }
+    ensures follows { Follows client.old.kept.receiver.newest.number client.old.kept.receiver.newest.state
+        client.new.kept.receiver.newest.number client.new.kept.receiver.newest.state }
+    ensures behind { AreEachBehind all.new client.new.kept.receiver.newest.number client.new.kept.receiver.newest.state }
     ensures painted { painter.new.painting ≡ [] }
     ensures none { result ≡ false → (client.new ≡ client.old) × (all.new ≡ all.old) }
 {

@@ -258,7 +258,7 @@ impl<S: Read + Write + Drop> Terminal<S> {
         requires in_range { All IsInRange acts.now }
         requires first { (line rest : List ℕ) × IsFirst self.old.lines.kept line rest }
         ensures takes { TypesLine acts.now self.old.lines.kept self.new.lines.kept self.old.watches client.old client.new }
-        ensures number { client.new.receiver ≡ client.old.receiver }
+        ensures number { client.new.kept.receiver ≡ client.old.kept.receiver }
         ensures others { self.new ≡ record self.old { lines = self.new.lines; guessing = self.new.guessing } }
     {
         if self.watches {
@@ -287,7 +287,7 @@ impl<S: Read + Write + Drop> Terminal<S> {
         ensures takes { (acts : List ActOf) × Types acts client.old client.new
             × Takes entry.now self.old.lines.kept self.new.lines.kept self.old.watches self.new.watches acts }
         ensures repaint { entry.now ≡ Entry.Repaint → self.new.outer ≡ None }
-        ensures number { client.new.receiver ≡ client.old.receiver }
+        ensures number { client.new.kept.receiver ≡ client.old.kept.receiver }
         ensures stream { self.new.stream ≡ self.old.stream }
         ensures outer { (self.new.outer ≡ self.old.outer) ⊎ (self.new.outer ≡ None) }
     {
@@ -327,7 +327,7 @@ impl<S: Read + Write + Drop> Terminal<S> {
     pub(crate) fn hear(&mut self, alloc: Global, client: &mut Client) -> Taking
         ensures hears { Hears (S.remaining self.old.stream) (S.remaining self.new.stream) self.old.lines.kept self.new.lines.kept
             self.old.watches self.new.watches self.new.state client.old client.new }
-        ensures number { client.new.receiver ≡ client.old.receiver }
+        ensures number { client.new.kept.receiver ≡ client.old.kept.receiver }
         ensures outer { (self.new.outer ≡ self.old.outer) ⊎ (self.new.outer ≡ None) }
     {
         self.read_line(alloc);
@@ -362,12 +362,12 @@ impl<S: Read + Write + Drop> Terminal<S> {
         to: Addr,
     )
         requires ready { (self.old.waiting ≡ []) × (painter.old.painting ≡ []) }
-        requires behind { IsBehind self.old.outer client.old.receiver.newest.number client.old.receiver.newest.state }
-        ensures turn { Makes client_step (AttachTurn client.new.receiver.newest.number client.new.receiver.newest.state
+        requires behind { IsBehind self.old.outer client.old.kept.receiver.newest.number client.old.kept.receiver.newest.state }
+        ensures turn { Makes client_step (AttachTurn client.new.kept.receiver.newest.number client.new.kept.receiver.newest.state
             self.old.outer self.new.outer to None false) None None None None client.old client.new }
-        ensures follows { Follows client.old.receiver.newest.number client.old.receiver.newest.state
-            client.new.receiver.newest.number client.new.receiver.newest.state }
-        ensures behind { IsBehind self.new.outer client.new.receiver.newest.number client.new.receiver.newest.state }
+        ensures follows { Follows client.old.kept.receiver.newest.number client.old.kept.receiver.newest.state
+            client.new.kept.receiver.newest.number client.new.kept.receiver.newest.state }
+        ensures behind { IsBehind self.new.outer client.new.kept.receiver.newest.number client.new.kept.receiver.newest.state }
         // What waits then is written whole, and leads the terminal from what was noted of it to what is noted now.
         ensures led { Led self.old.outer (Some []) self.new.outer (Some self.new.waiting) }
         ensures painted { painter.new.painting ≡ [] }
@@ -386,11 +386,11 @@ impl<S: Read + Write + Drop> Terminal<S> {
         to: Addr,
     ) -> bool
         requires painted { painter.old.painting ≡ [] }
-        requires behind { IsBehind self.old.outer client.old.receiver.newest.number client.old.receiver.newest.state }
+        requires behind { IsBehind self.old.outer client.old.kept.receiver.newest.number client.old.kept.receiver.newest.state }
         ensures turns { MayTurn to self.old self.new client.old client.new }
-        ensures follows { Follows client.old.receiver.newest.number client.old.receiver.newest.state
-            client.new.receiver.newest.number client.new.receiver.newest.state }
-        ensures behind { IsBehind self.new.outer client.new.receiver.newest.number client.new.receiver.newest.state }
+        ensures follows { Follows client.old.kept.receiver.newest.number client.old.kept.receiver.newest.state
+            client.new.kept.receiver.newest.number client.new.kept.receiver.newest.state }
+        ensures behind { IsBehind self.new.outer client.new.kept.receiver.newest.number client.new.kept.receiver.newest.state }
         ensures painted { painter.new.painting ≡ [] }
         ensures none { result ≡ false → (self.new ≡ self.old) × (client.new ≡ client.old) }
     {

@@ -25,7 +25,7 @@ use Rattle.roam_world.specs.Versions.{is_same_version, IsSeenBy, applied_by}
 use Rattle.roam_world.specs.Lists.{IsIn}
 use Rattle.roam_world.specs.Texts.{SaysDown, update_in, is_to_server}
 use Rattle.roam_world.specs.Servers.{Record}
-use Rattle.roam_world.specs.Clients.{Client, moment_of}
+use Rattle.roam_world.specs.Clients.{Kept, Client, moment_of}
 use Rattle.roam_world.specs.ClientArrivals.{Hearing, arriving, arriving_gathered, after_fragment, after_whole}
 use Rattle.roam_world.specs.Arrival.{Arrival, turned_away, noted, completed}
 use Rattle.roam_world.proofs.Versions.{is_same-refl, difference_leads}
@@ -82,6 +82,10 @@ finish cuts n g (p ∷ ps) all of lt some each = all_gathered_anew cuts n g p ps
 
 module _ (session id n : ℕ) (c : Client) (r : Record) (shot : Screenshot) (ready : IsReady n r c) (is_seen : IsSeenBy r.version shot)
     (down : IsDown (told r n shot)) where
+  -- the start, with what is kept of it
+  abbrev start_with : Kept → ClientView
+  start_with x = record { session = session; id = id; kept = x }
+
   -- its number, and its fragments
   abbrev pub number : ℕ
   number = length r.instructions + 1
@@ -90,21 +94,22 @@ module _ (session id n : ℕ) (c : Client) (r : Record) (shot : Screenshot) (rea
   fragments = fragments_of (down_text (told r n shot))
 
   abbrev pub cuts : ℕ → List (List ℕ)
-  cuts k = cond (nat_eq k (length r.instructions + 1)) (fragments_of (down_text (told r n shot))) (filled c.gathering.fragments)
+  cuts k = cond (nat_eq k (length r.instructions + 1)) (fragments_of (down_text (told r n shot))) (filled c.kept.gathering.fragments)
 
   cuts_here : cuts number ≡ fragments
   cuts_here =
       let same : nat_eq (length r.instructions + 1) (length r.instructions + 1) ≡ true = grind (arith, nat_tests) in
-      ap (λ (b : Bool). cond b fragments (filled c.gathering.fragments)) same
+      ap (λ (b : Bool). cond b fragments (filled c.kept.gathering.fragments)) same
 
-  gathers_first : GathersOf cuts c.gathering
+  gathers_first : GathersOf cuts c.kept.gathering
   gathers_first =
       let low = ready.gathered in
-      let other : nat_eq c.gathering.id (length r.instructions + 1) ≡ false = grind (arith, nat_tests) in
-      let at : cuts c.gathering.id ≡ filled c.gathering.fragments = ap (λ (b : Bool). cond b fragments (filled c.gathering.fragments)) other in
+      let other : nat_eq c.kept.gathering.id (length r.instructions + 1) ≡ false = grind (arith, nat_tests) in
+      let at : cuts c.kept.gathering.id ≡ filled c.kept.gathering.fragments =
+      ap (λ (b : Bool). cond b fragments (filled c.kept.gathering.fragments)) other in
       record {
-        count = sym (filled_length c.gathering.fragments) ∙ ap length (sym at);
-        there = λ i text e. ap (λ (xs : List (List ℕ)). slice_get xs i) at ∙ filled_there c.gathering.fragments i text e;
+        count = sym (filled_length c.kept.gathering.fragments) ∙ ap length (sym at);
+        there = λ i text e. ap (λ (xs : List (List ℕ)). slice_get xs i) at ∙ filled_there c.kept.gathering.fragments i text e;
       }
 
   -- a datagram of it
@@ -121,16 +126,16 @@ module _ (session id n : ℕ) (c : Client) (r : Record) (shot : Screenshot) (rea
   abbrev is_whole : Gathering → Bool
   is_whole g = nat_eq g.id (length r.instructions + 1) && all_there g.fragments
 
-  record Early (x : Client) : Type 0 where
+  record Early (x : Kept) : Type 0 where
     whole : is_whole x.gathering ≡ false
-    receiver : x.receiver ≡ c.receiver
+    receiver : x.receiver ≡ c.kept.receiver
 
-  pub record Late (x : Client) : Type 0 where
+  pub record Late (x : Kept) : Type 0 where
     pub number : x.receiver.newest.number ≡ n
     pub screen : x.receiver.newest.state ≡ shot
 
-  record Keeps (x : Client) : Type 0 where
-    version : x.version ≡ c.version
+  record Keeps (x : Kept) : Type 0 where
+    version : x.version ≡ c.kept.version
     of : GathersOf cuts x.gathering
     shows : Early x ⊎ Late x
 
@@ -149,7 +154,7 @@ module _ (session id n : ℕ) (c : Client) (r : Record) (shot : Screenshot) (rea
   gathered_leaves old d at (Some (Whole text, h)) g p s =
       (refl, g.2 ∙ (ap (λ (k : ℕ). joined_fragments (cuts k)) at ∙ (ap joined_fragments cuts_here ∙ joined-fragments (down_text (told r n shot)))))
 
-  arriving_leaves : (x : Client) (d : DatagramValue) → Keeps x → IsMine d
+  arriving_leaves : (x : Kept) (d : DatagramValue) → Keeps x → IsMine d
       → Leaves x.gathering (after x.gathering (gather x.gathering (fragment_of d))) (arriving session id x d)
   arriving_leaves x d k is =
       go (is_to_server d.kind) (ap is_to_server is.kind_is) (nat_eq d.session session) (same d.session session is.session_is)
@@ -177,33 +182,33 @@ module _ (session id n : ℕ) (c : Client) (r : Record) (shot : Screenshot) (rea
 
   -- ---- the update is taken
 
-  meets_new : step_for c.receiver r.sender.base.number n r.sender.base.number ≡ step.New
+  meets_new : step_for c.kept.receiver r.sender.base.number n r.sender.base.number ≡ step.New
   meets_new =
       let below = ready.below in
       let few = ready.few in
-      let a : nat_le n c.receiver.newest.number ≡ false = grind (arith, nat_tests) in
-      let e : nat_le 8 (length (from_floor r.sender.base.number (pairs c.receiver))) ≡ false = grind (arith, nat_tests) in
+      let a : nat_le n c.kept.receiver.newest.number ≡ false = grind (arith, nat_tests) in
+      let e : nat_le 8 (length (from_floor r.sender.base.number (pairs c.kept.receiver))) ≡ false = grind (arith, nat_tests) in
       rw (a, ready.base, e) refl
 
   -- the change leads from the base to the screen
-  leads : (base : Screenshot) → state_at r.sender.base.number (pairs c.receiver) ≡ Some base
-      → applied_by c.version base (told r n shot).change ≡ Some shot
+  leads : (base : Screenshot) → state_at r.sender.base.number (pairs c.kept.receiver) ≡ Some base
+      → applied_by c.kept.version base (told r n shot).change ≡ Some shot
   leads base at =
       let same : base ≡ r.sender.base.state = some_is base r.sender.base.state (sym at ∙ ready.base) in
       ap (λ (v : Version). applied_by v base (told r n shot).change) ready.version
       ∙ (ap (λ (b : Screenshot). applied_by r.version b (told r n shot).change) same
       ∙ difference_leads r.version r.sender.base.state shot is_seen)
 
-  taken : (x : Client) (q : Receiving Screenshot) → x.version ≡ c.version → x.receiver ≡ c.receiver
+  taken : (x : Kept) (q : Receiving Screenshot) → x.version ≡ c.kept.version → x.receiver ≡ c.kept.receiver
       → Delivers (applied_by x.version) x.receiver (update_in (told r n shot)) q → (q.newest.number ≡ n) × (q.newest.state ≡ shot)
   taken x q version receiver heard =
-      let here : Delivers (applied_by c.version) c.receiver (update_in (told r n shot)) q =
-      subst (λ (v : Version). Delivers (applied_by v) c.receiver (update_in (told r n shot)) q) version
+      let here : Delivers (applied_by c.kept.version) c.kept.receiver (update_in (told r n shot)) q =
+      subst (λ (v : Version). Delivers (applied_by v) c.kept.receiver (update_in (told r n shot)) q) version
       (subst (λ (g : Receiving Screenshot). Delivers (applied_by x.version) g (update_in (told r n shot)) q) receiver heard) in
       let t = here.fresh meets_new in
       (t.number, some_is q.newest.state shot (sym t.leads ∙ leads t.base t.held))
 
-  kept_late : (x : Client) (q : Receiving Screenshot) → Late x → Delivers (applied_by x.version) x.receiver (update_in (told r n shot)) q
+  kept_late : (x : Kept) (q : Receiving Screenshot) → Late x → Delivers (applied_by x.version) x.receiver (update_in (told r n shot)) q
       → q ≡ x.receiver
   kept_late x q late heard =
       let top = late.number in
@@ -212,14 +217,14 @@ module _ (session id n : ℕ) (c : Client) (r : Record) (shot : Screenshot) (rea
 
   -- ---- one delivery
 
-  record Delivered (x : Client) (d : DatagramValue) (view : ClientView) : Type 0 where
-    start : Client
-    stands : Stands view session id start
+  record Delivered (x : Kept) (d : DatagramValue) (view : ClientView) : Type 0 where
+    start : Kept
+    stands : view ≡ start_with start
     keeps : Keeps start
     gathering : start.gathering ≡ after x.gathering (gather x.gathering (fragment_of d))
 
-  deliver : (x : Client) (d : DatagramValue) (bytes : List ℕ) (now : ℕ) (answer : Result Heard Fault) (new : ClientView) → Keeps x
-      → IsDatagram d → IsMine d → bytes ≡ datagram_text d → ((answer ≡ Err OutOfMemory) → ⊥) → Hears session id x bytes now answer new
+  deliver : (x : Kept) (d : DatagramValue) (bytes : List ℕ) (now : ℕ) (answer : Result Heard Fault) (new : ClientView) → Keeps x
+      → IsDatagram d → IsMine d → bytes ≡ datagram_text d → ((answer ≡ Err OutOfMemory) → ⊥) → Hears (start_with x) bytes now answer new
       → Delivered x d new
   deliver x d bytes now answer new k is mine spelled fine heard = go heard
     where
@@ -237,7 +242,7 @@ module _ (session id n : ℕ) (c : Client) (r : Record) (shot : Screenshot) (rea
       says_it : (text : List ℕ) (u : DownValue) → text ≡ down_text (told r n shot) → SaysDown text u → u ≡ told r n shot
       says_it text u e says = one_down u (told r n shot) says.is down (sym says.spelled ∙ e)
 
-      go : Hears session id x bytes now answer new → Delivered x d new
+      go : Hears (start_with x) bytes now answer new → Delivered x d new
       go (no_datagram why none e st) = absurd (none.none d is spelled)
       go (refused d' f t a e st) = absurd (leaves d' (turned_away f) t a)
       go (fragment d' how g t a e st) =
@@ -267,7 +272,7 @@ module _ (session id n : ℕ) (c : Client) (r : Record) (shot : Screenshot) (rea
           subst (λ (v : DownValue). applied_by x.version base v.change ≡ None) same none in
           elim k.shows [
             | inl early ↦ absurd (
-                let there : state_at r.sender.base.number (pairs c.receiver) ≡ Some base =
+                let there : state_at r.sender.base.number (pairs c.kept.receiver) ≡ Some base =
                 subst (λ (q : Receiving Screenshot). state_at r.sender.base.number (pairs q) ≡ Some base) early.receiver at' in
                 let no : None ≡ Some shot = sym none' ∙ (ap (λ (v : Version). applied_by v base (told r n shot).change) k.version
                 ∙ leads base there) in
@@ -318,9 +323,9 @@ module _ (session id n : ℕ) (c : Client) (r : Record) (shot : Screenshot) (rea
   IsGood (Typed act answer) = ⊥
   IsGood (ClientTick now answer) = ⊥
 
-  record Went (x : Client) (calls : List ClientCall) (view : ClientView) : Type 0 where
-    start : Client
-    stands : Stands view session id start
+  record Went (x : Kept) (calls : List ClientCall) (view : ClientView) : Type 0 where
+    start : Kept
+    stands : view ≡ start_with start
     keeps : Keeps start
     ps : List FragmentValue
     all : AllOf cuts number ps
@@ -332,7 +337,7 @@ module _ (session id n : ℕ) (c : Client) (r : Record) (shot : Screenshot) (rea
       → ToClient bytes now answer ≡ ToClient bytes' now' answer' → bytes ≡ bytes'
   bytes_of bytes bytes' now now' answer answer' e = cc
 
-  goes : (old : ClientView) (x : Client) (calls : List ClientCall) (view : ClientView) → Stands old session id x → Keeps x
+  goes : (old : ClientView) (x : Kept) (calls : List ClientCall) (view : ClientView) → old ≡ start_with x → Keeps x
       → ((call : ClientCall) → IsIn call calls → IsGood call) → RunOf client_step old calls view → Went x calls view
   goes old x [] view st k each run =
       record {
@@ -349,7 +354,8 @@ module _ (session id n : ℕ) (c : Client) (r : Record) (shot : Screenshot) (rea
   goes old x (ToClient bytes now answer ∷ calls) view st k each run =
       let good = each (ToClient bytes now answer) (inl refl) in
       let d = good.0 in
-      let one = deliver x d bytes now answer run.0 k good.1 good.2 good.3 good.4 (run.1 session id x st) in
+      let one = deliver x d bytes now answer run.0 k good.1 good.2 good.3 good.4
+      (subst (λ (v : ClientView). Hears v bytes now answer run.0) st run.1) in
       let rest = goes run.0 one.start calls view one.stands one.keeps (λ call i. each call (inr i)) run.2 in
       record {
         start = rest.start;
@@ -373,46 +379,46 @@ module _ (session id n : ℕ) (c : Client) (r : Record) (shot : Screenshot) (rea
       → ((call : ClientCall) → IsIn call calls → IsGood call) → RunOf client_step old calls view → 0 < length fragments
       → ((i : ℕ) → i < length fragments → (d : DatagramValue) × IsDatagram d × (d.index ≡ i)
       × (now : ℕ) × (answer : Result Heard Fault) × IsIn (ToClient (datagram_text d) now answer) calls)
-      → (view.receiver.newest.number ≡ n) × (view.receiver.newest.state ≡ shot)
+      → (view.kept.receiver.newest.number ≡ n) × (view.kept.receiver.newest.state ≡ shot)
   all_come old calls view st each run some all = go went.keeps.shows
     where
-      low : c.gathering.id < length r.instructions + 1
+      low : c.kept.gathering.id < length r.instructions + 1
       low = let under = ready.gathered in omega (arith, under)
 
-      first : Keeps c
+      first : Keeps c.kept
       first =
           record {
             version = refl;
             of = gathers_first;
             shows = inl (record {
-              whole = let other : nat_eq c.gathering.id (length r.instructions + 1) ≡ false = grind (arith, nat_tests, low) in
-                  ap (λ (b : Bool). b && all_there c.gathering.fragments) other;
+              whole = let other : nat_eq c.kept.gathering.id (length r.instructions + 1) ≡ false = grind (arith, nat_tests, low) in
+                  ap (λ (b : Bool). b && all_there c.kept.gathering.fragments) other;
               receiver = refl;
             });
           }
 
-      went : Went c calls view
-      went = goes old c calls view st first each run
+      went : Went c.kept calls view
+      went = goes old c.kept calls view st first each run
 
       comes : (i : ℕ) → i < length fragments → Comes i went.ps
       comes i lt =
           let d = all i lt in
           subst (λ (j : ℕ). Comes j went.ps) d.2 (went.comes (datagram_text d.0) d.3 d.4 d.0 d.5 d.1 refl)
 
-      is_all : (all_there (gathered_all c.gathering went.ps).fragments ≡ true) × ((gathered_all c.gathering went.ps).id ≡ number)
+      is_all : (all_there (gathered_all c.kept.gathering went.ps).fragments ≡ true) × ((gathered_all c.kept.gathering went.ps).id ≡ number)
       is_all =
-          finish cuts number c.gathering went.ps went.all gathers_first low (0, comes 0 some)
+          finish cuts number c.kept.gathering went.ps went.all gathers_first low (0, comes 0 some)
           (λ i lt. comes i (subst (λ (xs : List (List ℕ)). i < length xs) cuts_here lt))
 
       whole_then : is_whole went.start.gathering ≡ true
       whole_then =
-          let same : nat_eq (gathered_all c.gathering went.ps).id (length r.instructions + 1) ≡ true =
+          let same : nat_eq (gathered_all c.kept.gathering went.ps).id (length r.instructions + 1) ≡ true =
           let e = is_all.1 in grind (arith, nat_tests) in
-          ap is_whole went.gathering ∙ (ap (λ (b : Bool). b && all_there (gathered_all c.gathering went.ps).fragments) same ∙ is_all.0)
+          ap is_whole went.gathering ∙ (ap (λ (b : Bool). b && all_there (gathered_all c.kept.gathering went.ps).fragments) same ∙ is_all.0)
 
-      go : Early went.start ⊎ Late went.start → (view.receiver.newest.number ≡ n) × (view.receiver.newest.state ≡ shot)
+      go : Early went.start ⊎ Late went.start → (view.kept.receiver.newest.number ≡ n) × (view.kept.receiver.newest.state ≡ shot)
       go (inl early) = absurd (let no : true ≡ false = sym whole_then ∙ early.whole in cc)
       go (inr late) = (
-        ap (λ (v : ClientView). v.receiver.newest.number) went.stands ∙ late.number,
-        ap (λ (v : ClientView). v.receiver.newest.state) went.stands ∙ late.screen,
+        ap (λ (v : ClientView). v.kept.receiver.newest.number) went.stands ∙ late.number,
+        ap (λ (v : ClientView). v.kept.receiver.newest.state) went.stands ∙ late.screen,
       )

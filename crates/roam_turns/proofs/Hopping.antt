@@ -136,7 +136,7 @@ module _ (faces : (size : SessionSize) (log : List Entry) → IsSessionSize size
       let step : fragments_of text ≡ take 1200 text ∷ fragments_of (drop 1200 text) = fragments_of-step text (omega arith) in
       subst (λ (ps : List (List ℕ)). 0 < length ps) (sym step) (omega arith)
 
-  shows : (view.receiver.newest.number ≡ number_after s m) × (view.receiver.newest.state ≡ shot)
+  shows : (view.kept.receiver.newest.number ≡ number_after s m) × (view.kept.receiver.newest.state ≡ shot)
   shows =
       all_come s.session id (number_after s m) c r shot h.ready seen down h.client h.calls view h.client_stands good h.come some each
 
@@ -145,7 +145,7 @@ module _ (faces : (size : SessionSize) (log : List Entry) → IsSessionSize size
 
   pub hops : Arrives s now c view
   hops =
-      let is : IsScreenshot (seen_face s c) = seen_screen c.version (seen_face s c) (seen_is c.version (face s.size s.log)
+      let is : IsScreenshot (seen_face s c) = seen_screen c.kept.version (seen_face s c) (seen_is c.kept.version (face s.size s.log)
       (faces s.size s.log h.ids.size)) in
       record {
         number = shows.0;

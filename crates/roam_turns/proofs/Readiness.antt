@@ -42,12 +42,12 @@ module _ (w : World) (h : Holds w) (id now : ℕ) (e : IsOffered w.server id now
   x = w.clients id
 
   abbrev Is : ℕ → Screenshot → Type 0
-  Is = IsScreenOf (w.clients id).version w.server.size w.server.log w.server.cuts
+  Is = IsScreenOf (w.clients id).kept.version w.server.size w.server.log w.server.cuts
 
-  in_step : AreInStep r.sender x.receiver (Tells r.instructions) (Acks x.instructions)
+  in_step : AreInStep r.sender x.kept.receiver (Tells r.instructions) (Acks x.instructions)
   in_step = (h.links id).in_step
 
-  truth : TrueLink (applied_by x.version) Is r.sender x.receiver (Tells r.instructions)
+  truth : TrueLink (applied_by x.kept.version) Is r.sender x.kept.receiver (Tells r.instructions)
   truth = (h.links id).truth
 
   parts : (is_live r (moment w.server now) ≡ true) × (nat_lt (newest r.sender).number (number_by w.server now) ≡ true)
@@ -67,41 +67,43 @@ module _ (w : World) (h : Holds w) (id now : ℕ) (e : IsOffered w.server id now
   known : r.known ≡ true
   known = (both_true r.known (nat_lt (moment w.server now) (r.heard_at + 60000)) parts.0).0
 
-  base_held : state_at r.sender.base.number (pairs x.receiver) ≡ Some r.sender.base.state
+  base_held : state_at r.sender.base.number (pairs x.kept.receiver) ≡ Some r.sender.base.state
   base_held =
-      let at = some_there (state_at r.sender.base.number (pairs x.receiver))
-      (found r.sender.base.number (pairs x.receiver) in_step.base_there) in
-      let mine = found_true Is r.sender.base.number (pairs x.receiver) at.0 truth.receiver at.1 in
+      let at = some_there (state_at r.sender.base.number (pairs x.kept.receiver))
+      (found r.sender.base.number (pairs x.kept.receiver) in_step.base_there) in
+      let mine = found_true Is r.sender.base.number (pairs x.kept.receiver) at.0 truth.receiver at.1 in
       let theirs = All-head (λ (k : Held Screenshot). Is k.number k.state) r.sender.base r.sender.later truth.sender in
-      let same = one_screen x.version w.server.size w.server.log w.server.cuts r.sender.base.number at.0 r.sender.base.state mine theirs in
+      let same = one_screen x.kept.version w.server.size w.server.log w.server.cuts r.sender.base.number at.0 r.sender.base.state mine
+      theirs in
       at.1 ∙ ap (λ (s : Screenshot). Some s) same
 
   -- what the start holds from the base on the sender holds too
-  few_from : length (from_floor r.sender.base.number (pairs x.receiver)) ≤ 7
+  few_from : length (from_floor r.sender.base.number (pairs x.kept.receiver)) ≤ 7
   few_from =
       let base = r.sender.base.number in
-      let kept = filter (leb base) (numbers_had x.receiver) in
-      let rising = rising-filter (leb base) (numbers_had x.receiver) (had_rises x.receiver.earlier x.receiver.newest in_step.receiver_rises) in
+      let kept = filter (leb base) (numbers_had x.kept.receiver) in
+      let rising = rising-filter (leb base) (numbers_had x.kept.receiver)
+      (had_rises x.kept.receiver.earlier x.kept.receiver.newest in_step.receiver_rises) in
       let fits = no_longer kept (numbers_held r.sender) rising (held_rises base r.sender.later in_step.sender_rises) within in
-      let same = floor_length base (pairs x.receiver) in
+      let same = floor_length base (pairs x.kept.receiver) in
       let long = length-map (r.sender.base ∷ r.sender.later) (λ (k : Held Screenshot). k.number) in
       let few = few_held in
       omega (arith, fits, same, long, few)
     where
-      within : (n : ℕ) → IsAmong n (filter (leb (w.server.records id).sender.base.number) (numbers_had (w.clients id).receiver))
+      within : (n : ℕ) → IsAmong n (filter (leb (w.server.records id).sender.base.number) (numbers_had (w.clients id).kept.receiver))
           → IsAmong n (numbers_held (w.server.records id).sender)
       within n a =
-          let had = among_filter (leb (w.server.records id).sender.base.number) n (numbers_had (w.clients id).receiver) a in
-          in_step.from_base n had (low_from (w.server.records id).sender.base.number n (numbers_had (w.clients id).receiver) a)
+          let had = among_filter (leb (w.server.records id).sender.base.number) n (numbers_had (w.clients id).kept.receiver) a in
+          in_step.from_base n had (low_from (w.server.records id).sender.base.number n (numbers_had (w.clients id).kept.receiver) a)
 
   ready : IsReady (number_by w.server now) r x
   ready =
       let up = above in
-      let top = not_above r.sender x.receiver (Tells r.instructions) (Acks x.instructions) in_step in
+      let top = not_above r.sender x.kept.receiver (Tells r.instructions) (Acks x.instructions) in_step in
       record {
         version = sym ((h.fits id).version known);
         base = base_held;
-        from = newest_greatest x.receiver.earlier x.receiver.newest r.sender.base.number in_step.receiver_rises in_step.base_there;
+        from = newest_greatest x.kept.receiver.earlier x.kept.receiver.newest r.sender.base.number in_step.receiver_rises in_step.base_there;
         below = omega (arith, up, top);
         gathered = (h.links id).gathers_down.low;
         few = few_from;

@@ -1,10 +1,9 @@
 -- What a client start of the code shows, before and after its calls.
-use Rattle.std.proofs.Common.{◌≡◌, ℕ, ◌<◌, leb, inl, inr, List, [], replicate, refl, sym, ap, ◌∙◌, subst, arith}
+use Rattle.std.proofs.Common.{◌≡◌, ℕ, ◌<◌, leb, inl, inr, List, refl, sym, ap, ◌∙◌, subst, arith}
 use Rattle.std.specs.Prelude.{Result, Vec}
 use Rattle.std.specs.declared.alloc.Global.{Global}
 use Rattle.std.proofs.lemmas.Bool.{cases_Bool}
 use Rattle.std.proofs.lemmas.Bool.Decides.{nat_tests}
-use Rattle.std.proofs.lemmas.List.{length-replicate}
 use Rattle.roam_cells.specs.declared.faults.Fault.{Fault}
 use Rattle.roam_screens.specs.Screenshot.{Screenshot}
 use Rattle.roam_acts.specs.declared.acts.Act.{Act}
@@ -14,27 +13,13 @@ use Rattle.roam_sync.specs.declared.receivers.Step.{Step}
 use Rattle.roam_sync.specs.declared.receivers.Step.TheVariants as step
 use Rattle.roam_sync.specs.Receivers.{Receiving, step_for}
 use Rattle.roam_sync.specs.Links.{Update, Delivers}
-use Rattle.roam_wire.specs.Instructions.{UpValue}
 use Rattle.roam_world.specs.Texts.{update_in}
-use Rattle.roam_world.specs.Clients.{Client as ClientOf}
 use Rattle.roam_hub.specs.declared.clients.Heard.{Heard}
-use Rattle.roam_hub.specs.Clients.{ClientView, Stands, bare, Types, Hears, Sends}
+use Rattle.roam_hub.specs.Clients.{ClientView, Types, Hears, Sends}
 use Rattle.roam_hub.specs.Clients.Types.{watching, full, spent as typed_spent, typed, no_memory as typed_no_memory}
 use Rattle.roam_hub.specs.Clients.Hears.{no_datagram, refused, fragment, unread, bad_change, whole, no_memory as heard_no_memory}
 use Rattle.roam_hub.specs.Clients.Sends.{quiet, spent, sent, no_memory}
 use Rattle.roam_turns.specs.Painting.{Follows}
-
--- ---- a start that it stands for
-
-pub an_instruction : UpValue
-an_instruction = record { acked = 0; first = 0; acts = [] }
-
--- one with what is kept, and with as many instructions
-abbrev pub start_of : ClientView → ClientOf
-start_of v = record (bare v) { instructions = replicate v.instructions an_instruction }
-
-pub stands : (v : ClientView) → Stands v v.session v.id (start_of v)
-stands v = λ i. record v { instructions = sym (length-replicate v.instructions an_instruction) i }
 
 -- ---- what is shown
 
@@ -79,33 +64,32 @@ delivers_follow v r r' u d = go (step_for r u.old u.new u.floor) refl
 -- ---- calls
 
 abbrev pub receiver_of : ClientView → Receiving Screenshot
-receiver_of v = v.receiver
+receiver_of v = v.kept.receiver
 
-pub types_same : (session id : ℕ) (c : ClientOf) (act : Act) (result : Result (Unit {0}) Fault) (new : ClientView)
-    → Types session id c act result new → new.receiver ≡ c.receiver
-types_same session id c act result new (watching a b st) = ap receiver_of st
-types_same session id c act result new (full a b d st) = ap receiver_of st
-types_same session id c act result new (typed_spent a b d st) = ap receiver_of st
-types_same session id c act result new (typed a b d e st) = ap receiver_of st
-types_same session id c act result new (typed_no_memory edits room low a st) = ap receiver_of st
+pub types_same : (v : ClientView) (act : Act) (result : Result (Unit {0}) Fault) (new : ClientView) → Types v act result new
+    → receiver_of new ≡ receiver_of v
+types_same v act result new (watching a b st) = ap receiver_of st
+types_same v act result new (full a b d st) = ap receiver_of st
+types_same v act result new (typed_spent a b d st) = ap receiver_of st
+types_same v act result new (typed a b d e st) = ap receiver_of st
+types_same v act result new (typed_no_memory edits room low a st) = ap receiver_of st
 
-pub sends_same : (session id : ℕ) (c : ClientOf) (now : ℕ) (result : Result (Vec (Vec ℕ Global) Global) Fault) (new : ClientView)
-    → Sends session id c now result new → new.receiver ≡ c.receiver
-sends_same session id c now result new (quiet none a b d st) = ap receiver_of st
-sends_same session id c now result new (spent a b d st) = ap receiver_of st
-sends_same session id c now result new (sent all a b d e st) = ap receiver_of st
-sends_same session id c now result new (no_memory due free a st) = ap receiver_of st
+pub sends_same : (v : ClientView) (now : ℕ) (result : Result (Vec (Vec ℕ Global) Global) Fault) (new : ClientView)
+    → Sends v now result new → receiver_of new ≡ receiver_of v
+sends_same v now result new (quiet none a b d st) = ap receiver_of st
+sends_same v now result new (spent a b d st) = ap receiver_of st
+sends_same v now result new (sent all a b d e st) = ap receiver_of st
+sends_same v now result new (no_memory due free a st) = ap receiver_of st
 
-pub hears_follow : (session id : ℕ) (c : ClientOf) (bytes : List ℕ) (now : ℕ) (result : Result Heard Fault) (new : ClientView)
-    → Hears session id c bytes now result new → Follows c.receiver.newest.number c.receiver.newest.state new.receiver.newest.number
-    new.receiver.newest.state
-hears_follow session id c bytes now result new (no_datagram why a b st) = same_follows c.receiver new.receiver (ap receiver_of st)
-hears_follow session id c bytes now result new (refused d f a b e st) = same_follows c.receiver new.receiver (ap receiver_of st)
-hears_follow session id c bytes now result new (fragment d h g a b e st) = same_follows c.receiver new.receiver (ap receiver_of st)
-hears_follow session id c bytes now result new (unread d g t w a b e f st) = same_follows c.receiver new.receiver (ap receiver_of st)
-hears_follow session id c bytes now result new (bad_change d g t v x a b e f h k l st) =
-    same_follows c.receiver new.receiver (ap receiver_of st)
-hears_follow session id c bytes now result new (whole d h g t v r a b e delivers f k st) =
-    subst (λ (x : Receiving Screenshot). ReceiverFollows c.receiver x) (sym (ap receiver_of st))
-    (delivers_follow c.version c.receiver r (update_in v) delivers)
-hears_follow session id c bytes now result new (heard_no_memory d is a st) = same_follows c.receiver new.receiver (ap receiver_of st)
+pub hears_follow : (v : ClientView) (bytes : List ℕ) (now : ℕ) (result : Result Heard Fault) (new : ClientView)
+    → Hears v bytes now result new → ReceiverFollows (receiver_of v) (receiver_of new)
+hears_follow v bytes now result new (no_datagram why a b st) = same_follows v.kept.receiver new.kept.receiver (ap receiver_of st)
+hears_follow v bytes now result new (refused d f a b e st) = same_follows v.kept.receiver new.kept.receiver (ap receiver_of st)
+hears_follow v bytes now result new (fragment d h g a b e st) = same_follows v.kept.receiver new.kept.receiver (ap receiver_of st)
+hears_follow v bytes now result new (unread d g t w a b e f st) = same_follows v.kept.receiver new.kept.receiver (ap receiver_of st)
+hears_follow v bytes now result new (bad_change d g t u x a b e f h k l st) =
+    same_follows v.kept.receiver new.kept.receiver (ap receiver_of st)
+hears_follow v bytes now result new (whole d h g t u r a b e delivers f k st) =
+    subst (λ (x : Receiving Screenshot). ReceiverFollows v.kept.receiver x) (sym (ap receiver_of st))
+    (delivers_follow v.kept.version v.kept.receiver r (update_in u) delivers)
+hears_follow v bytes now result new (heard_no_memory d is a st) = same_follows v.kept.receiver new.kept.receiver (ap receiver_of st)

@@ -7,9 +7,8 @@ use Rattle.roam_cells.specs.declared.faults.Fault.{Fault}
 use Rattle.roam_session.specs.Lives.{life_of}
 use Rattle.roam_session.specs.Refusals.{output_at}
 use Rattle.roam_world.specs.Servers.{Server as ServerOf}
-use Rattle.roam_world.specs.Clients.{Client as ClientOf}
 use Rattle.roam_hub.specs.Servers.{ServerView, Stands as ServerStands, Feeds, Drains, Comes, Ticks, address_of}
-use Rattle.roam_hub.specs.Clients.{ClientView, Stands as ClientStands, Types, Hears, Sends}
+use Rattle.roam_hub.specs.Clients.{ClientView, Types, Hears, Sends}
 use Rattle.roam_hub.specs.declared.addresses.Addr.{Addr}
 use Rattle.roam_turns.specs.Calls.{ServerCall, ClientCall, parcels_of, texts_in}
 use Rattle.roam_turns.specs.Calls.ServerCall.{ToServer, Life, Room, PaneBytes, Output, Drain, ServerTick}
@@ -31,11 +30,9 @@ server_step old (Drain pane n answer) new = (s : ServerOf) → ServerStands old 
 server_step old (ServerTick now answer) new = (s : ServerOf) → ServerStands old s
     → (result : Result (Vec (Addr × Vec ℕ Global) Global) Fault) × (parcels_of result ≡ answer) × Ticks s now result new
 
--- for every start that it stood for: what the call answers, and which start it stands for then
+-- what the call of a client start answers, and which start it is then
 abbrev pub client_step : ClientView → ClientCall → ClientView → Type 0
-client_step old (Typed act answer) new = (session id : ℕ) (c : ClientOf) → ClientStands old session id c
-    → Types session id c act answer new
-client_step old (ToClient bytes now answer) new = (session id : ℕ) (c : ClientOf) → ClientStands old session id c
-    → Hears session id c bytes now answer new
-client_step old (ClientTick now answer) new = (session id : ℕ) (c : ClientOf) → ClientStands old session id c
-    → (result : Result (Vec (Vec ℕ Global) Global) Fault) × (texts_in result ≡ answer) × Sends session id c now result new
+client_step old (Typed act answer) new = Types old act answer new
+client_step old (ToClient bytes now answer) new = Hears old bytes now answer new
+client_step old (ClientTick now answer) new =
+    (result : Result (Vec (Vec ℕ Global) Global) Fault) × (texts_in result ≡ answer) × Sends old now result new

@@ -31,12 +31,12 @@ use Rattle.roam_turns.specs.Painting.{Fits}
 -- base; it shows a number from that one on, below this one; it gathered no instruction as high as the next; and it holds at most seven
 -- pairs from the base on.
 pub record IsReady (n : ℕ) (r : Record) (c : Client) : Type 0 where
-  pub version : c.version ≡ r.version
-  pub base : state_at r.sender.base.number (pairs c.receiver) ≡ Some r.sender.base.state
+  pub version : c.kept.version ≡ r.version
+  pub base : state_at r.sender.base.number (pairs c.kept.receiver) ≡ Some r.sender.base.state
   pub from : r.sender.base.number ≤ shown_number c
   pub below : shown_number c < n
-  pub gathered : c.gathering.id ≤ length r.instructions
-  pub few : length (from_floor r.sender.base.number (pairs c.receiver)) ≤ 7
+  pub gathered : c.kept.gathering.id ≤ length r.instructions
+  pub few : length (from_floor r.sender.base.number (pairs c.kept.receiver)) ≤ 7
 
 -- the session began with a size that it may have, and ids have 64 bits
 pub record HasIds (s : Server) : Type 0 where
@@ -96,13 +96,13 @@ pub record Hop (s : Server) (id now : ℕ) (c : Client) (after : ClientView) : T
 
 -- the face of all that was put into the session, as a start's version is shown it
 abbrev pub seen_face : Server → Client → Screenshot
-seen_face s c = seen_by c.version (face s.size s.log)
+seen_face s c = seen_by c.kept.version (face s.size s.log)
 
 -- The start shows the face of all that was put into the session, as its version is shown it, under the number that was made; and whatever
 -- terminal showed what the start showed before, of at least that screen's size, shows it once the text between the two is written.
 pub record Arrives (s : Server) (now : ℕ) (c : Client) (after : ClientView) : Type 0 where
-  pub number : after.receiver.newest.number ≡ number_by s now
-  pub screen : after.receiver.newest.state ≡ seen_face s c
+  pub number : after.kept.receiver.newest.number ≡ number_by s now
+  pub screen : after.kept.receiver.newest.state ≡ seen_face s c
   pub terminal : (rows cols lines : ℕ) (log : List Item)
       → Displays rows cols lines log (shown_screen c) → Fits rows cols lines log (seen_face s c)
       → Displays rows cols lines (log ++ map Byte (text_between (shown_screen c) (seen_face s c))) (seen_face s c)

@@ -153,9 +153,9 @@ impl ServerCore for Server {
 impl ClientCore for Client {
     ghost step = { client_step };
 
-    ghost number = { λ client. client.receiver.newest.number };
+    ghost number = { λ client. client.kept.receiver.newest.number };
 
-    ghost screen = { λ client. client.receiver.newest.state };
+    ghost screen = { λ client. client.kept.receiver.newest.state };
 
     fn typed(&mut self, act: Act) -> Result<(), Fault> {
         Client::typed(self, act)

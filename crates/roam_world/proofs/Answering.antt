@@ -23,10 +23,10 @@ use Rattle.roam_world.specs.Servers.{moment, after_input}
 use Rattle.roam_world.specs.ServerArrivals.{coming, after_note, new_acts, after_acts, room_for}
 use Rattle.roam_world.specs.Arrival.{Arrival, turned_away, noted, completed}
 use Rattle.roam_world.specs.Ticks.{sent_by, is_tick_spent}
-use Rattle.roam_world.specs.Clients.{moment_of, after_typed}
+use Rattle.roam_world.specs.Clients.{moment_of, after_act}
 use Rattle.roam_world.specs.ClientArrivals.{Hearing, arriving, after_fragment, step_of, hearing_of, after_whole}
 use Rattle.roam_world.specs.Sendings.{is_client_due, is_client_spent, datagrams_from, after_quiet}
-use Rattle.roam_world.specs.Worlds.{World, PaneBytes, Typed, ServerTick, ClientTick, ToServer, ToClient, Start, Drain, Reply, Done, Sent, Taken, Heard, Refused, Failed, Stopped, datagram_at, with_server, with_client, after_server_tick, after_client_sent, after_start}
+use Rattle.roam_world.specs.Worlds.{World, PaneBytes, Typed, ServerTick, ClientTick, ToServer, ToClient, Start, Drain, Reply, Done, Sent, Taken, Heard, Refused, Failed, Stopped, datagram_at, with_server, with_client, with_kept, after_server_tick, after_client_sent, after_start}
 use Rattle.roam_world.specs.Steps.{PaneBytesStep, DrainStep, TypedStep, ServerTickStep, ClientTickStep, ToServerStep, ToClientStep, StartStep, refused, taken, no_pane, too_many, gone, empty_slot, full, spent, typed, no_memory, ticked, quiet, sent, not_sent, fragment, unread, all_taken, no_room, no_memory_at_act, bad_change, whole, used, started, watching, unfit, is_unfit}
 use Rattle.roam_world.specs.Laws.{IsAmple, HasOneReply}
 use Rattle.roam_wire.specs.declared.versions.Version.{Version}
@@ -86,14 +86,14 @@ one_drain w pane n (Some out) r r' v v' a b =
 abbrev ByWatching : World → Act → ℕ → Bool → Reply → World → Type 0
 ByWatching w act id true r v = Are r v (Failed Watching) w
 ByWatching w act id false r v =
-    (IsFull (w.clients id).acts × Are r v (Failed Busy) w)
-    ⊎ (IsSpent (w.clients id).acts × Are r v (Failed Spent) w)
-    ⊎ ((IsFull (w.clients id).acts → ⊥) × (IsSpent (w.clients id).acts → ⊥)
-    × Are r v Done (with_client w id (after_typed (w.clients id) act)))
+    (IsFull (w.clients id).kept.acts × Are r v (Failed Busy) w)
+    ⊎ (IsSpent (w.clients id).kept.acts × Are r v (Failed Spent) w)
+    ⊎ ((IsFull (w.clients id).kept.acts → ⊥) × (IsSpent (w.clients id).kept.acts → ⊥)
+    × Are r v Done (with_client w id (after_act (w.clients id) act)))
 
 abbrev ByTyped : World → Act → Option ℕ → Reply → World → Type 0
 ByTyped w act None r v = Are r v Refused w
-ByTyped w act (Some id) r v = ByWatching w act id (w.clients id).watches r v
+ByTyped w act (Some id) r v = ByWatching w act id (w.clients id).kept.watches r v
 
 by_typed : (w : World) (slot : ℕ) (act : Act) (r : Reply) (v : World) → TypedStep w slot act r v → IsAmple r
     → ByTyped w act (w.slots slot) r v
@@ -127,20 +127,20 @@ one_watching w act id false r r' v v' a b =
           | inl z ↦ absurd (y.0 z.0)
           | inr z ↦ elim z [
             | inl q ↦ absurd (y.1 q.0)
-            | inr q ↦ both r r' Done v v' (with_client w id (after_typed (w.clients id) act))
+            | inr q ↦ both r r' Done v v' (with_client w id (after_act (w.clients id) act))
                 y.2 q.2
           ]
         ]
       ]
     ]
   where
-    clash : IsFull (w.clients id).acts → IsSpent (w.clients id).acts → ⊥
+    clash : IsFull (w.clients id).kept.acts → IsSpent (w.clients id).kept.acts → ⊥
     clash f s = let lt = s.0 in omega (arith, f, lt)
 
 one_typed : (w : World) (act : Act) (o : Option ℕ) (r r' : Reply) (v v' : World) → ByTyped w act o r v → ByTyped w act o r' v'
     → (r ≡ r') × (v ≡ v')
 one_typed w act None r r' v v' a b = both r r' Refused v v' w a b
-one_typed w act (Some id) r r' v v' a b = one_watching w act id (w.clients id).watches r r' v v' a b
+one_typed w act (Some id) r r' v v' a b = one_watching w act id (w.clients id).kept.watches r r' v v' a b
 
 -- ---- ticks
 
@@ -162,46 +162,47 @@ one_server_tick w now false r r' v v' x y = both r r' (Sent (length w.sent + 1) 
 
 -- at the start of an id: whether something is due, and whether numbers are spent
 abbrev ByDue : World → ℕ → ℕ → Bool → Bool → Reply → World → Type 0
-ByDue w id now false past r v = Are r v (Sent (length w.sent + 1) 0) (with_client w id (after_quiet (w.clients id) now))
+ByDue w id now false past r v = Are r v (Sent (length w.sent + 1) 0) (with_kept w id (after_quiet (w.clients id).kept now))
 ByDue w id now true true r v = Are r v (Failed Spent) w
-ByDue w id now true false r v = Are r v (Sent (length w.sent + 1) (length (datagrams_from w.server.session id (w.clients id))))
+ByDue w id now true false r v = Are r v (Sent (length w.sent + 1) (length (datagrams_from w.server.session id (w.clients id).kept)))
     (after_client_sent w id now)
 
 abbrev ByClientTick : World → ℕ → Option ℕ → Reply → World → Type 0
 ByClientTick w now None r v = Are r v Refused w
 ByClientTick w now (Some id) r v =
-    ByDue w id (moment_of (w.clients id) now) (is_client_due (w.clients id) (moment_of (w.clients id) now))
-    (is_client_spent (w.clients id)) r v
+    ByDue w id (moment_of (w.clients id).kept now) (is_client_due (w.clients id).kept (moment_of (w.clients id).kept now))
+    (is_client_spent (w.clients id).kept) r v
 
 by_client_tick : (w : World) (slot now : ℕ) (r : Reply) (v : World) → ClientTickStep w slot now r v → IsAmple r
     → ByClientTick w now (w.slots slot) r v
 by_client_tick w slot now r v (empty_slot x e is) m = subst (λ (o : Option ℕ). ByClientTick w now o r v) (sym x) (e, is)
 by_client_tick w slot now r v (quiet id x y e is) m =
     subst (λ (o : Option ℕ). ByClientTick w now o r v) (sym x)
-    (subst (λ (b : Bool). ByDue w id (moment_of (w.clients id) now) b (is_client_spent (w.clients id)) r v) (sym y) (e, is))
+    (subst (λ (b : Bool). ByDue w id (moment_of (w.clients id).kept now) b (is_client_spent (w.clients id).kept) r v) (sym y) (e, is))
 by_client_tick w slot now r v (spent id x y z e is) m =
     subst (λ (o : Option ℕ). ByClientTick w now o r v) (sym x)
-    (subst (λ (b : Bool). ByDue w id (moment_of (w.clients id) now) b (is_client_spent (w.clients id)) r v) (sym y)
-    (subst (λ (b : Bool). ByDue w id (moment_of (w.clients id) now) true b r v) (sym z) (e, is)))
+    (subst (λ (b : Bool). ByDue w id (moment_of (w.clients id).kept now) b (is_client_spent (w.clients id).kept) r v) (sym y)
+    (subst (λ (b : Bool). ByDue w id (moment_of (w.clients id).kept now) true b r v) (sym z) (e, is)))
 by_client_tick w slot now r v (sent id x y z e is) m =
     subst (λ (o : Option ℕ). ByClientTick w now o r v) (sym x)
-    (subst (λ (b : Bool). ByDue w id (moment_of (w.clients id) now) b (is_client_spent (w.clients id)) r v) (sym y)
-    (subst (λ (b : Bool). ByDue w id (moment_of (w.clients id) now) true b r v) (sym z) (e, is)))
+    (subst (λ (b : Bool). ByDue w id (moment_of (w.clients id).kept now) b (is_client_spent (w.clients id).kept) r v) (sym y)
+    (subst (λ (b : Bool). ByDue w id (moment_of (w.clients id).kept now) true b r v) (sym z) (e, is)))
 by_client_tick w slot now r v (no_memory e is) m = absurd (m.whole e)
 
 one_due : (w : World) (id now : ℕ) (a b : Bool) (r r' : Reply) (v v' : World) → ByDue w id now a b r v → ByDue w id now a b r' v'
     → (r ≡ r') × (v ≡ v')
-one_due w id now false b r r' v v' x y = both r r' (Sent (length w.sent + 1) 0) v v' (with_client w id (after_quiet (w.clients id) now)) x y
+one_due w id now false b r r' v v' x y =
+    both r r' (Sent (length w.sent + 1) 0) v v' (with_kept w id (after_quiet (w.clients id).kept now)) x y
 one_due w id now true true r r' v v' x y = both r r' (Failed Spent) v v' w x y
 one_due w id now true false r r' v v' x y = both r r'
-    (Sent (length w.sent + 1) (length (datagrams_from w.server.session id (w.clients id)))) v v' (after_client_sent w id now) x y
+    (Sent (length w.sent + 1) (length (datagrams_from w.server.session id (w.clients id).kept))) v v' (after_client_sent w id now) x y
 
 one_client_tick : (w : World) (now : ℕ) (o : Option ℕ) (r r' : Reply) (v v' : World) → ByClientTick w now o r v
     → ByClientTick w now o r' v' → (r ≡ r') × (v ≡ v')
 one_client_tick w now None r r' v v' x y = both r r' Refused v v' w x y
 one_client_tick w now (Some id) r r' v v' x y =
-    one_due w id (moment_of (w.clients id) now) (is_client_due (w.clients id) (moment_of (w.clients id) now))
-    (is_client_spent (w.clients id)) r r' v v' x y
+    one_due w id (moment_of (w.clients id).kept now) (is_client_due (w.clients id).kept (moment_of (w.clients id).kept now))
+    (is_client_spent (w.clients id).kept) r r' v v' x y
 
 -- ---- a datagram to the server
 
@@ -327,20 +328,20 @@ delivers_one v c r r' u d e = go (step_for c u.old u.new u.floor) refl
 
 -- its change is bad, or the receiver hears its update
 pub record IsBad (w : World) (id : ℕ) (u : DownValue) : Type 0 where
-  pub new : step_of (w.clients id) u ≡ step.New
+  pub new : step_of (w.clients id).kept u ≡ step.New
   pub base : Screenshot
-  pub there : state_at u.old (pairs (w.clients id).receiver) ≡ Some base
-  pub none : applied_by (w.clients id).version base u.change ≡ None
+  pub there : state_at u.old (pairs (w.clients id).kept.receiver) ≡ Some base
+  pub none : applied_by (w.clients id).kept.version base u.change ≡ None
 
 abbrev ByDown : World → ℕ → ℕ → Gathering → DownValue → Reply → World → Type 0
 ByDown w id now g u r v =
     (IsBad w id u × Are r v (Failed BadChange) w)
-    ⊎ ((q : Receiving Screenshot) × Delivers (applied_by (w.clients id).version) (w.clients id).receiver (update_in u) q
-    × Are r v (Heard (hearing_of (step_of (w.clients id) u))) (with_client w id (after_whole (w.clients id) now g q u)))
+    ⊎ ((q : Receiving Screenshot) × Delivers (applied_by (w.clients id).kept.version) (w.clients id).kept.receiver (update_in u) q
+    × Are r v (Heard (hearing_of (step_of (w.clients id).kept u))) (with_kept w id (after_whole (w.clients id).kept now g q u)))
 
 abbrev ByArriving : World → ℕ → ℕ → Arrival Hearing → Reply → World → Type 0
 ByArriving w id now (turned_away fault) r v = Are r v (Failed fault) w
-ByArriving w id now (noted h g) r v = Are r v (Heard h) (with_client w id (after_fragment (w.clients id) now g))
+ByArriving w id now (noted h g) r v = Are r v (Heard h) (with_kept w id (after_fragment (w.clients id).kept now g))
 ByArriving w id now (completed g text) r v =
     ((why : Reason) × SaysNoDown text why × Are r v (Failed (BadDatagram why)) w)
     ⊎ ((u : DownValue) × SaysDown text u × ByDown w id now g u r v)
@@ -348,7 +349,8 @@ ByArriving w id now (completed g text) r v =
 abbrev ByClient : World → ℕ → Option ℕ → Option DatagramValue → Reply → World → Type 0
 ByClient w now None o r v = Are r v Refused w
 ByClient w now (Some id) None r v = Are r v Refused w
-ByClient w now (Some id) (Some d) r v = ByArriving w id (moment_of (w.clients id) now) (arriving w.server.session id (w.clients id) d) r v
+ByClient w now (Some id) (Some d) r v =
+    ByArriving w id (moment_of (w.clients id).kept now) (arriving w.server.session id (w.clients id).kept d) r v
 
 by_client : (w : World) (slot k now : ℕ) (r : Reply) (v : World) → ToClientStep w slot k now r v → IsAmple r
     → ByClient w now (w.slots slot) (datagram_at w.sent k) r v
@@ -359,12 +361,12 @@ by_client w slot k now r v step m = go step
     no_datagram (Some id) a = a
 
     at : (id : ℕ) (d : DatagramValue) (x : Arrival Hearing) → w.slots slot ≡ Some id → datagram_at w.sent k ≡ Some d
-        → arriving w.server.session id (w.clients id) d ≡ x
-        → ByArriving w id (moment_of (w.clients id) now) x r v → ByClient w now (w.slots slot) (datagram_at w.sent k) r v
+        → arriving w.server.session id (w.clients id).kept d ≡ x
+        → ByArriving w id (moment_of (w.clients id).kept now) x r v → ByClient w now (w.slots slot) (datagram_at w.sent k) r v
     at id d x e f g b =
         subst (λ (o : Option ℕ). ByClient w now o (datagram_at w.sent k) r v) (sym e)
         (subst (λ (o : Option DatagramValue). ByClient w now (Some id) o r v) (sym f)
-        (subst (λ (c : Arrival Hearing). ByArriving w id (moment_of (w.clients id) now) c r v) (sym g) b))
+        (subst (λ (c : Arrival Hearing). ByArriving w id (moment_of (w.clients id).kept now) c r v) (sym g) b))
 
     go : ToClientStep w slot k now r v → ByClient w now (w.slots slot) (datagram_at w.sent k) r v
     go (empty_slot x e is) = subst (λ (o : Option ℕ). ByClient w now o (datagram_at w.sent k) r v) (sym x) (e, is)
@@ -385,24 +387,27 @@ one_down_reply w id now g u r r' v v' x y =
       | inl a ↦ elim y [ inl b ↦ both r r' (Failed BadChange) v v' w a.1 b.1 | inr b ↦ absurd (clash a.0 b.0 b.1) ]
       | inr a ↦ elim y [
         | inl b ↦ absurd (clash b.0 a.0 a.1)
-        | inr b ↦ (let same = delivers_one (w.clients id).version (w.clients id).receiver b.0 a.0 (update_in u) b.1 a.1 in
-            both r r' (Heard (hearing_of (step_of (w.clients id) u))) v v' (with_client w id (after_whole (w.clients id) now g a.0 u)) a.2
-            (b.2.0, b.2.1 ∙ ap (λ (q : Receiving Screenshot). with_client w id (after_whole (w.clients id) now g q u)) same))
+        | inr b ↦ (let same = delivers_one (w.clients id).kept.version (w.clients id).kept.receiver b.0 a.0 (update_in u) b.1 a.1 in
+            both r r' (Heard (hearing_of (step_of (w.clients id).kept u))) v v'
+            (with_kept w id (after_whole (w.clients id).kept now g a.0 u)) a.2
+            (b.2.0, b.2.1 ∙ ap (λ (q : Receiving Screenshot). with_kept w id (after_whole (w.clients id).kept now g q u)) same))
       ]
     ]
   where
-    clash : IsBad w id u → (q : Receiving Screenshot) → Delivers (applied_by (w.clients id).version) (w.clients id).receiver (update_in u) q → ⊥
+    clash : IsBad w id u → (q : Receiving Screenshot)
+        → Delivers (applied_by (w.clients id).kept.version) (w.clients id).kept.receiver (update_in u) q → ⊥
     clash bad q d =
         let t = d.fresh bad.new in
         let held : Some t.base ≡ Some bad.base = sym t.held ∙ bad.there in
         let base : t.base ≡ bad.base = cc in
-        let no : Some q.newest.state ≡ None = sym t.leads ∙ ap (λ (s : Screenshot). applied_by (w.clients id).version s u.change) base ∙ bad.none in
+        let no : Some q.newest.state ≡ None =
+        sym t.leads ∙ ap (λ (s : Screenshot). applied_by (w.clients id).kept.version s u.change) base ∙ bad.none in
         cc
 
 one_arriving : (w : World) (id now : ℕ) (c : Arrival Hearing) (r r' : Reply) (v v' : World) → ByArriving w id now c r v
     → ByArriving w id now c r' v' → (r ≡ r') × (v ≡ v')
 one_arriving w id now (turned_away f) r r' v v' x y = both r r' (Failed f) v v' w x y
-one_arriving w id now (noted h g) r r' v v' x y = both r r' (Heard h) v v' (with_client w id (after_fragment (w.clients id) now g)) x y
+one_arriving w id now (noted h g) r r' v v' x y = both r r' (Heard h) v v' (with_kept w id (after_fragment (w.clients id).kept now g)) x y
 one_arriving w id now (completed g text) r r' v v' x y =
     elim x [
       | inl a ↦ elim y [
@@ -422,7 +427,7 @@ one_client : (w : World) (now : ℕ) (o : Option ℕ) (p : Option DatagramValue)
 one_client w now None p r r' v v' x y = both r r' Refused v v' w x y
 one_client w now (Some id) None r r' v v' x y = both r r' Refused v v' w x y
 one_client w now (Some id) (Some d) r r' v v' x y =
-    one_arriving w id (moment_of (w.clients id) now) (arriving w.server.session id (w.clients id) d) r r' v v' x y
+    one_arriving w id (moment_of (w.clients id).kept now) (arriving w.server.session id (w.clients id).kept d) r r' v v' x y
 
 -- ---- a start
 

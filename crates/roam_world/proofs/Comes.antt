@@ -119,19 +119,19 @@ arrived_well vs g p (Some (Old, h)) is of w = ((λ z. cc), gathers_then down_tex
 arrived_well vs g p (Some (Whole text, h)) is of w = (gathers_then down_text vs g h p is of w.0 w.1, whole_is down_text vs p text is w.2)
 
 pub arriving_well : (session id : ℕ) (r : Record) (c : Client) (d : DatagramValue) → (d.client ≡ id → IsFragment (is_to_server d.kind) d r c)
-    → Gathers down_text r.instructions c.gathering → ArrivesWell r.instructions (arriving session id c d)
+    → Gathers down_text r.instructions c.kept.gathering → ArrivesWell r.instructions (arriving session id c.kept d)
 arriving_well session id r c d is of = one (is_to_server d.kind) is (not (nat_eq d.session session)) (nat_eq d.client id) refl
-    (not (is_same_version c.version d.version))
+    (not (is_same_version c.kept.version d.version))
   where
     two : IsFragmentOf (cuts_of down_text r.instructions) (fragment_of d)
-        → ArrivesWell r.instructions (arriving_gathered (gather c.gathering (fragment_of d)))
-    two i = arrived_well r.instructions c.gathering (fragment_of d) (gather c.gathering (fragment_of d)) i of
-        (well (cuts_of down_text r.instructions) c.gathering (fragment_of d) of.of i)
+        → ArrivesWell r.instructions (arriving_gathered (gather c.kept.gathering (fragment_of d)))
+    two i = arrived_well r.instructions c.kept.gathering (fragment_of d) (gather c.kept.gathering (fragment_of d)) i of
+        (well (cuts_of down_text r.instructions) c.kept.gathering (fragment_of d) of.of i)
 
     one : (to : Bool) → (d.client ≡ id → IsFragment to d r c) → (a b : Bool) → nat_eq d.client id ≡ b → (o : Bool)
         → ArrivesWell r.instructions (cond to (turned_away (BadDatagram reason.Kind))
         (cond a (turned_away OtherSession) (cond (not b) (turned_away OtherClient) (cond o (turned_away (BadDatagram reason.Version))
-        (arriving_gathered (gather c.gathering (fragment_of d)))))))
+        (arriving_gathered (gather c.kept.gathering (fragment_of d)))))))
     one true i a b e o = λ z. cc
     one false i true b e o = λ z. cc
     one false i false false e o = λ z. cc

@@ -42,8 +42,8 @@ use Rattle.roam_wire.specs.Datagrams.{DatagramValue}
 
 pub headline : (w : World) → Holds w → Headline w
 headline w h =
-    let is = (λ (id : ℕ). newest_true (IsScreenOf (w.clients id).version w.server.size w.server.log w.server.cuts) (w.clients id).receiver
-    (h.links id).truth.receiver) in (
+    let is = (λ (id : ℕ). newest_true (IsScreenOf (w.clients id).kept.version w.server.size w.server.log w.server.cuts)
+    (w.clients id).kept.receiver (h.links id).truth.receiver) in (
       record { made = (λ id. (is id).made); same = (λ id. (is id).same) },
       record {
         front = (λ id. front_is (acts_of id w.server.log) (w.clients id).typed (w.server.records id).taken (h.links id).acts.front);
@@ -72,29 +72,31 @@ pub at_most_eight : (w : World) → Holds w → HoldAtMostEight w
 at_most_eight w h =
     record {
       receivers = (λ id. let few = (h.links id).in_step.receiver_few in omega
-          (arith, few, length-append (w.clients id).receiver.earlier ((w.clients id).receiver.newest ∷ [])));
+          (arith, few, length-append (w.clients id).kept.receiver.earlier ((w.clients id).kept.receiver.newest ∷ [])));
       senders = (λ id. (h.links id).in_step.sender_few);
     }
 
 -- a change of an instruction that was sent is a good one
 pub good_change : (w : World) (id : ℕ) (v : DownValue) (base : Screenshot)
     → Rattle.roam_world.specs.Lists.IsIn v (w.server.records id).instructions
-    → state_at v.old (pairs (w.clients id).receiver) ≡ Some base
-    → applied_by (w.clients id).version base v.change ≡ None → Holds w → ⊥
+    → state_at v.old (pairs (w.clients id).kept.receiver) ≡ Some base
+    → applied_by (w.clients id).kept.version base v.change ≡ None → Holds w → ⊥
 good_change w id v base sent at none h =
     let t = (h.links id).truth in
     let leads = t.updates (update_in v) (v, sent, refl) in
-    let mine : IsScreenOf (w.clients id).version w.server.size w.server.log w.server.cuts v.old base =
-    found_true (IsScreenOf (w.clients id).version w.server.size w.server.log w.server.cuts) v.old (pairs (w.clients id).receiver) base t.receiver at in
-    let same : base ≡ leads.base = one_screen (w.clients id).version w.server.size w.server.log w.server.cuts v.old base leads.base mine leads.from_true in
-    let no : None ≡ Some leads.state = sym none ∙ ap (λ b. applied_by (w.clients id).version b v.change) same ∙ leads.leads in
+    let mine : IsScreenOf (w.clients id).kept.version w.server.size w.server.log w.server.cuts v.old base =
+    found_true (IsScreenOf (w.clients id).kept.version w.server.size w.server.log w.server.cuts) v.old
+    (pairs (w.clients id).kept.receiver) base t.receiver at in
+    let same : base ≡ leads.base =
+    one_screen (w.clients id).kept.version w.server.size w.server.log w.server.cuts v.old base leads.base mine leads.from_true in
+    let no : None ≡ Some leads.state = sym none ∙ ap (λ b. applied_by (w.clients id).kept.version b v.change) same ∙ leads.leads in
     cc
 
 no_gap_for : (w : World) (id : ℕ) (v : DownValue) → Rattle.roam_world.specs.Lists.IsIn v (w.server.records id).instructions → Holds w
-    → hearing_of (step_of (w.clients id) v) ≡ IsGap → ⊥
+    → hearing_of (step_of (w.clients id).kept v) ≡ IsGap → ⊥
 no_gap_for w id v sent h e =
     let l = (h.links id).in_step in
-    elim (old_or_new (w.server.records id).sender (w.clients id).receiver (Tells (w.server.records id).instructions)
+    elim (old_or_new (w.server.records id).sender (w.clients id).kept.receiver (Tells (w.server.records id).instructions)
     (Acks (w.clients id).instructions) l (update_in v) (v, sent, refl)) [
       | inl old ↦ (let f : hearing_of step.Old ≡ IsGap = ap hearing_of (sym old.0) ∙ e in cc)
       | inr new ↦ (let f : hearing_of step.New ≡ IsGap = ap hearing_of (sym new) ∙ e in cc)
@@ -167,7 +169,8 @@ offered_newest r n s now live low or = go (nat_lt (newest r.sender).number n) re
 pub offers_newest : (w : World) → Holds w → OffersNewest w
 offers_newest w h id now live or =
     let r = w.server.records id in
-    let top = (top_true (IsScreenOf (w.clients id).version w.server.size w.server.log w.server.cuts) r.sender (h.links id).truth.sender).made in
+    let top = (top_true (IsScreenOf (w.clients id).kept.version w.server.size w.server.log w.server.cuts) r.sender
+    (h.links id).truth.sender).made in
     let low : (newest r.sender).number ≤ number_after w.server (moment w.server now) = grows (makes w.server (moment w.server now)) top in
     let n = number_after w.server (moment w.server now) in
     let s = screen_to w.server (moment w.server now) id in
@@ -199,7 +202,7 @@ starts_agree w h id j version number =
     let a = (headline w h).0 in
     a.same id
     ∙ ap (λ (v : Version). screen v w.server.size w.server.log w.server.cuts (shown_number (w.clients id))) version
-    ∙ ap (λ (n : ℕ). screen (w.clients j).version w.server.size w.server.log w.server.cuts n) number
+    ∙ ap (λ (n : ℕ). screen (w.clients j).kept.version w.server.size w.server.log w.server.cuts n) number
     ∙ sym (a.same j)
 
 pub records_fit : (w : World) → Holds w → RecordsFit w
@@ -211,7 +214,8 @@ all_of_it w h =
       updates = (λ id v i. let t = (h.links id).truth.updates (update_in v) (v, i, refl) in (
         t.from_true.made,
         t.to_true.made,
-        ap (λ (s : Screenshot). applied_by (w.clients id).version s v.change) (sym t.from_true.same) ∙ t.leads ∙ ap Some t.to_true.same,
+        ap (λ (s : Screenshot). applied_by (w.clients id).kept.version s v.change) (sym t.from_true.same) ∙ t.leads
+            ∙ ap Some t.to_true.same,
       ));
       ids = one_text w h;
       pairs = hold_true w h;

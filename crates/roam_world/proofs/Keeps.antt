@@ -27,12 +27,12 @@ use Rattle.roam_world.specs.Versions.{applied_by}
 use Rattle.roam_world.specs.Lists.{IsIn, with_value}
 use Rattle.roam_world.specs.Moments.{is_spent}
 use Rattle.roam_world.specs.Numbers.{first_screen, IsScreenOf, acts_of}
-use Rattle.roam_world.specs.Texts.{update_in, is_to_server, is_watching, kind_from}
+use Rattle.roam_world.specs.Texts.{update_in, is_to_server, is_watching, kind_from, datagrams_of}
 use Rattle.roam_world.specs.Servers.{Record, no_record, after_input}
-use Rattle.roam_world.specs.Clients.{Client, nobody, new_client, shown_number, after_typed}
+use Rattle.roam_world.specs.Clients.{Client, nobody, new_client, shown_number, after_act}
 use Rattle.roam_world.specs.ClientArrivals.{after_fragment, after_whole}
-use Rattle.roam_world.specs.Sendings.{up_from, fragments_from, datagrams_from, is_client_spent, after_sending, after_quiet}
-use Rattle.roam_world.specs.Worlds.{World, with_server, with_client, after_client_sent, after_start}
+use Rattle.roam_world.specs.Sendings.{up_from, fragments_from, datagrams_from, is_client_spent, after_instruction, after_quiet}
+use Rattle.roam_world.specs.Worlds.{World, with_server, with_client, with_kept, after_client_sent, after_start}
 use Rattle.roam_world.specs.Holds.{cuts_of, Gathers, Tells, Acks, ActsOf, LinkOf, IsFragment, Bears, Fits, AreCuts, Holds, OnlyWatches}
 use Rattle.roam_world.proofs.Members.{IsIn-append_cases, IsIn-push_cases, on_put, put_same}
 use Rattle.roam_world.proofs.Screens.{one_screen, first_is, is_more, cuts_more, screens_more, acts_of-append}
@@ -51,14 +51,16 @@ pub link-more : (size : SessionSize) (log more : List Entry) (cuts : List ℕ) (
     → taken' ≡ taken → LinkOf size log cuts taken r c → LinkOf size (log ++ more) cuts taken' r c
 link-more size log more cuts taken taken' r c low same l =
     record {
-      truth = true_still (applied_by c.version) (IsScreenOf c.version size log cuts) r.sender c.receiver (Tells r.instructions) l.truth
-          (IsScreenOf c.version size (log ++ more) cuts) (Tells r.instructions) (is_more c.version size log more cuts low) (λ u t. t);
+      truth = true_still (applied_by c.kept.version) (IsScreenOf c.kept.version size log cuts) r.sender c.kept.receiver
+          (Tells r.instructions) l.truth (IsScreenOf c.kept.version size (log ++ more) cuts) (Tells r.instructions)
+          (is_more c.kept.version size log more cuts low) (λ u t. t);
       in_step = l.in_step;
       acts = subst (λ (t : List Act). ActsOf t r c) (sym same) l.acts;
       downs = l.downs;
       ups = l.ups;
       gathers_down = l.gathers_down;
       gathers_up = l.gathers_up;
+      count = l.count;
       notes = l.notes;
     }
 
@@ -91,8 +93,8 @@ abbrev pub Link : World → ℕ → Record → Client → Type 0
 Link w id r c = LinkOf w.server.size w.server.log w.server.cuts (acts_of id w.server.log) r c
 
 -- a client start that was made changes, and sent nothing
-pub keeps-client : (w : World) (id : ℕ) (c : Client) → c.made ≡ true → c.version ≡ (w.clients id).version → c.watches ≡ (w.clients id).watches → OnlyWatches c
-    → c.instructions ≡ (w.clients id).instructions
+pub keeps-client : (w : World) (id : ℕ) (c : Client) → c.made ≡ true → c.kept.version ≡ (w.clients id).kept.version
+    → c.kept.watches ≡ (w.clients id).kept.watches → OnlyWatches c → c.instructions ≡ (w.clients id).instructions
     → Link w id (w.server.records id) c
     → Holds w → Holds (with_client w id c)
 keeps-client w id c made version watches alone same link h =
@@ -134,27 +136,28 @@ kind_watches true = refl
 kind_watches false = refl
 
 -- all that was typed: what is acknowledged, and what isn't
-typed_length : (taken : List Act) (r : Record) (c : Client) → ActsOf taken r c → length c.typed ≡ c.acts.acked + length c.acts.acts
+typed_length : (taken : List Act) (r : Record) (c : Client) → ActsOf taken r c
+    → length c.typed ≡ c.kept.acts.acked + length c.kept.acts.acts
 typed_length taken r c a =
     let known = a.typed.known in
     let held = ap length a.typed.held in
-    omega (arith, known, held, length-drop c.acts.acked c.typed)
+    omega (arith, known, held, length-drop c.kept.acts.acked c.typed)
 
-pub keeps-typed : (w : World) (id : ℕ) (act : Act) → (w.clients id).made ≡ true → (w.clients id).watches ≡ false → IsAct act → (IsFull (w.clients id).acts → ⊥)
-    → (IsSpent (w.clients id).acts → ⊥)
-    → Holds w → Holds (with_client w id (after_typed (w.clients id) act))
+pub keeps-typed : (w : World) (id : ℕ) (act : Act) → (w.clients id).made ≡ true → (w.clients id).kept.watches ≡ false → IsAct act
+    → (IsFull (w.clients id).kept.acts → ⊥) → (IsSpent (w.clients id).kept.acts → ⊥)
+    → Holds w → Holds (with_client w id (after_act (w.clients id) act))
 keeps-typed w id act made edits is full spent h =
     let c = w.clients id in
     let l = h.links id in
     let a = l.acts in
     let r = w.server.records id in
     let few = a.few in
-    let room : length (w.clients id).acts.acts < 1024 = not_full full few in
+    let room : length (w.clients id).kept.acts.acts < 1024 = not_full full few in
     let many = typed_length (acts_of id w.server.log) r c a in
     let below = a.below in
     let fits : length (w.clients id).typed + 1 < 2 ^ 62 = not_spent room spent many below in
     let low = a.low in
-    keeps-client w id (after_typed (w.clients id) act) made refl refl (λ z. absurd (let no : true ≡ false = sym z ∙ edits in cc)) refl
+    keeps-client w id (after_act (w.clients id) act) made refl refl (λ z. absurd (let no : true ≡ false = sym z ∙ edits in cc)) refl
     (record {
       truth = l.truth;
       in_step = l.in_step;
@@ -162,8 +165,8 @@ keeps-typed w id act made edits is full spent h =
         count = a.count;
         front = a.front ∙ sym (take-append-le r.taken c.typed (act ∷ []) low);
         low = omega (arith, low, length-append (w.clients id).typed (act ∷ []));
-        typed = has_typed-more c.acts c.typed act a.typed;
-        few = omega (arith, room, length-append (w.clients id).acts.acts (act ∷ []));
+        typed = has_typed-more c.kept.acts c.typed act a.typed;
+        few = omega (arith, room, length-append (w.clients id).kept.acts.acts (act ∷ []));
         below = omega (arith, fits, length-append (w.clients id).typed (act ∷ []));
         are = All-push IsAct c.typed act a.are is;
         told = (λ u i. stretch-more c.typed u.acts u.first act (a.told u i));
@@ -172,17 +175,19 @@ keeps-typed w id act made edits is full spent h =
       ups = l.ups;
       gathers_down = l.gathers_down;
       gathers_up = l.gathers_up;
+      count = l.count;
       notes = l.notes;
     }) h
   where
-    not_full : (IsFull (w.clients id).acts → ⊥) → length (w.clients id).acts.acts ≤ 1024 → length (w.clients id).acts.acts < 1024
-    not_full full le = elim (cases (length (w.clients id).acts.acts) le) [ inl e ↦ absurd (full e) | inr lt ↦ lt ]
+    not_full : (IsFull (w.clients id).kept.acts → ⊥) → length (w.clients id).kept.acts.acts ≤ 1024
+        → length (w.clients id).kept.acts.acts < 1024
+    not_full full le = elim (cases (length (w.clients id).kept.acts.acts) le) [ inl e ↦ absurd (full e) | inr lt ↦ lt ]
       where
         cases : (n : ℕ) → n ≤ 1024 → (n ≡ 1024) ⊎ (n < 1024)
         cases n le = grind arith
 
-    not_spent : length (w.clients id).acts.acts < 1024 → (IsSpent (w.clients id).acts → ⊥)
-        → length (w.clients id).typed ≡ (w.clients id).acts.acked + length (w.clients id).acts.acts
+    not_spent : length (w.clients id).kept.acts.acts < 1024 → (IsSpent (w.clients id).kept.acts → ⊥)
+        → length (w.clients id).typed ≡ (w.clients id).kept.acts.acked + length (w.clients id).kept.acts.acts
         → length (w.clients id).typed < 2 ^ 62 → length (w.clients id).typed + 1 < 2 ^ 62
     not_spent room spent many below = elim (cases (length (w.clients id).typed) below)
         [ inl e ↦ absurd (spent (room, omega (arith, e, many))) | inr lt ↦ lt ]
@@ -191,11 +196,11 @@ keeps-typed w id act made edits is full spent h =
         cases n lt = grind arith
 
 pub keeps-quiet : (w : World) (id now : ℕ) → (w.clients id).made ≡ true → Holds w
-    → Holds (with_client w id (after_quiet (w.clients id) now))
+    → Holds (with_kept w id (after_quiet (w.clients id).kept now))
 keeps-quiet w id now made h =
     let l = h.links id in
     let a = l.acts in
-    keeps-client w id (after_quiet (w.clients id) now) made refl refl (h.watchers id) refl
+    keeps-client w id (record (w.clients id) { kept = after_quiet (w.clients id).kept now }) made refl refl (h.watchers id) refl
     (record {
       truth = l.truth;
       in_step = l.in_step;
@@ -214,16 +219,17 @@ keeps-quiet w id now made h =
       ups = l.ups;
       gathers_down = l.gathers_down;
       gathers_up = l.gathers_up;
+      count = l.count;
       notes = l.notes;
     }) h
 
 pub keeps-fragment : (w : World) (id now : ℕ) (g : Gathering) → (w.clients id).made ≡ true
     → Gathers down_text (w.server.records id).instructions g
-    → Holds w → Holds (with_client w id (after_fragment (w.clients id) now g))
+    → Holds w → Holds (with_kept w id (after_fragment (w.clients id).kept now g))
 keeps-fragment w id now g made of h =
     let l = h.links id in
     let a = l.acts in
-    keeps-client w id (after_fragment (w.clients id) now g) made refl refl (h.watchers id) refl
+    keeps-client w id (record (w.clients id) { kept = after_fragment (w.clients id).kept now g }) made refl refl (h.watchers id) refl
     (record {
       truth = l.truth;
       in_step = l.in_step;
@@ -242,6 +248,7 @@ keeps-fragment w id now g made of h =
       ups = l.ups;
       gathers_down = of;
       gathers_up = l.gathers_up;
+      count = l.count;
       notes = l.notes;
     }) h
 
@@ -279,18 +286,18 @@ hearken {S} applied Is s r r' u WasSent WasAnswered one truth in_step sent deliv
 
 pub keeps-whole : (w : World) (id now : ℕ) (g : Gathering) (r' : Receiving Screenshot) (v : DownValue) → (w.clients id).made ≡ true
     → Gathers down_text (w.server.records id).instructions g → IsIn v (w.server.records id).instructions
-    → Delivers (applied_by (w.clients id).version) (w.clients id).receiver (update_in v) r'
-    → Holds w → Holds (with_client w id (after_whole (w.clients id) now g r' v))
+    → Delivers (applied_by (w.clients id).kept.version) (w.clients id).kept.receiver (update_in v) r'
+    → Holds w → Holds (with_kept w id (after_whole (w.clients id).kept now g r' v))
 keeps-whole w id now g r' v made of sent delivers h =
     let c = w.clients id in
     let r = w.server.records id in
     let l = h.links id in
     let a = l.acts in
     let few = a.few in
-    let t = hearken (applied_by c.version) (IsScreenOf c.version w.server.size w.server.log w.server.cuts) r.sender c.receiver r' (update_in v)
-    (Tells r.instructions) (Acks c.instructions)
-    (one_screen c.version w.server.size w.server.log w.server.cuts) l.truth l.in_step (v, sent, refl) delivers in
-    keeps-client w id (after_whole (w.clients id) now g r' v) made refl refl (h.watchers id) refl
+    let t = hearken (applied_by c.kept.version) (IsScreenOf c.kept.version w.server.size w.server.log w.server.cuts) r.sender
+    c.kept.receiver r' (update_in v) (Tells r.instructions) (Acks c.instructions)
+    (one_screen c.kept.version w.server.size w.server.log w.server.cuts) l.truth l.in_step (v, sent, refl) delivers in
+    keeps-client w id (record (w.clients id) { kept = after_whole (w.clients id).kept now g r' v }) made refl refl (h.watchers id) refl
     (record {
       truth = t.truth;
       in_step = t.in_step;
@@ -298,8 +305,8 @@ keeps-whole w id now g r' v made of sent delivers h =
         count = a.count;
         front = a.front;
         low = a.low;
-        typed = has_typed-acked c.acts c.typed v.acked a.typed;
-        few = omega (arith, few, acked_few (w.clients id).acts v.acked);
+        typed = has_typed-acked c.kept.acts c.typed v.acked a.typed;
+        few = omega (arith, few, acked_few (w.clients id).kept.acts v.acked);
         below = a.below;
         are = a.are;
         told = a.told;
@@ -308,6 +315,7 @@ keeps-whole w id now g r' v made of sent delivers h =
       ups = l.ups;
       gathers_down = of;
       gathers_up = l.gathers_up;
+      count = l.count;
       notes = l.notes;
     }) h
 
@@ -326,24 +334,24 @@ pub or_right : (a b : Bool) → (a || b) ≡ false → b ≡ false
 or_right true b e = absurd (cc)
 or_right false b e = e
 
-up_is : (w : World) (id : ℕ) → is_client_spent (w.clients id) ≡ false → Holds w → IsUp (up_from (w.clients id))
+up_is : (w : World) (id : ℕ) → is_client_spent (w.clients id).kept ≡ false → Holds w → IsUp (up_from (w.clients id).kept)
 up_is w id e h =
     let c = w.clients id in
     let l = h.links id in
     let a = l.acts in
-    let made = (newest_true (IsScreenOf c.version w.server.size w.server.log w.server.cuts) c.receiver l.truth.receiver).made in
+    let made = (newest_true (IsScreenOf c.kept.version w.server.size w.server.log w.server.cuts) c.kept.receiver l.truth.receiver).made in
     let numbers = h.numbers in
-    let left = or_left (is_spent (c.acts.acked + 1) || is_spent (length c.instructions + 1))
-    (is_spent (c.datagrams + length (fragments_from c))) e in
-    let first = not_past (c.acts.acked + 1) (or_left (is_spent (c.acts.acked + 1)) (is_spent (length c.instructions + 1)) left) in
+    let left = or_left (is_spent (c.kept.acts.acked + 1) || is_spent (c.kept.instructions + 1))
+    (is_spent (c.kept.datagrams + length (fragments_from c.kept))) e in
+    let first = not_past (c.kept.acts.acked + 1) (or_left (is_spent (c.kept.acts.acked + 1)) (is_spent (c.kept.instructions + 1)) left) in
     record {
       acked = omega (arith, made, numbers);
       first = (omega arith, first);
-      count = omega (arith, length-take 64 (w.clients id).acts.acts);
-      acts = All-take IsAct 64 c.acts.acts (subst (All IsAct) (sym a.typed.held) (All-drop IsAct c.acts.acked c.typed a.are));
+      count = omega (arith, length-take 64 (w.clients id).kept.acts.acts);
+      acts = All-take IsAct 64 c.kept.acts.acts (subst (All IsAct) (sym a.typed.held) (All-drop IsAct c.kept.acts.acked c.typed a.are));
     }
 
-pub keeps-sending : (w : World) (id now : ℕ) → (w.clients id).made ≡ true → is_client_spent (w.clients id) ≡ false → Holds w
+pub keeps-sending : (w : World) (id now : ℕ) → (w.clients id).made ≡ true → is_client_spent (w.clients id).kept ≡ false → Holds w
     → Holds (after_client_sent w id now)
 keeps-sending w id now made e h =
     record {
@@ -353,8 +361,8 @@ keeps-sending w id now made e h =
       screens = h.screens;
       links = on_put (λ j x. Link w j (w.server.records j) x) w.clients id c' (record {
         truth = l.truth;
-        in_step = in_step_answered r.sender c.receiver (Tells r.instructions) (Acks c.instructions) l.in_step
-            (Acks (c.instructions ++ up_from c ∷ [])) acks;
+        in_step = in_step_answered r.sender c.kept.receiver (Tells r.instructions) (Acks c.instructions) l.in_step
+            (Acks (c.instructions ++ up_from c.kept ∷ [])) acks;
         acts = record {
           count = a.count;
           front = a.front;
@@ -363,34 +371,35 @@ keeps-sending w id now made e h =
           few = a.few;
           below = a.below;
           are = a.are;
-          told = (λ u i. elim (IsIn-push_cases u (up_from c) c.instructions i) [
+          told = (λ u i. elim (IsIn-push_cases u (up_from c.kept) c.instructions i) [
             | inl o ↦ a.told u o
-            | inr f ↦ subst (λ (x : UpValue). IsStretch c.typed x.first x.acts) f (stretch-waiting c.acts c.typed a.typed)
+            | inr f ↦ subst (λ (x : UpValue). IsStretch c.typed x.first x.acts) f (stretch-waiting c.kept.acts c.typed a.typed)
           ]);
         };
         downs = l.downs;
-        ups = (λ u i. elim (IsIn-push_cases u (up_from c) c.instructions i) [
+        ups = (λ u i. elim (IsIn-push_cases u (up_from c.kept) c.instructions i) [
           | inl o ↦ l.ups u o
           | inr f ↦ subst IsUp f (up_is w id e h)
         ]);
         gathers_down = l.gathers_down;
-        gathers_up = gathers-more up_text c.instructions (up_from c ∷ []) r.gathering l.gathers_up;
+        gathers_up = gathers-more up_text c.instructions (up_from c.kept ∷ []) r.gathering l.gathers_up;
+        count = ap (λ (n : ℕ). n + 1) l.count ∙ sym (length-append c.instructions (up_from c.kept ∷ []));
         notes = l.notes;
       }) (λ j f. h.links j);
-      fragments = (λ d i. elim (IsIn-append_cases d w.sent (datagrams_from w.server.session id c) i) [
+      fragments = (λ d i. elim (IsIn-append_cases d w.sent (datagrams_from w.server.session id c.kept) i) [
         | inl o ↦ on_put (λ j x. IsFragment (is_to_server d.kind) d (w.server.records d.client) (w.clients j)
             → IsFragment (is_to_server d.kind) d (w.server.records d.client) x) w.clients id c' (like (is_to_server d.kind) d)
             (λ j f p. p) d.client (h.fragments d o)
         | inr n ↦ new d n
       ]);
-      bears = (λ d i. elim (IsIn-append_cases d w.sent (datagrams_from w.server.session id c) i) [
+      bears = (λ d i. elim (IsIn-append_cases d w.sent (datagrams_from w.server.session id c.kept) i) [
         | inl o ↦ on_put (λ j x. Bears d (w.clients j) → Bears d x) w.clients id c'
             (λ b. record { made = made; version = b.version; watches = b.watches }) (λ j f b. b) d.client (h.bears d o)
         | inr n ↦ subst (λ (k : ℕ). Bears d (with_value w.clients id c' k)) (sym (packed d n).client_is)
             (subst (λ (x : Client). Bears d x) (sym (put_same w.clients id c')) (record {
               made = made;
               version = (packed d n).version_is;
-              watches = (λ t. ap is_watching (packed d n).kind_is ∙ kind_watches (w.clients id).watches);
+              watches = (λ t. ap is_watching (packed d n).kind_is ∙ kind_watches (w.clients id).kept.watches);
             }))
       ]);
       fits = on_put (λ j x. Fits (w.server.records j) x) w.clients id c' (let f = h.fits id in
@@ -408,7 +417,7 @@ keeps-sending w id now made e h =
     r = w.server.records id
 
     c' : Client
-    c' = after_sending (w.clients id) now
+    c' = after_instruction (w.clients id) now
 
     l : Link w id (w.server.records id) (w.clients id)
     l = h.links id
@@ -416,34 +425,38 @@ keeps-sending w id now made e h =
     a : ActsOf (acts_of id w.server.log) (w.server.records id) (w.clients id)
     a = l.acts
 
-    acks : (n : ℕ) → Acks ((w.clients id).instructions ++ up_from (w.clients id) ∷ []) n
+    acks : (n : ℕ) → Acks ((w.clients id).instructions ++ up_from (w.clients id).kept ∷ []) n
         → Acks (w.clients id).instructions n ⊎ (n ≡ shown_number (w.clients id))
-    acks n b = elim (IsIn-push_cases b.0 (up_from (w.clients id)) (w.clients id).instructions b.1)
+    acks n b = elim (IsIn-push_cases b.0 (up_from (w.clients id).kept) (w.clients id).instructions b.1)
         [ inl o ↦ inl (b.0, o, b.2) | inr f ↦ inr (sym b.2 ∙ ap (λ (u : UpValue). u.acked) (sym f)) ]
 
-    packed : (d : DatagramValue) → IsIn d (datagrams_from w.server.session id (w.clients id))
-        → IsPacked up_text ((w.clients id).instructions ++ up_from (w.clients id) ∷ []) (w.clients id).version (kind_from (w.clients id).watches) w.server.session id d
-    packed d i = packed_is up_text (w.clients id).instructions (up_from (w.clients id)) (w.clients id).version (kind_from (w.clients id).watches) w.server.session id
-        (w.clients id).datagrams d i
+    packed : (d : DatagramValue) → IsIn d (datagrams_from w.server.session id (w.clients id).kept)
+        → IsPacked up_text ((w.clients id).instructions ++ up_from (w.clients id).kept ∷ []) (w.clients id).kept.version
+        (kind_from (w.clients id).kept.watches) w.server.session id d
+    packed d i =
+        packed_is up_text (w.clients id).instructions (up_from (w.clients id).kept) (w.clients id).kept.version
+        (kind_from (w.clients id).kept.watches) w.server.session id (w.clients id).kept.datagrams d
+        (subst (λ (n : ℕ). IsIn d (datagrams_of (w.clients id).kept.version (kind_from (w.clients id).kept.watches) w.server.session id
+        (w.clients id).kept.datagrams (n + 1) (fragments_from (w.clients id).kept))) l.count i)
 
     like : (to : Bool) (d : DatagramValue) → IsFragment to d (w.server.records d.client) (w.clients id)
-        → IsFragment to d (w.server.records d.client) (after_sending (w.clients id) now)
+        → IsFragment to d (w.server.records d.client) (after_instruction (w.clients id) now)
     like false d p = p
-    like true d p = fragment-more up_text (w.clients id).instructions (up_from (w.clients id) ∷ []) (fragment_of d) p
+    like true d p = fragment-more up_text (w.clients id).instructions (up_from (w.clients id).kept ∷ []) (fragment_of d) p
 
-    new : (d : DatagramValue) → IsIn d (datagrams_from w.server.session id (w.clients id))
-        → IsFragment (is_to_server d.kind) d (w.server.records d.client) (with_value w.clients id (after_sending (w.clients id) now) d.client)
+    new : (d : DatagramValue) → IsIn d (datagrams_from w.server.session id (w.clients id).kept)
+        → IsFragment (is_to_server d.kind) d (w.server.records d.client) (with_value w.clients id (after_instruction (w.clients id) now) d.client)
     new d i =
         let p = packed d i in
         subst (λ (kind : Kind). IsFragment (is_to_server kind) d (w.server.records d.client)
-        (with_value w.clients id (after_sending (w.clients id) now) d.client))
+        (with_value w.clients id (after_instruction (w.clients id) now) d.client))
         (sym p.kind_is)
-        (subst (λ (to : Bool). IsFragment to d (w.server.records d.client) (with_value w.clients id (after_sending (w.clients id) now) d.client))
-        (sym (kind_goes (w.clients id).watches))
-        (subst (λ (k : ℕ). IsFragment true d (w.server.records d.client) (with_value w.clients id (after_sending (w.clients id) now) k))
+        (subst (λ (to : Bool). IsFragment to d (w.server.records d.client) (with_value w.clients id (after_instruction (w.clients id) now) d.client))
+        (sym (kind_goes (w.clients id).kept.watches))
+        (subst (λ (k : ℕ). IsFragment true d (w.server.records d.client) (with_value w.clients id (after_instruction (w.clients id) now) k))
         (sym p.client_is)
         (subst (λ (x : Client). IsFragment true d (w.server.records d.client) x)
-        (sym (put_same w.clients id (after_sending (w.clients id) now))) p.fragment)))
+        (sym (put_same w.clients id (after_instruction (w.clients id) now))) p.fragment)))
 
 -- no record is known of a start that isn't made
 unknown : (r : Record) (c : Client) → c.made ≡ false → Fits r c → r ≡ no_record
@@ -455,10 +468,10 @@ unknown r c made f = go r.known refl
 
 -- both ends have the first screen alone, which is one screen in each version
 first_true : (v : Version) (watches : Bool) (size : SessionSize) (log : List Entry) (cuts : List ℕ) (r : Record) → r ≡ no_record
-    → TrueLink (applied_by v) (IsScreenOf v size log cuts) r.sender (new_client v watches).receiver (Tells r.instructions)
+    → TrueLink (applied_by v) (IsScreenOf v size log cuts) r.sender (new_client v watches).kept.receiver (Tells r.instructions)
 unfolding no_record nobody
 first_true v watches size log cuts r is =
-    subst (λ (x : Record). TrueLink (applied_by v) (IsScreenOf v size log cuts) x.sender (new_client v watches).receiver (Tells x.instructions))
+    subst (λ (x : Record). TrueLink (applied_by v) (IsScreenOf v size log cuts) x.sender (new_client v watches).kept.receiver (Tells x.instructions))
     (sym is) (true_at_first (applied_by v) (IsScreenOf v size log cuts) first_screen (Tells []) (first_is v size log cuts) (λ u t. t.1))
 
 none_typed : (v : Version) (watches : Bool) → (new_client v watches).typed ≡ []
@@ -499,6 +512,7 @@ keeps-start w slot id v watches made fit h =
         ups = l.ups;
         gathers_down = l.gathers_down;
         gathers_up = l.gathers_up;
+        count = l.count;
         notes = l.notes;
       }) (λ j e. h.links j);
       fragments = (λ d i. on_put (λ j x. IsFragment (is_to_server d.kind) d (w.server.records d.client) (w.clients j)

@@ -36,9 +36,9 @@ use Rattle.roam_wire.specs.Datagrams.{DatagramValue}
 record Went (w w'' : World) (cuts : ℕ → List (List ℕ)) (id n m : ℕ) (ks : List (ℕ × ℕ)) : Type 0 where
   ps : List FragmentValue
   all : AllOf cuts n ps
-  gatherer : (w''.clients id).gathering ≡ gathered_all (w.clients id).gathering ps
-  shows : Shows n m (w.clients id).gathering (w.clients id).receiver.newest.number
-      → Shows n m (w''.clients id).gathering (w''.clients id).receiver.newest.number
+  gatherer : (w''.clients id).kept.gathering ≡ gathered_all (w.clients id).kept.gathering ps
+  shows : Shows n m (w.clients id).kept.gathering (w.clients id).kept.receiver.newest.number
+      → Shows n m (w''.clients id).kept.gathering (w''.clients id).kept.receiver.newest.number
   comes : (k later : ℕ) (d : DatagramValue) → IsIn (k, later) ks → datagram_at w.sent k ≡ Some d → Comes d.index ps
 
 -- each of these is a fragment of instruction n
@@ -53,7 +53,8 @@ top_at w' w id n m v same t =
       top = subst (λ (q : Server). m ≡ (newest (q.records id).sender).number) same t.top;
     }
 
-one_at : (w' w : World) (id n : ℕ) → w.server ≡ w'.server → (w.clients id).version ≡ (w'.clients id).version → (d : DatagramValue) → IsOne w id n d → IsOne w' id n d
+one_at : (w' w : World) (id n : ℕ) → w.server ≡ w'.server
+    → (w.clients id).kept.version ≡ (w'.clients id).kept.version → (d : DatagramValue) → IsOne w id n d → IsOne w' id n d
 one_at w' w id n same version d o =
     record {
       version_is = o.version_is ∙ version;
@@ -72,9 +73,9 @@ goes w w'' slot id n m v [] [] h s t each run fine =
     record {
       ps = [];
       all = tt;
-      gatherer = ap (λ (q : World). (q.clients id).gathering) run;
-      shows = subst (λ (q : World). Shows n m (w.clients id).gathering (w.clients id).receiver.newest.number
-          → Shows n m (q.clients id).gathering (q.clients id).receiver.newest.number) (sym run) (λ z. z);
+      gatherer = ap (λ (q : World). (q.clients id).kept.gathering) run;
+      shows = subst (λ (q : World). Shows n m (w.clients id).kept.gathering (w.clients id).kept.receiver.newest.number
+          → Shows n m (q.clients id).kept.gathering (q.clients id).kept.receiver.newest.number) (sym run) (λ z. z);
       comes = (λ k later d i e. absurd i);
     }
 goes w w'' slot id n m v [] (r ∷ rs) h s t each run fine = absurd run
@@ -153,7 +154,7 @@ record IsRound (w w' : World) (id : ℕ) : Type 0 where
   v : DownValue
   n : ℕ
   top : IsTop w' id n (newest (w'.server.records id).sender).number v
-  later : (w'.clients id).gathering.id < n
+  later : (w'.clients id).kept.gathering.id < n
   one : (k : ℕ) (d : DatagramValue) → IsFresh w w' id k d → IsOne w' id n d
   each : (i : ℕ) → i < length (cuts_of down_text (w'.server.records id).instructions n) → (k : ℕ) × (d : DatagramValue) × (d.index ≡ i)
       × IsFresh w w' id k d
@@ -238,7 +239,7 @@ round_of w now id unspent h k0 d0 some =
 over : (w w' w'' : World) (slot id : ℕ) (ks : List (ℕ × ℕ)) (rs : List Reply) → w.slots slot ≡ Some id → IsRound w w' id
     → (k : ℕ) (d : DatagramValue) → IsFresh w w' id k d
     → DeliversAll w w' id ks → Run w' (deliveries slot ks) rs w'' → (IsIn (Failed OutOfMemory) rs → ⊥)
-    → (w''.clients id).receiver.newest.number ≡ (newest (w'.server.records id).sender).number
+    → (w''.clients id).kept.receiver.newest.number ≡ (newest (w'.server.records id).sender).number
 over w w' w'' slot id ks rs s round k0 d0 some all run fine =
     let m = (newest (w'.server.records id).sender).number in
     let each : EachIsOne w' id round.n ks = λ k later i. let j = all.just k later i in (j.0, j.1.1, round.one k j.0 j.1) in
@@ -264,7 +265,7 @@ over w w' w'' slot id ks rs s round k0 d0 some all run fine =
 pub one_round : (w : World) → Holds w → OneRoundSuffices w
 one_round w h slot id now ks reply w' rs w'' s step fine some all run ok = go step
   where
-    go : ServerTickStep w now reply w' → (w''.clients id).receiver.newest.number ≡ (newest (w'.server.records id).sender).number
+    go : ServerTickStep w now reply w' → (w''.clients id).kept.receiver.newest.number ≡ (newest (w'.server.records id).sender).number
     go (spent x e is) = absurd (no_later w.sent some.0 some.1 some.2.0
         (subst (λ (q : World). datagram_at q.sent some.0 ≡ Some some.1) is some.2.1))
     go (did_tick x e is) =

@@ -25,10 +25,10 @@ use Rattle.roam_world.specs.Servers.{Server, moment, after_input}
 use Rattle.roam_world.specs.ServerArrivals.{coming, coming_gathered, after_note, new_acts, after_acts, room_for, is_full_for, is_of_other, is_else}
 use Rattle.roam_world.specs.Arrival.{Arrival, turned_away, noted, completed}
 use Rattle.roam_world.specs.Ticks.{sent_by, is_tick_spent}
-use Rattle.roam_world.specs.Clients.{Client, moment_of, after_typed}
+use Rattle.roam_world.specs.Clients.{Kept, moment_of, after_act}
 use Rattle.roam_world.specs.ClientArrivals.{Hearing, arriving, arriving_gathered, after_fragment, step_of, hearing_of, after_whole}
 use Rattle.roam_world.specs.Sendings.{is_client_due, is_client_spent, datagrams_from, after_quiet}
-use Rattle.roam_world.specs.Worlds.{World, PaneBytes, Typed, ServerTick, ClientTick, ToServer, ToClient, Start, Drain, Done, Sent, Taken, Heard, Refused, Failed, Stopped, datagram_at, with_server, with_client, after_server_tick, after_client_sent, after_start}
+use Rattle.roam_world.specs.Worlds.{World, PaneBytes, Typed, ServerTick, ClientTick, ToServer, ToClient, Start, Drain, Done, Sent, Taken, Heard, Refused, Failed, Stopped, datagram_at, with_server, with_client, with_kept, after_server_tick, after_client_sent, after_start}
 use Rattle.roam_world.specs.Steps.{refused, taken, no_pane, too_many, gone, empty_slot, full, spent, typed, ticked, quiet, sent, not_sent, fragment, all_taken, no_room, whole, used, started, watching, unfit, is_unfit}
 use Rattle.roam_world.specs.Laws.{IsAmple, IsAnswered, HasReply}
 use Rattle.roam_world.specs.Holds.{Holds}
@@ -119,7 +119,7 @@ gathered_else (Some (Part, g)) = tt
 gathered_else (Some (Old, g)) = tt
 gathered_else (Some (Whole text, g)) = tt
 
-arriving_else : (session id : ℕ) (c : Client) (d : DatagramValue) → IsElse (arriving session id c d)
+arriving_else : (session id : ℕ) (c : Kept) (d : DatagramValue) → IsElse (arriving session id c d)
 unfolding IsElse
 arriving_else session id c d =
     go (arriving_gathered (gather c.gathering (fragment_of d))) (is_to_server d.kind) (not (nat_eq d.session session))
@@ -134,7 +134,7 @@ arriving_else session id c d =
     go x false false false true i = λ e. cc
     go x false false false false i = i
 
-back_other : (session id : ℕ) (c : Client) (d : DatagramValue) (f : Fault) → arriving session id c d ≡ turned_away f → f ≡ OutOfMemory → ⊥
+back_other : (session id : ℕ) (c : Kept) (d : DatagramValue) (f : Fault) → arriving session id c d ≡ turned_away f → f ≡ OutOfMemory → ⊥
 unfolding IsElse
 back_other session id c d f e = subst IsElse e (arriving_else session id c d)
 
@@ -173,16 +173,16 @@ drain_reply w pane n (Some output) e =
 equal_or : (a b : ℕ) → (a ≡ b) ⊎ (a ≡ b → ⊥)
 equal_or a b = grind arith
 
-edited_reply : (w : World) (slot : ℕ) (act : Act) (id : ℕ) → w.slots slot ≡ Some id → (w.clients id).watches ≡ false
+edited_reply : (w : World) (slot : ℕ) (act : Act) (id : ℕ) → w.slots slot ≡ Some id → (w.clients id).kept.watches ≡ false
     → IsAnswered w (Typed slot act)
 edited_reply w slot act id e q =
-    elim (equal_or (length (w.clients id).acts.acts) 1024) [
+    elim (equal_or (length (w.clients id).kept.acts.acts) 1024) [
       | inl f ↦ record { reply = Failed Busy; left = w; step = full id e q f refl refl; ample = failed_ample Busy (λ g. cc) }
-      | inr f ↦ elim (spent_or (length (w.clients id).acts.acts) (last_number (w.clients id).acts)) [
+      | inr f ↦ elim (spent_or (length (w.clients id).kept.acts.acts) (last_number (w.clients id).kept.acts)) [
         | inl g ↦ record { reply = Failed Spent; left = w; step = spent id e q g refl refl; ample = failed_ample Spent (λ z. cc) }
         | inr g ↦ record {
           reply = Done;
-          left = with_client w id (after_typed (w.clients id) act);
+          left = with_client w id (after_act (w.clients id) act);
           step =
               typed id e q f g refl refl;
           ample = done_ample;
@@ -202,9 +202,9 @@ edited_reply w slot act id e q =
 
 typed_reply : (w : World) (slot : ℕ) (act : Act) (o : Option ℕ) → w.slots slot ≡ o → IsAnswered w (Typed slot act)
 typed_reply w slot act None e = record { reply = Refused; left = w; step = empty_slot e refl refl; ample = refused_ample }
-typed_reply w slot act (Some id) e = go (w.clients id).watches refl
+typed_reply w slot act (Some id) e = go (w.clients id).kept.watches refl
   where
-    go : (b : Bool) → (w.clients id).watches ≡ b → IsAnswered w (Typed slot act)
+    go : (b : Bool) → (w.clients id).kept.watches ≡ b → IsAnswered w (Typed slot act)
     go true q = record { reply = Failed Watching; left = w; step = watching id e q refl refl; ample = failed_ample Watching (λ z. cc) }
     go false q = edited_reply w slot act id e q
 
@@ -221,23 +221,24 @@ server_tick_reply w now false e =
 
 client_tick_reply : (w : World) (slot now : ℕ) (o : Option ℕ) → w.slots slot ≡ o → IsAnswered w (ClientTick slot now)
 client_tick_reply w slot now None e = record { reply = Refused; left = w; step = empty_slot e refl refl; ample = refused_ample }
-client_tick_reply w slot now (Some id) e = go (is_client_due (w.clients id) (moment_of (w.clients id) now)) refl
-    (is_client_spent (w.clients id)) refl
+client_tick_reply w slot now (Some id) e = go (is_client_due (w.clients id).kept (moment_of (w.clients id).kept now)) refl
+    (is_client_spent (w.clients id).kept) refl
   where
-    go : (a : Bool) → is_client_due (w.clients id) (moment_of (w.clients id) now) ≡ a → (b : Bool) → is_client_spent (w.clients id) ≡ b
+    go : (a : Bool) → is_client_due (w.clients id).kept (moment_of (w.clients id).kept now) ≡ a
+        → (b : Bool) → is_client_spent (w.clients id).kept ≡ b
         → IsAnswered w (ClientTick slot now)
     go false x b y = record {
       reply = Sent (length w.sent + 1) 0;
-      left = with_client w id (after_quiet (w.clients id) (moment_of (w.clients id) now));
+      left = with_kept w id (after_quiet (w.clients id).kept (moment_of (w.clients id).kept now));
       step = quiet id e x refl refl;
       ample = sent_ample (length w.sent + 1) 0;
     }
     go true x true y = record { reply = Failed Spent; left = w; step = spent id e x y refl refl; ample = failed_ample Spent (λ z. cc) }
     go true x false y = record {
-      reply = Sent (length w.sent + 1) (length (datagrams_from w.server.session id (w.clients id)));
-      left = after_client_sent w id (moment_of (w.clients id) now);
+      reply = Sent (length w.sent + 1) (length (datagrams_from w.server.session id (w.clients id).kept));
+      left = after_client_sent w id (moment_of (w.clients id).kept now);
       step = sent id e x y refl refl;
-      ample = sent_ample (length w.sent + 1) (length (datagrams_from w.server.session id (w.clients id)));
+      ample = sent_ample (length w.sent + 1) (length (datagrams_from w.server.session id (w.clients id).kept));
     }
 
 start_reply : (w : World) (slot id : ℕ) (v : Version) (watches b c : Bool) → (w.clients id).made ≡ b → is_unfit v watches ≡ c
@@ -323,43 +324,46 @@ server_reply w k from now h (Some d) e = go (coming w.server d) refl (comes w k 
 
 -- an update that was sent is heard
 heard_by : (w : World) (id : ℕ) (v : DownValue) → IsIn v (w.server.records id).instructions → Holds w
-    → (r : Receiving Screenshot) × Delivers (applied_by (w.clients id).version) (w.clients id).receiver (update_in v) r
-heard_by w id v was h = go (step_of (w.clients id) v) refl (state_at v.old (pairs (w.clients id).receiver)) refl
+    → (r : Receiving Screenshot) × Delivers (applied_by (w.clients id).kept.version) (w.clients id).kept.receiver (update_in v) r
+heard_by w id v was h = go (step_of (w.clients id).kept v) refl (state_at v.old (pairs (w.clients id).kept.receiver)) refl
   where
     c : Receiving Screenshot
-    c = (w.clients id).receiver
+    c = (w.clients id).kept.receiver
 
-    leads : LeadsTruly (applied_by (w.clients id).version) (IsScreenOf (w.clients id).version w.server.size w.server.log w.server.cuts) (update_in v)
+    leads : LeadsTruly (applied_by (w.clients id).kept.version)
+        (IsScreenOf (w.clients id).kept.version w.server.size w.server.log w.server.cuts) (update_in v)
     leads = (h.links id).truth.updates (update_in v) (v, was, refl)
 
-    there : (o : Option Screenshot) → state_at v.old (pairs (w.clients id).receiver) ≡ o → step_of (w.clients id) v ≡ step.New
+    there : (o : Option Screenshot) → state_at v.old (pairs (w.clients id).kept.receiver) ≡ o → step_of (w.clients id).kept v ≡ step.New
         → is_none o ≡ true → ⊥
-    there o e f n = by (nat_le v.new (w.clients id).receiver.newest.number)
-        (subst (λ (p : Option Screenshot). cond (nat_le v.new (w.clients id).receiver.newest.number) step.Old
-        (cond (is_none p) step.Gap (cond (nat_le 8 (length (from_floor v.floor (pairs (w.clients id).receiver)))) step.Gap step.New)) ≡
+    there o e f n = by (nat_le v.new (w.clients id).kept.receiver.newest.number)
+        (subst (λ (p : Option Screenshot). cond (nat_le v.new (w.clients id).kept.receiver.newest.number) step.Old
+        (cond (is_none p) step.Gap (cond (nat_le 8 (length (from_floor v.floor (pairs (w.clients id).kept.receiver)))) step.Gap step.New)) ≡
         step.New) e f)
       where
         by : (b : Bool) → cond b step.Old (cond (is_none o) step.Gap
-            (cond (nat_le 8 (length (from_floor v.floor (pairs (w.clients id).receiver)))) step.Gap step.New)) ≡ step.New → ⊥
+            (cond (nat_le 8 (length (from_floor v.floor (pairs (w.clients id).kept.receiver)))) step.Gap step.New)) ≡ step.New → ⊥
         by true g = cc
         by false g = let z : step.Gap ≡ step.New = subst
-            (λ (b : Bool). cond b step.Gap (cond (nat_le 8 (length (from_floor v.floor (pairs (w.clients id).receiver)))) step.Gap
+            (λ (b : Bool). cond b step.Gap (cond (nat_le 8 (length (from_floor v.floor (pairs (w.clients id).kept.receiver)))) step.Gap
             step.New) ≡ step.New) n g in cc
 
-    other : (x : Step) → step_of (w.clients id) v ≡ x → (x ≡ step.New → ⊥)
-        → (r : Receiving Screenshot) × Delivers (applied_by (w.clients id).version) (w.clients id).receiver (update_in v) r
+    other : (x : Step) → step_of (w.clients id).kept v ≡ x → (x ≡ step.New → ⊥)
+        → (r : Receiving Screenshot) × Delivers (applied_by (w.clients id).kept.version) (w.clients id).kept.receiver (update_in v) r
     other x e differs = (c, record { fresh = (λ f. absurd (differs (sym e ∙ f))); other = (λ f. refl) })
 
-    go : (x : Step) → step_of (w.clients id) v ≡ x → (o : Option Screenshot) → state_at v.old (pairs (w.clients id).receiver) ≡ o
-        → (r : Receiving Screenshot) × Delivers (applied_by (w.clients id).version) (w.clients id).receiver (update_in v) r
+    go : (x : Step) → step_of (w.clients id).kept v ≡ x → (o : Option Screenshot) → state_at v.old (pairs (w.clients id).kept.receiver) ≡ o
+        → (r : Receiving Screenshot) × Delivers (applied_by (w.clients id).kept.version) (w.clients id).kept.receiver (update_in v) r
     go step.Old e o f = other step.Old e (λ z. cc)
     go step.Gap e o f = other step.Gap e (λ z. cc)
     go step.New e None f = absurd (there None f e refl)
     go step.New e (Some base) f =
-        let mine : IsScreenOf (w.clients id).version w.server.size w.server.log w.server.cuts v.old base =
-        found_true (IsScreenOf (w.clients id).version w.server.size w.server.log w.server.cuts) v.old (pairs (w.clients id).receiver) base
+        let mine : IsScreenOf (w.clients id).kept.version w.server.size w.server.log w.server.cuts v.old base =
+        found_true (IsScreenOf (w.clients id).kept.version w.server.size w.server.log w.server.cuts) v.old
+        (pairs (w.clients id).kept.receiver) base
         (h.links id).truth.receiver f in
-        let same : base ≡ leads.base = one_screen (w.clients id).version w.server.size w.server.log w.server.cuts v.old base leads.base mine leads.from_true in
+        let same : base ≡ leads.base =
+        one_screen (w.clients id).kept.version w.server.size w.server.log w.server.cuts v.old base leads.base mine leads.from_true in
         let r' : Receiving Screenshot = record {
           earlier = from_floor v.floor (pairs c);
           newest =
@@ -370,7 +374,7 @@ heard_by w id v was h = go (step_of (w.clients id) v) refl (state_at v.old (pair
             fresh = (λ n. record {
               base = base;
               held = f;
-              leads = ap (λ (s : Screenshot). applied_by (w.clients id).version s v.change) same ∙ leads.leads;
+              leads = ap (λ (s : Screenshot). applied_by (w.clients id).kept.version s v.change) same ∙ leads.leads;
               number =
                   refl;
               earlier = refl;
@@ -383,10 +387,10 @@ client_reply : (w : World) (slot k now : ℕ) → Holds w → (o : Option ℕ) �
     → datagram_at w.sent k ≡ p → IsAnswered w (ToClient slot k now)
 client_reply w slot k now h None e p f = record { reply = Refused; left = w; step = empty_slot e refl refl; ample = refused_ample }
 client_reply w slot k now h (Some id) e None f = record { reply = Refused; left = w; step = not_sent f refl refl; ample = refused_ample }
-client_reply w slot k now h (Some id) e (Some d) f = go (arriving w.server.session id (w.clients id) d) refl (arrives w id k d f h)
+client_reply w slot k now h (Some id) e (Some d) f = go (arriving w.server.session id (w.clients id).kept d) refl (arrives w id k d f h)
   where
-    go : (c : Arrival Hearing) → arriving w.server.session id (w.clients id) d ≡ c
-        → ArrivesWell (w.server.records id).instructions (arriving w.server.session id (w.clients id) d)
+    go : (c : Arrival Hearing) → arriving w.server.session id (w.clients id).kept d ≡ c
+        → ArrivesWell (w.server.records id).instructions (arriving w.server.session id (w.clients id).kept d)
         → IsAnswered w (ToClient slot k now)
     go (turned_away g) x well =
         record {
@@ -394,12 +398,12 @@ client_reply w slot k now h (Some id) e (Some d) f = go (arriving w.server.sessi
           left = w;
           step = refused id d g e f x refl refl;
           ample =
-              failed_ample g (back_other w.server.session id (w.clients id) d g x);
+              failed_ample g (back_other w.server.session id (w.clients id).kept d g x);
         }
     go (noted how g) x well =
         record {
           reply = Heard how;
-          left = with_client w id (after_fragment (w.clients id) (moment_of (w.clients id) now) g);
+          left = with_kept w id (after_fragment (w.clients id).kept (moment_of (w.clients id).kept now) g);
           step =
               fragment id d how g e f x refl refl;
           ample = heard_ample how;
@@ -408,10 +412,10 @@ client_reply w slot k now h (Some id) e (Some d) f = go (arriving w.server.sessi
         let of = (subst (ArrivesWell (w.server.records id).instructions) x well).1 in
         let r = heard_by w id of.value of.there h in
         record {
-          reply = Heard (hearing_of (step_of (w.clients id) of.value));
-          left = with_client w id (after_whole (w.clients id) (moment_of (w.clients id) now) g r.0 of.value);
+          reply = Heard (hearing_of (step_of (w.clients id).kept of.value));
+          left = with_kept w id (after_whole (w.clients id).kept (moment_of (w.clients id).kept now) g r.0 of.value);
           step = whole id d g text of.value r.0 e f x (record { is = (h.links id).downs of.value of.there; spelled = of.is }) r.1 refl refl;
-          ample = heard_ample (hearing_of (step_of (w.clients id) of.value));
+          ample = heard_ample (hearing_of (step_of (w.clients id).kept of.value));
         }
 
 pub has_reply : (w : World) → Holds w → HasReply w

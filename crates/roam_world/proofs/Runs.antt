@@ -50,7 +50,7 @@ comes w k d e h = coming_well w.server (w.server.records d.client) (w.clients d.
     (h.links d.client).gathers_up
 
 pub arrives : (w : World) (id k : ℕ) (d : DatagramValue) → datagram_at w.sent k ≡ Some d → Holds w
-    → ArrivesWell (w.server.records id).instructions (arriving w.server.session id (w.clients id) d)
+    → ArrivesWell (w.server.records id).instructions (arriving w.server.session id (w.clients id).kept d)
 arrives w id k d e h =
     arriving_well w.server.session id (w.server.records id) (w.clients id) d
     (λ same. subst (λ (i : ℕ). IsFragment (is_to_server d.kind) d (w.server.records i) (w.clients i)) same (h.fragments d (was_sent w k d e)))
@@ -92,10 +92,10 @@ keeps-server_tick w now r w' (no_memory e is) h = subst Holds (sym is) h
 keeps-client_tick : (w : World) (slot now : ℕ) (r : Reply) (w' : World) → ClientTickStep w slot now r w' → Holds w → Holds w'
 keeps-client_tick w slot now r w' (empty_slot x e is) h = subst Holds (sym is) h
 keeps-client_tick w slot now r w' (quiet id x y e is) h =
-    subst Holds (sym is) (keeps-quiet w id (moment_of (w.clients id) now) (h.slots slot id x) h)
+    subst Holds (sym is) (keeps-quiet w id (moment_of (w.clients id).kept now) (h.slots slot id x) h)
 keeps-client_tick w slot now r w' (spent id x y z e is) h = subst Holds (sym is) h
 keeps-client_tick w slot now r w' (sent id x y z e is) h =
-    subst Holds (sym is) (keeps-sending w id (moment_of (w.clients id) now) (h.slots slot id x) z h)
+    subst Holds (sym is) (keeps-sending w id (moment_of (w.clients id).kept now) (h.slots slot id x) z h)
 keeps-client_tick w slot now r w' (no_memory e is) h = subst Holds (sym is) h
 
 -- what an instruction says that came whole at the server was sent
@@ -142,12 +142,13 @@ keeps-to_client w slot k now r w' (not_sent x e is) h = subst Holds (sym is) h
 keeps-to_client w slot k now r w' (refused id d f x y z e is) h = subst Holds (sym is) h
 keeps-to_client w slot k now r w' (fragment id d how g x y z e is) h =
     let c = subst (ArrivesWell (w.server.records id).instructions) z (arrives w id k d y h) in
-    subst Holds (sym is) (keeps-fragment w id (moment_of (w.clients id) now) g (h.slots slot id x) c.1 h)
+    subst Holds (sym is) (keeps-fragment w id (moment_of (w.clients id).kept now) g (h.slots slot id x) c.1 h)
 keeps-to_client w slot k now r w' (unread id d g text why x y z a e is) h = subst Holds (sym is) h
 keeps-to_client w slot k now r w' (bad_change id d g text v base x y z a b c' d' e is) h = subst Holds (sym is) h
 keeps-to_client w slot k now r w' (whole id d g text v q x y z a b e is) h =
     let c = subst (ArrivesWell (w.server.records id).instructions) z (arrives w id k d y h) in
-    subst Holds (sym is) (keeps-whole w id (moment_of (w.clients id) now) g q v (h.slots slot id x) c.0 (arrived w id text v c.1 a h) b h)
+    subst Holds (sym is) (keeps-whole w id (moment_of (w.clients id).kept now) g q v (h.slots slot id x) c.0
+    (arrived w id text v c.1 a h) b h)
 keeps-to_client w slot k now r w' (no_memory e is) h = subst Holds (sym is) h
 
 keeps-starting : (w : World) (slot id : ℕ) (v : Version) (watches : Bool) (r : Reply) (w' : World) → StartStep w slot id v watches r w' → Holds w → Holds w'
@@ -193,6 +194,7 @@ holds-new session size limits =
         ups = (λ v i. absurd i);
         gathers_down = gathers-nothing down_text [];
         gathers_up = gathers-nothing up_text [];
+        count = refl;
         notes = refl;
       });
       fragments = (λ d i. absurd i);

@@ -28,7 +28,7 @@ use Rattle.roam_world.specs.ServerArrivals.{coming, coming_gathered, arrival_wit
 use Rattle.roam_world.specs.Arrival.{Arrival, turned_away, noted, completed}
 use Rattle.roam_world.specs.Ticks.{makes, number_after, screen_to, holds_after, sends, down_to, fragments_to, after_sent, ticked_record, datagrams_to, is_record_spent, Parcel, parcel, parcels_to, sent_by, is_tick_spent}
 use Rattle.roam_world.specs.Clients.{Client, nobody, new_client, moment_of}
-use Rattle.roam_world.specs.Sendings.{up_from, fragments_from, datagrams_from, is_client_spent, after_sending}
+use Rattle.roam_world.specs.Sendings.{up_from, fragments_from, datagrams_from, is_client_spent, after_instruction}
 use Rattle.roam_world.specs.Worlds.{World, new_world, Event, PaneBytes, Typed, ServerTick, ClientTick, ToServer, ToClient, Start, Drain, Reply, with_client}
 use Rattle.roam_world.specs.Steps.{refused, taken, no_pane, too_many, gone, empty_slot, full, spent, typed, no_memory, ticked as did_tick, quiet, sent, not_sent, fragment, unread, all_taken, no_room, no_memory_at_act, bad_change, whole, used, started, wstep, Run, watching, unfit}
 use Rattle.roam_world.specs.Laws.{IsEvent, AreEvents, Always}
@@ -131,24 +131,24 @@ roomy : (v : Version) (n : ℕ) → n ≤ 1000 → n ≤ most_bytes v
 roomy One n le = omega (arith, le)
 roomy Two n le = omega (arith, le)
 
-from_sendable : (w : World) (id : ℕ) → is_client_spent (w.clients id) ≡ false → (w.clients id).made ≡ true → Holds w → Counts w → (d : DatagramValue)
-    → IsIn d (datagrams_from w.server.session id (w.clients id)) → IsDatagram d
+from_sendable : (w : World) (id : ℕ) → is_client_spent (w.clients id).kept ≡ false → (w.clients id).made ≡ true → Holds w → Counts w
+    → (d : DatagramValue) → IsIn d (datagrams_from w.server.session id (w.clients id).kept) → IsDatagram d
 from_sendable w id e made h k d i =
     let c = w.clients id in
-    let left = or_left (is_spent (c.acts.acked + 1) || is_spent (length c.instructions + 1))
-    (is_spent (c.datagrams + length (fragments_from c))) e in
-    let number = not_past (length c.instructions + 1) (or_right (is_spent (c.acts.acked + 1)) (is_spent (length c.instructions + 1)) left)
+    let left = or_left (is_spent (c.kept.acts.acked + 1) || is_spent (c.kept.instructions + 1))
+    (is_spent (c.kept.datagrams + length (fragments_from c.kept))) e in
+    let number = not_past (c.kept.instructions + 1) (or_right (is_spent (c.kept.acts.acked + 1)) (is_spent (c.kept.instructions + 1)) left)
     in
-    let numbers = not_past (c.datagrams + length (fragments_from c))
-    (or_right (is_spent (c.acts.acked + 1) || is_spent (length c.instructions + 1)) (is_spent (c.datagrams + length (fragments_from c)))
-    e) in
-    let many = up_length (up_from (w.clients id)) in
-    let few = acts_length (up_from (w.clients id)).acts in
-    let taken = length-take 64 (w.clients id).acts.acts in
-    packed_sendable c.version (kind_from c.watches) w.server.session id c.datagrams (length c.instructions + 1) (up_text (up_from c)) d k.session
-    (k.starts id made)
-    (omega arith) number numbers (roomy c.version (length (up_text (up_from c))) (omega (arith, many, few, taken)))
-    (λ z. (h.watchers id (only (w.clients id).watches z)).1) i
+    let numbers = not_past (c.kept.datagrams + length (fragments_from c.kept))
+    (or_right (is_spent (c.kept.acts.acked + 1) || is_spent (c.kept.instructions + 1))
+    (is_spent (c.kept.datagrams + length (fragments_from c.kept))) e) in
+    let many = up_length (up_from (w.clients id).kept) in
+    let few = acts_length (up_from (w.clients id).kept).acts in
+    let taken = length-take 64 (w.clients id).kept.acts.acts in
+    packed_sendable c.kept.version (kind_from c.kept.watches) w.server.session id c.kept.datagrams (c.kept.instructions + 1)
+    (up_text (up_from c.kept)) d k.session (k.starts id made)
+    (omega arith) number numbers (roomy c.kept.version (length (up_text (up_from c.kept))) (omega (arith, many, few, taken)))
+    (λ z. (h.watchers id (only (w.clients id).kept.watches z)).1) i
   where
     only : (watches : Bool) → kind_from watches ≡ FromWatcher → watches ≡ true
     only true z = refl
@@ -196,7 +196,7 @@ to_sendable w now e h k d i =
             let held = holds_after r n (s id) now in
             let long = down_length (down_to r n (s id) now) in
             let few = subst (λ (v : Version). 32 + length (difference_by v held.base.state (newest held).state) ≤ most_bytes v)
-            (sym ((h.fits id).version known)) (change_short (w.clients id).version held.base.state (newest held).state
+            (sym ((h.fits id).version known)) (change_short (w.clients id).kept.version held.base.state (newest held).state
             (newest_screen w now e h id)) in
             subst (λ (k : ℕ). k ≤ most_bytes (w.server.records id).version) (sym long) few
 
@@ -395,13 +395,13 @@ counts-step w (ClientTick slot now) r w' i (spent id x y z e is) h k = subst Cou
 counts-step w (ClientTick slot now) r w' i (sent id x y z e is) h k =
     subst Counts (sym is) (record {
       session = k.session;
-      starts = on_put (λ j c. c.made ≡ true → j < 2 ^ 64) w.clients id (after_sending (w.clients id) (moment_of (w.clients id) now))
-          (λ f. k.starts id (h.slots slot id x)) (λ j f. k.starts j);
+      starts = on_put (λ j c. c.made ≡ true → j < 2 ^ 64) w.clients id
+          (after_instruction (w.clients id) (moment_of (w.clients id).kept now)) (λ f. k.starts id (h.slots slot id x)) (λ j f. k.starts j);
       arrived = k.arrived;
       known = k.known;
       ids = k.ids;
       few = k.few;
-      sent = (λ d j. elim (IsIn-append_cases d w.sent (datagrams_from w.server.session id (w.clients id)) j) [
+      sent = (λ d j. elim (IsIn-append_cases d w.sent (datagrams_from w.server.session id (w.clients id).kept) j) [
         | inl o ↦ k.sent d o
         | inr n ↦ from_sendable w id z (h.slots slot id x) h k d n
       ]);

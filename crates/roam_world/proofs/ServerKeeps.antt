@@ -114,6 +114,7 @@ keeps-note w d from now g to bears of h =
         ups = l.ups;
         gathers_down = l.gathers_down;
         gathers_up = of;
+        count = l.count;
         notes = latest_noted r d.number from l.notes;
       }) (λ j e. h.links j);
       fragments = (λ x i. on_put (λ j y. IsFragment (is_to_server x.kind) x (w.server.records j) (w.clients x.client)
@@ -139,10 +140,11 @@ keeps-acts w d from now g u n to bears of sent few h =
       screens = screens_more size log more cuts h.cuts h.screens;
       links = on_put (λ j x. LinkOf size (log ++ more) cuts (acts_of j (log ++ more)) x (w.clients j)) w.server.records d.client r'
           (record {
-            truth = true_acked (applied_by c.version) (IsScreenOf c.version size (log ++ more) cuts) r.sender c.receiver (Tells r.instructions)
-                (true_still (applied_by c.version) (IsScreenOf c.version size log cuts) r.sender c.receiver (Tells r.instructions) l.truth
-                (IsScreenOf c.version size (log ++ more) cuts) (Tells r.instructions) (is_more c.version size log more cuts h.cuts) (λ u t. t)) u.acked;
-            in_step = in_step_acked r.sender c.receiver (Tells r.instructions) (Acks c.instructions) l.in_step u.acked (u, sent, refl);
+            truth = true_acked (applied_by c.kept.version) (IsScreenOf c.kept.version size (log ++ more) cuts) r.sender c.kept.receiver
+                (Tells r.instructions) (true_still (applied_by c.kept.version) (IsScreenOf c.kept.version size log cuts) r.sender
+                c.kept.receiver (Tells r.instructions) l.truth (IsScreenOf c.kept.version size (log ++ more) cuts) (Tells r.instructions)
+                (is_more c.kept.version size log more cuts h.cuts) (λ u t. t)) u.acked;
+            in_step = in_step_acked r.sender c.kept.receiver (Tells r.instructions) (Acks c.instructions) l.in_step u.acked (u, sent, refl);
             acts =
                 (let count = a.count in
                 let stretch = a.told u sent in
@@ -165,6 +167,7 @@ keeps-acts w d from now g u n to bears of sent few h =
             ups = l.ups;
             gathers_down = l.gathers_down;
             gathers_up = of;
+            count = l.count;
             notes = latest_noted r d.number from l.notes;
           })
           (λ j e. link-more size log more cuts (acts_of j log) (acts_of j (log ++ more)) (w.server.records j) (w.clients j) h.cuts
@@ -232,8 +235,8 @@ top_true Is s are = go s.base s.later are
 -- what a link is that holds, with the sender s
 record HoldsLine (size : SessionSize) (log : List Entry) (cuts : List ℕ) (s : Sending Screenshot) (vs : List DownValue)
     (c : Client) : Type 0 where
-  truth : TrueLink (applied_by c.version) (IsScreenOf c.version size log cuts) s c.receiver (Tells vs)
-  in_step : AreInStep s c.receiver (Tells vs) (Acks c.instructions)
+  truth : TrueLink (applied_by c.kept.version) (IsScreenOf c.kept.version size log cuts) s c.kept.receiver (Tells vs)
+  in_step : AreInStep s c.kept.receiver (Tells vs) (Acks c.instructions)
 
 pub and_right : (a b : Bool) → (a && b) ≡ true → b ≡ true
 and_right true b e = e
@@ -259,7 +262,7 @@ none_held n s now = refl
 
 module _ (size : SessionSize) (log : List Entry) (cuts : List ℕ) (taken : List Act) (r : Record) (c : Client) (n : ℕ) (s : Screenshot)
     (now : ℕ)
-    (is : r.known ≡ true → IsScreenOf c.version size log cuts n s) (fit : Fits r c) (screens : AreScreens size log cuts) (few : length cuts < 2 ^ 62)
+    (is : r.known ≡ true → IsScreenOf c.kept.version size log cuts n s) (fit : Fits r c) (screens : AreScreens size log cuts) (few : length cuts < 2 ^ 62)
     (l : LinkOf size log cuts taken r c) where
   -- after the offer
   offer_holds : HoldsLine size log cuts (holds_after r n s now) r.instructions c
@@ -274,31 +277,32 @@ module _ (size : SessionSize) (log : List Entry) (cuts : List ℕ) (taken : List
           (and_left (is_live r now && nat_lt (newest r.sender).number n) (nat_lt (count r.sender) 8) e) in
           let room = and_right (is_live r now && nat_lt (newest r.sender).number n) (nat_lt (count r.sender) 8) e in
           record {
-            truth = true_offered (applied_by c.version) (IsScreenOf c.version size log cuts) r.sender c.receiver (Tells r.instructions) l.truth n s
+            truth = true_offered (applied_by c.kept.version) (IsScreenOf c.kept.version size log cuts) r.sender c.kept.receiver
+                (Tells r.instructions) l.truth n s
                 (is (live_known r now live));
-            in_step = in_step_offered r.sender c.receiver (Tells r.instructions) (Acks c.instructions) l.in_step n s (grind (arith, nat_tests))
+            in_step = in_step_offered r.sender c.kept.receiver (Tells r.instructions) (Acks c.instructions) l.in_step n s (grind (arith, nat_tests))
                 (grind (arith, nat_tests));
           }
       go false e = record { truth = l.truth; in_step = l.in_step }
 
   -- what is told is a screen
-  pub newest_shown : IsSeenBy c.version (newest (holds_after r n s now)).state
+  pub newest_shown : IsSeenBy c.kept.version (newest (holds_after r n s now)).state
   newest_shown =
-      let top = top_true (IsScreenOf c.version size log cuts) (holds_after r n s now) offer_holds.truth.sender in
-      subst (IsSeenBy c.version) (sym top.same) (screens c.version (newest (holds_after r n s now)).number top.made)
+      let top = top_true (IsScreenOf c.kept.version size log cuts) (holds_after r n s now) offer_holds.truth.sender in
+      subst (IsSeenBy c.kept.version) (sym top.same) (screens c.kept.version (newest (holds_after r n s now)).number top.made)
 
   -- the change that is sent leads from the base to the newest
-  change_leads : r.known ≡ true → IsChange (applied_by c.version) (holds_after r n s now) (down_to r n s now).change
-  change_leads known = subst (λ (v : Version). applied_by c.version (holds_after r n s now).base.state
+  change_leads : r.known ≡ true → IsChange (applied_by c.kept.version) (holds_after r n s now) (down_to r n s now).change
+  change_leads known = subst (λ (v : Version). applied_by c.kept.version (holds_after r n s now).base.state
       (difference_by v (holds_after r n s now).base.state (newest (holds_after r n s now)).state) ≡ Some (newest (holds_after r n s now)).state)
       (sym (fit.version known))
-      (difference_leads c.version (holds_after r n s now).base.state (newest (holds_after r n s now)).state newest_shown)
+      (difference_leads c.kept.version (holds_after r n s now).base.state (newest (holds_after r n s now)).state newest_shown)
 
   -- what is sent has a text
   pub down_is : IsDown (down_to r n s now)
   down_is =
       let held = holds_after r n s now in
-      let top = (top_true (IsScreenOf c.version size log cuts) (holds_after r n s now) offer_holds.truth.sender).made in
+      let top = (top_true (IsScreenOf c.kept.version size log cuts) (holds_after r n s now) offer_holds.truth.sender).made in
       let rises = base_least held.base held.later (newest held).number offer_holds.in_step.sender_rises (last_among held.base held.later) in
       let low = l.acts.low in
       let below = l.acts.below in
@@ -317,10 +321,11 @@ module _ (size : SessionSize) (log : List Entry) (cuts : List ℕ) (taken : List
 
       go : (b : Bool) → sends r n s now ≡ b → LinkOf size log cuts taken (cond b (after_sent r n s now) (record r { sender = holds_after r n s now })) c
       go true e = record {
-        truth = true_sent (applied_by c.version) (IsScreenOf c.version size log cuts) (holds_after r n s now) c.receiver (Tells r.instructions) offer_holds.truth
+        truth = true_sent (applied_by c.kept.version) (IsScreenOf c.kept.version size log cuts) (holds_after r n s now)
+            c.kept.receiver (Tells r.instructions) offer_holds.truth
             (Tells (r.instructions ++ down_to r n s now ∷ [])) now (down_to r n s now).change
             (change_leads (sends_known r n s now e)) tells;
-        in_step = in_step_sent (holds_after r n s now) c.receiver (Tells r.instructions) (Acks c.instructions) offer_holds.in_step
+        in_step = in_step_sent (holds_after r n s now) c.kept.receiver (Tells r.instructions) (Acks c.instructions) offer_holds.in_step
             (Tells (r.instructions ++ down_to r n s now ∷ [])) now (down_to r n s now).change tells;
         acts = record {
           count = a.count;
@@ -336,8 +341,9 @@ module _ (size : SessionSize) (log : List Entry) (cuts : List ℕ) (taken : List
         downs = (λ v i. elim (IsIn-push_cases v (down_to r n s now) r.instructions i)
             [ inl o ↦ l.downs v o | inr f ↦ subst IsDown f down_is ]);
         ups = l.ups;
-        gathers_down = gathers-more down_text r.instructions (down_to r n s now ∷ []) c.gathering l.gathers_down;
+        gathers_down = gathers-more down_text r.instructions (down_to r n s now ∷ []) c.kept.gathering l.gathers_down;
         gathers_up = l.gathers_up;
+        count = l.count;
         notes = l.notes;
       }
       go false e = record {
@@ -358,6 +364,7 @@ module _ (size : SessionSize) (log : List Entry) (cuts : List ℕ) (taken : List
         ups = l.ups;
         gathers_down = l.gathers_down;
         gathers_up = l.gathers_up;
+        count = l.count;
         notes = l.notes;
       }
 
@@ -366,14 +373,16 @@ link-cut : (size : SessionSize) (log : List Entry) (cuts : List ℕ) (k : ℕ) (
     → LinkOf size log (cuts ++ k ∷ []) taken r c
 link-cut size log cuts k taken r c l =
     record {
-      truth = true_still (applied_by c.version) (IsScreenOf c.version size log cuts) r.sender c.receiver (Tells r.instructions) l.truth
-          (IsScreenOf c.version size log (cuts ++ k ∷ [])) (Tells r.instructions) (λ n s i. is_cut c.version size log cuts k n s i) (λ u t. t);
+      truth = true_still (applied_by c.kept.version) (IsScreenOf c.kept.version size log cuts) r.sender c.kept.receiver
+          (Tells r.instructions) l.truth (IsScreenOf c.kept.version size log (cuts ++ k ∷ [])) (Tells r.instructions)
+          (λ n s i. is_cut c.kept.version size log cuts k n s i) (λ u t. t);
       in_step = l.in_step;
       acts = l.acts;
       downs = l.downs;
       ups = l.ups;
       gathers_down = l.gathers_down;
       gathers_up = l.gathers_up;
+      count = l.count;
       notes = l.notes;
     }
 
@@ -482,7 +491,7 @@ cuts_hold w now spent h = go (makes w.server now) refl (or_left _ _ spent)
 
 -- the screen of the newest number for a record is one of its start's version
 screen_for : (w : World) (now id : ℕ) → Fits (w.server.records id) (w.clients id) → (w.server.records id).known ≡ true
-    → IsScreenOf (w.clients id).version w.server.size w.server.log (cuts_after w.server now) (number_after w.server now)
+    → IsScreenOf (w.clients id).kept.version w.server.size w.server.log (cuts_after w.server now) (number_after w.server now)
     (screen_to w.server now id)
 screen_for w now id f known = record {
   made = omega arith;
@@ -491,7 +500,7 @@ screen_for w now id f known = record {
 
 -- the screen that a tick tells a record of is one that its start may be shown
 pub newest_screen : (w : World) (now : ℕ) → is_tick_spent w.server now ≡ false → Holds w → (id : ℕ)
-    → IsSeenBy (w.clients id).version
+    → IsSeenBy (w.clients id).kept.version
     (newest (holds_after (w.server.records id) (number_after w.server now) (screen_to w.server now id) now)).state
 newest_screen w now spent h id =
     let c = cuts_hold w now spent h in

@@ -20,7 +20,7 @@ use Rattle.roam_world.specs.Servers.{Record, Server, no_record, new_server, afte
 use Rattle.roam_world.specs.ServerArrivals.{coming, reach, is_full_for}
 use Rattle.roam_world.specs.Arrival.{turned_away}
 use Rattle.roam_world.specs.Ticks.{makes, cuts_after, is_live, is_offered, down_from}
-use Rattle.roam_world.specs.Clients.{new_client}
+use Rattle.roam_world.specs.Clients.{new_kept}
 use Rattle.roam_world.specs.ClientArrivals.{arriving}
 use Rattle.roam_world.specs.Laws.{greatest_from, no_note}
 use Rattle.roam_wire.specs.declared.versions.Version.{Version}
@@ -69,17 +69,17 @@ first_acts : acts_of 161 (Did 161 a ∷ Did 161 b ∷ Did 162 c ∷ []) ≡ a �
 first_acts = refl
 
 -- what was sent to the first start is nothing for the later one in its slot
-other_start : arriving 1 162 (new_client One false) (first_of One ToClient 161) ≡ turned_away OtherClient
+other_start : arriving 1 162 (new_kept One false) (first_of One ToClient 161) ≡ turned_away OtherClient
 other_start = refl
 
-other_session : arriving 2 161 (new_client One false) (first_of One ToClient 161) ≡ turned_away OtherSession
+other_session : arriving 2 161 (new_kept One false) (first_of One ToClient 161) ≡ turned_away OtherSession
 other_session = refl
 
-wrong_way : arriving 1 161 (new_client One false) (first_of One ToServer 161) ≡ turned_away (BadDatagram reason.Kind)
+wrong_way : arriving 1 161 (new_kept One false) (first_of One ToServer 161) ≡ turned_away (BadDatagram reason.Kind)
 wrong_way = refl
 
 -- nor is what was sent to it in the other version
-other_version : arriving 1 161 (new_client One false) (first_of Two ToClient 161) ≡ turned_away (BadDatagram reason.Version)
+other_version : arriving 1 161 (new_kept One false) (first_of Two ToClient 161) ≡ turned_away (BadDatagram reason.Version)
 other_version = refl
 
 -- ---- a 65th start, a 17th that only watches

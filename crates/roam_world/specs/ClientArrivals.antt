@@ -14,7 +14,7 @@ use Rattle.roam_world.specs.Arrival.{Arrival, turned_away, noted, completed}
 use Rattle.roam_world.specs.Moments.{owed_from}
 use Rattle.roam_world.specs.Versions.{is_same_version}
 use Rattle.roam_world.specs.Texts.{is_to_server}
-use Rattle.roam_world.specs.Clients.{Client}
+use Rattle.roam_world.specs.Clients.{Kept}
 use Rattle.roam_wire.specs.Datagrams.{DatagramValue}
 
 -- what a client start answers to a datagram that it takes: the instruction isn't whole, or its update is old, leaves a gap or is new
@@ -32,23 +32,23 @@ arriving_gathered (Some (Old, g)) = noted IsOld g
 arriving_gathered (Some (Whole text, g)) = completed g text
 
 -- in this order: its direction, its session, its client start, its version, its fragment
-abbrev pub arriving : ℕ → ℕ → Client → DatagramValue → Arrival Hearing
-arriving session id c d =
+abbrev pub arriving : ℕ → ℕ → Kept → DatagramValue → Arrival Hearing
+arriving session id k d =
     if is_to_server d.kind then turned_away (BadDatagram reason.Kind)
     else if not (d.session == session) then turned_away OtherSession
     else if not (d.client == id) then turned_away OtherClient
-    else if not (is_same_version c.version d.version) then turned_away (BadDatagram reason.Version)
-    else arriving_gathered (gather c.gathering (fragment_of d))
+    else if not (is_same_version k.version d.version) then turned_away (BadDatagram reason.Version)
+    else arriving_gathered (gather k.gathering (fragment_of d))
 
 -- ---- what it leaves
 
 -- after a datagram that made no instruction whole
-abbrev pub after_fragment : Client → ℕ → Gathering → Client
-after_fragment c now g = record c { gathering = g; clock = now }
+abbrev pub after_fragment : Kept → ℕ → Gathering → Kept
+after_fragment k now g = record k { gathering = g; clock = now }
 
 -- what the receiver makes of an instruction's update, by its numbers alone
-abbrev pub step_of : Client → DownValue → Step
-step_of c d = step_for c.receiver d.old d.new d.floor
+abbrev pub step_of : Kept → DownValue → Step
+step_of k d = step_for k.receiver d.old d.new d.floor
 
 abbrev pub hearing_of : Step → Hearing
 hearing_of step.Old = IsOld
@@ -57,12 +57,12 @@ hearing_of step.New = IsNew
 
 -- after a whole instruction, where the receiver holds r then: what it acknowledges goes to the acts, whatever the receiver made of it, and
 -- where its new number is above its old one an answer is owed
-abbrev pub after_whole : Client → ℕ → Gathering → Receiving Screenshot → DownValue → Client
-after_whole c now g r d =
-    record c {
-      acts = acked_to c.acts d.acked;
+abbrev pub after_whole : Kept → ℕ → Gathering → Receiving Screenshot → DownValue → Kept
+after_whole k now g r d =
+    record k {
+      acts = acked_to k.acts d.acked;
       gathering = g;
       receiver = r;
-      owed = if nat_lt d.old d.new then owed_from c.owed now else c.owed;
+      owed = if nat_lt d.old d.new then owed_from k.owed now else k.owed;
       clock = now;
     }

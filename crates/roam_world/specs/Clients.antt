@@ -10,15 +10,12 @@ use Rattle.roam_world.specs.Numbers.{first_screen}
 use Rattle.roam_wire.specs.declared.versions.Version.{Version}
 use Rattle.roam_wire.specs.declared.versions.Version.TheVariants.{Two}
 
-pub record Client : Type 0 where
-  -- whether there was such a start
-  pub made : Bool
+-- what a program keeps of a client start
+pub record Kept : Type 0 where
   -- its version, and whether it only watches
   pub version : Version
   pub watches : Bool
-  -- all acts that were typed at it, as a history: no program keeps it
-  pub typed : List Act
-  -- how many of them are acknowledged, and those that aren't
+  -- how many of the acts that were typed at it are acknowledged, and those that aren't
   pub acts : Typing
   -- what is gathered of the newest instruction to it
   pub gathering : Gathering
@@ -31,9 +28,18 @@ pub record Client : Type 0 where
   pub owed : Option ℕ
   -- the greatest moment so far
   pub clock : ℕ
-  -- how many datagrams it sent
+  -- how many datagrams and how many instructions it sent
   pub datagrams : ℕ
-  -- all instructions that it sent, the first under the number 1: a program keeps their number
+  pub instructions : ℕ
+
+-- a client start: what is kept of it, and its histories, which no program keeps
+pub record Client : Type 0 where
+  -- whether there was such a start
+  pub made : Bool
+  pub kept : Kept
+  -- all acts that were typed at it
+  pub typed : List Act
+  -- all instructions that it sent, the first under the number 1
   pub instructions : List UpValue
 
 -- what is there before a start
@@ -41,35 +47,44 @@ unfoldable pub nobody : Client
 nobody =
     record {
       made = false;
-      version = Two;
-      watches = false;
+      kept = record {
+        version = Two;
+        watches = false;
+        acts = no_acts;
+        gathering = nothing;
+        receiver = start first_screen;
+        sent_at = None;
+        sent_act = 0;
+        owed = None;
+        clock = 0;
+        datagrams = 0;
+        instructions = 0;
+      };
       typed = [];
-      acts = no_acts;
-      gathering = nothing;
-      receiver = start first_screen;
-      sent_at = None;
-      sent_act = 0;
-      owed = None;
-      clock = 0;
-      datagrams = 0;
       instructions = [];
     }
 
 -- what a start is at first
+abbrev pub new_kept : Version → Bool → Kept
+new_kept v watches = record nobody.kept { version = v; watches = watches }
+
 abbrev pub new_client : Version → Bool → Client
-new_client v watches = record nobody { made = true; version = v; watches = watches }
+new_client v watches = record nobody { made = true; kept = new_kept v watches }
 
 -- the moment that the start goes by: none below an earlier one
-abbrev pub moment_of : Client → ℕ → ℕ
-moment_of c now = max now c.clock
+abbrev pub moment_of : Kept → ℕ → ℕ
+moment_of k now = max now k.clock
 
 -- the number and the screen that it shows
 abbrev pub shown_number : Client → ℕ
-shown_number c = c.receiver.newest.number
+shown_number c = c.kept.receiver.newest.number
 
 abbrev pub shown_screen : Client → Screenshot
-shown_screen c = c.receiver.newest.state
+shown_screen c = c.kept.receiver.newest.state
 
 -- one more act was typed
-abbrev pub after_typed : Client → Act → Client
-after_typed c act = record c { typed = c.typed ++ act ∷ []; acts = after_typing c.acts act }
+abbrev pub after_typed : Kept → Act → Kept
+after_typed k act = record k { acts = after_typing k.acts act }
+
+abbrev pub after_act : Client → Act → Client
+after_act c act = record c { kept = after_typed c.kept act; typed = c.typed ++ act ∷ [] }

@@ -57,21 +57,22 @@ pub record ActsOf (taken : List Act) (r : Record) (c : Client) : Type 0 where
   pub count : r.taken ≡ length taken
   pub front : taken ≡ take r.taken c.typed
   pub low : r.taken ≤ length c.typed
-  pub typed : HasTyped c.acts c.typed
-  pub few : length c.acts.acts ≤ most_unacknowledged
+  pub typed : HasTyped c.kept.acts c.typed
+  pub few : length c.kept.acts.acts ≤ most_unacknowledged
   pub below : length c.typed < number_limit
   pub are : All IsAct c.typed
   pub told : (u : UpValue) → IsIn u c.instructions → IsStretch c.typed u.first u.acts
 
 -- of one client start and its record
 pub record LinkOf (size : SessionSize) (log : List Entry) (cuts : List ℕ) (taken : List Act) (r : Record) (c : Client) : Type 0 where
-  pub truth : TrueLink (applied_by c.version) (IsScreenOf c.version size log cuts) r.sender c.receiver (Tells r.instructions)
-  pub in_step : AreInStep r.sender c.receiver (Tells r.instructions) (Acks c.instructions)
+  pub truth : TrueLink (applied_by c.kept.version) (IsScreenOf c.kept.version size log cuts) r.sender c.kept.receiver (Tells r.instructions)
+  pub in_step : AreInStep r.sender c.kept.receiver (Tells r.instructions) (Acks c.instructions)
   pub acts : ActsOf taken r c
   pub downs : (v : DownValue) → IsIn v r.instructions → IsDown v
   pub ups : (u : UpValue) → IsIn u c.instructions → IsUp u
-  pub gathers_down : Gathers down_text r.instructions c.gathering
+  pub gathers_down : Gathers down_text r.instructions c.kept.gathering
   pub gathers_up : Gathers up_text c.instructions r.gathering
+  pub count : c.kept.instructions ≡ length c.instructions
   pub notes : greatest_from no_note r.notes ≡ record { number = r.latest; source = r.address }
 
 -- a datagram is a fragment of the instruction that was sent under its id
@@ -82,19 +83,19 @@ IsFragment true d r c = IsFragmentOf (cuts_of up_text c.instructions) (fragment_
 -- its client start was made, it has that one's version, and one to the server tells whether the start watches
 pub record Bears (d : DatagramValue) (c : Client) : Type 0 where
   pub made : c.made ≡ true
-  pub version : d.version ≡ c.version
-  pub watches : is_to_server d.kind ≡ true → is_watching d.kind ≡ c.watches
+  pub version : d.version ≡ c.kept.version
+  pub watches : is_to_server d.kind ≡ true → is_watching d.kind ≡ c.kept.watches
 
 -- a record that is known is of a start that was made, has its version, and watches as it does; another one has nothing
 pub record Fits (r : Record) (c : Client) : Type 0 where
   pub made : r.known ≡ true → c.made ≡ true
-  pub version : r.known ≡ true → r.version ≡ c.version
-  pub watches : r.known ≡ true → r.watches ≡ c.watches
+  pub version : r.known ≡ true → r.version ≡ c.kept.version
+  pub watches : r.known ≡ true → r.watches ≡ c.kept.watches
   pub none : r.known ≡ false → r ≡ no_record
 
 -- nothing is typed at a start that only watches, and it is of version 2
 abbrev pub OnlyWatches : Client → Type 0
-OnlyWatches c = c.watches ≡ true → (c.typed ≡ []) × (c.version ≡ Two)
+OnlyWatches c = c.kept.watches ≡ true → (c.typed ≡ []) × (c.kept.version ≡ Two)
 
 -- each number stands for a place in the log
 abbrev pub AreCuts : List Entry → List ℕ → Type 0

@@ -55,19 +55,19 @@ Always Is = (session : ℕ) (size : SessionSize) (es : List Event) (rs : List Re
 -- each client start shows a number that was made, or 0, and exactly the screen of that number
 pub record ShowsTrueScreens (w : World) : Type 0 where
   pub made : (id : ℕ) → shown_number (w.clients id) ≤ length w.server.cuts
-  pub same : (id : ℕ) → shown_screen (w.clients id) ≡ screen (w.clients id).version w.server.size w.server.log w.server.cuts
+  pub same : (id : ℕ) → shown_screen (w.clients id) ≡ screen (w.clients id).kept.version w.server.size w.server.log w.server.cuts
       (shown_number (w.clients id))
 
 -- so is each pair that a client start or the sender of a record has
 pub record HoldTrueScreens (w : World) : Type 0 where
-  pub receivers : (id : ℕ) → HasTrueStates (IsScreenOf (w.clients id).version w.server.size w.server.log w.server.cuts)
-      (w.clients id).receiver
+  pub receivers : (id : ℕ) → HasTrueStates (IsScreenOf (w.clients id).kept.version w.server.size w.server.log w.server.cuts)
+      (w.clients id).kept.receiver
   pub senders : (id : ℕ) → HoldsTrueStates (IsScreenOf (w.server.records id).version w.server.size w.server.log w.server.cuts)
       (w.server.records id).sender
 
 -- no client start and no sender ever has a ninth pair
 pub record HoldAtMostEight (w : World) : Type 0 where
-  pub receivers : (id : ℕ) → length (pairs (w.clients id).receiver) ≤ most_held
+  pub receivers : (id : ℕ) → length (pairs (w.clients id).kept.receiver) ≤ most_held
   pub senders : (id : ℕ) → count (w.server.records id).sender ≤ most_held
 
 -- no datagram that comes to a client start leaves a gap or has a bad change, whatever was lost, late or repeated
@@ -77,8 +77,8 @@ LeavesNoGap w = (slot k now : ℕ) (reply : Reply) (w' : World) → wstep w (ToC
 
 -- two starts of one version that show one number show one screen
 abbrev pub StartsAgree : World → Type 0
-StartsAgree w = (id j : ℕ) → (w.clients id).version ≡ (w.clients j).version → shown_number (w.clients id) ≡ shown_number (w.clients j)
-    → shown_screen (w.clients id) ≡ shown_screen (w.clients j)
+StartsAgree w = (id j : ℕ) → (w.clients id).kept.version ≡ (w.clients j).kept.version
+    → shown_number (w.clients id) ≡ shown_number (w.clients j) → shown_screen (w.clients id) ≡ shown_screen (w.clients j)
 
 -- ---- acts
 
@@ -91,7 +91,7 @@ pub record TakesActsInOrder (w : World) : Type 0 where
 
 -- Nothing is typed at one, and nothing is taken of it.
 abbrev pub WatchersTakeNoPart : World → Type 0
-WatchersTakeNoPart w = (id : ℕ) → (w.clients id).watches ≡ true → ((w.clients id).typed ≡ []) × (acts_of id w.server.log ≡ [])
+WatchersTakeNoPart w = (id : ℕ) → (w.clients id).kept.watches ≡ true → ((w.clients id).typed ≡ []) × (acts_of id w.server.log ≡ [])
 
 -- the server after another one, in which only the record of one start may be another, and its moments
 pub record IsSameBut (id : ℕ) (s s' : Server) : Type 0 where
@@ -138,27 +138,31 @@ RepliesToLatest w = (now : ℕ) (p : Parcel) → IsIn p (sent_by w.server now)
 -- the record of a start that is known to the server is one of its version and its kind
 abbrev pub RecordsFit : World → Type 0
 RecordsFit w = (id : ℕ) → (w.server.records id).known ≡ true
-    → ((w.clients id).made ≡ true) × ((w.server.records id).version ≡ (w.clients id).version)
-    × ((w.server.records id).watches ≡ (w.clients id).watches)
+    → ((w.clients id).made ≡ true) × ((w.server.records id).version ≡ (w.clients id).kept.version)
+    × ((w.server.records id).watches ≡ (w.clients id).kept.watches)
+
+-- each client start counts the instructions that it sent
+abbrev pub CountsInstructions : World → Type 0
+CountsInstructions w = (id : ℕ) → (w.clients id).kept.instructions ≡ length (w.clients id).instructions
 
 -- ---- all of it together
 
 -- of a client start and its record
 pub record KeepsStep (w : World) (id : ℕ) : Type 0 where
   -- the sender's base is there at the start, whose pairs from there on are among the sender's
-  pub base : IsAmong (w.server.records id).sender.base.number (numbers_had (w.clients id).receiver)
-  pub later : (n : ℕ) → IsAmong n (numbers_had (w.clients id).receiver) → (w.server.records id).sender.base.number ≤ n
+  pub base : IsAmong (w.server.records id).sender.base.number (numbers_had (w.clients id).kept.receiver)
+  pub later : (n : ℕ) → IsAmong n (numbers_had (w.clients id).kept.receiver) → (w.server.records id).sender.base.number ≤ n
       → IsAmong n (numbers_held (w.server.records id).sender)
   -- the start gathered no id above those that were sent to it
-  pub gathered : (w.clients id).gathering.id ≤ length (w.server.records id).instructions
+  pub gathered : (w.clients id).kept.gathering.id ≤ length (w.server.records id).instructions
 
 -- What always holds, of which the headline is a part.
 pub record KeepsAll (w : World) : Type 0 where
   -- each update that was ever sent leads from the screen of its old number to that of its new one
   pub updates : (id : ℕ) (v : DownValue) → IsIn v (w.server.records id).instructions
       → (v.old ≤ length w.server.cuts) × (v.new ≤ length w.server.cuts)
-      × (applied_by (w.clients id).version (screen (w.clients id).version w.server.size w.server.log w.server.cuts v.old) v.change
-      ≡ Some (screen (w.clients id).version w.server.size w.server.log w.server.cuts v.new))
+      × (applied_by (w.clients id).kept.version (screen (w.clients id).kept.version w.server.size w.server.log w.server.cuts v.old) v.change
+      ≡ Some (screen (w.clients id).kept.version w.server.size w.server.log w.server.cuts v.new))
   -- an instruction's id names one text for good
   pub ids : NamesOneText w
   -- each pair at either end is a number with its screen
@@ -167,7 +171,7 @@ pub record KeepsAll (w : World) : Type 0 where
   pub step : (id : ℕ) → KeepsStep w id
   -- each update that was sent has its old number at the start, or its new one isn't above the one that is shown
   pub known : (id : ℕ) (v : DownValue) → IsIn v (w.server.records id).instructions
-      → IsAmong v.old (numbers_had (w.clients id).receiver) ⊎ (v.new ≤ shown_number (w.clients id))
+      → IsAmong v.old (numbers_had (w.clients id).kept.receiver) ⊎ (v.new ≤ shown_number (w.clients id))
   -- a record's count is the length of a front of what was typed
   pub count : TakesActsInOrder w
 

@@ -12,7 +12,7 @@ pub record Limits (w : World) : Type 0 where
   pub numbers : length w.server.cuts < number_limit
   pub typed : (id : ℕ) → length (w.clients id).typed < number_limit
   -- at most 1,024 acts of a start are unacknowledged
-  pub unacknowledged : (id : ℕ) → length (w.clients id).acts.acts ≤ most_unacknowledged
+  pub unacknowledged : (id : ℕ) → length (w.clients id).kept.acts.acts ≤ most_unacknowledged
   -- at most 16 starts that only watch, and 64 others, are known to the server
   pub known : (watches : Bool) → length (alike w.server watches) ≤ most_of watches
   -- each instruction and each datagram that was ever sent has a text

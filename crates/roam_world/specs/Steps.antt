@@ -20,10 +20,10 @@ use Rattle.roam_world.specs.Servers.{moment, after_input}
 use Rattle.roam_world.specs.ServerArrivals.{coming, after_note, new_acts, after_acts, room_for}
 use Rattle.roam_world.specs.Arrival.{turned_away, noted, completed}
 use Rattle.roam_world.specs.Ticks.{sent_by, is_tick_spent}
-use Rattle.roam_world.specs.Clients.{moment_of, after_typed}
+use Rattle.roam_world.specs.Clients.{moment_of, after_act}
 use Rattle.roam_world.specs.ClientArrivals.{Hearing, arriving, after_fragment, step_of, hearing_of, after_whole}
 use Rattle.roam_world.specs.Sendings.{is_client_due, is_client_spent, datagrams_from, after_quiet}
-use Rattle.roam_world.specs.Worlds.{World, Event, PaneBytes, Typed, ServerTick, ClientTick, ToServer, ToClient, Start, Drain, Reply, Done, Sent, Taken, Heard, Refused, Failed, Stopped, datagram_at, with_server, with_client, after_server_tick, after_client_sent, after_start}
+use Rattle.roam_world.specs.Worlds.{World, Event, PaneBytes, Typed, ServerTick, ClientTick, ToServer, ToClient, Start, Drain, Reply, Done, Sent, Taken, Heard, Refused, Failed, Stopped, datagram_at, with_server, with_client, with_kept, after_server_tick, after_client_sent, after_start}
 use Rattle.roam_wire.specs.declared.versions.Version.{Version}
 use Rattle.roam_wire.specs.declared.versions.Version.TheVariants.{One, Two}
 use Rattle.roam_wire.specs.Datagrams.{DatagramValue}
@@ -48,15 +48,15 @@ pub data DrainStep (w : World) (pane n : ℕ) (reply : Reply) (w' : World) : Typ
 pub data TypedStep (w : World) (slot : ℕ) (act : Act) (reply : Reply) (w' : World) : Type 0 where
   empty_slot : w.slots slot ≡ None
       → reply ≡ Refused → w' ≡ w → TypedStep w slot act reply w'
-  watching : (id : ℕ) → w.slots slot ≡ Some id → (w.clients id).watches ≡ true
+  watching : (id : ℕ) → w.slots slot ≡ Some id → (w.clients id).kept.watches ≡ true
       → reply ≡ Failed Watching → w' ≡ w → TypedStep w slot act reply w'
-  full : (id : ℕ) → w.slots slot ≡ Some id → (w.clients id).watches ≡ false → IsFull (w.clients id).acts
+  full : (id : ℕ) → w.slots slot ≡ Some id → (w.clients id).kept.watches ≡ false → IsFull (w.clients id).kept.acts
       → reply ≡ Failed Busy → w' ≡ w → TypedStep w slot act reply w'
-  spent : (id : ℕ) → w.slots slot ≡ Some id → (w.clients id).watches ≡ false → IsSpent (w.clients id).acts
+  spent : (id : ℕ) → w.slots slot ≡ Some id → (w.clients id).kept.watches ≡ false → IsSpent (w.clients id).kept.acts
       → reply ≡ Failed Spent → w' ≡ w → TypedStep w slot act reply w'
-  typed : (id : ℕ) → w.slots slot ≡ Some id → (w.clients id).watches ≡ false → (IsFull (w.clients id).acts → ⊥)
-      → (IsSpent (w.clients id).acts → ⊥)
-      → reply ≡ Done → w' ≡ with_client w id (after_typed (w.clients id) act) → TypedStep w slot act reply w'
+  typed : (id : ℕ) → w.slots slot ≡ Some id → (w.clients id).kept.watches ≡ false → (IsFull (w.clients id).kept.acts → ⊥)
+      → (IsSpent (w.clients id).kept.acts → ⊥)
+      → reply ≡ Done → w' ≡ with_client w id (after_act (w.clients id) act) → TypedStep w slot act reply w'
   no_memory : reply ≡ Failed OutOfMemory → w' ≡ w → TypedStep w slot act reply w'
 
 -- the server ticks: numbers are spent; or it is done
@@ -72,16 +72,16 @@ pub data ServerTickStep (w : World) (now : ℕ) (reply : Reply) (w' : World) : T
 pub data ClientTickStep (w : World) (slot now : ℕ) (reply : Reply) (w' : World) : Type 0 where
   empty_slot : w.slots slot ≡ None
       → reply ≡ Refused → w' ≡ w → ClientTickStep w slot now reply w'
-  quiet : (id : ℕ) → w.slots slot ≡ Some id → is_client_due (w.clients id) (moment_of (w.clients id) now) ≡ false
+  quiet : (id : ℕ) → w.slots slot ≡ Some id → is_client_due (w.clients id).kept (moment_of (w.clients id).kept now) ≡ false
       → reply ≡ Sent (length w.sent + 1) 0
-      → w' ≡ with_client w id (after_quiet (w.clients id) (moment_of (w.clients id) now)) → ClientTickStep w slot now reply w'
-  spent : (id : ℕ) → w.slots slot ≡ Some id → is_client_due (w.clients id) (moment_of (w.clients id) now) ≡ true
-      → is_client_spent (w.clients id) ≡ true
+      → w' ≡ with_kept w id (after_quiet (w.clients id).kept (moment_of (w.clients id).kept now)) → ClientTickStep w slot now reply w'
+  spent : (id : ℕ) → w.slots slot ≡ Some id → is_client_due (w.clients id).kept (moment_of (w.clients id).kept now) ≡ true
+      → is_client_spent (w.clients id).kept ≡ true
       → reply ≡ Failed Spent → w' ≡ w → ClientTickStep w slot now reply w'
-  sent : (id : ℕ) → w.slots slot ≡ Some id → is_client_due (w.clients id) (moment_of (w.clients id) now) ≡ true
-      → is_client_spent (w.clients id) ≡ false
-      → reply ≡ Sent (length w.sent + 1) (length (datagrams_from w.server.session id (w.clients id)))
-      → w' ≡ after_client_sent w id (moment_of (w.clients id) now) → ClientTickStep w slot now reply w'
+  sent : (id : ℕ) → w.slots slot ≡ Some id → is_client_due (w.clients id).kept (moment_of (w.clients id).kept now) ≡ true
+      → is_client_spent (w.clients id).kept ≡ false
+      → reply ≡ Sent (length w.sent + 1) (length (datagrams_from w.server.session id (w.clients id).kept))
+      → w' ≡ after_client_sent w id (moment_of (w.clients id).kept now) → ClientTickStep w slot now reply w'
   no_memory : reply ≡ Failed OutOfMemory → w' ≡ w → ClientTickStep w slot now reply w'
 
 -- A datagram comes to the server: it was never sent; it is refused; it makes no instruction whole; its instruction can't be read; all its
@@ -124,25 +124,25 @@ pub data ToClientStep (w : World) (slot k now : ℕ) (reply : Reply) (w' : World
   not_sent : datagram_at w.sent k ≡ None
       → reply ≡ Refused → w' ≡ w → ToClientStep w slot k now reply w'
   refused : (id : ℕ) (d : DatagramValue) (fault : Fault) → w.slots slot ≡ Some id → datagram_at w.sent k ≡ Some d
-      → arriving w.server.session id (w.clients id) d ≡ turned_away fault
+      → arriving w.server.session id (w.clients id).kept d ≡ turned_away fault
       → reply ≡ Failed fault → w' ≡ w → ToClientStep w slot k now reply w'
   fragment : (id : ℕ) (d : DatagramValue) (h : Hearing) (g : Gathering) → w.slots slot ≡ Some id → datagram_at w.sent k ≡ Some d
-      → arriving w.server.session id (w.clients id) d ≡ noted h g
-      → reply ≡ Heard h → w' ≡ with_client w id (after_fragment (w.clients id) (moment_of (w.clients id) now) g)
+      → arriving w.server.session id (w.clients id).kept d ≡ noted h g
+      → reply ≡ Heard h → w' ≡ with_kept w id (after_fragment (w.clients id).kept (moment_of (w.clients id).kept now) g)
       → ToClientStep w slot k now reply w'
   unread : (id : ℕ) (d : DatagramValue) (g : Gathering) (text : List ℕ) (why : Reason) → w.slots slot ≡ Some id
-      → datagram_at w.sent k ≡ Some d → arriving w.server.session id (w.clients id) d ≡ completed g text → SaysNoDown text why
+      → datagram_at w.sent k ≡ Some d → arriving w.server.session id (w.clients id).kept d ≡ completed g text → SaysNoDown text why
       → reply ≡ Failed (BadDatagram why) → w' ≡ w → ToClientStep w slot k now reply w'
   bad_change : (id : ℕ) (d : DatagramValue) (g : Gathering) (text : List ℕ) (v : DownValue) (base : Screenshot) → w.slots slot ≡ Some id
-      → datagram_at w.sent k ≡ Some d → arriving w.server.session id (w.clients id) d ≡ completed g text → SaysDown text v
-      → step_of (w.clients id) v ≡ step.New → state_at v.old (pairs (w.clients id).receiver) ≡ Some base
-      → applied_by (w.clients id).version base v.change ≡ None
+      → datagram_at w.sent k ≡ Some d → arriving w.server.session id (w.clients id).kept d ≡ completed g text → SaysDown text v
+      → step_of (w.clients id).kept v ≡ step.New → state_at v.old (pairs (w.clients id).kept.receiver) ≡ Some base
+      → applied_by (w.clients id).kept.version base v.change ≡ None
       → reply ≡ Failed BadChange → w' ≡ w → ToClientStep w slot k now reply w'
   whole : (id : ℕ) (d : DatagramValue) (g : Gathering) (text : List ℕ) (v : DownValue) (r : Receiving Screenshot) → w.slots slot ≡ Some id
-      → datagram_at w.sent k ≡ Some d → arriving w.server.session id (w.clients id) d ≡ completed g text → SaysDown text v
-      → Delivers (applied_by (w.clients id).version) (w.clients id).receiver (update_in v) r
-      → reply ≡ Heard (hearing_of (step_of (w.clients id) v))
-      → w' ≡ with_client w id (after_whole (w.clients id) (moment_of (w.clients id) now) g r v) → ToClientStep w slot k now reply w'
+      → datagram_at w.sent k ≡ Some d → arriving w.server.session id (w.clients id).kept d ≡ completed g text → SaysDown text v
+      → Delivers (applied_by (w.clients id).kept.version) (w.clients id).kept.receiver (update_in v) r
+      → reply ≡ Heard (hearing_of (step_of (w.clients id).kept v))
+      → w' ≡ with_kept w id (after_whole (w.clients id).kept (moment_of (w.clients id).kept now) g r v) → ToClientStep w slot k now reply w'
   no_memory : reply ≡ Failed OutOfMemory → w' ≡ w → ToClientStep w slot k now reply w'
 
 -- a start that only watches is of version 2

@@ -7,9 +7,9 @@ use Rattle.roam_world.specs.Lists.{with_value}
 use Rattle.roam_world.specs.Texts.{Address}
 use Rattle.roam_world.specs.Servers.{Server, new_server}
 use Rattle.roam_world.specs.Ticks.{Parcel, sent_by, after_tick}
-use Rattle.roam_world.specs.Clients.{Client, nobody, new_client}
+use Rattle.roam_world.specs.Clients.{Kept, Client, nobody, new_client}
 use Rattle.roam_world.specs.ClientArrivals.{Hearing}
-use Rattle.roam_world.specs.Sendings.{datagrams_from, after_sending}
+use Rattle.roam_world.specs.Sendings.{datagrams_from, after_instruction}
 use Rattle.roam_wire.specs.Datagrams.{DatagramValue}
 use Rattle.roam_wire.specs.declared.versions.Version.{Version}
 
@@ -69,6 +69,9 @@ with_server w s = record w { server = s }
 abbrev pub with_client : World → ℕ → Client → World
 with_client w id c = record w { clients = with_value w.clients id c }
 
+abbrev pub with_kept : World → ℕ → Kept → World
+with_kept w id k = with_client w id (record (w.clients id) { kept = k })
+
 -- the server ticked
 abbrev pub after_server_tick : World → ℕ → World
 after_server_tick w now =
@@ -78,8 +81,8 @@ after_server_tick w now =
 abbrev pub after_client_sent : World → ℕ → ℕ → World
 after_client_sent w id now =
     record w {
-      clients = with_value w.clients id (after_sending (w.clients id) now);
-      sent = w.sent ++ datagrams_from w.server.session id (w.clients id);
+      clients = with_value w.clients id (after_instruction (w.clients id) now);
+      sent = w.sent ++ datagrams_from w.server.session id (w.clients id).kept;
     }
 
 -- a client started

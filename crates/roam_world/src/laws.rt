@@ -1,5 +1,5 @@
 //! What holds of every world that can be reached. Each law stands on a function with an empty body.
-ghost use Rattle.roam_world.specs.Laws.{Always, HasOneReply, HasReply, HoldAtMostEight, HoldTrueScreens, KeepsAll, LeavesNoGap, NamesOneText, OffersNewest, OneRoundSuffices, RecordsFit, RepliesToLatest, ShowsTrueScreens, StartsAgree, TakesActsInOrder, WatchersDisturbNothing, WatchersTakeNoPart};
+ghost use Rattle.roam_world.specs.Laws.{Always, CountsInstructions, HasOneReply, HasReply, HoldAtMostEight, HoldTrueScreens, KeepsAll, LeavesNoGap, NamesOneText, OffersNewest, OneRoundSuffices, RecordsFit, RepliesToLatest, ShowsTrueScreens, StartsAgree, TakesActsInOrder, WatchersDisturbNothing, WatchersTakeNoPart};
 ghost use Rattle.roam_world.specs.Worlds.{World};
 ghost use Rattle.roam_world.specs.Limits.{Limits};
 ghost use Rattle.roam_world.specs.Outputs.{BeginsWithNoOutput, PassesEachByteOn};
@@ -17,11 +17,12 @@ pub fn clients_show_the_session()
 /// screen; a sender's base is held by its client start, whose pairs from there on are among the sender's, and which gathered no id above
 /// those that were sent to it; each update that was sent has its old number there, or its new one isn't above the one that is shown; a
 /// record's count is the length of a front of what was typed. So two starts of one version that show one number show one screen. A record
-/// is one of its start's version and kind.
+/// is one of its start's version and kind. The number of instructions that a start keeps is how many it sent.
 pub fn what_always_holds()
     ensures all { Always KeepsAll }
     ensures agree { Always StartsAgree }
     ensures fit { Always RecordsFit }
+    ensures counted { Always CountsInstructions }
 {}
 
 /// After every list of events: each pair that either end holds is a number with its screen, neither end ever has a ninth pair, and no

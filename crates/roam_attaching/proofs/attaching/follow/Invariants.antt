@@ -6,7 +6,7 @@ use Rattle.roam_attaching.proofs.attaching.follow.Given as goal
 
 abbrev pub invariant-loop : goal.invariant-loop
 invariant-loop g l = record {
-  behind : IsBehind l.shown l.client.receiver.newest.number l.client.receiver.newest.state;
+  behind : IsBehind l.shown l.client.kept.receiver.newest.number l.client.kept.receiver.newest.state;
   in_range : All IsInRange l.typist.lines.waiting.items;
   runs : RunsOn l.to (g.T.Read.remaining l.initial.typist.reader) (g.T.Read.remaining l.typist.reader) l.initial.typist.lines
       l.typist.lines (painted_by g.W.Write.contents None l.initial.ports) (painted_by g.W.Write.contents l.shown l.ports)

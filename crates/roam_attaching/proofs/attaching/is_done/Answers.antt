@@ -2,9 +2,7 @@ use Rattle.std.proofs.Common.{refl}
 use Rattle.roam_attaching.proofs.attaching.is_done.Goals as goal
 
 pub returns-in-None-clause-done : goal.returns-in-None-clause-done
-returns-in-None-clause-done g c = λ yes.
-    (c.in-None.ensures.none refl, λ session id v stands. (c.is_settled.ensures.settled session id v stands).0 yes)
+returns-in-None-clause-done g c = λ yes. (c.in-None.ensures.none refl, c.is_settled.ensures.settled.0 yes)
 
 pub returns-in-None-clause-pending : goal.returns-in-None-clause-pending
-returns-in-None-clause-pending g c = λ no session id v stands none acts.
-    let yes = (c.is_settled.ensures.settled session id v stands).1 acts in cc
+returns-in-None-clause-pending g c = λ no none acts. let yes = c.is_settled.ensures.settled.1 acts in cc

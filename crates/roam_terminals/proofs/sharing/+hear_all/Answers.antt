@@ -5,7 +5,7 @@ use Rattle.roam_terminals.proofs.sharing.+hear_all.Goals as goal
 
 pub returns-then-is_ending-clause-behind : goal.returns-then-is_ending-clause-behind
 returns-then-is_ending-clause-behind g t c h =
-    let r = c.args.client.now.receiver.newest in
+    let r = c.args.client.now.kept.receiver.newest in
     let all : AreEachBehind (c.in-Some.first.now ∷ c.in-Some.others.now) r.number r.state =
     subst (λ l. AreEachBehind l r.number r.state) c.in-Some.ensures.cases.0 h in
     let head = behind_kept _ _ _ _ c.hear-taking.ensures.outer (each_head c.in-Some.first.now c.in-Some.others.now _ _ all) in
@@ -16,7 +16,7 @@ returns-then-is_ending-clause-behind g t c h =
 
 pub returns-else-is_ending-clause-behind : goal.returns-else-is_ending-clause-behind
 returns-else-is_ending-clause-behind g t c h =
-    let r = c.args.client.now.receiver.newest in
+    let r = c.args.client.now.kept.receiver.newest in
     let all : AreEachBehind (c.in-Some.first.now ∷ c.in-Some.others.now) r.number r.state =
     subst (λ l. AreEachBehind l r.number r.state) c.in-Some.ensures.cases.0 h in
     let head = behind_kept _ _ _ _ c.hear-taking.ensures.outer (each_head c.in-Some.first.now c.in-Some.others.now _ _ all) in

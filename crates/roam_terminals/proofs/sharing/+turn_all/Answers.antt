@@ -5,7 +5,7 @@ use Rattle.roam_terminals.proofs.sharing.+turn_all.Goals as goal
 
 pub turn_all-is_any-requires : goal.turn_all-is_any-requires
 turn_all-is_any-requires g t c κs within =
-    let r = c.args.client.now.receiver.newest in
+    let r = c.args.client.now.kept.receiver.newest in
     let all : AreEachBehind (c.in-Some.first.now ∷ c.in-Some.others.now) r.number r.state =
     subst (λ l. AreEachBehind l r.number r.state) c.in-Some.ensures.cases.0 c.requires.behind in
     let behind = each_later c.in-Some.others.now _ _ _ _ c.turn_if_ready-was_ready.ensures.follows

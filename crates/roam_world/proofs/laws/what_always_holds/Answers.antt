@@ -10,3 +10,6 @@ returns-clause-agree c = λ session size es rs w reaches. starts_agree w (holds-
 
 pub returns-clause-fit : goal.returns-clause-fit
 returns-clause-fit c = λ session size es rs w reaches. records_fit w (holds-reached session size es rs w reaches)
+
+pub returns-clause-counted : goal.returns-clause-counted
+returns-clause-counted c = λ session size es rs w reaches id. ((holds-reached session size es rs w reaches).links id).count

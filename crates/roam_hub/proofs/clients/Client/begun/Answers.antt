@@ -1,13 +1,17 @@
-use Rattle.std.proofs.Common.{ap}
-use Rattle.roam_wire.specs.Gatherers.{GathererValue}
 use Rattle.roam_world.specs.Numbers.{first_screen}
-use Rattle.roam_hub.specs.Ends.{version_in, receiving_in}
-use Rattle.roam_hub.proofs.Viewing.{stands_new}
+use Rattle.roam_world.specs.Clients.{nobody, new_kept}
 use Rattle.roam_hub.proofs.clients.Client.begun.Goals as goal
 
 pub returns-clause-stands : goal.returns-clause-stands
-unfolding first_screen
+unfolding first_screen nobody
 returns-clause-stands c =
-    stands_new c.args.session c.args.id c.args.version (version_in c.in_ok-receiver.receiver) c.args.watches c.new-2.result
-    c.new-3.result.current (receiving_in c.in_ok-receiver.receiver) c.in_ok-receiver.ensures.version c.new-2.ensures.start
-    (ap (λ (g : GathererValue). g.current) c.new-3.ensures.new) c.in_ok-receiver.ensures.first
+    λ i. record {
+      session = c.args.session;
+      id = c.args.id;
+      kept = record (new_kept c.args.version c.args.watches) {
+        version = c.in_ok-receiver.ensures.version i;
+        acts = c.new-2.ensures.start i;
+        gathering = (c.new-3.ensures.new i).current;
+        receiver = c.in_ok-receiver.ensures.first i;
+      };
+    }

@@ -13,7 +13,8 @@ use Rattle.roam_world.specs.Moments.{is_spent}
 use Rattle.roam_world.specs.Texts.{kind_from, datagrams_of}
 use Rattle.roam_world.proofs.Sendable.{up_length, acts_length}
 use Rattle.roam_hub.specs.Ends.{version_in, receiving_in}
-use Rattle.roam_hub.specs.Clients.{ClientView, datagrams_by, is_view_spent}
+use Rattle.roam_world.specs.Sendings.{is_client_spent, datagrams_from}
+use Rattle.roam_hub.specs.Clients.{ClientView}
 use Rattle.roam_hub.proofs.StartSending.{text_sent, first_fits, short_in, from_watcher}
 use Rattle.roam_hub.proofs.clients.Client.instruction.Goals as goal
 
@@ -38,7 +39,8 @@ returns-clause-written c =
     c.newest_number.ensures.number
     c.waiting-first.ensures.first
     (c.in_ok-from_slice.ensures.items ∙ c.waiting-first.ensures.acts) (c.as_slice.ensures.value ∙ c.in_ok-text.ensures.written) in
-    subst (λ (v : ClientView). IfOk c.packed.result (λ all. texts_of all.items ≡ map datagram_text (datagrams_by v))) c.self.view_is
+    subst (λ (v : ClientView). IfOk c.packed.result (λ all. texts_of all.items
+    ≡ map datagram_text (datagrams_from v.session v.id v.kept))) c.self.view_is
     (subst (λ (t : List ℕ). IfOk c.packed.result (λ all. texts_of all.items ≡ map datagram_text
     (datagrams_of (version_in c.self.inside.receiver) (kind_from c.self.inside.watches) c.self.inside.session c.self.inside.id
     c.self.inside.datagrams (c.self.inside.instructions + 1) (fragments_of t))))
@@ -55,7 +57,7 @@ returns-clause-fit c =
     (c.in_ok-from_slice.ensures.items ∙ c.waiting-first.ensures.acts) (c.as_slice.ensures.value ∙ c.in_ok-text.ensures.written) in
     let low : is_spent (c.self.inside.acts.acked + 1) ≡ false =
     ap is_spent (sym c.waiting-first.ensures.first) ∙ (let f = c.if-first-ge-NUMBER_LIMIT.false in grind (arith, nat_tests, f)) in
-    subst (λ (v : ClientView). OnOk c.packed.result (is_view_spent v ≡ false)) c.self.view_is
+    subst (λ (v : ClientView). OnOk c.packed.result (is_client_spent v.kept ≡ false)) c.self.view_is
     (subst (λ (t : List ℕ). OnOk c.packed.result ((is_spent (c.self.inside.acts.acked + 1) || is_spent (c.self.inside.instructions + 1)
     || is_spent (c.self.inside.datagrams + length (fragments_of t))) ≡ false)) text
     (IfOk-weaker c.packed.result _ _ (λ _ e. first_fits _ _ _ low ∙ e) c.packed.ensures.fit))
@@ -69,7 +71,7 @@ returns-clause-fault c =
     (c.in_ok-from_slice.ensures.items ∙ c.waiting-first.ensures.acts) (c.as_slice.ensures.value ∙ c.in_ok-text.ensures.written) in
     let low : is_spent (c.self.inside.acts.acked + 1) ≡ false =
     ap is_spent (sym c.waiting-first.ensures.first) ∙ (let f = c.if-first-ge-NUMBER_LIMIT.false in grind (arith, nat_tests, f)) in
-    subst (λ (v : ClientView). IfErr c.packed.result (λ fault. (fault ≡ OutOfMemory) ⊎ ((fault ≡ Spent) × (is_view_spent v ≡ true))))
+    subst (λ (v : ClientView). IfErr c.packed.result (λ fault. (fault ≡ OutOfMemory) ⊎ ((fault ≡ Spent) × (is_client_spent v.kept ≡ true))))
     c.self.view_is
     (subst (λ (t : List ℕ). IfErr c.packed.result (λ fault. (fault ≡ OutOfMemory) ⊎ ((fault ≡ Spent)
     × ((is_spent (c.self.inside.acts.acked + 1) || is_spent (c.self.inside.instructions + 1)

@@ -1,5 +1,6 @@
-use Rattle.std.proofs.Common.{◌∙◌}
+use Rattle.std.proofs.Common.{subst}
 use Rattle.roam_hub.proofs.Viewing.{all_acts_typed, types_all}
+use Rattle.roam_hub.specs.Clients.{ClientView, TypesAll, keeping}
 use Rattle.roam_hub.specs.contracts.clients.Client.{the_view}
 use Rattle.roam_hub.proofs.clients.Client.typed_all.Goals as goal
 
@@ -16,7 +17,9 @@ invariant_of-self c = (
 )
 
 pub returns-clause-typed : goal.returns-clause-typed
-returns-clause-typed c session id k st =
-    types_all session id k c.args.acts.now c.typed_all.result (the_view c.self.inside) c.typed_all.new.self (c.self.view_is ∙ st)
-    c.if-self.false c.typed_all.ensures.ok c.typed_all.ensures.busy c.typed_all.ensures.spent c.typed_all.ensures.memory
-    c.typed_all.ensures.err c.typed_all.ensures.fault
+returns-clause-typed c =
+    let view = the_view c.self.inside in
+    subst (λ (v : ClientView). TypesAll v c.args.acts.now c.typed_all.result
+    (keeping view (record view.kept { acts = c.typed_all.new.self }))) c.self.view_is
+    (types_all view c.args.acts.now c.typed_all.result c.typed_all.new.self c.if-self.false c.typed_all.ensures.ok
+    c.typed_all.ensures.busy c.typed_all.ensures.spent c.typed_all.ensures.memory c.typed_all.ensures.err c.typed_all.ensures.fault)

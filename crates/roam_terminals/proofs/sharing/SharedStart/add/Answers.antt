@@ -6,7 +6,7 @@ use Rattle.roam_terminals.proofs.sharing.SharedStart.add.Goals as goal
 
 pub invariant_of-self-2 : goal.invariant_of-self-2
 invariant_of-self-2 g c =
-    let r = c.self.inside.client.receiver.newest in
+    let r = c.self.inside.client.kept.receiver.newest in
     record {
       each = subst (λ l. AreEachBehind l r.number r.state) (sym c.in_ok-push.ensures.items)
           (All-push (λ t. IsBehind t.outer r.number r.state) c.self.inside.all.items c.new.result c.self.invariant.each

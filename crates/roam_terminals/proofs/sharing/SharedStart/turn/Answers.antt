@@ -5,7 +5,7 @@ use Rattle.roam_terminals.proofs.sharing.SharedStart.turn.Goals as goal
 
 pub invariant_of-self : goal.invariant_of-self
 invariant_of-self g c =
-    let r = c.attach_turn.new.client.receiver.newest in
+    let r = c.attach_turn.new.client.kept.receiver.newest in
     record {
       each = subst (λ l. AreEachBehind l r.number r.state)
           (sym (whole_back c.self.inside.all.len c.turn_all.new.all c.self.inside.all.items (c.turn_all.ensures.len ∙ ap length c.deref_mut.ensures.value) (search rules)))

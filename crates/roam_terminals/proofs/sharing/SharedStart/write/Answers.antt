@@ -5,7 +5,7 @@ use Rattle.roam_terminals.proofs.sharing.SharedStart.write.Goals as goal
 
 pub invariant_of-self : goal.invariant_of-self
 invariant_of-self g c =
-    let r = c.self.inside.client.receiver.newest in
+    let r = c.self.inside.client.kept.receiver.newest in
     let first = c.write_all.ensures.behind r.number r.state (subst (λ l. AreEachBehind l r.number r.state) (sym c.deref_mut.ensures.value)
     c.self.invariant.each) in
     let back = whole_back c.self.inside.all.len c.write_all.new.all c.self.inside.all.items
