@@ -7,7 +7,7 @@ use Rattle.std.proofs.lemmas.Grind.{common_steps}
 use Rattle.roam_cells.specs.Glyph.{Glyph, is_wide, right_of, blank, ascii_in, inked_bytes}
 use Rattle.roam_cells.specs.Place.{cell_at, AreWhole, glyph_at, IsWholeRow}
 use Rattle.roam_cells.proofs.Places.{table_is, get_or-table, length-table}
-use Rattle.roam_rows.specs.Row.{RowSource, Column, Fresh, mended_glyph, row_taken, row_moved, row_moved_at}
+use Rattle.roam_rows.specs.Row.{RowSource, Column, Fresh, mended_glyph, row_taken, row_moved, row_moved_at, IsInRow}
 use Rattle.roam_rows.specs.Editing.{insertion_source}
 use Rattle.roam_rows.specs.Writing.{writing_source, written_run}
 use Rattle.roam_rows.specs.Places.{From, mapped_cells, moved_at, at_row, in_row}
@@ -17,7 +17,7 @@ use Rattle.roam_grid.specs.Scrolling.{first_scrolled_up}
 use Rattle.roam_grid.specs.Writing.{columns, wrap_done, first_settled, with_room, made_way, after_ink, after_advance, leaves_row, put_on, first_put, put_all, first_put_all}
 use Rattle.roam_grid.specs.declared.writing.Writing.{Writing}
 use Rattle.roam_rows.proofs.Mending.{mended_same, mended-mended, is_wide-blank}
-use Rattle.roam_rows.proofs.Columns.{row_is, row_at, length-row, in_column, agrees_there, InRow}
+use Rattle.roam_rows.proofs.Columns.{row_is, row_at, length-row, in_column, agrees_there}
 use Rattle.roam_rows.proofs.Inking.{IsNarrow, in_range, over, over_agrees, over_whole}
 use Rattle.roam_rows.proofs.Vertical.{row_stays}
 use Rattle.roam_rows.proofs.Lifting.{in_row_or, in_other, moved_here, row_whole, put_whole}
@@ -146,7 +146,7 @@ module _ (rows cols R : ℕ) (cells : List Glyph) (whole : AreWhole rows cols ce
   row_of_whole = row_whole rows cols R cells (row_of cols cells R) R_in whole row_len row_same
 
   -- what a map of one row shows, there and elsewhere
-  here : (one : ℕ → RowSource) → ((c : ℕ) → c < cols → InRow cols (one c)) → (c : ℕ) → c < cols
+  here : (one : ℕ → RowSource) → ((c : ℕ) → c < cols → IsInRow cols (one c)) → (c : ℕ) → c < cols
       → cell_at cols (mapped_cells rows cols cells (in_row R one)) R c ≡ glyph_at (row_moved (row_of cols cells R) one) c
   here one stays c q = moved_here rows cols R cells (row_of cols cells R) row_len row_same one stays R_in c q
 
@@ -154,14 +154,14 @@ module _ (rows cols R : ℕ) (cells : List Glyph) (whole : AreWhole rows cols ce
   elsewhere one r c p q ne =
       get_or-table rows cols (moved_at cols cells (in_row R one)) r c blank p q ∙ row_stays rows cols cells whole (in_row R one) r c r p q (λ d. in_other R r d one ne)
 
-  pub in_row_whole : (one : ℕ → RowSource) → ((c : ℕ) → c < cols → InRow cols (one c)) → IsWholeRow (row_moved (row_of cols cells R) one) → AreWhole rows cols (mapped_cells rows cols cells (in_row R one))
+  pub in_row_whole : (one : ℕ → RowSource) → ((c : ℕ) → c < cols → IsInRow cols (one c)) → IsWholeRow (row_moved (row_of cols cells R) one) → AreWhole rows cols (mapped_cells rows cols cells (in_row R one))
   in_row_whole one stays row_moved_whole =
       put_whole rows cols R cells (row_moved (row_of cols cells R) one) (mapped_cells rows cols cells (in_row R one)) whole row_moved_whole (length-row (length (row_of cols cells R)) _ ∙ row_len)
       (here one stays) (elsewhere one)
 
 -- maps of one row, one after the other
 module _ (rows cols R : ℕ) (cells : List Glyph) (one two three : ℕ → RowSource) (whole : AreWhole rows cols cells) (R_in : R < rows)
-    (stays : (c : ℕ) → c < cols → InRow cols (one c)) (stays' : (c : ℕ) → c < cols → InRow cols (two c)) (stays'' : (c : ℕ) → c < cols → InRow cols (three c))
+    (stays : (c : ℕ) → c < cols → IsInRow cols (one c)) (stays' : (c : ℕ) → c < cols → IsInRow cols (two c)) (stays'' : (c : ℕ) → c < cols → IsInRow cols (three c))
     (one_whole : IsWholeRow (row_moved (row_of cols cells R) one))
     (row_same : row_moved (row_moved (row_of cols cells R) one) two ≡ row_moved (row_of cols cells R) three) where
   pub in_row_after : mapped_cells rows cols (mapped_cells rows cols cells (in_row R one)) (in_row R two) ≡ mapped_cells rows cols cells (in_row R three)
@@ -181,7 +181,7 @@ module _ (rows cols R : ℕ) (cells : List Glyph) (one two three : ℕ → RowSo
       ]
       ∙ get_or-table rows cols (moved_at cols cells (in_row R three)) r c blank p q)
 
-run_in_row : (cols a : ℕ) (gs : List Glyph) (c : ℕ) → c < cols → InRow cols (written_run gs a c)
+run_in_row : (cols a : ℕ) (gs : List Glyph) (c : ℕ) → c < cols → IsInRow cols (written_run gs a c)
 run_in_row cols a gs c q = in_row_or cols c (glyph_at gs (c - a)) (leb a c && ltb c (a + length gs)) q
 
 run_row_whole : (a : ℕ) (gs row : List Glyph) → AreNarrow gs → IsWholeRow row → IsWholeRow (row_moved row (written_run gs a))

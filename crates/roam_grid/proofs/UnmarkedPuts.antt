@@ -6,12 +6,11 @@ use Rattle.std.proofs.lemmas.Grind.{common_steps}
 use Rattle.roam_cells.specs.Glyph.{Glyph, is_wide, is_right_half, right_of, blank, is_cell_text, with_point}
 use Rattle.roam_cells.specs.Place.{cell_at, glyph_at, AreWhole, IsWholeRow}
 use Rattle.roam_cells.proofs.Places.{get_or-table, place_below}
-use Rattle.roam_rows.specs.Row.{RowSource, Column, Fresh, row_moved}
+use Rattle.roam_rows.specs.Row.{RowSource, Column, Fresh, row_moved, IsInRow}
 use Rattle.roam_rows.specs.Places.{Source, mapped_cells, moved_at, in_row}
 use Rattle.roam_rows.specs.Editing.{insertion_source}
 use Rattle.roam_rows.specs.Scrolling.{up}
 use Rattle.roam_rows.specs.Writing.{writing_source, base_column}
-use Rattle.roam_rows.proofs.Columns.{InRow}
 use Rattle.roam_rows.proofs.Inking.{written_whole}
 use Rattle.roam_rows.proofs.Lifting.{in_other, in_row_else}
 use Rattle.roam_rows.proofs.Shifts.{inserted_whole}
@@ -187,7 +186,7 @@ module _ (s : Screen) (m : List Bool) (is : IsSound s) where
 
   -- a map of the cursor's row, which is marked
   row_goes : (one : ℕ → RowSource) (k : List Bool) → ((r : ℕ) → r < s.rows → is_marked m r ≡ true → is_marked k r ≡ true) → is_marked k s.row ≡ true
-      → ((c : ℕ) → c < s.cols → InRow s.cols (one c)) → IsWholeRow (row_moved (row_of s.cols s.cells s.row) one) → Goes s (mapped_screen (in_row s.row one) s) m k
+      → ((c : ℕ) → c < s.cols → IsInRow s.cols (one c)) → IsWholeRow (row_moved (row_of s.cols s.cells s.row) one) → Goes s (mapped_screen (in_row s.row one) s) m k
   row_goes one k stay on stays line = record {
     rows = refl;
     cols = refl;
@@ -214,7 +213,7 @@ module _ (s : Screen) (m : List Bool) (is : IsSound s) where
   marks_stay : (r : ℕ) → r < s.rows → is_marked m r ≡ true → is_marked (row_marked s.row m) r ≡ true
   marks_stay r p e = marked_at (λ j. eqb j s.row) m r (omega (arith, is.few, p)) ∙ ap (λ b. b || eqb r s.row) e
 
-  in_three : (cols c d : ℕ) (a b : Bool) → c < cols → d < cols → InRow cols (cond a (Column c) (cond b (Fresh blank) (Column d)))
+  in_three : (cols c d : ℕ) (a b : Bool) → c < cols → d < cols → IsInRow cols (cond a (Column c) (cond b (Fresh blank) (Column d)))
   in_three cols c d true b p q = p
   in_three cols c d false true p q = tt
   in_three cols c d false false p q = q
