@@ -1,4 +1,6 @@
 pub mod Ascii
+pub mod Blocks
+pub mod Aspected
 pub mod Differences
 pub mod Digits
 pub mod Gathered

@@ -1,4 +1,6 @@
 pub mod Width
+pub mod Blocks
+pub mod Aspects
 pub mod Glyph
 pub mod Inks
 pub mod Kept

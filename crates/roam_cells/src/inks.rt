@@ -1,6 +1,7 @@
 //! A style and a guard as a cell keeps them.
-ghost use Rattle.std.specs.Prelude.{◌≡◌, ◌↔◌, ◌≤◌, ◌<◌, ◌+◌, ◌*◌, false, IsTrue};
+ghost use Rattle.std.specs.Prelude.{◌≡◌, ◌↔◌, true, ◌≤◌, ◌<◌, ◌+◌, ◌*◌, false, IsTrue};
 ghost use Rattle.roam_cells.specs.Inks.{digit, is_odd, number_of, colour_of, ink_numbered, style_numbered, IsInkNumber};
+ghost use Rattle.roam_cells.specs.Aspects.{Aspect, showing, mask_of, digits_of, is_aspect};
 
 use crate::styles::{Colour, Style};
 use std::marker::Model;
@@ -260,6 +261,19 @@ impl Ink {
     {
         Ink {
             number: self.number - 256 * (self.number / 256 % 2) + 256 * digit(on),
+        }
+    }
+
+    /// The same ink in another aspect, whose mask and digits these are: digits of its number are cleared and others put there, so that
+    /// aspects stand in a table and are set without a branch.
+    #[inline]
+    pub fn with_digits(self, mask: u64, digits: u64) -> Self
+        requires aspect { (a : Aspect) × (is_aspect a ≡ true) × (mask ≡ mask_of a) × (digits ≡ digits_of a) }
+        ensures shown { (a : Aspect) → is_aspect a ≡ true → mask ≡ mask_of a → digits ≡ digits_of a
+            → result ≡ record self { style = showing a self.style } }
+    {
+        Ink {
+            number: self.number - (self.number & mask) + digits,
         }
     }
 

@@ -8,3 +8,4 @@ pub mod Renditions
 pub mod Settings
 pub mod Reports
 pub mod Commands
+pub mod Aspects

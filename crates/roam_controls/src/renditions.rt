@@ -1,8 +1,10 @@
 //! SGR: select graphic rendition.
 ghost use Rattle.std.specs.Prelude.{◌≡◌, ◌<◌, ◌≤◌, length, take, fold};
-ghost use Rattle.roam_controls.specs.Renditions.{Rendition, coloured_style, mixed_style, with_colour, without_aspect, with_aspect, read_so_far, with_parameter, styled_by};
+ghost use Rattle.roam_cells.specs.Aspects.{mask_of, digits_of};
+ghost use Rattle.roam_controls.specs.Aspects.{aspect_of};
+ghost use Rattle.roam_controls.specs.Renditions.{Rendition, coloured_style, mixed_style, with_aspect, read_so_far, with_parameter, styled_by};
 
-use roam_cells::{Colour, Ink, Style};
+use roam_cells::{Colour, Ink};
 
 /// What a colour is of.
 #[derive(Clone, Copy)]
@@ -55,69 +57,77 @@ fn mix(ink: Ink, layer: Layer, red: u16, green: u16, blue: u16) -> Ink
     }
 }
 
-// 30 to 49 and 90 to 107, the colours by number: in an ink a colour is set without its flags being read.
+// Which digits of an ink's number each aspect clears, from 0 to 107, and which it puts there.
+#[rattlefmt::skip]
+static MASKS: [u64; 108] = [
+    0x7FFFFFFFFFFFFFE, 0x2, 0x4, 0x8, 0x10, 0x20,
+    0x0, 0x40, 0x80, 0x100, 0x0, 0x0,
+    0x0, 0x0, 0x0, 0x0, 0x0, 0x0,
+    0x0, 0x0, 0x0, 0x10, 0x6, 0x8,
+    0x10, 0x20, 0x0, 0x40, 0x80, 0x100,
+    0x3FFFFFE00, 0x3FFFFFE00, 0x3FFFFFE00, 0x3FFFFFE00, 0x3FFFFFE00, 0x3FFFFFE00,
+    0x3FFFFFE00, 0x3FFFFFE00, 0x0, 0x3FFFFFE00, 0x7FFFFFC00000000, 0x7FFFFFC00000000,
+    0x7FFFFFC00000000, 0x7FFFFFC00000000, 0x7FFFFFC00000000, 0x7FFFFFC00000000, 0x7FFFFFC00000000, 0x7FFFFFC00000000,
+    0x0, 0x7FFFFFC00000000, 0x0, 0x0, 0x0, 0x0,
+    0x0, 0x0, 0x0, 0x0, 0x0, 0x0,
+    0x0, 0x0, 0x0, 0x0, 0x0, 0x0,
+    0x0, 0x0, 0x0, 0x0, 0x0, 0x0,
+    0x0, 0x0, 0x0, 0x0, 0x0, 0x0,
+    0x0, 0x0, 0x0, 0x0, 0x0, 0x0,
+    0x0, 0x0, 0x0, 0x0, 0x0, 0x0,
+    0x3FFFFFE00, 0x3FFFFFE00, 0x3FFFFFE00, 0x3FFFFFE00, 0x3FFFFFE00, 0x3FFFFFE00,
+    0x3FFFFFE00, 0x3FFFFFE00, 0x0, 0x0, 0x7FFFFFC00000000, 0x7FFFFFC00000000,
+    0x7FFFFFC00000000, 0x7FFFFFC00000000, 0x7FFFFFC00000000, 0x7FFFFFC00000000, 0x7FFFFFC00000000, 0x7FFFFFC00000000,
+];
+
+#[rattlefmt::skip]
+static DIGITS: [u64; 108] = [
+    0x0, 0x2, 0x4, 0x8, 0x10, 0x20,
+    0x0, 0x40, 0x80, 0x100, 0x0, 0x0,
+    0x0, 0x0, 0x0, 0x0, 0x0, 0x0,
+    0x0, 0x0, 0x0, 0x10, 0x0, 0x0,
+    0x0, 0x0, 0x0, 0x0, 0x0, 0x0,
+    0x200, 0x400, 0x600, 0x800, 0xA00, 0xC00,
+    0xE00, 0x1000, 0x0, 0x0, 0x400000000, 0x800000000,
+    0xC00000000, 0x1000000000, 0x1400000000, 0x1800000000, 0x1C00000000, 0x2000000000,
+    0x0, 0x0, 0x0, 0x0, 0x0, 0x0,
+    0x0, 0x0, 0x0, 0x0, 0x0, 0x0,
+    0x0, 0x0, 0x0, 0x0, 0x0, 0x0,
+    0x0, 0x0, 0x0, 0x0, 0x0, 0x0,
+    0x0, 0x0, 0x0, 0x0, 0x0, 0x0,
+    0x0, 0x0, 0x0, 0x0, 0x0, 0x0,
+    0x0, 0x0, 0x0, 0x0, 0x0, 0x0,
+    0x1200, 0x1400, 0x1600, 0x1800, 0x1A00, 0x1C00,
+    0x1E00, 0x2000, 0x0, 0x0, 0x2400000000, 0x2800000000,
+    0x2C00000000, 0x3000000000, 0x3400000000, 0x3800000000, 0x3C00000000, 0x4000000000,
+];
+
 #[inline]
-fn with_colour(ink: Ink, param: u16) -> Ink
-    ensures coloured { result ≡ record ink { style = with_colour param ink.style } }
+#[tactic(auto, using(crate::proofs::Rows::row_at))]
+fn mask_at(param: u16) -> u64
+    requires below { param < 108 }
+    ensures mask { result ≡ mask_of (aspect_of param) }
 {
-    match param {
-        39 => ink.with_foreground(Colour::Default),
-        49 => ink.with_background(Colour::Default),
-        30..=37 => ink.with_foreground(Colour::Index((param - 30) as u8)),
-        40..=47 => ink.with_background(Colour::Index((param - 40) as u8)),
-        90..=97 => ink.with_foreground(Colour::Index((param - 82) as u8)),
-        100..=107 => ink.with_background(Colour::Index((param - 92) as u8)),
-        _ => ink,
-    }
+    MASKS[param as usize]
 }
 
-// 21 to 29, what ends a flag, but for 21: in an ink a flag is set without the others or the colours being read.
-fn without_flag(ink: Ink, param: u16) -> Ink
-    requires below { param < 30 }
-    ensures ended { result ≡ record ink { style = without_aspect param ink.style } }
+#[inline]
+#[tactic(auto, using(crate::proofs::Rows::row_at))]
+fn digits_at(param: u16) -> u64
+    requires below { param < 108 }
+    ensures digits { result ≡ digits_of (aspect_of param) }
 {
-    match param {
-        21 => ink.with_underline(true),
-        22 => ink.with_bold(false).with_faint(false),
-        23 => ink.with_italic(false),
-        24 => ink.with_underline(false),
-        25 => ink.with_blink(false),
-        27 => ink.with_reverse(false),
-        28 => ink.with_conceal(false),
-        29 => ink.with_strike(false),
-        _ => ink,
-    }
-}
-
-// 1 to 29, the flags.
-fn with_flag(ink: Ink, param: u16) -> Ink
-    requires some { 0 < param }
-    requires below { param < 30 }
-    ensures set { result ≡ record ink { style = with_aspect param ink.style } }
-{
-    match param {
-        1 => ink.with_bold(true),
-        2 => ink.with_faint(true),
-        3 => ink.with_italic(true),
-        4 => ink.with_underline(true),
-        5 => ink.with_blink(true),
-        7 => ink.with_reverse(true),
-        8 => ink.with_conceal(true),
-        9 => ink.with_strike(true),
-        _ => without_flag(ink, param),
-    }
+    DIGITS[param as usize]
 }
 
 #[inline]
 fn with_aspect(ink: Ink, param: u16) -> Ink
     ensures set { result ≡ record ink { style = with_aspect param ink.style } }
 {
-    if param == 0 {
-        Ink::new(Style::default(), ink.guard())
-    } else if param < 30 {
-        with_flag(ink, param)
+    if param < 108 {
+        ink.with_digits(mask_at(param), digits_at(param))
     } else {
-        with_colour(ink, param)
+        ink
     }
 }
 

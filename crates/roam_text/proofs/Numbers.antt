@@ -1,5 +1,5 @@
 -- The digits of a parameter.
-use Rattle.std.proofs.Common.{◌≡◌, ◌≢◌, ◌<◌, ◌≤◌, ◌+◌, ◌-◌, ◌*◌, ℕ, zero, suc, Bool, true, false, cond, nat_lt, min, List, [], ◌∷◌, ◌++◌, map, take, length, get_or, append_assoc, refl, sym, ap, subst, ◌∙◌, arith}
+use Rattle.std.proofs.Common.{◌≡◌, ◌≢◌, ◌<◌, ◌≤◌, ◌+◌, ◌-◌, ◌*◌, ℕ, zero, suc, Bool, true, false, cond, nat_lt, min, List, [], ◌∷◌, ◌++◌, map, take, length, get_or, append_assoc, refl, sym, ap, ◌∙◌, arith}
 use Rattle.std.specs.Prelude.{◌==◌}
 use Rattle.std.proofs.lemmas.Bool.Decides.{nat_tests}
 use Rattle.std.proofs.lemmas.Bool.{false≢true}
@@ -9,7 +9,6 @@ use Rattle.roam_text.specs.Log.{Sign, Character, character}
 use Rattle.roam_text.specs.Functions.{AreAscii}
 use Rattle.roam_text.specs.Residual.{outcome, given_in, all_of, control_sequence_from, add_digit, add_separator, step_in}
 use Rattle.roam_text.specs.ShortNumbers.{IsShortNumber}
-use Rattle.roam_text.specs.declared.kinds.Kind.{Kind}
 use Rattle.roam_text.specs.declared.kinds.Kind.TheVariants.{Intermediate, Digit, Colon, Separator, PrivateMarker, Upper, Lower, Delete, Graphic}
 use Rattle.roam_text.specs.declared.parsers.Parser.{Parser}
 use Rattle.roam_text.specs.declared.parsers.Phase.TheVariants.{InControlSequence}
