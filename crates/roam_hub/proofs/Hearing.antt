@@ -1,11 +1,11 @@
 -- What a client start makes of a datagram.
-use Rattle.std.proofs.Common.{◌≡◌, ◌⊎◌, ℕ, ◌-◌, ◌<◌, ◌≤◌, ◌^◌, List, Option, Some, None, Bool, true, false, inl, inr, refl, sym, ap, ◌∙◌, subst, cond, arith}
+use Rattle.std.proofs.Common.{◌≡◌, ◌⊎◌, ℕ, ◌-◌, ◌<◌, ◌≤◌, ◌^◌, max, List, Option, Some, None, Bool, true, false, inl, inr, refl, sym, ap, ◌∙◌, subst, cond, arith}
 use Rattle.std.proofs.lemmas.Bool.Decides.{nat_tests}
 use Rattle.std.specs.Prelude.{Result, Ok, Err, IsOk, nat_le, nat_lt, is_none, length, drop}
 use Rattle.std.specs.List.{All}
 use Rattle.std.proofs.lemmas.List.Elements.{All-drop}
 use Rattle.roam_cells.specs.declared.faults.Fault.{Fault}
-use Rattle.roam_cells.specs.declared.faults.Fault.TheVariants.{OutOfMemory, BadDatagram, BadChange}
+use Rattle.roam_cells.specs.declared.faults.Fault.TheVariants.{OutOfMemory, BadSize, TooSmall, NoPane, PanesFull, LastPane, Busy, TooLong, BadDatagram, OtherSession, OtherClient, ClientsFull, BadChange, SendFull, Spent, BadAct, Watching}
 use Rattle.roam_cells.specs.declared.faults.Reason.{Reason}
 use Rattle.roam_cells.specs.declared.faults.Reason.TheVariants.{Fragment, Short}
 use Rattle.roam_screens.specs.Screenshot.{Screenshot}
@@ -14,6 +14,7 @@ use Rattle.roam_acts.specs.Senders.{Typing, acked_to, last_number}
 use Rattle.roam_sync.specs.declared.receivers.Step.{Step}
 use Rattle.roam_sync.specs.declared.receivers.Step.TheVariants as step
 use Rattle.roam_sync.specs.Receivers.{Receiving, pairs, state_at, from_floor, step_for}
+use Rattle.roam_sync.specs.Links.{Delivers}
 use Rattle.roam_wire.specs.declared.versions.Version.{Version}
 use Rattle.roam_wire.specs.Datagrams.{DatagramValue, IsDatagram, datagram_text}
 use Rattle.roam_wire.specs.Gatherers.{Gathering, Answer, Whole, gather, fragment_of}
@@ -22,7 +23,7 @@ use Rattle.roam_wire.specs.Headers.{checked_header, datagram_at, datagram_if, da
 use Rattle.roam_wire.specs.Instructions.{DownValue, IsDown, down_text, reason_for}
 use Rattle.roam_world.specs.Moments.{owed_from}
 use Rattle.roam_world.specs.Versions.{applied_by}
-use Rattle.roam_world.specs.Texts.{SaysDown}
+use Rattle.roam_world.specs.Texts.{SaysDown, update_in}
 use Rattle.roam_world.specs.Clients.{moment_of}
 use Rattle.roam_world.specs.ClientArrivals.{arriving, arriving_gathered, after_fragment, hearing_of}
 use Rattle.roam_world.specs.Arrival.{turned_away, noted}

@@ -1,5 +1,5 @@
 -- What a client start of the code stands for, at its calls.
-use Rattle.std.proofs.Common.{◌≡◌, ◌⊎◌, ◌<◌, false, List, [], ◌∷◌, length, inl, inr, refl, ◌∙◌, ap, sym, subst}
+use Rattle.std.proofs.Common.{◌≡◌, ◌⊎◌, ℕ, ◌<◌, Bool, false, List, [], ◌∷◌, length, inl, inr, refl, ◌∙◌, ap, sym, subst}
 use Rattle.std.specs.Prelude.{◌↔◌, Result, Ok, Err, OnOk, OnErr, IfErr, IsErrOf}
 use Rattle.std.specs.List.{All}
 use Rattle.std.proofs.lemmas.List.{append_assoc, append-nil}
