@@ -10,7 +10,7 @@ use std::time::Instant;
 
 const SESSION: u64 = 0x5E55;
 
-/// Where all client starts are.
+/// Where all client starts are, but for those of a crowd.
 const THERE: Addr = Addr {
     host: [127, 0, 0, 1],
     port: 5001,
@@ -47,13 +47,23 @@ struct Pair {
     now: u64,
 }
 
-fn heard(alloc: Global, server: &mut Server, texts: &[Vec<u8>], now: u64) -> Result<(), Fault> {
+fn heard_from(
+    alloc: Global,
+    server: &mut Server,
+    from: Addr,
+    texts: &[Vec<u8>],
+    now: u64,
+) -> Result<(), Fault> {
     for text in texts {
-        if let Err(stop) = server.datagram(alloc, THERE, text, now) {
+        if let Err(stop) = server.datagram(alloc, from, text, now) {
             return Err(stop.fault);
         }
     }
     Ok(())
+}
+
+fn heard(alloc: Global, server: &mut Server, texts: &[Vec<u8>], now: u64) -> Result<(), Fault> {
+    heard_from(alloc, server, THERE, texts, now)
 }
 
 fn greet(alloc: Global, server: &mut Server, client: &mut Client) -> Result<(), Fault> {
@@ -150,6 +160,103 @@ fn rounds(
         bytes = bytes.wrapping_add(one.1);
     }
     Ok((passed, bytes))
+}
+
+/// A server and several client starts, at a moment. Each is at a port of its own, its place among them.
+#[derive(Drop)]
+struct Crowd {
+    server: Server,
+    clients: Vec<Client>,
+    now: u64,
+}
+
+fn at_port(port: u16) -> Addr {
+    Addr {
+        host: [127, 0, 0, 1],
+        port,
+    }
+}
+
+// What each client start has to send comes to the server.
+fn answer_all(
+    alloc: Global,
+    server: &mut Server,
+    clients: &mut [Client],
+    now: u64,
+) -> Result<(), Fault> {
+    let mut port: u16 = 0;
+    for client in clients {
+        let texts = client.tick(alloc, now)?;
+        heard_from(alloc, server, at_port(port), &texts, now)?;
+        port = port.wrapping_add(1);
+    }
+    Ok(())
+}
+
+// Datagrams come to the client starts at their ports.
+fn bring(
+    alloc: Global,
+    clients: &mut [Client],
+    parcels: &[(Addr, Vec<u8>)],
+    now: u64,
+) -> Result<(), Fault> {
+    for (to, text) in parcels {
+        if let Some(client) = clients.get_mut(usize::from(to.port)) {
+            client.datagram(alloc, text, now)?;
+        }
+    }
+    Ok(())
+}
+
+// The nanoseconds of a tick after these bytes. Its datagrams come to the client starts, and their answers go back, unmeasured.
+fn crowd_tick(rt: &HostRuntime, crowd: &mut Crowd, piece: &[u8]) -> anyhow::Result<u128> {
+    let alloc = rt.alloc();
+    crowd.server.pane_bytes(1, piece)?;
+    crowd.now = crowd.now.wrapping_add(120);
+    let start = Instant::now(rt)?;
+    let parcels = crowd.server.tick(alloc, crowd.now)?;
+    let passed = start.elapsed(rt)?.as_nanos();
+    bring(alloc, &mut crowd.clients, &parcels, crowd.now)?;
+    let later = crowd.now.wrapping_add(100);
+    answer_all(alloc, &mut crowd.server, &mut crowd.clients, later)?;
+    Ok(passed)
+}
+
+// So many ticks, each after a key.
+fn crowd_ticks(rt: &HostRuntime, crowd: &mut Crowd, times: u32) -> anyhow::Result<u128> {
+    let mut passed: u128 = 0;
+    for k in 0..times {
+        passed = passed.wrapping_add(crowd_tick(rt, crowd, KEYS[(k % 2) as usize])?);
+    }
+    Ok(passed)
+}
+
+// A server that knows so many client starts, which are all kept.
+fn crowd_of(alloc: Global, rows: u16, cols: u16, starts: u64) -> Result<Crowd, Fault> {
+    let mut server = server_of(alloc, rows, cols, 0)?;
+    let mut clients = Vec::new(alloc);
+    for id in 0..starts {
+        clients.push(Client::new(alloc, SESSION, id)?)?;
+    }
+    answer_all(alloc, &mut server, &mut clients, 0)?;
+    Ok(Crowd {
+        server,
+        clients,
+        now: 0,
+    })
+}
+
+// The nanoseconds of ticks with so many client starts.
+fn measured_crowd(
+    rt: &HostRuntime,
+    size: (u16, u16),
+    starts: u64,
+    times: u32,
+) -> anyhow::Result<u128> {
+    let mut crowd = crowd_of(rt.alloc(), size.0, size.1, starts)?;
+    // The first tick brings the whole screen.
+    crowd_ticks(rt, &mut crowd, 2)?;
+    crowd_ticks(rt, &mut crowd, times)
 }
 
 /// What is measured of a pair.
@@ -250,16 +357,17 @@ fn keep(alloc: Global, starts: u64, with_starts: bool) -> Result<u64, Fault> {
     keep_for(alloc, &mut server, starts, with_starts)
 }
 
-/// Does two rounds, and keeps some screens.
+/// Does two rounds and two ticks, and keeps some screens.
 pub fn try_once(rt: &HostRuntime) -> anyhow::Result<()> {
     measured(rt, (24, 80), 1, What::Rounds(&KEYS), 2)?;
+    measured_crowd(rt, (24, 80), 2, 2)?;
     if keep(rt.alloc(), 2, true)? == 0 {
         bail!("no screen came");
     }
     Ok(())
 }
 
-/// Ticks, and takes rounds, at the size that the words say, so often.
+/// Ticks, and takes rounds, at the size that the words say, so often; the ticks after a key are of one client start and of nine.
 pub fn measure(rt: &HostRuntime, words: &mut Args) -> anyhow::Result<()> {
     let rows = words::size(words, "ROWS")?;
     let cols = words::size(words, "COLS")?;
@@ -277,6 +385,10 @@ pub fn measure(rt: &HostRuntime, words: &mut Args) -> anyhow::Result<()> {
     for (name, starts, what) in whats {
         let (passed, sum) = measured(rt, (rows, cols), starts, what, times)?;
         println!(rt; "{name} {times} {passed} {sum}")?;
+    }
+    for (name, starts) in [("ticks1", 1), ("ticks9", 9)] {
+        let passed = measured_crowd(rt, (rows, cols), starts, times)?;
+        println!(rt; "{name} {times} {passed} {starts}")?;
     }
     Ok(())
 }

@@ -5,11 +5,11 @@
 //! a scrolled screen and a full one that many times; it prints for each its name, the bytes, TIMES and the microseconds. `speed update
 //! ROWS COLS STYLES TIMES` writes and applies changes of screens in both versions, each that many times, and prints the version, the
 //! change, the cells, TIMES, the microseconds of writing and of applying, and the bytes of the text. `speed cores ROWS COLS TIMES` copies
-//! a screen, ticks an idle server with one client start and with 64, and takes as many rounds of a tick and its datagrams at the client
-//! start after one changed row, a scroll, a redraw and a key; it prints for each its name, TIMES, the nanoseconds that passed and a number
-//! that depends on the work: of a key the bytes of all datagrams. `speed records N` makes a server that keeps eight screens for each of N
-//! client starts, and `speed clients N` keeps these starts too, with eight screens each, so that a caller can see how much memory that
-//! takes. Without words it does a moment's work of each, and prints nothing.
+//! a screen, ticks an idle server with one client start and with 64, takes as many rounds of a tick and its datagrams at the client start
+//! after one changed row, a scroll, a redraw and a key, and as many ticks after a key with one client start and with nine; it prints for
+//! each its name, TIMES, the nanoseconds that passed and a number that depends on the work: of a key the bytes of all datagrams. `speed
+//! records N` makes a server that keeps eight screens for each of N client starts, and `speed clients N` keeps these starts too, with eight
+//! screens each, so that a caller can see how much memory that takes. Without words it does a moment's work of each, and prints nothing.
 #![tactic(auto)]
 
 mod changes;
