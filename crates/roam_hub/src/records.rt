@@ -189,17 +189,14 @@ pub fn is_watching(kind: Kind) -> bool
 pub fn is_same(one: bool, other: bool) -> bool
     ensures same { result ≡ are_same one other }
 {
-    if one { other } else { !other }
+    one == other
 }
 
 /// Whether two versions are one.
 pub fn is_same_version(one: Version, other: Version) -> bool
     ensures same { result ≡ are_same_version one other }
 {
-    match (one, other) {
-        (Version::One, Version::One) | (Version::Two, Version::Two) => true,
-        (Version::One, Version::Two) | (Version::Two, Version::One) => false,
-    }
+    one == other
 }
 
 // Whether a datagram is of the version and the kind of its start's first one.

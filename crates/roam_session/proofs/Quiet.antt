@@ -25,7 +25,7 @@ use Rattle.roam_session.proofs.Screening.{sizes-append, bytes_sizes}
 
 pub shows_now : (t : TermView) (rows cols lines : ℕ) (log : List Item) (view : ℕ) → TermStands t rows cols lines log
     → picture_of t.live t.history view ≡ picture rows cols lines log view
-shows_now t rows cols lines log view stands = picture_is rows cols lines log view t.live t.history shows.live shows.history
+shows_now t rows cols lines log view stands = picture_is rows cols lines log view t.live t.history stands.live stands.history
 
 -- a row that bytes leave without a mark
 pub read_rows : (bytes : List ℕ) (t u : TermView) (k : ℕ) → IsQuiet t → Fed t u bytes → k < u.live.screen.rows

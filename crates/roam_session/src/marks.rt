@@ -15,18 +15,13 @@ use roam_term::Term;
 fn is_same_rect(x: Rect, y: Rect) -> bool
     ensures same { result ≡ is_same_rect x y }
 {
-    x.row == y.row && x.col == y.col && x.rows == y.rows && x.cols == y.cols
+    x == y
 }
 
 fn is_same_way(x: Way, y: Way) -> bool
     ensures same { result ≡ is_same_way x y }
 {
-    match (x, y) {
-        (Way::Right, Way::Right) => true,
-        (Way::Down, Way::Down) => true,
-        (Way::Right, Way::Down) => false,
-        (Way::Down, Way::Right) => false,
-    }
+    x == y
 }
 
 fn has_pane(x: (u8, Rect), list: &[(u8, Rect)]) -> bool
