@@ -1,9 +1,9 @@
 #!/usr/bin/env bash
 # bench/hub.sh [TIMES [ROUNDS]]: the microseconds of an idle tick of a server with one client start and with 64, of a round (a tick and its
 # datagrams at the client start) after one changed row, a scroll, a redraw of all places and one changed cell, beside a copy of the screen;
-# the bytes of the datagrams of such an echoed key; what each further client start adds to a tick after one, at most 20 at 24 by 80 and 40
-# at 200 by 500; and the KiB of a record and of a client start that hold eight screens of 24 by 80. A round's ratio is to the copy; that of a
-# key to 24 by 80 has the limit 25 at 200 by 500, which has 52 times the cells.
+# the bytes of the datagrams of such an echoed key; a tick after one with 1, 8 and 64 client starts, and what each further start adds to it,
+# at most 20 at 24 by 80 and 40 at 200 by 500; and the KiB of a record and of a client start that hold eight screens of 24 by 80. A
+# round's ratio is to the copy; that of a key to 24 by 80 has the limit 25 at 200 by 500, which has 52 times the cells.
 # shellcheck source-path=SCRIPTDIR source=common.sh
 . "$(dirname "$0")/common.sh"
 times=${1:-500}
@@ -18,7 +18,8 @@ for size in "24 80" "100 250" "200 500"; do
     { least($1, $3 / $2 / 1000); bytes[$1] = $4 / $2 }
     END { printf "%-12s %8.2f %8.3f %8.3f %8.1f %8.1f %8.1f %8.1f %12.1f %8.2f\n", by(size), low["copy"], low["idle1"],
                  low["idle64"], low["row"], low["scroll"], low["redraw"], low["echo"], bytes["echo"],
-                 (low["ticks9"] - low["ticks1"]) / 8
+                 (low["ticks64"] - low["ticks1"]) / 63
+          printf "%-12s a tick after a key with 1, 8 and 64 starts %.1f, %.1f, %.1f\n", "", low["ticks1"], low["ticks8"], low["ticks64"]
           printf "%-12s %8s %8s %8s %8.1f %8.1f %8.1f %8.1f\n", "  of a copy", "", "", "", low["row"] / low["copy"],
                  low["scroll"] / low["copy"], low["redraw"] / low["copy"], low["echo"] / low["copy"] }'
 done | tee "$folder/table"

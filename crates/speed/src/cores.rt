@@ -386,7 +386,7 @@ pub fn measure(rt: &HostRuntime, words: &mut Args) -> anyhow::Result<()> {
         let (passed, sum) = measured(rt, (rows, cols), starts, what, times)?;
         println!(rt; "{name} {times} {passed} {sum}")?;
     }
-    for (name, starts) in [("ticks1", 1), ("ticks9", 9)] {
+    for (name, starts) in [("ticks1", 1), ("ticks8", 8), ("ticks64", 64)] {
         let passed = measured_crowd(rt, (rows, cols), starts, times)?;
         println!(rt; "{name} {times} {passed} {starts}")?;
     }
