@@ -162,8 +162,8 @@ fn client_for<R: Files + RandomSource + AllocGlobal>(
 ) -> Result<Client, RunFault>
     ensures session { IfOk result (λ client. (id : ℕ) → attach.now.session ≡ Some id → client.session ≡ id) }
     ensures id { IfOk result (λ client. (id : ℕ) → attach.now.client ≡ Some id → client.id ≡ id) }
-    ensures version { IfOk result (λ client. client.version ≡ attach.now.version) }
-    ensures watches { IfOk result (λ client. client.watches ≡ (attach.now.watches && is_two attach.now.version)) }
+    ensures version { IfOk result (λ client. client.kept.version ≡ attach.now.version) }
+    ensures watches { IfOk result (λ client. client.kept.watches ≡ (attach.now.watches && is_two attach.now.version)) }
     ensures faults { IfErr result (λ fault. (fault ≡ RunFault.Core Fault.OutOfMemory) ⊎ (fault ≡ RunFault.Read)) }
 {
     let session = session_for(rt, attach)?;
