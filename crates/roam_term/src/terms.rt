@@ -370,7 +370,8 @@ impl Term {
     pub fn take_output(&mut self, n: usize)
         requires waiting { n ≤ length self.old.waiting }
         ensures waiting { self.new.waiting ≡ drop n self.old.waiting }
-        ensures stands { (rows cols lines : ℕ) (log : List Item) → Stands self.old rows cols lines log → Stands self.new rows cols lines log }
+        ensures stands { (rows cols lines : ℕ) (log : List Item) → Stands self.old rows cols lines log
+            → Stands self.new rows cols lines log }
         ensures live { self.new.live ≡ self.old.live }
         ensures marks { self.new.marks ≡ self.old.marks }
         ensures history { self.new.history ≡ self.old.history }

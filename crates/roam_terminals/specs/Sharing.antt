@@ -73,8 +73,8 @@ TurnsAll to (t ∷ ts) (t' ∷ ts') client client' =
 abbrev pub TurnsAlone : Addr → ClientView → ClientView → Type 0
 TurnsAlone to client client' =
     (outer outer' : Option Noted) × Makes client_step
-    (AttachTurn client'.kept.receiver.newest.number client'.kept.receiver.newest.state outer outer' to None false) None None None None client
-    client'
+    (AttachTurn client'.kept.receiver.newest.number client'.kept.receiver.newest.state outer outer' to None false) None None None None
+    client client'
 
 -- A terminal was told of a silence or not, and some of what waited for it was written: what is noted of it stays, or nothing is; and
 -- nothing is where what is told there of silence is another than it was, as where it is over.

@@ -34,7 +34,8 @@ IsBehind (Some noted) n s = Follows noted.number noted.screen n s
 
 -- a terminal of a size, with so many lines of history, shows after a log what is noted; where nothing is, it is any terminal
 abbrev pub DisplaysNoted : ℕ → ℕ → ℕ → List Item → Option Noted → Type 0
-DisplaysNoted rows cols lines log None = (1 ≤ (term rows cols lines log).live.screen.rows) × (1 ≤ (term rows cols lines log).live.screen.cols)
+DisplaysNoted rows cols lines log None =
+    (1 ≤ (term rows cols lines log).live.screen.rows) × (1 ≤ (term rows cols lines log).live.screen.cols)
 DisplaysNoted rows cols lines log (Some noted) = Displays rows cols lines log noted.screen
 
 -- a screen has at most the terminal's rows and columns
