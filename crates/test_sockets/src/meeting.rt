@@ -41,8 +41,8 @@ impl<'a> Meeting<'a> {
     // One turn of the client start at a moment, and whether the act was taken.
     fn attaches(&mut self, alloc: Global, moment: u64, next: Option<&Act>) -> bool
         requires in_range { IfSome next (λ act. IsInRange act.now) }
-        requires behind { IsBehind self.old.outer self.old.client.receiver.newest.number self.old.client.receiver.newest.state }
-        ensures behind { IsBehind self.new.outer self.new.client.receiver.newest.number self.new.client.receiver.newest.state }
+        requires behind { IsBehind self.old.outer self.old.client.kept.receiver.newest.number self.old.client.kept.receiver.newest.state }
+        ensures behind { IsBehind self.new.outer self.new.client.kept.receiver.newest.number self.new.client.kept.receiver.newest.state }
     {
         self.client_ports.set_moment(moment);
         let home = self.home;
@@ -59,8 +59,8 @@ impl<'a> Meeting<'a> {
     }
 
     fn serves(&mut self, alloc: Global, moment: u64)
-        requires behind { IsBehind self.old.outer self.old.client.receiver.newest.number self.old.client.receiver.newest.state }
-        ensures behind { IsBehind self.new.outer self.new.client.receiver.newest.number self.new.client.receiver.newest.state }
+        requires behind { IsBehind self.old.outer self.old.client.kept.receiver.newest.number self.old.client.kept.receiver.newest.state }
+        ensures behind { IsBehind self.new.outer self.new.client.kept.receiver.newest.number self.new.client.kept.receiver.newest.state }
     {
         self.server_ports.set_moment(moment);
         serve_turn(alloc, &mut self.server, &mut self.server_ports);
@@ -70,8 +70,8 @@ impl<'a> Meeting<'a> {
     // One turn of each end.
     fn turns(&mut self, alloc: Global, moment: u64, next: Option<&Act>) -> bool
         requires in_range { IfSome next (λ act. IsInRange act.now) }
-        requires behind { IsBehind self.old.outer self.old.client.receiver.newest.number self.old.client.receiver.newest.state }
-        ensures behind { IsBehind self.new.outer self.new.client.receiver.newest.number self.new.client.receiver.newest.state }
+        requires behind { IsBehind self.old.outer self.old.client.kept.receiver.newest.number self.old.client.kept.receiver.newest.state }
+        ensures behind { IsBehind self.new.outer self.new.client.kept.receiver.newest.number self.new.client.kept.receiver.newest.state }
     {
         let is_taken = self.attaches(alloc, moment, next);
         self.serves(alloc, moment);
@@ -82,8 +82,8 @@ impl<'a> Meeting<'a> {
     fn types(&mut self, alloc: Global, moment: u64, first: &Act, second: &Act) -> bool
         requires first { IsInRange first.now }
         requires second { IsInRange second.now }
-        requires behind { IsBehind self.old.outer self.old.client.receiver.newest.number self.old.client.receiver.newest.state }
-        ensures behind { IsBehind self.new.outer self.new.client.receiver.newest.number self.new.client.receiver.newest.state }
+        requires behind { IsBehind self.old.outer self.old.client.kept.receiver.newest.number self.old.client.kept.receiver.newest.state }
+        ensures behind { IsBehind self.new.outer self.new.client.kept.receiver.newest.number self.new.client.kept.receiver.newest.state }
     {
         let is_taken = self.attaches(alloc, moment, Some(first));
         self.turns(alloc, moment, Some(second)) && is_taken
@@ -91,7 +91,7 @@ impl<'a> Meeting<'a> {
 
     // Within a thousand turns, 10 ms apart, the start shows what the first program wrote, and that one reads what is typed there.
     fn meets(&mut self, alloc: Global, programs: &mut Programs) -> bool
-        requires behind { IsBehind self.old.outer self.old.client.receiver.newest.number self.old.client.receiver.newest.state }
+        requires behind { IsBehind self.old.outer self.old.client.kept.receiver.newest.number self.old.client.kept.receiver.newest.state }
     {
         let key = Act::Key(Key::Char('b'));
         let mut is_read = false;
@@ -109,8 +109,8 @@ impl<'a> Meeting<'a> {
     }
 
     fn types_both(&mut self, alloc: Global, words: &str) -> bool
-        requires behind { IsBehind self.old.outer self.old.client.receiver.newest.number self.old.client.receiver.newest.state }
-        ensures behind { IsBehind self.new.outer self.new.client.receiver.newest.number self.new.client.receiver.newest.state }
+        requires behind { IsBehind self.old.outer self.old.client.kept.receiver.newest.number self.old.client.kept.receiver.newest.state }
+        ensures behind { IsBehind self.new.outer self.new.client.kept.receiver.newest.number self.new.client.kept.receiver.newest.state }
     {
         if let Some((moment, acts)) = words.split_once(' ')
             && let Some((first, second)) = acts.split_once(", ")
@@ -124,8 +124,8 @@ impl<'a> Meeting<'a> {
     }
 
     fn turns_at(&mut self, alloc: Global, moment: &str) -> bool
-        requires behind { IsBehind self.old.outer self.old.client.receiver.newest.number self.old.client.receiver.newest.state }
-        ensures behind { IsBehind self.new.outer self.new.client.receiver.newest.number self.new.client.receiver.newest.state }
+        requires behind { IsBehind self.old.outer self.old.client.kept.receiver.newest.number self.old.client.kept.receiver.newest.state }
+        ensures behind { IsBehind self.new.outer self.new.client.kept.receiver.newest.number self.new.client.kept.receiver.newest.state }
     {
         match moment.parse::<u64>() {
             Ok(moment) => {
@@ -144,8 +144,8 @@ impl<'a> Meeting<'a> {
     }
 
     fn does(&mut self, rt: &HostRuntime, programs: &mut Programs, line: &str) -> Result<bool, Fail>
-        requires behind { IsBehind self.old.outer self.old.client.receiver.newest.number self.old.client.receiver.newest.state }
-        ensures behind { IsBehind self.new.outer self.new.client.receiver.newest.number self.new.client.receiver.newest.state }
+        requires behind { IsBehind self.old.outer self.old.client.kept.receiver.newest.number self.old.client.kept.receiver.newest.state }
+        ensures behind { IsBehind self.new.outer self.new.client.kept.receiver.newest.number self.new.client.kept.receiver.newest.state }
     {
         let (verb, rest) = line.split_once(' ').unwrap_or((line, ""));
         match verb {
@@ -163,8 +163,8 @@ impl<'a> Meeting<'a> {
         programs: &mut Programs,
         lines: &'t str,
     ) -> Result<Option<&'t str>, Fail>
-        requires behind { IsBehind self.old.outer self.old.client.receiver.newest.number self.old.client.receiver.newest.state }
-        ensures behind { IsBehind self.new.outer self.new.client.receiver.newest.number self.new.client.receiver.newest.state }
+        requires behind { IsBehind self.old.outer self.old.client.kept.receiver.newest.number self.old.client.kept.receiver.newest.state }
+        ensures behind { IsBehind self.new.outer self.new.client.kept.receiver.newest.number self.new.client.kept.receiver.newest.state }
     {
         for line in lines.lines() {
             if !self.does(rt, programs, line)? {
@@ -192,7 +192,7 @@ fn client_ports<'a>(
 
 /// A server whose panes are in a folder, and a client start, which reaches it by UDP or over a stream.
 fn meeting_of<'a>(rt: &'a HostRuntime, folder: &str, is_stream: bool) -> Result<Meeting<'a>, Fail>
-    ensures behind { IfOk result (λ m. IsBehind m.outer m.client.receiver.newest.number m.client.receiver.newest.state) }
+    ensures behind { IfOk result (λ m. IsBehind m.outer m.client.kept.receiver.newest.number m.client.kept.receiver.newest.state) }
 {
     let alloc = rt.alloc();
     let server_ports = ServerPorts::bind(
@@ -219,8 +219,8 @@ fn meeting_of<'a>(rt: &'a HostRuntime, folder: &str, is_stream: bool) -> Result<
 
 // Whether both ends meet after the first lines.
 fn meets_after(rt: &HostRuntime, meeting: &mut Meeting<'_>, lines: &str) -> Result<bool, Fail>
-    requires behind { IsBehind meeting.old.outer meeting.old.client.receiver.newest.number
-        meeting.old.client.receiver.newest.state }
+    requires behind { IsBehind meeting.old.outer meeting.old.client.kept.receiver.newest.number
+        meeting.old.client.kept.receiver.newest.state }
 {
     let mut programs = Programs::new();
     if meeting.first_undone(rt, &mut programs, lines)?.is_some() {

@@ -100,14 +100,14 @@ fn serve(alloc: Global, stage: &mut Stage, round: u64, fails: u64) -> Result<(),
 // A round: the first start splits in round 0, and the second types a letter for pane 2 in round 4, after moment 1,000. An act that isn't
 // taken waits for the next round.
 fn play_round(alloc: Global, stage: &mut Stage, round: u64, failures: Failures) -> Result<(), Fault>
-    requires first { IsBehind stage.old.first.outer stage.old.first.client.receiver.newest.number
-        stage.old.first.client.receiver.newest.state }
-    requires second { IsBehind stage.old.second.outer stage.old.second.client.receiver.newest.number
-        stage.old.second.client.receiver.newest.state }
-    ensures first { IsBehind stage.new.first.outer stage.new.first.client.receiver.newest.number
-        stage.new.first.client.receiver.newest.state }
-    ensures second { IsBehind stage.new.second.outer stage.new.second.client.receiver.newest.number
-        stage.new.second.client.receiver.newest.state }
+    requires first { IsBehind stage.old.first.outer stage.old.first.client.kept.receiver.newest.number
+        stage.old.first.client.kept.receiver.newest.state }
+    requires second { IsBehind stage.old.second.outer stage.old.second.client.kept.receiver.newest.number
+        stage.old.second.client.kept.receiver.newest.state }
+    ensures first { IsBehind stage.new.first.outer stage.new.first.client.kept.receiver.newest.number
+        stage.new.first.client.kept.receiver.newest.state }
+    ensures second { IsBehind stage.new.second.outer stage.new.second.client.kept.receiver.newest.number
+        stage.new.second.client.kept.receiver.newest.state }
 {
     let now = round.wrapping_mul(APART);
     let split = Act::SplitRight;
@@ -178,10 +178,10 @@ pub fn play_all(
     rounds: u64,
     failures: Failures,
 ) -> Result<(), Fault>
-    requires first { IsBehind stage.old.first.outer stage.old.first.client.receiver.newest.number
-        stage.old.first.client.receiver.newest.state }
-    requires second { IsBehind stage.old.second.outer stage.old.second.client.receiver.newest.number
-        stage.old.second.client.receiver.newest.state }
+    requires first { IsBehind stage.old.first.outer stage.old.first.client.kept.receiver.newest.number
+        stage.old.first.client.kept.receiver.newest.state }
+    requires second { IsBehind stage.old.second.outer stage.old.second.client.kept.receiver.newest.number
+        stage.old.second.client.kept.receiver.newest.state }
 {
     for round in 0..rounds {
         play_round(alloc, stage, round, failures)?;

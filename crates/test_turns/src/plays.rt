@@ -20,10 +20,10 @@ pub enum Play {
 
 // Whether a play ends as it should.
 fn ends(alloc: Global, stage: &mut Stage, play: Play) -> Result<bool, Fault>
-    requires first { IsBehind stage.old.first.outer stage.old.first.client.receiver.newest.number
-        stage.old.first.client.receiver.newest.state }
-    requires second { IsBehind stage.old.second.outer stage.old.second.client.receiver.newest.number
-        stage.old.second.client.receiver.newest.state }
+    requires first { IsBehind stage.old.first.outer stage.old.first.client.kept.receiver.newest.number
+        stage.old.first.client.kept.receiver.newest.state }
+    requires second { IsBehind stage.old.second.outer stage.old.second.client.kept.receiver.newest.number
+        stage.old.second.client.kept.receiver.newest.state }
 {
     match play {
         Play::Failures(one, other) => {

@@ -169,8 +169,8 @@ static STATUS: &str =
 
 // The first turn of a start opens its terminal, and sends one datagram of 60 bytes.
 fn opens(alloc: Global, end: &mut End) -> bool
-    requires behind { IsBehind end.old.outer end.old.client.receiver.newest.number end.old.client.receiver.newest.state }
-    ensures behind { IsBehind end.new.outer end.new.client.receiver.newest.number end.new.client.receiver.newest.state }
+    requires behind { IsBehind end.old.outer end.old.client.kept.receiver.newest.number end.old.client.kept.receiver.newest.state }
+    ensures behind { IsBehind end.new.outer end.new.client.kept.receiver.newest.number end.new.client.kept.receiver.newest.state }
 {
     end.turn(alloc, 0, 0, None);
     showed(end.ports(), OPENED) && sent(end.ports()) == (1, 60)
@@ -188,8 +188,8 @@ fn carry(alloc: Global, stage: &mut Stage) -> Result<(), Fault>
 
 /// Which step of a session's first three turns isn't as it is worked by hand, if any.
 pub fn first_fault(alloc: Global, stage: &mut Stage) -> Option<u8>
-    requires behind { IsBehind stage.old.first.outer stage.old.first.client.receiver.newest.number
-        stage.old.first.client.receiver.newest.state }
+    requires behind { IsBehind stage.old.first.outer stage.old.first.client.kept.receiver.newest.number
+        stage.old.first.client.kept.receiver.newest.state }
 {
     if !opens(alloc, &mut stage.first) {
         return Some(1);

@@ -77,8 +77,8 @@ impl End {
     /// One turn at a moment, whose call of this number fails; whether the act was taken.
     pub fn turn(&mut self, alloc: Global, now: u64, fails: u64, next: Option<&Act>) -> bool
         requires in_range { IfSome next (λ act. IsInRange act.now) }
-        requires behind { IsBehind self.old.outer self.old.client.receiver.newest.number self.old.client.receiver.newest.state }
-        ensures behind { IsBehind self.new.outer self.new.client.receiver.newest.number self.new.client.receiver.newest.state }
+        requires behind { IsBehind self.old.outer self.old.client.kept.receiver.newest.number self.old.client.kept.receiver.newest.state }
+        ensures behind { IsBehind self.new.outer self.new.client.kept.receiver.newest.number self.new.client.kept.receiver.newest.state }
     {
         self.ports.set_moment(now);
         self.ports.fail_at(fails);
