@@ -1,3 +1,4 @@
+pub mod Backlogs
 pub mod Carriers
 pub mod Frames
 pub mod Queues

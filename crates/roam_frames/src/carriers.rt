@@ -120,7 +120,7 @@ impl<S: Read + Write> Carrier<S> {
         ensures writes { Writes (S.contents self.old.stream) (S.contents self.new.stream) self.old.queue.waiting self.new.queue.waiting }
         ensures frames { self.new.frames ≡ self.old.frames }
     {
-        let piece = self.queue.as_slice();
+        let piece = self.queue.front();
         if self.over || piece.is_empty() {
             return false;
         }

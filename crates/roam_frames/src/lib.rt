@@ -1,6 +1,7 @@
 //! Datagrams over a stream: each behind its length. What came and isn't given yet, what waits to be written, and both round a stream.
 #![tactic(auto)]
 
+mod backlog;
 mod carriers;
 mod frames;
 pub mod laws;

@@ -5,7 +5,8 @@ use roam_cells::Fault;
 use std::alloc::Global;
 use std::marker::Model;
 
-/// So many bytes that were written are kept before those behind them move to the front, where these are fewer.
+/// So many bytes that were written are kept before those behind them move to the front, where these are fewer; and so much memory is kept
+/// for the next that wait.
 const MOST_KEPT: usize = 65_536;
 
 /// Bytes that wait to be written, first in first out.
@@ -70,6 +71,7 @@ impl Outbox {
             || (self.taken > MOST_KEPT && self.taken > self.bytes.len() / 2)
         {
             drop(self.bytes.drain(..self.taken));
+            self.bytes.shrink_to(MOST_KEPT);
             self.taken = 0;
         }
     }
@@ -79,6 +81,7 @@ impl Outbox {
         ensures none { self.new ≡ [] }
     {
         self.bytes.clear();
+        self.bytes.shrink_to(MOST_KEPT);
         self.taken = 0;
     }
 }

@@ -1,10 +1,10 @@
 //! What waits for who reads at the other end of a stream.
-ghost use Rattle.std.specs.Prelude.{◌≡◌, ◌+◌, ◌++◌, ◌≤◌, true, false, length, drop, IfOk, OnOk, OnErr, IsOkUnless};
+ghost use Rattle.std.specs.Prelude.{◌≡◌, ◌+◌, ◌++◌, ◌<◌, ◌≤◌, ℕ, List, true, false, length, drop, IfOk, OnOk, OnErr, IsOkUnless};
 ghost use Rattle.roam_frames.specs.Frames.{IsCarried, framed};
 ghost use Rattle.roam_frames.specs.Queues.{IsLost, IsQueued, index_of, may_queue, most_waiting, nothing_queued};
 
+use crate::backlog::Backlog;
 use crate::frames::LONGEST_DATAGRAM;
-use crate::outbox::Outbox;
 use byteorder::{BigEndian, ByteOrder};
 use roam_cells::Fault;
 use std::alloc::Global;
@@ -25,7 +25,7 @@ const INDEX_AT: usize = 36;
 /// little waits, or none of them is. At most 3,492,138 bytes wait.
 #[derive(Drop)]
 pub struct Queue {
-    outbox: Outbox,
+    backlog: Backlog,
     takes: bool,
 }
 
@@ -35,9 +35,9 @@ impl Model for Queue {
 
     ghost Value = { Queued };
 
-    ghost view = { λ q. record { waiting = q.outbox; takes = q.takes } };
+    ghost view = { λ q. record { waiting = q.backlog; takes = q.takes } };
 
-    ghost invariant = { λ q. length q.outbox ≤ most_waiting };
+    ghost invariant = { λ q. length q.backlog ≤ most_waiting };
 }
 
 // The place of a datagram's fragment in its instruction, from 0.
@@ -58,17 +58,18 @@ fn is_carried(datagram: &[u8]) -> bool
 }
 
 // Adds a datagram behind its length, whole or not at all. Refuses want of memory.
-fn push(outbox: &mut Outbox, datagram: &[u8]) -> Result<(), Fault>
+fn push(backlog: &mut Backlog, datagram: &[u8]) -> Result<(), Fault>
     requires carried { IsCarried datagram.now }
-    ensures pushed { OnOk result (outbox.new ≡ outbox.old ++ framed datagram.now) }
-    ensures err { OnErr result (outbox.new ≡ outbox.old) }
+    requires few { length backlog.old ≤ most_waiting }
+    ensures pushed { OnOk result (backlog.new ≡ backlog.old ++ framed datagram.now) }
+    ensures err { OnErr result (backlog.new ≡ backlog.old) }
     ensures fault { IsOkUnless result Fault.OutOfMemory }
 {
     let mut framed = [0u8; LONGEST_DATAGRAM + 2];
     let len = datagram.len();
     BigEndian::write_u16(&mut framed, len as u16);
     framed[2..2 + len].copy_from_slice(datagram);
-    outbox.push(&framed[..2 + len])
+    backlog.push(&framed[..2 + len])
 }
 
 impl Queue {
@@ -77,17 +78,18 @@ impl Queue {
         ensures none { result ≡ nothing_queued }
     {
         Queue {
-            outbox: Outbox::new(alloc),
+            backlog: Backlog::new(alloc),
             takes: false,
         }
     }
 
-    /// What waits.
-    pub fn as_slice(&self) -> &[u8]
-        ensures bytes { result.now ≡ self.now.waiting }
+    /// A piece that stands first of what waits, of whole datagrams where whole ones were taken: nothing exactly where nothing waits.
+    pub fn front(&self) -> &[u8]
+        ensures front { (rest : List ℕ) × (self.now.waiting ≡ result.now ++ rest) }
+        ensures some { 0 < length self.now.waiting → 0 < length result.now }
         ensures most { length self.now.waiting ≤ most_waiting }
     {
-        self.outbox.as_slice()
+        self.backlog.front()
     }
 
     // Whether a datagram may be queued.
@@ -95,9 +97,9 @@ impl Queue {
         ensures may { result ≡ may_queue self.now datagram.now }
     {
         if index_of(datagram) == 0 {
-            self.outbox.len() <= LITTLE
+            self.backlog.len() <= LITTLE
         } else {
-            self.takes && self.outbox.len() + (datagram.len() + 2) <= MOST_WAITING
+            self.takes && self.backlog.len() + (datagram.len() + 2) <= MOST_WAITING
         }
     }
 
@@ -109,7 +111,7 @@ impl Queue {
     {
         self.takes = is_carried(datagram)
             && self.may_queue(datagram)
-            && push(&mut self.outbox, datagram).is_ok();
+            && push(&mut self.backlog, datagram).is_ok();
         self.takes
     }
 
@@ -118,6 +120,6 @@ impl Queue {
         requires within { count ≤ length self.old.waiting }
         ensures left { self.new ≡ record self.old { waiting = drop count self.old.waiting } }
     {
-        self.outbox.took(count);
+        self.backlog.took(count);
     }
 }

@@ -54,7 +54,7 @@ fn send_at_once(socket: &UdpSocket, to: Addr, bytes: &[u8]) -> bool {
 impl Lane {
     // Sends a datagram, or queues it where enough went to this address at this moment; tells whether either was done.
     fn send(&mut self, socket: &UdpSocket, bytes: &[u8], now: u64) -> bool {
-        if self.queue.as_slice().is_empty() && self.pace.may_go(now) {
+        if self.queue.front().is_empty() && self.pace.may_go(now) {
             self.pace.went(now);
             return send_at_once(socket, self.to, bytes);
         }
@@ -66,7 +66,7 @@ impl Lane {
         if !self.pace.may_go(now) {
             return false;
         }
-        let Some(datagram) = first_in(self.queue.as_slice()) else {
+        let Some(datagram) = first_in(self.queue.front()) else {
             return false;
         };
         let framed = datagram.len() + 2;
@@ -84,7 +84,7 @@ impl Lane {
                 break;
             }
         }
-        self.queue.as_slice().is_empty()
+        self.queue.front().is_empty()
     }
 }
 
@@ -181,7 +181,7 @@ impl Udp {
             is_all = lane.send_waiting(&self.socket, now) && is_all;
         }
         // An address to which nothing waits, and nothing went at this moment, is forgotten.
-        self.lanes.retain(|lane| !lane.queue.as_slice().is_empty() || lane.pace.is_at(now));
+        self.lanes.retain(|lane| !lane.queue.front().is_empty() || lane.pace.is_at(now));
         is_all
     }
 }

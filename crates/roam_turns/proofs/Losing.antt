@@ -1,5 +1,5 @@
 -- What can't be written down for want of memory.
-use Rattle.std.proofs.Common.{◌≡◌, Bool, true, false, List, Result, Ok, Err}
+use Rattle.std.proofs.Common.{◌≡◌, true, List, Result, Ok, Err}
 use Rattle.std.specs.Prelude.{OnErr, is_err, is_ok, if◌then◌else◌}
 
 pub lost : {A B X : Type 0} (r : Result A B) (items more old : List X) (P : Type 0) → items ≡ (if is_ok r then more else old) → OnErr r P

@@ -1,5 +1,5 @@
 -- Parcels are sent one after another.
-use Rattle.std.proofs.Common.{List, [], ◌∷◌, ◌++◌, Bool, ap, refl}
+use Rattle.std.proofs.Common.{◌≡◌, List, [], ◌∷◌, ◌++◌, length, Bool, ap, refl, sym, ◌∙◌, append-nil}
 use Rattle.roam_turns.specs.Calls.{Parcel, PortCall}
 use Rattle.roam_turns.specs.Calls.PortCall.{Sent}
 use Rattle.roam_turns.specs.Turns.{Sends}
@@ -13,3 +13,8 @@ sends_more (l ∷ parcels) calls parcel went h = (
   ap (λ k. k ++ Sent parcel.0 parcel.1 went ∷ []) h.2,
   sends_more parcels h.1 parcel went h.3,
 )
+
+-- where none are left, all were sent
+pub all_sent : {X : Type 0} → (sent rest all : List X) → length rest ≡ 0 → sent ++ rest ≡ all → sent ≡ all
+all_sent sent [] all none e = sym (append-nil sent) ∙ e
+all_sent sent (_ ∷ _) all none e = absurd (cc)

@@ -122,7 +122,7 @@ fn tick_and_send<C: ServerCore, P: Ports>(alloc: Global, server: &mut C, ports: 
         (C.made server.old) (C.made server.new) server.old server.new }
 {
     match server.tick(alloc, now) {
-        Ok(parcels) => send_parcels(ports, &parcels),
+        Ok(parcels) => send_parcels(ports, parcels),
         Err(_) => (),
     }
 }

@@ -1,11 +1,9 @@
-use Rattle.std.proofs.Common.{◌++◌, ℕ, List, Vec, refl, subst, ap, ◌∙◌, [], ◌∷◌, map}
+use Rattle.std.proofs.Common.{◌++◌, refl, ap, ◌∙◌, [], ◌∷◌, map}
 use Rattle.std.specs.Prelude.{Ok, Err}
-use Rattle.std.specs.declared.alloc.Global.{Global}
-use Rattle.roam_hub.specs.declared.addresses.Addr.{Addr}
 use Rattle.roam_turns.specs.Calls.{parcels_in}
 use Rattle.roam_turns.specs.Calls.ServerCall.{ServerTick}
 use Rattle.roam_turns.specs.Parts.Call.{Port, Core}
-use Rattle.roam_turns.specs.Turns.{Sends, ServerTicks}
+use Rattle.roam_turns.specs.Turns.{ServerTicks}
 use Rattle.roam_turns.proofs.Making.{Just, makes_none, makes_core, makes_ports, makes_both, makes_as}
 use Rattle.roam_turns.proofs.serving.tick_and_send.Goals as goal
 
@@ -13,14 +11,13 @@ pub returns-in-Ok : goal.returns-in-Ok
 returns-in-Ok g c =
     let step = g.C.ServerCore.step in
     let sends = c.send_parcels.ensures.sends in
-    let each = subst (λ (parcels : List (Addr × Vec ℕ Global)). Sends (parcels_in parcels) sends.0) c.deref.ensures.value sends.2 in
     let call = ServerTick c.args.now (Ok (parcels_in c.in-Ok.parcels.items)) in
     record {
       ticks =
           makes_both step (Just (Core call ∷ [])) (Just (map Port sends.0)) (ServerTicks c.args.now)
           (makes_core step [] call (makes_none step) c.in-Ok.ensures.tells c.in-Ok.ensures.step)
           (makes_ports step sends.0 sends.1)
-          (λ xs ys e f. (Ok (parcels_in c.in-Ok.parcels.items), sends.0, ap (λ l. l ++ ys) e ∙ ap (λ l. Core call ∷ l) f, each));
+          (λ xs ys e f. (Ok (parcels_in c.in-Ok.parcels.items), sends.0, ap (λ l. l ++ ys) e ∙ ap (λ l. Core call ∷ l) f, sends.2));
     }
 
 pub returns-in-Err : goal.returns-in-Err
