@@ -52,13 +52,12 @@ fn send_at_once(socket: &UdpSocket, to: Addr, bytes: &[u8]) -> bool {
 }
 
 impl Lane {
-    // Sends a datagram, or queues it where enough went to this address at this moment; tells whether either was done.
+    // Queues a datagram, and sends what may go at this moment; tells whether it was queued. The queue has to see each, also one that goes at
+    // once: it takes the later ones of an instruction where it took those before.
     fn send(&mut self, socket: &UdpSocket, bytes: &[u8], now: u64) -> bool {
-        if self.queue.front().is_empty() && self.pace.may_go(now) {
-            self.pace.went(now);
-            return send_at_once(socket, self.to, bytes);
-        }
-        self.queue.push(bytes)
+        let is_queued = self.queue.push(bytes);
+        self.send_waiting(socket, now);
+        is_queued
     }
 
     // Sends the datagram that waits longest, where one does and may go at this moment, and tells whether it did.

@@ -229,9 +229,15 @@ fn meets_after(rt: &HostRuntime, meeting: &mut Meeting<'_>, lines: &str) -> Resu
     Ok(meeting.meets(rt.alloc(), &mut programs))
 }
 
+/// The first program fills a screen of 97 fragments, more than go over UDP at one moment or than a socket of loopback holds, by DECALN.
+const FILLS: &str = "\
+types 0 size 60 240, next
+first connects panes/p1
+first writes \x1b#8a";
+
 fn meet(rt: &HostRuntime, is_stream: bool) -> Result<bool, Fail> {
     let mut meeting = meeting_of(rt, "panes", is_stream)?;
-    meets_after(rt, &mut meeting, "first connects panes/p1\nfirst writes a")
+    meets_after(rt, &mut meeting, FILLS)
 }
 
 #[test]
