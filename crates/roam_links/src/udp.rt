@@ -52,8 +52,8 @@ fn send_at_once(socket: &UdpSocket, to: Addr, bytes: &[u8]) -> bool {
 }
 
 impl Lane {
-    // Queues a datagram, and sends what may go at this moment; tells whether it was queued. The queue has to see each, also one that goes at
-    // once: it takes the later ones of an instruction where it took those before.
+    // Queues a datagram, and sends what may go at this moment; tells whether it was queued. The queue has to see each, also one that goes
+    // at once: it takes the later ones of an instruction where it took those before.
     fn send(&mut self, socket: &UdpSocket, bytes: &[u8], now: u64) -> bool {
         let is_queued = self.queue.push(bytes);
         self.send_waiting(socket, now);
