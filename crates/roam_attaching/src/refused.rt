@@ -2,7 +2,7 @@
 use crate::attaching::{Attach, Home, Typed};
 use mio::net::UnixStream;
 use roam_faults::RunFault;
-use roam_links::try_listen;
+use roam_sockets::try_listen;
 use std::fs::{self, Files};
 use std::io;
 use std::net::Net;

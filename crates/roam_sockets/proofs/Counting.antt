@@ -3,9 +3,9 @@ use Rattle.std.proofs.Common.{◌≡◌, ℕ, suc, zero, ◌+◌, ◌-◌, ◌�
 use Rattle.std.specs.List.{Contains, range_with_len}
 use Rattle.std.proofs.lemmas.List.{length-map}
 use Rattle.std.proofs.Math.ListN.{get_or-map}
-use Rattle.roam_links.specs.Clients.{Accepts, AcceptsOne, Stays, numbers_of}
-use Rattle.roam_links.specs.declared.clients.ClientPeer.{ClientPeer}
-use Rattle.roam_links.specs.declared.clients.Clients.{Clients}
+use Rattle.roam_sockets.specs.Clients.{Accepts, AcceptsOne, Stays, numbers_of}
+use Rattle.roam_sockets.specs.declared.clients.ClientPeer.{ClientPeer}
+use Rattle.roam_sockets.specs.declared.clients.Clients.{Clients}
 
 range_more : (a n : ℕ) → range_with_len a (suc n) ≡ range_with_len a n ++ (a + n) ∷ []
 range_more a zero = ap (λ x. x ∷ []) (omega arith)

@@ -1,5 +1,5 @@
-use Rattle.roam_links.proofs.Counting.{accepts_none, accepts_one}
-use Rattle.roam_links.proofs.clients.Clients.accept.Goals as goal
+use Rattle.roam_sockets.proofs.Counting.{accepts_none, accepts_one}
+use Rattle.roam_sockets.proofs.clients.Clients.accept.Goals as goal
 
 pub loop-init : goal.loop-init
 loop-init c = accepts_none c.args.self.now

@@ -1,8 +1,8 @@
 //! The streams of client starts at a server's socket.
 ghost use Rattle.std.specs.Prelude.{◌≡◌, ◌⊎◌, ◌++◌, ◌+◌, ◌<◌, ◌≤◌, ◌^◌, ℕ, [], ◌∷◌, true, length, IfErr, IfOk, IfSome, OnErr, OnOk, IsOkUnless, string_bytes};
 ghost use Rattle.std.specs.List.{Contains};
-ghost use Rattle.roam_links.specs.Addresses.{address_of, number_of};
-ghost use Rattle.roam_links.specs.Clients.{Accepts, AcceptsOne, IsOf, Stays, numbers_of};
+ghost use Rattle.roam_sockets.specs.Addresses.{address_of, number_of};
+ghost use Rattle.roam_sockets.specs.Clients.{Accepts, AcceptsOne, IsOf, Stays, numbers_of};
 
 use crate::files::listen;
 use crate::waits::Waits;

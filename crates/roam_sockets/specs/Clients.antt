@@ -2,9 +2,9 @@
 use Rattle.std.specs.Prelude.{◌≡◌, ◌⊎◌, ℕ, ◌+◌, ◌-◌, ◌≤◌, List, [], ◌∷◌, ◌++◌, map}
 use Rattle.std.specs.List.{Contains, range_with_len}
 use Rattle.roam_hub.specs.declared.addresses.Addr.{Addr}
-use Rattle.roam_links.specs.Addresses.{address_of}
-use Rattle.roam_links.specs.declared.clients.ClientPeer.{ClientPeer}
-use Rattle.roam_links.specs.declared.clients.Clients.{Clients}
+use Rattle.roam_sockets.specs.Addresses.{address_of}
+use Rattle.roam_sockets.specs.declared.clients.ClientPeer.{ClientPeer}
+use Rattle.roam_sockets.specs.declared.clients.Clients.{Clients}
 
 -- the numbers of those that are there
 abbrev pub numbers_of : List ClientPeer → List ℕ

@@ -1,7 +1,7 @@
 use Rattle.std.proofs.Common.{refl}
 use Rattle.std.proofs.Math.Seq.{map-set_same}
-use Rattle.roam_links.proofs.Counting.{contained}
-use Rattle.roam_links.proofs.clients.receive_at.Goals as goal
+use Rattle.roam_sockets.proofs.Counting.{contained}
+use Rattle.roam_sockets.proofs.clients.receive_at.Goals as goal
 
 pub returns-in_err-len-clause-stays : goal.returns-in_err-len-clause-stays
 returns-in_err-len-clause-stays c = map-set_same (λ peer. peer.number) c.args.all.now c.args.at _ c.index-all-at.result refl

@@ -1,8 +1,8 @@
-//! A caller of `roam_links`, as its README shows it (`tools/worked_callers`).
+//! A caller of `roam_sockets`, as its README shows it (`tools/worked_callers`).
 
 // README: begin
 use roam_faults::RunFault;
-use roam_links::{Clients, Waits};
+use roam_sockets::{Clients, Waits};
 use std::alloc::Global;
 use std::fs::Files;
 use std::net::Net;

@@ -1,7 +1,7 @@
 //! The wait for what comes.
 ghost use Rattle.std.specs.Prelude.{◌≡◌, ◌⊎◌, ◌&&◌, ◌||◌, true, false, IfErr, IfOk};
 ghost use Rattle.mio.specs.Events.{items};
-ghost use Rattle.roam_links.specs.Waits.{tell_of_no_reader, wait_until};
+ghost use Rattle.roam_sockets.specs.Waits.{tell_of_no_reader, wait_until};
 
 use mio::event::Source;
 use mio::unix::SourceFd;

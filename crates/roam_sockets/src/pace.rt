@@ -1,6 +1,6 @@
 //! How fast datagrams go to one address: a socket of loopback holds few that wait to be read, and what comes above them is lost.
 ghost use Rattle.std.specs.Prelude.{◌≡◌, ◌+◌, ◌<◌, ◌==◌};
-ghost use Rattle.roam_links.specs.Pace.{gone_at, may_go, most_a_moment};
+ghost use Rattle.roam_sockets.specs.Pace.{gone_at, may_go, most_a_moment};
 
 /// How many datagrams go to one address at one moment.
 pub(crate) const MOST_A_MOMENT: u32 = 48;
