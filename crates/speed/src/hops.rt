@@ -1,18 +1,4 @@
-//! Tells the texts that lead from one screen to another: for each line `ROWS COLS HEX ROWS COLS HEX` of standard input, two screens given
-//! by their sizes and the bytes that make them (`-` for none), it prints the change of version 2 from the first to the second, the change
-//! of version 1 between what version 1 shows of them, and what the painter writes, each a line of hexadecimal digits.
-//!
-//! It stands for no command of roam: `tools/hops` compares what it prints with tables of such pairs. Beside it lie the tests of both texts
-//! by public calls alone.
-#![tactic(auto)]
-
-#[cfg(test)]
-mod changes;
-#[cfg(test)]
-mod paintings;
-#[cfg(test)]
-mod tables;
-
+//! The texts that lead from one screen to another.
 use anyhow::{Context, bail};
 use roam_cells::Fault;
 use roam_paint::paint;
@@ -118,11 +104,14 @@ fn tell(rt: &HostRuntime, line: &str) -> anyhow::Result<()> {
     tell_hop(rt, &old, &new)
 }
 
-fn main(rt: HostRuntime) -> anyhow::Result<()> {
+/// For each line `ROWS COLS HEX ROWS COLS HEX` of standard input, two screens given by their sizes and the bytes that make them (`-` for
+/// none), prints the change of version 2 from the first to the second, the change of version 1 between what version 1 shows of them, and
+/// what the painter writes, each a line of hexadecimal digits.
+pub fn tell_all(rt: &HostRuntime) -> anyhow::Result<()> {
     let alloc = rt.alloc();
     for line in BufReader::new(alloc, rt.reader())?.lines(alloc) {
         let line = line?;
-        tell(&rt, &line)?;
+        tell(rt, &line)?;
     }
     Ok(())
 }
