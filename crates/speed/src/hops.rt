@@ -1,42 +1,11 @@
 //! The texts that lead from one screen to another.
 use anyhow::{Context, bail};
 use roam_cells::Fault;
-use roam_paint::paint;
-use roam_screens::{RowShot, RowShot1, Shot};
-use roam_term::Term;
-use roam_update::Synced;
+use roam_screens::RowShot;
 use std::alloc::Global;
 use std::io::{BufRead, BufReader};
 use std::str::SplitWhitespace;
-
-/// How many bytes a terminal is fed at once.
-const PIECE: usize = 1024;
-
-// Takes a piece; what it answers goes.
-fn take_piece(term: &mut Term, piece: &[u8]) -> Result<(), Fault> {
-    term.feed(piece)?;
-    let answered = term.output_len();
-    term.take_output(answered);
-    Ok(())
-}
-
-fn take(term: &mut Term, bytes: &[u8]) -> Result<(), Fault> {
-    for piece in bytes.chunks(PIECE) {
-        take_piece(term, piece)?;
-    }
-    Ok(())
-}
-
-fn shot_after(alloc: Global, term: &mut Term, bytes: &[u8]) -> Result<Shot, Fault> {
-    take(term, bytes)?;
-    term.shot(alloc, 0)
-}
-
-// The screen of a terminal without history after these bytes.
-fn screen(alloc: Global, rows: u16, cols: u16, bytes: &[u8]) -> Result<Shot, Fault> {
-    let mut term = Term::new(alloc, rows, cols, 0)?;
-    shot_after(alloc, &mut term, bytes)
-}
+use test_hops::{change, narrow_change, painted, screen};
 
 fn number(words: &mut SplitWhitespace<'_>) -> anyhow::Result<u16> {
     let word = words.next().and_then(|word| word.parse::<u16>().ok());
@@ -61,27 +30,6 @@ fn next_screen(alloc: Global, words: &mut SplitWhitespace<'_>) -> anyhow::Result
     let bytes = bytes_of(alloc, words.next())?;
     let shot = RowShot::of(alloc, &screen(alloc, rows, cols, &bytes)?)?;
     Ok(shot)
-}
-
-// The change that leads from one screen to another.
-fn change<S: Synced>(alloc: Global, old: &S, new: &S) -> Result<Vec<u8>, Fault> {
-    let mut text = Vec::new(alloc);
-    new.write_change(alloc, old, &mut text)?;
-    Ok(text)
-}
-
-// The change between what version 1 shows of two screens.
-fn narrow_change(alloc: Global, old: &RowShot, new: &RowShot) -> Result<Vec<u8>, Fault> {
-    let old = RowShot1::of(alloc, old)?;
-    let new = RowShot1::of(alloc, new)?;
-    change(alloc, &old, &new)
-}
-
-// What the painter writes.
-fn painted(alloc: Global, old: &RowShot, new: &RowShot) -> Result<Vec<u8>, Fault> {
-    let mut text = Vec::new(alloc);
-    paint(old, new, &mut text)?;
-    Ok(text)
 }
 
 // Prints a text in digits, or why there is none.
