@@ -1,7 +1,8 @@
 //! Both programs in one process: a server with panes' programs at Unix sockets, and a client start, over UDP on loopback or over a stream.
 //!
 //! What happens is text: `first` or `second`, a pane's program, and what it does; `turns MOMENT`, one turn of each end; `types MOMENT ACT,
-//! ACT`: both are typed, and the server takes them in one turn; `pane N`, which is there.
+//! ACT`: both are typed, and the server takes them in one turn; `pane N`, which is there; `meets`: within a thousand turns the start shows
+//! the `a` that the first program wrote, and that one reads a typed `b`.
 ghost use Rattle.std.specs.Prelude.{IfOk, IfSome};
 ghost use Rattle.roam_acts.specs.Acts.{IsInRange};
 ghost use Rattle.roam_turns.specs.Painting.{IsBehind};
@@ -92,6 +93,7 @@ impl<'a> Meeting<'a> {
     // Within a thousand turns, 10 ms apart, the start shows what the first program wrote, and that one reads what is typed there.
     fn meets(&mut self, alloc: Global, programs: &mut Programs) -> bool
         requires behind { IsBehind self.old.outer self.old.client.kept.receiver.newest.number self.old.client.kept.receiver.newest.state }
+        ensures behind { IsBehind self.new.outer self.new.client.kept.receiver.newest.number self.new.client.kept.receiver.newest.state }
     {
         let key = Act::Key(Key::Char('b'));
         let mut is_read = false;
@@ -152,6 +154,7 @@ impl<'a> Meeting<'a> {
             "turns" => Ok(self.turns_at(rt.alloc(), rest)),
             "types" => Ok(self.types_both(rt.alloc(), rest)),
             "pane" => Ok(self.has_pane(rest)),
+            "meets" => Ok(self.meets(rt.alloc(), programs)),
             _ => programs.does(rt, verb, rest),
         }
     }
@@ -217,38 +220,31 @@ fn meeting_of<'a>(rt: &'a HostRuntime, folder: &str, is_stream: bool) -> Result<
     })
 }
 
-// Whether both ends meet after the first lines.
-fn meets_after(rt: &HostRuntime, meeting: &mut Meeting<'_>, lines: &str) -> Result<bool, Fail>
-    requires behind { IsBehind meeting.old.outer meeting.old.client.kept.receiver.newest.number
-        meeting.old.client.kept.receiver.newest.state }
-{
-    let mut programs = Programs::new();
-    if meeting.first_undone(rt, &mut programs, lines)?.is_some() {
-        return Ok(false);
-    }
-    Ok(meeting.meets(rt.alloc(), &mut programs))
+// The first line that isn't so where the two ends meet in a folder, which is made, by UDP or over a stream.
+fn first_wrong<'t>(
+    rt: &HostRuntime,
+    folder: &str,
+    is_stream: bool,
+    lines: &'t str,
+) -> Result<Option<&'t str>, Fail> {
+    create_dir(rt, folder)?;
+    let mut meeting = meeting_of(rt, folder, is_stream)?;
+    meeting.first_undone(rt, &mut Programs::new(), lines)
 }
 
-/// The first program fills a screen of 97 fragments, more than go over UDP at one moment or than a socket of loopback holds, by DECALN.
-const FILLS: &str = "\
+/// By UDP, or over a stream, the first program fills a screen of 97 fragments, more than go over UDP at one moment or than a socket of
+/// loopback holds, by DECALN.
+const BY_UDP: &str = "\
 types 0 size 60 240, next
-first connects panes/p1
-first writes \x1b#8a";
+first connects udp/p1
+first writes \x1b#8a
+meets";
 
-fn meet(rt: &HostRuntime, is_stream: bool) -> Result<bool, Fail> {
-    let mut meeting = meeting_of(rt, "panes", is_stream)?;
-    meets_after(rt, &mut meeting, FILLS)
-}
-
-#[test]
-fn a_byte_is_shown_and_a_key_is_read(rt: HostRuntime) -> Result<(), Fail> {
-    create_dir(&rt, "panes")?;
-    for is_stream in [false, true] {
-        let met = meet(&rt, is_stream)?;
-        assert!(rt; met, "over a stream: {is_stream}");
-    }
-    Ok(())
-}
+const OVER_A_STREAM: &str = "\
+types 0 size 60 240, next
+first connects stream/p1
+first writes \x1b#8a
+meets";
 
 /// The first program writes on, and in one turn its pane closes and another of its number is there: nothing of that is read.
 const ANEW: &str = "\
@@ -267,16 +263,10 @@ second writes c
 turns 40
 second waits";
 
-fn first_wrong<'t>(rt: &HostRuntime, lines: &'t str) -> Result<Option<&'t str>, Fail> {
-    create_dir(rt, "anew")?;
-    let mut meeting = meeting_of(rt, "anew", false)?;
-    let mut programs = Programs::new();
-    meeting.first_undone(rt, &mut programs, lines)
-}
-
 #[test]
-fn a_pane_that_is_made_anew_gets_another_program(rt: HostRuntime) -> Result<(), Fail> {
-    let wrong = first_wrong(&rt, ANEW)?;
-    assert!(rt; wrong.is_none(), "{wrong:?}");
+fn two_ends_meet(rt: HostRuntime) -> Result<(), Fail> {
+    assert_eq!(rt; first_wrong(&rt, "udp", false, BY_UDP)?, None);
+    assert_eq!(rt; first_wrong(&rt, "stream", true, OVER_A_STREAM)?, None);
+    assert_eq!(rt; first_wrong(&rt, "anew", false, ANEW)?, None);
     Ok(())
 }

@@ -3,7 +3,8 @@
 //! A line begins with `first` or `second`, one of the programs, with what it does; with `files`, with what is seen of them; with `pane` and
 //! its number: `lives N` or `goes`, `gives TEXT` or `gives nothing`, `takes TEXT` or `takes nothing of TEXT`; with `told`, panes 1 and 2,
 //! each with its life, its first row and its rows or `none`, of which a program that follows them is told (pane 2 is in focus where it is
-//! there), and how many client starts edit and watch, where that is known. `files are removed` by the ports.
+//! there), and how many client starts edit and watch, where that is known. `files are removed` by the ports. `start asks` or `is quiet`: a
+//! datagram of the server's own start comes, or none.
 use crate::files::{first_untrue, is_so, ports_in};
 use crate::programs::Programs;
 use roam_pane_list::{ListedPane, PaneList};
@@ -171,24 +172,75 @@ fn first_undone<'a>(
     Ok(None)
 }
 
-// The first line that isn't so of the sockets in a folder, which is made ready by the first lines.
-fn first_wrong<'a>(
-    rt: &HostRuntime,
-    folder: &str,
-    ready: &'a str,
-    lines: &'a str,
-) -> Result<Option<&'a str>, Fail> {
-    if let Some(line) = first_untrue(rt, ready)? {
-        return Ok(Some(line));
+// The first line that isn't so of a story: of files alone, or, behind a line `ports FOLDER`, of the sockets there too.
+fn first_wrong<'a>(rt: &HostRuntime, story: &'a str) -> Result<Option<&'a str>, Fail> {
+    let (ready, rest) = story.split_once("\nports ").unwrap_or((story, ""));
+    let wrong = first_untrue(rt, ready)?;
+    let (folder, lines) = rest.split_once('\n').unwrap_or((rest, ""));
+    if wrong.is_some() || folder.is_empty() {
+        return Ok(wrong);
     }
     let mut ports = ports_in(rt, folder)?;
-    let mut programs = Programs::new();
-    first_undone(rt, &mut ports, &mut programs, lines)
+    first_undone(rt, &mut ports, &mut Programs::new(), lines)
 }
 
+// The first line of all stories, parted by empty lines, that isn't so.
+fn first_wrong_of<'a>(rt: &HostRuntime, stories: &'a str) -> Result<Option<&'a str>, Fail> {
+    for story in stories.split("\n\n") {
+        let wrong = first_wrong(rt, story)?;
+        if wrong.is_some() {
+            return Ok(wrong);
+        }
+    }
+    Ok(None)
+}
+
+/// A folder without a name.
+///
+/// A plain file, a folder and a link to a socket to which nobody listens: none is removed.
+///
+/// Files of a server that is gone, before they are bound again; while these are in use nothing of theirs is removed.
+///
 /// The program of pane 2: the pane isn't there, and the program is handed nothing; it is there as it was; another of its number is there,
 /// and what the first program wrote is never read.
-const LIVES: &str = "\
+///
+/// One peer at a time: that the first program left is read before what the second wrote.
+///
+/// A program follows the panes: one pane, two, one of them sized and the other moved, closed and made anew in one turn, closed; and how many
+/// client starts there are.
+///
+/// Programs follow and close. Two are told each what is new for it; a line that asks for no close, for one of a pane that is gone, or of the
+/// last pane; of two closes the second waits until a turn was taken with the first, and a pane that is still there then may be closed again.
+const STORIES: &str = "\
+refused -
+
+folder others
+file others/p5
+refused others
+there others/p5
+gone others/p1
+remove others/p5
+folder others/p6
+refused others
+folder linked
+bound linked
+remove linked/p1
+link linked/p1
+refused linked
+there linked/p1
+
+folder left
+bound left
+there left/p9
+ports left
+files refused left
+first connects left/p9
+first waits
+files are removed
+files gone left/p1
+
+folder lives
+ports lives
 first connects lives/p2
 first writes early
 pane 2 gives nothing
@@ -206,17 +258,10 @@ second writes anew
 pane 2 gives anew
 pane 2 goes
 second is let go
-files are removed";
+files are removed
 
-#[test]
-fn a_peer_goes_with_its_pane(rt: HostRuntime) -> Result<(), Fail> {
-    let wrong = first_wrong(&rt, "lives", "folder lives", LIVES)?;
-    assert!(rt; wrong.is_none(), "{wrong:?}");
-    Ok(())
-}
-
-/// That the first program left is read before what the second wrote.
-const ONE: &str = "\
+folder one
+ports one
 pane 1 lives 1
 first connects one/p1
 second connects one/p1
@@ -230,38 +275,10 @@ second waits
 first leaves
 pane 1 gives nothing
 pane 1 gives second
-files are removed";
-
-#[test]
-fn one_peer_at_a_time(rt: HostRuntime) -> Result<(), Fail> {
-    let wrong = first_wrong(&rt, "one", "folder one", ONE)?;
-    assert!(rt; wrong.is_none(), "{wrong:?}");
-    Ok(())
-}
-
-/// Files of a server that is gone, before they are bound again.
-const LEFT: &str = "\
-folder left
-bound left
-there left/p9";
-
-/// These are in use: nothing of theirs is removed.
-const USED: &str = "\
-files refused left
-first connects left/p9
-first waits
 files are removed
-files gone left/p1";
 
-#[test]
-fn files_that_stayed_behind(rt: HostRuntime) -> Result<(), Fail> {
-    let wrong = first_wrong(&rt, "left", LEFT, USED)?;
-    assert!(rt; wrong.is_none(), "{wrong:?}");
-    Ok(())
-}
-
-/// One pane, two, one of them sized and the other moved, closed and made anew in one turn, closed; and how many client starts there are.
-const FOLLOWED: &str = "\
+folder follows
+ports follows
 first connects follows/panes
 told 1 1 23, none
 first reads 1 1 1 23 80 1/focus 1/
@@ -278,19 +295,10 @@ first reads starts 3 of 64/watchers 0 of 16/
 told 1 1 23, none, 3 1
 first reads 1 1 1 23 80 1/2 gone/focus 1/watchers 1 of 16/
 files are removed
-files gone follows/panes";
+files gone follows/panes
 
-#[test]
-fn a_program_follows_the_panes(rt: HostRuntime) -> Result<(), Fail> {
-    let wrong = first_wrong(&rt, "follows", "folder follows", FOLLOWED)?;
-    assert!(rt; wrong.is_none(), "{wrong:?}");
-    Ok(())
-}
-
-/// Two programs are told each what is new for it; a line that asks for no close, for one of a pane that is gone, or of the last pane; of
-/// two closes the second waits until a turn was taken with the first, and a pane that is still there then may be closed again. A ninth
-/// program is closed.
-const FOLLOWERS: &str = "\
+folder followers
+ports followers
 told 1 1 23, none
 first connects followers/panes
 told 1 1 23, none
@@ -323,8 +331,7 @@ told 1 1 11, 2 13 11
 start asks";
 
 #[test]
-fn programs_follow_and_close(rt: HostRuntime) -> Result<(), Fail> {
-    let wrong = first_wrong(&rt, "followers", "folder followers", FOLLOWERS)?;
-    assert!(rt; wrong.is_none(), "{wrong:?}");
+fn what_becomes_of_sockets(rt: HostRuntime) -> Result<(), Fail> {
+    assert_eq!(rt; first_wrong_of(&rt, STORIES)?, None);
     Ok(())
 }

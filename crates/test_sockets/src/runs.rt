@@ -1,4 +1,12 @@
-//! Runs of `roam serve` and `roam attach`: what ends them, and what stays.
+//! Runs of `roam serve` and `roam attach`, as text: what ends them, and what stays.
+//!
+//! `folder PATH`, `closed PATH`, which the user alone may enter, and `open PATH`, which others may, make a folder; `link PATH` makes one to
+//! `own` beside it; `file PATH TEXT`, in which `/` stands for the end of a line; `remove PATH` removes a file. A line that ends with `well`,
+//! with what was heard, or with the fault, is a run that ends so: `serves FOLDER` of `serve` at any free port, `serves alone FOLDER` without
+//! one, `serves taken FOLDER` at one that is bound; `types PATH` of `attach` that types the acts of a file where nobody answers; `watches
+//! 3` of one that only watches and takes so many turns; `follows FOLDER` of one that reaches its server there, `follows bound FOLDER` while
+//! the sockets there are bound. Behind `types` and `watches` stands `closed` where the outer terminal is closed, and `unread` where what is
+//! painted goes where nobody reads.
 use crate::files::ports_in;
 use roam_attaching::{Attach, Home, Typed, run_attach};
 use roam_faults::RunFault;
@@ -26,161 +34,218 @@ impl Write for Closed {
     }
 }
 
-/// A run of `serve` in a folder at any free port ends so.
-fn serves(rt: &HostRuntime, folder: &str, wanted: Result<(), RunFault>) -> bool {
+fn is_fault(fault: RunFault, word: &str) -> bool {
+    match fault {
+        RunFault::Bind => word == "bind",
+        RunFault::Connect => word == "connect",
+        RunFault::Read => word == "read",
+        RunFault::Write => word == "write",
+        RunFault::Act(line) => word == "act" && line == 2,
+        _ => false,
+    }
+}
+
+// Whether a run of `serve` in a folder, at a port or without one, ends so.
+fn serves(rt: &HostRuntime, folder: &str, port: Option<u16>, word: &str) -> bool {
     let serve = Serve {
         folder,
-        port: Some(0),
-        session: Some(1),
-        turns: 3,
-    };
-    run_serve(rt, &serve) == wanted
-}
-
-#[test]
-fn the_sockets_files_are_removed(rt: HostRuntime) -> Result<(), Fail> {
-    assert!(rt; serves(&rt, "missing", Err(RunFault::Bind)));
-    create_dir(&rt, "served")?;
-    assert!(rt; serves(&rt, "served", Ok(())));
-    // They could not be bound again if one had stayed.
-    assert!(rt; serves(&rt, "served", Ok(())));
-    write(&rt, "served/p5", b"a file that is there")?;
-    assert!(rt; serves(&rt, "served", Err(RunFault::Bind)));
-    remove_file(&rt, "served/p5")?;
-    assert!(rt; serves(&rt, "served", Ok(())));
-    Ok(())
-}
-
-/// A run of `serve` without a port, in a folder, ends so.
-fn serves_alone(rt: &HostRuntime, folder: &str, wanted: Result<(), RunFault>) -> bool {
-    let serve = Serve {
-        folder,
-        port: None,
-        session: None,
-        turns: 3,
-    };
-    run_serve(rt, &serve) == wanted
-}
-
-#[test]
-fn without_a_port_the_folder_keeps_others_out(rt: HostRuntime) -> Result<(), Fail> {
-    DirBuilder::new().mode(0o700).create(&rt, "own")?;
-    assert!(rt; serves_alone(&rt, "own", Ok(())));
-    DirBuilder::new().mode(0o750).create(&rt, "entered")?;
-    assert!(rt; serves_alone(&rt, "entered", Err(RunFault::Bind)));
-    symlink(&rt, "own", "link")?;
-    assert!(rt; serves_alone(&rt, "link", Err(RunFault::Bind)));
-    Ok(())
-}
-
-// Whether a port that is bound is refused to another server, whose files go.
-fn is_bound_once(rt: &HostRuntime, port: Option<u16>) -> bool {
-    let serve = Serve {
-        folder: "second",
         port,
-        session: Some(1),
+        session: port.map(|_| 1),
         turns: 3,
     };
-    run_serve(rt, &serve) == Err(RunFault::Bind) && serves(rt, "second", Ok(()))
+    match run_serve(rt, &serve) {
+        Ok(()) => word == "well",
+        Err(fault) => is_fault(fault, word),
+    }
 }
 
-#[test]
-fn a_port_is_bound_once(rt: HostRuntime) -> Result<(), Fail> {
-    create_dir(&rt, "first")?;
-    create_dir(&rt, "second")?;
-    let ports = ports_in(&rt, "first")?;
-    assert!(rt; is_bound_once(&rt, ports.port()));
-    Ok(())
+// Whether one at a port that is bound ends so.
+fn serves_taken(rt: &HostRuntime, folder: &str, word: &str) -> Result<bool, Fail> {
+    let bound = ports_in(rt, "first")?;
+    Ok(serves(rt, folder, bound.port(), word))
 }
 
-/// A run of `attach` that types the acts of a file, and where nobody answers, ends so.
-fn attaches<W: Write + Drop>(
-    rt: &HostRuntime,
-    keys: &str,
-    outer: W,
-    wanted: Result<(), RunFault>,
-) -> bool {
-    let attach = Attach {
-        home: Home::Port(9),
-        session: Some(1),
-        client: Some(0xC1),
-        typed: Typed::File(keys),
-        version: Version::Two,
-        watches: false,
-        turns: 3,
-        painted_to: None,
-    };
-    run_attach(rt, &attach, outer) == wanted
+fn serves_so(rt: &HostRuntime, words: &str, word: &str) -> Result<bool, Fail> {
+    match words.split_once(' ') {
+        Some(("alone", folder)) => Ok(serves(rt, folder, None, word)),
+        Some(("taken", folder)) => serves_taken(rt, folder, word),
+        _ => Ok(serves(rt, words, Some(0), word)),
+    }
 }
 
-#[test]
-fn files_of_acts_and_outer_terminals(rt: HostRuntime) -> Result<(), Fail> {
-    let alloc = rt.alloc();
-    assert!(rt; attaches(&rt, "missing", Vec::new(alloc), Err(RunFault::Read)));
-    write(&rt, "good", b"char 61\nsplit right\n")?;
-    assert!(rt; attaches(&rt, "good", Vec::new(alloc), Ok(())));
-    assert!(rt; attaches(&rt, "good", Closed, Err(RunFault::Write)));
-    write(&rt, "bad", b"char 61\nsplit left\n")?;
-    assert!(rt; attaches(&rt, "bad", Vec::new(alloc), Err(RunFault::Act(2))));
-    Ok(())
+// Whether a run of `attach` ends so.
+fn attaches<W: Write + Drop>(rt: &HostRuntime, attach: &Attach<'_>, outer: W, word: &str) -> bool {
+    match run_attach(rt, attach, outer) {
+        Ok(end) => word == "unheard" && end == End::Unheard,
+        Err(fault) => is_fault(fault, word),
+    }
 }
 
-/// A start that watches and whose turns are few, or would take a quarter of an hour.
-fn watching<'a>(turns: u64, painted_to: Option<RawFd>) -> Attach<'a> {
+/// A run of `attach` where nobody answers.
+fn unanswered(typed: Typed<'_>, turns: u64) -> Attach<'_> {
     Attach {
         home: Home::Port(9),
         session: Some(1),
         client: Some(0xC1),
-        typed: Typed::Nothing,
+        typed,
         version: Version::Two,
-        watches: true,
+        watches: false,
         turns,
-        painted_to,
+        painted_to: None,
     }
 }
 
-// How a run ends that reaches its server in a folder.
-fn end_in(rt: &HostRuntime, folder: &str) -> Result<End, RunFault> {
+fn types(rt: &HostRuntime, words: &str, word: &str) -> bool {
+    match words.strip_prefix("closed ") {
+        Some(path) => attaches(rt, &unanswered(Typed::File(path), 3), Closed, word),
+        None => attaches(
+            rt,
+            &unanswered(Typed::File(words), 3),
+            Vec::new(rt.alloc()),
+            word,
+        ),
+    }
+}
+
+/// A run that only watches, and paints where somebody reads or not.
+fn watching<'a>(turns: u64, painted_to: Option<RawFd>) -> Attach<'a> {
+    Attach {
+        watches: true,
+        painted_to,
+        ..unanswered(Typed::Nothing, turns)
+    }
+}
+
+// Whether a run of turns that take a quarter of an hour, and whose bytes go where nobody reads, ends so.
+fn watches_unread(rt: &HostRuntime, turns: u64, word: &str) -> Result<bool, Fail> {
+    let (reader, writer) = pipe(rt)?;
+    drop(reader);
+    let unread = watching(turns, Some(writer.as_raw_fd()));
+    Ok(attaches(rt, &unread, Vec::new(rt.alloc()), word))
+}
+
+fn watches(rt: &HostRuntime, words: &str, word: &str) -> Result<bool, Fail> {
+    match words {
+        "3" => Ok(attaches(rt, &watching(3, None), Vec::new(rt.alloc()), word)),
+        "closed 100000" => Ok(attaches(rt, &watching(100_000, None), Closed, word)),
+        "unread 100000" => watches_unread(rt, 100_000, word),
+        _ => Ok(false),
+    }
+}
+
+// Whether a run that reaches its server in a folder ends so.
+fn follows(rt: &HostRuntime, folder: &str, word: &str) -> bool {
     let attach = Attach {
         home: Home::Folder(folder),
         session: None,
         ..watching(3, None)
     };
-    run_attach(rt, &attach, Vec::new(rt.alloc()))
+    attaches(rt, &attach, Vec::new(rt.alloc()), word)
 }
+
+fn follows_so(rt: &HostRuntime, words: &str, word: &str) -> Result<bool, Fail> {
+    match words.strip_prefix("bound ") {
+        Some(folder) => {
+            let _bound = ports_in(rt, folder)?;
+            Ok(follows(rt, folder, word))
+        }
+        None => Ok(follows(rt, words, word)),
+    }
+}
+
+// Whether a run ends so; the last word says how.
+fn is_run(rt: &HostRuntime, verb: &str, words: &str) -> Result<bool, Fail> {
+    let Some((words, word)) = words.rsplit_once(' ') else {
+        return Ok(false);
+    };
+    match verb {
+        "serves" => serves_so(rt, words, word),
+        "types" => Ok(types(rt, words, word)),
+        "watches" => watches(rt, words, word),
+        "follows" => follows_so(rt, words, word),
+        _ => Ok(false),
+    }
+}
+
+// Writes a text, in which `/` stands for the end of a line, to a file.
+fn written(rt: &HostRuntime, words: &str) -> Result<bool, Fail> {
+    let Some((path, text)) = words.split_once(' ') else {
+        return Ok(false);
+    };
+    let mut bytes = Vec::new(rt.alloc());
+    for byte in text.as_bytes() {
+        bytes.push(if *byte == b'/' { b'\n' } else { *byte })?;
+    }
+    write(rt, path, &bytes)?;
+    Ok(true)
+}
+
+// Whether a line is done, or is so.
+fn is_so(rt: &HostRuntime, line: &str) -> Result<bool, Fail> {
+    let (verb, words) = line.split_once(' ').unwrap_or((line, ""));
+    match verb {
+        "folder" => create_dir(rt, words)?,
+        "closed" => DirBuilder::new().mode(0o700).create(rt, words)?,
+        "open" => DirBuilder::new().mode(0o750).create(rt, words)?,
+        "link" => symlink(rt, "own", words)?,
+        "remove" => remove_file(rt, words)?,
+        "file" => return written(rt, words),
+        _ => return is_run(rt, verb, words),
+    }
+    Ok(true)
+}
+
+// The first line that isn't so.
+fn first_wrong<'a>(rt: &HostRuntime, lines: &'a str) -> Result<Option<&'a str>, Fail> {
+    for line in lines.lines() {
+        if !is_so(rt, line)? {
+            return Ok(Some(line));
+        }
+    }
+    Ok(None)
+}
+
+/// The sockets' files are removed: they could not be bound again if one had stayed. Without a port the folder keeps others out. A port is
+/// bound once, and the files of who is refused go. Files of acts, and outer terminals. Runs that reach a server in a folder, and how they
+/// end.
+const LINES: &str = "\
+serves missing bind
+folder served
+serves served well
+serves served well
+file served/p5 a file that is there
+serves served bind
+remove served/p5
+serves served well
+closed own
+serves alone own well
+open entered
+serves alone entered bind
+link link
+serves alone link bind
+folder first
+folder second
+serves taken second bind
+serves second well
+types missing read
+file good char 61/split right/
+types good unheard
+types closed good write
+file bad char 61/split left/
+types bad act
+folder reached
+follows reached read
+file reached/session 5e55/
+follows reached connect
+follows bound reached unheard
+file reached/session 5e5g/
+follows bound reached read
+watches 3 unheard
+watches closed 100000 write
+watches unread 100000 write";
 
 #[test]
-fn runs_that_reach_a_server_in_a_folder(rt: HostRuntime) -> Result<(), Fail> {
-    create_dir(&rt, "reached")?;
-    assert!(rt; end_in(&rt, "reached") == Err(RunFault::Read));
-    write(&rt, "reached/session", b"5e55\n")?;
-    assert!(rt; end_in(&rt, "reached") == Err(RunFault::Connect));
-    let _bound = ports_in(&rt, "reached")?;
-    assert!(rt; end_in(&rt, "reached") == Ok(End::Unheard));
-    write(&rt, "reached/session", b"5e5g\n")?;
-    assert!(rt; end_in(&rt, "reached") == Err(RunFault::Read));
-    Ok(())
-}
-
-#[test]
-fn how_a_run_ends(rt: HostRuntime) {
-    let painted = Vec::new(rt.alloc());
-    let end = run_attach(&rt, &watching(3, None), painted);
-    assert!(rt; end == Ok(End::Unheard));
-    let end = run_attach(&rt, &watching(100_000, None), Closed);
-    assert!(rt; end == Err(RunFault::Write));
-}
-
-// How a run ends whose bytes go where nobody reads.
-fn end_unread(rt: &HostRuntime) -> Result<Result<End, RunFault>, Fail> {
-    let (reader, writer) = pipe(rt)?;
-    drop(reader);
-    let unread = watching(100_000, Some(writer.as_raw_fd()));
-    Ok(run_attach(rt, &unread, Vec::new(rt.alloc())))
-}
-
-#[test]
-fn a_run_that_nobody_reads_ends(rt: HostRuntime) -> Result<(), Fail> {
-    assert!(rt; end_unread(&rt)? == Err(RunFault::Write));
+fn how_runs_end_and_what_stays(rt: HostRuntime) -> Result<(), Fail> {
+    assert_eq!(rt; first_wrong(&rt, LINES)?, None);
     Ok(())
 }

@@ -118,12 +118,22 @@ fn first_undone<'a>(
     Ok(None)
 }
 
-// The first line that isn't so of a client start that paints into a pipe.
-fn first_wrong<'a>(rt: &HostRuntime, lines: &'a str) -> Result<Option<&'a str>, Fail> {
+// The first line that isn't so of a client start that paints into a pipe; a line that reads, reads there.
+fn first_wrong_read<'a>(rt: &HostRuntime, lines: &'a str) -> Result<Option<&'a str>, Fail> {
     let (mut reader, writer) = pipe(rt)?;
     let connection = Connection::bind(rt, rt.alloc(), Moments::Set(0))?;
     let mut ports = ClientPorts::new(connection, writer);
     first_undone(rt, &mut ports, &mut reader, lines)
+}
+
+// The first line that isn't so where nobody reads what is painted; no line reads there.
+fn first_wrong_unread<'a>(rt: &HostRuntime, lines: &'a str) -> Result<Option<&'a str>, Fail> {
+    let (reader, writer) = pipe(rt)?;
+    drop(reader);
+    let connection = Connection::bind(rt, rt.alloc(), Moments::Set(0))?;
+    let mut ports = ClientPorts::new(connection, writer);
+    let (mut other, _) = pipe(rt)?;
+    first_undone(rt, &mut ports, &mut other, lines)
 }
 
 /// What is noted of the terminal isn't what it shows in the end: nothing is painted over that.
@@ -140,13 +150,7 @@ shows nothing for b
 is sound
 is unheard";
 
-#[test]
-fn a_silence_is_told_once_a_second(rt: HostRuntime) -> Result<(), Fail> {
-    let wrong = first_wrong(&rt, ONCE_A_SECOND)?;
-    assert!(rt; wrong.is_none(), "{wrong:?}");
-    Ok(())
-}
-
+/// A silence ends where something is heard.
 const HEARD: &str = "\
 10000 known
 reads 10 s
@@ -160,13 +164,6 @@ is heard
 reads 10 s
 is silent for 10 s";
 
-#[test]
-fn a_silence_ends_where_something_is_heard(rt: HostRuntime) -> Result<(), Fail> {
-    let wrong = first_wrong(&rt, HEARD)?;
-    assert!(rt; wrong.is_none(), "{wrong:?}");
-    Ok(())
-}
-
 /// Nobody reads: what is told of a silence isn't taken either.
 const GIVEN_UP: &str = "\
 100 known
@@ -178,23 +175,6 @@ is failing
 600 known
 is given up
 10100 unknown";
-
-// The first line that isn't so where nobody reads what is painted; no line reads there.
-fn first_wrong_unread<'a>(rt: &HostRuntime, lines: &'a str) -> Result<Option<&'a str>, Fail> {
-    let (reader, writer) = pipe(rt)?;
-    drop(reader);
-    let connection = Connection::bind(rt, rt.alloc(), Moments::Set(0))?;
-    let mut ports = ClientPorts::new(connection, writer);
-    let (mut other, _) = pipe(rt)?;
-    first_undone(rt, &mut ports, &mut other, lines)
-}
-
-#[test]
-fn a_terminal_that_takes_nothing_is_given_up(rt: HostRuntime) -> Result<(), Fail> {
-    let wrong = first_wrong_unread(&rt, GIVEN_UP)?;
-    assert!(rt; wrong.is_none(), "{wrong:?}");
-    Ok(())
-}
 
 // Whether nobody is seen to read only once the reader is gone.
 fn sees_nobody(ports: &mut ClientPorts<&HostRuntime, Vec<u8>>, reader: PipeReader) -> bool {
@@ -215,7 +195,10 @@ fn is_nobody_seen(rt: &HostRuntime) -> Result<bool, Fail> {
 }
 
 #[test]
-fn a_descriptor_that_nobody_reads(rt: HostRuntime) -> Result<(), Fail> {
+fn what_is_told_of_a_silence(rt: HostRuntime) -> Result<(), Fail> {
+    assert_eq!(rt; first_wrong_read(&rt, ONCE_A_SECOND)?, None);
+    assert_eq!(rt; first_wrong_read(&rt, HEARD)?, None);
+    assert_eq!(rt; first_wrong_unread(&rt, GIVEN_UP)?, None);
     assert!(rt; is_nobody_seen(&rt)?);
     Ok(())
 }
