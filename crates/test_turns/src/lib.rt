@@ -1,10 +1,14 @@
-//! Tests of the turns, over ports in memory and the program's own server and client starts.
+//! Tests of the turns, over ports in memory and the program's own server and client starts; and of guesses over screens.
 //!
 //! They lie here and not beside the code, since a crate with tests is proved twice by the gate.
 #![tactic(auto)]
 
 #[cfg(test)]
 mod failing;
+#[cfg(test)]
+mod guess_uses;
+#[cfg(test)]
+mod guesses;
 #[cfg(test)]
 mod plays;
 #[cfg(test)]

@@ -1,7 +1,0 @@
-//! Tests of guesses over screens.
-#![tactic(auto)]
-
-#[cfg(test)]
-mod stories;
-#[cfg(test)]
-mod uses;
