@@ -28,6 +28,10 @@ pub fn ports_in<'a>(
     )
 }
 
+fn is_bound(rt: &HostRuntime, folder: &str) -> bool {
+    ports_in(rt, folder).is_ok()
+}
+
 fn is_refused(rt: &HostRuntime, folder: &str) -> bool {
     match ports_in(rt, folder) {
         Ok(_) => false,
@@ -54,7 +58,7 @@ pub fn is_so(rt: &HostRuntime, words: &str) -> Result<bool, Fail> {
     match what {
         "there" => Ok(exists(rt, path)?),
         "gone" => Ok(!exists(rt, path)?),
-        "bound" => Ok(ports_in(rt, path).is_ok()),
+        "bound" => Ok(is_bound(rt, path)),
         "refused" => Ok(is_refused(rt, path.strip_prefix('-').unwrap_or(path))),
         _ => is_made(rt, what, path),
     }

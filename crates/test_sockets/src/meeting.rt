@@ -19,15 +19,27 @@ use std::alloc::Global;
 use std::fs::create_dir;
 use std::test::*;
 
-/// A server and a client start with their ports, and what the start's terminal shows.
+/// A server with its ports.
 #[derive(Drop)]
-struct Meeting<'a> {
+struct ServerEnd<'a> {
     server: Server,
-    server_ports: ServerPorts<&'a HostRuntime>,
+    ports: ServerPorts<&'a HostRuntime>,
+}
+
+/// A client start with its ports, where its server is, and what its terminal shows.
+#[derive(Drop)]
+struct StartEnd<'a> {
     client: Client,
-    client_ports: ClientPorts<&'a HostRuntime, Vec<u8>>,
+    ports: ClientPorts<&'a HostRuntime, Vec<u8>>,
     home: Addr,
     outer: Outer,
+}
+
+/// Both ends. Each is made by a function of its own, since one that owns a server pays for it at each of its ways out.
+#[derive(Drop)]
+struct Meeting<'a> {
+    home: ServerEnd<'a>,
+    start: StartEnd<'a>,
 }
 
 /// The first cell that a start shows is this character.
@@ -38,44 +50,48 @@ fn shows(client: &Client, c: char) -> bool {
     }
 }
 
-impl<'a> Meeting<'a> {
+impl<'a> ServerEnd<'a> {
+    // One turn of the server at a moment.
+    fn serves(&mut self, alloc: Global, moment: u64) {
+        self.ports.set_moment(moment);
+        serve_turn(alloc, &mut self.server, &mut self.ports);
+        self.ports.rest(Some(0));
+    }
+}
+
+impl<'a> StartEnd<'a> {
     // One turn of the client start at a moment, and whether the act was taken.
     fn attaches(&mut self, alloc: Global, moment: u64, next: Option<&Act>) -> bool
         requires in_range { IfSome next (λ act. IsInRange act.now) }
         requires behind { IsBehind self.old.outer self.old.client.kept.receiver.newest.number self.old.client.kept.receiver.newest.state }
         ensures behind { IsBehind self.new.outer self.new.client.kept.receiver.newest.number self.new.client.kept.receiver.newest.state }
     {
-        self.client_ports.set_moment(moment);
+        self.ports.set_moment(moment);
         let home = self.home;
         let taken = attach_turn(
             alloc,
             &mut self.client,
             &mut self.outer,
-            &mut self.client_ports,
+            &mut self.ports,
             home,
             next,
         );
-        self.client_ports.flush();
+        self.ports.flush();
         taken
     }
+}
 
-    fn serves(&mut self, alloc: Global, moment: u64)
-        requires behind { IsBehind self.old.outer self.old.client.kept.receiver.newest.number self.old.client.kept.receiver.newest.state }
-        ensures behind { IsBehind self.new.outer self.new.client.kept.receiver.newest.number self.new.client.kept.receiver.newest.state }
-    {
-        self.server_ports.set_moment(moment);
-        serve_turn(alloc, &mut self.server, &mut self.server_ports);
-        self.server_ports.rest(Some(0));
-    }
-
+impl<'a> Meeting<'a> {
     // One turn of each end.
     fn turns(&mut self, alloc: Global, moment: u64, next: Option<&Act>) -> bool
         requires in_range { IfSome next (λ act. IsInRange act.now) }
-        requires behind { IsBehind self.old.outer self.old.client.kept.receiver.newest.number self.old.client.kept.receiver.newest.state }
-        ensures behind { IsBehind self.new.outer self.new.client.kept.receiver.newest.number self.new.client.kept.receiver.newest.state }
+        requires behind { IsBehind self.old.start.outer self.old.start.client.kept.receiver.newest.number
+            self.old.start.client.kept.receiver.newest.state }
+        ensures behind { IsBehind self.new.start.outer self.new.start.client.kept.receiver.newest.number
+            self.new.start.client.kept.receiver.newest.state }
     {
-        let is_taken = self.attaches(alloc, moment, next);
-        self.serves(alloc, moment);
+        let is_taken = self.start.attaches(alloc, moment, next);
+        self.home.serves(alloc, moment);
         is_taken
     }
 
@@ -83,17 +99,21 @@ impl<'a> Meeting<'a> {
     fn types(&mut self, alloc: Global, moment: u64, first: &Act, second: &Act) -> bool
         requires first { IsInRange first.now }
         requires second { IsInRange second.now }
-        requires behind { IsBehind self.old.outer self.old.client.kept.receiver.newest.number self.old.client.kept.receiver.newest.state }
-        ensures behind { IsBehind self.new.outer self.new.client.kept.receiver.newest.number self.new.client.kept.receiver.newest.state }
+        requires behind { IsBehind self.old.start.outer self.old.start.client.kept.receiver.newest.number
+            self.old.start.client.kept.receiver.newest.state }
+        ensures behind { IsBehind self.new.start.outer self.new.start.client.kept.receiver.newest.number
+            self.new.start.client.kept.receiver.newest.state }
     {
-        let is_taken = self.attaches(alloc, moment, Some(first));
+        let is_taken = self.start.attaches(alloc, moment, Some(first));
         self.turns(alloc, moment, Some(second)) && is_taken
     }
 
     // Within a thousand turns, 10 ms apart, the start shows what the first program wrote, and that one reads what is typed there.
     fn meets(&mut self, alloc: Global, programs: &mut Programs) -> bool
-        requires behind { IsBehind self.old.outer self.old.client.kept.receiver.newest.number self.old.client.kept.receiver.newest.state }
-        ensures behind { IsBehind self.new.outer self.new.client.kept.receiver.newest.number self.new.client.kept.receiver.newest.state }
+        requires behind { IsBehind self.old.start.outer self.old.start.client.kept.receiver.newest.number
+            self.old.start.client.kept.receiver.newest.state }
+        ensures behind { IsBehind self.new.start.outer self.new.start.client.kept.receiver.newest.number
+            self.new.start.client.kept.receiver.newest.state }
     {
         let key = Act::Key(Key::Char('b'));
         let mut is_read = false;
@@ -103,16 +123,18 @@ impl<'a> Meeting<'a> {
         for turn in 1..1000u64 {
             self.turns(alloc, turn * 10, None);
             is_read = programs.first_reads(b'b') || is_read;
-            if is_read && shows(&self.client, 'a') {
-                return !self.client_ports.has_failed();
+            if is_read && shows(&self.start.client, 'a') {
+                return !self.start.ports.has_failed();
             }
         }
         false
     }
 
     fn types_both(&mut self, alloc: Global, words: &str) -> bool
-        requires behind { IsBehind self.old.outer self.old.client.kept.receiver.newest.number self.old.client.kept.receiver.newest.state }
-        ensures behind { IsBehind self.new.outer self.new.client.kept.receiver.newest.number self.new.client.kept.receiver.newest.state }
+        requires behind { IsBehind self.old.start.outer self.old.start.client.kept.receiver.newest.number
+            self.old.start.client.kept.receiver.newest.state }
+        ensures behind { IsBehind self.new.start.outer self.new.start.client.kept.receiver.newest.number
+            self.new.start.client.kept.receiver.newest.state }
     {
         if let Some((moment, acts)) = words.split_once(' ')
             && let Some((first, second)) = acts.split_once(", ")
@@ -126,8 +148,10 @@ impl<'a> Meeting<'a> {
     }
 
     fn turns_at(&mut self, alloc: Global, moment: &str) -> bool
-        requires behind { IsBehind self.old.outer self.old.client.kept.receiver.newest.number self.old.client.kept.receiver.newest.state }
-        ensures behind { IsBehind self.new.outer self.new.client.kept.receiver.newest.number self.new.client.kept.receiver.newest.state }
+        requires behind { IsBehind self.old.start.outer self.old.start.client.kept.receiver.newest.number
+            self.old.start.client.kept.receiver.newest.state }
+        ensures behind { IsBehind self.new.start.outer self.new.start.client.kept.receiver.newest.number
+            self.new.start.client.kept.receiver.newest.state }
     {
         match moment.parse::<u64>() {
             Ok(moment) => {
@@ -140,14 +164,16 @@ impl<'a> Meeting<'a> {
 
     fn has_pane(&self, pane: &str) -> bool {
         match pane.parse::<u8>() {
-            Ok(pane) => self.server.room(pane).is_some(),
+            Ok(pane) => self.home.server.room(pane).is_some(),
             Err(_) => false,
         }
     }
 
     fn does(&mut self, rt: &HostRuntime, programs: &mut Programs, line: &str) -> Result<bool, Fail>
-        requires behind { IsBehind self.old.outer self.old.client.kept.receiver.newest.number self.old.client.kept.receiver.newest.state }
-        ensures behind { IsBehind self.new.outer self.new.client.kept.receiver.newest.number self.new.client.kept.receiver.newest.state }
+        requires behind { IsBehind self.old.start.outer self.old.start.client.kept.receiver.newest.number
+            self.old.start.client.kept.receiver.newest.state }
+        ensures behind { IsBehind self.new.start.outer self.new.start.client.kept.receiver.newest.number
+            self.new.start.client.kept.receiver.newest.state }
     {
         let (verb, rest) = line.split_once(' ').unwrap_or((line, ""));
         match verb {
@@ -166,8 +192,10 @@ impl<'a> Meeting<'a> {
         programs: &mut Programs,
         lines: &'t str,
     ) -> Result<Option<&'t str>, Fail>
-        requires behind { IsBehind self.old.outer self.old.client.kept.receiver.newest.number self.old.client.kept.receiver.newest.state }
-        ensures behind { IsBehind self.new.outer self.new.client.kept.receiver.newest.number self.new.client.kept.receiver.newest.state }
+        requires behind { IsBehind self.old.start.outer self.old.start.client.kept.receiver.newest.number
+            self.old.start.client.kept.receiver.newest.state }
+        ensures behind { IsBehind self.new.start.outer self.new.start.client.kept.receiver.newest.number
+            self.new.start.client.kept.receiver.newest.state }
     {
         for line in lines.lines() {
             if !self.does(rt, programs, line)? {
@@ -193,30 +221,47 @@ fn client_ports<'a>(
     Ok(ClientPorts::new(connection, painted))
 }
 
+/// A server whose panes are in a folder.
+fn server_end<'a>(rt: &'a HostRuntime, folder: &str) -> Result<ServerEnd<'a>, Fail> {
+    let own = OwnStart {
+        session: 1,
+        id: 0xFF,
+    };
+    let ports = ServerPorts::bind(rt, rt.alloc(), folder, Some(0), Moments::Set(0), own)?;
+    Ok(ServerEnd {
+        server: Server::new(rt.alloc(), 0x5E55, 24, 80)?,
+        ports,
+    })
+}
+
+/// A client start that reaches a server at its UDP port, or at its socket in a folder.
+fn start_end<'a>(
+    rt: &'a HostRuntime,
+    folder: &str,
+    is_stream: bool,
+    port: u16,
+) -> Result<StartEnd<'a>, Fail>
+    ensures behind { IfOk result (λ s. IsBehind s.outer s.client.kept.receiver.newest.number s.client.kept.receiver.newest.state) }
+{
+    let ports = client_ports(rt, folder, is_stream)?;
+    Ok(StartEnd {
+        client: Client::new(rt.alloc(), 0x5E55, 0xC1)?,
+        ports,
+        home: loopback(port),
+        outer: Outer::new(),
+    })
+}
+
 /// A server whose panes are in a folder, and a client start, which reaches it by UDP or over a stream.
 fn meeting_of<'a>(rt: &'a HostRuntime, folder: &str, is_stream: bool) -> Result<Meeting<'a>, Fail>
-    ensures behind { IfOk result (λ m. IsBehind m.outer m.client.kept.receiver.newest.number m.client.kept.receiver.newest.state) }
+    ensures behind { IfOk result (λ m. IsBehind m.start.outer m.start.client.kept.receiver.newest.number
+        m.start.client.kept.receiver.newest.state) }
 {
-    let alloc = rt.alloc();
-    let server_ports = ServerPorts::bind(
-        rt,
-        alloc,
-        folder,
-        Some(0),
-        Moments::Set(0),
-        OwnStart {
-            session: 1,
-            id: 0xFF,
-        },
-    )?;
-    let home = loopback(server_ports.port().unwrap_or(0));
+    let home = server_end(rt, folder)?;
+    let port = home.ports.port().unwrap_or(0);
     Ok(Meeting {
-        server: Server::new(alloc, 0x5E55, 24, 80)?,
-        server_ports,
-        client: Client::new(alloc, 0x5E55, 0xC1)?,
-        client_ports: client_ports(rt, folder, is_stream)?,
         home,
-        outer: Outer::new(),
+        start: start_end(rt, folder, is_stream, port)?,
     })
 }
 

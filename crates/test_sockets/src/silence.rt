@@ -136,46 +136,6 @@ fn first_wrong_unread<'a>(rt: &HostRuntime, lines: &'a str) -> Result<Option<&'a
     first_undone(rt, &mut ports, &mut other, lines)
 }
 
-/// What is noted of the terminal isn't what it shows in the end: nothing is painted over that.
-const ONCE_A_SECOND: &str = "\
-9999 known
-shows a
-reads a
-10000 known
-reads 10 s
-10999 known
-11000 known
-reads 11 s
-shows nothing for b
-is sound
-is unheard";
-
-/// A silence ends where something is heard.
-const HEARD: &str = "\
-10000 known
-reads 10 s
-hears
-10001 unknown
-10002 known
-shows c
-reads c
-is heard
-20000 known
-reads 10 s
-is silent for 10 s";
-
-/// Nobody reads: what is told of a silence isn't taken either.
-const GIVEN_UP: &str = "\
-100 known
-shows nothing for a
-is failing
-599 known
-shows nothing for a
-is failing
-600 known
-is given up
-10100 unknown";
-
 // Whether nobody is seen to read only once the reader is gone.
 fn sees_nobody(ports: &mut ClientPorts<&HostRuntime, Vec<u8>>, reader: PipeReader) -> bool {
     ports.rest();
@@ -194,11 +154,75 @@ fn is_nobody_seen(rt: &HostRuntime) -> Result<bool, Fail> {
     Ok(sees_nobody(&mut ports, reader))
 }
 
+// The first line of a story that isn't so: `read` where what is painted is read, `unread` where it isn't, or `nobody`, where it is seen that
+// a descriptor's reader is gone.
+fn first_wrong<'a>(rt: &HostRuntime, story: &'a str) -> Result<Option<&'a str>, Fail> {
+    match story.split_once('\n') {
+        Some(("read", lines)) => first_wrong_read(rt, lines),
+        Some(("unread", lines)) => first_wrong_unread(rt, lines),
+        _ if story == "nobody" && is_nobody_seen(rt)? => Ok(None),
+        _ => Ok(Some(story)),
+    }
+}
+
+// The first line of all stories, parted by empty lines, that isn't so.
+fn first_wrong_of<'a>(rt: &HostRuntime, stories: &'a str) -> Result<Option<&'a str>, Fail> {
+    for story in stories.split("\n\n") {
+        let wrong = first_wrong(rt, story)?;
+        if wrong.is_some() {
+            return Ok(wrong);
+        }
+    }
+    Ok(None)
+}
+
+/// What is noted of the terminal isn't what it shows in the end: nothing is painted over that.
+///
+/// A silence ends where something is heard.
+///
+/// Nobody reads: what is told of a silence isn't taken either.
+const STORIES: &str = "\
+read
+9999 known
+shows a
+reads a
+10000 known
+reads 10 s
+10999 known
+11000 known
+reads 11 s
+shows nothing for b
+is sound
+is unheard
+
+read
+10000 known
+reads 10 s
+hears
+10001 unknown
+10002 known
+shows c
+reads c
+is heard
+20000 known
+reads 10 s
+is silent for 10 s
+
+unread
+100 known
+shows nothing for a
+is failing
+599 known
+shows nothing for a
+is failing
+600 known
+is given up
+10100 unknown
+
+nobody";
+
 #[test]
 fn what_is_told_of_a_silence(rt: HostRuntime) -> Result<(), Fail> {
-    assert_eq!(rt; first_wrong_read(&rt, ONCE_A_SECOND)?, None);
-    assert_eq!(rt; first_wrong_read(&rt, HEARD)?, None);
-    assert_eq!(rt; first_wrong_unread(&rt, GIVEN_UP)?, None);
-    assert!(rt; is_nobody_seen(&rt)?);
+    assert_eq!(rt; first_wrong_of(&rt, STORIES)?, None);
     Ok(())
 }

@@ -60,22 +60,40 @@ impl Place {
     }
 }
 
+// Whether a line is done, or is so.
+fn is_done(
+    rt: &HostRuntime,
+    place: &mut Place,
+    programs: &mut Programs,
+    line: &str,
+) -> Result<bool, Fail> {
+    match line.split_once(' ') {
+        Some((who @ ("first" | "second"), words)) => programs.does(rt, who, words),
+        _ => Ok(place.is_so(rt.alloc(), line)),
+    }
+}
+
 // The first line that isn't so.
-fn first_wrong<'a>(rt: &HostRuntime, path: &str, lines: &'a str) -> Result<Option<&'a str>, Fail> {
-    let Some(mut place) = place_at(rt, path)? else {
-        return Ok(Some("no socket"));
-    };
-    let mut programs = Programs::new();
+fn first_undone<'a>(
+    rt: &HostRuntime,
+    place: &mut Place,
+    programs: &mut Programs,
+    lines: &'a str,
+) -> Result<Option<&'a str>, Fail> {
     for line in lines.lines() {
-        let is_done = match line.split_once(' ') {
-            Some((who @ ("first" | "second"), words)) => programs.does(rt, who, words)?,
-            _ => place.is_so(rt.alloc(), line),
-        };
-        if !is_done {
+        if !is_done(rt, place, programs, line)? {
             return Ok(Some(line));
         }
     }
     Ok(None)
+}
+
+// The first line that isn't so of a start whose terminals come to a path.
+fn first_wrong<'a>(rt: &HostRuntime, path: &str, lines: &'a str) -> Result<Option<&'a str>, Fail> {
+    match place_at(rt, path)? {
+        Some(mut place) => first_undone(rt, &mut place, &mut Programs::new(), lines),
+        None => Ok(Some("no socket")),
+    }
 }
 
 /// The screen numbered 0 opens each terminal. Acts of one line are typed all or none, none of a terminal that only watches; a line that
