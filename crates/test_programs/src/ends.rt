@@ -1,4 +1,6 @@
 //! What a run that failed says on standard error, and its exit status; and whether more is asked for.
+ghost use Rattle.std.specs.Prelude.{◌≤◌, length, IfOk};
+
 use roam_cells::Fault;
 use roam_command::asks_why;
 use roam_faults::{RunFault, end};
@@ -101,7 +103,9 @@ struct Surroundings {
 }
 
 // Copies a value to the beginning of a buffer.
-fn fill(buf: &mut [u8], value: &str) -> Result<usize, FillError> {
+fn fill(buf: &mut [u8], value: &str) -> Result<usize, FillError>
+    ensures bound { IfOk result (λ n. n ≤ length buf.new) }
+{
     let length = value.len();
     if length > buf.len() {
         return Err(FillError::TooLong);
