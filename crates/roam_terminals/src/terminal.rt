@@ -48,6 +48,9 @@ pub(crate) enum State {
     /// It is there.
     Here,
 
+    /// It takes nothing more, as where it is closed at its other end: its lines are taken until it left.
+    Deaf,
+
     /// It left: the lines that came whole are taken, and then it goes.
     Left,
 
@@ -56,6 +59,20 @@ pub(crate) enum State {
 
     /// It is to be let go.
     Gone,
+}
+
+impl State {
+    // What it is once nothing more can be written to it. What it typed before is taken none the less.
+    fn unwritten(self) -> State
+        ensures gone { self ≢ State.Refused → self ≢ State.Gone → result ≢ State.Gone }
+        ensures left { self ≡ State.Left → result ≡ State.Left }
+    {
+        match self {
+            State::Here | State::Deaf => State::Deaf,
+            State::Left => State::Left,
+            State::Refused | State::Gone => State::Gone,
+        }
+    }
 }
 
 /// What became of the line of a terminal that stood first.
@@ -138,7 +155,7 @@ impl<S: Read + Write + Drop> Terminal<S> {
         match self.state {
             State::Gone => true,
             State::Left => self.lines.first().is_none(),
-            State::Here | State::Refused => false,
+            State::Here | State::Deaf | State::Refused => false,
         }
     }
 
@@ -189,6 +206,16 @@ impl<S: Read + Write + Drop> Terminal<S> {
         false
     }
 
+    // Whether more of it may come.
+    fn is_read(&self) -> bool
+        ensures read { result ≡ true → self.now.state ≢ State.Gone }
+    {
+        match self.state {
+            State::Here | State::Deaf => true,
+            State::Left | State::Refused | State::Gone => false,
+        }
+    }
+
     // Reads until a line stands first or nothing more comes now.
     fn read_line(&mut self, alloc: Global)
         ensures reads { Reads (S.remaining self.old.stream) (S.remaining self.new.stream) self.old.lines.kept self.new.lines.kept
@@ -197,7 +224,7 @@ impl<S: Read + Write + Drop> Terminal<S> {
         ensures outer { self.new.outer ≡ self.old.outer }
     {
         for _ in 0..MOST_READS {
-            if self.state != State::Here {
+            if !self.is_read() {
                 return;
             }
             match self.lines.front() {
@@ -217,7 +244,7 @@ impl<S: Read + Write + Drop> Terminal<S> {
         ensures heard { result ≡ true → self.now.state ≢ State.Gone }
     {
         match self.state {
-            State::Here | State::Left => true,
+            State::Here | State::Deaf | State::Left => true,
             State::Refused | State::Gone => false,
         }
     }
@@ -438,6 +465,8 @@ impl<S: Read + Write + Drop> Terminal<S> {
     // Writes a piece of what waits, and tells how much was taken.
     fn write_piece(&mut self) -> usize
         ensures writes { Writes (S.contents self.old.stream) (S.contents self.new.stream) self.old.waiting self.new.waiting }
+        // A write that fails ends what is written alone: what it typed before is taken.
+        ensures heard { self.old.state ≢ State.Refused → self.old.state ≢ State.Gone → self.new.state ≢ State.Gone }
         ensures others { self.new ≡ record self.old { stream = self.new.stream; waiting = self.new.waiting; state = self.new.state } }
     {
         let piece = self.waiting.as_slice();
@@ -452,7 +481,7 @@ impl<S: Read + Write + Drop> Terminal<S> {
             }
             Err(error) => {
                 if !is_for_now(&error) {
-                    self.state = State::Gone;
+                    self.state = self.state.unwritten();
                 }
                 0
             }

@@ -162,14 +162,7 @@ fn rounds(
     Ok((passed, bytes))
 }
 
-/// A server and several client starts, at a moment. Each is at a port of its own, its place among them.
-#[derive(Drop)]
-struct Crowd {
-    server: Server,
-    clients: Vec<Client>,
-    now: u64,
-}
-
+// The address of one of several client starts: each is at a port of its own, its place among them.
 fn at_port(port: u16) -> Addr {
     Addr {
         host: [127, 0, 0, 1],
@@ -208,42 +201,60 @@ fn bring(
     Ok(())
 }
 
-// The nanoseconds of a tick after these bytes. Its datagrams come to the client starts, and their answers go back, unmeasured.
-fn crowd_tick(rt: &HostRuntime, crowd: &mut Crowd, piece: &[u8]) -> anyhow::Result<u128> {
+// The nanoseconds of a tick after these bytes at a moment. Its datagrams come to the client starts, and their answers go back, unmeasured.
+fn crowd_tick(
+    rt: &HostRuntime,
+    server: &mut Server,
+    clients: &mut [Client],
+    now: u64,
+    piece: &[u8],
+) -> anyhow::Result<u128> {
     let alloc = rt.alloc();
-    crowd.server.pane_bytes(1, piece)?;
-    crowd.now = crowd.now.wrapping_add(120);
+    server.pane_bytes(1, piece)?;
     let start = Instant::now(rt)?;
-    let parcels = crowd.server.tick(alloc, crowd.now)?;
+    let parcels = server.tick(alloc, now)?;
     let passed = start.elapsed(rt)?.as_nanos();
-    bring(alloc, &mut crowd.clients, &parcels, crowd.now)?;
-    let later = crowd.now.wrapping_add(100);
-    answer_all(alloc, &mut crowd.server, &mut crowd.clients, later)?;
+    bring(alloc, clients, &parcels, now)?;
+    answer_all(alloc, server, clients, now.wrapping_add(100))?;
     Ok(passed)
 }
 
-// So many ticks, each after a key.
-fn crowd_ticks(rt: &HostRuntime, crowd: &mut Crowd, times: u32) -> anyhow::Result<u128> {
+// So many ticks, each after a key, from one of this number on.
+fn crowd_ticks(
+    rt: &HostRuntime,
+    server: &mut Server,
+    clients: &mut [Client],
+    first: u64,
+    times: u32,
+) -> anyhow::Result<u128> {
     let mut passed: u128 = 0;
-    for k in 0..times {
-        passed = passed.wrapping_add(crowd_tick(rt, crowd, KEYS[(k % 2) as usize])?);
+    for k in 0..u64::from(times) {
+        let now = first.wrapping_add(k).wrapping_mul(120);
+        let one = crowd_tick(rt, server, clients, now, KEYS[(k % 2) as usize])?;
+        passed = passed.wrapping_add(one);
     }
     Ok(passed)
 }
 
-// A server that knows so many client starts, which are all kept.
-fn crowd_of(alloc: Global, rows: u16, cols: u16, starts: u64) -> Result<Crowd, Fault> {
-    let mut server = server_of(alloc, rows, cols, 0)?;
+// The nanoseconds of ticks of a server with these client starts.
+fn measured_among(
+    rt: &HostRuntime,
+    server: &mut Server,
+    clients: &mut [Client],
+    times: u32,
+) -> anyhow::Result<u128> {
+    answer_all(rt.alloc(), server, clients, 0)?;
+    // The first tick brings the whole screen.
+    crowd_ticks(rt, server, clients, 1, 2)?;
+    crowd_ticks(rt, server, clients, 3, times)
+}
+
+fn new_clients(alloc: Global, starts: u64) -> Result<Vec<Client>, Fault> {
     let mut clients = Vec::new(alloc);
     for id in 0..starts {
         clients.push(Client::new(alloc, SESSION, id)?)?;
     }
-    answer_all(alloc, &mut server, &mut clients, 0)?;
-    Ok(Crowd {
-        server,
-        clients,
-        now: 0,
-    })
+    Ok(clients)
 }
 
 // The nanoseconds of ticks with so many client starts.
@@ -253,10 +264,9 @@ fn measured_crowd(
     starts: u64,
     times: u32,
 ) -> anyhow::Result<u128> {
-    let mut crowd = crowd_of(rt.alloc(), size.0, size.1, starts)?;
-    // The first tick brings the whole screen.
-    crowd_ticks(rt, &mut crowd, 2)?;
-    crowd_ticks(rt, &mut crowd, times)
+    let mut server = server_of(rt.alloc(), size.0, size.1, 0)?;
+    let mut clients = new_clients(rt.alloc(), starts)?;
+    measured_among(rt, &mut server, &mut clients, times)
 }
 
 /// What is measured of a pair.

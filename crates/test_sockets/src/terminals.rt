@@ -97,8 +97,8 @@ fn first_wrong<'a>(rt: &HostRuntime, path: &str, lines: &'a str) -> Result<Optio
 }
 
 /// The screen numbered 0 opens each terminal. Acts of one line are typed all or none, none of a terminal that only watches; a line that
-/// asks for nothing ends its terminal alone, and one that isn't ended is let go with it; `repaint` opens the terminal that says it. What is
-/// guessed of a first key isn't shown.
+/// asks for nothing ends its terminal alone, and one that isn't ended is let go with it; lines that came whole are typed however soon their
+/// terminal left; `repaint` opens the terminal that says it. What is guessed of a first key isn't shown.
 const LINES: &str = "\
 first connects shared/terminals
 second connects shared/terminals
@@ -143,19 +143,30 @@ round
 acts 5
 terminals 0
 second connects shared/terminals
+second types char 61/char 62/char 63/
+second leaves
+round
+acts 6
+round
+acts 7
+round
+acts 8
+round
+terminals 0
+second connects shared/terminals
 round
 second reads \x1Bc\x1B[?25l\x1B[0m\x1B[1;1H\x1B[?25h
 second types guess always/char 63/guess never/end/
 round
-acts 5
+acts 8
 round
-acts 6
+acts 9
 second waits
 round
 goes on
 round
 ends
-acts 6";
+acts 9";
 
 #[test]
 fn terminals_share_a_start(rt: HostRuntime) -> Result<(), Fail> {
