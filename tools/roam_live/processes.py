@@ -8,6 +8,7 @@ import signal
 import subprocess
 import time
 
+from roam_live.logs import make_room
 from roam_live.program import SAID_AFTER, Fault, begun, is_running, replace_text, say
 
 # How long a process has for what it brings, and how long for its end.
@@ -83,6 +84,7 @@ class Processes:
         """A process that stays when this terminal goes, by a call that parts it; what it says is in the log. It notes itself before it
         runs the words, so that it is found however this one ends."""
         replace_text(self.note, json.dumps(self.state))
+        make_room(self.log)
         with open(self.log, "ab") as log:
             ends = {"stdin": subprocess.DEVNULL, "stdout": log, "stderr": log, **ends}
             process = subprocess.Popen(words, **ends, preexec_fn=lambda: (parts(), self.note_own(role)))

@@ -2,11 +2,14 @@
 import contextlib
 import os
 import pathlib
+import select
 import signal
 import socket
 import sys
 import time
-import traceback
+
+from roam_live.logs import make_room
+from roam_live.words import one_line, printable
 
 TOOLS = pathlib.Path(__file__).resolve().parent.parent
 
@@ -32,9 +35,16 @@ def tool_name():
 
 
 def say(line):
-    """Says a line on standard error, which may be full or gone."""
+    """Says a line on standard error, which may be full or gone, or a log that is to stay small."""
+    make_room_in_logs(len(line))
     with contextlib.suppress(OSError, ValueError):
-        print(f"{tool_name()}: {line}", file=sys.stderr, flush=True)
+        print(f"{tool_name()}: {printable(line)}", file=sys.stderr, flush=True)
+
+
+def make_room_in_logs(more):
+    """Sees that the logs that are known stay small when so many bytes more come."""
+    for path in logs:
+        make_room(path, more)
 
 
 def reason(fault):
@@ -50,10 +60,14 @@ def log_to(folder):
 
 def unforeseen(fault):
     """The line for what a tool didn't foresee; the logs get all of it."""
+    import traceback
+
+    told = "\n".join(map(printable, traceback.format_exc().split("\n")))
+    make_room_in_logs(len(told))
     for path in logs:
         with contextlib.suppress(OSError), open(path, "a", encoding="utf-8", errors="backslashreplace") as log:
-            log.write(f"{tool_name()}, process {os.getpid()}:\n{traceback.format_exc()}")
-    line = traceback.format_exception_only(type(fault), fault)[-1].strip()
+            log.write(f"{tool_name()}, process {os.getpid()}:\n{told}")
+    line = one_line(traceback.format_exception_only(type(fault), fault)[-1])
     return f"roam: {tool_name()} failed: {line}" + "".join(f"; {path} has more" for path in logs)
 
 
@@ -61,17 +75,31 @@ def run_tool(main):
     """Runs a tool; a fault is one line on standard error and status 1. `python3 -X dev` shows where one comes from that nobody foresaw."""
     signal.signal(signal.SIGINT, signal.default_int_handler)
     try:
-        sys.exit(main())
+        status = main()
+        sys.stdout.flush()
+        sys.exit(status)
     except Fault as fault:
-        sys.exit(f"{tool_name()}: {fault}")
+        sys.exit(f"{tool_name()}: {one_line(fault)}")
     except OSError as fault:
-        sys.exit(f"{tool_name()}: {f'{fault.filename}: ' if fault.filename else ''}{reason(fault)}")
+        if isinstance(fault, BrokenPipeError) and nobody_reads():
+            sys.exit(128 + signal.SIGPIPE)
+        sys.exit(one_line(f"{tool_name()}: {f'{fault.filename}: ' if fault.filename else ''}{reason(fault)}"))
     except KeyboardInterrupt:
         sys.exit(130)
     except Exception as fault:
         if sys.flags.dev_mode:
             raise
         sys.exit(unforeseen(fault))
+
+
+def nobody_reads():
+    """Whether it was standard output that nobody reads any more, as behind `| head`; what is left for it is dropped then."""
+    output = select.poll()
+    output.register(1, 0)
+    if not output.poll(0):
+        return False
+    os.dup2(os.open(os.devnull, os.O_WRONLY), 1)
+    return True
 
 
 def program():

@@ -3,6 +3,8 @@ import contextlib
 import os
 import pathlib
 
+from roam_live.words import printable
+
 # What a pane may lose without a question.
 SHELLS = {"sh", "ash", "bash", "dash", "zsh", "fish", "ksh", "mksh", "csh", "tcsh", "nu", "xonsh", "elvish", "rc", "es"}
 
@@ -32,17 +34,19 @@ def pane_of(process):
 
 
 def foreground(process):
-    """The name of the program that has the terminal of a process, as far as one is known; none where that process has ended."""
+    """The printable name of the program that has the terminal of a process, as far as one is known; none where that process has ended."""
     try:
         words = pathlib.Path(f"/proc/{process}/stat").read_text(encoding="utf-8", errors="replace").rpartition(")")[2].split()
         group = words[FOREGROUND]
     except (OSError, IndexError):
         return ""
     try:
-        return pathlib.Path(f"/proc/{group}/comm").read_text(encoding="utf-8", errors="replace").rstrip("\n")
+        name = pathlib.Path(f"/proc/{group}/comm").read_bytes()[:-1].decode("utf-8", "replace")
     except OSError:
         # The first of several programs may have ended.
-        return "a program"
+        name = ""
+    # A program may have given itself any name, also none.
+    return printable(name) or "a program"
 
 
 def is_shell(name):

@@ -8,10 +8,9 @@ import re
 import signal
 import stat
 import subprocess
-import sys
 
 from roam_live.processes import Processes
-from roam_live.program import TOOLS, Fault, count_clients, is_listened, program
+from roam_live.program import TOOLS, Fault, count_clients, is_listened, program, say
 from roam_live.programs import busy_panes
 from roam_live.rects import MOST_STARTS, read_places
 
@@ -40,7 +39,7 @@ def runtime_folder():
         return None
     if os.path.isdir(chosen) and os.stat(chosen).st_uid == os.getuid():
         return pathlib.Path(chosen, "roam")
-    print(f"mux: XDG_RUNTIME_DIR is {chosen}, which is no folder of yours; /tmp has the sessions", file=sys.stderr)
+    say(f"XDG_RUNTIME_DIR is {chosen}, which is no folder of yours; /tmp has the sessions")
     return None
 
 
