@@ -37,11 +37,13 @@ C-b and then:
   o        the next pane
   1 to 9   the pane of this number
   arrows   the pane there
-  C-arrows grow the pane along its split (right, down), or shrink it (left, up); again within half a second without C-b
+  C-arrows grow the pane along its split (right, down), or shrink it (left,
+           up); again within half a second without C-b
   [ PgUp   scroll: PgUp PgDn up down g G; q, Escape, C-c or Return ends it
   d        detach: the session goes on
-  r        size the session to this terminal and paint all anew
-  ?        this help
+  r        size the session to this terminal, which cuts what is wider, and
+           paint all anew
+  ?        these keys, until the next key
   C-b      C-b itself"""
 
 

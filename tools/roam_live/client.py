@@ -3,7 +3,6 @@ import contextlib
 import re
 import select
 import signal
-import time
 
 from roam_live.bells import BellFollower
 from roam_live.bindings import NEWEST
@@ -18,8 +17,9 @@ from roam_live.watches import ShellsWatch
 PAINTED_LIMIT = 1 << 16
 TYPED_LIMIT = 1 << 24
 
-# While a terminal is drawn larger by hand it has hundreds of sizes: the session gets one in so many seconds, and the last.
-SIZES = 0.1
+# While a terminal is drawn larger by hand it has hundreds of sizes: the session gets one that has stood for so many seconds. Of one that it
+# had got before a smaller followed it would be cut.
+SIZES = 0.3
 
 # How often it is looked whether the server is there, where no process is known.
 PROBES = 2.0
@@ -29,14 +29,15 @@ LOSS_TOLD = 3.0
 
 LEAVING = (signal.SIGTERM, signal.SIGHUP, signal.SIGINT)
 
-# What the start tells of a silent server, with what follows it: the key that leaves is told there.
-SILENCE = re.compile(rb"(roam: no answer for \d+ s)(\x1b\[0m)")
+# What the start tells of a silent server, with what follows it: the key that leaves is told there. By its beginning it is nothing that a
+# pane shows: a painting saves no cursor.
+SILENCE = re.compile(rb"(\x1b7\x1b\[\?7l\x1b\[999;1H\x1b\[0;7mroam: no answer for \d+ s)(\x1b\[0m)")
 
 
 class Client:
     """A person at a terminal, and the session there."""
 
-    def __init__(self, place, watches, prefix, guessing):
+    def __init__(self, place, watches, prefix, guessing, is_new):
         self.place = place
         self.wakeup = woken(signal.SIGWINCH, signal.SIGCONT, *LEAVING)
         served = place.process(place.served)
@@ -47,7 +48,7 @@ class Client:
         self.keeper = Keeper(place, self.link)
         self.moments = Moments()
         self.display = Display(self.moments, lambda: self.link.say("repaint"))
-        self.commands = Commands(place, self.link, self.display, self.moments, self.leave)
+        self.commands = Commands(place, self.link, self.display, self.moments, self.leave, is_new)
         self.commands.choose(prefix)
         self.left, self.status = None, 0
 
@@ -71,7 +72,7 @@ class Client:
         self.commands.paused = False
         self.display.cover = ""
         self.display.begin()
-        self.commands.ask_size()
+        self.commands.fit_first()
         self.commands.act(*([] if self.commands.typing.left() else [NEWEST]))
         if loss:
             self.display.tell(loss, LOSS_TOLD)
@@ -98,8 +99,7 @@ class Client:
     def resized(self):
         """Goes by a new size of the terminal."""
         self.display.resized()
-        if "size" not in self.moments.due:
-            self.moments.later("size", max(0.0, self.commands.size_asked + SIZES - time.monotonic()), self.commands.ask_size)
+        self.moments.later("size", SIZES, self.commands.fit)
 
     def signalled(self):
         """Goes by the signals that came."""
@@ -157,6 +157,8 @@ class Client:
         piece = link.painted() if link in readable else None
         if piece:
             self.display.painted(SILENCE.sub(rb"\1; %s d leaves\2" % self.commands.prefix.encode(), piece))
+            if not self.commands.is_fitted and "size" not in self.moments.due:
+                self.moments.later("size", SIZES, self.commands.fit_first)
         if piece == b"" or link.peer and link.waiting and not link.send():
             self.lost()
 
@@ -177,12 +179,13 @@ class Client:
         return self.status
 
 
-def follow(place, watches, prefix, guessing):
-    """Has a person follow a session at this terminal, and tells the status; guesses are shown always, where that helps, or never."""
+def follow(place, watches, prefix, guessing, is_new=lambda: False):
+    """Has a person follow a session at this terminal, and tells the status; guesses are shown always, where that helps, or never. Where the
+    session is new, which may be known a moment later, it gets this terminal's size, whatever that is."""
     note = None
     try:
         note = noted_client(place.folder, "watches" if watches else "edits")
-        return Client(place, watches, prefix, guessing).run()
+        return Client(place, watches, prefix, guessing, is_new).run()
     finally:
         place.close()
         if note:

@@ -248,6 +248,19 @@ def count_clients(folder):
     return len(notes) - len(gone)
 
 
+def has_others(folder):
+    """Whether another client that types is noted in a session's folder."""
+    notes = pathlib.Path(folder, "attached").glob("[0-9]*") if folder else ()
+    return any(note.name != str(os.getpid()) and is_attached(note) and kind_of(note) == "edits" for note in notes)
+
+
+def kind_of(note):
+    """What the client that a file notes does: it edits, or it watches."""
+    with contextlib.suppress(OSError, ValueError):
+        return note.read_text(encoding="utf-8").split()[-1]
+    return ""
+
+
 def is_attached(note):
     """Whether the client that a file notes runs; who ends removes it, maybe at this moment."""
     try:
