@@ -5,7 +5,6 @@ import json
 import os
 import pathlib
 import signal
-import subprocess
 import time
 
 from roam_live.logs import make_room
@@ -83,6 +82,8 @@ class Processes:
     def spawned(self, role, words, parts=os.setsid, **ends):
         """A process that stays when this terminal goes, by a call that parts it; what it says is in the log. It notes itself before it
         runs the words, so that it is found however this one ends."""
+        import subprocess
+
         replace_text(self.note, json.dumps(self.state))
         make_room(self.log)
         with open(self.log, "ab") as log:

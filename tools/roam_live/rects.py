@@ -1,5 +1,5 @@
 """Where the panes of a session are: as D/panes tells it to whoever follows, and as D/rects has it for the other tools."""
-from typing import NamedTuple
+from collections import namedtuple
 
 from roam_live.program import replace_text
 
@@ -17,22 +17,12 @@ PLACES_READ = 8192
 NUMBER_DIGITS = 4
 
 
-class Rect(NamedTuple):
+class Rect(namedtuple("Rect", "row col rows cols")):
     """A pane's first row and column, from 1, and its rows and columns."""
 
-    row: int
-    col: int
-    rows: int
-    cols: int
 
-
-class Places(NamedTuple):
+class Places(namedtuple("Places", "rects focus starts watchers", defaults=(0, 0, 0))):
     """What is told of a session: the rectangles of its panes by number, the focus, and how many starts edited and watched so far."""
-
-    rects: dict
-    focus: int = 0
-    starts: int = 0
-    watchers: int = 0
 
     def size(self):
         """The session's rows and columns; none where no pane is known."""

@@ -7,11 +7,9 @@ import pathlib
 import re
 import signal
 import stat
-import subprocess
 
 from roam_live.processes import Processes
 from roam_live.program import TOOLS, Fault, count_clients, is_listened, program, say
-from roam_live.programs import busy_panes
 from roam_live.rects import MOST_STARTS, read_places
 
 NAME = re.compile(r"[A-Za-z0-9_-]{1,32}")
@@ -109,6 +107,8 @@ class Session(Processes):
 
     def busy(self):
         """The panes in which another program than a shell runs, and its name."""
+        from roam_live.programs import busy_panes
+
         shells = self.process("shells")
         return busy_panes(shells) if shells else {}
 
@@ -207,6 +207,8 @@ class NearSession(Session):
 
     def start_relay(self, command):
         """Starts a relay over a command, which may ask at this terminal until it has answered; tells the status of one that didn't."""
+        import subprocess
+
         self.clean()
         self.state = {"version": VERSION}
         words = [str(TOOLS / "relay"), "--alone", str(ALONE), "--log", str(self.log), "--dir", str(self.folder), "-", *command]

@@ -7,8 +7,9 @@ import unittest
 from unittest import mock
 
 from roam_live import client, display, terminal
-from roam_live.bindings import HELP, PREFIXES, help_with
+from roam_live.bindings import HELP, help_with
 from roam_live.cells import Cells
+from roam_live.choices import PREFIXES
 from roam_live.commands import Commands
 from roam_live.display import Display, wrapped
 from roam_live.moments import Moments
