@@ -5,8 +5,8 @@
 //! `roam serve` serves a session whose panes are reached at sockets; `roam attach` follows one and paints it.
 #![tactic(auto)]
 
-use roam_attaching::{Attach, Home, Typed, run_attach, tell_failed};
-use roam_command::{Request, Server, Source, Wire, asked, words_of};
+use roam_attaching::{Attach, Home, Typed, run_attach, tell_end, tell_failed};
+use roam_command::{Request, Server, Source, Wire, asked, asks_why, words_of};
 use roam_faults::{RunFault, end};
 use roam_play::run_world;
 use roam_serving::{Serve, run_serve, tell_unbound};
@@ -56,22 +56,25 @@ fn version(wire: Wire) -> Version {
     }
 }
 
-// Serves a session; where it couldn't be bound, says why on a second line.
+// Serves a session; where it couldn't be bound, a second line says why if that is asked for.
 fn serve(rt: &HostRuntime, serve: &Serve<'_>) -> ExitCode {
     let ran = run_serve(rt, serve);
     let status = end(rt, ran);
-    if ran == Err(RunFault::Bind) {
+    if ran == Err(RunFault::Bind) && asks_why(rt) {
         tell_unbound(rt, serve);
     }
     status
 }
 
-// Follows a session; where a file or a socket was refused, says which and why on a second line.
+// Follows a session; if that is asked for, a line says how it ended, or which file or socket was refused and why.
 fn attach(rt: &HostRuntime, attach: &Attach<'_>) -> ExitCode {
     let ran = run_attach(rt, attach, io::writer(rt));
-    let status = end(rt, ran);
-    if let Err(fault) = ran {
-        tell_failed(rt, attach, fault);
+    let status = end(rt, ran.map(|_| ()));
+    if asks_why(rt) {
+        match ran {
+            Ok(ended) => tell_end(rt, ended),
+            Err(fault) => tell_failed(rt, attach, fault),
+        }
     }
     status
 }

@@ -17,8 +17,8 @@ use roam_acts::Act;
 use roam_cells::Fault;
 use roam_faults::RunFault;
 use roam_hub::{Addr, Client};
-use roam_links::{Moments, loopback, random_id};
 use roam_numbers::id;
+use roam_sockets::{Moments, loopback, random_id};
 use roam_terminals::End;
 use roam_turns::{Outer, attach_turn};
 use roam_typing::{Typist, acts_of};
@@ -429,7 +429,7 @@ fn follow_terminals<R: Files + Net + Clock + RandomSource + AllocGlobal>(
 /// `Bind` where no port or socket can be bound, `Connect` where nobody listens in the server's folder, `Read` where its file `session` has
 /// no id and none was given, `Write` where nobody reads what is painted any more, showing it has failed for half a second, or the
 /// outer terminal took not all of what was last shown; `OutOfMemory`.
-pub fn follow_session<R: Files + Net + Clock + RandomSource + AllocGlobal, W: Write + Drop>(
+pub fn run_attach<R: Files + Net + Clock + RandomSource + AllocGlobal, W: Write + Drop>(
     rt: &R,
     attach: &Attach<'_>,
     outer: W,
@@ -443,21 +443,4 @@ pub fn follow_session<R: Files + Net + Clock + RandomSource + AllocGlobal, W: Wr
         Typed::Terminals(path) if !attach.watches => follow_terminals(rt, attach, path),
         _ => follow_file(rt, attach, outer),
     }
-}
-
-/// Follows a session as `follow_session` does, and tells in brackets on standard error how that ended where it took all its turns, its
-/// stream of acts was over, or the server has ended.
-pub fn run_attach<R: Files + Net + Clock + RandomSource + Eprint + AllocGlobal, W: Write + Drop>(
-    rt: &R,
-    attach: &Attach<'_>,
-    outer: W,
-) -> Result<(), RunFault>
-    ensures faults { IfErr result (λ fault. (fault ≡ RunFault.Core Fault.OutOfMemory) ⊎ (fault ≡ RunFault.Read)
-        ⊎ ((k : ℕ) × (fault ≡ RunFault.Act (k + 1))) ⊎ (fault ≡ RunFault.Bind) ⊎ (fault ≡ RunFault.Write)
-        ⊎ (fault ≡ RunFault.Connect)) }
-{
-    let end = follow_session(rt, attach, outer)?;
-    // There is nowhere else to say it.
-    let _ = eprintln!(rt; "[{end}]");
-    Ok(())
 }

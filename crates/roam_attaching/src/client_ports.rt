@@ -3,13 +3,13 @@ ghost use Rattle.std.specs.Prelude.{◌≡◌, ◌⊎◌, ◌↔◌, IsTrue, ◌
 ghost use Rattle.std.specs.Io.KnownBytes.{Appends, Keeps};
 ghost use Rattle.roam_terminals.specs.Silence.{due_of, is_over, end_of, notice_of};
 ghost use Rattle.roam_attaching.specs.Notices.{failing_after, has_given_up};
-ghost use Rattle.roam_links.specs.declared.moments.Moments.{Moments};
+ghost use Rattle.roam_sockets.specs.declared.moments.Moments.{Moments};
 ghost use Rattle.roam_attaching.specs.Ways.{has_ended};
 
 use crate::connecting::Connection;
 use mio::net::UnixStream;
 use roam_hub::Addr;
-use roam_links::SHORT_WAIT;
+use roam_sockets::SHORT_WAIT;
 use roam_terminals::{End, Silence, notice};
 use roam_turns::Ports;
 use std::alloc::Global;

@@ -8,7 +8,7 @@ use roam_cells::Fault;
 use roam_faults::RunFault;
 use roam_frames::Carrier;
 use roam_hub::Addr;
-use roam_links::{Moments, Udp, Waits};
+use roam_sockets::{Moments, Udp, Waits};
 use roam_turns::Ports;
 use std::alloc::Global;
 use std::net::Net;

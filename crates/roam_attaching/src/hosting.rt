@@ -6,7 +6,7 @@ use mio::net::{UnixListener, UnixStream};
 use roam_cells::Fault;
 use roam_faults::RunFault;
 use roam_hub::{Addr, Client};
-use roam_links::{SHORT_WAIT, listen, wait_until};
+use roam_sockets::{SHORT_WAIT, listen, wait_until};
 use roam_terminals::{End, MOST_TERMINALS, Painter, SharedStart};
 use std::alloc::Global;
 use std::fs::{Files, remove_file};

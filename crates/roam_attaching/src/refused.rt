@@ -1,8 +1,9 @@
-//! What a client start failed at, in a line of its own for people.
+//! How a client start ended or what it failed at, in a line of its own for people.
 use crate::attaching::{Attach, Home, Typed};
 use mio::net::UnixStream;
 use roam_faults::RunFault;
-use roam_links::try_listen;
+use roam_sockets::try_listen;
+use roam_terminals::End;
 use std::fs::{self, Files};
 use std::io;
 use std::net::Net;
@@ -89,4 +90,10 @@ pub fn tell_failed<R: Files + Net + Eprint + AllocGlobal>(
         }
         _ => {}
     }
+}
+
+/// Tells in brackets on standard error how a run ended that took all its turns, whose stream of acts was over, or whose server has ended.
+pub fn tell_end(rt: &impl Eprint, end: End) {
+    // There is nowhere else to say it.
+    let _ = eprintln!(rt; "[{end}]");
 }

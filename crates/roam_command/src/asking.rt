@@ -6,7 +6,7 @@ use crate::words::{Refusal, Request, read_words};
 use roam_cells::Fault;
 use roam_faults::{RunFault, end};
 use std::env;
-use std::env::Env;
+use std::env::{Env, FillError};
 use std::io::ErrorKind;
 use std::process::ExitCode;
 
@@ -28,6 +28,16 @@ pub fn asked<'a>(rt: &HostRuntime, words: &'a [String]) -> Result<Request<'a>, E
     match read_words(rt.alloc(), words) {
         Ok(request) => Ok(request),
         Err(refusal) => Err(refuse(rt, refusal)),
+    }
+}
+
+/// Whether the environment asks that a run tells why it ended, by the variable ROAM_WHY: it is there, and not empty.
+pub fn asks_why(env: &impl Env) -> bool {
+    match env.var("ROAM_WHY", &mut [0u8; 16]) {
+        Ok(length) => length > 0,
+        // A value that is longer is none the less there.
+        Err(FillError::TooLong) => true,
+        Err(FillError::NotPresent) => false,
     }
 }
 

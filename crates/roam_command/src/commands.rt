@@ -135,7 +135,7 @@ const ATTACH: Subcommand = Subcommand {
     name: "attach",
     about: "Follows a session and paints it on standard output",
     more: Some(
-        "Where it ends by itself it tells why on standard error, as [the turns are over], and its status is 0.\n\n\
+        "Where it ends by itself its status is 0, and with ROAM_WHY set it tells why on standard error, as [the turns are over].\n\n\
          Example: roam attach --dir ~/.roam --keys keys",
     ),
     options: &[
@@ -246,6 +246,9 @@ pub fn program<'a>(alloc: Global) -> Result<Command<'a>, AllocError> {
         .bin_name("roam")?
         .version("0.1.0")
         .about("A roaming terminal multiplexer")
+        .after_help(
+            "These are the parts; roam mux puts them together, and is what a person starts: roam mux help.",
+        )
         .subcommand_required(true);
     for subcommand in &SUBCOMMANDS {
         program = with_subcommand(alloc, program, subcommand)?;

@@ -8,5 +8,5 @@ mod commands;
 mod options;
 mod words;
 
-pub use asking::{asked, words_of};
+pub use asking::{asked, asks_why, words_of};
 pub use words::{Refusal, Request, Server, Source, Wire, read_words, request_of};

@@ -1,6 +1,6 @@
 -- The files of a server's sockets, and its port.
 use Rattle.std.specs.Prelude.{◌≡◌, ◌⊎◌, ℕ, zero, suc, List, [], ◌∷◌, ◌++◌, Option, Some, None, codes, decimal}
-use Rattle.roam_links.specs.declared.udp.Udp.{Udp}
+use Rattle.roam_sockets.specs.declared.udp.Udp.{Udp}
 
 -- the socket of a pane in a folder
 abbrev pub path_of : List ℕ → ℕ → List ℕ

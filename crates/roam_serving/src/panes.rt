@@ -10,7 +10,7 @@ use mio::{Interest, Registry, Token};
 use roam_acts::limits::{MOST_PANES, PANES_END};
 use roam_cells::Fault;
 use roam_faults::RunFault;
-use roam_links::listen;
+use roam_sockets::listen;
 use std::alloc::Global;
 use std::fs::{Files, remove_file};
 use std::net::Net;

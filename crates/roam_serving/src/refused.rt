@@ -1,6 +1,6 @@
 //! Why a server couldn't be bound, in a line of its own for people.
 use crate::serving::Serve;
-use roam_links::{own_folder, try_listen, try_port};
+use roam_sockets::{own_folder, try_listen, try_port};
 use std::fs::Files;
 use std::net::Net;
 

@@ -3,6 +3,7 @@
 // README: begin
 use roam_attaching::{Attach, Home, Typed, run_attach};
 use roam_faults::RunFault;
+use roam_terminals::End;
 use roam_wire::Version;
 use std::fs::Files;
 use std::io::Write;
@@ -11,12 +12,12 @@ use std::random::RandomSource;
 use std::time::Clock;
 
 /// Is the start of all terminals that connect to a socket, of the session that is served in a folder, for a thousand rounds.
-pub fn share_a_while<R: Files + Net + Clock + RandomSource + Eprint + AllocGlobal, W: Write + Drop>(
+pub fn share_a_while<R: Files + Net + Clock + RandomSource + AllocGlobal, W: Write + Drop>(
     rt: &R,
     folder: &str,
     socket: &str,
     outer: W,
-) -> Result<(), RunFault> {
+) -> Result<End, RunFault> {
     let attach = Attach {
         home: Home::Folder(folder),
         session: None,

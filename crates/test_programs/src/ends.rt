@@ -1,8 +1,10 @@
-//! What a run that failed says on standard error, and its exit status.
+//! What a run that failed says on standard error, and its exit status; and whether more is asked for.
 use roam_cells::Fault;
+use roam_command::asks_why;
 use roam_faults::{RunFault, end};
 use std::alloc::Global;
 use std::cell::Cell;
+use std::env::{Env, FillError};
 use std::fmt::Display;
 use std::io;
 use std::process::ExitCode;
@@ -90,4 +92,50 @@ fn a_run_that_ends_well_says_nothing(rt: HostRuntime) {
     let ear = ear_for(rt.alloc(), "");
     assert!(rt; end(&ear, Ok(())) == ExitCode::SUCCESS);
     assert!(rt; !ear.heard.get());
+}
+
+/// An environment in which ROAM_WHY has this value, or isn't there.
+#[derive(Drop)]
+struct Surroundings {
+    why: Option<&'static str>,
+}
+
+// Copies a value to the beginning of a buffer.
+fn fill(buf: &mut [u8], value: &str) -> Result<usize, FillError> {
+    let length = value.len();
+    if length > buf.len() {
+        return Err(FillError::TooLong);
+    }
+    buf[..length].copy_from_slice(value.as_bytes());
+    Ok(length)
+}
+
+impl Env for Surroundings {
+    fn arg(&self, _i: usize, _buf: &mut [u8]) -> Result<usize, FillError> {
+        Err(FillError::NotPresent)
+    }
+
+    fn var(&self, name: &str, buf: &mut [u8]) -> Result<usize, FillError> {
+        match self.why {
+            Some(value) if name == "ROAM_WHY" => fill(buf, value),
+            _ => Err(FillError::NotPresent),
+        }
+    }
+
+    fn var_at(&self, _i: usize, _buf: &mut [u8]) -> Result<usize, FillError> {
+        Err(FillError::NotPresent)
+    }
+}
+
+#[test]
+fn more_is_told_where_it_is_asked_for(rt: HostRuntime) {
+    let rows = [
+        (None, false),
+        (Some(""), false),
+        (Some("1"), true),
+        (Some("a value of more than sixteen bytes"), true),
+    ];
+    for (why, wanted) in rows {
+        assert!(rt; asks_why(&Surroundings { why }) == wanted, "{why:?}");
+    }
 }

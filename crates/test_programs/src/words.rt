@@ -44,6 +44,8 @@ Commands:
 Options:
   -h, --help     Print help
   -V, --version  Print version
+
+These are the parts; roam mux puts them together, and is what a person starts: roam mux help.
 > 0 roam --version
 roam 0.1.0
 > 2 roam world script
@@ -81,7 +83,7 @@ Options:
     that brings nothing waits up to 10 milliseconds; a busy pane takes thousands a second
   -h, --help                Print help
 
-Where it ends by itself it tells why on standard error, as [the turns are over], and its status is 0.
+Where it ends by itself its status is 0, and with ROAM_WHY set it tells why on standard error, as [the turns are over].
 
 Example: roam attach --dir ~/.roam --keys keys";
 

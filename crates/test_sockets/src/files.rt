@@ -4,8 +4,8 @@
 //! `gone PATH` see whether there is one; `bound FOLDER` binds the sockets of a server there, and leaves their files; `refused FOLDER` may
 //! not bind them.
 use roam_faults::RunFault;
-use roam_links::Moments;
 use roam_serving::{OwnStart, ServerPorts};
+use roam_sockets::Moments;
 use std::fs::{create_dir, exists, remove_file, write};
 use std::os::unix::fs::symlink;
 use std::test::*;

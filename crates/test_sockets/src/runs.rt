@@ -1,6 +1,6 @@
 //! Runs of `roam serve` and `roam attach`: what ends them, and what stays.
 use crate::files::ports_in;
-use roam_attaching::{Attach, Home, Typed, follow_session, run_attach};
+use roam_attaching::{Attach, Home, Typed, run_attach};
 use roam_faults::RunFault;
 use roam_serving::{Serve, run_serve};
 use roam_terminals::End;
@@ -146,7 +146,7 @@ fn end_in(rt: &HostRuntime, folder: &str) -> Result<End, RunFault> {
         session: None,
         ..watching(3, None)
     };
-    follow_session(rt, &attach, Vec::new(rt.alloc()))
+    run_attach(rt, &attach, Vec::new(rt.alloc()))
 }
 
 #[test]
@@ -165,9 +165,9 @@ fn runs_that_reach_a_server_in_a_folder(rt: HostRuntime) -> Result<(), Fail> {
 #[test]
 fn how_a_run_ends(rt: HostRuntime) {
     let painted = Vec::new(rt.alloc());
-    let end = follow_session(&rt, &watching(3, None), painted);
+    let end = run_attach(&rt, &watching(3, None), painted);
     assert!(rt; end == Ok(End::Unheard));
-    let end = follow_session(&rt, &watching(100_000, None), Closed);
+    let end = run_attach(&rt, &watching(100_000, None), Closed);
     assert!(rt; end == Err(RunFault::Write));
 }
 
@@ -176,7 +176,7 @@ fn end_unread(rt: &HostRuntime) -> Result<Result<End, RunFault>, Fail> {
     let (reader, writer) = pipe(rt)?;
     drop(reader);
     let unread = watching(100_000, Some(writer.as_raw_fd()));
-    Ok(follow_session(rt, &unread, Vec::new(rt.alloc())))
+    Ok(run_attach(rt, &unread, Vec::new(rt.alloc())))
 }
 
 #[test]

@@ -5,7 +5,7 @@
 use crate::programs::Programs;
 use mio::net::{UnixListener, UnixStream};
 use roam_hub::Client;
-use roam_links::{listen, loopback};
+use roam_sockets::{listen, loopback};
 use roam_terminals::{Painter, SharedStart};
 use roam_turns::MemoryPorts;
 use std::alloc::Global;

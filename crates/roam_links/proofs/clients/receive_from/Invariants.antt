@@ -1,6 +1,0 @@
-use Rattle.std.proofs.Common.{◌≡◌, length}
-use Rattle.roam_links.specs.Clients.{numbers_of}
-use Rattle.roam_links.proofs.clients.receive_from.Given as goal
-
-abbrev pub invariant-loop-step : goal.invariant-loop-step
-invariant-loop-step l = (numbers_of l.all ≡ numbers_of l.initial.all) × (length l.all ≡ length l.initial.all)

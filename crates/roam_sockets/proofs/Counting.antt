@@ -1,0 +1,55 @@
+-- The numbers of client starts, one more after another.
+use Rattle.std.proofs.Common.{◌≡◌, ℕ, suc, zero, ◌+◌, ◌-◌, ◌≤◌, ◌<◌, Bool, List, [], ◌∷◌, ◌++◌, length, map, refl, sym, ap, subst, ◌∙◌, append_assoc, append-nil, get_or, inl, inr, arith}
+use Rattle.std.specs.List.{Contains, range_with_len}
+use Rattle.std.proofs.lemmas.List.{length-map}
+use Rattle.std.proofs.Math.ListN.{get_or-map}
+use Rattle.roam_sockets.specs.Clients.{Accepts, AcceptsOne, Stays, numbers_of}
+use Rattle.roam_sockets.specs.declared.clients.ClientPeer.{ClientPeer}
+use Rattle.roam_sockets.specs.declared.clients.Clients.{Clients}
+
+range_more : (a n : ℕ) → range_with_len a (suc n) ≡ range_with_len a n ++ (a + n) ∷ []
+range_more a zero = ap (λ x. x ∷ []) (omega arith)
+range_more a (suc n) =
+    let later : a + 1 + n ≡ a + suc n = omega arith in
+    ap (λ t. a ∷ t) (range_more (a + 1) n ∙ ap (λ x. range_with_len (a + 1) n ++ x ∷ []) later)
+
+none_more : (a : ℕ) → range_with_len (a + 1) (a - a) ≡ []
+none_more a = let none : a - a ≡ 0 = omega arith in ap (λ n. range_with_len (a + 1) n) none
+
+pub accepts_none : (old : Clients) → Accepts old old
+accepts_none old = record {
+  rises = omega arith;
+  numbers = sym (ap (λ t. numbers_of old.all.items ++ t) (none_more old.last) ∙ append-nil (numbers_of old.all.items));
+}
+
+one_more : (a b : ℕ) → a ≤ b → range_with_len (a + 1) (b + 1 - a) ≡ range_with_len (a + 1) (b - a) ++ (b + 1) ∷ []
+one_more a b le =
+    let count : b + 1 - a ≡ suc (b - a) = omega arith in
+    let last : a + 1 + (b - a) ≡ b + 1 = omega arith in
+    ap (λ n. range_with_len (a + 1) n) count ∙ range_more (a + 1) (b - a) ∙ ap (λ x. range_with_len (a + 1) (b - a) ++ x ∷ []) last
+
+pub accepts_more : (old mid new : Clients) → Accepts old mid → new.last ≡ mid.last + 1
+    → numbers_of new.all.items ≡ numbers_of mid.all.items ++ (mid.last + 1) ∷ [] → Accepts old new
+accepts_more old mid new so_far last numbers = record {
+  rises = let le = so_far.rises in omega (arith, last);
+  numbers = numbers ∙ ap (λ t. t ++ (mid.last + 1) ∷ []) so_far.numbers
+      ∙ append_assoc (numbers_of old.all.items) (range_with_len (old.last + 1) (mid.last - old.last)) ((mid.last + 1) ∷ [])
+      ∙ ap (λ t. numbers_of old.all.items ++ t) (sym (one_more old.last mid.last so_far.rises))
+      ∙ ap (λ n. numbers_of old.all.items ++ range_with_len (old.last + 1) (n - old.last)) (sym last);
+}
+
+pub accepts_same : (old mid new : Clients) → Accepts old mid → Stays mid new → Accepts old new
+accepts_same old mid new so_far stays = record {
+  rises = let le = so_far.rises in omega (arith, stays.last);
+  numbers = stays.numbers ∙ so_far.numbers ∙ ap (λ n. numbers_of old.all.items ++ range_with_len (old.last + 1) (n - old.last)) (sym stays.last);
+}
+
+pub accepts_one : (old mid new : Clients) → Accepts old mid → AcceptsOne mid new → Accepts old new
+accepts_one old mid new so_far one =
+    elim one [ inl stays ↦ accepts_same old mid new so_far stays | inr came ↦ accepts_more old mid new so_far came.0 came.1 ]
+
+-- the number of the one at a place is among them
+pub contained : (all : List ClientPeer) (at : ℕ) (d : ClientPeer) → at < length all → d ≡ get_or all at d → Contains (numbers_of all) (get_or all at d).number
+contained all at d lt is =
+    let long : length (numbers_of all) ≡ length all = length-map all (λ (peer : ClientPeer). peer.number) in
+    (at, omega (arith, long), ap (λ (p : ClientPeer). get_or (numbers_of all) at p.number) (sym is) ∙ get_or-map (λ (p : ClientPeer). p.number) all at d)

@@ -1,0 +1,229 @@
+//! The streams of client starts at a server's socket.
+ghost use Rattle.std.specs.Prelude.{◌≡◌, ◌⊎◌, ◌++◌, ◌+◌, ◌<◌, ◌≤◌, ◌^◌, ℕ, [], ◌∷◌, true, length, IfErr, IfOk, IfSome, OnErr, OnOk, IsOkUnless, string_bytes};
+ghost use Rattle.std.specs.List.{Contains};
+ghost use Rattle.roam_sockets.specs.Addresses.{address_of, number_of};
+ghost use Rattle.roam_sockets.specs.Clients.{Accepts, AcceptsOne, IsOf, Stays, numbers_of};
+
+use crate::files::listen;
+use crate::waits::Waits;
+use mio::net::{UnixListener, UnixStream};
+use roam_cells::Fault;
+use roam_faults::RunFault;
+use roam_frames::Carrier;
+use roam_hub::Addr;
+use std::alloc::Global;
+use std::fs::{Files, remove_file};
+use std::net::Net;
+
+/// How many may be there at once: the 64 that edit and the 16 that watch, and some that come and go.
+const MOST_PEERS: usize = 96;
+
+/// The first number that is given to none: an address has 40 bits.
+const NUMBERS_END: u64 = 1 << 40;
+
+/// A client start at the other end of a stream, by its number.
+#[derive(Drop)]
+pub(crate) struct ClientPeer {
+    number: u64,
+    carrier: Carrier<UnixStream>,
+}
+
+/// The socket at which client starts reach a server, and the streams of those that are there. Each has an address of network 0, which no
+/// other ever gets.
+#[derive(Drop)]
+pub struct Clients {
+    path: String,
+    listener: UnixListener,
+    all: Vec<ClientPeer>,
+    last: u64,
+    turn: usize,
+}
+
+/// The address of the peer of a number: its low 40 bits, in network 0.
+pub fn address_of(number: u64) -> Addr
+    ensures address { result ≡ address_of number }
+{
+    Addr {
+        host: [
+            0,
+            (number / 0x1_0000_0000 % 256) as u8,
+            (number / 0x100_0000 % 256) as u8,
+            (number / 0x1_0000 % 256) as u8,
+        ],
+        port: (number % 0x1_0000) as u16,
+    }
+}
+
+// The number of the peer at an address, where it is of network 0.
+fn number_of(addr: Addr) -> Option<u64>
+    ensures number { result ≡ number_of addr }
+{
+    let [network, high, middle, low] = addr.host;
+    if network != 0 {
+        return None;
+    }
+    Some(
+        u64::from(high) * 0x1_0000_0000
+            + u64::from(middle) * 0x100_0000
+            + u64::from(low) * 0x1_0000
+            + u64::from(addr.port),
+    )
+}
+
+// A datagram that came from one of them, each asked once from a place on: whose place it is, from where, and how many bytes of `buf` it
+// fills from the front.
+fn receive_from(
+    all: &mut [ClientPeer],
+    first: usize,
+    buf: &mut [u8],
+) -> Option<(usize, Addr, usize)>
+    ensures within { IfSome result (λ r. r.2 ≤ length buf.new) }
+    ensures from { IfSome result (λ r. (number : ℕ) × Contains (numbers_of all.old) number × (r.1 ≡ address_of number)) }
+    ensures stays { numbers_of all.new ≡ numbers_of all.old }
+{
+    for step in 0..all.len() {
+        let at = first.wrapping_add(step) % all.len();
+        if let Some((from, len)) = receive_at(all, at, buf) {
+            return Some((at, from, len));
+        }
+    }
+    None
+}
+
+// A datagram that came from the one at a place.
+fn receive_at(all: &mut [ClientPeer], at: usize, buf: &mut [u8]) -> Option<(Addr, usize)>
+    requires within { at < length all.old }
+    ensures within { IfSome result (λ r. r.1 ≤ length buf.new) }
+    ensures from { IfSome result (λ r. (number : ℕ) × Contains (numbers_of all.old) number × (r.0 ≡ address_of number)) }
+    ensures stays { numbers_of all.new ≡ numbers_of all.old }
+{
+    let peer = &mut all[at];
+    let len = peer.carrier.receive(buf)?;
+    Some((address_of(peer.number), len))
+}
+
+// Queues a datagram for the one at a place.
+fn send_at(all: &mut [ClientPeer], at: usize, bytes: &[u8]) -> bool
+    requires within { at < length all.old }
+    ensures stays { numbers_of all.new ≡ numbers_of all.old }
+{
+    let peer = &mut all[at];
+    peer.carrier.send(bytes)
+}
+
+// Writes what waits for them, and tells whether that was all that goes at this moment.
+fn flush_all(all: &mut [ClientPeer]) -> bool
+    ensures stays { numbers_of all.new ≡ numbers_of all.old }
+{
+    let mut is_all = true;
+    for peer in all.iter_mut() {
+        let is_done = peer.carrier.flush();
+        is_all = is_all && is_done;
+    }
+    is_all
+}
+
+impl Clients {
+    /// Binds the socket at a path; nobody is there yet. `Bind` where it can't be bound.
+    pub fn bind<R: Files + Net>(
+        rt: &R,
+        alloc: Global,
+        waits: &Waits,
+        path: String,
+    ) -> Result<Clients, RunFault>
+        ensures path { IfOk result (λ clients. clients.path ≡ path) }
+        ensures none { IfOk result (λ clients. (clients.all.items ≡ []) × (clients.last ≡ 0)) }
+        ensures faults { IfErr result (λ fault. fault ≡ RunFault.Bind) }
+    {
+        let Some(mut listener) = listen(rt, path.as_str()) else {
+            return Err(RunFault::Bind);
+        };
+        waits.report(&mut listener, false);
+        Ok(Clients {
+            path,
+            listener,
+            all: Vec::new(alloc),
+            last: 0,
+            turn: 0,
+        })
+    }
+
+    // Adds a stream under the next number. Refuses want of memory; then the stream is closed, and its number goes to none.
+    fn add(&mut self, alloc: Global, stream: UnixStream) -> Result<(), Fault>
+        requires numbers { self.old.last < 2 ^ 40 }
+        ensures added { OnOk result ((self.new.last ≡ self.old.last + 1)
+            × (numbers_of self.new.all.items ≡ numbers_of self.old.all.items ++ (self.old.last + 1) ∷ [])) }
+        ensures err { OnErr result (Stays self.old self.new) }
+        ensures fault { IsOkUnless result Fault.OutOfMemory }
+    {
+        let number = self.last + 1;
+        let carrier = Carrier::new(alloc, stream);
+        self.all.push(ClientPeer { number, carrier })?;
+        self.last = number;
+        Ok(())
+    }
+
+    // Takes one that came; where 96 are there, or 2^40 numbers were given, or memory is wanting, it is closed.
+    fn take(&mut self, alloc: Global, waits: &Waits, mut stream: UnixStream)
+        ensures one { AcceptsOne self.old self.new }
+    {
+        if self.all.len() >= MOST_PEERS || self.last >= NUMBERS_END - 1 {
+            return;
+        }
+        waits.report(&mut stream, true);
+        // One for which there is no memory comes again.
+        let _ = self.add(alloc, stream);
+    }
+
+    /// Takes those that wait at the socket; where 96 are there, or 2^40 numbers were given, or memory is wanting, they are closed.
+    pub fn accept(&mut self, alloc: Global, waits: &Waits)
+        ensures accepts { Accepts self.old self.new }
+    {
+        for _ in 0..MOST_PEERS {
+            let Ok((stream, _)) = self.listener.accept() else {
+                return;
+            };
+            self.take(alloc, waits, stream);
+        }
+    }
+
+    /// A datagram that came from one of them, each in its turn: from where, and how many bytes of `buf` it fills from the front.
+    pub fn receive(&mut self, buf: &mut [u8]) -> Option<(Addr, usize)>
+        ensures within { IfSome result (λ r. r.1 ≤ length buf.new) }
+        ensures from { IfSome result (λ r. IsOf self.old r.0) }
+        ensures stays { Stays self.old self.new }
+    {
+        let (at, from, len) = receive_from(&mut self.all, self.turn, buf)?;
+        self.turn = at.wrapping_add(1);
+        Some((from, len))
+    }
+
+    /// Queues a datagram for the one at an address, and tells whether it did: it is lost where nobody is there any more, and where much
+    /// waits for who is.
+    pub fn send(&mut self, to: Addr, bytes: &[u8]) -> bool
+        ensures stays { Stays self.old self.new }
+    {
+        let Some(number) = number_of(to) else {
+            return false;
+        };
+        match self.all.iter().position(|peer| peer.number == number) {
+            Some(at) => send_at(&mut self.all, at, bytes),
+            None => false,
+        }
+    }
+
+    /// Writes what waits for them, as much as goes now, and lets those go that left. Tells whether that was all that goes at this moment.
+    pub fn flush(&mut self) -> bool
+        ensures last { self.new.last ≡ self.old.last }
+    {
+        let is_all = flush_all(&mut self.all);
+        self.all.retain(|peer| !peer.carrier.is_over());
+        is_all
+    }
+
+    /// Removes the socket's file.
+    pub fn remove(&self, files: &impl Files) {
+        // A file that somebody removed before is no matter.
+        let _ = remove_file(files, self.path.as_str());
+    }
+}

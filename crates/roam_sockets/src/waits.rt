@@ -1,0 +1,142 @@
+//! The wait for what comes.
+ghost use Rattle.std.specs.Prelude.{◌≡◌, ◌⊎◌, ◌&&◌, ◌||◌, true, false, IfErr, IfOk};
+ghost use Rattle.mio.specs.Events.{items};
+ghost use Rattle.roam_sockets.specs.Waits.{tell_of_no_reader, wait_until};
+
+use mio::event::Source;
+use mio::unix::SourceFd;
+use mio::{Events, Interest, Poll, Registry, Token};
+use roam_cells::Fault;
+use roam_faults::RunFault;
+use std::alloc::Global;
+use std::net::Net;
+use std::os::fd::RawFd;
+use std::time::Duration;
+
+/// How many milliseconds a program waits where something was refused that was due: there may be memory for it then.
+pub const SHORT_WAIT: u64 = 10;
+
+/// How many milliseconds it waits at most.
+const LONGEST_WAIT: u64 = 3_600_000;
+
+/// How many sources a wait reports at most; more are reported by the next.
+const MOST_EVENTS: usize = 32;
+
+/// What a descriptor that is watched is reported under; all else is under another.
+const WATCHED: Token = Token(1);
+
+/// The wait for what comes: which sources report to it, and whether anything came since the last one. A source reports once, so a program
+/// waits only where each has answered that it brings nothing at this moment.
+#[derive(Drop)]
+pub struct Waits {
+    poll: Poll,
+    events: Events<Global>,
+    quiet: bool,
+    unread: bool,
+}
+
+/// How many milliseconds may be waited from a moment on for what is due at another, if ever, after all that was due before was done: ten
+/// where it is due already, an hour at most.
+pub fn wait_until(due: Option<u64>, now: u64) -> u64
+    ensures wait { result ≡ wait_until due now }
+{
+    match due {
+        None => LONGEST_WAIT,
+        Some(due) if due <= now => SHORT_WAIT,
+        Some(due) => LONGEST_WAIT.min(due - now),
+    }
+}
+
+// Whether a wait reported that nobody reads the descriptor any more that is watched.
+fn tell_of_no_reader(events: &Events<Global>) -> bool
+    ensures told { result ≡ tell_of_no_reader (items events.now) }
+{
+    events.iter().any(|event| event.token() == WATCHED && event.is_write_closed())
+}
+
+impl Waits {
+    /// No source reports yet, and nothing came. `Bind` where the system has none to offer, `OutOfMemory`.
+    pub fn new(net: &impl Net, alloc: Global) -> Result<Waits, RunFault>
+        ensures quiet { IfOk result (λ waits. waits.quiet ≡ true) }
+        ensures unread { IfOk result (λ waits. waits.unread ≡ false) }
+        ensures faults { IfErr result (λ fault. (fault ≡ RunFault.Bind) ⊎ (fault ≡ RunFault.Core Fault.OutOfMemory)) }
+    {
+        let Ok(events) = Events::with_capacity(alloc, MOST_EVENTS) else {
+            return Err(RunFault::Core(Fault::OutOfMemory));
+        };
+        let Ok(poll) = Poll::new(net) else {
+            return Err(RunFault::Bind);
+        };
+        Ok(Waits {
+            poll,
+            events,
+            quiet: true,
+            unread: false,
+        })
+    }
+
+    /// What sources report to.
+    pub fn registry(&self) -> &Registry {
+        self.poll.registry()
+    }
+
+    /// Lets a wait end where a source brings something, and, of one that is written to, where it takes something again.
+    pub fn report<S: Source>(&self, source: &mut S, is_written: bool)
+        ensures kept { S.keeps source.old source.new ⊎ (source.new ≡ source.old) }
+    {
+        let interests = if is_written {
+            Interest::READABLE | Interest::WRITABLE
+        } else {
+            Interest::READABLE
+        };
+        // Where it isn't reported, a wait ends by its time alone.
+        let _ = self.poll.registry().register(source, Token(0), interests);
+    }
+
+    /// Watches a descriptor that is written to: a wait ends where nobody reads it any more.
+    pub fn watch(&mut self, descriptor: RawFd)
+        ensures same { self.new ≡ self.old }
+    {
+        // What can't be watched, as a file, is never without a reader.
+        let _ = self
+            .poll
+            .registry()
+            .register(&mut SourceFd(&descriptor), WATCHED, Interest::PRIORITY);
+    }
+
+    /// Whether nobody reads the descriptor any more that is watched.
+    pub fn is_unread(&self) -> bool
+        ensures unread { result ≡ self.now.unread }
+    {
+        self.unread
+    }
+
+    /// Whether nothing came since the last wait.
+    pub fn is_quiet(&self) -> bool
+        ensures quiet { result ≡ self.now.quiet }
+    {
+        self.quiet
+    }
+
+    /// Notes that something came, so that there is no wait.
+    pub fn stir(&mut self)
+        ensures stirs { self.new ≡ record self.old { quiet = false } }
+    {
+        self.quiet = false;
+    }
+
+    /// Waits until something comes, so many milliseconds at most, where nothing came since the last call.
+    pub fn rest(&mut self, longest: u64)
+        ensures quiet { self.new.quiet ≡ true }
+        ensures unread { self.new.unread ≡ (self.old.unread || (self.old.quiet && tell_of_no_reader (items self.new.events))) }
+    {
+        if self.quiet {
+            // A wait that fails is over at once.
+            let _ = self
+                .poll
+                .poll(&mut self.events, Some(Duration::from_millis(longest)));
+            self.unread = self.unread || tell_of_no_reader(&self.events);
+        }
+        self.quiet = true;
+    }
+}
