@@ -15,7 +15,7 @@ GUESSING = ("adaptive", "always", "never")
 # Keys after the prefix that are acts, and those that are wishes. An arrow is the wish to have the pane there in focus.
 BINDINGS = {"o": "next", **{str(pane): f"focus {pane}" for pane in range(1, 10)}}
 WISHES = {"%": "split right", '"': "split down", "x": "close", "d": "detach", "r": "repaint", "?": "help", "up": "up", "down": "down",
-          "left": "left", "right": "right"}
+          "left": "left", "right": "right", "\x1a": "suspend"}
 GROWTH = {"C-right": "grow 1", "C-down": "grow 1", "C-left": "grow -1", "C-up": "grow -1"}
 
 # For so many seconds after a growth the next needs no prefix.
@@ -40,6 +40,7 @@ C-b and then:
   C-arrows grow the pane along its split (right, down), or shrink it (left, up); again within half a second without C-b
   [ PgUp   scroll: PgUp PgDn up down g G; q, Escape, C-c or Return ends it
   d        detach: the session goes on
+  C-z      suspend: the shell that started this is there again, until `fg`
   r        size the session to this terminal and paint all anew
   ?        this help
   C-b      C-b itself"""
@@ -63,7 +64,9 @@ def chosen_guessing(asked=None):
 
 def help_with(prefix):
     """The help, where a key of this name is the prefix."""
-    return HELP.replace(PREFIX, prefix)
+    # A prefix that is typed twice is itself, and nothing else.
+    lines = [line for line in HELP.split("\n") if prefix == PREFIX or not line.startswith(f"  {prefix} ")]
+    return "\n".join(lines).replace(PREFIX, prefix)
 
 
 def spelled(name):
