@@ -1,5 +1,5 @@
-# Completion of roam, mux, attach, pane_shells and relay for bash: source this file, or put it into a folder of bash-completion under each of
-# the names.
+# Completion of roam, mux, attach, pane_shells and relay for bash: source this file, or put it into a folder of bash-completion under
+# each of the names.
 
 # The names of the sessions that run, by the mux whose words these are.
 _roam_mux_names() {
@@ -11,7 +11,8 @@ _roam_mux_words="attach new ls list watch kill send capture ssh help --help --ve
 # The acts that a client types, a line each; a number, a size or a character is left to the person.
 _roam_acts() {
     printf '%s\n' 'char ' 'split right' 'split down' close next 'grow ' 'size ' 'view ' 'key return' 'key backspace'
-    printf 'key %s\n' up down right left pf{1..4} find insert remove select prev next f{6..20} pad{0..9} padminus padcomma padperiod padenter
+    printf 'key %s\n' up down right left pf{1..4} find insert remove select prev next f{6..20}
+    printf 'key %s\n' pad{0..9} padminus padcomma padperiod padenter
     printf 'focus %s\n' {1..9}
 }
 

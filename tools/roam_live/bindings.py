@@ -5,7 +5,7 @@ from roam_live.keys import acts_of
 # Keys after the prefix that are acts, and those that are wishes. An arrow is the wish to have the pane there in focus.
 BINDINGS = {"o": "next", **{str(pane): f"focus {pane}" for pane in range(1, 10)}}
 WISHES = {"%": "split right", '"': "split down", "x": "close", "d": "detach", "r": "repaint", "?": "help", "up": "up", "down": "down",
-          "left": "left", "right": "right"}
+          "left": "left", "right": "right", "\x1a": "suspend"}
 GROWTH = {"C-right": "grow 1", "C-down": "grow 1", "C-left": "grow -1", "C-up": "grow -1"}
 
 # For so many seconds after a growth the next needs no prefix.
@@ -31,6 +31,7 @@ C-b and then:
            up); again within half a second without C-b
   [ PgUp   scroll: PgUp PgDn up down g G; q, Escape, C-c or Return ends it
   d        detach: the session goes on
+  C-z      suspend: the shell that started this is there again, until `fg`
   r        size the session to this terminal, which cuts what is wider, and
            paint all anew
   ?        these keys, until the next key
@@ -39,7 +40,9 @@ C-b and then:
 
 def help_with(prefix):
     """The help, where a key of this name is the prefix."""
-    return HELP.replace(PREFIX, prefix)
+    # A prefix that is typed twice is itself, and nothing else.
+    lines = [line for line in HELP.split("\n") if prefix == PREFIX or not line.startswith(f"  {prefix} ")]
+    return "\n".join(lines).replace(PREFIX, prefix)
 
 
 def spelled(name):

@@ -39,7 +39,7 @@ class Client:
 
     def __init__(self, place, watches, prefix, guessing, is_new):
         self.place = place
-        self.wakeup = woken(signal.SIGWINCH, signal.SIGCONT, *LEAVING)
+        self.wakeup = woken(signal.SIGWINCH, signal.SIGCONT, signal.SIGTSTP, *LEAVING)
         served = place.process(place.served)
         self.server = opened_process(served) if served else None
         self.shells = ShellsWatch(place)
@@ -101,14 +101,27 @@ class Client:
         self.display.resized()
         self.moments.later("size", SIZES, self.commands.fit)
 
+    def continued(self):
+        """Takes the terminal again, which another may have had."""
+        self.display.enter_again()
+        self.resized()
+
+    def suspended(self, numbers):
+        """Gives the terminal back, stops, and takes it again; tells the signals that are left of these and of those that came meanwhile."""
+        self.display.outer.suspend()
+        self.continued()
+        return [number for number in [*numbers, *(read(self.wakeup) or b"")] if number not in (signal.SIGTSTP, signal.SIGCONT)]
+
     def signalled(self):
         """Goes by the signals that came."""
-        for number in read(self.wakeup) or b"":
+        numbers = read(self.wakeup) or b""
+        if signal.SIGTSTP in numbers and self.left is None:
+            numbers = self.suspended(numbers)
+        for number in numbers:
             if number == signal.SIGWINCH:
                 self.resized()
             elif number == signal.SIGCONT:
-                self.display.enter_again()
-                self.resized()
+                self.continued()
             elif number in LEAVING:
                 self.leave("[terminated]", 128 + number)
 
@@ -124,7 +137,7 @@ class Client:
         if link.peer:
             sources += [link] if len(outer.waiting) < PAINTED_LIMIT else []
             targets += [link] if link.waiting else []
-        waits = [wait for wait in (self.moments.wait_time(), self.shells.wait_time()) if wait is not None]
+        waits = [wait for wait in (self.moments.wait_time(), self.shells.wait_time(), self.bells.wait_time()) if wait is not None]
         return select.select(sources, targets, [], min(waits, default=None))[0]
 
     def turn(self):

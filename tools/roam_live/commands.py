@@ -1,4 +1,6 @@
 """What a person at a terminal types, and what comes of it: acts for the session, and what the client does itself."""
+import os
+import signal
 import time
 
 from roam_live import terminal
@@ -99,6 +101,9 @@ class Commands:
         """Does what the client itself is asked for."""
         if wish == "detach":
             self.leave("[detached]")
+        elif wish == "suspend":
+            # The signal comes as from elsewhere, once what was typed is taken.
+            os.kill(os.getpid(), signal.SIGTSTP)
         elif wish == "repaint":
             self.ask_size()
             self.display.resettle()

@@ -1,6 +1,7 @@
 """What a person's terminal shows: a session as it is painted, lines in place of it, or a line over its last row."""
 import contextlib
 import os
+import signal
 import time
 
 from roam_live import terminal
@@ -41,6 +42,15 @@ class Outer:
         """Takes the terminal again, after a shell had it while this was stopped."""
         terminal.make_raw(0)
         self.waiting += terminal.ENTERED
+
+    def suspend(self):
+        """Brings back what stood there, and stops this process with its group, as C-z does for others; returns once it is continued. The
+        system doesn't stop a group that no shell could continue."""
+        self.leave("")
+        os.set_blocking(self.end, False)
+        handled = signal.signal(signal.SIGTSTP, signal.SIG_DFL)
+        os.kill(0, signal.SIGTSTP)
+        signal.signal(signal.SIGTSTP, handled)
 
     def leave(self, line):
         """Brings back what stood there, and says a line below it."""

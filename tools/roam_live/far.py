@@ -49,14 +49,15 @@ def is_first_start(session):
 
 
 def carry(name, started):
-    """Carries a session's datagrams over standard input and output. One that the other end knew and that has ended isn't started anew; a
-    call starts another, under its lock."""
+    """Carries a session's datagrams over standard input and output. One that the other end knew and that has ended isn't started anew;
+    whether another runs, or was begun halfway, a call tells under its lock."""
     wanted = read_greeting(0)
     session = Session.named(name)
     if wanted == "-":
         with session.locked():
-            session = started(name)
-    elif not session.runs() or session.id() != wanted:
+            if not started(session):
+                session.start()
+    elif not session.find() or session.id() != wanted:
         os.write(1, greeting("0"))
         return 0
     words = [str(TOOLS / "relay"), "--far", "--greeted", "--server", str(session.process("server")), "--dir", str(session.folder), "-"]

@@ -1,7 +1,10 @@
-"""Which programs run in a session's panes."""
+"""Which programs run in a session's panes, and where."""
+from __future__ import annotations
+
 import contextlib
 import os
 import pathlib
+from collections.abc import Iterable
 
 from roam_live.words import printable
 
@@ -47,6 +50,24 @@ def foreground(process):
         name = ""
     # A program may have given itself any name, also none.
     return printable(name) or "a program"
+
+
+def group_in_front(terminal: int) -> int | None:
+    """The process group that has a pseudo-terminal, by its other end; None where none has."""
+    try:
+        return os.tcgetpgrp(terminal) or None
+    except OSError:
+        return None
+
+
+def working_folder(processes: Iterable[int | None]) -> str:
+    """The working folder of the first of these processes of which it can be read and is there still; nothing where there is none."""
+    for process in processes:
+        with contextlib.suppress(OSError):
+            folder = os.readlink(f"/proc/{process}/cwd")
+            if os.path.isdir(folder):
+                return folder
+    return ""
 
 
 def is_shell(name):

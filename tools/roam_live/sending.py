@@ -93,7 +93,7 @@ def demand_acts(session, acts):
     words = Home(folder=str(session.folder)).attach_words(["--keys", "/dev/stdin", "--turns", "0"])
     ran = subprocess.run(words, input=os.fsencode(lines), stdout=subprocess.DEVNULL, stderr=subprocess.PIPE, check=False)
     if ran.returncode:
-        said = ran.stderr.decode("utf-8", "replace").strip()
+        said = ran.stderr.decode("utf-8", "replace").strip().partition("\n")[0]
         line = re.fullmatch(r"roam: line (\d+): .*", said)
         raise Fault(f"{acts[int(line[1]) - 1]!r} is no act; the page roam(1) lists them. None was typed" if line else said)
 
