@@ -23,8 +23,8 @@ class Layout:
 
     def __init__(self, places: Places):
         self.places = places
-        # The numbers of the panes, and whether each has the place that was told.
-        self.panes, self.is_told = set(places.rects), True
+        # How many panes there are, and their numbers where these are known; and whether each has the place that was told.
+        self.count, self.panes, self.is_told = len(places.rects), set(places.rects), True
 
     def wrong(self, act: str) -> str:
         """Why an act can't be done; nothing where it can, or that isn't known. What is known goes by the act then."""
@@ -33,11 +33,11 @@ class Layout:
             self.is_told = False
             return wrong_size(*map(int, rest))
         does = {"focus": self.focused, "split": self.split, "close": self.closed, "grow": self.grown, "next": self.passed}.get(word)
-        return does(*rest) if does and self.panes else ""
+        return does(*rest) if does and self.count else ""
 
     def focused(self, pane: str) -> str:
         """Goes on with a pane in focus, or tells why it can't be."""
-        if int(pane) not in self.panes:
+        if self.panes is not None and int(pane) not in self.panes:
             return f"there is no pane {pane}"
         self.places = self.places._replace(focus=int(pane))
         return ""
@@ -49,28 +49,31 @@ class Layout:
 
     def split(self, way: str) -> str:
         """Goes on with a pane more, which has the smallest free number and the focus, or tells why there can't be one."""
-        if len(self.panes) >= MOST_PANES:
+        if self.count >= MOST_PANES:
             return f"there are {MOST_PANES} panes, and no more"
         why = self.places.unsplit(way) if self.is_told else ""
-        if not why:
+        if why:
+            return why
+        self.count, self.is_told, pane = self.count + 1, False, 0
+        if self.panes is not None:
             pane = next(pane for pane in range(1, MOST_PANES + 1) if pane not in self.panes)
             self.panes.add(pane)
-            self.places, self.is_told = self.places._replace(focus=pane), False
-        return why
-
-    def closed(self) -> str:
-        """Goes on without the pane in focus; the last one stays."""
-        if len(self.panes) == 1:
-            return "the last pane goes with its shell"
-        # Which pane has the focus then isn't known, and which one is gone only where that was.
-        self.panes -= {self.places.focus or next(iter(self.panes))}
-        self.places, self.is_told = self.places._replace(focus=0), False
+        self.places = self.places._replace(focus=pane)
         return ""
 
+    def closed(self) -> str:
+        """Goes on without the pane in focus, or tells that the last one stays. Which one has the focus then isn't known."""
+        if self.count == 1:
+            return "the last pane goes with its shell"
+        if self.panes is not None:
+            self.panes = self.panes - {self.places.focus} if self.places.focus in self.panes else None
+        self.count, self.is_told = self.count - 1, False
+        return self.passed()
+
     def grown(self, _: str) -> str:
-        """Goes on with other places; the only pane has none but its own."""
+        """Goes on with other places, or tells that the only pane has none but its own."""
         self.is_told = False
-        return "there is one pane, which has all room" if len(self.panes) == 1 else ""
+        return "there is one pane, which has all room" if self.count == 1 else ""
 
 
 def wrong_size(rows: int, cols: int) -> str:

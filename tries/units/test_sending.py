@@ -14,7 +14,7 @@ DONE = (
     (ONE, ["char 61", "key return", "split right", "focus 2", "size 24 80", "close"]), (ONE, ["size 4 8"]), (ONE, ["size 200 500"]),
     (ONE, ["view -500", "next"]), (TWO, ["focus 1", "grow 5", "close"]), (ONE, ["split right", "split down", "focus 3", "focus 1"]),
     (TWO, ["close", "split down", "focus 2"]), (NOTHING, ["focus 7", "close", "split right"]), (TWO, ["next", "close"]),
-    (NINE, ["close", "split right"]),
+    (NINE, ["close", "split right"]), (TWO, ["next", "close", "focus 1"]), (TWO, ["next", "close", "focus 2", "split right", "focus 9"]),
 )
 NOT_DONE = (
     (ONE, ["size 1 1"], "'size 1 1' can't be done: a session has 4 to 200 rows and 8 to 500 columns"),
