@@ -138,6 +138,9 @@ class Session(Processes):
 
     def busy(self):
         """The panes in which another program than a shell runs, and its name."""
+        if self.state is None:
+            with contextlib.suppress(Fault):
+                self.find()
         shells = self.process("shells")
         return busy_panes(shells) if shells else {}
 
