@@ -24,6 +24,9 @@ COUNT = struct.Struct(">cQ")
 # The kinds of what the ends tell each other.
 HAD, ENDED, RECTS, BELL = b"h", b"e", b"p", b"b"
 
+# An end by which the server was killed; an earlier end of a relay knows it as nothing.
+KILLED = ENDED + b"k"
+
 # So many bytes at most are on their way, and what came is told after so many.
 WINDOW = 1 << 17
 TOLD_AFTER = 1 << 14

@@ -349,6 +349,8 @@ class NearSession(Session):
         """What is said where the relay has ended, and the status."""
         if self.met and self.ended() == end_words(*self.met):
             return "[the relay was ended; the session goes on at the other machine]", 0
+        if self.ended() == "killed":
+            return "[the server was killed, or has failed, and its session is gone]", 1
         if (self.folder / "ended").exists():
             return "[the session has ended]", 0
         return f"[the relay has ended; {self.log} tells why]", 1
