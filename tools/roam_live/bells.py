@@ -21,8 +21,9 @@ MOST_FOLLOWERS = 16
 # So many seconds after who told bells has ended, or was refused, the socket is connected to again.
 AGAIN = 1.0
 
-# A line that tells a bell: panes are 1 to 9.
+# A line that tells a bell: panes are 1 to 9. And one that tells something else, in printable ASCII.
 TOLD = re.compile(r"bell ([1-9])")
+SAID = re.compile(r"say ([ -~]{1,200})")
 
 
 class Bells:
@@ -96,9 +97,17 @@ class BellSource:
         if now < self.rung_at.get(pane, 0.0) + APART:
             return
         self.rung_at[pane] = now
+        self.send(f"bell {pane}")
+
+    def say(self, text: str):
+        """Tells something in words, in printable ASCII."""
+        self.send(f"say {text}")
+
+    def send(self, line: str):
+        """Sends a line to all who follow; who doesn't take it is let go."""
         for peer in list(self.followers):
             try:
-                peer.send(f"bell {pane}\n".encode())
+                peer.send(f"{line}\n".encode("ascii", "replace"))
             except OSError:
                 self.drop(peer)
 
@@ -124,6 +133,8 @@ class BellFollower:
         self.lines = Lines()
         # When the socket may be connected to again.
         self.again_at = 0.0
+        # What was said in words, and not taken yet.
+        self.words: list[str] = []
 
     def connect(self):
         """Connects where somebody of this user tells bells: not again within a second of an end, so that one who ends each connection at
@@ -155,5 +166,11 @@ class BellFollower:
         if piece == b"":
             self.peer.close()
             self.peer, self.again_at = None, time.monotonic() + AGAIN
-        found = [TOLD.fullmatch(line) for line in self.lines.fed(piece or b"")]
-        return [int(line[1]) for line in found if line]
+        lines = self.lines.fed(piece or b"")
+        self.words += [found[1] for found in map(SAID.fullmatch, lines) if found][-1:]
+        return [int(found[1]) for found in map(TOLD.fullmatch, lines) if found]
+
+    def said(self) -> list[str]:
+        """What was said in words since this was asked last."""
+        words, self.words = self.words, []
+        return words
