@@ -76,7 +76,7 @@ def session_named(name: str) -> Session:
 
 def sessions_here() -> list[Session]:
     """The sessions of which there are folders, by name: those of other machines behind those of this one."""
-    folders = sorted(path for path in base().iterdir() if path.is_dir())
+    folders = sorted(path for path in base().iterdir() if path.is_dir() and len(str(path / "terminals")) <= LONGEST_PATH)
     own = [Session(path) for path in folders if NAME.fullmatch(path.name)]
     return own + [NearSession(path) for path in folders if NEAR_NAME.fullmatch(path.name)]
 
