@@ -64,6 +64,8 @@ class BellSource:
         self.followers = []
         self.rung_at = {}
         self.deaf_until = 0.0
+        # What each who comes is told in words.
+        self.standing = ""
 
     def sources(self):
         """What is to be read: those that come, and the ends of those that are there. Where as many follow as may, who comes waits."""
@@ -88,6 +90,8 @@ class BellSource:
         if is_own_peer(peer):
             peer.setblocking(False)
             self.followers.append(peer)
+            if self.standing:
+                self.send(f"say {self.standing}", [peer])
         else:
             peer.close()
 
@@ -103,9 +107,9 @@ class BellSource:
         """Tells something in words, in printable ASCII."""
         self.send(f"say {text}")
 
-    def send(self, line: str):
-        """Sends a line to all who follow; who doesn't take it is let go."""
-        for peer in list(self.followers):
+    def send(self, line: str, peers: list | None = None):
+        """Sends a line to those of who follow, or to all of them; who doesn't take it is let go."""
+        for peer in list(self.followers if peers is None else peers):
             try:
                 peer.send(f"{line}\n".encode("ascii", "replace"))
             except OSError:

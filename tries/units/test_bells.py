@@ -123,6 +123,12 @@ class Bells(unittest.TestCase):
         self.source.say("pane 3 isn't sh\u00f6wn")
         self.assertEqual(self.heard(one), [])
         self.assertEqual((one.said(), one.said()), (["pane 3 isn't sh?wn"], []))
+        self.source.standing = "one for who comes"
+        late = self.follower()
+        self.turns()
+        self.heard(late)
+        self.heard(one)
+        self.assertEqual((one.said(), late.said()), ([], ["one for who comes"]))
         self.source.followers[0].send(b"say one\nsay \x1b]0;x\x07\nsay " + b"x" * 300 + b"\nsay two\n")
         self.heard(one)
         self.assertEqual(one.said(), ["two"])
