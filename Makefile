@@ -47,7 +47,9 @@ try: all
 	tools/clauses
 	tools/names
 	tools/two_processes
+	tries/unit
 	tools/try_live
+	tools/try_faults
 
 PREFIX ?= /usr/local
 installed = $(DESTDIR)$(PREFIX)
@@ -59,6 +61,7 @@ install: all
 	install -d $(installed)/bin $(installed)/lib/roam/roam_live $(installed)/share/man/man1 $(completions)
 	install crates/roam/out/roam tools/attach tools/mux tools/pane_shells tools/picture tools/relay $(installed)/lib/roam
 	install -m 644 $(filter-out $(tried),$(wildcard tools/roam_live/*.py)) $(installed)/lib/roam/roam_live
+	cd $(installed)/lib/roam && python3 -m compileall -q -f -d $(PREFIX)/lib/roam/roam_live roam_live
 	install tools/installed $(installed)/bin/roam
 	ln -sf ../lib/roam/mux $(installed)/bin/roam-mux
 	ln -sf ../lib/roam/attach $(installed)/bin/roam-attach
@@ -70,6 +73,7 @@ install: all
 	install -m 644 tools/completion.bash $(completions)/roam
 	ln -sf roam $(completions)/roam-mux
 	ln -sf roam $(completions)/roam-attach
+	ln -sf roam $(completions)/roam-pane-shells
 	ln -sf roam $(completions)/roam-relay
 
 clean:

@@ -1,4 +1,5 @@
-# Completion of roam, mux, attach and relay for bash: source this file, or put it into a folder of bash-completion under each of the names.
+# Completion of roam, mux, attach, pane_shells and relay for bash: source this file, or put it into a folder of bash-completion under
+# each of the names.
 
 # The names of the sessions that run, by the mux whose words these are.
 _roam_mux_names() {
@@ -7,9 +8,38 @@ _roam_mux_names() {
 
 _roam_mux_words="attach new ls list watch kill send capture ssh help --help --version"
 
+# The acts that a client types, a line each; a number, a size or a character is left to the person.
+_roam_acts() {
+    printf '%s\n' 'char ' 'split right' 'split down' close next 'grow ' 'size ' 'view ' 'key return' 'key backspace'
+    printf 'key %s\n' up down right left pf{1..4} find insert remove select prev next f{6..20}
+    printf 'key %s\n' pad{0..9} padminus padcomma padperiod padenter
+    printf 'focus %s\n' {1..9}
+}
+
+# Completes an act, which is one word for the shell: what has a space is quoted.
+_roam_act() {
+    local word=${1#[\"\']} act
+    word=${word//\\/}
+    COMPREPLY=()
+    while IFS= read -r act; do
+        [[ $act != "$word"* ]] || COMPREPLY+=("$act")
+    done < <(_roam_acts)
+    compopt -o filenames 2> /dev/null
+}
+
+# Completes a folder, or one of these words.
+_roam_folder() {
+    mapfile -t COMPREPLY < <(compgen -d -- "$1"; compgen -W "$2" -- "$1")
+    compopt -o filenames 2> /dev/null
+}
+
 _roam_mux() {
-    local word=${COMP_WORDS[COMP_CWORD]} words= mux=("${COMP_WORDS[0]}")
-    [ "${COMP_WORDS[1]}" != mux ] || mux+=(mux)
+    local word=${COMP_WORDS[COMP_CWORD]} words= mux=("${COMP_WORDS[0]}") first=1
+    [ "${COMP_WORDS[1]}" != mux ] || { mux+=(mux) first=2; }
+    if [ "${COMP_WORDS[first]}" = send ] && [ "$COMP_CWORD" -gt "$((first + 1))" ]; then
+        _roam_act "$word"
+        return
+    fi
     case ${COMP_WORDS[COMP_CWORD - 1]} in
     ssh) mapfile -t COMPREPLY < <(compgen -A hostname -W "--ssh --far --guess --help" -- "$word") && return ;;
     mux | roam-mux | */mux | */roam-mux) words="$_roam_mux_words $(_roam_mux_names "${mux[@]}")" ;;
@@ -28,16 +58,33 @@ _roam_mux() {
 _roam_attach() {
     local word=${COMP_WORDS[COMP_CWORD]}
     case ${COMP_WORDS[COMP_CWORD - 1]} in
-    --dir) mapfile -t COMPREPLY < <(compgen -d -- "$word") ;;
+    --dir) _roam_folder "$word" "" ;;
     --guess) mapfile -t COMPREPLY < <(compgen -W "adaptive always never" -- "$word") ;;
-    *) mapfile -t COMPREPLY < <(compgen -W "--watch --guess --dir --server --help" -- "$word") ;;
+    --server) COMPREPLY=() ;;
+    *) _roam_folder "$word" "--watch --guess --dir --server --help" ;;
+    esac
+}
+
+_roam_pane_shells() {
+    local word=${COMP_WORDS[COMP_CWORD]} place
+    # Behind the folder stands a command.
+    for ((place = 1; place < COMP_CWORD; place++)); do
+        case ${COMP_WORDS[place]} in
+        --server) place=$((place + 1)) ;;
+        -*) ;;
+        *) mapfile -t COMPREPLY < <(compgen -c -- "$word") && return ;;
+        esac
+    done
+    case ${COMP_WORDS[COMP_CWORD - 1]} in
+    --server) COMPREPLY=() ;;
+    *) _roam_folder "$word" "--close --server --again --help" ;;
     esac
 }
 
 _roam_relay() {
     local word=${COMP_WORDS[COMP_CWORD]}
     case ${COMP_WORDS[COMP_CWORD - 1]} in
-    --dir) mapfile -t COMPREPLY < <(compgen -d -- "$word") ;;
+    --dir) _roam_folder "$word" "" ;;
     --log) mapfile -t COMPREPLY < <(compgen -f -- "$word") ;;
     *) mapfile -t COMPREPLY < <(compgen -W "--far --with --alone --log --dir --session --server --help" -- "$word") ;;
     esac
@@ -58,7 +105,7 @@ _roam() {
     esac
     [ "$COMP_CWORD" -gt 1 ] || words="mux serve attach show world --help --version"
     case ${COMP_WORDS[COMP_CWORD - 1]} in
-    --dir) mapfile -t COMPREPLY < <(compgen -d -- "$word") ;;
+    --dir) _roam_folder "$word" "" ;;
     --keys | --acts | --terminals) mapfile -t COMPREPLY < <(compgen -f -- "$word") ;;
     --wire) mapfile -t COMPREPLY < <(compgen -W "1 2" -- "$word") ;;
     *) mapfile -t COMPREPLY < <(compgen -W "$words" -- "$word") ;;
@@ -68,4 +115,5 @@ _roam() {
 complete -F _roam roam
 complete -F _roam_mux mux roam-mux
 complete -F _roam_attach attach roam-attach
+complete -F _roam_pane_shells pane_shells roam-pane-shells
 complete -F _roam_relay relay roam-relay

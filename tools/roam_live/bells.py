@@ -1,12 +1,14 @@
 """Bells of panes: found in what programs write, told at a socket in the session's folder, and followed there. A screen has no place for
 them."""
+from __future__ import annotations
+
 import contextlib
 import os
 import re
 import time
 
 from roam_live.carriers import listening
-from roam_live.program import Lines, connected_now, read
+from roam_live.program import Fault, Lines, connected_now, is_own_peer, read, reason, say
 
 # An escape with one of these begins a control string, in which a bell doesn't ring. A bell ends one, and so do these and any escape.
 BEGINS = b"]PX^_"
@@ -15,6 +17,13 @@ ENDS = re.compile(rb"[\x18\x1a]")
 # A pane rings once in so many seconds, for so many at most who follow.
 APART = 1.0
 MOST_FOLLOWERS = 16
+
+# So many seconds after who told bells has ended, or was refused, the socket is connected to again.
+AGAIN = 1.0
+
+# A line that tells a bell: panes are 1 to 9. And one that tells something else, in printable ASCII.
+TOLD = re.compile(r"bell ([1-9])")
+SAID = re.compile(r"say ([ -~]{1,200})")
 
 
 class Bells:
@@ -47,33 +56,49 @@ class Bells:
 
 
 class BellSource:
-    """The socket at which bells are told, in lines `bell P`."""
+    """The socket at which bells are told, in lines `bell P`. Where it can't be had that is told, and nobody follows."""
 
     def __init__(self, folder):
         self.path = os.path.join(folder, "bells")
-        self.listener = listening(self.path)
+        self.listener = self.made = None
+        try:
+            self.listener = listening(self.path)
+            self.made = os.lstat(self.path)
+        except (Fault, OSError) as fault:
+            say(f"no bells are told: {reason(fault)}")
         self.followers = []
         self.rung_at = {}
         self.deaf_until = 0.0
+        # What each who comes is told in words.
+        self.standing = ""
 
     def sources(self):
-        """What is to be read: those that come, and the ends of those that are there."""
-        return ([self.listener] if time.monotonic() >= self.deaf_until else []) + self.followers
+        """What is to be read: those that come, and the ends of those that are there. Where as many follow as may, who comes waits."""
+        is_open = self.listener and len(self.followers) < MOST_FOLLOWERS and time.monotonic() >= self.deaf_until
+        return ([self.listener] if is_open else []) + self.followers
 
     def turn(self, readable):
         """Takes who comes, and lets go who has left."""
-        if self.listener in readable:
-            try:
-                peer = self.listener.accept()[0]
-                peer.setblocking(False)
-                self.followers.append(peer)
-            except OSError:
-                # Where no descriptor is left who comes waits.
-                self.deaf_until = time.monotonic() + APART
+        if self.listener and self.listener in readable:
+            self.accept()
         for peer in [peer for peer in self.followers if peer in readable and read(peer.fileno()) == b""]:
             self.drop(peer)
-        for peer in self.followers[MOST_FOLLOWERS:]:
-            self.drop(peer)
+
+    def accept(self):
+        """Takes who comes, where it is of this user."""
+        try:
+            peer = self.listener.accept()[0]
+        except OSError:
+            # Where no descriptor is left who comes waits.
+            self.deaf_until = time.monotonic() + APART
+            return
+        if is_own_peer(peer):
+            peer.setblocking(False)
+            self.followers.append(peer)
+            if self.standing:
+                self.send(f"say {self.standing}", [peer])
+        else:
+            peer.close()
 
     def tell(self, pane):
         """Tells of a bell; one that follows another too soon isn't told."""
@@ -81,9 +106,17 @@ class BellSource:
         if now < self.rung_at.get(pane, 0.0) + APART:
             return
         self.rung_at[pane] = now
-        for peer in list(self.followers):
+        self.send(f"bell {pane}")
+
+    def say(self, text: str):
+        """Tells something in words, in printable ASCII."""
+        self.send(f"say {text}")
+
+    def send(self, line: str, peers: list | None = None):
+        """Sends a line to those of who follow, or to all of them; who doesn't take it is let go."""
+        for peer in list(self.followers if peers is None else peers):
             try:
-                peer.send(f"bell {pane}\n".encode())
+                peer.send(f"{line}\n".encode("ascii", "replace"))
             except OSError:
                 self.drop(peer)
 
@@ -94,10 +127,14 @@ class BellSource:
 
     def close(self):
         """Closes the socket, and removes it."""
-        for peer in [self.listener, *self.followers]:
+        for peer in self.followers:
             peer.close()
-        with contextlib.suppress(OSError):
-            os.unlink(self.path)
+        if self.listener:
+            self.listener.close()
+            with contextlib.suppress(OSError):
+                # Another session's may be there by now.
+                if self.made and os.path.samestat(self.made, os.lstat(self.path)):
+                    os.unlink(self.path)
 
 
 class BellFollower:
@@ -107,11 +144,31 @@ class BellFollower:
         self.path = folder and os.path.join(folder, "bells")
         self.peer = None
         self.lines = Lines()
+        # When the socket may be connected to again.
+        self.again_at = 0.0
+        # What was said in words, and not taken yet.
+        self.words: list[str] = []
+
+    def connect(self):
+        """Connects where somebody of this user tells bells: not again within a second of an end, so that one who ends each connection at
+        once takes no processor."""
+        if self.peer or not self.path or time.monotonic() < self.again_at:
+            return
+        self.again_at = 0.0
+        try:
+            self.peer, self.lines = connected_now(self.path), Lines()
+        except PermissionError:
+            self.again_at = time.monotonic() + AGAIN
+        except OSError:
+            pass
+
+    def wait_time(self) -> float | None:
+        """How long until it is connected to again; None where that waits for no moment."""
+        return max(0.0, self.again_at - time.monotonic()) if self.again_at and not self.peer else None
 
     def sources(self):
         """What is to be read. Who tells bells may come, and come again, at any time."""
-        with contextlib.suppress(OSError):
-            self.peer = self.peer or (connected_now(self.path) if self.path else None)
+        self.connect()
         return [self.peer] if self.peer else []
 
     def rung(self, readable):
@@ -121,6 +178,12 @@ class BellFollower:
         piece = read(self.peer.fileno())
         if piece == b"":
             self.peer.close()
-            self.peer = None
-        words = [line.split() for line in self.lines.fed(piece or b"")]
-        return [int(line[1]) for line in words if len(line) == 2 and line[0] == "bell" and line[1].isdigit()]
+            self.peer, self.again_at = None, time.monotonic() + AGAIN
+        lines = self.lines.fed(piece or b"")
+        self.words += [found[1] for found in map(SAID.fullmatch, lines) if found][-1:]
+        return [int(found[1]) for found in map(TOLD.fullmatch, lines) if found]
+
+    def said(self) -> list[str]:
+        """What was said in words since this was asked last."""
+        words, self.words = self.words, []
+        return words

@@ -1,21 +1,11 @@
 """What a person's keys ask for: acts, and wishes that the client itself grants."""
-import os
-import string
-
+from roam_live.choices import PREFIX, PREFIXES
 from roam_live.keys import acts_of
-from roam_live.program import Fault
-
-# The keys that may be the prefix, by their names, and the one that is where nobody chose another.
-PREFIXES = {f"C-{letter}": chr(ord(letter) & 31) for letter in string.ascii_lowercase + "]\\^_"}
-PREFIX = "C-b"
-
-# When what keys are guessed to show is shown before the session has shown it; where nothing says so it is the first of them.
-GUESSING = ("adaptive", "always", "never")
 
 # Keys after the prefix that are acts, and those that are wishes. An arrow is the wish to have the pane there in focus.
 BINDINGS = {"o": "next", **{str(pane): f"focus {pane}" for pane in range(1, 10)}}
 WISHES = {"%": "split right", '"': "split down", "x": "close", "d": "detach", "r": "repaint", "?": "help", "up": "up", "down": "down",
-          "left": "left", "right": "right"}
+          "left": "left", "right": "right", "\x1a": "suspend"}
 GROWTH = {"C-right": "grow 1", "C-down": "grow 1", "C-left": "grow -1", "C-up": "grow -1"}
 
 # For so many seconds after a growth the next needs no prefix.
@@ -37,33 +27,22 @@ C-b and then:
   o        the next pane
   1 to 9   the pane of this number
   arrows   the pane there
-  C-arrows grow the pane along its split (right, down), or shrink it (left, up); again within half a second without C-b
+  C-arrows grow the pane along its split (right, down), or shrink it (left,
+           up); again within half a second without C-b
   [ PgUp   scroll: PgUp PgDn up down g G; q, Escape, C-c or Return ends it
   d        detach: the session goes on
-  r        size the session to this terminal and paint all anew
-  ?        this help
+  C-z      suspend: the shell that started this is there again, until `fg`
+  r        size the session to this terminal, which cuts what is wider, and
+           paint all anew
+  ?        these keys, until the next key
   C-b      C-b itself"""
-
-
-def chosen_prefix():
-    """The name of the prefix: that of the environment's ROAM_PREFIX, where it is there."""
-    name = os.environ.get("ROAM_PREFIX") or PREFIX
-    if name not in PREFIXES:
-        raise Fault(f"ROAM_PREFIX is {name!r}, and may be C-a to C-z, C-], C-\\, C-^ or C-_")
-    return name
-
-
-def chosen_guessing(asked=None):
-    """When guesses are shown: as asked, else as the environment's ROAM_GUESS says, where it is there."""
-    name = asked or os.environ.get("ROAM_GUESS") or GUESSING[0]
-    if name not in GUESSING:
-        raise Fault(f"ROAM_GUESS is {name!r}, and may be adaptive, always or never")
-    return name
 
 
 def help_with(prefix):
     """The help, where a key of this name is the prefix."""
-    return HELP.replace(PREFIX, prefix)
+    # A prefix that is typed twice is itself, and nothing else.
+    lines = [line for line in HELP.split("\n") if prefix == PREFIX or not line.startswith(f"  {prefix} ")]
+    return "\n".join(lines).replace(PREFIX, prefix)
 
 
 def spelled(name):

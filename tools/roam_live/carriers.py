@@ -2,7 +2,7 @@
 import os
 import socket
 
-from roam_live.program import read, write
+from roam_live.program import Fault, is_listened, read, write
 
 # A datagram has a header of 42 bytes, which begins with these letters, and 1 to 1,200 behind it.
 LETTERS = b"RM"
@@ -68,7 +68,9 @@ class Carrier:
 
 
 def listening(path):
-    """A socket at which clients of a session are waited for; one that is left there is removed."""
+    """A socket at which clients of a session are waited for; one that is left there is removed, but where somebody listens."""
+    if is_listened(path):
+        raise Fault(f"somebody listens at {path} already")
     try:
         os.unlink(path)
     except FileNotFoundError:

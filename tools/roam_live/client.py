@@ -3,7 +3,6 @@ import contextlib
 import re
 import select
 import signal
-import time
 
 from roam_live.bells import BellFollower
 from roam_live.bindings import NEWEST
@@ -18,8 +17,9 @@ from roam_live.watches import ShellsWatch
 PAINTED_LIMIT = 1 << 16
 TYPED_LIMIT = 1 << 24
 
-# While a terminal is drawn larger by hand it has hundreds of sizes: the session gets one in so many seconds, and the last.
-SIZES = 0.1
+# While a terminal is drawn larger by hand it has hundreds of sizes: the session gets one that has stood for so many seconds. Of one that it
+# had got before a smaller followed it would be cut.
+SIZES = 0.3
 
 # How often it is looked whether the server is there, where no process is known.
 PROBES = 2.0
@@ -29,16 +29,17 @@ LOSS_TOLD = 3.0
 
 LEAVING = (signal.SIGTERM, signal.SIGHUP, signal.SIGINT)
 
-# What the start tells of a silent server, with what follows it: the key that leaves is told there.
-SILENCE = re.compile(rb"(roam: no answer for \d+ s)(\x1b\[0m)")
+# What the start tells of a silent server, with what follows it: the key that leaves is told there. By its beginning it is nothing that a
+# pane shows: a painting saves no cursor.
+SILENCE = re.compile(rb"(\x1b7\x1b\[\?7l\x1b\[999;1H\x1b\[0;7mroam: no answer for \d+ s)(\x1b\[0m)")
 
 
 class Client:
     """A person at a terminal, and the session there."""
 
-    def __init__(self, place, watches, prefix, guessing):
+    def __init__(self, place, watches, prefix, guessing, is_new):
         self.place = place
-        self.wakeup = woken(signal.SIGWINCH, signal.SIGCONT, *LEAVING)
+        self.wakeup = woken(signal.SIGWINCH, signal.SIGCONT, signal.SIGTSTP, *LEAVING)
         served = place.process(place.served)
         self.server = opened_process(served) if served else None
         self.shells = ShellsWatch(place)
@@ -47,7 +48,7 @@ class Client:
         self.keeper = Keeper(place, self.link)
         self.moments = Moments()
         self.display = Display(self.moments, lambda: self.link.say("repaint"))
-        self.commands = Commands(place, self.link, self.display, self.moments, self.leave)
+        self.commands = Commands(place, self.link, self.display, self.moments, self.leave, is_new)
         self.commands.choose(prefix)
         self.left, self.status = None, 0
 
@@ -71,7 +72,7 @@ class Client:
         self.commands.paused = False
         self.display.cover = ""
         self.display.begin()
-        self.commands.ask_size()
+        self.commands.fit_first()
         self.commands.act(*([] if self.commands.typing.left() else [NEWEST]))
         if loss:
             self.display.tell(loss, LOSS_TOLD)
@@ -98,17 +99,29 @@ class Client:
     def resized(self):
         """Goes by a new size of the terminal."""
         self.display.resized()
-        if "size" not in self.moments.due:
-            self.moments.later("size", max(0.0, self.commands.size_asked + SIZES - time.monotonic()), self.commands.ask_size)
+        self.moments.later("size", 0.0 if self.commands.is_fresh() else SIZES, self.commands.fit)
+
+    def continued(self):
+        """Takes the terminal again, which another may have had."""
+        self.display.enter_again()
+        self.resized()
+
+    def suspended(self, numbers):
+        """Gives the terminal back, stops, and takes it again; tells the signals that are left of these and of those that came meanwhile."""
+        self.display.outer.suspend()
+        self.continued()
+        return [number for number in [*numbers, *(read(self.wakeup) or b"")] if number not in (signal.SIGTSTP, signal.SIGCONT)]
 
     def signalled(self):
         """Goes by the signals that came."""
-        for number in read(self.wakeup) or b"":
+        numbers = read(self.wakeup) or b""
+        if signal.SIGTSTP in numbers and self.left is None:
+            numbers = self.suspended(numbers)
+        for number in numbers:
             if number == signal.SIGWINCH:
                 self.resized()
             elif number == signal.SIGCONT:
-                self.display.enter_again()
-                self.resized()
+                self.continued()
             elif number in LEAVING:
                 self.leave("[terminated]", 128 + number)
 
@@ -124,7 +137,7 @@ class Client:
         if link.peer:
             sources += [link] if len(outer.waiting) < PAINTED_LIMIT else []
             targets += [link] if link.waiting else []
-        waits = [wait for wait in (self.moments.wait_time(), self.shells.wait_time()) if wait is not None]
+        waits = [wait for wait in (self.moments.wait_time(), self.shells.wait_time(), self.bells.wait_time()) if wait is not None]
         return select.select(sources, targets, [], min(waits, default=None))[0]
 
     def turn(self):
@@ -146,6 +159,8 @@ class Client:
             self.display.tell(said, LOSS_TOLD)
         for pane in self.bells.rung(readable):
             self.commands.ring(pane)
+        for words in self.bells.said():
+            self.display.tell(words, LOSS_TOLD)
         # What is at hand goes at once, where it is taken: a person waits for each key.
         if outer.waiting and not write(outer.end, outer.waiting):
             self.leave("", 1)
@@ -157,6 +172,8 @@ class Client:
         piece = link.painted() if link in readable else None
         if piece:
             self.display.painted(SILENCE.sub(rb"\1; %s d leaves\2" % self.commands.prefix.encode(), piece))
+            if not self.commands.is_fitted and "size" not in self.moments.due:
+                self.moments.later("size", SIZES, self.commands.fit_first)
         if piece == b"" or link.peer and link.waiting and not link.send():
             self.lost()
 
@@ -177,12 +194,13 @@ class Client:
         return self.status
 
 
-def follow(place, watches, prefix, guessing):
-    """Has a person follow a session at this terminal, and tells the status; guesses are shown always, where that helps, or never."""
+def follow(place, watches, prefix, guessing, is_new=lambda: False):
+    """Has a person follow a session at this terminal, and tells the status; guesses are shown always, where that helps, or never. Where the
+    session is new, which may be known a moment later, it gets this terminal's size, whatever that is."""
     note = None
     try:
         note = noted_client(place.folder, "watches" if watches else "edits")
-        return Client(place, watches, prefix, guessing).run()
+        return Client(place, watches, prefix, guessing, is_new).run()
     finally:
         place.close()
         if note:

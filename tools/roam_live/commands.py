@@ -1,9 +1,12 @@
 """What a person at a terminal types, and what comes of it: acts for the session, and what the client does itself."""
+import os
+import signal
 import time
 
 from roam_live import terminal
-from roam_live.bindings import Typing, help_with, spelled
+from roam_live.bindings import NEWEST, Typing, help_with, spelled
 from roam_live.keys import Keys
+from roam_live.program import has_others
 from roam_live.programs import told
 from roam_live.rects import BESIDE
 
@@ -13,24 +16,36 @@ ESCAPE_WAIT = 0.025
 # So many seconds after a command that moves the focus it may not be told where it is.
 UNTOLD = 1.0
 
+# The wishes that are granted while something stands in the session's place. Nothing is typed then, since nobody would see where it goes.
+UNDER_COVER = ("detach", "suspend", "repaint", "help", "no", "scrolled")
+
+# So many seconds a line stands that tells how the session is made as large as the terminal.
+FITS_TOLD = 3.0
+
+# For so many seconds a session is new, and goes by its terminal's size, whatever that is: a window may get its size once it is there.
+NEW = 2.0
+
 
 class Commands:
     """The keys of one person, and what they ask for."""
 
-    def __init__(self, place, link, display, moments, leave):
+    def __init__(self, place, link, display, moments, leave, is_new=lambda: False):
         self.place, self.link, self.display, self.moments, self.leave = place, link, display, moments, leave
         self.keys = Keys()
         self.prefix = "C-b"
         self.typing = Typing()
         self.help = help_with(self.prefix)
         self.paused = False
-        self.size_asked = 0.0
+        # Whether the session is new, and whether it and this terminal were fitted to each other once, as far as that may be.
+        self.is_new, self.is_fitted, self.new_until = is_new, False, 0.0
         # When a command of this person moved the focus, from which pane, and to which, where that is known.
         self.moved_at, self.moved_from, self.moved_to = 0.0, 0, None
 
     def choose(self, prefix):
         """Makes the key of a name the prefix."""
         self.prefix, self.typing, self.help = prefix, Typing(prefix), help_with(prefix)
+        self.display.fits_line = "" if self.link.watches else f"{prefix} r fits this terminal, and cuts what is wider"
+        self.display.leaves_line = f"{prefix} d leaves"
 
     def fed(self, piece):
         """Takes bytes that were typed."""
@@ -42,14 +57,25 @@ class Commands:
     def typed(self, keys):
         """Takes keys."""
         for key in keys:
-            if self.paused:
-                self.leave("[left]" if key.name in ("\x03", "q") else None)
-            elif self.display.cover == self.help:
+            is_help = self.display.cover == self.help
+            if is_help:
                 self.display.uncover()
-            else:
-                acts, wish = self.typing.asked(key, time.monotonic(), self.display.outer.size()[0])
-                self.act(*acts)
-                self.grant(wish, key)
+            # A key that ends the help means nothing else, unless it begins something.
+            if not is_help or key.name in (self.typing.prefix, "paste"):
+                self.take(key)
+
+    def take(self, key):
+        """Takes a key. Under a cover nothing is typed; the prefix means there what it always does."""
+        acts, wish = self.typing.asked(key, time.monotonic(), self.display.outer.size()[0])
+        if self.paused:
+            is_pasted = self.typing.mode == self.typing.pasting
+            self.leave("[left]" if wish == "detach" or key.name in ("\x03", "q") and not is_pasted else None)
+            return
+        if self.display.cover:
+            acts = [act for act in acts if act == NEWEST]
+            wish = "no" if wish == "yes" else wish if wish in UNDER_COVER else ""
+        self.act(*acts)
+        self.grant(wish, key)
 
     def act(self, *acts):
         """Has acts typed, by who doesn't only watch."""
@@ -78,9 +104,12 @@ class Commands:
         """Does what the client itself is asked for."""
         if wish == "detach":
             self.leave("[detached]")
+        elif wish == "suspend":
+            # The signal comes as from elsewhere, once what was typed is taken.
+            os.kill(os.getpid(), signal.SIGTSTP)
         elif wish == "repaint":
             self.ask_size()
-            self.display.repaint()
+            self.display.resettle()
         elif wish == "help":
             self.display.show(self.help)
         elif wish == "unknown":
@@ -103,13 +132,45 @@ class Commands:
             self.display.end_told()
 
     def ask_size(self):
-        """Gives the session this terminal's size, where it may have it."""
-        self.size_asked = time.monotonic()
+        """Gives the session this terminal's size, where it may have it: what is wider than that is cut for good."""
         size = self.display.outer.size()
         if not terminal.is_large_enough(size):
             self.display.hide()
-        else:
+        elif not self.link.watches:
+            self.display.size_asked(terminal.largest(size))
             self.act(terminal.size_act(size))
+
+    def session_size(self):
+        """The rows and columns that the session has at most, by what was painted and what is told; 0 where nothing is known."""
+        told, painted = self.place.places().size(), self.display.extent.size
+        return max(told[0], painted[0]), max(told[1], painted[1])
+
+    def fit_first(self):
+        """Fits the session to this terminal, once something is known of it: a new one has nothing yet that could be cut."""
+        if self.is_fitted:
+            return
+        self.is_fitted = self.session_size() != (0, 0) or not terminal.is_large_enough(self.display.outer.size())
+        if self.is_new():
+            self.is_fitted, self.new_until = True, time.monotonic() + NEW
+        self.fit()
+
+    def is_fresh(self):
+        """Whether the session is so new that it goes by this terminal's size."""
+        return time.monotonic() < self.new_until
+
+    def fit(self):
+        """Has the session grow to this terminal's size, where that cuts nothing and covers nobody else's terminal; a new one is given it."""
+        size, own = self.session_size(), terminal.largest(self.display.outer.size())
+        if self.is_fresh():
+            self.ask_size()
+        elif not self.display.fits():
+            self.display.hide()
+        elif self.link.watches or size == (0, 0) or own == size or own[0] < size[0] or own[1] < size[1]:
+            return
+        elif has_others(self.place.folder):
+            self.display.tell(f"{size[0]} by {size[1]}, as another terminal has it; {self.prefix} r fits this one", FITS_TOLD)
+        else:
+            self.ask_size()
 
     def ring(self, pane):
         """Rings, and tells of a pane that isn't in focus."""

@@ -1,12 +1,17 @@
 """What a person's terminal shows: a session as it is painted, lines in place of it, or a line over its last row."""
 import contextlib
 import os
+import signal
+import time
 
 from roam_live import terminal
 from roam_live.program import Fault, write
+from roam_live.words import printable
 
-# A session that is larger than the terminal isn't shown once it has been so for so long.
+# So many seconds a session has for a size that it was given; then a line tells of one that is larger than the terminal. Where it hasn't
+# that size after so many more, its panes have no room in it.
 SETTLES = 0.5
+REFUSES = 2.0
 
 # So many seconds a line stands over the last row.
 TOLD = 1.0
@@ -38,11 +43,20 @@ class Outer:
         terminal.make_raw(0)
         self.waiting += terminal.ENTERED
 
+    def suspend(self):
+        """Brings back what stood there, and stops this process with its group, as C-z does for others; returns once it is continued. The
+        system doesn't stop a group that no shell could continue."""
+        self.leave("")
+        os.set_blocking(self.end, False)
+        handled = signal.signal(signal.SIGTSTP, signal.SIG_DFL)
+        os.kill(0, signal.SIGTSTP)
+        signal.signal(signal.SIGTSTP, handled)
+
     def leave(self, line):
         """Brings back what stood there, and says a line below it."""
         self.waiting.clear()
         os.set_blocking(self.end, True)
-        self.waiting += terminal.LEFT + (f"{line}\r\n".encode() if line else b"")
+        self.waiting += terminal.LEFT + (f"{printable(line)}\r\n".encode() if line else b"")
         while self.waiting and write(self.end, self.waiting):
             pass
         terminal.restore(0, self.modes)
@@ -58,6 +72,11 @@ class Display:
         self.held = b""
         self.is_stale = True
         self.cover = self.told = ""
+        # Whether a session is hidden that is larger than the terminal; the size that it was given last, until when it may get that, and
+        # whether it was refused it.
+        self.is_hidden, self.given, self.settled_at, self.is_refused = False, (0, 0), 0.0, False
+        # What tells which key fits the session to this terminal, where that may be, and which leaves.
+        self.fits_line = self.leaves_line = ""
 
     def begin(self):
         """What is painted next is a start's first painting."""
@@ -68,16 +87,16 @@ class Display:
         """Takes what was painted."""
         if self.extent.fed(piece):
             self.moments.drop("repaint")
-        if self.extent.fits(self.outer.size()):
-            self.moments.drop("hide")
-        elif "hide" not in self.moments.due and not self.cover:
-            self.moments.later("hide", SETTLES, self.hide)
         text = self.fresh(piece)
-        if not self.cover:
+        if self.extent.size == self.given:
+            self.moments.drop("refused")
+        if not self.fits():
+            self.hide()
+        elif self.is_hidden and self.is_only_small():
+            self.uncover()
+        elif not self.cover:
             self.outer.waiting += text
             self.put_told()
-        elif self.is_only_small():
-            self.uncover()
 
     def fresh(self, piece):
         """What of a piece may reach the terminal: nothing before the reset that begins what is painted anew, and no reset."""
@@ -102,34 +121,75 @@ class Display:
         """Shows lines in place of the session."""
         self.cover = text
         rows, cols = self.outer.size()
-        lines = "\r\n".join(line[: max(1, cols - 1)] for line in text.split("\n")[: max(1, rows)])
-        self.outer.waiting += terminal.CLEARED + lines.encode()
+        lines = [part for line in text.split("\n") for part in wrapped(printable(line), max(1, cols - 1))][: max(1, rows)]
+        self.outer.waiting += terminal.CLEARED + terminal.unwrapped("\r\n".join(lines))
 
     def uncover(self):
-        """Shows the session again."""
-        self.cover = ""
+        """Shows the session again, where it fits."""
+        self.cover, self.is_refused = "", False
         self.outer.waiting += terminal.CLEARED
-        self.repaint()
+        self.moments.drop("hide")
+        self.is_hidden = not self.fits()
+        if self.is_hidden:
+            self.tell_small()
+        else:
+            self.repaint()
 
     def repaint(self):
         """Has all painted anew."""
         self.is_stale, self.held = True, b""
         self.ask()
 
-    def is_only_small(self):
-        """Whether what hides the session is a terminal that was too small, and isn't any more."""
+    def fits(self):
+        """Whether the terminal is large enough for the session, as far as that is known, and for any."""
         size = self.outer.size()
-        return self.cover.startswith(TOO_SMALL) and terminal.is_large_enough(size) and self.extent.fits(size)
+        return terminal.is_large_enough(size) and self.extent.fits(size)
 
     def hide(self):
-        """Shows a line in place of a session that is larger than the terminal."""
+        """Shows nothing of a session that is larger than the terminal; a line tells so, unless it may still get another size."""
+        self.is_hidden = True
+        left = self.settled_at - time.monotonic()
+        if left > 0 and terminal.is_large_enough(self.outer.size()):
+            self.moments.later("hide", left, self.tell_small)
+        else:
+            self.tell_small()
+
+    def tell_small(self):
+        """Tells that the terminal is too small, and the keys for it, where nothing else is told in the session's place."""
+        text = self.small_text()
+        if self.is_hidden and not self.fits() and self.cover != text and self.is_only_small():
+            self.show(text)
+
+    def is_only_small(self):
+        """Whether nothing but a terminal that is too small is told in the session's place."""
+        return not self.cover or self.cover.startswith(TOO_SMALL)
+
+    def small_text(self):
+        """What is told of a terminal that is too small."""
         rows, cols = self.outer.size()
-        need = self.extent.size if terminal.is_large_enough((rows, cols)) else terminal.LEAST
-        self.show(f"{TOO_SMALL}: {rows} by {cols} of {need[0]} by {need[1]}")
+        is_possible = terminal.is_large_enough((rows, cols))
+        need = self.extent.size if is_possible else terminal.LEAST
+        way = "its panes have no room here" if self.is_refused else self.fits_line
+        lines = [f"{TOO_SMALL}: {rows} by {cols} of {need[0]} by {need[1]}", way if is_possible else "", self.leaves_line]
+        return "\n".join(filter(None, lines))
+
+    def size_asked(self, size):
+        """Waits for a size that the session was given."""
+        self.given, self.settled_at, self.is_refused = size, time.monotonic() + SETTLES, False
+        self.moments.later("refused", SETTLES + REFUSES, self.refused)
+
+    def refused(self):
+        """Tells where the session hasn't got the size that it was given."""
+        self.is_refused = not self.fits()
+        self.tell_small()
 
     def resized(self):
         """Goes by a new size of the terminal."""
-        if self.is_only_small():
+        self.is_refused = False
+        self.moments.drop("refused")
+        if not self.fits():
+            self.hide()
+        elif self.is_hidden and self.is_only_small():
             self.uncover()
         elif self.cover:
             self.show(self.cover)
@@ -137,7 +197,7 @@ class Display:
 
     def resettle(self):
         """Paints all anew, where the session's new size hasn't had that done."""
-        if not self.cover:
+        if not self.cover and not self.is_hidden:
             self.repaint()
 
     def ring(self):
@@ -158,11 +218,11 @@ class Display:
 
     def put_told(self):
         """Writes that line, where the terminal isn't in the middle of something."""
-        if self.told and not self.cover and self.extent.is_between():
+        if self.told and not self.cover and not self.is_hidden and self.extent.is_between():
             rows, cols = self.outer.size()
             row, width = min(self.extent.size[0] or rows, rows), min(self.extent.size[1] or cols, cols)
-            line = self.told[:width].ljust(width)
-            self.outer.waiting += f"\x1b7\x1b[{row};1H\x1b[0;7m{line}\x1b[0m\x1b8".encode("utf-8", "replace")
+            line = printable(self.told)[:width].ljust(width)
+            self.outer.waiting += b"\x1b7" + terminal.unwrapped(f"\x1b[{row};1H\x1b[0;7m{line}\x1b[0m") + b"\x1b8"
 
     def end_told(self):
         """Shows the session's last row again."""
@@ -170,3 +230,14 @@ class Display:
         if self.told:
             self.told = ""
             self.resettle()
+
+
+def wrapped(line: str, width: int) -> "list[str]":
+    """The rows of so many columns that a line takes, cut between words where it can be."""
+    rows = []
+    while len(line) > width:
+        cut = line.rfind(" ", 1, width + 1)
+        is_between = cut > 0 and line[:cut].strip() != ""
+        rows.append(line[: cut if is_between else width].rstrip())
+        line = line[cut + 1 if is_between else width :]
+    return [*rows, line]

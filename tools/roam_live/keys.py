@@ -1,14 +1,11 @@
 """Bytes of the outer terminal as keys, and keys as acts. The spellings are those of xterm, of the VT220 and of what stands between."""
 import codecs
 import re
-from typing import NamedTuple
+from collections import namedtuple
 
 
-class Key(NamedTuple):
+class Key(namedtuple("Key", "name text")):
     """A key: its name, which of a character is itself, and the text that the terminal sent for it."""
-
-    name: str
-    text: str
 
 
 # The keys that have an act of their own: what a pane's program is sent for them hangs on its modes.

@@ -147,6 +147,8 @@ class Keeper:
         try:
             self.link.connect()
             return None
+        except PermissionError as fault:
+            return self.failed(f"{self.link.path}: {reason(fault)}")
         except OSError as fault:
             why = reason(fault)
         now = time.monotonic()
@@ -165,7 +167,7 @@ class Keeper:
         try:
             self.place.revive()
         except (Fault, OSError) as fault:
-            return self.failed(f"no client start can be started: {reason(fault)}")
+            return self.failed(reason(fault).removeprefix(f"session {self.place.name}: "))
         self.begun_at = now
         return STEP, ""
 

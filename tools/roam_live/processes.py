@@ -1,18 +1,38 @@
 """The processes that belong to a session: who keeps them has a note of each in the session's folder, and a log of what they say."""
+from __future__ import annotations
+
 import contextlib
 import fcntl
 import json
 import os
 import pathlib
 import signal
-import subprocess
 import time
+from collections.abc import Iterator
 
-from roam_live.program import SAID_AFTER, Fault, begun, is_running, replace_text, say
+from roam_live.logs import make_room
+from roam_live.program import SAID_AFTER, Fault, Peer, begun, connected_in, is_own_folder, is_running, reason, replace_text, say
 
 # How long a process has for what it brings, and how long for its end.
 START_WAIT = 10.0
 END_WAIT = 2.0
+
+# So many seconds who listens at a socket of the folder has for taking a connection, by which it is known.
+ASK_WAIT = 0.5
+
+# The roles of processes, in words.
+ROLES = {"server": "the server", "relay": "the relay", "shells": "what keeps the shells", "terminals": "the client start"}
+
+# So much of what a process said that didn't start is told at most.
+SAID_MOST = 500
+
+
+def is_note(state: object) -> bool:
+    """Whether this may be a note: words, with each process and the moment at which it began."""
+    if not isinstance(state, dict):
+        return False
+    noted = [state[role] for role in ROLES if role in state]
+    return all(isinstance(one, list) and len(one) == 2 and type(one[0]) is int and type(one[1]) in (int, type(None)) for one in noted)
 
 
 class Processes:
@@ -29,14 +49,17 @@ class Processes:
         self.log = self.folder / "log"
         # The processes that this one started, which it takes note of once they have ended.
         self.own = {}
+        # The process that serves, and when it began, as it ran when it was last looked at.
+        self.met = [server, begun(server)] if server else None
         self.read()
 
     def read(self):
-        """Reads what was noted of it."""
+        """Reads what was noted of it: nothing where the note isn't whole."""
         try:
-            self.state = json.loads(self.note.read_text(encoding="utf-8"))
+            state = json.loads(self.note.read_text(encoding="utf-8"))
         except (OSError, ValueError):
-            self.state = None
+            state = None
+        self.state = state if is_note(state) else None
 
     def process(self, role):
         """The process of a role; None where none runs."""
@@ -46,46 +69,105 @@ class Processes:
         if own:
             own.poll()
         noted = (self.state or {}).get(role)
-        return noted[0] if noted and is_running(*noted) else None
+        if not noted or not is_running(*noted):
+            return None
+        if role == self.served:
+            self.met = noted
+        return noted[0]
 
     def runs(self, role=None):
         """Whether the process of a role runs, that which serves where none is named."""
         return self.process(role or self.served) is not None
 
+    def listener(self, name: str) -> int | None:
+        """The process that listens at a socket of the folder; None where nobody of this user does."""
+        path = self.folder / name
+        try:
+            with connected_in(path, ASK_WAIT) as end:
+                process = Peer.of(end).process
+        except BlockingIOError as fault:
+            raise Fault(f"somebody listens at {path} and takes no connection; nothing is done there") from fault
+        except OSError:
+            return None
+        if not process:
+            raise Fault(f"who listens at {path} is no process of this machine's own list; nothing is done there")
+        return process
+
+    # ---- the lock
+
     @contextlib.contextmanager
     def locked(self, may_wait=True):
         """Makes its folder, and keeps others from starting what belongs to it; BlockingIOError tells of another where that may not wait."""
-        self.folder.mkdir(mode=0o700, exist_ok=True)
-        lock = os.open(self.folder / "lock", os.O_RDWR | os.O_CREAT | os.O_CLOEXEC, 0o600)
+        lock = self.taken_lock(may_wait)
         try:
-            try:
-                fcntl.flock(lock, fcntl.LOCK_EX | fcntl.LOCK_NB)
-            except BlockingIOError:
-                if not may_wait:
-                    raise
-                self.wait_for_lock(lock)
             self.read()
             yield
         finally:
             os.close(lock)
 
-    def wait_for_lock(self, lock):
+    def taken_lock(self, may_wait: bool) -> int:
+        """The lock, once this process has it: that of the folder that is there by then, since the one before may have been removed."""
+        while True:
+            lock = self.opened_lock()
+            try:
+                self.wait_for_lock(lock, may_wait)
+                if self.is_lock(lock):
+                    return lock
+            except BaseException:
+                os.close(lock)
+                raise
+            os.close(lock)
+
+    def opened_lock(self) -> int:
+        """The lock's file, which is made where it isn't there; a folder of another user is refused."""
+        while True:
+            self.folder.mkdir(mode=0o700, exist_ok=True)
+            if not is_own_folder(self.folder):
+                raise Fault(f"{self.folder} is no folder of yours")
+            # Who removes the folder may do so just now.
+            with contextlib.suppress(FileNotFoundError):
+                return os.open(self.folder / "lock", os.O_RDWR | os.O_CREAT | os.O_CLOEXEC | os.O_NOFOLLOW, 0o600)
+
+    def is_lock(self, lock: int) -> bool:
+        """Whether an open file is the lock that others find."""
+        try:
+            return os.path.samestat(os.fstat(lock), os.lstat(self.folder / "lock"))
+        except OSError:
+            return False
+
+    def wait_for_lock(self, lock: int, may_wait: bool):
         """Waits until nobody else starts what belongs to it; what takes long, as an ssh that asks for a password, is told of."""
         end = time.monotonic() + SAID_AFTER
-        while time.monotonic() < end:
-            time.sleep(0.02)
-            with contextlib.suppress(BlockingIOError):
+        while True:
+            try:
                 return fcntl.flock(lock, fcntl.LOCK_EX | fcntl.LOCK_NB)
+            except BlockingIOError:
+                if not may_wait:
+                    raise
+            if time.monotonic() > end:
+                break
+            time.sleep(0.02)
         say(f"waiting for another that starts what belongs to {self.folder}")
         return fcntl.flock(lock, fcntl.LOCK_EX)
+
+    # ---- starts
 
     def spawned(self, role, words, parts=os.setsid, **ends):
         """A process that stays when this terminal goes, by a call that parts it; what it says is in the log. It notes itself before it
         runs the words, so that it is found however this one ends."""
-        replace_text(self.note, json.dumps(self.state))
-        with open(self.log, "ab") as log:
-            ends = {"stdin": subprocess.DEVNULL, "stdout": log, "stderr": log, **ends}
-            process = subprocess.Popen(words, **ends, preexec_fn=lambda: (parts(), self.note_own(role)))
+        import subprocess
+
+        try:
+            replace_text(self.note, json.dumps(self.state))
+            make_room(self.log)
+            with open(self.log, "ab") as log:
+                ends = {"stdin": subprocess.DEVNULL, "stdout": log, "stderr": log, **ends}
+                process = subprocess.Popen(words, **ends, preexec_fn=lambda: (parts(), self.note_own(role)))
+        except OSError as fault:
+            where = f"{fault.filename}: " if fault.filename else ""
+            raise Fault(f"session {self.name}: {ROLES[role]} can't be started: {where}{reason(fault)}") from fault
+        except subprocess.SubprocessError as fault:
+            raise Fault(f"session {self.name}: {ROLES[role]} can't be started: it can't be noted in {self.note}{self.unnoted()}") from fault
         self.state[role] = [process.pid, begun(process.pid)]
         self.own[role] = process
         return process
@@ -95,16 +177,31 @@ class Processes:
         state = {**self.state, role: [os.getpid(), begun(os.getpid())]}
         replace_text(self.note, json.dumps(state))
 
+    def unnoted(self) -> str:
+        """Why the note can't be written, as far as that is so still."""
+        try:
+            replace_text(self.note, json.dumps(self.state))
+        except OSError as fault:
+            return f": {reason(fault)}"
+        return ""
+
     def said(self, before):
-        """What was logged since it had so many bytes."""
-        return self.log.read_bytes()[before:].decode("utf-8", "replace").strip()
+        """What was logged since it had so many bytes, in one line."""
+        try:
+            with open(self.log, "rb") as log:
+                log.seek(before)
+                text = log.read(2 * SAID_MOST).decode("utf-8", "replace")
+        except OSError:
+            return ""
+        return "; ".join(line.strip() for line in text.splitlines() if line.strip())[:SAID_MOST]
 
     def logged(self):
         """How many bytes the log has."""
         return self.log.stat().st_size if self.log.exists() else 0
 
-    def wait_for(self, process, before, test):
-        """Waits until what a process of this session brings is there."""
+    def wait_for(self, role, before, test):
+        """Waits until what a process that was started brings is there; one that doesn't bring it is ended."""
+        process = self.own[role]
         end = time.monotonic() + START_WAIT
         while time.monotonic() < end:
             if test():
@@ -113,7 +210,10 @@ class Processes:
                 break
             time.sleep(0.005)
         process.kill()
-        raise Fault(f"session {self.name} didn't start: {self.said(before) or f'nothing is said; see {self.log}'}")
+        process.wait()
+        raise Fault(f"session {self.name}: {ROLES[role]} didn't start: {self.said(before) or f'nothing is said; see {self.log}'}")
+
+    # ---- ends
 
     def end(self, role):
         """Ends the process of this role, by force where it doesn't end in time."""
@@ -126,3 +226,30 @@ class Processes:
             end = time.monotonic() + END_WAIT
             while self.runs(role) and time.monotonic() < end:
                 time.sleep(0.01)
+
+    @contextlib.contextmanager
+    def whole(self) -> Iterator[None]:
+        """Ends what is started inside, where not all of it could be; what it left goes, and the folder where its log tells nothing."""
+        try:
+            yield
+        except BaseException:
+            for role in list(self.own):
+                self.end(role)
+            with contextlib.suppress(Fault, OSError):
+                self.clean()
+                self.forget()
+            raise
+
+    def clean(self):
+        """Removes what processes that don't run any more left."""
+
+    def forget(self):
+        """Removes the folder of one that doesn't run, where its log tells nothing; its lock is held."""
+        attached = self.folder / "attached"
+        with contextlib.suppress(OSError):
+            if not self.logged():
+                if attached.is_dir():
+                    attached.rmdir()
+                for name in ("log", "lock"):
+                    (self.folder / name).unlink(missing_ok=True)
+                self.folder.rmdir()

@@ -1,12 +1,20 @@
 """The program, its sockets, its port, ids, and the processes that the tools know of."""
+from __future__ import annotations
+
 import contextlib
+import errno
 import os
 import pathlib
+import select
 import signal
 import socket
+import struct
 import sys
 import time
-import traceback
+from collections import namedtuple
+
+from roam_live.logs import make_room
+from roam_live.words import one_line, printable
 
 TOOLS = pathlib.Path(__file__).resolve().parent.parent
 
@@ -32,9 +40,16 @@ def tool_name():
 
 
 def say(line):
-    """Says a line on standard error, which may be full or gone."""
+    """Says a line on standard error, which may be full or gone, or a log that is to stay small."""
+    make_room_in_logs(len(line))
     with contextlib.suppress(OSError, ValueError):
-        print(f"{tool_name()}: {line}", file=sys.stderr, flush=True)
+        print(f"{tool_name()}: {printable(line)}", file=sys.stderr, flush=True)
+
+
+def make_room_in_logs(more):
+    """Sees that the logs that are known stay small when so many bytes more come."""
+    for path in logs:
+        make_room(path, more)
 
 
 def reason(fault):
@@ -50,10 +65,14 @@ def log_to(folder):
 
 def unforeseen(fault):
     """The line for what a tool didn't foresee; the logs get all of it."""
+    import traceback
+
+    told = "\n".join(map(printable, traceback.format_exc().split("\n")))
+    make_room_in_logs(len(told))
     for path in logs:
         with contextlib.suppress(OSError), open(path, "a", encoding="utf-8", errors="backslashreplace") as log:
-            log.write(f"{tool_name()}, process {os.getpid()}:\n{traceback.format_exc()}")
-    line = traceback.format_exception_only(type(fault), fault)[-1].strip()
+            log.write(f"{tool_name()}, process {os.getpid()}:\n{told}")
+    line = one_line(traceback.format_exception_only(type(fault), fault)[-1])
     return f"roam: {tool_name()} failed: {line}" + "".join(f"; {path} has more" for path in logs)
 
 
@@ -61,17 +80,32 @@ def run_tool(main):
     """Runs a tool; a fault is one line on standard error and status 1. `python3 -X dev` shows where one comes from that nobody foresaw."""
     signal.signal(signal.SIGINT, signal.default_int_handler)
     try:
-        sys.exit(main())
+        status = main()
+        if sys.stdout:
+            sys.stdout.flush()
+        sys.exit(status)
     except Fault as fault:
-        sys.exit(f"{tool_name()}: {fault}")
+        sys.exit(one_line(f"{tool_name()}: {fault}"))
     except OSError as fault:
-        sys.exit(f"{tool_name()}: {f'{fault.filename}: ' if fault.filename else ''}{reason(fault)}")
+        if isinstance(fault, BrokenPipeError) and nobody_reads():
+            sys.exit(128 + signal.SIGPIPE)
+        sys.exit(one_line(f"{tool_name()}: {f'{fault.filename}: ' if fault.filename else ''}{reason(fault)}"))
     except KeyboardInterrupt:
         sys.exit(130)
     except Exception as fault:
         if sys.flags.dev_mode:
             raise
         sys.exit(unforeseen(fault))
+
+
+def nobody_reads():
+    """Whether it was standard output that nobody reads any more, as behind `| head`; what is left for it is dropped then."""
+    output = select.poll()
+    output.register(1, 0)
+    if not output.poll(0):
+        return False
+    os.dup2(os.open(os.devnull, os.O_WRONLY), 1)
+    return True
 
 
 def program():
@@ -93,16 +127,56 @@ def is_id(word):
     return 1 <= len(word) <= 16 and all(letter in "0123456789abcdefABCDEF" for letter in word)
 
 
-def connected_now(path):
-    """A connection to a Unix socket that is there."""
+# What the system tells of who is at the other end of a Unix socket: the process, its user and its group.
+CREDENTIALS = struct.Struct("3i")
+
+
+class Peer(namedtuple("Peer", "process user")):
+    """Who is at the other end of a Unix socket."""
+
+    @classmethod
+    def of(cls, end: socket.socket) -> Peer:
+        """That of a socket: who connected, or who began to listen where this end connected."""
+        return cls(*CREDENTIALS.unpack(end.getsockopt(socket.SOL_SOCKET, socket.SO_PEERCRED, CREDENTIALS.size))[:2])
+
+    def is_own(self) -> bool:
+        """Whether it is of this user. The superuser is another as any, and so is anyone for the superuser."""
+        return self.user == os.getuid()
+
+
+def is_own_peer(end: socket.socket) -> bool:
+    """Whether who is at the other end of a Unix socket is of this user."""
+    try:
+        return Peer.of(end).is_own()
+    except OSError:
+        return False
+
+
+def connected_now(path: str | os.PathLike) -> socket.socket:
+    """A connection to a Unix socket that is there, at which this user listens. It never waits: BlockingIOError tells of a listener that
+    takes none now."""
     peer = socket.socket(socket.AF_UNIX, socket.SOCK_STREAM)
     try:
-        peer.connect(str(path))
         peer.setblocking(False)
+        peer.connect(str(path))
+        if not is_own_peer(peer):
+            raise PermissionError(errno.EPERM, f"user {Peer.of(peer).user} listens there, and not you", str(path))
     except OSError:
         peer.close()
         raise
     return peer
+
+
+def connected_in(path: str | os.PathLike, seconds: float) -> socket.socket:
+    """The same, where a listener that takes none now is asked again for so many seconds."""
+    end = time.monotonic() + seconds
+    while True:
+        try:
+            return connected_now(path)
+        except BlockingIOError:
+            if time.monotonic() > end:
+                raise
+        time.sleep(0.01)
 
 
 def connected(path):
@@ -122,14 +196,20 @@ def connected(path):
         time.sleep(0.02)
 
 
-def is_listened(path):
-    """Whether somebody listens at a Unix socket."""
-    with socket.socket(socket.AF_UNIX, socket.SOCK_STREAM) as probe:
-        try:
-            probe.connect(str(path))
-        except OSError:
-            return False
-        return True
+def unheard(path: str | os.PathLike) -> str:
+    """Why nobody of this user listens at a Unix socket, in words; nothing where somebody does, also one that takes nobody now."""
+    try:
+        connected_now(path).close()
+    except BlockingIOError:
+        return ""
+    except OSError as fault:
+        return reason(fault)
+    return ""
+
+
+def is_listened(path: str | os.PathLike) -> bool:
+    """Whether somebody of this user listens at a Unix socket."""
+    return not unheard(path)
 
 
 def is_port_served(port):
@@ -159,6 +239,18 @@ def begun(process):
 def is_running(process, moment):
     """Whether a process runs that began at this moment: a number may have been given anew."""
     return moment is not None and begun(process) == moment
+
+
+def end_words(process: int, moment: int | None) -> str:
+    """How the end of a process is noted: by its number, and when it began."""
+    return f"{process} {moment}"
+
+
+def note_end(folder: str | os.PathLike, process: int, moment: int | None):
+    """Notes in a session's folder that the process that serves it is ended on purpose, before it is, so that nobody takes that for a
+    fault."""
+    with contextlib.suppress(OSError):
+        replace_text(os.path.join(folder, "ended"), f"{end_words(process, moment)}\n")
 
 
 def opened_process(process):
@@ -191,12 +283,22 @@ def replace_text(path, text, new=None):
         raise
 
 
+def is_own_folder(path: str | os.PathLike) -> bool:
+    """Whether a folder is there that this user made; a link to one has to be of this user too."""
+    try:
+        return os.path.isdir(path) and os.getuid() == os.lstat(path).st_uid == os.stat(path).st_uid
+    except OSError:
+        return False
+
+
 def noted_client(folder, kind="edits"):
     """The file by which `tools/mux ls` counts this process as a client; None where no folder is named, and where none can be written."""
     if not folder:
         return None
     if not os.path.isdir(folder):
         raise Fault(f"{folder} is no folder")
+    if not is_own_folder(folder):
+        raise Fault(f"{folder} is no folder of yours")
     log_to(folder)
     clients = pathlib.Path(folder) / "attached"
     path = clients / str(os.getpid())
@@ -220,12 +322,29 @@ def count_clients(folder):
     return len(notes) - len(gone)
 
 
+def has_others(folder):
+    """Whether another client that types is noted in a session's folder."""
+    notes = pathlib.Path(folder, "attached").glob("[0-9]*") if folder else ()
+    return any(note.name != str(os.getpid()) and is_attached(note) and kind_of(note) == "edits" for note in notes)
+
+
+def kind_of(note):
+    """What the client that a file notes does: it edits, or it watches."""
+    with contextlib.suppress(OSError, ValueError):
+        return note.read_text(encoding="utf-8").split()[-1]
+    return ""
+
+
 def is_attached(note):
     """Whether the client that a file notes runs; who ends removes it, maybe at this moment."""
     try:
         return is_running(int(note.name), int(note.read_text(encoding="utf-8").split()[0]))
     except (OSError, ValueError, IndexError):
         return False
+
+
+# No line has so many bytes: what is longer is no line, and isn't kept.
+LONGEST_LINE = 1 << 16
 
 
 class Lines:
@@ -237,6 +356,7 @@ class Lines:
     def fed(self, piece):
         """The lines that are whole now."""
         *lines, self.rest = (self.rest + piece).split(b"\n")
+        self.rest = self.rest if len(self.rest) < LONGEST_LINE else b""
         return [line.decode("utf-8", "replace") for line in lines]
 
 
@@ -261,6 +381,11 @@ class Home:
     def is_served(self):
         """Whether a server is there."""
         return is_listened(f"{self.folder}/clients") if self.folder else is_port_served(self.port)
+
+    def why_unserved(self) -> str:
+        """Why none is known to be there, where that is more than that nobody listens."""
+        why = unheard(f"{self.folder}/clients") if self.folder and os.path.exists(f"{self.folder}/clients") else ""
+        return f": {why}" if why and why != os.strerror(errno.ECONNREFUSED) else ""
 
     def attach_words(self, more):
         """The words of a client start; no id stands in them where the folder keeps others out."""
@@ -292,3 +417,16 @@ def write(target, waiting):
         waiting.clear()
         return False
     return True
+
+
+# So many bytes that a pane's program doesn't read wait for it.
+UNREAD_LIMIT = 1 << 16
+
+
+def keep(waiting: bytearray, typed: bytes) -> bool:
+    """Has what was typed wait behind what does, as far as there is room, and tells whether all of it was kept. No character is cut."""
+    room = max(0, UNREAD_LIMIT - len(waiting))
+    while room < len(typed) and room and typed[room] & 0xC0 == 0x80:
+        room -= 1
+    waiting += typed[:room]
+    return room >= len(typed)

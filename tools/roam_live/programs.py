@@ -1,7 +1,12 @@
-"""Which programs run in a session's panes."""
+"""Which programs run in a session's panes, and where."""
+from __future__ import annotations
+
 import contextlib
 import os
 import pathlib
+from collections.abc import Iterable
+
+from roam_live.words import printable
 
 # What a pane may lose without a question.
 SHELLS = {"sh", "ash", "bash", "dash", "zsh", "fish", "ksh", "mksh", "csh", "tcsh", "nu", "xonsh", "elvish", "rc", "es"}
@@ -32,17 +37,37 @@ def pane_of(process):
 
 
 def foreground(process):
-    """The name of the program that has the terminal of a process, as far as one is known; none where that process has ended."""
+    """The printable name of the program that has the terminal of a process, as far as one is known; none where that process has ended."""
     try:
         words = pathlib.Path(f"/proc/{process}/stat").read_text(encoding="utf-8", errors="replace").rpartition(")")[2].split()
         group = words[FOREGROUND]
     except (OSError, IndexError):
         return ""
     try:
-        return pathlib.Path(f"/proc/{group}/comm").read_text(encoding="utf-8", errors="replace").rstrip("\n")
+        name = pathlib.Path(f"/proc/{group}/comm").read_bytes()[:-1].decode("utf-8", "replace")
     except OSError:
         # The first of several programs may have ended.
-        return "a program"
+        name = ""
+    # A program may have given itself any name, also none.
+    return printable(name) or "a program"
+
+
+def group_in_front(terminal: int) -> int | None:
+    """The process group that has a pseudo-terminal, by its other end; None where none has."""
+    try:
+        return os.tcgetpgrp(terminal) or None
+    except OSError:
+        return None
+
+
+def working_folder(processes: Iterable[int | None]) -> str:
+    """The working folder of the first of these processes of which it can be read and is there still; nothing where there is none."""
+    for process in processes:
+        with contextlib.suppress(OSError):
+            folder = os.readlink(f"/proc/{process}/cwd")
+            if os.path.isdir(folder):
+                return folder
+    return ""
 
 
 def is_shell(name):

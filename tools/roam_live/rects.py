@@ -1,5 +1,5 @@
 """Where the panes of a session are: as D/panes tells it to whoever follows, and as D/rects has it for the other tools."""
-from typing import NamedTuple
+from collections import namedtuple
 
 from roam_live.program import replace_text
 
@@ -12,23 +12,17 @@ ROOM = {"right": (0, 9), "down": (5, 0)}
 # A server knows so many client starts that edit.
 MOST_STARTS = 64
 
+# What is read of a file of places, which may have come from another machine: it is little, and so are its numbers.
+PLACES_READ = 8192
+NUMBER_DIGITS = 4
 
-class Rect(NamedTuple):
+
+class Rect(namedtuple("Rect", "row col rows cols")):
     """A pane's first row and column, from 1, and its rows and columns."""
 
-    row: int
-    col: int
-    rows: int
-    cols: int
 
-
-class Places(NamedTuple):
+class Places(namedtuple("Places", "rects focus starts watchers", defaults=(0, 0, 0))):
     """What is told of a session: the rectangles of its panes by number, the focus, and how many starts edited and watched so far."""
-
-    rects: dict
-    focus: int = 0
-    starts: int = 0
-    watchers: int = 0
 
     def size(self):
         """The session's rows and columns; none where no pane is known."""
@@ -78,13 +72,28 @@ def write_places(path, places):
     replace_text(path, "".join(lines) + f"starts {places.starts}\nwatchers {places.watchers}\nfocus {places.focus}\n")
 
 
+def number_of(word: str) -> int:
+    """A number from 0 to 9,999; ValueError tells of what is none."""
+    if not (word.isascii() and word.isdigit() and len(word) <= NUMBER_DIGITS):
+        raise ValueError(word[:NUMBER_DIGITS])
+    return int(word)
+
+
+def pane_of(word: str) -> int:
+    """A pane's number; ValueError tells of what is none."""
+    pane = number_of(word)
+    if not 1 <= pane <= MOST_PANES:
+        raise ValueError(word)
+    return pane
+
+
 def read_places(path):
-    """What is told in a file; nothing where it isn't there, or not whole."""
+    """What is told in a file; nothing where it isn't there, not whole, or nothing that a session can have."""
     try:
         with open(path, encoding="utf-8") as text:
-            lines = [line.split() for line in text]
-        rects = {int(words[0]): Rect(*map(int, words[1:])) for words in lines if len(words) == 5}
-        known = {words[0]: int(words[1]) for words in lines if len(words) == 2}
+            lines = [line.split() for line in text.read(PLACES_READ).splitlines()]
+        rects = {pane_of(words[0]): Rect(*map(number_of, words[1:])) for words in lines if len(words) == 5}
+        known = {words[0]: number_of(words[1]) for words in lines if len(words) == 2}
         focus = known["focus"]
     except (OSError, ValueError, KeyError):
         return NOTHING

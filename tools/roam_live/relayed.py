@@ -12,8 +12,9 @@ import time
 import zlib
 from collections import deque
 
-from roam_live.carriers import LETTERS
+from roam_live.carriers import LETTERS, LONGEST, SHORTEST
 from roam_live.program import Fault, read, write
+from roam_live.rects import MOST_PANES
 
 # Version 1 didn't compress.
 VERSION = 2
@@ -21,8 +22,14 @@ GREETING = re.compile(rb"(?:^|\n)roam-relay (\d+) ([0-9a-f]{1,16}|-)\r?\n")
 HEADER = struct.Struct(">HH")
 COUNT = struct.Struct(">cQ")
 
-# The kinds of what the ends tell each other.
+# The kinds of what the ends tell each other, and the bytes of those that have always as many. None has more than a kind and places.
 HAD, ENDED, RECTS, BELL = b"h", b"e", b"p", b"b"
+TOLD_LENGTHS = {HAD: COUNT.size, BELL: 2}
+PLACES_LIMIT = 4096
+MOST_TOLD = 1 + PLACES_LIMIT
+
+# An end by which the server was killed; an earlier end of a relay knows it as nothing.
+KILLED = ENDED + b"k"
 
 # So many bytes at most are on their way, and what came is told after so many.
 WINDOW = 1 << 17
@@ -46,6 +53,10 @@ HEARTBEAT = 3.0
 INSTRUCTION = slice(28, 36)
 
 
+class BadWords(Fault):
+    """What the other end said that can't be."""
+
+
 def greeting(session):
     """The line with which an end begins; the session is `-` where it isn't known."""
     return f"roam-relay {VERSION} {session}\n".encode()
@@ -65,11 +76,28 @@ def read_greeting(source):
 def session_of(found):
     """The session that a greeting names."""
     if not found:
-        raise Fault("the other end is no relay")
+        raise BadWords("the other end is no relay")
     if int(found[1]) != VERSION:
         age = "an earlier" if int(found[1]) < VERSION else "a later"
-        raise Fault(f"the other end is of {age} roam: its relay has version {int(found[1])}, and this one version {VERSION}")
+        raise BadWords(f"the other end is of {age} roam: its relay has version {int(found[1])}, and this one version {VERSION}")
     return found[2].decode()
+
+
+def demand_length(peer: int, length: int) -> None:
+    """Refuses a frame that is empty, or that has another length than anything that an end sends."""
+    if length == 0:
+        raise BadWords("the other end sent an empty frame")
+    least, most = (SHORTEST, LONGEST) if peer else (1, MOST_TOLD)
+    if not least <= length <= most:
+        raise BadWords(f"the other end sent a frame of {length} bytes, and {least} to {most} may be")
+
+
+def demand_told(text: bytes) -> None:
+    """Refuses what an end tells that hasn't the length of its kind, or names no pane. A kind that isn't known is no fault."""
+    kind = text[:1]
+    is_wrong = len(text) != TOLD_LENGTHS.get(kind, len(text)) or kind == ENDED and text not in (ENDED, KILLED)
+    if is_wrong or kind == BELL and not 1 <= text[1] <= MOST_PANES:
+        raise BadWords(f"what the other end tells can't be read: {text[:16]!r}")
 
 
 def instruction_of(datagram):
@@ -169,13 +197,14 @@ class Stream:
         return write(self.target, self.going)
 
     def received(self):
-        """The frames that came, each a peer and what it carries; None where the other end is gone."""
+        """The frames that came, one after another, each a peer and what it carries; None where the other end is gone. What came unpacks to
+        a thousand times as much, so a frame is made when it is asked for; a fault comes where its frame would."""
         piece = read(self.source)
         if piece == b"":
             return None
         if piece:
             self.heard = time.monotonic()
-        return list(self._unpacked(piece if self.session else self._greeted(piece or b"")))
+        return self._unpacked(piece if self.session else self._greeted(piece or b""))
 
     def _unpacked(self, piece):
         """The frames that are whole with a piece of what is compressed."""
@@ -183,12 +212,16 @@ class Stream:
             try:
                 self.coming += self.unpacker.decompress(piece, UNPACKED)
             except zlib.error as fault:
-                raise Fault("what the other end says can't be read") from fault
+                raise BadWords("what the other end says can't be read") from fault
             piece = self.unpacker.unconsumed_tail
             yield from self._frames()
+            if self.unpacker.eof:
+                raise BadWords("what the other end says has ended, and the other end hasn't")
 
     def _acknowledge(self, count):
         """So many bytes have arrived."""
+        if count > self.sent:
+            raise BadWords(f"the other end has had {count} bytes, and was sent {self.sent}")
         if count > self.acknowledged:
             self.acknowledged, self.moved = count, time.monotonic()
 
@@ -198,7 +231,7 @@ class Stream:
         found = GREETING.search(self.coming)
         if not found:
             if len(self.coming) > NOISE_LIMIT:
-                raise Fault("the other end is no relay")
+                raise BadWords("the other end is no relay")
             return b""
         self.session = session_of(found)
         rest = bytes(self.coming[found.end() :])
@@ -210,6 +243,7 @@ class Stream:
         begin = 0
         while begin + HEADER.size <= len(self.coming):
             length, peer = HEADER.unpack_from(self.coming, begin)
+            demand_length(peer, length)
             end = begin + HEADER.size + length
             if end > len(self.coming):
                 break
@@ -218,7 +252,9 @@ class Stream:
             if peer:
                 self.had += length
                 yield peer, text
-            elif text[:1] == HAD and len(text) == COUNT.size:
+                continue
+            demand_told(text)
+            if text[:1] == HAD:
                 self._acknowledge(COUNT.unpack(text)[1])
             else:
                 yield peer, text

@@ -1,21 +1,25 @@
 """Sessions by name: their folders, and what belongs to them: a server, or a relay to one, what keeps the shells, and the client start of
 this machine's terminals."""
+from __future__ import annotations
+
 import contextlib
 import functools
+import json
 import os
 import pathlib
 import re
 import signal
 import stat
-import subprocess
-import sys
 
 from roam_live.processes import Processes
-from roam_live.program import TOOLS, Fault, count_clients, is_listened, program
-from roam_live.programs import busy_panes
-from roam_live.rects import MOST_STARTS, read_places
+from roam_live.program import (TOOLS, Fault, begun, count_clients, end_words, is_listened, is_own_folder, note_end, program, replace_text,
+                               say)
+from roam_live.rects import MOST_STARTS, NOTHING, read_places
 
 NAME = re.compile(r"[A-Za-z0-9_-]{1,32}")
+
+# What stands here for a session of another machine: ssh, the host, the session, and a number where ssh is called in another way.
+NEAR_NAME = re.compile(r"ssh:[A-Za-z0-9_.@-]{1,128}:[A-Za-z0-9_-]{1,32}(:[0-9a-f]{8})?")
 
 # A socket's path has at most so many bytes.
 LONGEST_PATH = 107
@@ -40,7 +44,7 @@ def runtime_folder():
         return None
     if os.path.isdir(chosen) and os.stat(chosen).st_uid == os.getuid():
         return pathlib.Path(chosen, "roam")
-    print(f"mux: XDG_RUNTIME_DIR is {chosen}, which is no folder of yours; /tmp has the sessions", file=sys.stderr)
+    say(f"XDG_RUNTIME_DIR is {chosen}, which is no folder of yours; /tmp has the sessions")
     return None
 
 
@@ -58,6 +62,23 @@ def base():
     return path
 
 
+def session_named(name: str) -> Session:
+    """The session of a name: one of this machine, or what stands here for one of another."""
+    if not NEAR_NAME.fullmatch(name):
+        return Session.named(name)
+    session = NearSession(base() / name, name)
+    if not session.folder.is_dir():
+        raise Fault(f"no session {name} is here")
+    return session
+
+
+def sessions_here() -> list[Session]:
+    """The sessions of which there are folders, by name: those of other machines behind those of this one."""
+    folders = sorted(path for path in base().iterdir() if path.is_dir() and len(str(path / "terminals")) <= LONGEST_PATH)
+    own = [Session(path) for path in folders if NAME.fullmatch(path.name)]
+    return own + [NearSession(path) for path in folders if NEAR_NAME.fullmatch(path.name)]
+
+
 def check_name(name):
     """Refuses what can't name a session."""
     if not NAME.fullmatch(name):
@@ -71,9 +92,14 @@ class Session(Processes):
     known.
     """
 
+    # The socket at which the process of each role listens.
+    sockets = {"server": "clients", "shells": "bells", "terminals": "terminals"}
+
     def __init__(self, folder, name=None, server=None):
         super().__init__(folder, server)
         self.name = name or self.folder.name
+        # Whether its processes were found by its sockets.
+        self.is_found = False
         self.terminals = self.folder / "terminals"
         if len(str(self.terminals)) > LONGEST_PATH:
             raise Fault(f"{self.folder} is too long for a socket's path")
@@ -97,8 +123,8 @@ class Session(Processes):
             return ""
 
     def places(self):
-        """Where its panes are, as far as that is told."""
-        return read_places(self.folder / "rects")
+        """Where its panes are, as far as that is told; in a folder that another user made in its place nothing is."""
+        return read_places(self.folder / "rects") if is_own_folder(self.folder) else NOTHING
 
     def is_served(self):
         """Whether a server is there, or a relay to one."""
@@ -110,33 +136,88 @@ class Session(Processes):
 
     def busy(self):
         """The panes in which another program than a shell runs, and its name."""
+        from roam_live.programs import busy_panes
+
+        if self.state is None:
+            with contextlib.suppress(Fault):
+                self.find()
         shells = self.process("shells")
         return busy_panes(shells) if shells else {}
 
     def ending(self):
-        """What is said where the process that serves it has ended, and the status."""
-        return "[the session has ended]", 0
+        """What is said where the process that serves it has ended, and the status: who ends it on purpose notes so before."""
+        if self.met and self.ended() == end_words(*self.met):
+            return "[the session has ended]", 0
+        return f"[the server was killed, or has failed, and its session is gone; {self.log} may tell why]", 1
+
+    def ended(self) -> str:
+        """What is noted of an end: the process that served and when it began; nothing where nothing is."""
+        try:
+            return (self.folder / "ended").read_text(encoding="utf-8").strip()
+        except (OSError, ValueError):
+            return ""
+
+    def note_end(self):
+        """Notes that the process that serves it is about to be ended on purpose, so that who follows it tells no fault."""
+        if self.runs():
+            note_end(self.folder, *self.met)
 
     def demand_age(self):
         """Refuses one that an earlier roam began."""
         if self.runs("server") and self.state.get("version") != VERSION:
             raise Fault(f"session {self.name} was begun by an earlier roam, and is left to it: `mux kill {self.name}` ends it")
 
+    # ---- whether it is there
+
+    def find(self) -> bool:
+        """Whether it runs: as is noted, or else as the process tells that answers at its socket. Where the note is lost, as to a cleaner of
+        old files, its processes are known again from then on."""
+        if self.runs():
+            return True
+        process = self.listener(self.sockets[self.served])
+        if process is None:
+            return False
+        found = {self.served: process}
+        for role in self.sockets:
+            if role != self.served:
+                with contextlib.suppress(Fault):
+                    found[role] = self.listener(self.sockets[role])
+        command = command_of(found.get("shells"), self.folder)
+        self.state = {"version": VERSION, "command": command, **{role: [one, begun(one)] for role, one in found.items() if one}}
+        self.is_found = True
+        return self.runs()
+
+    def demand(self):
+        """Refuses where it doesn't run."""
+        if not self.find():
+            raise Fault(f"no session {self.name} is running")
+
+    def note_found(self):
+        """Notes again what was found by its sockets, where the note is lost; its lock is held."""
+        if self.is_found:
+            replace_text(self.note, json.dumps(self.state))
+
     # ---- what belongs to it
 
     def start(self, command=()):
-        """Starts the server and its shells, or a command in place of each shell."""
+        """Starts the server and its shells, or a command in place of each shell; all or nothing."""
         self.clean()
         self.state = {"version": VERSION, "command": list(command)}
         before = self.logged()
-        server = self.spawned("server", [program(), "serve", "--dir", str(self.folder)])
-        self.wait_for(server, before, lambda: (self.folder / "session").exists() and self.is_served())
-        self.start_shells()
+        with self.whole():
+            self.spawned("server", [program(), "serve", "--dir", str(self.folder)])
+            self.wait_for("server", before, lambda: (self.folder / "session").exists() and self.is_served())
+            self.start_shells()
 
     def start_shells(self, more=()):
         """Starts what keeps a shell in each pane."""
         words = [str(TOOLS / "pane_shells"), "--close", "--server", str(self.state["server"][0]), *more]
         self.spawned("shells", [*words, str(self.folder), *self.state.get("command", ())])
+
+    def demand_shells(self):
+        """Sees that what keeps its shells runs."""
+        if not self.runs("shells"):
+            self.start_shells(["--again"])
 
     def start_terminals(self):
         """Starts the client start of this machine's terminals."""
@@ -154,42 +235,69 @@ class Session(Processes):
     def demand_terminals(self):
         """Sees that the start of this machine's terminals runs, and is ready."""
         before = self.logged()
-        if not self.runs("terminals"):
+        if not self.has_terminals():
             self.start_terminals()
-            self.wait_for(self.own["terminals"], before, lambda: is_listened(self.terminals))
+            self.wait_for("terminals", before, lambda: is_listened(self.terminals))
+
+    def has_terminals(self) -> bool:
+        """Whether a client start for this machine's terminals is there, as is noted or as its socket tells."""
+        return self.runs("terminals") or is_listened(self.terminals)
 
     def revive(self):
         """Starts the start of the terminals anew, where it has ended and nobody else does."""
         with contextlib.suppress(BlockingIOError), self.locked(may_wait=False):
-            if not self.runs("terminals"):
+            if not self.has_terminals():
                 self.start_terminals()
 
     def revive_shells(self):
         """Starts the shells anew where what kept them has ended; tells whether they run."""
         with contextlib.suppress(BlockingIOError), self.locked(may_wait=False):
-            if self.runs("server") and not self.runs("shells"):
-                self.start_shells(["--again"])
+            if self.find():
+                self.demand_shells()
         return self.runs("shells")
 
     # ---- its end
 
     def clean(self):
-        """Removes what a session that doesn't run any more left, but for its log."""
+        """Removes what a session that doesn't run any more left, but for its log and the note of its end. Where somebody answers still
+        nothing is removed."""
+        if self.is_served():
+            raise Fault(f"somebody answers at {self.folder / 'clients'}; nothing is removed there")
         clients = self.folder / "attached"
-        notes = [self.folder / name for name in (*SOCKETS, "rects", "session", "session.new", "state.json", "ended")]
+        notes = [self.folder / name for name in (*SOCKETS, "rects", "session", "session.new", "state.json")]
         for path in [*(clients.iterdir() if clients.is_dir() else ()), *notes]:
             path.unlink(missing_ok=True)
 
-    def kill(self):
+    def end_all(self):
         """Ends the session's processes; the shells hang up their programs once the server is gone."""
+        self.note_end()
         for role in (self.served, "shells", "terminals"):
             self.end(role)
+
+    def kill(self):
+        """Ends what is left of the session, and removes it; its lock is held."""
+        self.end_all()
         self.clean()
+
+    def tidy(self):
+        """Removes what is left of a session that has ended; its lock is held, since one that is being started looks like that too."""
+        if not self.find():
+            self.kill()
 
     def close(self):
         """Lets it go: its processes stay."""
 
     # ---- what `mux ls` says
+
+    def listed(self) -> str:
+        """What `mux ls` says of it: nothing of one that has ended, which is cleaned up where nobody starts it anew."""
+        if self.find():
+            return self.line()
+        if self.state:
+            with contextlib.suppress(BlockingIOError), self.locked(may_wait=False):
+                self.tidy()
+                return self.line() if self.runs() else ""
+        return ""
 
     def line(self):
         """What `mux ls` says of it."""
@@ -205,18 +313,35 @@ class NearSession(Session):
     """A session of another machine: a relay stands here for its server."""
 
     served = "relay"
+    sockets = {"relay": "clients", "terminals": "terminals"}
+
+    def start(self, command=()):
+        """Refuses: how ssh is called isn't known."""
+        raise Fault(f"no relay to {self.name} is running; `mux ssh` starts one")
+
+    def demand_shells(self):
+        """Leaves the shells to the other machine."""
 
     def start_relay(self, command):
-        """Starts a relay over a command, which may ask at this terminal until it has answered; tells the status of one that didn't."""
+        """Starts a relay over a command, which may ask at this terminal until it has answered; tells the status of one that didn't, and
+        leaves no folder then."""
+        import subprocess
+
         self.clean()
+        (self.folder / "ended").unlink(missing_ok=True)
         self.state = {"version": VERSION}
         words = [str(TOOLS / "relay"), "--alone", str(ALONE), "--log", str(self.log), "--dir", str(self.folder), "-", *command]
-        relay = self.spawned("relay", words, in_front, stdout=subprocess.PIPE, stderr=None)
-        try:
-            has_answered = relay.stdout.readline() != b""
-        finally:
-            take_front(os.getpgrp())
-        return 0 if has_answered else relay.wait()
+        with self.whole():
+            relay = self.spawned("relay", words, in_front, stdout=subprocess.PIPE, stderr=None)
+            try:
+                has_answered = relay.stdout.readline() != b""
+            finally:
+                take_front(os.getpgrp())
+        status = 0 if has_answered else relay.wait()
+        if status:
+            self.clean()
+            self.forget()
+        return status
 
     def busy(self):
         """What runs in its panes isn't known here."""
@@ -224,9 +349,22 @@ class NearSession(Session):
 
     def ending(self):
         """What is said where the relay has ended, and the status."""
+        if self.met and self.ended() == end_words(*self.met):
+            return "[the relay was ended; the session goes on at the other machine]", 0
+        if self.ended() == "killed":
+            return "[the server was killed, or has failed, and its session is gone]", 1
         if (self.folder / "ended").exists():
-            return super().ending()
+            return "[the session has ended]", 0
         return f"[the relay has ended; {self.log} tells why]", 1
+
+
+def command_of(shells: int | None, folder: pathlib.Path) -> list[str]:
+    """The command that a process keeps in each pane of a folder's session; none where it is the shell, or isn't known."""
+    try:
+        words = pathlib.Path(f"/proc/{shells}/cmdline").read_bytes().split(b"\0")[:-1]
+        return [os.fsdecode(word) for word in words[words.index(os.fsencode(folder)) + 1 :]]
+    except (OSError, ValueError):
+        return []
 
 
 def in_front():

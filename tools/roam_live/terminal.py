@@ -9,6 +9,8 @@ import signal
 import struct
 import termios
 
+from roam_live.words import printable
+
 # The sizes that a session may have.
 LEAST = (4, 8)
 MOST = (200, 500)
@@ -54,6 +56,11 @@ def without_reset(held, piece):
     return text[: len(text) - len(held)].replace(RESET, CLEARED), held
 
 
+def unwrapped(text: str) -> bytes:
+    """A text as it is written where a row of it may be longer than the terminal's: nothing goes on into the next row."""
+    return f"\x1b[?7l{text}\x1b[?7h".encode("utf-8", "replace")
+
+
 def size_of(terminal):
     """A terminal's rows and columns; one that tells none has 24 and 80."""
     rows, cols = struct.unpack("HHHH", fcntl.ioctl(terminal, termios.TIOCGWINSZ, bytes(8)))[:2]
@@ -85,7 +92,7 @@ def execute(command, environment, more=""):
     try:
         os.execvpe(command[0], command, environment)
     except OSError as fault:
-        os.write(2, f"{command[0]}: {fault.strerror}{more}\n".encode("utf-8", "replace"))
+        os.write(2, f"{printable(f'{command[0]}: {fault.strerror}{more}')}\n".encode("utf-8", "replace"))
 
 
 def is_large_enough(size):
@@ -93,9 +100,14 @@ def is_large_enough(size):
     return size[0] >= LEAST[0] and size[1] >= LEAST[1]
 
 
+def largest(size):
+    """The largest size that a session may have on a terminal of a size."""
+    return min(size[0], MOST[0]), min(size[1], MOST[1])
+
+
 def size_act(size):
     """The act that gives a session a terminal's size, as far as it may have it."""
-    return f"size {min(size[0], MOST[0])} {min(size[1], MOST[1])}"
+    return "size {} {}".format(*largest(size))
 
 
 def set_modes(terminal, when, modes):

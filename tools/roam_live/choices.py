@@ -1,0 +1,27 @@
+"""What a person chooses by the environment: the prefix, and when guesses are shown."""
+import os
+
+from roam_live.program import Fault
+
+# The keys that may be the prefix, by their names, and the one that is where nobody chose another.
+PREFIXES = {f"C-{letter}": chr(ord(letter) & 31) for letter in "abcdefghijklmnopqrstuvwxyz]\\^_"}
+PREFIX = "C-b"
+
+# When what keys are guessed to show is shown before the session has shown it; where nothing says so it is the first of them.
+GUESSING = ("adaptive", "always", "never")
+
+
+def chosen_prefix():
+    """The name of the prefix: that of the environment's ROAM_PREFIX, where it is there."""
+    name = os.environ.get("ROAM_PREFIX") or PREFIX
+    if name not in PREFIXES:
+        raise Fault(f"ROAM_PREFIX is {name!r}, and may be C-a to C-z, C-], C-\\, C-^ or C-_")
+    return name
+
+
+def chosen_guessing(asked=None):
+    """When guesses are shown: as asked, else as the environment's ROAM_GUESS says, where it is there."""
+    name = asked or os.environ.get("ROAM_GUESS") or GUESSING[0]
+    if name not in GUESSING:
+        raise Fault(f"ROAM_GUESS is {name!r}, and may be adaptive, always or never")
+    return name

@@ -1,0 +1,128 @@
+"""Acts that are typed into a session by a command, all or none."""
+import os
+import re
+import subprocess
+import time
+
+from roam_live.links import NO_MORE, Link
+from roam_live.program import Fault, Home
+from roam_live.rects import MOST_PANES, Places
+from roam_live.terminal import LEAST, MOST
+
+# How long a session's client start has for the acts that it is given, and for its first painting.
+SEND_WAIT = 10.0
+FIRST_WAIT = 5.0
+
+# What was asked for before may not be told yet: for so many seconds it is looked again whether something can be done, this often.
+TOLD_WAIT = 1.0
+TOLD_STEP = 0.05
+
+
+class Layout:
+    """What is known of a session's panes after each of some acts."""
+
+    def __init__(self, places: Places):
+        self.places = places
+        # How many panes there are, and their numbers where these are known; and whether each has the place that was told.
+        self.count, self.panes, self.is_told = len(places.rects), set(places.rects), True
+
+    def wrong(self, act: str) -> str:
+        """Why an act can't be done; nothing where it can, or that isn't known. What is known goes by the act then."""
+        word, *rest = act.split()
+        if word == "size":
+            self.is_told = False
+            return wrong_size(*map(int, rest))
+        does = {"focus": self.focused, "split": self.split, "close": self.closed, "grow": self.grown, "next": self.passed}.get(word)
+        return does(*rest) if does and self.count else ""
+
+    def focused(self, pane: str) -> str:
+        """Goes on with a pane in focus, or tells why it can't be."""
+        if self.panes is not None and int(pane) not in self.panes:
+            return f"there is no pane {pane}"
+        self.places = self.places._replace(focus=int(pane))
+        return ""
+
+    def passed(self) -> str:
+        """Goes on with a pane in focus that isn't known."""
+        self.places = self.places._replace(focus=0)
+        return ""
+
+    def split(self, way: str) -> str:
+        """Goes on with a pane more, which has the smallest free number and the focus, or tells why there can't be one."""
+        if self.count >= MOST_PANES:
+            return f"there are {MOST_PANES} panes, and no more"
+        why = self.places.unsplit(way) if self.is_told else ""
+        if why:
+            return why
+        self.count, self.is_told, pane = self.count + 1, False, 0
+        if self.panes is not None:
+            pane = next(pane for pane in range(1, MOST_PANES + 1) if pane not in self.panes)
+            self.panes.add(pane)
+        self.places = self.places._replace(focus=pane)
+        return ""
+
+    def closed(self) -> str:
+        """Goes on without the pane in focus, or tells that the last one stays. Which one has the focus then isn't known."""
+        if self.count == 1:
+            return "the last pane goes with its shell"
+        if self.panes is not None:
+            self.panes = self.panes - {self.places.focus} if self.places.focus in self.panes else None
+        self.count, self.is_told = self.count - 1, False
+        return self.passed()
+
+    def grown(self, _: str) -> str:
+        """Goes on with other places, or tells that the only pane has none but its own."""
+        self.is_told = False
+        return "there is one pane, which has all room" if self.count == 1 else ""
+
+
+def wrong_size(rows: int, cols: int) -> str:
+    """Why a session can't have a size; nothing where it can."""
+    if LEAST[0] <= rows <= MOST[0] and LEAST[1] <= cols <= MOST[1]:
+        return ""
+    return f"a session has {LEAST[0]} to {MOST[0]} rows and {LEAST[1]} to {MOST[1]} columns"
+
+
+def wrong_in(acts: "list[str]", places: Places) -> str:
+    """Which of the acts can't be done where panes are at these places, and why; nothing where all can, as far as is known."""
+    layout = Layout(places)
+    found = ((act, layout.wrong(act)) for act in acts)
+    return next((f"{act!r} can't be done: {why}" for act, why in found if why), "")
+
+
+def demand_acts(session, acts):
+    """Refuses what is no act, by a client start that takes no turn: the session never knows it."""
+    lines = "".join(f"{act}\n" for act in acts)
+    words = Home(folder=str(session.folder)).attach_words(["--keys", "/dev/stdin", "--turns", "0"])
+    ran = subprocess.run(words, input=os.fsencode(lines), stdout=subprocess.DEVNULL, stderr=subprocess.PIPE, check=False)
+    if ran.returncode:
+        said = ran.stderr.decode("utf-8", "replace").strip().partition("\n")[0]
+        line = re.fullmatch(r"roam: line (\d+): .*", said)
+        raise Fault(f"{acts[int(line[1]) - 1]!r} is no act; the page roam(1) lists them. None was typed" if line else said)
+
+
+def demand_doable(session, acts):
+    """Refuses acts of which one can't be done."""
+    end = time.monotonic() + TOLD_WAIT
+    while True:
+        wrong = wrong_in(acts, session.places())
+        if not wrong:
+            return
+        if time.monotonic() > end:
+            raise Fault(f"{wrong}. None was typed")
+        time.sleep(TOLD_STEP)
+
+
+def send(session, acts):
+    """Types acts into a session, and ends once all were given to its client start."""
+    acts = [act.replace("\n", "\\n") for act in acts]
+    demand_acts(session, acts)
+    demand_doable(session, acts)
+    link = Link(session.terminals, False)
+    link.connect()
+    if link.comes(FIRST_WAIT) and link.painted() == b"":
+        raise Fault(NO_MORE)
+    link.type(*acts)
+    if not link.part(SEND_WAIT):
+        raise Fault(f"session {session.name} takes no more acts; some may have been typed")
+    return 0

@@ -1,0 +1,33 @@
+"""Words for a terminal. Whatever writes some there, or into a log, has them made printable here."""
+import codecs
+
+# So many bytes of what a command says on its standard error are passed on.
+SAID_LIMIT = 1 << 16
+
+
+def printable(text: str) -> str:
+    """The text with a `?` for each character that isn't printable: controls, line ends, format characters as those that turn the direction
+    of writing, and what is no character."""
+    return text if text.isprintable() else "".join(letter if letter.isprintable() else "?" for letter in text)
+
+
+def one_line(text: object) -> str:
+    """A text's lines as one, printable."""
+    return printable("; ".join(filter(None, (line.strip() for line in str(text).splitlines()))))
+
+
+class Said:
+    """What another program says, as it comes in pieces: printable lines, and not too many of them."""
+
+    def __init__(self, limit: int = SAID_LIMIT):
+        self.decoder = codecs.getincrementaldecoder("utf-8")("replace")
+        self.limit = self.left = limit
+
+    def fed(self, piece: bytes) -> str:
+        """What of a piece is to be shown; once too much has come a line tells so, and then nothing more."""
+        if self.left < 0:
+            return ""
+        shown = self.decoder.decode(piece[: self.left]).replace("\r", "").replace("\t", " ")
+        self.left -= len(piece)
+        lines = "\n".join(map(printable, shown.split("\n")))
+        return lines if self.left >= 0 else f"{lines}\n[{self.limit} bytes were said; no more is shown]\n"

@@ -1,0 +1,169 @@
+"""Who tells bells and who follows them: sixteen at once, and nobody is connected to again and again."""
+import contextlib
+import io
+import os
+import pathlib
+import select
+import socket
+import tempfile
+import unittest
+from unittest import mock
+
+from roam_live.bells import AGAIN, APART, MOST_FOLLOWERS, BellFollower, BellSource
+
+
+class Bells(unittest.TestCase):
+    """A source of bells in a folder of its own, and a clock that stands unless it is set."""
+
+    def setUp(self):
+        made = tempfile.TemporaryDirectory()
+        self.addCleanup(made.cleanup)
+        self.folder = made.name
+        self.now = 100.0
+        for name in ("time.monotonic",):
+            patched = mock.patch(name, lambda: self.now)
+            patched.start()
+            self.addCleanup(patched.stop)
+        self.source = BellSource(self.folder)
+        self.addCleanup(self.source.close)
+
+    def turns(self, count=1):
+        """So many turns of the source, and how many of them had something to do."""
+        busy = 0
+        for _ in range(count):
+            readable = select.select(self.source.sources(), [], [], 0)[0]
+            busy += bool(readable)
+            self.source.turn(readable)
+        return busy
+
+    def follower(self):
+        """One who follows."""
+        one = BellFollower(self.folder)
+        one.sources()
+        self.addCleanup(lambda: one.peer and one.peer.close())
+        return one
+
+    def heard(self, one):
+        """What one is told now."""
+        return one.rung(select.select(one.sources(), [], [], 0)[0])
+
+    def test_seventeenth(self):
+        """Sixteen are told; one more waits, which costs nobody anything, and is told once another has left."""
+        there = [self.follower() for _ in range(MOST_FOLLOWERS + 1)]
+        self.turns(MOST_FOLLOWERS + 4)
+        self.source.tell(3)
+        self.assertEqual([self.heard(one) for one in there], [[3]] * MOST_FOLLOWERS + [[]])
+        self.assertIsNotNone(there[-1].peer)
+        self.assertEqual(self.turns(5), 0)
+        there[0].peer.close()
+        there[0].peer = None
+        self.turns(3)
+        self.now += APART
+        self.source.tell(4)
+        self.assertEqual(self.heard(there[-1]), [4])
+
+    def test_ended(self):
+        """Who ends each connection at once is connected to again after a second."""
+        one = self.follower()
+        self.turns()
+        made = 0
+        for _ in range(20):
+            for peer in list(self.source.followers):
+                self.source.drop(peer)
+            self.heard(one)
+            self.now += AGAIN / 10
+            before = one.peer
+            one.sources()
+            made += before is None and one.peer is not None
+            self.turns(2)
+        self.assertLessEqual(made, 2)
+        self.assertGreaterEqual(made, 1)
+
+    def test_wait_time(self):
+        """The moment at which it is connected to again is one to wake for; without an end there is none."""
+        one = self.follower()
+        self.assertIsNone(one.wait_time())
+        self.turns()
+        self.source.drop(self.source.followers[0])
+        self.heard(one)
+        self.assertEqual(one.wait_time(), AGAIN)
+        self.now += AGAIN
+        self.assertEqual(one.wait_time(), 0)
+        one.sources()
+        self.assertIsNone(one.wait_time())
+        self.assertEqual(BellFollower(os.path.join(self.folder, "none")).wait_time(), None)
+
+    def test_another_user(self):
+        """Neither end takes one of another user."""
+        with mock.patch("os.getuid", return_value=os.getuid() + 1):
+            one = self.follower()
+            self.assertIsNone(one.peer)
+            self.assertEqual(one.wait_time(), AGAIN)
+        there = socket.socket(socket.AF_UNIX, socket.SOCK_STREAM)
+        self.addCleanup(there.close)
+        there.settimeout(5)
+        there.connect(str(pathlib.Path(self.folder, "bells")))
+        with mock.patch("os.getuid", return_value=os.getuid() + 1):
+            self.turns(3)
+        self.assertEqual(self.source.followers, [])
+        self.assertEqual(there.recv(1), b"")
+
+    def test_lies(self):
+        """What is no line of a bell rings nothing, and is no fault."""
+        one = self.follower()
+        self.turns()
+        peer = self.source.followers[0]
+        for line in ("bell \u00b2", "bell 0", "bell 10", "bell", "bell 1 2", "bell -1", "\udcff", "rung 1"):
+            peer.send(f"{line}\n".encode("utf-8", "surrogatepass"))
+        peer.send(b"\xff\xfe\nbell 9\n")
+        self.assertEqual(self.heard(one), [9])
+
+    def test_words(self):
+        """What is said in words comes in printable ASCII, and no more than the last of what comes at once."""
+        one = self.follower()
+        self.turns()
+        self.source.say("pane 3 isn't sh\u00f6wn")
+        self.assertEqual(self.heard(one), [])
+        self.assertEqual((one.said(), one.said()), (["pane 3 isn't sh?wn"], []))
+        self.source.standing = "one for who comes"
+        late = self.follower()
+        self.turns()
+        self.heard(late)
+        self.heard(one)
+        self.assertEqual((one.said(), late.said()), ([], ["one for who comes"]))
+        self.source.followers[0].send(b"say one\nsay \x1b]0;x\x07\nsay " + b"x" * 300 + b"\nsay two\n")
+        self.heard(one)
+        self.assertEqual(one.said(), ["two"])
+
+    def test_taken(self):
+        """Where another listens there the socket is left to it, and who would tell bells goes on without."""
+        said = io.StringIO()
+        with contextlib.redirect_stderr(said):
+            other = BellSource(self.folder)
+        self.assertIn("no bells are told: somebody listens at ", said.getvalue())
+        self.assertEqual(other.sources(), [])
+        other.turn([])
+        other.tell(1)
+        other.close()
+        self.assertIsNotNone(self.follower().peer)
+
+    def test_closed(self):
+        """Its own socket's file is removed at the end, and none that took its place."""
+        path = pathlib.Path(self.folder, "bells")
+        path.rename(path.with_name("kept"))
+        other = BellSource(self.folder)
+        self.source.close()
+        self.assertTrue(path.exists())
+        other.close()
+        self.assertFalse(path.exists())
+
+    def test_blocked(self):
+        """A source that takes none holds nobody up, and none that reads nothing holds the source up."""
+        for _ in range(40):
+            self.follower()
+        self.turns(MOST_FOLLOWERS)
+        for pane in range(1, 10):
+            for _ in range(2000):
+                self.now += APART
+                self.source.tell(pane)
+        self.assertLessEqual(len(self.source.followers), MOST_FOLLOWERS)

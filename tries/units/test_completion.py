@@ -1,0 +1,71 @@
+"""What bash completes behind the tools' words."""
+import pathlib
+import subprocess
+import tempfile
+import unittest
+
+from roam_live.program import TOOLS
+
+COMPLETES = r"""
+source "$1"
+mux() { printf 'main 24 by 80\nwork 24 by 80\n'; }
+shift
+call=$1; shift
+COMP_WORDS=("$@") COMP_CWORD=$(($# - 1)) COMPREPLY=()
+compopt() { :; }
+$call
+[ ${#COMPREPLY[@]} = 0 ] || printf '%s\n' "${COMPREPLY[@]}"
+"""
+
+
+def completed(call, *words, cwd=None):
+    """What a function completes the last of the words to."""
+    asked = ["bash", "-c", COMPLETES, "bash", str(TOOLS / "completion.bash"), call, *words]
+    run = subprocess.run(asked, cwd=cwd, stdout=subprocess.PIPE, check=True)
+    return run.stdout.decode().split("\n")[:-1]
+
+
+class Completion(unittest.TestCase):
+    """The words of each tool."""
+
+    def test_acts(self):
+        self.assertEqual(completed("_roam_mux", "mux", "send", "work", "key re"), ["key return", "key remove"])
+        self.assertEqual(completed("_roam_mux", "mux", "send", "work", "char 61", "'split"), ["split right", "split down"])
+        self.assertEqual(completed("_roam_mux", "mux", "send", "work", "key\\ up"), ["key up"])
+        self.assertEqual(completed("_roam_mux", "mux", "send", "work", "focus 7"), ["focus 7"])
+        self.assertIn("close", completed("_roam", "roam", "mux", "send", "work", ""))
+        self.assertEqual(completed("_roam_mux", "mux", "send", "w"), ["work"])
+
+    def test_every_act(self):
+        """Each act that roam(1) lists is offered."""
+        page = pathlib.Path(TOOLS.parent, "docs/man/roam.1").read_text(encoding="utf-8")
+        begin = page.index(".SH ACTS")
+        named = page[begin : page.index(".SH TERMINALS")].replace("\\fR", "").replace('"', "")
+        offered = completed("_roam_mux", "mux", "send", "work", "")
+        for act in offered:
+            self.assertIn(act.split()[0], named)
+        keys = "up pf4 find insert remove select prev next f6 f20 pad0 pad9 padminus padcomma padperiod padenter return backspace"
+        for key in keys.split():
+            self.assertIn(f"key {key}", offered)
+
+    def test_folders(self):
+        with tempfile.TemporaryDirectory() as folder:
+            for name in ("near", "new folder", "file"):
+                path = pathlib.Path(folder, name)
+                path.touch() if name == "file" else path.mkdir()
+            self.assertEqual(sorted(completed("_roam_attach", "attach", "ne", cwd=folder)), ["near", "new folder"])
+            self.assertEqual(completed("_roam_attach", "attach", "--dir", "fi", cwd=folder), [])
+            self.assertEqual(completed("_roam_pane_shells", "pane_shells", "nea", cwd=folder), ["near"])
+
+    def test_pane_shells(self):
+        self.assertEqual(completed("_roam_pane_shells", "pane_shells", "--"), ["--close", "--server", "--again", "--help"])
+        self.assertIn("bash", completed("_roam_pane_shells", "pane_shells", "--close", "--server", "7", "near", "bas"))
+        self.assertEqual(completed("_roam_pane_shells", "pane_shells", "--server", ""), [])
+
+    def test_sessions(self):
+        self.assertEqual(completed("_roam_mux", "mux", "attach", "m"), ["main"])
+        self.assertEqual(completed("_roam_mux", "mux", "at"), ["attach"])
+
+
+if __name__ == "__main__":
+    unittest.main()

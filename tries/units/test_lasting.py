@@ -1,0 +1,102 @@
+"""What lasts of a session's folder where a cleaner removes what is old."""
+import os
+import pathlib
+import socket
+import stat
+import tempfile
+import unittest
+
+from roam_live.lasting import DAILY, Lasting
+
+OLD = 1_000_000.0
+
+
+class Lasts(unittest.TestCase):
+    """A folder with what a session has there, all of it old."""
+
+    def setUp(self):
+        made = tempfile.TemporaryDirectory()
+        self.addCleanup(made.cleanup)
+        self.folder = pathlib.Path(made.name, "main")
+        self.fill()
+        self.now = 5 * OLD
+        self.lasting = Lasting(str(self.folder), lambda: self.now)
+
+    def fill(self):
+        """Makes the folder."""
+        (self.folder / "attached").mkdir(parents=True)
+        for name in ("state.json", "log", "lock", "rects", "attached/17"):
+            (self.folder / name).touch()
+        (self.folder / "session").write_text("5e55\n", encoding="utf-8")
+        listener = socket.socket(socket.AF_UNIX, socket.SOCK_STREAM)
+        listener.bind(str(self.folder / "clients"))
+        self.addCleanup(listener.close)
+        self.age()
+
+    def age(self):
+        """Makes all of it old."""
+        for path in [self.folder, *self.folder.rglob("*")]:
+            os.utime(path, (OLD, OLD), follow_symlinks=False)
+
+    def old(self):
+        """What is old."""
+        paths = [self.folder, *self.folder.rglob("*")]
+        return [path.name for path in paths if path.lstat().st_mtime == OLD or path.lstat().st_atime == OLD]
+
+    def look(self):
+        """Has it look now."""
+        self.lasting.due = 0.0
+        return self.lasting.turn()
+
+    def test_used(self):
+        """All of it is marked as used, at first and then once a day: the folder, its sockets, and the notes of clients."""
+        self.assertTrue(self.look())
+        self.assertEqual(self.old(), [])
+        self.age()
+        self.now += DAILY - 1
+        self.look()
+        self.assertIn("state.json", self.old())
+        self.now += 1
+        self.look()
+        self.assertEqual(self.old(), [])
+
+    def test_clock(self):
+        """Also where the day's clock was put back."""
+        self.look()
+        self.age()
+        self.now -= 400 * DAILY
+        self.look()
+        self.assertEqual(self.old(), [])
+
+    def test_session(self):
+        """The session's id is there again, for this user alone."""
+        self.look()
+        (self.folder / "session").unlink()
+        self.look()
+        self.assertEqual((self.folder / "session").read_text(encoding="utf-8"), "5e55\n")
+        self.assertEqual(stat.S_IMODE((self.folder / "session").stat().st_mode), 0o600)
+        self.assertEqual([path.name for path in self.folder.iterdir() if path.name.startswith("session.")], [])
+
+    def test_another_folder(self):
+        """What another session made in the place of the folder is left alone."""
+        self.look()
+        kept = self.folder.with_name("kept")
+        self.folder.rename(kept)
+        self.fill()
+        (self.folder / "session").unlink()
+        self.age()
+        self.now += DAILY
+        self.assertFalse(self.look())
+        self.assertIn("state.json", self.old())
+        self.assertFalse((self.folder / "session").exists())
+        with self.assertRaisesRegex(FileNotFoundError, "the session's folder was removed"):
+            self.lasting.demand()
+
+    def test_gone(self):
+        """A folder that isn't there is no fault."""
+        self.lasting.demand()
+        self.folder.rename(self.folder.with_name("away"))
+        self.assertFalse(self.look())
+        with self.assertRaisesRegex(FileNotFoundError, "the session's folder was removed"):
+            self.lasting.demand()
+        self.assertFalse(Lasting("/no/such/folder").turn())

@@ -1,0 +1,48 @@
+"""Which acts can't be done, where it is known where the panes are."""
+import unittest
+
+from roam_live.rects import NOTHING, Places, Rect
+from roam_live.sending import wrong_in
+
+ONE = Places({1: Rect(1, 1, 23, 80)}, 1)
+TWO = Places({1: Rect(1, 1, 23, 39), 2: Rect(1, 41, 23, 40)}, 2)
+NINE = Places({pane: Rect(1, 1, 50, 50) for pane in range(1, 10)}, 1)
+SMALL = Places({1: Rect(1, 1, 4, 8)}, 1)
+
+# Acts that can be done, and those that can't, with the reason. The limits are those of roam(1).
+DONE = (
+    (ONE, ["char 61", "key return", "split right", "focus 2", "size 24 80", "close"]), (ONE, ["size 4 8"]), (ONE, ["size 200 500"]),
+    (ONE, ["view -500", "next"]), (TWO, ["focus 1", "grow 5", "close"]), (ONE, ["split right", "split down", "focus 3", "focus 1"]),
+    (TWO, ["close", "split down", "focus 2"]), (NOTHING, ["focus 7", "close", "split right"]), (TWO, ["next", "close"]),
+    (NINE, ["close", "split right"]), (TWO, ["next", "close", "focus 1"]), (TWO, ["next", "close", "focus 2", "split right", "focus 9"]),
+)
+NOT_DONE = (
+    (ONE, ["size 1 1"], "'size 1 1' can't be done: a session has 4 to 200 rows and 8 to 500 columns"),
+    (ONE, ["size 201 80"], "'size 201 80' can't be done: a session has 4 to 200 rows and 8 to 500 columns"),
+    (NOTHING, ["size 24 7"], "'size 24 7' can't be done: a session has 4 to 200 rows and 8 to 500 columns"),
+    (ONE, ["char 61", "focus 7"], "'focus 7' can't be done: there is no pane 7"),
+    (ONE, ["split right", "focus 3"], "'focus 3' can't be done: there is no pane 3"),
+    (ONE, ["close"], "'close' can't be done: the last pane goes with its shell"),
+    (TWO, ["close", "focus 2"], "'focus 2' can't be done: there is no pane 2"),
+    (TWO, ["close", "close"], "'close' can't be done: the last pane goes with its shell"),
+    (ONE, ["grow 1"], "'grow 1' can't be done: there is one pane, which has all room"),
+    (NINE, ["split down"], "'split down' can't be done: there are 9 panes, and no more"),
+    (SMALL, ["split down"], "'split down' can't be done: pane 1 is too small to be split: 4 by 8"),
+    (SMALL, ["split right"], "'split right' can't be done: pane 1 is too small to be split: 4 by 8"),
+)
+
+
+class Acts(unittest.TestCase):
+    """`wrong_in`."""
+
+    def test_done(self):
+        for places, acts in DONE:
+            self.assertEqual(wrong_in(acts, places), "", acts)
+
+    def test_not_done(self):
+        for places, acts, wrong in NOT_DONE:
+            self.assertEqual(wrong_in(acts, places), wrong, acts)
+
+
+if __name__ == "__main__":
+    unittest.main()

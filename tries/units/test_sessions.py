@@ -1,0 +1,309 @@
+"""Sessions: what is found of them, what may be removed, and what becomes of a start that fails half-way."""
+import contextlib
+import fcntl
+import json
+import os
+import pathlib
+import socket
+import subprocess
+import sys
+import tempfile
+import unittest
+from unittest import mock
+
+from roam_live import sessions
+from roam_live.program import Fault, begun, note_end
+from roam_live.sessions import VERSION, NearSession, Session
+
+# A process that ended: no process has begun at this moment.
+ENDED = [1, 1]
+
+# Listens at sockets of a folder, and says so.
+LISTENS = """
+import socket, sys, time
+ends = []
+for path in sys.argv[1:]:
+    one = socket.socket(socket.AF_UNIX, socket.SOCK_STREAM)
+    one.bind(path)
+    one.listen()
+    ends.append(one)
+print("ready", flush=True)
+time.sleep(60)
+"""
+
+
+class Sessions(unittest.TestCase):
+    """A folder of sessions, with one that was there: its files are, and its processes aren't."""
+
+    def setUp(self):
+        made = tempfile.TemporaryDirectory()
+        self.addCleanup(made.cleanup)
+        self.base = pathlib.Path(made.name, "roam")
+        self.base.mkdir(mode=0o700)
+        patched = mock.patch("roam_live.sessions.base", lambda: self.base)
+        patched.start()
+        self.addCleanup(patched.stop)
+        self.folder = self.base / "main"
+        self.folder.mkdir()
+        for name in ("session", "rects", "log"):
+            (self.folder / name).touch()
+        self.note(server=ENDED, shells=ENDED)
+
+    def note(self, folder=None, **processes):
+        """Notes processes."""
+        note = {"version": VERSION, "command": [], **processes}
+        ((folder or self.folder) / "state.json").write_text(json.dumps(note), encoding="utf-8")
+
+    def listening(self, *names, folder=None):
+        """A process that listens at sockets of the folder."""
+        words = [sys.executable, "-c", LISTENS, *(str((folder or self.folder) / name) for name in names)]
+        process = subprocess.Popen(words, stdout=subprocess.PIPE)
+        self.addCleanup(process.wait)
+        self.addCleanup(process.kill)
+        self.addCleanup(process.stdout.close)
+        self.assertEqual(process.stdout.readline(), b"ready\n")
+        return process
+
+    def names(self, folder=None):
+        """What is in the folder."""
+        return sorted(path.name for path in (folder or self.folder).iterdir())
+
+
+class Listed(Sessions):
+    """What a list of sessions tells, and removes."""
+
+    def test_ended(self):
+        """One that has ended isn't told, and what it left goes, but for its log."""
+        self.assertEqual(Session.named("main").listed(), "")
+        self.assertEqual(self.names(), ["lock", "log"])
+
+    def test_begun_anew(self):
+        """One that is begun anew after its old note was read is told, and nothing of it is removed."""
+        session = Session.named("main")
+        own = [os.getpid(), begun(os.getpid())]
+        self.note(server=own)
+        before = self.names()
+        self.assertTrue(session.listed().startswith("main "))
+        self.assertEqual(self.names(), sorted([*before, "lock"]))
+        self.assertEqual(json.loads((self.folder / "state.json").read_text(encoding="utf-8"))["server"], own)
+
+    def test_being_started(self):
+        """While another has its lock nothing is removed, and nobody waits."""
+        before = self.names()
+        with open(self.folder / "lock", "wb") as lock:
+            fcntl.flock(lock, fcntl.LOCK_EX)
+            self.assertEqual(Session.named("main").listed(), "")
+        self.assertEqual(self.names(), sorted([*before, "lock"]))
+
+    def test_other_machines(self):
+        """Those of other machines are listed behind those of this one, under the name by which they are killed."""
+        for name in ("ssh:there:main", "ssh:me@there.example:work:0badcafe", "none ssh:x:y", "ssh:a:b:c", "ssh::main"):
+            (self.base / name).mkdir()
+            self.note(self.base / name, relay=[os.getpid(), begun(os.getpid())])
+        self.note(server=[os.getpid(), begun(os.getpid())])
+        found = sessions.sessions_here()
+        wanted = ["main", "ssh:me@there.example:work:0badcafe", "ssh:there:main"]
+        self.assertEqual([session.name for session in found], wanted)
+        self.assertEqual([session.listed().split()[0] for session in found], wanted)
+        self.assertIsInstance(sessions.session_named("ssh:there:main"), NearSession)
+        for name in ("ssh:none:main", "ssh:there/../x:main", "../main", "ssh:there:main:1"):
+            with self.assertRaises(Fault):
+                sessions.session_named(name)
+
+
+class Found(Sessions):
+    """A session whose note is lost."""
+
+    def test_found(self):
+        """Its processes are those that listen at its sockets; what keeps its shells tells the command."""
+        server, shells = self.listening("clients"), self.listening("bells")
+        for text in (None, "", "{", "[]", '{"server": 1}', '{"server": [1]}', '{"server": ["a", "b"]}', "\xff"):
+            (self.folder / "state.json").unlink(missing_ok=True)
+            if text is not None:
+                (self.folder / "state.json").write_text(text, encoding="latin-1")
+            session = Session.named("main")
+            self.assertTrue(session.find(), text)
+            found = [session.process(role) for role in ("server", "shells", "terminals")]
+            self.assertEqual(found, [server.pid, shells.pid, None])
+        with session.locked():
+            self.assertTrue(session.find())
+            session.note_found()
+        self.assertEqual(Session.named("main").process("server"), server.pid)
+
+    def test_command(self):
+        """The command of a keeper of shells stands behind the folder in its words."""
+        words = [sys.executable, "-c", "import time; print(flush=True); time.sleep(60)", "--close", str(self.folder), "sh", "-c", "a b"]
+        process = subprocess.Popen(words, stdout=subprocess.PIPE)
+        self.addCleanup(process.wait)
+        self.addCleanup(process.kill)
+        self.addCleanup(process.stdout.close)
+        process.stdout.readline()
+        self.assertEqual(sessions.command_of(process.pid, self.folder), ["sh", "-c", "a b"])
+        self.assertEqual(sessions.command_of(None, self.folder), [])
+        self.assertEqual(sessions.command_of(process.pid, self.base), [])
+
+    def test_answers(self):
+        """Where somebody answers nothing is removed, whatever is noted."""
+        self.listening("clients", "terminals")
+        for note in (True, False):
+            if not note:
+                (self.folder / "state.json").unlink()
+            before = self.names()
+            session = Session.named("main")
+            self.assertTrue(session.listed().startswith("main "))
+            with self.assertRaisesRegex(Fault, "somebody answers at"):
+                session.clean()
+            self.assertEqual(self.names(), before)
+            self.assertTrue(session.has_terminals())
+
+    def test_takes_none(self):
+        """Where who listens takes no connection nothing is done, and that is told."""
+        (self.folder / "state.json").unlink()
+        with socket.socket(socket.AF_UNIX, socket.SOCK_STREAM) as listener, contextlib.ExitStack() as held:
+            listener.bind(str(self.folder / "clients"))
+            listener.listen(0)
+            held.enter_context(socket.socket(socket.AF_UNIX, socket.SOCK_STREAM)).connect(str(self.folder / "clients"))
+            before = self.names()
+            for does in (lambda: Session.named("main").listed(), lambda: Session.named("main").demand(), Session.named("main").clean):
+                with self.assertRaisesRegex(Fault, "takes no connection|somebody answers at"):
+                    does()
+            self.assertEqual(self.names(), before)
+
+    def test_killed(self):
+        """It is ended as any other."""
+        server = self.listening("clients")
+        (self.folder / "state.json").unlink()
+        session = Session.named("main")
+        session.demand()
+        session.end_all()
+        self.assertEqual(server.wait(10), -15)
+        with session.locked():
+            session.tidy()
+        self.assertEqual(self.names(), ["ended", "lock", "log"])
+
+
+class Starts(Sessions):
+    """Starts of what belongs to a session."""
+
+    def setUp(self):
+        super().setUp()
+        self.session = Session(self.base / "new", "new")
+
+    def test_half_way(self):
+        """What was started ends again where the rest can't be, and no folder stays where nothing was logged."""
+        with self.session.locked():
+            self.session.state = {"version": VERSION}
+            with self.assertRaisesRegex(Fault, "^session new: what keeps the shells can't be started: /no/such: No such file"):
+                with self.session.whole():
+                    server = self.session.spawned("server", ["sleep", "60"])
+                    self.session.spawned("shells", ["/no/such"])
+        self.assertIsNotNone(server.poll())
+        self.assertFalse(self.session.folder.exists())
+
+    def test_logged(self):
+        """Where something was logged the folder stays with its log alone, and the fault has what was said in one line."""
+        with self.session.locked():
+            self.session.state = {"version": VERSION}
+            with self.assertRaisesRegex(Fault, "^session new: the client start didn't start: one; two$"):
+                with self.session.whole():
+                    self.session.spawned("terminals", ["sh", "-c", "echo one >&2; echo; echo two >&2"])
+                    self.session.wait_for("terminals", 0, lambda: False)
+        self.assertEqual(self.names(self.session.folder), ["lock", "log"])
+
+    def test_unnoted(self):
+        """A process that can't be noted isn't started, and the fault tells what and why."""
+        with self.session.locked():
+            self.session.state = {"version": VERSION}
+            with mock.patch.object(self.session, "note_own", side_effect=OSError(28, "No space left on device")):
+                with self.assertRaisesRegex(Fault, "^session new: the server can't be started: it can't be noted in "):
+                    self.session.spawned("server", ["sleep", "60"])
+            with mock.patch("roam_live.processes.replace_text", side_effect=OSError(28, "No space left on device")):
+                with self.assertRaisesRegex(Fault, "^session new: the server can't be started: No space left on device"):
+                    self.session.spawned("server", ["sleep", "60"])
+            with mock.patch("subprocess.Popen", side_effect=BlockingIOError(11, "Resource temporarily unavailable")):
+                with self.assertRaisesRegex(Fault, "^session new: the relay can't be started: Resource temporarily unavailable"):
+                    self.session.spawned("relay", ["sleep", "60"])
+
+    def test_relay(self):
+        """A try to reach another machine that fails leaves no folder; one where something is logged leaves the log."""
+        for logged in (False, True):
+            near = NearSession(self.base / "ssh:there:main", "main")
+            with near.locked(), mock.patch("roam_live.sessions.TOOLS", self.base), mock.patch("roam_live.sessions.in_front"):
+                relay = self.base / "relay"
+                relay.write_text(f"#!/bin/sh\n{'echo said >> $4' if logged else ''}\nexit 3\n", encoding="utf-8")
+                relay.chmod(0o700)
+                self.assertEqual(near.start_relay(["ssh", "there"]), 3)
+            self.assertEqual(near.folder.exists() and self.names(near.folder), logged and ["lock", "log"])
+
+    def test_lock(self):
+        """A lock whose file was removed, with the folder, isn't taken for the one that others find."""
+        with self.session.locked():
+            other = Session(self.session.folder)
+            self.session.forget()
+            with other.locked(may_wait=False):
+                self.assertTrue((other.folder / "lock").exists())
+                with self.assertRaises(BlockingIOError), Session(other.folder).locked(may_wait=False):
+                    pass
+
+    def test_folder_of_another(self):
+        """Nothing is made in a folder of another user."""
+        with mock.patch("os.getuid", return_value=os.getuid() + 1):
+            with self.assertRaisesRegex(Fault, "is no folder of yours"), Session.named("main").locked():
+                pass
+            self.assertEqual(Session.named("main").places().rects, {})
+        self.assertNotIn("lock", self.names())
+
+
+class Ends(Sessions):
+    """What is said where the process that serves a session has ended."""
+
+    def met(self, near=False):
+        """A session whose server ran, and runs no more."""
+        process = subprocess.Popen(["sleep", "60"])
+        self.addCleanup(process.wait)
+        moment = begun(process.pid)
+        self.note(**{"relay" if near else "server": [process.pid, moment]})
+        session = (NearSession if near else Session)(self.folder)
+        self.assertTrue(session.runs())
+        return session, process
+
+    def test_killed(self):
+        """One that was killed isn't told as an end of the session."""
+        session, process = self.met()
+        process.kill()
+        process.wait()
+        said, status = session.ending()
+        self.assertEqual(status, 1)
+        self.assertTrue(said.startswith("[the server was killed, or has failed, and its session is gone; "))
+
+    def test_ended(self):
+        """One that was ended on purpose is; what is noted of another process is nothing."""
+        session, process = self.met()
+        note_end(self.folder, process.pid, 1)
+        self.assertEqual(session.ending()[1], 1)
+        session.end_all()
+        process.wait()
+        self.assertEqual(session.ending(), ("[the session has ended]", 0))
+
+    def test_by_hand(self):
+        """So it is with a server that was started by hand."""
+        process = subprocess.Popen(["sleep", "60"])
+        self.addCleanup(process.wait)
+        session = Session(self.folder, server=process.pid)
+        self.assertEqual(session.process("server"), process.pid)
+        note_end(self.folder, process.pid, begun(process.pid))
+        process.kill()
+        self.assertEqual(session.ending(), ("[the session has ended]", 0))
+        self.assertEqual(Session(self.folder, server=os.getpid()).ending()[1], 1)
+
+    def test_relay(self):
+        """A relay that was ended leaves the session; one that was told of the end tells it; else its log tells why it ended."""
+        session, process = self.met(near=True)
+        self.assertEqual(session.ending()[1], 1)
+        session.end_all()
+        process.wait()
+        self.assertEqual(session.ending(), ("[the relay was ended; the session goes on at the other machine]", 0))
+        (self.folder / "ended").write_text("", encoding="utf-8")
+        self.assertEqual(session.ending(), ("[the session has ended]", 0))
+        (self.folder / "ended").write_text("killed", encoding="utf-8")
+        self.assertEqual(session.ending(), ("[the server was killed, or has failed, and its session is gone]", 1))

@@ -1,0 +1,299 @@
+"""What keeps the shells of a session: what it starts where, what waits for a program that doesn't read, and who is told what."""
+import argparse
+import contextlib
+import importlib.machinery
+import importlib.util
+import io
+import os
+import pathlib
+import pty
+import select
+import shutil
+import socket
+import subprocess
+import sys
+import tempfile
+import time
+import unittest
+
+from roam_live.program import TOOLS, connected_now
+from roam_live.programs import group_in_front, working_folder
+
+
+def loaded(name):
+    """A tool as a module."""
+    loader = importlib.machinery.SourceFileLoader(name, str(TOOLS / name))
+    module = importlib.util.module_from_spec(importlib.util.spec_from_loader(name, loader))
+    loader.exec_module(module)
+    return module
+
+
+shells = loaded("pane_shells")
+
+
+def comes(test):
+    """Whether something comes to hold in time."""
+    end = time.monotonic() + 10
+    while not test() and time.monotonic() < end:
+        time.sleep(0.01)
+    return test()
+
+
+class Working(unittest.TestCase):
+    """Where a new pane's command starts."""
+
+    def setUp(self):
+        made = tempfile.TemporaryDirectory()
+        self.addCleanup(made.cleanup)
+        self.folder = pathlib.Path(os.path.realpath(made.name))
+
+    def process(self, folder):
+        """A process that is in a folder."""
+        folder.mkdir(exist_ok=True)
+        process = subprocess.Popen(["sleep", "60"], cwd=folder)
+        self.addCleanup(process.wait)
+        self.addCleanup(process.kill)
+        return process.pid
+
+    def test_first(self):
+        """The folder of the first process of which it can be read and is there."""
+        one, other = self.process(self.folder / "one"), self.process(self.folder / "o\u00e9\n\udcff")
+        self.assertEqual(working_folder([None, one, other]), str(self.folder / "one"))
+        (self.folder / "one").rmdir()
+        self.assertEqual(working_folder([one, 1 << 30, other]), str(self.folder / "o\u00e9\n\udcff"))
+        self.assertEqual(working_folder([one, None]), "")
+        self.assertEqual(working_folder([]), "")
+
+    def test_in_front(self):
+        """The process group that has a pseudo-terminal is known at its other end."""
+        process, master = pty.fork()
+        if process == 0:
+            os.execvp("sleep", ["sleep", "60"])
+        try:
+            self.assertTrue(comes(lambda: group_in_front(master) == process))
+        finally:
+            os.kill(process, 9)
+            os.waitpid(process, 0)
+            os.close(master)
+        self.assertIsNone(group_in_front(1 << 20))
+
+    def test_entered(self):
+        """Who enters a folder is told of it; one that can't be entered leaves all as it was."""
+        here = os.getcwd()
+        self.addCleanup(os.chdir, here)
+        for folder in ("", str(self.folder / "none")):
+            self.assertEqual(shells.entered(folder), {})
+            self.assertEqual(os.getcwd(), here)
+        self.assertEqual(shells.entered(str(self.folder)), {"PWD": str(self.folder)})
+        self.assertEqual(os.getcwd(), str(self.folder))
+
+
+class Typed(unittest.TestCase):
+    """What is typed and a pane's programs don't read."""
+
+    def test_dropped(self):
+        """65,536 bytes wait; what is above is dropped, which is told once until all was read."""
+        pane = shells.Pane(argparse.Namespace(dir="/no"), 4, 1, (23, 80), False)
+        said = io.StringIO()
+        with contextlib.redirect_stderr(said):
+            for _ in range(3):
+                pane.wait_typed(b"x" * 65536)
+            self.assertEqual(len(pane.to_terminal), 65536)
+            self.assertEqual(said.getvalue().count("\n"), 1)
+            self.assertIn("pane 4: what is typed isn't read there; above 65536 bytes it is dropped", said.getvalue())
+            pane.to_terminal.clear()
+            pane.is_dropping = False
+            pane.wait_typed(b"y")
+            self.assertEqual(said.getvalue().count("\n"), 1)
+        self.assertEqual(pane.to_terminal, b"y")
+
+
+class Server:
+    """What a server of panes does at its sockets, by hand."""
+
+    def __init__(self, folder):
+        self.folder = folder
+        self.listeners = {name: self.listens(name) for name in ("panes", "clients", "p1", "p2")}
+        self.follower = None
+
+    def listens(self, name):
+        """One who listens."""
+        one = socket.socket(socket.AF_UNIX, socket.SOCK_STREAM)
+        one.bind(str(self.folder / name))
+        one.listen()
+        one.settimeout(10)
+        return one
+
+    def taken(self, name):
+        """Who came to a socket."""
+        one = self.listeners[name].accept()[0]
+        one.settimeout(10)
+        return one
+
+    def close(self):
+        """Ends all."""
+        for one in self.listeners.values():
+            one.close()
+
+
+class Kept(unittest.TestCase):
+    """The tool round a server that is played by hand."""
+
+    def setUp(self):
+        made = tempfile.TemporaryDirectory()
+        self.addCleanup(made.cleanup)
+        self.folder = pathlib.Path(made.name)
+        self.server = Server(self.folder)
+        self.addCleanup(self.server.close)
+        self.held = []
+
+    def run_tool(self, *words):
+        """The tool, with a command in each pane."""
+        with open(self.folder / "said", "wb") as said:
+            process = subprocess.Popen([sys.executable, "-B", str(TOOLS / "pane_shells"), *words], stdout=said, stderr=said)
+        self.addCleanup(process.wait)
+        self.addCleanup(process.kill)
+        return process
+
+    def said(self):
+        """What the tool said."""
+        return (self.folder / "said").read_text(encoding="utf-8")
+
+    def told(self, lines):
+        """Who follows, told of panes."""
+        follower = self.server.taken("panes")
+        follower.send(lines)
+        self.held.append(follower)
+        return follower
+
+    def shows(self, pane, text):
+        """Whether a pane comes to have a text."""
+        found = b""
+        with contextlib.suppress(OSError):
+            while text not in found:
+                piece = pane.recv(4096)
+                if not piece:
+                    break
+                found += piece
+        return text in found
+
+    def test_let_go(self):
+        """A keeper that the server lets go keeps its shells, follows again, and knows then which panes are there still."""
+        process = self.run_tool(str(self.folder), "sh", "-c", "echo here; exec cat")
+        follower = self.told(b"1 1 1 23 39 1\n2 1 41 23 39 1\nfocus 1\nstarts 1 of 64\n")
+        panes = [self.server.taken(name) for name in ("p1", "p2")]
+        for pane in panes:
+            self.assertTrue(self.shows(pane, b"here"))
+        follower.close()
+        follower = self.told(b"1 1 1 23 80 1\nfocus 1\n")
+        self.assertEqual(panes[1].recv(16), b"")
+        panes[0].send(b"still\n")
+        self.assertTrue(self.shows(panes[0], b"still"))
+        self.assertIsNone(process.poll())
+        self.assertEqual(self.said(), "")
+        self.server.close()
+        follower.close()
+        self.assertEqual(process.wait(10), 0)
+
+    def test_unread(self):
+        """A pane that the server doesn't read is told of, to who follows bells too; one that it reads isn't."""
+        self.run_tool(str(self.folder), "sh", "-c", "echo here; exec cat")
+        self.told(b"1 1 1 23 39 1\n2 1 41 23 39 1\nfocus 1\n")
+        self.assertTrue(self.shows(self.server.taken("p1"), b"here"))
+        self.assertTrue(comes((self.folder / "bells").exists))
+        with connected_now(self.folder / "bells") as follower:
+            follower.setblocking(True)
+            follower.settimeout(10)
+            told = shells.UNREAD.format(2)
+            self.assertEqual(follower.recv(256), f"say {told}\n".encode())
+        self.assertEqual(self.said(), f"pane_shells: {told}\n")
+
+    def test_no_reader(self):
+        """What a pane's program doesn't read is taken from the server all the same, and dropped above a limit; other panes go on."""
+        command = "stty raw -echo; echo here; [ $ROAM_PANE = ${ROAM_PANE%1} ] || sleep 60; exec cat"
+        process = self.run_tool(str(self.folder), "sh", "-c", command)
+        self.told(b"1 1 1 23 39 1\n2 1 41 23 39 1\nfocus 1\n")
+        panes = [self.server.taken(name) for name in ("p1", "p2")]
+        for pane in panes:
+            self.assertTrue(self.shows(pane, b"here"))
+        for _ in range(200):
+            panes[0].sendall(b"x" * 4000)
+        panes[1].sendall(b"goes on")
+        self.assertTrue(self.shows(panes[1], b"goes on"))
+        self.assertEqual(self.said(), "pane_shells: pane 1: what is typed isn't read there; above 65536 bytes it is dropped\n")
+        text = pathlib.Path(f"/proc/{process.pid}/status").read_text(encoding="utf-8")
+        self.assertLess(next(int(line.split()[1]) for line in text.splitlines() if line.startswith("VmRSS")), 60_000)
+
+    def test_never(self):
+        """One that can't follow from the start says so in a pane, and comes to follow."""
+        process = self.run_tool(str(self.folder), "sh", "-c", "echo here; exec cat")
+        for _ in range(2):
+            self.server.taken("panes").close()
+        with self.server.taken("p1") as pane:
+            self.assertTrue(self.shows(pane, b"[no shell: the panes can't be followed: "))
+        self.assertIn("the panes can't be followed: ", self.said())
+        self.told(b"1 1 1 23 80 1\nfocus 1\n")
+        self.assertTrue(self.shows(self.server.taken("p1"), b"here"))
+        self.assertTrue(comes(lambda: "the panes are followed again" in self.said()))
+        self.assertIsNone(process.poll())
+
+    def test_folder_taken(self):
+        """A keeper whose folder was removed, and made anew by another session, goes to none of its sockets, and writes nothing there."""
+        self.run_tool(str(self.folder), "sh", "-c", "echo here; exec cat")
+        follower = self.told(b"1 1 1 23 80 1\nfocus 1\n")
+        pane = self.server.taken("p1")
+        self.assertTrue(self.shows(pane, b"here") and comes((self.folder / "rects").exists))
+        self.folder.rename(self.folder.with_name(self.folder.name + "-old"))
+        self.addCleanup(shutil.rmtree, str(self.folder) + "-old")
+        self.folder.mkdir()
+        other = Server(self.folder)
+        self.addCleanup(other.close)
+        follower.send(b"2 1 41 23 39 1\nfocus 2\n")
+        pane.send(b"still\n")
+        self.assertTrue(self.shows(pane, b"still"))
+        said = pathlib.Path(str(self.folder) + "-old", "said")
+        told = "pane_shells: pane 2: the session's folder was removed; tried again\n"
+        self.assertTrue(comes(lambda: told in said.read_text(encoding="utf-8")))
+        self.assertEqual(select.select([other.listeners["p2"], other.listeners["panes"]], [], [], 0.5)[0], [])
+        self.assertFalse((self.folder / "rects").exists())
+
+    def test_last(self):
+        """The end of the last shell is noted before the server is ended."""
+        server = subprocess.Popen(["sleep", "60"])
+        self.addCleanup(server.wait)
+        self.addCleanup(server.kill)
+        process = self.run_tool("--close", "--server", str(server.pid), str(self.folder), "true")
+        moment = pathlib.Path(f"/proc/{server.pid}/stat").read_text(encoding="utf-8").rpartition(")")[2].split()[19]
+        self.told(b"1 1 1 23 80 1\nfocus 1\n")
+        pane = self.server.taken("p1")
+        pane.setblocking(True)
+        self.assertEqual(server.wait(10), -15)
+        self.assertEqual((self.folder / "ended").read_text(encoding="utf-8"), f"{server.pid} {moment}\n")
+        self.assertEqual(process.wait(10), 0)
+        pane.close()
+
+    def test_folder(self):
+        """A new pane's command starts where the program in front in the pane in focus is; the first one's where the server is."""
+        (self.folder / "there").mkdir()
+        server = subprocess.Popen(["sleep", "60"], cwd=self.folder / "there")
+        self.addCleanup(server.wait)
+        self.addCleanup(server.kill)
+        self.run_tool("--server", str(server.pid), str(self.folder), "sh", "-c", 'echo "$PWD=$(pwd)."; cd /usr; exec cat')
+        follower = self.told(b"1 1 1 23 80 1\nfocus 1\n")
+        there = os.fsencode(os.path.realpath(self.folder / "there"))
+        self.assertTrue(self.shows(self.server.taken("p1"), there + b"=" + there + b"."))
+        child = int(self.children_of(self.held_process())[0])
+        self.assertTrue(comes(lambda: os.readlink(f"/proc/{child}/cwd") == "/usr"))
+        follower.send(b"1 1 1 23 39 1\n2 1 41 23 39 1\nfocus 2\n")
+        self.assertTrue(self.shows(self.server.taken("p2"), b"/usr=/usr."))
+
+    def held_process(self):
+        """The tool's process."""
+        own = pathlib.Path(f"/proc/{os.getpid()}/task/{os.getpid()}/children").read_text(encoding="utf-8").split()
+        return next(one for one in own if b"pane_shells" in pathlib.Path(f"/proc/{one}/cmdline").read_bytes())
+
+    def children_of(self, process):
+        """The processes that a process started."""
+        path = pathlib.Path(f"/proc/{process}/task/{process}/children")
+        comes(lambda: path.read_text(encoding="utf-8").split())
+        return path.read_text(encoding="utf-8").split()
