@@ -22,6 +22,9 @@ TOOLS = pathlib.Path(__file__).resolve().parent.parent
 PLACES = (TOOLS.parent / "crates/roam/out/roam", TOOLS / "roam", TOOLS.parent / "bin/roam", TOOLS.parent.parent / "bin/roam")
 
 
+# The variable by which a program is asked to tell why it ended. What runs in a pane isn't asked so.
+ASKS_WHY = "ROAM_WHY"
+
 # How many seconds a socket that isn't there yet is waited for, and after how many that is said.
 LONGEST_WAIT = 10.0
 SAID_AFTER = 0.5
@@ -77,7 +80,9 @@ def unforeseen(fault):
 
 
 def run_tool(main):
-    """Runs a tool; a fault is one line on standard error and status 1. `python3 -X dev` shows where one comes from that nobody foresaw."""
+    """Runs a tool; a fault is one line on standard error and status 1. `python3 -X dev` shows where one comes from that nobody foresaw. The
+    programs that it runs tell why they ended."""
+    os.environ.setdefault(ASKS_WHY, "1")
     signal.signal(signal.SIGINT, signal.default_int_handler)
     try:
         status = main()

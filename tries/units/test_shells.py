@@ -15,6 +15,7 @@ import sys
 import tempfile
 import time
 import unittest
+import unittest.mock
 
 from roam_live.program import TOOLS, connected_now
 from roam_live.programs import group_in_front, working_folder
@@ -37,6 +38,16 @@ def comes(test):
     while not test() and time.monotonic() < end:
         time.sleep(0.01)
     return test()
+
+
+class Surroundings(unittest.TestCase):
+    """What a pane's command has of the environment."""
+
+    def test_not_asked(self):
+        """The pane's name, and nothing that tells of another terminal or asks the programs of a session why they ended."""
+        with unittest.mock.patch.dict(os.environ, {"ROAM_WHY": "1", "TMUX": "another", "KEPT": "one"}):
+            found = shells.surroundings("folder", 3)
+        self.assertEqual((found.get("ROAM_WHY"), found.get("TMUX"), found["KEPT"], found["ROAM_PANE"]), (None, None, "one", "folder:3"))
 
 
 class Working(unittest.TestCase):
