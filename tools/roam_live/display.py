@@ -124,7 +124,7 @@ class Display:
 
     def uncover(self):
         """Shows the session again, where it fits."""
-        self.cover = ""
+        self.cover, self.is_refused = "", False
         self.outer.waiting += terminal.CLEARED
         self.moments.drop("hide")
         self.is_hidden = not self.fits()
@@ -173,8 +173,8 @@ class Display:
         self.moments.later("refused", SETTLES + REFUSES, self.refused)
 
     def refused(self):
-        """Tells that the session hasn't got the size that it was given."""
-        self.is_refused = True
+        """Tells where the session hasn't got the size that it was given."""
+        self.is_refused = not self.fits()
         self.tell_small()
 
     def resized(self):

@@ -228,6 +228,19 @@ class Sizes(unittest.TestCase):
         person.types(b"\x02r")
         person.display.refused()
         self.assertIn("its panes have no room here", person.display.cover)
+        person.display.painted(painting(4, 8))
+        self.assertEqual(person.display.cover, "")
+        person.display.painted(painting(24, 80))
+        self.assertIn("cuts what", person.display.cover)
+
+    def test_given_and_had(self):
+        """A size that was had isn't told as refused, when another makes the session larger later."""
+        person = Person(24, 100, is_new=True)
+        person.display.painted(painting(24, 100))
+        person.display.refused()
+        person.passes()
+        person.display.painted(painting(40, 120))
+        self.assertEqual(person.display.cover, f"too small: 24 by 100 of 40 by 120\n{FITS}\nC-b d leaves")
 
     def test_watcher(self):
         person = Person(12, 40, watches=True, told=places(24, 100))
