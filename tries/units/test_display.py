@@ -231,7 +231,8 @@ class Sizes(unittest.TestCase):
         person.display.painted(painting(4, 8))
         self.assertEqual(person.display.cover, "")
         person.display.painted(painting(24, 80))
-        self.assertIn("cuts what", person.display.cover)
+        person.passes()
+        self.assertIn("cuts", person.display.cover)
 
     def test_given_and_had(self):
         """A size that was had isn't told as refused, when another makes the session larger later."""
