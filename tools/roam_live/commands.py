@@ -134,7 +134,7 @@ class Commands:
         if not terminal.is_large_enough(size):
             self.display.hide()
         elif not self.link.watches:
-            self.display.size_asked()
+            self.display.size_asked(terminal.largest(size))
             self.act(terminal.size_act(size))
 
     def session_size(self):

@@ -72,9 +72,9 @@ class Display:
         self.held = b""
         self.is_stale = True
         self.cover = self.told = ""
-        # Whether a session is hidden that is larger than the terminal; until when it may get the size that it was given, and whether it was
-        # refused that.
-        self.is_hidden, self.settled_at, self.is_refused = False, 0.0, False
+        # Whether a session is hidden that is larger than the terminal; the size that it was given last, until when it may get that, and
+        # whether it was refused it.
+        self.is_hidden, self.given, self.settled_at, self.is_refused = False, (0, 0), 0.0, False
         # What tells which key fits the session to this terminal, where that may be, and which leaves.
         self.fits_line = self.leaves_line = ""
 
@@ -88,6 +88,8 @@ class Display:
         if self.extent.fed(piece):
             self.moments.drop("repaint")
         text = self.fresh(piece)
+        if self.extent.size == self.given:
+            self.moments.drop("refused")
         if not self.fits():
             self.hide()
         elif self.is_hidden:
@@ -167,9 +169,9 @@ class Display:
         lines = [f"{TOO_SMALL}: {rows} by {cols} of {need[0]} by {need[1]}", way if is_possible else "", self.leaves_line]
         return "\n".join(filter(None, lines))
 
-    def size_asked(self):
+    def size_asked(self, size):
         """Waits for a size that the session was given."""
-        self.settled_at, self.is_refused = time.monotonic() + SETTLES, False
+        self.given, self.settled_at, self.is_refused = size, time.monotonic() + SETTLES, False
         self.moments.later("refused", SETTLES + REFUSES, self.refused)
 
     def refused(self):

@@ -237,8 +237,9 @@ class Sizes(unittest.TestCase):
     def test_given_and_had(self):
         """A size that was had isn't told as refused, when another makes the session larger later."""
         person = Person(24, 100, is_new=True)
+        self.assertIn("refused", person.moments.due)
         person.display.painted(painting(24, 100))
-        person.display.refused()
+        self.assertNotIn("refused", person.moments.due)
         person.passes()
         person.display.painted(painting(40, 120))
         self.assertEqual(person.display.cover, f"too small: 24 by 100 of 40 by 120\n{FITS}\nC-b d leaves")
