@@ -47,7 +47,9 @@ try: all
 	tools/clauses
 	tools/names
 	tools/two_processes
+	tries/unit
 	tools/try_live
+	tools/try_faults
 
 PREFIX ?= /usr/local
 installed = $(DESTDIR)$(PREFIX)

@@ -21,8 +21,9 @@ MOST_FOLLOWERS = 16
 # So many seconds after who told bells has ended, or was refused, the socket is connected to again.
 AGAIN = 1.0
 
-# A line that tells a bell: panes are 1 to 9.
+# A line that tells a bell: panes are 1 to 9. And one that tells something else, in printable ASCII.
 TOLD = re.compile(r"bell ([1-9])")
+SAID = re.compile(r"say ([ -~]{1,200})")
 
 
 class Bells:
@@ -63,6 +64,8 @@ class BellSource:
         self.followers = []
         self.rung_at = {}
         self.deaf_until = 0.0
+        # What each who comes is told in words.
+        self.standing = ""
 
     def sources(self):
         """What is to be read: those that come, and the ends of those that are there. Where as many follow as may, who comes waits."""
@@ -87,6 +90,8 @@ class BellSource:
         if is_own_peer(peer):
             peer.setblocking(False)
             self.followers.append(peer)
+            if self.standing:
+                self.send(f"say {self.standing}", [peer])
         else:
             peer.close()
 
@@ -96,9 +101,17 @@ class BellSource:
         if now < self.rung_at.get(pane, 0.0) + APART:
             return
         self.rung_at[pane] = now
-        for peer in list(self.followers):
+        self.send(f"bell {pane}")
+
+    def say(self, text: str):
+        """Tells something in words, in printable ASCII."""
+        self.send(f"say {text}")
+
+    def send(self, line: str, peers: list | None = None):
+        """Sends a line to those of who follow, or to all of them; who doesn't take it is let go."""
+        for peer in list(self.followers if peers is None else peers):
             try:
-                peer.send(f"bell {pane}\n".encode())
+                peer.send(f"{line}\n".encode("ascii", "replace"))
             except OSError:
                 self.drop(peer)
 
@@ -124,6 +137,8 @@ class BellFollower:
         self.lines = Lines()
         # When the socket may be connected to again.
         self.again_at = 0.0
+        # What was said in words, and not taken yet.
+        self.words: list[str] = []
 
     def connect(self):
         """Connects where somebody of this user tells bells: not again within a second of an end, so that one who ends each connection at
@@ -155,5 +170,11 @@ class BellFollower:
         if piece == b"":
             self.peer.close()
             self.peer, self.again_at = None, time.monotonic() + AGAIN
-        found = [TOLD.fullmatch(line) for line in self.lines.fed(piece or b"")]
-        return [int(line[1]) for line in found if line]
+        lines = self.lines.fed(piece or b"")
+        self.words += [found[1] for found in map(SAID.fullmatch, lines) if found][-1:]
+        return [int(found[1]) for found in map(TOLD.fullmatch, lines) if found]
+
+    def said(self) -> list[str]:
+        """What was said in words since this was asked last."""
+        words, self.words = self.words, []
+        return words

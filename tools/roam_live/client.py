@@ -159,6 +159,8 @@ class Client:
             self.display.tell(said, LOSS_TOLD)
         for pane in self.bells.rung(readable):
             self.commands.ring(pane)
+        for words in self.bells.said():
+            self.display.tell(words, LOSS_TOLD)
         # What is at hand goes at once, where it is taken: a person waits for each key.
         if outer.waiting and not write(outer.end, outer.waiting):
             self.leave("", 1)

@@ -2,27 +2,33 @@
 from __future__ import annotations
 
 import time
+from collections.abc import Callable
 
 from roam_live.program import Lines, connected, connected_now, read, reason, say, write
 
-# The pauses before a connection that the server ended is had again, and what is told once it took longer than the first of them.
+# The pauses before a connection that the server ended is had again; why it can't be is told once it took longer than the first of them.
 PAUSES = (0.1, 1, 2, 4, 8, 15)
 LET_GO = "the server lets this go, as where eight others follow the panes"
+
+# So many seconds a server has until it tells something: it may have taken none of those that came.
+QUIET = 3.0
+TELLS_NOTHING = "the server tells nothing, as where no descriptor is left for it"
 
 
 class Following:
     """Follows a socket `panes`. A connection that ends is had again after pauses, where the server isn't gone with it."""
 
-    def __init__(self, path: str):
-        self.path = path
+    def __init__(self, path: str, tells: Callable[[str], None] = say):
+        self.path, self.tells = path, tells
         self.peer = connected(path)
         self.lines = Lines()
         self.waiting = bytearray()
-        # How often in a row nothing came, when it is tried again, and whether that was told.
+        # How often in a row nothing came, when it is tried again, and by when something has to come.
         self.faults = 0
         self.again_at: float | None = None
-        self.why = ""
-        self.is_told = False
+        self.quiet_at: float | None = time.monotonic() + QUIET
+        # Why it can't follow, and what was told of that.
+        self.why = self.told = ""
         # Whether the server is gone, as far as its socket tells.
         self.is_gone = False
 
@@ -39,18 +45,22 @@ class Following:
         if self.peer:
             self.waiting += f"{line}\n".encode()
 
-    def wait_time(self) -> float | None:
-        """How long it isn't tried again; None where there is no need to."""
-        return None if self.again_at is None else max(0.0, self.again_at - time.monotonic())
+    def moments(self) -> list[float]:
+        """When something is due."""
+        return [moment for moment in (self.again_at, self.quiet_at) if moment is not None]
 
     def turn(self, readable: list, writable: list) -> list[str]:
         """Does what can be done now, and tells the lines that came."""
-        if self.again_at is not None and time.monotonic() >= self.again_at:
+        now = time.monotonic()
+        if self.again_at is not None and now >= self.again_at:
             self.connect()
             return []
         if self.peer in writable:
             write(self.peer.fileno(), self.waiting)
         if self.peer not in readable:
+            if self.quiet_at is not None and now >= self.quiet_at:
+                self.quiet_at = None
+                self.tell(TELLS_NOTHING)
             return []
         piece = read(self.peer.fileno())
         if piece == b"":
@@ -60,11 +70,11 @@ class Following:
 
     def heard(self, lines: list[str]) -> list[str]:
         """Takes note that something came."""
-        if lines and self.faults:
-            self.faults = 0
-            if self.is_told:
-                say("the panes are followed again")
-            self.is_told = False
+        if lines:
+            self.faults, self.quiet_at = 0, None
+            if self.told:
+                self.told = ""
+                self.tells("the panes are followed again")
         return lines
 
     def lost(self, why: str):
@@ -72,12 +82,17 @@ class Following:
         if self.peer:
             self.peer.close()
             self.peer = None
-        self.why = why
+        self.why, self.quiet_at = why, None
         self.again_at = time.monotonic() + PAUSES[min(self.faults, len(PAUSES) - 1)]
         self.faults += 1
-        if self.faults > 1 and not self.is_told:
-            self.is_told = True
-            say(f"the panes can't be followed: {why}; tried again")
+        if self.faults > 1 and not self.is_gone:
+            self.tell(why)
+
+    def tell(self, why: str):
+        """Tells once why it can't follow."""
+        if not self.told:
+            self.why, self.told = why, f"the panes can't be followed: {why}"
+            self.tells(self.told)
 
     def connect(self):
         """Connects anew. What is told then is all anew, and what was asked is asked again by who needs it."""
@@ -85,7 +100,7 @@ class Following:
         self.waiting.clear()
         try:
             self.peer, self.lines = connected_now(self.path), Lines()
-            self.is_gone = False
+            self.is_gone, self.quiet_at = False, time.monotonic() + QUIET
         except OSError as fault:
             self.is_gone = isinstance(fault, (FileNotFoundError, ConnectionRefusedError, PermissionError))
             self.lost(reason(fault))

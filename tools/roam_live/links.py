@@ -147,6 +147,8 @@ class Keeper:
         try:
             self.link.connect()
             return None
+        except PermissionError as fault:
+            return self.failed(f"{self.link.path}: {reason(fault)}")
         except OSError as fault:
             why = reason(fault)
         now = time.monotonic()

@@ -50,7 +50,7 @@ class Processes:
         # The processes that this one started, which it takes note of once they have ended.
         self.own = {}
         # The process that serves, and when it began, as it ran when it was last looked at.
-        self.met = None
+        self.met = [server, begun(server)] if server else None
         self.read()
 
     def read(self):
@@ -64,7 +64,6 @@ class Processes:
     def process(self, role):
         """The process of a role; None where none runs."""
         if role == "server" and self.by_hand:
-            self.met = self.met or [self.by_hand, begun(self.by_hand)]
             return self.by_hand
         own = self.own.get(role)
         if own:

@@ -381,6 +381,11 @@ class Home:
         """Whether a server is there."""
         return is_listened(f"{self.folder}/clients") if self.folder else is_port_served(self.port)
 
+    def why_unserved(self) -> str:
+        """Why none is known to be there, where that is more than that nobody listens."""
+        why = unheard(f"{self.folder}/clients") if self.folder and os.path.exists(f"{self.folder}/clients") else ""
+        return f": {why}" if why and why != os.strerror(errno.ECONNREFUSED) else ""
+
     def attach_words(self, more):
         """The words of a client start; no id stands in them where the folder keeps others out."""
         if self.folder:

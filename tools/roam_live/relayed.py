@@ -24,9 +24,12 @@ COUNT = struct.Struct(">cQ")
 
 # The kinds of what the ends tell each other, and the bytes of those that have always as many. None has more than a kind and places.
 HAD, ENDED, RECTS, BELL = b"h", b"e", b"p", b"b"
-TOLD_LENGTHS = {HAD: COUNT.size, ENDED: 1, BELL: 2}
+TOLD_LENGTHS = {HAD: COUNT.size, BELL: 2}
 PLACES_LIMIT = 4096
 MOST_TOLD = 1 + PLACES_LIMIT
+
+# An end by which the server was killed; an earlier end of a relay knows it as nothing.
+KILLED = ENDED + b"k"
 
 # So many bytes at most are on their way, and what came is told after so many.
 WINDOW = 1 << 17
@@ -92,7 +95,8 @@ def demand_length(peer: int, length: int) -> None:
 def demand_told(text: bytes) -> None:
     """Refuses what an end tells that hasn't the length of its kind, or names no pane. A kind that isn't known is no fault."""
     kind = text[:1]
-    if len(text) != TOLD_LENGTHS.get(kind, len(text)) or kind == BELL and not 1 <= text[1] <= MOST_PANES:
+    is_wrong = len(text) != TOLD_LENGTHS.get(kind, len(text)) or kind == ENDED and text not in (ENDED, KILLED)
+    if is_wrong or kind == BELL and not 1 <= text[1] <= MOST_PANES:
         raise BadWords(f"what the other end tells can't be read: {text[:16]!r}")
 
 

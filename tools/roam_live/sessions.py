@@ -74,7 +74,7 @@ def session_named(name: str) -> Session:
 
 def sessions_here() -> list[Session]:
     """The sessions of which there are folders, by name: those of other machines behind those of this one."""
-    folders = sorted(path for path in base().iterdir() if path.is_dir())
+    folders = sorted(path for path in base().iterdir() if path.is_dir() and len(str(path / "terminals")) <= LONGEST_PATH)
     own = [Session(path) for path in folders if NAME.fullmatch(path.name)]
     return own + [NearSession(path) for path in folders if NEAR_NAME.fullmatch(path.name)]
 
@@ -138,6 +138,9 @@ class Session(Processes):
         """The panes in which another program than a shell runs, and its name."""
         from roam_live.programs import busy_panes
 
+        if self.state is None:
+            with contextlib.suppress(Fault):
+                self.find()
         shells = self.process("shells")
         return busy_panes(shells) if shells else {}
 
@@ -348,6 +351,8 @@ class NearSession(Session):
         """What is said where the relay has ended, and the status."""
         if self.met and self.ended() == end_words(*self.met):
             return "[the relay was ended; the session goes on at the other machine]", 0
+        if self.ended() == "killed":
+            return "[the server was killed, or has failed, and its session is gone]", 1
         if (self.folder / "ended").exists():
             return "[the session has ended]", 0
         return f"[the relay has ended; {self.log} tells why]", 1

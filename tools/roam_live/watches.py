@@ -1,12 +1,15 @@
 """Sees the end of what keeps a session's shells, and has it started anew."""
+from __future__ import annotations
+
 import os
 import time
 
 from roam_live.program import Fault, opened_process, reason
 
-# So many seconds after that end it is known whether it is the session's, and so many later what couldn't be started is tried again.
-SURE = 0.3
-AGAIN = 1.0
+# So many seconds after its end what kept the shells is started anew: by the first it is known whether that is the session's end. One that
+# lasted so long had no fault at its start.
+PAUSES = (0.3, 1, 2, 4, 8, 15)
+SOUND = 5.0
 
 
 class ShellsWatch:
@@ -15,12 +18,16 @@ class ShellsWatch:
     def __init__(self, place):
         self.place = place
         self.file = self.due = None
+        # How often in a row it ended soon, or couldn't be started, and since when it runs.
+        self.faults = 0
+        self.since = 0.0
         self.follow()
 
     def follow(self):
         """Follows the process that runs now."""
         process = self.place.process("shells")
         self.file = opened_process(process) if process else None
+        self.since = time.monotonic()
 
     def sources(self):
         """What can be read at its end."""
@@ -30,11 +37,17 @@ class ShellsWatch:
         """How long nothing is due; None where nothing is."""
         return max(0.0, self.due - time.monotonic()) if self.due else None
 
-    def turn(self, readable):
+    def wait(self) -> float:
+        """Has it tried after a pause, which grows with each fault, and tells that pause."""
+        pause = PAUSES[min(self.faults, len(PAUSES) - 1)]
+        self.faults += 1
+        self.due = time.monotonic() + pause
+        return pause
+
+    def turn(self, readable) -> str:
         """Does what is due, and tells of it in a line; nothing where there is nothing to tell."""
         if self.file in readable:
-            os.close(self.file)
-            self.file, self.due = None, time.monotonic() + SURE
+            return self.ended()
         if not self.due or time.monotonic() < self.due:
             return ""
         self.due = None
@@ -43,7 +56,16 @@ class ShellsWatch:
                 self.follow()
                 return "the shells had ended: new ones are there, and what was typed meanwhile is dropped"
         except (Fault, OSError) as fault:
-            self.due = time.monotonic() + AGAIN
-            return f"the shells have ended, and can't be started: {reason(fault)}"
-        self.due = time.monotonic() + AGAIN
+            return f"the shells have ended, and can't be started: {reason(fault)}; tried again in {self.wait()} s"
+        # Another starts them just now, or the session has ended.
+        self.due = time.monotonic() + PAUSES[1]
         return ""
+
+    def ended(self) -> str:
+        """Takes note of an end, and tells of one that came soon after the start."""
+        os.close(self.file)
+        self.file = None
+        if time.monotonic() > self.since + SOUND:
+            self.faults = 0
+        pause = self.wait()
+        return f"what keeps the shells ended again; it is started anew in {pause} s" if self.faults > 1 else ""

@@ -116,6 +116,23 @@ class Bells(unittest.TestCase):
         peer.send(b"\xff\xfe\nbell 9\n")
         self.assertEqual(self.heard(one), [9])
 
+    def test_words(self):
+        """What is said in words comes in printable ASCII, and no more than the last of what comes at once."""
+        one = self.follower()
+        self.turns()
+        self.source.say("pane 3 isn't sh\u00f6wn")
+        self.assertEqual(self.heard(one), [])
+        self.assertEqual((one.said(), one.said()), (["pane 3 isn't sh?wn"], []))
+        self.source.standing = "one for who comes"
+        late = self.follower()
+        self.turns()
+        self.heard(late)
+        self.heard(one)
+        self.assertEqual((one.said(), late.said()), ([], ["one for who comes"]))
+        self.source.followers[0].send(b"say one\nsay \x1b]0;x\x07\nsay " + b"x" * 300 + b"\nsay two\n")
+        self.heard(one)
+        self.assertEqual(one.said(), ["two"])
+
     def test_blocked(self):
         """A source that takes none holds nobody up, and none that reads nothing holds the source up."""
         for _ in range(40):

@@ -8,7 +8,7 @@ import tempfile
 import unittest
 from unittest import mock
 
-from roam_live.following import LET_GO, PAUSES, Following
+from roam_live.following import LET_GO, PAUSES, QUIET, TELLS_NOTHING, Following
 
 
 class Follows(unittest.TestCase):
@@ -55,7 +55,19 @@ class Follows(unittest.TestCase):
         self.following.ask("close 1 1")
         self.assertEqual(self.turn(), ["focus 1"])
         self.assertEqual(self.server.recv(64), b"close 1 1\n")
-        self.assertIsNone(self.following.wait_time())
+        self.assertEqual(self.following.moments(), [])
+
+    def test_quiet(self):
+        """A server that takes the connection and tells nothing is told of once, and that it is over."""
+        self.assertEqual(self.following.moments(), [self.now + QUIET])
+        self.now += QUIET
+        for _ in range(3):
+            self.assertEqual(self.turn(), [])
+        self.assertEqual(self.said.getvalue().count(f"the panes can't be followed: {TELLS_NOTHING}\n"), 1)
+        self.assertEqual(self.following.moments(), [])
+        self.server.send(b"focus 1\n")
+        self.turn()
+        self.assertEqual((self.following.told, self.said.getvalue().count("the panes are followed again\n")), ("", 1))
 
     def test_let_go(self):
         """A server that ends each connection is tried after pauses that grow, and that is told once, and that it is over."""
@@ -64,7 +76,7 @@ class Follows(unittest.TestCase):
             self.server.close()
             self.assertEqual(self.turn(), [])
             self.assertIsNone(self.following.peer)
-            tried.append(round(self.following.wait_time(), 3))
+            tried.append(round(self.following.again_at - self.now, 3))
             self.assertEqual(self.turn(), [])
             self.assertIsNone(self.following.peer)
             self.now = self.following.again_at
@@ -72,7 +84,7 @@ class Follows(unittest.TestCase):
             self.server = self.taken()
         self.assertEqual(tried, [*PAUSES, *[PAUSES[-1]] * 3])
         self.assertFalse(self.following.is_gone)
-        self.assertEqual(self.said.getvalue().count(f"the panes can't be followed: {LET_GO}; tried again\n"), 1)
+        self.assertEqual(self.said.getvalue().count(f"the panes can't be followed: {LET_GO}\n"), 1)
         self.server.send(b"focus 1\n")
         self.assertEqual(self.turn(), ["focus 1"])
         self.assertEqual(self.said.getvalue().count("the panes are followed again\n"), 1)

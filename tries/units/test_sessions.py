@@ -305,3 +305,5 @@ class Ends(Sessions):
         self.assertEqual(session.ending(), ("[the relay was ended; the session goes on at the other machine]", 0))
         (self.folder / "ended").write_text("", encoding="utf-8")
         self.assertEqual(session.ending(), ("[the session has ended]", 0))
+        (self.folder / "ended").write_text("killed", encoding="utf-8")
+        self.assertEqual(session.ending(), ("[the server was killed, or has failed, and its session is gone]", 1))

@@ -14,7 +14,7 @@ import tempfile
 import time
 import unittest
 
-from roam_live.program import TOOLS
+from roam_live.program import TOOLS, connected_now
 from roam_live.programs import group_in_front, working_folder
 
 
@@ -192,6 +192,19 @@ class Kept(unittest.TestCase):
         self.server.close()
         follower.close()
         self.assertEqual(process.wait(10), 0)
+
+    def test_unread(self):
+        """A pane that the server doesn't read is told of, to who follows bells too; one that it reads isn't."""
+        self.run_tool(str(self.folder), "sh", "-c", "echo here; exec cat")
+        self.told(b"1 1 1 23 39 1\n2 1 41 23 39 1\nfocus 1\n")
+        self.assertTrue(self.shows(self.server.taken("p1"), b"here"))
+        self.assertTrue(comes((self.folder / "bells").exists))
+        with connected_now(self.folder / "bells") as follower:
+            follower.setblocking(True)
+            follower.settimeout(10)
+            told = shells.UNREAD.format(2)
+            self.assertEqual(follower.recv(256), f"say {told}\n".encode())
+        self.assertEqual(self.said(), f"pane_shells: {told}\n")
 
     def test_never(self):
         """One that can't follow from the start says so in a pane, and comes to follow."""

@@ -1,0 +1,100 @@
+"""What sees the end of what keeps a session's shells: it is started anew, after pauses that grow where it ends at once."""
+import os
+import unittest
+from unittest import mock
+
+from roam_live.program import Fault
+from roam_live.watches import PAUSES, SOUND, ShellsWatch
+
+
+class Place:
+    """A session whose shells are revived, or can't be."""
+
+    def __init__(self):
+        self.fault = None
+        self.revived = 0
+        self.is_revived = True
+
+    def process(self, role):
+        """The process of a role."""
+        return {"shells": 17}[role]
+
+    def revive_shells(self):
+        """Starts them anew."""
+        if self.fault:
+            raise self.fault
+        self.revived += self.is_revived
+        return self.is_revived
+
+
+class Watches(unittest.TestCase):
+    """A watch over a process that is a pipe here, and a clock that is set by hand."""
+
+    def setUp(self):
+        self.now, self.writer = 100.0, None
+        for patched in (mock.patch("time.monotonic", lambda: self.now), mock.patch("roam_live.watches.opened_process", self.opened)):
+            patched.start()
+            self.addCleanup(patched.stop)
+        self.place = Place()
+        self.watch = ShellsWatch(self.place)
+        self.addCleanup(lambda: self.watch.file and os.close(self.watch.file))
+
+    def opened(self, process):
+        """A process that runs."""
+        reader, writer = os.pipe()
+        os.close(writer)
+        return reader
+
+    def end(self):
+        """Has the process end; what is said."""
+        return self.watch.turn(self.watch.sources())
+
+    def pass_time(self):
+        """Waits until something is due, and does it; how long, and what is said."""
+        wait = self.watch.wait_time()
+        self.now += wait
+        return round(wait, 3), self.watch.turn([])
+
+    def test_once(self):
+        """The end of one that ran for long is made good soon, and told once it is."""
+        self.now += SOUND + 1
+        self.assertEqual(self.end(), "")
+        self.assertEqual(self.watch.turn([]), "")
+        wait, said = self.pass_time()
+        self.assertEqual(wait, PAUSES[0])
+        self.assertTrue(said.startswith("the shells had ended: new ones are there"))
+        self.assertIsNone(self.watch.wait_time())
+
+    def test_again(self):
+        """One that ends at once each time is started anew after pauses that grow, and that is told."""
+        self.now += SOUND + 1
+        waits, said = [], []
+        for _ in range(8):
+            said.append(self.end())
+            waits.append(self.pass_time()[0])
+        self.assertEqual(waits, [*PAUSES, PAUSES[-1], PAUSES[-1]])
+        self.assertEqual(said[0], "")
+        wanted = [f"what keeps the shells ended again; it is started anew in {wait} s" for wait in (*PAUSES[1:], PAUSES[-1], PAUSES[-1])]
+        self.assertEqual(said[1:], wanted)
+        self.now += SOUND + 1
+        self.assertEqual(self.end(), "")
+        self.assertEqual(self.pass_time()[0], PAUSES[0])
+
+    def test_refused(self):
+        """What can't be started is told with the reason, and tried again after pauses that grow."""
+        self.place.fault = Fault("no room")
+        self.now += SOUND + 1
+        self.end()
+        told = [self.pass_time() for _ in range(3)]
+        self.assertEqual([wait for wait, _ in told], list(PAUSES[:3]))
+        self.assertEqual(told[0][1], f"the shells have ended, and can't be started: no room; tried again in {PAUSES[1]} s")
+        self.place.fault = None
+        self.assertTrue(self.pass_time()[1].startswith("the shells had ended"))
+
+    def test_by_another(self):
+        """Where another starts them, or the session ends, nothing is told."""
+        self.place.is_revived = False
+        self.end()
+        self.assertEqual(self.pass_time()[1], "")
+        self.place.is_revived = True
+        self.assertEqual(self.pass_time()[0], PAUSES[1])
