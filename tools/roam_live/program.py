@@ -84,7 +84,7 @@ def run_tool(main):
         sys.stdout.flush()
         sys.exit(status)
     except Fault as fault:
-        sys.exit(f"{tool_name()}: {one_line(fault)}")
+        sys.exit(one_line(f"{tool_name()}: {fault}"))
     except OSError as fault:
         if isinstance(fault, BrokenPipeError) and nobody_reads():
             sys.exit(128 + signal.SIGPIPE)

@@ -9,6 +9,8 @@ import signal
 import struct
 import termios
 
+from roam_live.words import printable
+
 # The sizes that a session may have.
 LEAST = (4, 8)
 MOST = (200, 500)
@@ -90,7 +92,7 @@ def execute(command, environment, more=""):
     try:
         os.execvpe(command[0], command, environment)
     except OSError as fault:
-        os.write(2, f"{command[0]}: {fault.strerror}{more}\n".encode("utf-8", "replace"))
+        os.write(2, f"{printable(f'{command[0]}: {fault.strerror}{more}')}\n".encode("utf-8", "replace"))
 
 
 def is_large_enough(size):
