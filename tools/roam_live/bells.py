@@ -8,7 +8,7 @@ import re
 import time
 
 from roam_live.carriers import listening
-from roam_live.program import Lines, connected_now, is_own_peer, read
+from roam_live.program import Fault, Lines, connected_now, is_own_peer, read, reason, say
 
 # An escape with one of these begins a control string, in which a bell doesn't ring. A bell ends one, and so do these and any escape.
 BEGINS = b"]PX^_"
@@ -56,11 +56,15 @@ class Bells:
 
 
 class BellSource:
-    """The socket at which bells are told, in lines `bell P`."""
+    """The socket at which bells are told, in lines `bell P`. Where it can't be had that is told, and nobody follows."""
 
     def __init__(self, folder):
         self.path = os.path.join(folder, "bells")
-        self.listener = listening(self.path)
+        self.listener = None
+        try:
+            self.listener = listening(self.path)
+        except (Fault, OSError) as fault:
+            say(f"no bells are told: {reason(fault)}")
         self.followers = []
         self.rung_at = {}
         self.deaf_until = 0.0
@@ -69,12 +73,12 @@ class BellSource:
 
     def sources(self):
         """What is to be read: those that come, and the ends of those that are there. Where as many follow as may, who comes waits."""
-        is_open = len(self.followers) < MOST_FOLLOWERS and time.monotonic() >= self.deaf_until
+        is_open = self.listener and len(self.followers) < MOST_FOLLOWERS and time.monotonic() >= self.deaf_until
         return ([self.listener] if is_open else []) + self.followers
 
     def turn(self, readable):
         """Takes who comes, and lets go who has left."""
-        if self.listener in readable:
+        if self.listener and self.listener in readable:
             self.accept()
         for peer in [peer for peer in self.followers if peer in readable and read(peer.fileno()) == b""]:
             self.drop(peer)
@@ -122,10 +126,12 @@ class BellSource:
 
     def close(self):
         """Closes the socket, and removes it."""
-        for peer in [self.listener, *self.followers]:
+        for peer in self.followers:
             peer.close()
-        with contextlib.suppress(OSError):
-            os.unlink(self.path)
+        if self.listener:
+            self.listener.close()
+            with contextlib.suppress(OSError):
+                os.unlink(self.path)
 
 
 class BellFollower:

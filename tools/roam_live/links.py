@@ -167,7 +167,7 @@ class Keeper:
         try:
             self.place.revive()
         except (Fault, OSError) as fault:
-            return self.failed(f"no client start can be started: {reason(fault)}")
+            return self.failed(reason(fault).removeprefix(f"session {self.place.name}: "))
         self.begun_at = now
         return STEP, ""
 

@@ -56,7 +56,8 @@ class ShellsWatch:
                 self.follow()
                 return "the shells had ended: new ones are there, and what was typed meanwhile is dropped"
         except (Fault, OSError) as fault:
-            return f"the shells have ended, and can't be started: {reason(fault)}; tried again in {self.wait()} s"
+            why = reason(fault).removeprefix(f"session {self.place.name}: ")
+            return f"the shells have ended: {why}; tried again in {self.wait()} s"
         # Another starts them just now, or the session has ended.
         self.due = time.monotonic() + PAUSES[1]
         return ""

@@ -1,4 +1,6 @@
 """Who tells bells and who follows them: sixteen at once, and nobody is connected to again and again."""
+import contextlib
+import io
 import os
 import pathlib
 import select
@@ -132,6 +134,18 @@ class Bells(unittest.TestCase):
         self.source.followers[0].send(b"say one\nsay \x1b]0;x\x07\nsay " + b"x" * 300 + b"\nsay two\n")
         self.heard(one)
         self.assertEqual(one.said(), ["two"])
+
+    def test_taken(self):
+        """Where another listens there the socket is left to it, and who would tell bells goes on without."""
+        said = io.StringIO()
+        with contextlib.redirect_stderr(said):
+            other = BellSource(self.folder)
+        self.assertIn("no bells are told: somebody listens at ", said.getvalue())
+        self.assertEqual(other.sources(), [])
+        other.turn([])
+        other.tell(1)
+        other.close()
+        self.assertIsNotNone(self.follower().peer)
 
     def test_blocked(self):
         """A source that takes none holds nobody up, and none that reads nothing holds the source up."""

@@ -206,6 +206,22 @@ class Kept(unittest.TestCase):
             self.assertEqual(follower.recv(256), f"say {told}\n".encode())
         self.assertEqual(self.said(), f"pane_shells: {told}\n")
 
+    def test_no_reader(self):
+        """What a pane's program doesn't read is taken from the server all the same, and dropped above a limit; other panes go on."""
+        command = "stty raw -echo; echo here; [ $ROAM_PANE = ${ROAM_PANE%1} ] || sleep 60; exec cat"
+        process = self.run_tool(str(self.folder), "sh", "-c", command)
+        self.told(b"1 1 1 23 39 1\n2 1 41 23 39 1\nfocus 1\n")
+        panes = [self.server.taken(name) for name in ("p1", "p2")]
+        for pane in panes:
+            self.assertTrue(self.shows(pane, b"here"))
+        for _ in range(200):
+            panes[0].sendall(b"x" * 4000)
+        panes[1].sendall(b"goes on")
+        self.assertTrue(self.shows(panes[1], b"goes on"))
+        self.assertEqual(self.said(), "pane_shells: pane 1: what is typed isn't read there; above 65536 bytes it is dropped\n")
+        text = pathlib.Path(f"/proc/{process.pid}/status").read_text(encoding="utf-8")
+        self.assertLess(next(int(line.split()[1]) for line in text.splitlines() if line.startswith("VmRSS")), 60_000)
+
     def test_never(self):
         """One that can't follow from the start says so in a pane, and comes to follow."""
         process = self.run_tool(str(self.folder), "sh", "-c", "echo here; exec cat")

@@ -10,6 +10,8 @@ from roam_live.watches import PAUSES, SOUND, ShellsWatch
 class Place:
     """A session whose shells are revived, or can't be."""
 
+    name = "main"
+
     def __init__(self):
         self.fault = None
         self.revived = 0
@@ -82,12 +84,12 @@ class Watches(unittest.TestCase):
 
     def test_refused(self):
         """What can't be started is told with the reason, and tried again after pauses that grow."""
-        self.place.fault = Fault("no room")
+        self.place.fault = Fault("session main: no room")
         self.now += SOUND + 1
         self.end()
         told = [self.pass_time() for _ in range(3)]
         self.assertEqual([wait for wait, _ in told], list(PAUSES[:3]))
-        self.assertEqual(told[0][1], f"the shells have ended, and can't be started: no room; tried again in {PAUSES[1]} s")
+        self.assertEqual(told[0][1], f"the shells have ended: no room; tried again in {PAUSES[1]} s")
         self.place.fault = None
         self.assertTrue(self.pass_time()[1].startswith("the shells had ended"))
 
