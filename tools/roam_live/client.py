@@ -99,7 +99,7 @@ class Client:
     def resized(self):
         """Goes by a new size of the terminal."""
         self.display.resized()
-        self.moments.later("size", SIZES, self.commands.fit)
+        self.moments.later("size", 0.0 if self.commands.is_fresh() else SIZES, self.commands.fit)
 
     def continued(self):
         """Takes the terminal again, which another may have had."""

@@ -22,6 +22,9 @@ UNDER_COVER = ("detach", "suspend", "repaint", "help", "no", "scrolled")
 # So many seconds a line stands that tells how the session is made as large as the terminal.
 FITS_TOLD = 3.0
 
+# For so many seconds a session is new, and goes by its terminal's size, whatever that is: a window may get its size once it is there.
+NEW = 2.0
+
 
 class Commands:
     """The keys of one person, and what they ask for."""
@@ -34,7 +37,7 @@ class Commands:
         self.help = help_with(self.prefix)
         self.paused = False
         # Whether the session is new, and whether it and this terminal were fitted to each other once, as far as that may be.
-        self.is_new, self.is_fitted = is_new, False
+        self.is_new, self.is_fitted, self.new_until = is_new, False, 0.0
         # When a command of this person moved the focus, from which pane, and to which, where that is known.
         self.moved_at, self.moved_from, self.moved_to = 0.0, 0, None
 
@@ -148,15 +151,19 @@ class Commands:
             return
         self.is_fitted = self.session_size() != (0, 0) or not terminal.is_large_enough(self.display.outer.size())
         if self.is_new():
-            self.is_fitted = True
-            self.ask_size()
-        else:
-            self.fit()
+            self.is_fitted, self.new_until = True, time.monotonic() + NEW
+        self.fit()
+
+    def is_fresh(self):
+        """Whether the session is so new that it goes by this terminal's size."""
+        return time.monotonic() < self.new_until
 
     def fit(self):
-        """Has the session grow to this terminal's size, where that cuts nothing and covers nobody else's terminal."""
+        """Has the session grow to this terminal's size, where that cuts nothing and covers nobody else's terminal; a new one is given it."""
         size, own = self.session_size(), terminal.largest(self.display.outer.size())
-        if not self.display.fits():
+        if self.is_fresh():
+            self.ask_size()
+        elif not self.display.fits():
             self.display.hide()
         elif self.link.watches or size == (0, 0) or own == size or own[0] < size[0] or own[1] < size[1]:
             return

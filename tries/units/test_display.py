@@ -140,6 +140,19 @@ class Sizes(unittest.TestCase):
         for size in ((50, 132), (20, 60)):
             self.assertEqual(Person(*size, is_new=True).sizes(), ["size {} {}".format(*size)])
 
+    def test_new_for_a_moment(self):
+        """A window that gets its size once it is there has the session go by it; later it is covered."""
+        person = Person(24, 80, is_new=True)
+        person.display.painted(painting(24, 80))
+        person.resize(15, 120)
+        self.assertEqual(person.sizes(), ["size 24 80", "size 15 120"])
+        person.display.painted(painting(15, 120))
+        person.commands.new_until = 0.0
+        person.resize(15, 100)
+        person.passes()
+        self.assertEqual(person.sizes()[2:], [])
+        self.assertTrue(person.display.cover.startswith("too small: 15 by 100 of 15 by 120"))
+
     def test_larger_alone(self):
         person = Person(50, 132, told=places(24, 80))
         self.assertEqual(person.sizes(), ["size 50 132"])
