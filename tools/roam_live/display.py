@@ -92,7 +92,7 @@ class Display:
             self.moments.drop("refused")
         if not self.fits():
             self.hide()
-        elif self.is_hidden:
+        elif self.is_hidden and self.is_only_small():
             self.uncover()
         elif not self.cover:
             self.outer.waiting += text
@@ -157,8 +157,12 @@ class Display:
     def tell_small(self):
         """Tells that the terminal is too small, and the keys for it, where nothing else is told in the session's place."""
         text = self.small_text()
-        if self.is_hidden and not self.fits() and self.cover != text and (not self.cover or self.cover.startswith(TOO_SMALL)):
+        if self.is_hidden and not self.fits() and self.cover != text and self.is_only_small():
             self.show(text)
+
+    def is_only_small(self):
+        """Whether nothing but a terminal that is too small is told in the session's place."""
+        return not self.cover or self.cover.startswith(TOO_SMALL)
 
     def small_text(self):
         """What is told of a terminal that is too small."""
@@ -185,7 +189,7 @@ class Display:
         self.moments.drop("refused")
         if not self.fits():
             self.hide()
-        elif self.is_hidden and (not self.cover or self.cover.startswith(TOO_SMALL)):
+        elif self.is_hidden and self.is_only_small():
             self.uncover()
         elif self.cover:
             self.show(self.cover)

@@ -312,6 +312,17 @@ class UnderCover(unittest.TestCase):
         person.types(b"q")
         self.assertTrue(person.display.cover.startswith("too small"))
 
+    def test_help_stays(self):
+        """The help that is shown in place of a session that is too large stays while that gets another size."""
+        person = self.covered()
+        person.types(b"\x02?")
+        person.display.painted(painting(12, 40))
+        self.assertEqual(person.display.cover, HELP)
+        person.types(b"q")
+        person.display.painted(painting(12, 40, "here"))
+        self.assertEqual(person.display.cover, "")
+        self.assertIn(b"here", person.display.outer.waiting)
+
     def test_scrolled(self):
         """The scroll mode that was begun before is ended as ever."""
         person = Person(24, 80, told=places(24, 80))
