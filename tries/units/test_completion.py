@@ -20,7 +20,8 @@ $call
 
 def completed(call, *words, cwd=None):
     """What a function completes the last of the words to."""
-    run = subprocess.run(["bash", "-c", COMPLETES, "bash", str(TOOLS / "completion.bash"), call, *words], cwd=cwd, stdout=subprocess.PIPE, check=True)
+    asked = ["bash", "-c", COMPLETES, "bash", str(TOOLS / "completion.bash"), call, *words]
+    run = subprocess.run(asked, cwd=cwd, stdout=subprocess.PIPE, check=True)
     return run.stdout.decode().split("\n")[:-1]
 
 
@@ -43,7 +44,8 @@ class Completion(unittest.TestCase):
         offered = completed("_roam_mux", "mux", "send", "work", "")
         for act in offered:
             self.assertIn(act.split()[0], named)
-        for key in "up pf4 find insert remove select prev next f6 f20 pad0 pad9 padminus padcomma padperiod padenter return backspace".split():
+        keys = "up pf4 find insert remove select prev next f6 f20 pad0 pad9 padminus padcomma padperiod padenter return backspace"
+        for key in keys.split():
             self.assertIn(f"key {key}", offered)
 
     def test_folders(self):

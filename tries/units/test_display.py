@@ -298,8 +298,8 @@ class UnderCover(unittest.TestCase):
         return person
 
     def test_nothing_is_typed(self):
-        for text in (b"rm -rf x\r", b"\x1b[A\r", b"\x1b[200~pasted\r\x1b[201~", b"\x02%", b"\x02x", b"\x02\x02", b"\x023", b"\x02\x1b[1;5C", b"\x02[g",
-                     b"\x02xy"):
+        for text in (b"rm -rf x\r", b"\x1b[A\r", b"\x1b[200~pasted\r\x1b[201~", b"\x02%", b"\x02x", b"\x02\x02", b"\x023", b"\x02\x1b[1;5C",
+                     b"\x02[g", b"\x02xy"):
             self.assertEqual(self.covered().types(text), [], text)
 
     def test_keys_for_the_terminal(self):
@@ -373,8 +373,8 @@ class Words(unittest.TestCase):
         self.assertIn("  ?        these keys, until the next key", HELP)
 
     def test_wrapped(self):
-        for line, width, rows in (("C-b r fits this", 8, ["C-b r", "fits", "this"]), ("abcdefghij", 4, ["abcd", "efgh", "ij"]), ("", 4, [""]),
-                                  ("  ?        these keys", 12, ["  ?", "these keys"]), ("ab cd", 5, ["ab cd"])):
+        for line, width, rows in (("C-b r fits this", 8, ["C-b r", "fits", "this"]), ("abcdefghij", 4, ["abcd", "efgh", "ij"]),
+                                  ("", 4, [""]), ("  ?        these keys", 12, ["  ?", "these keys"]), ("ab cd", 5, ["ab cd"])):
             self.assertEqual(wrapped(line, width), rows)
 
     def test_printable(self):

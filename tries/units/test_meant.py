@@ -7,15 +7,17 @@ WORDS = ["attach", "new", "detach", "ls", "list", "watch", "kill", "send", "capt
 
 # Slips, and what was meant.
 SLIPS = {
-    "lst": "ls", "sl": "ls", "lss": "ls", "lis": "ls", "lits": "list", "lsit": "list", "atach": "attach", "attahc": "attach", "attch": "attach",
-    "atttach": "attach", "detahc": "detach", "watc": "watch", "wacth": "watch", "wtch": "watch", "kil": "kill", "kll": "kill", "klil": "kill",
-    "killl": "kill", "sned": "send", "captrue": "capture", "capure": "capture", "hlep": "help", "hel": "help", "nwe": "new", "neww": "new",
-    "shs": "ssh", "sssh": "ssh",
+    "lst": "ls", "sl": "ls", "lss": "ls", "lis": "ls", "lits": "list", "lsit": "list", "atach": "attach", "attahc": "attach",
+    "attch": "attach", "atttach": "attach", "detahc": "detach", "watc": "watch", "wacth": "watch", "wtch": "watch", "kil": "kill", "kll": "kill",
+    "klil": "kill", "killl": "kill", "sned": "send", "captrue": "capture", "capure": "capture", "hlep": "help", "hel": "help",
+    "nwe": "new", "neww": "new", "shs": "ssh", "sssh": "ssh",
 }
 
 # What nobody takes for a slip.
-NAMES = ("main", "w", "l", "s", "log", "logs", "web", "net", "dev", "work", "api", "db", "now", "car", "bar", "build", "mail", "test", "notes",
-         "server", "ps", "top", "x1", "emacs", "irc", "prod", "python")
+NAMES = (
+    "main", "w", "l", "s", "log", "logs", "web", "net", "dev", "work", "api", "db", "now", "car", "bar", "build", "mail", "test",
+    "notes", "server", "ps", "top", "x1", "emacs", "irc", "prod", "python",
+)
 
 
 class Meant(unittest.TestCase):
@@ -36,8 +38,8 @@ class Meant(unittest.TestCase):
             self.assertEqual(meant(name, WORDS), "", name)
 
     def test_distance(self):
-        for word, name, count in (("attach", "attach", 0), ("attach", "attahc", 1), ("attach", "atch", 2), ("new", "net", 2), ("kill", "bill", 1),
-                                  ("ls", "", 2), ("", "ab", 2), ("send", "sendx", 1), ("capture", "rapturf", 2)):
+        for word, name, count in (("attach", "attach", 0), ("attach", "attahc", 1), ("attach", "atch", 2), ("new", "net", 2),
+                                  ("kill", "bill", 1), ("ls", "", 2), ("", "ab", 2), ("send", "sendx", 1), ("capture", "rapturf", 2)):
             self.assertEqual(slips(word, name), count, (word, name))
 
 

@@ -92,7 +92,8 @@ class Ends(unittest.TestCase):
         """Whatever a far end says once it has answered, the near end goes on, tells of it and takes no more memory."""
         with tempfile.TemporaryDirectory() as folder:
             bodies = {**HOSTILE, **{name: (body, "") for name, body in ODD.items()}}
-            nears = [(name, Near(folder, str(number), greeting("abc") + body), told) for number, (name, (body, told)) in enumerate(bodies.items())]
+            numbered = enumerate(bodies.items())
+            nears = [(name, Near(folder, str(number), greeting("abc") + body), told) for number, (name, (body, told)) in numbered]
             for name, near, told in nears:
                 with self.subTest(name):
                     self.assertEqual(near.process.stdout.readline(), b"port - session abc\n")

@@ -87,18 +87,34 @@ class Logs(unittest.TestCase):
     def test_not_there(self):
         make_room("/nonexistent/log", logs.LOG_LIMIT)
 
+    def test_each_writer(self):
+        """Whoever says a line in a session's log, or fails there, or starts a process that writes there, keeps it small."""
+        starts = ("from roam_live.processes import Processes; p = Processes(folder); p.state = {}; p.name = 'x'; "
+                  "p.spawned('server', ['true']).wait()")
+        for code in ("say('x')", "run_tool(lambda: [][0])", starts):
+            with tempfile.TemporaryDirectory() as folder:
+                path = pathlib.Path(folder, "log")
+                path.write_bytes(b"a line\n" * (LOG_LIMIT // 3))
+                path_first = f"import sys; sys.path.insert(0, {str(TOOLS)!r}); folder = {folder!r}\n"
+                begun = f"{path_first}from roam_live.program import *\nlog_to(folder)\n"
+                with open(path, "ab") as log:
+                    subprocess.run([sys.executable, "-c", begun + code], stderr=log, check=False)
+                self.assertLess(path.stat().st_size, KEPT + 10_000, code)
+
 
 class Names(unittest.TestCase):
     """Names of programs, which they give themselves."""
 
     def test_names(self):
-        for given, told in ((b"\x1b]0;pwned\x07", "?]0;pwned?"), (b"\xe2\x80\xaex", "?x"), (b"\n\n\n", "???"), (b"", "a program"), (b"vi", "vi")):
+        named = ((b"\x1b]0;pwned\x07", "?]0;pwned?"), (b"\xe2\x80\xaex", "?x"), (b"\n\n\n", "???"), (b"", "a program"), (b"vi", "vi"))
+        for given, told in named:
             self.assertEqual(self.name_of(given), told)
 
     @staticmethod
     def name_of(given):
         """What is told of a program with a terminal that named itself so."""
-        renames = "import ctypes, sys; ctypes.CDLL(None).prctl(15, bytes.fromhex(sys.argv[1]), 0, 0, 0); print('named', flush=True); input()"
+        renames = ("import ctypes, sys; ctypes.CDLL(None).prctl(15, bytes.fromhex(sys.argv[1]), 0, 0, 0); print('named', flush=True); "
+                   "input()")
         here = "import os, pty, sys; os.execv(sys.executable, [sys.executable, *sys.argv[1:]])"
         read, write = os.openpty()
         words = [sys.executable, "-c", here, "-c", renames, given.hex()]
