@@ -9,8 +9,8 @@ WORDS = ["attach", "new", "detach", "ls", "list", "watch", "kill", "send", "capt
 SLIPS = {
     "lst": "ls", "sl": "ls", "lss": "ls", "lis": "ls", "lits": "list", "lsit": "list", "atach": "attach", "attahc": "attach",
     "attch": "attach", "atttach": "attach", "detahc": "detach", "watc": "watch", "wacth": "watch", "wtch": "watch", "kil": "kill",
-    "kll": "kill", "klil": "kill", "killl": "kill", "sned": "send", "captrue": "capture", "capure": "capture", "hlep": "help", "hel": "help",
-    "nwe": "new", "neww": "new", "shs": "ssh", "sssh": "ssh",
+    "kll": "kill", "klil": "kill", "killl": "kill", "sned": "send", "captrue": "capture", "capure": "capture", "hlep": "help",
+    "hel": "help", "nwe": "new", "neww": "new", "shs": "ssh", "sssh": "ssh",
 }
 
 # What nobody takes for a slip.
