@@ -60,9 +60,10 @@ class BellSource:
 
     def __init__(self, folder):
         self.path = os.path.join(folder, "bells")
-        self.listener = None
+        self.listener = self.made = None
         try:
             self.listener = listening(self.path)
+            self.made = os.lstat(self.path)
         except (Fault, OSError) as fault:
             say(f"no bells are told: {reason(fault)}")
         self.followers = []
@@ -131,7 +132,9 @@ class BellSource:
         if self.listener:
             self.listener.close()
             with contextlib.suppress(OSError):
-                os.unlink(self.path)
+                # Another session's may be there by now.
+                if self.made and os.path.samestat(self.made, os.lstat(self.path)):
+                    os.unlink(self.path)
 
 
 class BellFollower:

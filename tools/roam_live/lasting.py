@@ -2,6 +2,7 @@
 from __future__ import annotations
 
 import contextlib
+import errno
 import os
 import time
 from collections.abc import Callable, Iterator
@@ -30,16 +31,19 @@ class Lasting:
             return None
         return there.st_dev, there.st_ino
 
-    def wait_time(self) -> float:
-        """How long nothing is due."""
-        return max(0.0, self.due - time.monotonic())
+    def demand(self):
+        """Refuses, by an OSError, where the folder was removed, or another took its place: what lies there is another session's."""
+        if self.own is None or self.found() != self.own:
+            raise FileNotFoundError(errno.ENOENT, "the session's folder was removed", self.folder)
 
     def turn(self) -> bool:
         """Does what is due; tells whether a look was. A folder that another took the place of is left alone."""
         if time.monotonic() < self.due:
             return False
         self.due = time.monotonic() + LOOKS
-        if self.own is None or self.found() != self.own:
+        try:
+            self.demand()
+        except OSError:
             return False
         self.keep_session()
         now = self.clock()

@@ -147,6 +147,16 @@ class Bells(unittest.TestCase):
         other.close()
         self.assertIsNotNone(self.follower().peer)
 
+    def test_closed(self):
+        """Its own socket's file is removed at the end, and none that took its place."""
+        path = pathlib.Path(self.folder, "bells")
+        path.rename(path.with_name("kept"))
+        other = BellSource(self.folder)
+        self.source.close()
+        self.assertTrue(path.exists())
+        other.close()
+        self.assertFalse(path.exists())
+
     def test_blocked(self):
         """A source that takes none holds nobody up, and none that reads nothing holds the source up."""
         for _ in range(40):

@@ -89,9 +89,14 @@ class Lasts(unittest.TestCase):
         self.assertFalse(self.look())
         self.assertIn("state.json", self.old())
         self.assertFalse((self.folder / "session").exists())
+        with self.assertRaisesRegex(FileNotFoundError, "the session's folder was removed"):
+            self.lasting.demand()
 
     def test_gone(self):
         """A folder that isn't there is no fault."""
+        self.lasting.demand()
         self.folder.rename(self.folder.with_name("away"))
         self.assertFalse(self.look())
+        with self.assertRaisesRegex(FileNotFoundError, "the session's folder was removed"):
+            self.lasting.demand()
         self.assertFalse(Lasting("/no/such/folder").turn())

@@ -7,6 +7,8 @@ import io
 import os
 import pathlib
 import pty
+import select
+import shutil
 import socket
 import subprocess
 import sys
@@ -234,6 +236,26 @@ class Kept(unittest.TestCase):
         self.assertTrue(self.shows(self.server.taken("p1"), b"here"))
         self.assertTrue(comes(lambda: "the panes are followed again" in self.said()))
         self.assertIsNone(process.poll())
+
+    def test_folder_taken(self):
+        """A keeper whose folder was removed, and made anew by another session, goes to none of its sockets, and writes nothing there."""
+        self.run_tool(str(self.folder), "sh", "-c", "echo here; exec cat")
+        follower = self.told(b"1 1 1 23 80 1\nfocus 1\n")
+        pane = self.server.taken("p1")
+        self.assertTrue(self.shows(pane, b"here") and comes((self.folder / "rects").exists))
+        self.folder.rename(self.folder.with_name(self.folder.name + "-old"))
+        self.addCleanup(shutil.rmtree, str(self.folder) + "-old")
+        self.folder.mkdir()
+        other = Server(self.folder)
+        self.addCleanup(other.close)
+        follower.send(b"2 1 41 23 39 1\nfocus 2\n")
+        pane.send(b"still\n")
+        self.assertTrue(self.shows(pane, b"still"))
+        said = pathlib.Path(str(self.folder) + "-old", "said")
+        told = "pane_shells: pane 2: the session's folder was removed; tried again\n"
+        self.assertTrue(comes(lambda: told in said.read_text(encoding="utf-8")))
+        self.assertEqual(select.select([other.listeners["p2"], other.listeners["panes"]], [], [], 0.5)[0], [])
+        self.assertFalse((self.folder / "rects").exists())
 
     def test_last(self):
         """The end of the last shell is noted before the server is ended."""
