@@ -81,7 +81,8 @@ def run_tool(main):
     signal.signal(signal.SIGINT, signal.default_int_handler)
     try:
         status = main()
-        sys.stdout.flush()
+        if sys.stdout:
+            sys.stdout.flush()
         sys.exit(status)
     except Fault as fault:
         sys.exit(one_line(f"{tool_name()}: {fault}"))

@@ -155,6 +155,11 @@ class Faults(unittest.TestCase):
         os.close(writer)
         self.assertEqual((run.returncode, run.stderr), (141, b""))
 
+    def test_closed(self):
+        """A standard output that is closed from the beginning is nothing to complain of."""
+        run = self.run_with("run_tool(lambda: print('x'))", preexec_fn=lambda: os.close(1))
+        self.assertEqual((run.returncode, run.stderr), (0, b""))
+
 
 if __name__ == "__main__":
     unittest.main()
