@@ -106,6 +106,11 @@ class Side:
             run([*self.kill, name], self.environment)
         return found, memory
 
+    def end(self):
+        """Ends what is left, where a measure was broken off."""
+        for name in ("s", *(f"s{number}" for number in range(LISTED))):
+            subprocess.run([*self.kill, name], env=self.environment, stdin=subprocess.DEVNULL, stderr=subprocess.DEVNULL, check=False)
+
 
 def memory_of(process):
     """A process's memory in KiB, its part of what it shares."""
@@ -116,6 +121,22 @@ def memory_of(process):
 def told(name, found):
     """Prints the best and the median."""
     print(f"  {name:24} best {min(found):6.0f} ms, median {statistics.median(found):6.0f} ms", flush=True)
+
+
+def measure(sides, times):
+    """Measures, and prints what came."""
+    found = {name: [] for name in sides}
+    for _ in range(times):
+        for name, side in sides.items():
+            found[name].append(side.session())
+    for name, side in sides.items():
+        print(name)
+        told("start to prompt", [started for started, _ in found[name]])
+        told("attach to paint", [attached for _, attached in found[name]])
+        lists, memory = side.listed(times)
+        told(f"list of {LISTED} sessions", lists)
+        for role, size in memory.items():
+            print(f"  memory of a session's {role}: {size:.0f} KiB", flush=True)
 
 
 def main():
@@ -129,18 +150,11 @@ def main():
             sides["tmux"] = Side(f"{folder}/tmux", "tmux")
         for side in sides.values():
             side.folder.mkdir(mode=0o700)
-        found = {name: [] for name in sides}
-        for _ in range(times):
-            for name, side in sides.items():
-                found[name].append(side.session())
-        for name, side in sides.items():
-            print(name)
-            told("start to prompt", [started for started, _ in found[name]])
-            told("attach to paint", [attached for _, attached in found[name]])
-            lists, memory = side.listed(times)
-            told(f"list of {LISTED} sessions", lists)
-            for role, size in memory.items():
-                print(f"  memory of a session's {role}: {size:.0f} KiB", flush=True)
+        try:
+            measure(sides, times)
+        finally:
+            for side in sides.values():
+                side.end()
 
 
 if __name__ == "__main__":
