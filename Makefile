@@ -46,23 +46,21 @@ try: all
 	tools/worked_callers
 	tools/clauses
 	tools/names
-	tools/two_processes
 	tries/unit
-	tools/try_live
-	tools/try_faults
+	tries/two_processes
+	tries/try_live
+	tries/try_faults
 
 PREFIX ?= /usr/local
 installed = $(DESTDIR)$(PREFIX)
 completions = $(installed)/share/bash-completion/completions
-# What tools alone use that try others.
-tried = tools/roam_live/tried.py
 
 install: all
 	install -d $(installed)/bin $(installed)/lib/roam/roam_live $(installed)/share/man/man1 $(completions)
-	install crates/roam/out/roam tools/attach tools/mux tools/pane_shells tools/picture tools/relay $(installed)/lib/roam
-	install -m 644 $(filter-out $(tried),$(wildcard tools/roam_live/*.py)) $(installed)/lib/roam/roam_live
+	install crates/roam/out/roam live/attach live/mux live/pane_shells live/picture live/relay $(installed)/lib/roam
+	install -m 644 $(wildcard live/roam_live/*.py) $(installed)/lib/roam/roam_live
 	cd $(installed)/lib/roam && python3 -m compileall -q -f -d $(PREFIX)/lib/roam/roam_live roam_live
-	install tools/installed $(installed)/bin/roam
+	install live/installed $(installed)/bin/roam
 	ln -sf ../lib/roam/mux $(installed)/bin/roam-mux
 	ln -sf ../lib/roam/attach $(installed)/bin/roam-attach
 	ln -sf ../lib/roam/pane_shells $(installed)/bin/roam-pane-shells
@@ -70,7 +68,7 @@ install: all
 	install -m 644 docs/man/*.1 $(installed)/share/man/man1
 	ln -sf roam-mux.1 $(installed)/share/man/man1/roam-attach.1
 	ln -sf roam-mux.1 $(installed)/share/man/man1/roam-pane-shells.1
-	install -m 644 tools/completion.bash $(completions)/roam
+	install -m 644 live/completion.bash $(completions)/roam
 	ln -sf roam $(completions)/roam-mux
 	ln -sf roam $(completions)/roam-attach
 	ln -sf roam $(completions)/roam-pane-shells

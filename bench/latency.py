@@ -2,7 +2,7 @@
 """bench/latency.py ROAM [COUNT]: milliseconds until a client's terminal gets what it should show, of roam, tmux and mosh.
 
 Two ways are measured, each COUNT times: from bytes that a pane's program writes, and from a key that is typed at the client's terminal,
-through the echo of a shell. roam is `serve` and `attach` over UDP on loopback with a Unix socket as pane 1, and for the keys what tools/mux
+through the echo of a shell. roam is `serve` and `attach` over UDP on loopback with a Unix socket as pane 1, and for the keys what live/mux
 starts; tmux and mosh run a copy of a pipe, and for the keys a shell, and mosh predicts nothing. All run at once and are tried in turn, so
 that what else the machine does meets each alike; a pause between 25 and 60 ms is before each letter. It needs python3, and tmux and mosh
 for their rows; it prints the median, the 99th of a hundred, and both as multiples of tmux's.
@@ -26,7 +26,7 @@ import time
 from contextlib import ExitStack, contextmanager
 
 WAIT = 5.0
-TOOLS = pathlib.Path(__file__).resolve().parent.parent / "tools"
+TOOLS = pathlib.Path(__file__).resolve().parent.parent / "live"
 
 # Letters that stand in no control function that is painted, nor in a prompt; after so many the line is erased.
 LETTERS = b"QVWYNOU"
@@ -158,7 +158,7 @@ def mosh(shell, port, **environment):
 
 @contextmanager
 def roam_keys(program, folder, **environment):
-    """The terminal of a session that tools/mux starts."""
+    """The terminal of a session that live/mux starts."""
     known = {"ROAM": program, "XDG_RUNTIME_DIR": folder, **environment}
     with on_terminal([str(TOOLS / "mux"), "measured"], **known) as master:
         yield master

@@ -2,7 +2,7 @@
 """bench/lived.py ROAM [KEYS]: what one who lives in a session waits for, and what it costs, of roam, tmux and mosh.
 
 At a shell on a terminal of 24 by 80, one after the other on each side: the time from a key to its echo, KEYS times (200); a paste of
-20,000 bytes to a program that counts them; `seq 1 2000000`; `cat` of a file of 50 MB. roam is what tools/mux starts; mosh predicts
+20,000 bytes to a program that counts them; `seq 1 2000000`; `cat` of a file of 50 MB. roam is what live/mux starts; mosh predicts
 nothing. For each it prints the seconds until the shell tells that it is done, and the seconds of processor that the processes of that
 side took meanwhile (what the shell runs isn't among them). It needs python3, and tmux and mosh for their columns.
 """

@@ -21,7 +21,7 @@ import tempfile
 import termios
 import time
 
-TOOLS = pathlib.Path(__file__).resolve().parent.parent / "tools"
+TOOLS = pathlib.Path(__file__).resolve().parent.parent / "live"
 LIMIT = 20.0
 LISTED = 10
 SHOWN = b"seen-here"

@@ -297,7 +297,7 @@ def is_own_folder(path: str | os.PathLike) -> bool:
 
 
 def noted_client(folder, kind="edits"):
-    """The file by which `tools/mux ls` counts this process as a client; None where no folder is named, and where none can be written."""
+    """The file by which `live/mux ls` counts this process as a client; None where no folder is named, and where none can be written."""
     if not folder:
         return None
     if not os.path.isdir(folder):

@@ -1,12 +1,17 @@
-"""What the tools that try other tools share: checks that print a line each, and a pseudo-terminal with a tool on it."""
+"""What the scripts that try roam share: checks that print a line each, and a pseudo-terminal with a tool on it."""
 import fcntl
 import os
 import pathlib
 import pty
 import subprocess
+import sys
 import termios
 import threading
 import time
+
+# What people run, and the package that it shares.
+LIVE = pathlib.Path(__file__).resolve().parent.parent / "live"
+sys.path.insert(0, str(LIVE))
 
 from roam_live import terminal
 from roam_live.cells import Cells
@@ -40,6 +45,11 @@ def comes(test, seconds=WAIT):
 def tool(name, *words):
     """The words of a tool."""
     return [str(TOOLS / name), *words]
+
+
+def script(name, *words):
+    """The words of a script that tries roam."""
+    return [str(LIVE.parent / "tries" / name), *words]
 
 
 def children(process):
