@@ -303,7 +303,8 @@ def noted_client(folder, kind="edits"):
     if not os.path.isdir(folder):
         raise Fault(f"{folder} is no folder")
     if not is_own_folder(folder):
-        raise Fault(f"{folder} is no folder of yours")
+        say(f"this client isn't counted: {folder} is no folder of yours")
+        return None
     log_to(folder)
     clients = pathlib.Path(folder) / "attached"
     path = clients / str(os.getpid())

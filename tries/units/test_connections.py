@@ -1,4 +1,6 @@
 """Connections of the tools: who is at the other end, and that none waits for a listener that takes none."""
+import contextlib
+import io
 import os
 import pathlib
 import socket
@@ -136,5 +138,8 @@ class Folders(unittest.TestCase):
             self.assertEqual([program.is_own_folder(path) for path in (made, link, file, f"{made}/none")], [True, True, False, False])
             with mock.patch("os.getuid", return_value=54321):
                 self.assertFalse(program.is_own_folder(made))
-                with self.assertRaisesRegex(program.Fault, "is no folder of yours"):
-                    program.noted_client(made)
+                said = io.StringIO()
+                with contextlib.redirect_stderr(said):
+                    self.assertIsNone(program.noted_client(made))
+                self.assertIn("this client isn't counted: ", said.getvalue())
+                self.assertEqual(sorted(path.name for path in pathlib.Path(made).iterdir()), ["file", "link"])
