@@ -25,6 +25,9 @@ AGAIN = 1.0
 TOLD = re.compile(r"bell ([1-9])")
 SAID = re.compile(r"say ([ -~]{1,200})")
 
+# A line that tells how the keypad of a pane is.
+KEYPAD = re.compile(r"keypad ([1-9]) (application|numeric)")
+
 
 class Bells:
     """Finds bells in what a program writes, in any pieces."""
@@ -69,8 +72,9 @@ class BellSource:
         self.followers = []
         self.rung_at = {}
         self.deaf_until = 0.0
-        # What each who comes is told in words.
+        # What each who comes is told in words, and of which panes the keypad is an application's.
         self.standing = ""
+        self.keypads = set()
 
     def sources(self):
         """What is to be read: those that come, and the ends of those that are there. Where as many follow as may, who comes waits."""
@@ -95,8 +99,9 @@ class BellSource:
         if is_own_peer(peer):
             peer.setblocking(False)
             self.followers.append(peer)
-            if self.standing:
-                self.send(f"say {self.standing}", [peer])
+            lines = [f"keypad {pane} application" for pane in sorted(self.keypads)] + [f"say {self.standing}"] * bool(self.standing)
+            if lines:
+                self.send("\n".join(lines), [peer])
         else:
             peer.close()
 
@@ -107,6 +112,12 @@ class BellSource:
             return
         self.rung_at[pane] = now
         self.send(f"bell {pane}")
+
+    def tell_keypad(self, pane: int, is_application: bool):
+        """Tells how the keypad of a pane is, where that is new."""
+        if is_application != (pane in self.keypads):
+            self.keypads ^= {pane}
+            self.send(f"keypad {pane} {'application' if is_application else 'numeric'}")
 
     def say(self, text: str):
         """Tells something in words, in printable ASCII."""
@@ -146,8 +157,9 @@ class BellFollower:
         self.lines = Lines()
         # When the socket may be connected to again.
         self.again_at = 0.0
-        # What was said in words, and not taken yet.
+        # What was said in words, and not taken yet; and of which panes the keypad is an application's.
         self.words: list[str] = []
+        self.keypads: set[int] = set()
 
     def connect(self):
         """Connects where somebody of this user tells bells: not again within a second of an end, so that one who ends each connection at
@@ -179,8 +191,11 @@ class BellFollower:
         if piece == b"":
             self.peer.close()
             self.peer, self.again_at = None, time.monotonic() + AGAIN
+            self.keypads.clear()
         lines = self.lines.fed(piece or b"")
         self.words += [found[1] for found in map(SAID.fullmatch, lines) if found][-1:]
+        for found in filter(None, map(KEYPAD.fullmatch, lines)):
+            (self.keypads.add if found[2] == "application" else self.keypads.discard)(int(found[1]))
         return [int(found[1]) for found in map(TOLD.fullmatch, lines) if found]
 
     def said(self) -> list[str]:

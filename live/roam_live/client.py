@@ -161,6 +161,8 @@ class Client:
             self.commands.ring(pane)
         for words in self.bells.said():
             self.display.tell(words, LOSS_TOLD)
+        if self.bells.keypads or self.display.outer.is_application:
+            self.display.set_keypad(self.place.places().focus in self.bells.keypads)
         # What is at hand goes at once, where it is taken: a person waits for each key.
         if outer.waiting and not write(outer.end, outer.waiting):
             self.leave("", 1)

@@ -26,6 +26,8 @@ class Outer:
         if not (os.isatty(0) and os.isatty(1)):
             raise Fault("standard input and output have to be a terminal")
         self.waiting = bytearray(terminal.ENTERED)
+        # Whether its keypad sends the codes of applications.
+        self.is_application = False
         self.end = terminal.opened_for_writing(1)
         self.known = terminal.size_of(0)
         self.modes = terminal.make_raw(0)
@@ -42,6 +44,7 @@ class Outer:
         """Takes the terminal again, after a shell had it while this was stopped."""
         terminal.make_raw(0)
         self.waiting += terminal.ENTERED
+        self.is_application = False
 
     def suspend(self):
         """Brings back what stood there, and stops this process with its group, as C-z does for others; returns once it is continued. The
@@ -199,6 +202,12 @@ class Display:
         """Paints all anew, where the session's new size hasn't had that done."""
         if not self.cover and not self.is_hidden:
             self.repaint()
+
+    def set_keypad(self, is_application: bool):
+        """Has the keypad send the codes of applications, or numbers, where the terminal isn't in the middle of something."""
+        if is_application != self.outer.is_application and (self.cover or self.extent.is_between()):
+            self.outer.waiting += terminal.KEYPAD[is_application]
+            self.outer.is_application = is_application
 
     def ring(self):
         """Rings the terminal's bell, where the terminal isn't in the middle of something."""

@@ -2,8 +2,8 @@
 
 Each end begins with a greeting, a line that names the session where it is known. All behind it is compressed, by zlib, so that each frame
 can be read once its bytes are there: the length of what the frame carries, the number of the peer, and the datagram. Peer 0 is the other
-end itself: how many bytes it has had, that the session has ended, where panes are, or that one rang. So many bytes at most are on their
-way; the rest waits here, where what has grown old can be dropped, and not in the stream.
+end itself: how many bytes it has had, that the session has ended, where panes are, that one rang, or how its keypad is. So many bytes at
+most are on their way; the rest waits here, where what has grown old can be dropped, and not in the stream.
 """
 import os
 import re
@@ -23,8 +23,8 @@ HEADER = struct.Struct(">HH")
 COUNT = struct.Struct(">cQ")
 
 # The kinds of what the ends tell each other, and the bytes of those that have always as many. None has more than a kind and places.
-HAD, ENDED, RECTS, BELL = b"h", b"e", b"p", b"b"
-TOLD_LENGTHS = {HAD: COUNT.size, BELL: 2}
+HAD, ENDED, RECTS, BELL, KEYPAD = b"h", b"e", b"p", b"b", b"k"
+TOLD_LENGTHS = {HAD: COUNT.size, BELL: 2, KEYPAD: 3}
 PLACES_LIMIT = 4096
 MOST_TOLD = 1 + PLACES_LIMIT
 
@@ -96,7 +96,7 @@ def demand_told(text: bytes) -> None:
     """Refuses what an end tells that hasn't the length of its kind, or names no pane. A kind that isn't known is no fault."""
     kind = text[:1]
     is_wrong = len(text) != TOLD_LENGTHS.get(kind, len(text)) or kind == ENDED and text not in (ENDED, KILLED)
-    if is_wrong or kind == BELL and not 1 <= text[1] <= MOST_PANES:
+    if is_wrong or kind in (BELL, KEYPAD) and not 1 <= text[1] <= MOST_PANES:
         raise BadWords(f"what the other end tells can't be read: {text[:16]!r}")
 
 

@@ -19,15 +19,18 @@ RESET = b"\x1bc"
 
 # What a reset does that a person's terminal may be asked for: the modes that change what the painter's functions do, the margins, the
 # sets and the style; then all is erased. A reset itself would erase the user's own screen and what scrolled off it.
-CLEARED = b"\x1b[0m\x1b[r\x1b(B\x0f\x1b[4l\x1b[20l\x1b[?5l\x1b[?6l\x1b[?7h\x1b[?1l\x1b>\x1b[?25h\x1b[2J\x1b[H"
+CLEARED = b"\x1b[0m\x1b[r\x1b(B\x0f\x1b[4l\x1b[20l\x1b[?5l\x1b[?6l\x1b[?7h\x1b[?1l\x1b[?25h\x1b[2J\x1b[H"
 
 # Pastes come between brackets, so that what is pasted is never taken for a binding.
-ENTERED = b"\x1b[?1049h\x1b[?2004h" + CLEARED
-LEFT = b"\x1b[?2004l\x1b[0m\x1b[r\x1b(B\x0f\x1b[?25h\x1b[?1049l"
+ENTERED = b"\x1b[?1049h\x1b[?2004h\x1b>" + CLEARED
+LEFT = b"\x1b[?2004l\x1b>\x1b[0m\x1b[r\x1b(B\x0f\x1b[?25h\x1b[?1049l"
 
 
 # The terminal erases characters of UTF-8 and not bytes. Python has no name for it before 3.13.
 IUTF8 = 0o40000
+
+# The keypad sends the codes of applications (DECKPAM), or numbers (DECKPNM).
+KEYPAD = {True: b"\x1b=", False: b"\x1b>"}
 
 # What a tool may have taken for itself, and a command on its terminal does not inherit.
 SIGNALS = (signal.SIGCHLD, signal.SIGTERM, signal.SIGHUP, signal.SIGINT, signal.SIGPIPE, signal.SIGXFSZ)

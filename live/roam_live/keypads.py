@@ -1,0 +1,27 @@
+"""The keypads of panes: whether a program asks for the codes of applications (DECKPAM, ESC =), found in what it writes. A screen has no
+place for it, and what a person's keypad sends is the outer terminal's."""
+from __future__ import annotations
+
+import re
+
+# What sets and resets application mode: DECKPAM; DECKPNM, RIS and DECSTR. An escape ends whatever it stands in, so that none is hidden.
+ASKED = re.compile(rb"\x1b(?:(=)|[>c]|\[!p)")
+
+# So many bytes at the end of a piece may begin one.
+LONGEST = 3
+
+
+class Keypad:
+    """The keypad of one pane, by what its programs write in any pieces."""
+
+    def __init__(self) -> None:
+        self.is_application = False
+        self.rest = b""
+
+    def fed(self, piece: bytes) -> None:
+        """Goes on with a piece."""
+        text = self.rest + piece
+        for found in ASKED.finditer(text):
+            self.is_application = found[1] is not None
+        begun = text.rfind(b"\x1b", -LONGEST)
+        self.rest = text[begun:] if begun >= 0 and not ASKED.match(text, begun) else b""

@@ -1,0 +1,80 @@
+"""How a pane's keypad is, and who is told of it."""
+import os
+import pathlib
+import tempfile
+import unittest
+
+from roam_live.bells import BellFollower, BellSource
+from roam_live.keypads import Keypad
+
+# What a program writes, and whether its keypad is an application's then (VT220 Programmer Reference: DECKPAM, DECKPNM, DECSTR; RIS).
+WRITTEN = (
+    (b"", False), (b"\x1b=", True), (b"a\x1b=b", True), (b"\x1b=\x1b>", False), (b"\x1b=\x1bc", False), (b"\x1b=\x1b[!p", False),
+    (b"\x1b=\x1b[1m\x1b[!", True), (b"\x1b]0;a title\x1b=", True), (b"\x1b\x1b=", True), (b"\x1b[=c=", False), (b"\x1b>\x1b=", True),
+    (b"\x1b=\x1b[?1049l text", True), (b"=", False), (b"\x1b=\x1bc\x1b=", True),
+)
+
+
+class Modes(unittest.TestCase):
+    """What a program asks for."""
+
+    def test_written(self):
+        """It is found whole, and cut at each place."""
+        for text, wanted in WRITTEN:
+            for cut in range(len(text) + 1):
+                keypad = Keypad()
+                keypad.fed(text[:cut])
+                keypad.fed(text[cut:])
+                self.assertEqual(keypad.is_application, wanted, (text, cut))
+
+    def test_bytewise(self):
+        """It is found byte by byte, and little is kept."""
+        for text, wanted in WRITTEN:
+            keypad = Keypad()
+            for byte in text:
+                keypad.fed(bytes([byte]))
+                self.assertLess(len(keypad.rest), 4)
+            self.assertEqual(keypad.is_application, wanted, text)
+
+
+class Told(unittest.TestCase):
+    """Who follows the bells is told how keypads are."""
+
+    def setUp(self):
+        made = tempfile.TemporaryDirectory()
+        self.addCleanup(made.cleanup)
+        self.source = BellSource(made.name)
+        self.addCleanup(self.source.close)
+        self.folder = pathlib.Path(made.name)
+
+    def follower(self):
+        """One who follows, and was taken."""
+        follower = BellFollower(os.fspath(self.folder))
+        follower.connect()
+        self.addCleanup(lambda: follower.peer and follower.peer.close())
+        self.source.turn([self.source.listener])
+        return follower
+
+    def test_changes(self):
+        """Each change is told once; who comes later is told what is so."""
+        first = self.follower()
+        self.source.tell_keypad(2, True)
+        self.source.tell_keypad(2, True)
+        self.source.tell_keypad(3, False)
+        self.assertEqual((first.rung([first.peer]), first.keypads), ([], {2}))
+        later = self.follower()
+        later.rung([later.peer])
+        self.assertEqual(later.keypads, {2})
+        self.source.tell_keypad(2, False)
+        for one in (first, later):
+            one.rung([one.peer])
+            self.assertEqual(one.keypads, set())
+
+    def test_end(self):
+        """Nothing is known of keypads once who told of them has left."""
+        first = self.follower()
+        self.source.tell_keypad(1, True)
+        first.rung([first.peer])
+        self.source.drop(self.source.followers[0])
+        first.rung([first.peer])
+        self.assertEqual(first.keypads, set())
