@@ -1,0 +1,4 @@
+pub mod Readings
+pub mod Wholes
+pub mod Moves
+pub mod Going

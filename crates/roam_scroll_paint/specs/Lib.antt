@@ -1,0 +1,5 @@
+pub mod Bands
+pub mod Sequences
+pub mod Rows
+pub mod Painting
+pub mod Leads
