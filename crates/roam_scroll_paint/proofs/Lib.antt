@@ -2,3 +2,8 @@ pub mod Readings
 pub mod Wholes
 pub mod Moves
 pub mod Going
+pub mod Erasing
+pub mod Styling
+pub mod Drawing
+pub mod Legibles
+pub mod Leading

@@ -1,5 +1,5 @@
 -- A text of functions is read as those functions.
-use Rattle.std.proofs.Common.{◌≡◌, ◌≤◌, ◌<◌, ℕ, ◌+◌, ◌==◌, Bool, true, false, not, ◌&&◌, List, [], ◌∷◌, ◌++◌, map, length, None, refl, sym, ap, ◌∙◌, arith, append_assoc}
+use Rattle.std.proofs.Common.{◌≡◌, ◌≤◌, ◌<◌, ℕ, ◌+◌, ◌==◌, Bool, true, false, not, ◌&&◌, List, [], ◌∷◌, ◌++◌, map, length, None, Some, refl, sym, ap, ◌∙◌, arith, append_assoc}
 use Rattle.std.specs.Prelude.{⊤, if◌then◌else◌}
 use Rattle.std.specs.List.{flat_map}
 use Rattle.std.specs.Char.{encode_utf8}
@@ -7,6 +7,10 @@ use Rattle.std.specs.Str.{encode_utf8_all}
 use Rattle.std.proofs.Math.Utf8.{scalar, scalars}
 use Rattle.std.proofs.lemmas.List.{append-nil, map-append}
 use Rattle.std.proofs.lemmas.Bool.{and_parts, and_from}
+use Rattle.roam_cells.specs.Width.{width_of}
+use Rattle.roam_charset.specs.Charsets.{mapped_by}
+use Rattle.roam_charset.specs.Sets.{in_use, spent}
+use Rattle.roam_grid.specs.Writing.{put_on, joined_on}
 use Rattle.roam_text.specs.declared.functions.Function.{Function}
 use Rattle.roam_text.specs.declared.functions.Function.TheVariants.{Print, C0, C1}
 use Rattle.roam_text.specs.Log.{Item, Byte, Sign, character, bytes_of, signs, unfinished_part}
@@ -15,8 +19,8 @@ use Rattle.roam_text.specs.Functions.{functions, functions_of}
 use Rattle.roam_text.specs.Resting.{AtRest}
 use Rattle.roam_text.proofs.Fronts.{functions-nil, functions-step}
 use Rattle.roam_text.proofs.Encoded.{signs-encoded, bytes-encoded}
-use Rattle.roam_term.specs.Terminal.{Live, Terminal, run, started_terminal, term}
-use Rattle.roam_term.specs.ControlFunctions.{csi}
+use Rattle.roam_term.specs.Terminal.{Live, Terminal, changed_by, printed_on, glyph_in, writing_under, run, started_terminal, term}
+use Rattle.roam_term.specs.ControlFunctions.{csi, erase_all}
 use Rattle.roam_term.proofs.Runs.{run-append, run-live}
 use Rattle.roam_term.proofs.Steps.{acted}
 use Rattle.roam_paint.specs.Sequences.{spelling_of}
@@ -103,6 +107,75 @@ spells (f ∷ fs) h =
           ∙ one.gives (map character more.letters ++ rest)
           ∙ ap (λ l. f ∷ l) (more.gives rest);
     }
+
+-- ---- functions that neither show the cursor nor hide it
+
+-- a terminal with its cursor visible or not
+abbrev pub seen : Bool → Live → Live
+seen visible t = record t { modes = record t.modes { cursor_visible = visible } }
+
+abbrev pub IsBlind : Function → Type 0
+IsBlind f = (visible : Bool) (t : Live) → changed_by f (seen visible t) ≡ seen visible (changed_by f t)
+
+pub record IsPlain (f : Function) : Type 0 where
+  pub read : IsRead f
+  pub blind : IsBlind f
+
+abbrev pub ArePlain : List Function → Type 0
+ArePlain [] = ⊤
+ArePlain (f ∷ fs) = IsPlain f × ArePlain fs
+
+pub plain-append : (fs gs : List Function) → ArePlain fs → ArePlain gs → ArePlain (fs ++ gs)
+plain-append [] gs h k = k
+plain-append (f ∷ fs) gs h k = (h.0, plain-append fs gs h.1 k)
+
+pub are_read : (fs : List Function) → ArePlain fs → AreRead fs
+are_read [] h = tt
+are_read (f ∷ fs) h = (h.0.read, are_read fs h.1)
+
+pub acted-blind : (fs : List Function) → ArePlain fs → (visible : Bool) (t : Live) → acted fs (seen visible t) ≡ seen visible (acted fs t)
+acted-blind [] h visible t = refl
+acted-blind (f ∷ fs) h visible t = ap (acted fs) (h.0.blind visible t) ∙ acted-blind fs h.1 visible (changed_by f t)
+
+blind-either : (b : Bool) (visible : Bool) (t u : Live) → (if b then seen visible t else seen visible u) ≡ seen visible (if b then t else u)
+blind-either true visible t u = refl
+blind-either false visible t u = refl
+
+pub blind-print : (c : ℕ) → IsBlind (Print c)
+unfolding changed_by printed_on
+blind-print c visible t =
+    let s = record t { sets = spent t.sets } in
+    let x = mapped_by (in_use t.sets) c in
+    blind-either (width_of x == 0) visible (record s { screen = joined_on x s.screen })
+    (record s { screen = put_on (glyph_in x s.pen) (writing_under s.modes) s.screen; printed = Some x })
+
+pub blind-style : (ps : List ℕ) → IsBlind (csi None ps 0x6D)
+unfolding changed_by
+blind-style ps visible t = refl
+
+pub blind-place : (ps : List ℕ) → IsBlind (csi None ps 0x48)
+unfolding changed_by
+blind-place ps visible t = refl
+
+pub blind-margins : (ps : List ℕ) → IsBlind (csi None ps 0x72)
+unfolding changed_by
+blind-margins ps visible t = refl
+
+pub blind-erase_line : IsBlind erase_line
+unfolding changed_by
+blind-erase_line visible t = refl
+
+pub blind-erase_all : IsBlind erase_all
+unfolding changed_by
+blind-erase_all visible t = refl
+
+pub blind-line_feed : IsBlind line_feed
+unfolding changed_by
+blind-line_feed visible t = refl
+
+pub blind-reverse_index : IsBlind reverse_index
+unfolding changed_by
+blind-reverse_index visible t = refl
 
 -- ---- after a log
 

@@ -69,6 +69,7 @@ row_style_left marks new cols r end g = style_left end cols (style_in (is_marked
 pub record IsPlan (over new : Places) (cols r : ℕ) (marks : Marks) (end : ℕ) : Type 0 where
   -- what isn't marked shows that already
   pub covers : (c : ℕ) → c < cols → is_marked marks r c ≡ false → over r c ≡ new r c
+  pub short : (c : ℕ) → cols ≤ c → is_marked marks r c ≡ false
   pub inside : end ≤ cols
   -- what is erased is to be blank
   pub blanks : (c : ℕ) → end ≤ c → c < cols → new r c ≡ blank
