@@ -17,7 +17,8 @@ use Rattle.roam_term.proofs.Steps.{acted, acted-append, Constants, at_work, goes
 use Rattle.roam_paint.specs.Painting.{Places, is_drawn, goes_on, placing, styling, drawn_cell, style_after, style_in, drawn_row}
 use Rattle.roam_paint.proofs.Walk.{IsPaintable, Walked, row}
 use Rattle.roam_scroll_paint.specs.Bands.{to_row}
-use Rattle.roam_scroll_paint.specs.Rows.{Marks, is_marked, placing_at, placed_in, styled_from, written_cell, written_row, erase_line, ends_at, erasing_from, style_left, row_functions, row_style_left, IsPlan, AreDrawn, nothing, stays, written}
+use Rattle.roam_scroll_paint.specs.Rows.{Marks, is_marked, placing_at, placed_in, written_cell, written_row, erase_line, ends_at, erasing_from, style_left, row_functions, row_style_left, IsPlan, AreDrawn, nothing, stays, written}
+use Rattle.roam_scroll_paint.specs.Styles.{styled_from}
 use Rattle.roam_scroll_paint.proofs.Wholes.{IsWhole}
 use Rattle.roam_scroll_paint.proofs.Erasing.{erases_line, keeps_other_row, keeps_left, blanks_right}
 use Rattle.roam_scroll_paint.proofs.Styling.{styling_is, styled_is}

@@ -24,7 +24,8 @@ use Rattle.roam_paint.proofs.Places.{shown_below, shown_right, same_rows, same_c
 use Rattle.roam_paint.proofs.Whole.{wide_shown, half_shown, paintable_shown}
 use Rattle.roam_scroll_paint.specs.declared.bands.Band.{Band}
 use Rattle.roam_scroll_paint.specs.Bands.{FitsBand, taken, moved_source, source_of, drawn_over, preparing}
-use Rattle.roam_scroll_paint.specs.Rows.{placing_at, styled_from, AreDrawn}
+use Rattle.roam_scroll_paint.specs.Rows.{placing_at, AreDrawn}
+use Rattle.roam_scroll_paint.specs.Styles.{styled_from}
 use Rattle.roam_scroll_paint.specs.Sequences.{text_of}
 use Rattle.roam_scroll_paint.specs.Painting.{settling, hiding, revealing, ArePainting, IsPaintingText}
 use Rattle.roam_scroll_paint.specs.Leads.{PaintingLeads, IsLedTo}

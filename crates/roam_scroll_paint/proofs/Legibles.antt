@@ -1,17 +1,17 @@
 -- Each function of a painting is read as it is spelled.
 use Rattle.std.proofs.Common.{◌≡◌, ◌≤◌, ◌<◌, ℕ, zero, suc, ◌+◌, ◌-◌, Bool, true, false, not, ◌&&◌, inl, inr, List, [], ◌∷◌, ◌++◌, map, length, replicate, Option, Some, None, refl, sym, ap, ◌∙◌, subst, arith}
 use Rattle.std.specs.Prelude.{if◌then◌else◌, min, unwrap_or, nat_le, nat_lt, ◌==◌}
-use Rattle.std.proofs.lemmas.Bool.{and_parts, false≢true, eq-eqb, ne_eqb, cases_eq}
+use Rattle.std.proofs.lemmas.Bool.{and_parts, false≢true, eq-eqb, ne_eqb, cases_eq, leb-true}
 use Rattle.unicode_width.specs.Width.{char_width}
 use Rattle.roam_cells.specs.Width.{width_of, is_joiner, is_answer_zero}
 use Rattle.roam_cells.specs.Glyph.{IsColour, default_style, is_text, are_joiners}
-use Rattle.roam_cells.specs.Same.{same_style}
+use Rattle.roam_cells.specs.Same.{same_colour, same_style}
 use Rattle.roam_cells.specs.declared.styles.Style.{Style}
 use Rattle.roam_cells.specs.declared.styles.Colour.{Colour}
 use Rattle.roam_cells.specs.declared.styles.Colour.TheVariants.{Default, Index, Rgb}
 use Rattle.roam_text.specs.declared.functions.Function.{Function}
 use Rattle.roam_text.specs.declared.functions.Function.TheVariants.{Print}
-use Rattle.roam_term.specs.ControlFunctions.{flag_code, colour_codes, set_style, set_mixture, restyle, place_cursor, hide_cursor, show_cursor, erase_all}
+use Rattle.roam_term.specs.ControlFunctions.{csi, flag_code, colour_codes, set_style, set_mixture, restyle, place_cursor, hide_cursor, show_cursor, erase_all}
 use Rattle.roam_paint.specs.Painting.{Places, is_drawn, goes_on, styling, style_in}
 use Rattle.roam_paint.specs.Sequences.{spelling_of}
 use Rattle.roam_paint.proofs.Readings.{AreSmall, IsFinal, Legible, legible-plain, legible-private, legible-print}
@@ -19,7 +19,9 @@ use Rattle.roam_paint.proofs.Walk.{AreScalars, IsPaintable}
 use Rattle.roam_scroll_paint.specs.declared.bands.Band.{Band}
 use Rattle.roam_scroll_paint.specs.Bands.{IsBand, FitsBand, set_margins, reset_margins, to_row, line_feed, reverse_index, steps, edge_row, moves_band, moving, preparing}
 use Rattle.roam_scroll_paint.specs.Sequences.{text_of}
-use Rattle.roam_scroll_paint.specs.Rows.{Marks, is_marked, placing_at, styled_from, written_cell, written_row, erase_line, ends_at, erasing_from, row_functions, AreDrawn, nothing, stays, written}
+use Rattle.roam_scroll_paint.specs.Rows.{Marks, is_marked, placing_at, written_cell, written_row, erase_line, ends_at, erasing_from, row_functions, AreDrawn, nothing, stays, written}
+use Rattle.roam_scroll_paint.specs.Styles.{flag_added, colour_words, change_codes, adds, changing, styled_from}
+use Rattle.roam_scroll_paint.proofs.Changes.{adds-few}
 use Rattle.roam_scroll_paint.specs.Painting.{settling, hiding, revealing}
 use Rattle.roam_scroll_paint.proofs.Readings.{IsRead, as_legible, AreRead, IsBlind, IsPlain, ArePlain, plain-append, blind-print, blind-style, blind-place, blind-margins, blind-erase_line, blind-erase_all, blind-line_feed, blind-reverse_index, read-line_feed, read-reverse_index, read-erase_line, read-reset_margins}
 
@@ -137,8 +139,47 @@ pub plain-if : (b : Bool) (fs : List Function) → ArePlain fs → ArePlain (if 
 plain-if true fs h = h
 plain-if false fs h = tt
 
+small-append : (xs ys : List ℕ) → AreSmall xs → AreSmall ys → AreSmall (xs ++ ys)
+small-append [] ys h k = k
+small-append (x ∷ xs) ys h k = (h.0, small-append xs ys h.1 k)
+
+small-flag : (a b : Bool) (n : ℕ) → n ≤ 9999 → AreSmall (flag_added a b n)
+small-flag true true n h = tt
+small-flag true false n h = tt
+small-flag false true n h = (h, tt)
+small-flag false false n h = tt
+
+small-words : (n m : ℕ) (x : Colour) → n ≤ 9999 → m ≤ 9999 → IsColour x → AreSmall (colour_words n m x)
+small-words n m Default h k l = (k, tt)
+small-words n m (Index c) h k l = (h, (omega arith, (omega (arith, l), tt)))
+small-words n m (Rgb r g b) h k l = (h, (omega arith, (omega (arith, l.0), (omega (arith, l.1), (omega (arith, l.2), tt)))))
+
+small-added : (t : Bool) (n m : ℕ) (x : Colour) → n ≤ 9999 → m ≤ 9999 → IsColour x → AreSmall (if t then [] else colour_words n m x)
+small-added true n m x h k l = tt
+small-added false n m x h k l = small-words n m x h k l
+
+small-codes : (g s : Style) → IsColour s.foreground → IsColour s.background → AreSmall (change_codes g s)
+unfolding change_codes
+small-codes g s fore back =
+    small-append _ _ (small-append _ _ (small-append _ _ (small-append _ _ (small-append _ _ (small-append _ _ (small-append _ _ (small-append _ _ (small-append _ _
+    (small-flag g.bold s.bold 1 (omega arith)) (small-flag g.faint s.faint 2 (omega arith))) (small-flag g.italic s.italic 3 (omega arith)))
+    (small-flag g.underline s.underline 4 (omega arith))) (small-flag g.blink s.blink 5 (omega arith))) (small-flag g.reverse s.reverse 7 (omega arith)))
+    (small-flag g.conceal s.conceal 8 (omega arith))) (small-flag g.strike s.strike 9 (omega arith)))
+    (small-added (same_colour g.foreground s.foreground) 38 39 s.foreground (omega arith) (omega arith) fore))
+    (small-added (same_colour g.background s.background) 48 49 s.background (omega arith) (omega arith) back)
+
+plain-codes : (cs : List ℕ) → nat_lt 0 (length cs) ≡ true → nat_le (length cs) 16 ≡ true → AreSmall cs → IsPlain (csi None cs 0x6D)
+plain-codes [] h k l = absurd (false≢true h)
+plain-codes (p ∷ ps) h k l = plain (as_legible (csi None (p ∷ ps) 0x6D) refl (legible-plain p ps 0x6D l (leb-true (length (p ∷ ps)) 16 k) final-m)) (blind-style (p ∷ ps))
+
+plain-changing : (g s : Style) → IsColour s.foreground → IsColour s.background → (b : Bool) → adds g s ≡ b
+    → ArePlain (if b then csi None (change_codes g s) 0x6D ∷ [] else restyle s)
+plain-changing g s fore back true e = let n = adds-few g s e in (plain-codes (change_codes g s) n.0 n.1 (small-codes g s fore back), tt)
+plain-changing g s fore back false e = plain-restyle s fore back
+
 pub plain-styled : (g s : Style) → IsColour s.foreground → IsColour s.background → ArePlain (styled_from g s)
-plain-styled g s fore back = plain-unless (same_style s g) (restyle s) (plain-restyle s fore back)
+plain-styled g s fore back =
+    plain-unless (same_style s g) (changing g s) (plain-changing g s fore back (adds g s) refl)
 
 -- ---- characters
 

@@ -3,6 +3,7 @@ pub mod Wholes
 pub mod Moves
 pub mod Going
 pub mod Erasing
+pub mod Changes
 pub mod Styling
 pub mod Drawing
 pub mod Legibles

@@ -1,5 +1,6 @@
 pub mod Bands
 pub mod Sequences
+pub mod Styles
 pub mod Rows
 pub mod Painting
 pub mod Leads

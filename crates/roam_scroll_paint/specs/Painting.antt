@@ -12,7 +12,8 @@ use Rattle.roam_paint.specs.Painting.{same_size}
 use Rattle.roam_scroll_paint.specs.declared.bands.Band.{Band}
 use Rattle.roam_scroll_paint.specs.Bands.{FitsBand, drawn_over, preparing}
 use Rattle.roam_scroll_paint.specs.Sequences.{text_of}
-use Rattle.roam_scroll_paint.specs.Rows.{AreDrawn, placing_at, styled_from}
+use Rattle.roam_scroll_paint.specs.Rows.{AreDrawn, placing_at}
+use Rattle.roam_scroll_paint.specs.Styles.{styled_from}
 
 -- the default style, where another is set, and the cursor's place
 abbrev pub settling : Screenshot → Style → List Function

@@ -5,8 +5,9 @@ use Rattle.roam_cells.specs.declared.styles.Style.{Style}
 use Rattle.roam_text.specs.declared.functions.Function.{Function}
 use Rattle.roam_text.specs.declared.functions.Function.TheVariants.{Print}
 use Rattle.roam_term.specs.ControlFunctions.{csi, place_cursor}
-use Rattle.roam_paint.specs.Painting.{Places, is_drawn, goes_on, styling, style_in}
+use Rattle.roam_paint.specs.Painting.{Places, is_drawn, goes_on, style_in}
 use Rattle.roam_scroll_paint.specs.Bands.{to_row}
+use Rattle.roam_scroll_paint.specs.Styles.{styled_from}
 
 -- the columns of a row that are written: those that are to show something else, and the gaps that are written through
 abbrev pub Marks : Type 0
@@ -22,10 +23,6 @@ placing_at r c = if c == 0 then to_row (r + 1) else place_cursor (r + 1) (c + 1)
 -- the cursor goes to a column of a row, but where what was written before ends there
 abbrev pub placed_in : (ℕ → ℕ → Bool) → ℕ → ℕ → List Function
 placed_in d r c = if goes_on d r c then [] else placing_at r c ∷ []
-
--- a style is set where another one is
-abbrev pub styled_from : Style → Style → List Function
-styled_from g s = styling s g
 
 -- one place, with the style that is set before it
 unfoldable pub written_cell : (ℕ → ℕ → Bool) → Places → ℕ → ℕ → Style → List Function
