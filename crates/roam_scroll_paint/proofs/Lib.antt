@@ -8,3 +8,4 @@ pub mod Styling
 pub mod Drawing
 pub mod Legibles
 pub mod Leading
+pub mod Spelled

@@ -3,4 +3,5 @@
 #![tactic(auto)]
 
 pub mod bands;
+mod sequences;
 pub mod laws;
