@@ -8,7 +8,7 @@ use Rattle.roam_cells.specs.Same.{same_colour, same_style}
 use Rattle.roam_cells.specs.declared.styles.Style.{Style}
 use Rattle.roam_cells.specs.declared.styles.Colour.{Colour}
 use Rattle.roam_cells.specs.declared.styles.Colour.TheVariants.{Default, Index, Rgb}
-use Rattle.roam_cells.proofs.SameCells.{style_same}
+use Rattle.roam_cells.proofs.SameCells.{style_same, style_again}
 use Rattle.roam_controls.specs.declared.renditions.Awaited.TheVariants.{Aspect}
 use Rattle.roam_controls.specs.Renditions.{Rendition, with_parameter, styled_by}
 use Rattle.roam_scroll_paint.specs.Styles.{flag_added, colour_words, colour_added, change_codes, ends_flag, ends_alone, adds}
@@ -63,10 +63,17 @@ flag_is make code sets false true e = record { is = sets false }
 flag_is make code sets false false e = record { is = refl }
 
 -- colours are compared as parts of styles
-same_fore : (x y : Colour) → same_colour x y ≡ true → x ≡ y
-same_fore x y e =
+pub colour_same : (x y : Colour) → same_colour x y ≡ true → x ≡ y
+colour_same x y e =
     ap (λ (s : Style). s.foreground)
     (style_same (record default_style { foreground = x }) (record default_style { foreground = y }) (ap (λ b. b && true) e))
+
+and_true : (b : Bool) → (b && true) ≡ true → b ≡ true
+and_true true e = refl
+and_true false e = absurd (false≢true e)
+
+pub colour_again : (x : Colour) → same_colour x x ≡ true
+colour_again x = and_true (same_colour x x) (style_again (record default_style { foreground = x }))
 
 words_fore : (b f i u k r c s : Bool) (x y z : Colour) → IsColour z
     → folded (shown_as (style b f i u k r c s x y)) (colour_words 38 39 z) ≡ shown_as (style b f i u k r c s z y)
@@ -82,7 +89,7 @@ words_back b f i u k r c s x y (Rgb red green blue) h = rw (le-leb red 255 h.0, 
 
 colour_is : (make : Colour → Style) (code ending : ℕ) (x z : Colour) → folded (shown_as (make x)) (colour_words code ending z) ≡ shown_as (make z)
     → (t : Bool) → same_colour x z ≡ t → Makes (make x) (if t then [] else colour_words code ending z) (make z)
-colour_is make code ending x z sets true e = record { is = ap (λ c. shown_as (make c)) (same_fore x z e) }
+colour_is make code ending x z sets true e = record { is = ap (λ c. shown_as (make c)) (colour_same x z e) }
 colour_is make code ending x z sets false e = record { is = sets }
 
 pub changed-codes : (g s : Style) → IsColour s.foreground → IsColour s.background → ends_flag g s ≡ false → styled_by (change_codes g s) g ≡ s

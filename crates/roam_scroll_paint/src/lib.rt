@@ -3,5 +3,6 @@
 #![tactic(auto)]
 
 pub mod bands;
+mod renditions;
 mod sequences;
 pub mod laws;
