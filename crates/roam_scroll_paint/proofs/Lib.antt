@@ -9,3 +9,4 @@ pub mod Drawing
 pub mod Legibles
 pub mod Leading
 pub mod Spelled
+pub mod Turns

@@ -4,5 +4,7 @@
 
 pub mod bands;
 mod renditions;
+mod rows;
 mod sequences;
+mod differences;
 pub mod laws;
