@@ -6,6 +6,8 @@ use Rattle.roam_text.specs.declared.functions.Function.{Function}
 use Rattle.roam_text.specs.declared.functions.Function.TheVariants.{Print}
 use Rattle.roam_term.specs.ControlFunctions.{csi, place_cursor}
 use Rattle.roam_paint.specs.Painting.{Places, is_drawn, goes_on, style_in}
+use Rattle.std.specs.List.{flat_map}
+use Rattle.roam_scroll_paint.specs.Sequences.{text_of}
 use Rattle.roam_scroll_paint.specs.Bands.{to_row}
 use Rattle.roam_scroll_paint.specs.Styles.{styled_from}
 
@@ -78,3 +80,19 @@ pub data AreDrawn (over new : Places) (cols : ℕ) : ℕ → Style → List Func
       → AreDrawn over new cols (suc r) g fs
   written : (r end : ℕ) (g : Style) (fs : List Function) (marks : Marks) → AreDrawn over new cols r g fs → IsPlan over new cols r marks end
       → AreDrawn over new cols (suc r) (row_style_left marks new cols r end g) (fs ++ row_functions marks new cols r end g)
+
+-- no mark went off
+abbrev pub KeepsMarks : Marks → Marks → Type 0
+KeepsMarks old new = (c : ℕ) → slice_index_or new c false ≡ false → slice_index_or old c false ≡ false
+
+-- a text is longer by one row, which is drawn over what is shown
+pub record AddsRow (over new : Places) (cols r : ℕ) (g h : Style) (before after : List ℕ) : Type 0 where
+  pub functions : List Function
+  pub added : after ≡ before ++ flat_map text_of functions
+  pub drawn : (fs : List Function) → AreDrawn over new cols r g fs → AreDrawn over new cols (r + 1) h (fs ++ functions)
+
+-- a text is longer by the first rows
+pub record AddsRows (over new : Places) (cols r : ℕ) (h : Style) (before after : List ℕ) : Type 0 where
+  pub functions : List Function
+  pub added : after ≡ before ++ flat_map text_of functions
+  pub drawn : AreDrawn over new cols r h functions

@@ -3,6 +3,7 @@
 #![tactic(auto)]
 
 pub mod bands;
+mod marks;
 mod renditions;
 mod rows;
 mod sequences;
