@@ -33,7 +33,7 @@ use Rattle.roam_scroll_paint.proofs.Readings.{AreRead, read-append, ArePlain, pl
 use Rattle.roam_scroll_paint.proofs.Wholes.{IsWhole}
 use Rattle.roam_scroll_paint.proofs.Going.{moves}
 use Rattle.roam_scroll_paint.proofs.Styling.{styled_is}
-use Rattle.roam_scroll_paint.proofs.Drawing.{Works, Ready, rows_ready, placing_is}
+use Rattle.roam_scroll_paint.proofs.RowsDrawn.{Works, Ready, rows_ready, placing_is}
 use Rattle.roam_scroll_paint.proofs.Legibles.{plain-preparing, plain-rows, plain-styled, plain-placed, read-hiding, read-revealing}
 
 -- ---- outside both screens nothing differs

@@ -5,8 +5,9 @@ pub mod Going
 pub mod Erasing
 pub mod Changes
 pub mod Styling
-pub mod Drawing
+pub mod RowsDrawn
 pub mod Legibles
 pub mod Leading
 pub mod Spelled
 pub mod Turns
+pub mod Adding

@@ -1,5 +1,8 @@
 //! What is read of two screens.
-ghost use Rattle.std.specs.Prelude.{◌≡◌, ◌<◌};
+ghost use Rattle.std.specs.Prelude.{◌≡◌, ℕ, ◌<◌, length, IfSome};
+ghost use Rattle.roam_cells.specs.Glyph.{blank};
+ghost use Rattle.roam_cells.specs.Place.{glyph_at};
+ghost use Rattle.roam_scroll_paint.specs.Bands.{taken};
 ghost use Rattle.roam_term.specs.Ground.{shown_at};
 ghost use Rattle.roam_paint.specs.Painting.{same_size};
 
@@ -20,4 +23,20 @@ pub fn cell_of<S: Seen>(screen: &S, row: usize, col: usize) -> &Cell
 {
     screen.facts();
     &screen.row(row as u16)[col]
+}
+
+/// The cells that a row shows before it is drawn: those of a row of the old screen, or blanks.
+pub fn row_over<'a, O: Seen>(old: &'a O, blanks: &'a [Cell], source: Option<u16>) -> &'a [Cell]
+    requires source { IfSome source (λ r. (r < (O.screen old.now).rows) × ((O.screen old.now).cols ≡ length blanks.now)) }
+    requires blanks { (c : ℕ) → glyph_at blanks.now c ≡ blank }
+    ensures len { length result.now ≡ length blanks.now }
+    ensures cells { (c : ℕ) → taken (shown_at (O.screen old.now)) source c ≡ glyph_at result.now c }
+{
+    match source {
+        Some(row) => {
+            old.facts();
+            old.row(row)
+        }
+        None => blanks,
+    }
 }

@@ -3,9 +3,10 @@
 #![tactic(auto)]
 
 pub mod bands;
+mod differences;
+mod drawing;
+pub mod laws;
 mod marks;
 mod renditions;
 mod rows;
 mod sequences;
-mod differences;
-pub mod laws;

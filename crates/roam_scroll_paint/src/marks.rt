@@ -1,29 +1,26 @@
 //! Which columns of a row are written, and where its end is erased: those that differ, and the gaps that are shorter than a move.
-ghost use Rattle.std.specs.Prelude.{◌≡◌, ℕ, ◌+◌, ◌<◌, ◌≤◌, OnOk, length, slice_index_or, true, false};
+ghost use Rattle.std.specs.Prelude.{◌≡◌, ℕ, ◌+◌, ◌<◌, ◌≤◌, length, slice_index_or, true, false};
 ghost use Rattle.roam_cells.specs.Glyph.{blank};
 ghost use Rattle.roam_cells.specs.Place.{glyph_at};
 ghost use Rattle.roam_scroll_paint.specs.Rows.{KeepsMarks};
 
 use roam_cells::Cell;
-use std::alloc::AllocError;
 
 /// The most columns of a gap that is written through.
 const WIDEST_GAP: usize = 8;
 /// What another style in a gap is taken to cost, in bytes.
 const STYLE_COST: usize = 6;
 
-/// Marks the columns in which two rows of one length differ.
-pub fn mark_differences(marks: &mut Vec<bool>, over: &[Cell], cells: &[Cell]) -> Result<(), AllocError>
+/// Marks the columns in which two rows of one length differ, and no others.
+pub fn mark_differences(marks: &mut [bool], over: &[Cell], cells: &[Cell])
+    requires len { length marks.old ≡ length cells.now }
     requires same { length over.now ≡ length cells.now }
-    ensures len { OnOk result (length marks.new.items ≡ length cells.now) }
-    ensures covers { OnOk result ((c : ℕ) → c < length cells.now → slice_index_or marks.new.items c false ≡ false
-        → glyph_at over.now c ≡ glyph_at cells.now c) }
+    ensures covers { (c : ℕ) → c < length cells.now → slice_index_or marks.new c false ≡ false
+        → glyph_at over.now c ≡ glyph_at cells.now c }
 {
-    marks.clear();
     for col in 0..cells.len() {
-        marks.push(is_other(&over[col], &cells[col]))?;
+        marks[col] = is_other(&over[col], &cells[col]);
     }
-    Ok(())
 }
 
 fn is_other(one: &Cell, other: &Cell) -> bool

@@ -1,0 +1,39 @@
+//! One row after another is drawn over what is shown.
+ghost use Rattle.std.specs.Prelude.{◌≡◌, ℕ, ◌+◌, ◌<◌, OnOk, IfOk, IfSome, length};
+ghost use Rattle.roam_cells.specs.Glyph.{blank};
+ghost use Rattle.roam_cells.specs.Place.{glyph_at};
+ghost use Rattle.roam_term.specs.Ground.{shown_at};
+ghost use Rattle.roam_paint.specs.Painting.{Places, same_size};
+ghost use Rattle.roam_scroll_paint.specs.Bands.{FitsBand, taken, drawn_over};
+ghost use Rattle.roam_scroll_paint.specs.Rows.{AddsRow, AddsRows};
+
+use crate::bands::{Band, source_of};
+use crate::differences::row_over;
+use crate::marks::{end_of, mark_differences, mark_gaps};
+use crate::rows::push_row;
+use roam_cells::{Cell, Style, are_same_cells};
+use roam_screens::Seen;
+use std::alloc::AllocError;
+
+// A row, over cells that are shown; answers the style that is set then.
+fn draw_row<N: Seen>(
+    text: &mut Vec<u8>,
+    over: &[Cell],
+    new: &N,
+    row: u16,
+    style: Style,
+    marks: &mut [bool],
+) -> Result<Style, AllocError>
+    requires row { row < (N.screen new.now).rows }
+    requires len { (length over.now ≡ (N.screen new.now).cols) × (length marks.old ≡ (N.screen new.now).cols) }
+    ensures row { IfOk result (λ h. (places : Places) → ((c : ℕ) → places row c ≡ glyph_at over.now c)
+        → AddsRow places (shown_at (N.screen new.now)) (N.screen new.now).cols row style h text.old.items text.new.items) }
+{
+    new.facts();
+    let cells = new.row(row);
+    mark_differences(marks, over, cells);
+    mark_gaps(marks, cells, usize::from(row));
+    let end = end_of(marks, cells, usize::from(row));
+    let left = push_row(text, new, usize::from(row), marks, end, style)?;
+    Ok(left)
+}
