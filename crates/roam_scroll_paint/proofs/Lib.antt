@@ -11,3 +11,5 @@ pub mod Leading
 pub mod Spelled
 pub mod Turns
 pub mod Adding
+pub mod Plainly
+pub mod Settled

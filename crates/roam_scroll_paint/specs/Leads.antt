@@ -5,6 +5,7 @@ use Rattle.roam_text.specs.Log.{Item, Byte}
 use Rattle.roam_term.specs.Ground.{IsSized}
 use Rattle.roam_term.specs.Terminal.{term}
 use Rattle.roam_paint.specs.Ground.{Displays}
+use Rattle.roam_paint.specs.Painting.{text_between}
 use Rattle.roam_scroll_paint.specs.Painting.{IsPaintingText}
 
 -- after the text a ground terminal, as large as before, shows a screen
@@ -28,3 +29,7 @@ added before after = drop (length before) after
 -- whatever band moves and whatever more than the differences is written: the text leads
 abbrev pub PaintingLeads : Type 0
 PaintingLeads = (old new : Screenshot) (text : List ℕ) → IsScreenshot old → IsScreenshot new → IsPaintingText old new text → Leads old new text
+
+-- so does the text that writes each place which differs
+abbrev pub PaintLeads : Type 0
+PaintLeads = (old new : Screenshot) → IsScreenshot new → Leads old new (text_between old new)

@@ -43,3 +43,12 @@ pub record IsPaintingText (old new : Screenshot) (text : List ℕ) : Type 0 wher
   pub functions : List Function
   pub spelled : text ≡ flat_map text_of functions
   pub painting : ArePainting old new functions
+
+-- all of a text but what hides the cursor and shows it
+pub record IsBody (old new : Screenshot) (before after : List ℕ) : Type 0 where
+  pub band : Option Band
+  pub fits : FitsBand new.rows band
+  pub style : Style
+  pub rows : List Function
+  pub drawn : AreDrawn (drawn_over old new band) (shown_at new) new.cols new.rows style rows
+  pub added : after ≡ before ++ flat_map text_of (preparing (same_size old new) band ++ (rows ++ settling new style))

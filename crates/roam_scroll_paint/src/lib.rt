@@ -2,11 +2,15 @@
 //! never longer than that of a painter which writes every place that differs.
 #![tactic(auto)]
 
-pub mod bands;
+mod bands;
+mod choice;
 mod differences;
 mod drawing;
 pub mod laws;
 mod marks;
+mod painting;
 mod renditions;
 mod rows;
 mod sequences;
+
+pub use painting::paint_moved;
