@@ -1,5 +1,5 @@
 //! What is read of two screens.
-ghost use Rattle.std.specs.Prelude.{◌≡◌, ℕ, ◌<◌, length, IfSome};
+ghost use Rattle.std.specs.Prelude.{◌≡◌, ℕ, ◌<◌, length, true, IfSome};
 ghost use Rattle.roam_cells.specs.Glyph.{blank};
 ghost use Rattle.roam_cells.specs.Place.{glyph_at};
 ghost use Rattle.roam_scroll_paint.specs.Bands.{taken};
@@ -12,6 +12,8 @@ use roam_screens::Seen;
 /// Whether two screens have one size.
 pub fn is_same_size<O: Seen, N: Seen>(old: &O, new: &N) -> bool
     ensures same { result ≡ same_size (O.screen old.now) (N.screen new.now) }
+    ensures rows { result ≡ true → (O.screen old.now).rows ≡ (N.screen new.now).rows }
+    ensures cols { result ≡ true → (O.screen old.now).cols ≡ (N.screen new.now).cols }
 {
     old.rows() == new.rows() && old.cols() == new.cols()
 }
