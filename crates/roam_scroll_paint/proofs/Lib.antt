@@ -13,3 +13,4 @@ pub mod Turns
 pub mod Adding
 pub mod Plainly
 pub mod Settled
+pub mod Worked
