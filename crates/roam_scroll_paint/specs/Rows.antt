@@ -1,11 +1,13 @@
 -- One row after another is drawn: what is written of a row, and where its end is erased.
-use Rattle.std.specs.Prelude.{◌≡◌, ℕ, zero, suc, ◌+◌, ◌-◌, ◌<◌, ◌≤◌, ◌==◌, ◌&&◌, nat_lt, Bool, false, if◌then◌else◌, List, [], ◌∷◌, ◌++◌, map, slice_index_or, None}
+use Rattle.std.specs.Prelude.{◌≡◌, ℕ, zero, suc, ◌+◌, ◌-◌, ◌<◌, ◌≤◌, ◌==◌, ◌&&◌, nat_lt, Bool, true, false, if◌then◌else◌, List, [], ◌∷◌, ◌++◌, map, slice_index_or, None}
 use Rattle.roam_cells.specs.Glyph.{blank, default_style}
+use Rattle.roam_cells.specs.Place.{row_of}
 use Rattle.roam_cells.specs.declared.styles.Style.{Style}
+use Rattle.roam_screens.specs.Screenshot.{Screenshot}
 use Rattle.roam_text.specs.declared.functions.Function.{Function}
 use Rattle.roam_text.specs.declared.functions.Function.TheVariants.{Print}
 use Rattle.roam_term.specs.ControlFunctions.{csi, place_cursor}
-use Rattle.roam_paint.specs.Painting.{Places, is_drawn, goes_on, style_in}
+use Rattle.roam_paint.specs.Painting.{Places, same_size, is_drawn, goes_on, style_in}
 use Rattle.std.specs.List.{flat_map}
 use Rattle.roam_scroll_paint.specs.Sequences.{text_of}
 use Rattle.roam_scroll_paint.specs.Bands.{to_row}
@@ -96,3 +98,9 @@ pub record AddsRows (over new : Places) (cols r : ℕ) (h : Style) (before after
   pub functions : List Function
   pub added : after ≡ before ++ flat_map text_of functions
   pub drawn : AreDrawn over new cols r h functions
+
+-- two screens of one size have the same cells in a row, from 0
+pub record IsSameRow (old new : Screenshot) (r : ℕ) : Type 0 where
+  pub size : same_size old new ≡ true
+  pub low : r < new.rows
+  pub cells : row_of old.cols old.cells r ≡ row_of new.cols new.cells r

@@ -1,9 +1,12 @@
 //! Which band of rows goes up or down: three of the rows that differ are looked for among the old ones. Nothing rests on the choice.
-ghost use Rattle.std.specs.Prelude.{◌≡◌, ℕ, ◌+◌, ◌-◌, ◌<◌, ◌≤◌, ◌≢◌, IfOk, length, slice_index_or};
+ghost use Rattle.std.specs.Prelude.{◌≡◌, ℕ, ◌+◌, ◌-◌, ◌<◌, ◌≤◌, ◌≢◌, IfOk, OnOk, length, slice_index_or, [], true, None};
 ghost use Rattle.roam_scroll_paint.specs.Bands.{FitsBand, IsBand};
+ghost use Rattle.roam_paint.specs.Painting.{same_size};
+ghost use Rattle.roam_scroll_paint.specs.Rows.{IsSameRow};
 
 use crate::bands::Band;
 use crate::differences::is_same_size;
+use crate::marks::{blank_from, is_blank};
 use roam_cells::{Cell, are_same_cells};
 use roam_screens::Seen;
 use std::alloc::{AllocError, Global};
@@ -37,24 +40,9 @@ fn is_same_row<O: Seen, N: Seen>(old: &O, from: u16, new: &N, row: u16) -> bool
     are_same_cells(old.row(from), new.row(row))
 }
 
-fn is_blank(cell: &Cell) -> bool {
-    cell.is_same(&Cell::blank())
-}
-
-// How many cells a row has before its blank end.
-fn filled(cells: &[Cell]) -> usize
-    ensures inside { result ≤ length cells.now }
-{
-    let mut end = cells.len();
-    while 0 < end && is_blank(&cells[end - 1]) {
-        end -= 1;
-    }
-    end
-}
-
 // What a row costs on a blank one.
 fn bare_cost(cells: &[Cell]) -> u32 {
-    let end = filled(cells);
+    let end = blank_from(cells);
     if end == 0 {
         return 0;
     }
@@ -84,25 +72,40 @@ fn differing(over: &[Cell], cells: &[Cell], from: usize, to: usize) -> u32
 // What a row costs where it stays.
 fn cost_of(over: &[Cell], cells: &[Cell]) -> u32
     requires len { length over.now ≡ length cells.now }
+    ensures none { result ≡ 0 → over.now ≡ cells.now }
 {
     if are_same_cells(over, cells) {
         return 0;
     }
-    let end = filled(cells);
+    let end = blank_from(cells);
     let beyond = differing(over, cells, end, cells.len());
     let cost = ROW_COST.saturating_add(differing(over, cells, 0, end));
     if beyond == 0 { cost } else { cost.saturating_add(END_COST) }
 }
 
-fn costs_of<O: Seen, N: Seen>(alloc: Global, old: &O, new: &N) -> Result<Vec<u32>, AllocError>
-    requires size { ((O.screen old.now).rows ≡ (N.screen new.now).rows) × ((O.screen old.now).cols ≡ (N.screen new.now).cols) }
-    ensures len { IfOk result (λ costs. length costs.items ≡ (N.screen new.now).rows) }
+/// What each row costs where it stays: nothing where it shows already what it is to show. Where sizes differ there are no costs.
+pub fn costs_of<O: Seen, N: Seen>(alloc: Global, old: &O, new: &N) -> Result<Vec<u32>, AllocError>
+    ensures none { IfOk result (λ costs. (r : ℕ) → slice_index_or costs.items r 1 ≡ 0
+        → IsSameRow (O.screen old.now) (N.screen new.now) r) }
 {
-    let mut costs = Vec::with_capacity(alloc, usize::from(new.rows()))?;
+    let mut costs = Vec::new(alloc);
+    if is_same_size(old, new) {
+        push_costs(&mut costs, old, new)?;
+    }
+    Ok(costs)
+}
+
+fn push_costs<O: Seen, N: Seen>(costs: &mut Vec<u32>, old: &O, new: &N) -> Result<(), AllocError>
+    requires size { same_size (O.screen old.now) (N.screen new.now) ≡ true }
+    requires rows { (O.screen old.now).rows ≡ (N.screen new.now).rows }
+    requires cols { (O.screen old.now).cols ≡ (N.screen new.now).cols }
+    requires first { costs.old.items ≡ [] }
+    ensures none { OnOk result ((r : ℕ) → slice_index_or costs.new.items r 1 ≡ 0 → IsSameRow (O.screen old.now) (N.screen new.now) r) }
+{
     for row in 0..new.rows() {
         costs.push(cost_of(old.row(row), new.row(row)))?;
     }
-    Ok(costs)
+    Ok(())
 }
 
 // The sum of the costs from one row on and before another.
@@ -320,18 +323,26 @@ fn best_of<O: Seen, N: Seen>(old: &O, new: &N, costs: &[u32]) -> Found
     best
 }
 
-/// The band that is moved, where one saves more than its move costs.
-pub fn choose<O: Seen, N: Seen>(alloc: Global, old: &O, new: &N) -> Result<Option<Band>, AllocError>
-    ensures band { IfOk result (λ band. FitsBand (N.screen new.now).rows band) }
+/// The band that is moved, where one saves more than its move costs; by what the rows cost.
+pub fn choose<O: Seen, N: Seen>(old: &O, new: &N, costs: &[u32]) -> Option<Band>
+    ensures band { FitsBand (N.screen new.now).rows result }
 {
-    new.facts();
-    if !is_same_size(old, new) {
-        return Ok(None);
+    if !is_same_size(old, new) || costs.len() != usize::from(new.rows()) {
+        return None;
     }
-    let costs = costs_of(alloc, old, new)?;
-    if sum_of(&costs, 0, costs.len()) < LEAST_COST {
-        return Ok(None);
+    if sum_of(costs, 0, costs.len()) < LEAST_COST {
+        return None;
     }
-    let best = best_of(old, new, &costs);
-    Ok(best.band)
+    best_of(old, new, costs).band
+}
+
+/// Whether no band moves and a row is known to show what it is to show.
+pub fn is_known(band: Option<Band>, costs: &[u32], row: u16) -> bool
+    ensures none { result ≡ true → band ≡ None }
+    ensures cost { result ≡ true → slice_index_or costs.now row 1 ≡ 0 }
+{
+    if let Some(_) = band {
+        return false;
+    }
+    usize::from(row) < costs.len() && costs[usize::from(row)] == 0
 }

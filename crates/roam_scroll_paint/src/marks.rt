@@ -138,14 +138,15 @@ pub fn mark_gaps(marks: &mut [bool], cells: &[Cell], row: usize)
     }
 }
 
-fn is_blank(cell: &Cell) -> bool
+/// Whether a cell is blank.
+pub fn is_blank(cell: &Cell) -> bool
     ensures blank { result ≡ true → cell.now ≡ blank }
 {
     cell.is_same(&Cell::blank())
 }
 
-// The column from which on a row is blank.
-fn blank_from(cells: &[Cell]) -> usize
+/// The column from which on a row is blank.
+pub fn blank_from(cells: &[Cell]) -> usize
     ensures inside { result ≤ length cells.now }
     ensures blanks { (c : ℕ) → result ≤ c → c < length cells.now → glyph_at cells.now c ≡ blank }
 {

@@ -1,15 +1,15 @@
 //! What leads a ground terminal from one screen to another.
-ghost use Rattle.std.specs.Prelude.{◌≡◌, ℕ, ◌≤◌, ◌<◌, ◌++◌, length, OnOk, OnErr, IfOk, IsOkUnless, replicate, [], true};
+ghost use Rattle.std.specs.Prelude.{◌≡◌, ℕ, ◌≤◌, ◌<◌, ◌++◌, length, OnOk, OnErr, IfOk, IsOkUnless, replicate, [], true, slice_index_or};
 ghost use Rattle.std.specs.List.{flat_map};
 ghost use Rattle.roam_cells.specs.Glyph.{blank};
 ghost use Rattle.roam_paint.specs.Painting.{text_between};
 ghost use Rattle.roam_scroll_paint.specs.Sequences.{text_of};
 ghost use Rattle.roam_scroll_paint.specs.Bands.{FitsBand};
+ghost use Rattle.roam_scroll_paint.specs.Rows.{IsSameRow};
 ghost use Rattle.roam_scroll_paint.specs.Painting.{settling, hiding, revealing, IsBody, IsPaintingText};
 ghost use Rattle.roam_scroll_paint.specs.Leads.{Leads, added};
 
-use crate::bands::Band;
-use crate::choice::choose;
+use crate::choice::{choose, costs_of};
 use crate::differences::is_same_size;
 use crate::drawing::draw_rows;
 use crate::laws::{paint_leads, painting_leads};
@@ -40,17 +40,18 @@ fn push_body<O: Seen, N: Seen>(
     text: &mut Vec<u8>,
     old: &O,
     new: &N,
-    band: Option<Band>,
+    costs: &[u32],
     blanks: &[Cell],
     marks: &mut [bool],
 ) -> Result<(), AllocError>
-    requires band { FitsBand (N.screen new.now).rows band }
+    requires costs { (r : ℕ) → slice_index_or costs.now r 1 ≡ 0 → IsSameRow (O.screen old.now) (N.screen new.now) r }
     requires blanks { blanks.now ≡ replicate (N.screen new.now).cols blank }
     requires marks { length marks.old ≡ (N.screen new.now).cols }
     ensures body { OnOk result (IsBody (O.screen old.now) (N.screen new.now) text.old.items text.new.items) }
 {
+    let band = choose(old, new, costs);
     push_preparing(text, is_same_size(old, new), band)?;
-    let style = draw_rows(text, old, new, band, blanks, marks)?;
+    let style = draw_rows(text, old, new, band, costs, blanks, marks)?;
     push_settling(text, new, style)?;
     Ok(())
 }
@@ -58,12 +59,12 @@ fn push_body<O: Seen, N: Seen>(
 fn body_of<O: Seen, N: Seen>(alloc: Global, old: &O, new: &N) -> Result<Vec<u8>, AllocError>
     ensures body { IfOk result (λ text. IsBody (O.screen old.now) (N.screen new.now) [] text.items) }
 {
-    let band = choose(alloc, old, new)?;
+    let costs = costs_of(alloc, old, new)?;
     let cols = usize::from(new.cols());
     let blanks = vec![in alloc; Cell::blank(); cols]?;
     let mut marks = vec![in alloc; false; cols]?;
     let mut text = Vec::new(alloc);
-    push_body(&mut text, old, new, band, &blanks, marks.as_mut_slice())?;
+    push_body(&mut text, old, new, &costs, &blanks, marks.as_mut_slice())?;
     Ok(text)
 }
 

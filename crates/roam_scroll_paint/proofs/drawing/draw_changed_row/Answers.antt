@@ -14,3 +14,12 @@ returns-then-are_same_cells g c =
           (λ k _. shows k ∙ ap (λ l. glyph_at l k) (same ∙ c.row.ensures.row)
           ∙ sym (row_shows new c.args.row k c.requires.row c.facts.ensures.screenshot.count));
     }
+
+pub returns-then-known : goal.returns-then-known
+returns-then-known g c =
+    let new = g.N.Seen.screen c.args.new.now in
+    record {
+      row = λ places shows.
+          adds_nothing places (shown_at new) new.cols c.args.row c.args.style c.args.text.now.items
+          (λ k _. shows k ∙ c.requires.known c.if-known.true k);
+    }

@@ -1,8 +1,0 @@
-use Rattle.std.proofs.Common.{◌≤◌, length}
-use Rattle.roam_scroll_paint.proofs.choice.filled.Given as goal
-
-abbrev pub decreases-loop-end : goal.decreases-loop-end
-decreases-loop-end l = l.end
-
-abbrev pub invariant-loop-end : goal.invariant-loop-end
-invariant-loop-end l = l.end ≤ length l.cells
