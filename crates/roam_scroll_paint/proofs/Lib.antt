@@ -14,3 +14,4 @@ pub mod Adding
 pub mod Plainly
 pub mod Settled
 pub mod Worked
+pub mod Counts

@@ -4,3 +4,4 @@ pub mod Styles
 pub mod Rows
 pub mod Painting
 pub mod Leads
+pub mod Counting

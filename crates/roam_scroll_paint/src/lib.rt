@@ -4,6 +4,7 @@
 
 mod bands;
 mod choice;
+mod counting;
 mod differences;
 mod drawing;
 pub mod laws;

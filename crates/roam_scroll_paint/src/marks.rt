@@ -1,5 +1,8 @@
 //! Which columns of a row are written, and where its end is erased: those that differ, and the gaps that are shorter than a move.
 ghost use Rattle.std.specs.Prelude.{◌≡◌, ℕ, ◌+◌, ◌<◌, ◌≤◌, length, slice_index_or, true, false};
+ghost use Rattle.std.specs.Char.{encode_utf8};
+ghost use Rattle.std.specs.List.{flat_map};
+ghost use Rattle.roam_scroll_paint.specs.Counting.{digits_of, move_size};
 ghost use Rattle.roam_cells.specs.Glyph.{blank};
 ghost use Rattle.roam_cells.specs.Place.{glyph_at};
 ghost use Rattle.roam_scroll_paint.specs.Rows.{KeepsMarks};
@@ -39,8 +42,10 @@ fn mark_between(marks: &mut [bool], from: usize, to: usize)
     }
 }
 
-// The bytes of a cell.
-fn bytes_of(cell: &Cell) -> usize {
+/// The bytes of a cell.
+pub fn bytes_of(cell: &Cell) -> usize
+    ensures least { result ≤ length (flat_map encode_utf8 cell.now.points) }
+{
     let mut bytes = 0usize;
     let points = cell.chars();
     for point in points.as_slice() {
@@ -73,7 +78,9 @@ fn gap_cost(cells: &[Cell], from: usize, to: usize) -> usize
     cost.saturating_add(style_cost(style, last)).saturating_sub(without)
 }
 
-fn digits(number: usize) -> usize
+/// The digits of a number, and three of one above 999.
+pub fn digits(number: usize) -> usize
+    ensures digits { result ≡ digits_of number }
     ensures few { result ≤ 3 }
 {
     if number < 10 {
@@ -85,9 +92,10 @@ fn digits(number: usize) -> usize
     }
 }
 
-// What CUP to a row and a column costs, both from 0.
-fn move_cost(row: usize, col: usize) -> usize
+/// What CUP to a row and a column costs, both from 0.
+pub fn move_cost(row: usize, col: usize) -> usize
     requires few { (row < 1000) × (col < 1000) }
+    ensures size { result ≡ move_size row col }
 {
     4 + digits(row + 1) + digits(col + 1)
 }

@@ -9,7 +9,8 @@ use crate::sequences::{push_rendition, push_restyle};
 use roam_cells::{Colour, Style};
 use std::alloc::{AllocError, Global};
 
-fn is_same_style(one: Style, other: Style) -> bool
+/// Whether two styles are one.
+pub fn is_same_style(one: Style, other: Style) -> bool
     ensures same { result ≡ same_style one other }
 {
     one.is_same(other)

@@ -23,8 +23,8 @@ pub fn mark_at(marks: &[bool], col: usize) -> bool
     if col < marks.len() { marks[col] } else { false }
 }
 
-// A cell begins at a column, and it or its right half is marked.
-fn is_drawn(cell: &Cell, here: bool, after: bool) -> bool
+/// Whether a cell begins at a column, and it or its right half is marked.
+pub fn is_drawn(cell: &Cell, here: bool, after: bool) -> bool
     ensures drawn { result ≡ (not (is_right_half cell.now) && (here || (is_wide cell.now && after))) }
 {
     !cell.is_right_half() && (here || (cell.is_wide() && after))
