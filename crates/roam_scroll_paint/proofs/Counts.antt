@@ -115,7 +115,7 @@ mixture_least code (Rgb r g b) low high h =
     let k = length-append (code_text true b) [] in
     omega (arith, all, l, d, e, f, k, two, one, x, y, z)
 
-set_least : (s : Style) → IsColour s.foreground → IsColour s.background
+pub set_least : (s : Style) → IsColour s.foreground → IsColour s.background
     → 4 + flags_size s + colour_size s.foreground + colour_size s.background ≤ length (spelling_of (set_style s))
 unfolding flags_size
 set_least s fore back =

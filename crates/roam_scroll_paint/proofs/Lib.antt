@@ -15,3 +15,4 @@ pub mod Plainly
 pub mod Settled
 pub mod Worked
 pub mod Counts
+pub mod Lengths

@@ -1,5 +1,5 @@
 //! How many bytes a painter writes that leaves nothing out, counted and not written: never too many.
-ghost use Rattle.std.specs.Prelude.{◌≡◌, ℕ, ◌+◌, ◌-◌, ◌<◌, ◌≤◌, ◌&&◌, ◌||◌, not, true, length, decimal, [], slice_index_or, if◌then◌else◌};
+ghost use Rattle.std.specs.Prelude.{◌≡◌, ℕ, ◌+◌, ◌-◌, ◌<◌, ◌≤◌, ◌&&◌, ◌||◌, not, true, false, length, decimal, [], slice_index_or, if◌then◌else◌};
 ghost use Rattle.std.specs.List.{flat_map};
 ghost use Rattle.roam_cells.specs.Glyph.{is_right_half, is_wide};
 ghost use Rattle.roam_cells.specs.Same.{same, same_style};
@@ -7,7 +7,7 @@ ghost use Rattle.roam_term.specs.ControlFunctions.{place_cursor, set_style, set_
 ghost use Rattle.roam_term.specs.Ground.{shown_at};
 ghost use Rattle.roam_paint.specs.Painting.{same_size, differs, goes_on, style_after, text_between};
 ghost use Rattle.roam_paint.specs.Sequences.{spelling_of};
-ghost use Rattle.roam_paint.specs.Texts.{code_text, colour_text, cell_text, place_text, row_text, row_style, rows_text, rows_style};
+ghost use Rattle.roam_paint.specs.Texts.{code_text, colour_text, cell_text, place_text, row_text, row_style, rows_text, rows_style, closing_text};
 ghost use Rattle.roam_scroll_paint.specs.Rows.{IsSameRow};
 ghost use Rattle.roam_scroll_paint.specs.Counting.{flag_size, flags_size, colour_size, mixture_size, style_size};
 
@@ -153,4 +153,120 @@ fn drawn_bytes<O: Seen, N: Seen>(
         bytes,
         style: cell.style(),
     }
+}
+
+fn is_other(one: &Cell, other: &Cell) -> bool
+    ensures other { result ≡ not (same one.now other.now) }
+{
+    !one.is_same(other)
+}
+
+// Whether a place of screens of one size, from 0, or the one behind the last column differs.
+fn differs<O: Seen, N: Seen>(old: &O, new: &N, row: usize, col: usize) -> bool
+    requires size { same_size (O.screen old.now) (N.screen new.now) ≡ true }
+    requires rows { (O.screen old.now).rows ≡ (N.screen new.now).rows }
+    requires cols { (O.screen old.now).cols ≡ (N.screen new.now).cols }
+    requires row { row < (N.screen new.now).rows }
+    ensures differs { result ≡ differs (O.screen old.now) (N.screen new.now) row col }
+{
+    if usize::from(new.cols()) <= col {
+        return false;
+    }
+    is_other(cell_of(old, row, col), cell_of(new, row, col))
+}
+
+// A row, with the style that is set before it.
+fn row_bytes<O: Seen, N: Seen>(old: &O, new: &N, row: usize, style: Style) -> Counted
+    requires size { same_size (O.screen old.now) (N.screen new.now) ≡ true }
+    requires rows { (O.screen old.now).rows ≡ (N.screen new.now).rows }
+    requires cols { (O.screen old.now).cols ≡ (N.screen new.now).cols }
+    requires row { row < (N.screen new.now).rows }
+    ensures bytes { result.bytes ≤ length (row_text (O.screen old.now) (N.screen new.now) row style (N.screen new.now).cols) }
+    ensures style { result.style ≡ row_style (O.screen old.now) (N.screen new.now) row style (N.screen new.now).cols }
+{
+    let mut bytes = 0usize;
+    let mut set = style;
+    let mut at = Differences {
+        before: false,
+        here: differs(old, new, row, 0),
+        after: false,
+    };
+    for col in 0..usize::from(new.cols()) {
+        at.after = differs(old, new, row, col + 1);
+        let counted = drawn_bytes(old, new, row, col, at, set);
+        bytes = bytes.saturating_add(counted.bytes);
+        set = counted.style;
+        at.before = at.here;
+        at.here = at.after;
+    }
+    Counted { bytes, style: set }
+}
+
+// A row that may be known to be as it is to be already.
+fn changed_row_bytes<O: Seen, N: Seen>(
+    old: &O,
+    new: &N,
+    row: usize,
+    style: Style,
+    known: bool,
+) -> Counted
+    requires size { same_size (O.screen old.now) (N.screen new.now) ≡ true }
+    requires rows { (O.screen old.now).rows ≡ (N.screen new.now).rows }
+    requires cols { (O.screen old.now).cols ≡ (N.screen new.now).cols }
+    requires row { row < (N.screen new.now).rows }
+    requires known { known ≡ true → IsSameRow (O.screen old.now) (N.screen new.now) row }
+    ensures bytes { result.bytes ≤ length (row_text (O.screen old.now) (N.screen new.now) row style (N.screen new.now).cols) }
+    ensures style { result.style ≡ row_style (O.screen old.now) (N.screen new.now) row style (N.screen new.now).cols }
+{
+    if known {
+        return Counted { bytes: 0, style };
+    }
+    row_bytes(old, new, row, style)
+}
+
+// The first rows, until there are so many bytes.
+fn rows_bytes<O: Seen, N: Seen>(old: &O, new: &N, costs: &[u32], limit: usize) -> usize
+    requires size { same_size (O.screen old.now) (N.screen new.now) ≡ true }
+    requires rows { (O.screen old.now).rows ≡ (N.screen new.now).rows }
+    requires cols { (O.screen old.now).cols ≡ (N.screen new.now).cols }
+    requires costs { (r : ℕ) → slice_index_or costs.now r 1 ≡ 0 → IsSameRow (O.screen old.now) (N.screen new.now) r }
+    ensures least { result ≤ length (rows_text (O.screen old.now) (N.screen new.now) (N.screen new.now).rows) }
+{
+    let mut bytes = 0usize;
+    let mut style = Style::default();
+    for row in 0..new.rows() {
+        if limit <= bytes {
+            return bytes;
+        }
+        let known = is_known(None, costs, row);
+        let counted = changed_row_bytes(old, new, usize::from(row), style, known);
+        bytes = bytes.saturating_add(counted.bytes);
+        style = counted.style;
+    }
+    bytes
+}
+
+// What comes behind the rows: the default style, the cursor's place, and the cursor where it is visible.
+#[tactic(auto, using(crate::proofs::Lengths::closing_least))]
+fn closing_bytes<N: Seen>(new: &N) -> usize
+    ensures least { result ≤ length (closing_text (N.screen new.now).cursor_row (N.screen new.now).cursor_col (N.screen new.now).visible) }
+{
+    new.facts();
+    let cursor = new.cursor();
+    let place = move_cost(usize::from(cursor.0 - 1), usize::from(cursor.1 - 1));
+    let shown = if new.visible() { 6 } else { 0 };
+    place.saturating_add(4).saturating_add(shown)
+}
+
+/// So many bytes `paint` writes at least between two screens; no more are counted than a number of them, by what rows cost.
+pub fn plain_bytes<O: Seen, N: Seen>(old: &O, new: &N, costs: &[u32], limit: usize) -> usize
+    requires costs { (r : ℕ) → slice_index_or costs.now r 1 ≡ 0 → IsSameRow (O.screen old.now) (N.screen new.now) r }
+    ensures least { result ≤ length (text_between (O.screen old.now) (N.screen new.now)) }
+{
+    if !is_same_size(old, new) {
+        return 0;
+    }
+    rows_bytes(old, new, costs, limit)
+        .saturating_add(closing_bytes(new))
+        .saturating_add(6)
 }

@@ -10,6 +10,7 @@ ghost use Rattle.roam_scroll_paint.specs.Painting.{settling, hiding, revealing, 
 ghost use Rattle.roam_scroll_paint.specs.Leads.{Leads, added};
 
 use crate::choice::{choose, costs_of};
+use crate::counting::plain_bytes;
 use crate::differences::is_same_size;
 use crate::drawing::draw_rows;
 use crate::laws::{paint_leads, painting_leads};
@@ -56,15 +57,15 @@ fn push_body<O: Seen, N: Seen>(
     Ok(())
 }
 
-fn body_of<O: Seen, N: Seen>(alloc: Global, old: &O, new: &N) -> Result<Vec<u8>, AllocError>
+fn body_of<O: Seen, N: Seen>(alloc: Global, old: &O, new: &N, costs: &[u32]) -> Result<Vec<u8>, AllocError>
+    requires costs { (r : ℕ) → slice_index_or costs.now r 1 ≡ 0 → IsSameRow (O.screen old.now) (N.screen new.now) r }
     ensures body { IfOk result (λ text. IsBody (O.screen old.now) (N.screen new.now) [] text.items) }
 {
-    let costs = costs_of(alloc, old, new)?;
     let cols = usize::from(new.cols());
     let blanks = vec![in alloc; Cell::blank(); cols]?;
     let mut marks = vec![in alloc; false; cols]?;
     let mut text = Vec::new(alloc);
-    push_body(&mut text, old, new, &costs, &blanks, marks.as_mut_slice())?;
+    push_body(&mut text, old, new, costs, &blanks, marks.as_mut_slice())?;
     Ok(text)
 }
 
@@ -88,10 +89,11 @@ fn is_as_visible<O: Seen, N: Seen>(old: &O, new: &N) -> bool
     old.visible() == new.visible()
 }
 
-fn moving_text<O: Seen, N: Seen>(alloc: Global, old: &O, new: &N) -> Result<Vec<u8>, AllocError>
+fn moving_text<O: Seen, N: Seen>(alloc: Global, old: &O, new: &N, costs: &[u32]) -> Result<Vec<u8>, AllocError>
+    requires costs { (r : ℕ) → slice_index_or costs.now r 1 ≡ 0 → IsSameRow (O.screen old.now) (N.screen new.now) r }
     ensures painting { IfOk result (λ text. IsPaintingText (O.screen old.now) (N.screen new.now) text.items) }
 {
-    let body = body_of(alloc, old, new)?;
+    let body = body_of(alloc, old, new, costs)?;
     if body.len() < SHORT && is_as_visible(old, new) {
         return Ok(body);
     }
@@ -99,7 +101,24 @@ fn moving_text<O: Seen, N: Seen>(alloc: Global, old: &O, new: &N) -> Result<Vec<
     Ok(text)
 }
 
-// The shorter of the text that moves rows and the one that writes each place that differs.
+// The text that leaves nothing out, or the one that moves rows where that isn't longer.
+fn shorter_of<O: Seen, N: Seen>(old: &O, new: &N, moving: Vec<u8>) -> Result<Vec<u8>, Fault>
+    requires leads { Leads (O.screen old.now) (N.screen new.now) moving.items }
+    ensures leads { IfOk result (λ text. Leads (O.screen old.now) (N.screen new.now) text.items) }
+    ensures shorter { IfOk result (λ text. length text.items ≤ length (text_between (O.screen old.now) (N.screen new.now))) }
+    ensures fault { IsOkUnless result Fault.OutOfMemory }
+{
+    new.facts();
+    paint_leads();
+    let mut plain = Vec::new(*moving.allocator());
+    paint(old, new, &mut plain)?;
+    if moving.len() <= plain.len() {
+        return Ok(moving);
+    }
+    Ok(plain)
+}
+
+// The other text is written only where what is counted of it doesn't tell that it is longer.
 fn shorter_text<O: Seen, N: Seen>(alloc: Global, old: &O, new: &N) -> Result<Vec<u8>, Fault>
     ensures leads { IfOk result (λ text. Leads (O.screen old.now) (N.screen new.now) text.items) }
     ensures shorter { IfOk result (λ text. length text.items ≤ length (text_between (O.screen old.now) (N.screen new.now))) }
@@ -108,14 +127,12 @@ fn shorter_text<O: Seen, N: Seen>(alloc: Global, old: &O, new: &N) -> Result<Vec
     old.facts();
     new.facts();
     painting_leads();
-    paint_leads();
-    let mut plain = Vec::new(alloc);
-    paint(old, new, &mut plain)?;
-    let moving = moving_text(alloc, old, new)?;
-    if moving.len() <= plain.len() {
+    let costs = costs_of(alloc, old, new)?;
+    let moving = moving_text(alloc, old, new, &costs)?;
+    if moving.len() <= plain_bytes(old, new, &costs, moving.len()) {
         return Ok(moving);
     }
-    Ok(plain)
+    shorter_of(old, new, moving)
 }
 
 /// Adds a text that leads a ground terminal from one screen to another, never longer than that of `roam_paint`; refuses want of memory, which
