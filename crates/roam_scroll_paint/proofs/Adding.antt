@@ -1,5 +1,5 @@
 -- A row more.
-use Rattle.std.proofs.Common.{◌≡◌, ◌≤◌, ◌<◌, ℕ, zero, suc, ◌+◌, ◌*◌, Bool, false, inl, inr, List, [], ◌∷◌, ◌++◌, Option, Some, None, length, get_or, replicate, refl, sym, ap, ◌∙◌, subst, arith, add-one, append_assoc}
+use Rattle.std.proofs.Common.{◌≡◌, ◌≤◌, ◌<◌, ℕ, suc, ◌+◌, ◌*◌, false, inl, inr, List, [], ◌++◌, length, get_or, sym, ap, ◌∙◌, subst, arith, add-one, append_assoc}
 use Rattle.std.specs.List.{flat_map}
 use Rattle.std.proofs.lemmas.Bool.{cases_lt}
 use Rattle.std.proofs.lemmas.List.{append-nil, get_or_past}
@@ -12,9 +12,8 @@ use Rattle.roam_screens.proofs.Lined.{row_at, length-row}
 use Rattle.roam_term.specs.Ground.{shown_at}
 use Rattle.roam_paint.specs.Painting.{Places}
 use Rattle.roam_paint.proofs.Places.{shown_inside, shown_right}
-use Rattle.roam_text.specs.declared.functions.Function.{Function}
 use Rattle.roam_scroll_paint.specs.Sequences.{text_of}
-use Rattle.roam_scroll_paint.specs.Rows.{Marks, is_marked, KeepsMarks, row_functions, row_style_left, IsPlan, AreDrawn, nothing, stays, written, AddsRow, AddsRows}
+use Rattle.roam_scroll_paint.specs.Rows.{Marks, KeepsMarks, row_functions, row_style_left, IsPlan, AreDrawn, nothing, stays, written, AddsRow, AddsRows}
 
 -- a row of a screen shows what the screen shows there
 pub row_shows : (p : Screenshot) (r c : ℕ) → r < p.rows → length p.cells ≡ p.rows * p.cols → shown_at p r c ≡ glyph_at (row_of p.cols p.cells r) c

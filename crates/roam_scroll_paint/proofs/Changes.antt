@@ -1,17 +1,17 @@
 -- SGR with what a style has and another hasn't makes the one of the other.
-use Rattle.std.proofs.Common.{◌≡◌, ◌≤◌, ℕ, Bool, true, false, not, ◌&&◌, ◌||◌, inl, inr, List, [], ◌∷◌, ◌++◌, length, refl, sym, ap, ◌∙◌}
+use Rattle.std.proofs.Common.{◌≡◌, ℕ, Bool, true, false, not, ◌&&◌, ◌||◌, List, [], ◌∷◌, ◌++◌, length, refl, sym, ap, ◌∙◌}
 use Rattle.std.specs.Prelude.{fold, if◌then◌else◌, nat_lt, nat_le}
-use Rattle.std.proofs.lemmas.Bool.{le-leb, and_parts, not-true, false≢true}
+use Rattle.std.proofs.lemmas.Bool.{le-leb, and_parts, false≢true}
 use Rattle.std.proofs.lemmas.List.Sums.{fold-append}
 use Rattle.roam_cells.specs.Glyph.{IsColour, default_style}
-use Rattle.roam_cells.specs.Same.{same_colour, same_style}
+use Rattle.roam_cells.specs.Same.{same_colour}
 use Rattle.roam_cells.specs.declared.styles.Style.{Style}
 use Rattle.roam_cells.specs.declared.styles.Colour.{Colour}
 use Rattle.roam_cells.specs.declared.styles.Colour.TheVariants.{Default, Index, Rgb}
 use Rattle.roam_cells.proofs.SameCells.{style_same, style_again}
 use Rattle.roam_controls.specs.declared.renditions.Awaited.TheVariants.{Aspect}
 use Rattle.roam_controls.specs.Renditions.{Rendition, with_parameter, styled_by}
-use Rattle.roam_scroll_paint.specs.Styles.{flag_added, colour_words, colour_added, change_codes, ends_flag, ends_alone, adds}
+use Rattle.roam_scroll_paint.specs.Styles.{flag_added, colour_words, change_codes, ends_flag, ends_alone, adds}
 
 -- ---- what a test says that a rule asks
 

@@ -1,5 +1,5 @@
 -- How long texts are at least.
-use Rattle.std.proofs.Common.{◌≡◌, ◌≤◌, ◌<◌, ℕ, zero, suc, ◌+◌, ◌-◌, ◌*◌, ◌/◌, ◌%◌, ◌^◌, Bool, true, false, List, [], ◌∷◌, ◌++◌, length, None, refl, sym, ap, ◌∙◌, subst, arith}
+use Rattle.std.proofs.Common.{◌≡◌, ◌≤◌, ◌<◌, ℕ, ◌+◌, ◌%◌, ◌^◌, Bool, true, false, List, [], ◌∷◌, ◌++◌, length, None, refl, ap, arith}
 use Rattle.std.specs.Prelude.{decimal, nat_lt, if◌then◌else◌}
 use Rattle.std.proofs.lemmas.Bool.{ltb-false}
 use Rattle.std.proofs.lemmas.Grind.{flat_map-append}
@@ -130,9 +130,21 @@ set_least s fore back =
     let g = flag_code s.faint 2 f in
     let h = flag_code s.bold 1 g in
     let zero_ = (are_long 0 (omega arith)).one in
-    omega (arith, zero_, length-rendition 0 h, flag_more s.bold 1 g (omega arith), flag_more s.faint 2 f (omega arith), flag_more s.italic 3 e (omega arith),
-    flag_more s.underline 4 d (omega arith), flag_more s.blink 5 c (omega arith), flag_more s.reverse 7 b (omega arith), flag_more s.conceal 8 a (omega arith),
-    flag_more s.strike 9 j (omega arith), colour_more 38 s.foreground k (omega arith) (omega arith) fore, colour_more 48 s.background [] (omega arith) (omega arith) back)
+    omega (
+      arith,
+      zero_,
+      length-rendition 0 h,
+      flag_more s.bold 1 g (omega arith),
+      flag_more s.faint 2 f (omega arith),
+      flag_more s.italic 3 e (omega arith),
+      flag_more s.underline 4 d (omega arith),
+      flag_more s.blink 5 c (omega arith),
+      flag_more s.reverse 7 b (omega arith),
+      flag_more s.conceal 8 a (omega arith),
+      flag_more s.strike 9 j (omega arith),
+      colour_more 38 s.foreground k (omega arith) (omega arith) fore,
+      colour_more 48 s.background [] (omega arith) (omega arith) back,
+    )
 
 pub style_least : (s : Style) → IsColour s.foreground → IsColour s.background → style_size s ≤ length (flat_map spelling_of (restyle s))
 unfolding style_size

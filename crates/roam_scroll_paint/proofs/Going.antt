@@ -1,13 +1,12 @@
 -- A band goes up or down row by row.
-use Rattle.std.proofs.Common.{◌≡◌, ◌≤◌, ◌<◌, ◌⊎◌, ℕ, zero, suc, ◌+◌, ◌-◌, Bool, true, false, ◌&&◌, inl, inr, List, [], ◌∷◌, ◌++◌, Option, Some, None, refl, sym, ap, ◌∙◌, subst, arith, replicate, add-one}
-use Rattle.std.specs.Prelude.{if◌then◌else◌, nat_le, nat_lt}
+use Rattle.std.proofs.Common.{◌≡◌, ◌≤◌, ◌<◌, ◌⊎◌, ℕ, zero, suc, ◌+◌, ◌-◌, Bool, true, false, inl, inr, List, [], ◌∷◌, ◌++◌, Option, Some, None, refl, sym, ap, ◌∙◌, arith, replicate}
 use Rattle.std.proofs.lemmas.Bool.{cases_lt}
 use Rattle.std.proofs.lemmas.Grind.{common_steps}
 use Rattle.roam_cells.specs.Glyph.{Glyph, blank}
 use Rattle.roam_cells.specs.Place.{cell_at, AreWhole}
 use Rattle.roam_cells.specs.declared.styles.Style.{Style}
 use Rattle.roam_cells.proofs.Places.{get_or-table}
-use Rattle.roam_rows.specs.Places.{Source, From, Fresh, mapped_cells, moved_at}
+use Rattle.roam_rows.specs.Places.{From, Fresh, mapped_cells, moved_at}
 use Rattle.roam_rows.specs.Scrolling.{up, down}
 use Rattle.roam_rows.proofs.Vertical.{row_stays, row_blank}
 use Rattle.roam_text.specs.declared.functions.Function.{Function}

@@ -1,7 +1,6 @@
 -- A painting leads a ground terminal from one screen to another.
-use Rattle.std.proofs.Common.{◌≡◌, ◌≤◌, ◌<◌, ℕ, suc, ◌+◌, ◌-◌, Bool, true, false, ◌&&◌, inl, inr, List, [], ◌∷◌, ◌++◌, map, Option, Some, None, refl, sym, ap, ◌∙◌, subst, arith, append_assoc}
-use Rattle.std.specs.Prelude.{if◌then◌else◌, nat_le, nat_lt}
-use Rattle.std.specs.List.{flat_map}
+use Rattle.std.proofs.Common.{◌≡◌, ◌≤◌, ◌<◌, ℕ, ◌+◌, ◌-◌, Bool, true, false, inl, inr, List, [], ◌∷◌, ◌++◌, Option, Some, None, refl, sym, ap, ◌∙◌, subst, arith, append_assoc}
+use Rattle.std.specs.Prelude.{if◌then◌else◌}
 use Rattle.std.proofs.lemmas.Bool.{cases_lt}
 use Rattle.std.proofs.lemmas.Grind.{common_steps}
 use Rattle.roam_cells.specs.Glyph.{Glyph, blank, default_style}
@@ -13,8 +12,7 @@ use Rattle.roam_screens.specs.Screenshot.{Screenshot, IsScreenshot}
 use Rattle.roam_grid.specs.Erasing.{page_blanked}
 use Rattle.roam_rows.specs.Places.{mapped_cells}
 use Rattle.roam_text.specs.declared.functions.Function.{Function}
-use Rattle.roam_text.specs.Log.{Item, Byte}
-use Rattle.roam_term.specs.ControlFunctions.{hide_cursor, show_cursor, place_cursor}
+use Rattle.roam_term.specs.ControlFunctions.{hide_cursor, show_cursor}
 use Rattle.roam_term.specs.Ground.{IsGround, ShowsScreen, shown_at}
 use Rattle.roam_term.specs.Terminal.{Live, changed_by, term}
 use Rattle.roam_term.proofs.Grounds.{constants_of, at_rest, erased_shows}
@@ -26,14 +24,13 @@ use Rattle.roam_scroll_paint.specs.declared.bands.Band.{Band}
 use Rattle.roam_scroll_paint.specs.Bands.{FitsBand, taken, moved_source, source_of, drawn_over, preparing}
 use Rattle.roam_scroll_paint.specs.Rows.{placing_at, AreDrawn}
 use Rattle.roam_scroll_paint.specs.Styles.{styled_from}
-use Rattle.roam_scroll_paint.specs.Sequences.{text_of}
-use Rattle.roam_scroll_paint.specs.Painting.{settling, hiding, revealing, ArePainting, IsPaintingText}
+use Rattle.roam_scroll_paint.specs.Painting.{settling, hiding, revealing, ArePainting}
 use Rattle.roam_scroll_paint.specs.Leads.{PaintingLeads, IsLedTo}
 use Rattle.roam_scroll_paint.proofs.Readings.{AreRead, read-append, ArePlain, plain-append, are_read, acted-blind, seen, rests, term-acted}
 use Rattle.roam_scroll_paint.proofs.Wholes.{IsWhole}
 use Rattle.roam_scroll_paint.proofs.Going.{moves}
 use Rattle.roam_scroll_paint.proofs.Styling.{styled_is}
-use Rattle.roam_scroll_paint.proofs.RowsDrawn.{Works, Ready, rows_ready, placing_is}
+use Rattle.roam_scroll_paint.proofs.RowsDrawn.{Ready, rows_ready, placing_is}
 use Rattle.roam_scroll_paint.proofs.Legibles.{plain-preparing, plain-rows, plain-styled, plain-placed, read-hiding, read-revealing}
 
 -- ---- outside both screens nothing differs

@@ -1,7 +1,7 @@
 -- Each function of a painting is read as it is spelled.
-use Rattle.std.proofs.Common.{◌≡◌, ◌≤◌, ◌<◌, ℕ, zero, suc, ◌+◌, ◌-◌, Bool, true, false, not, ◌&&◌, inl, inr, List, [], ◌∷◌, ◌++◌, map, length, replicate, Option, Some, None, refl, sym, ap, ◌∙◌, subst, arith}
+use Rattle.std.proofs.Common.{◌≡◌, ◌≤◌, ◌<◌, ℕ, zero, suc, ◌+◌, ◌-◌, Bool, true, false, not, ◌&&◌, List, [], ◌∷◌, ◌++◌, map, length, replicate, Option, Some, None, refl, sym, ap, ◌∙◌, subst, arith}
 use Rattle.std.specs.Prelude.{if◌then◌else◌, min, unwrap_or, nat_le, nat_lt, ◌==◌}
-use Rattle.std.proofs.lemmas.Bool.{and_parts, false≢true, eq-eqb, ne_eqb, cases_eq, leb-true}
+use Rattle.std.proofs.lemmas.Bool.{and_parts, false≢true, eq-eqb, ne_eqb, leb-true}
 use Rattle.unicode_width.specs.Width.{char_width}
 use Rattle.roam_cells.specs.Width.{width_of, is_joiner, is_answer_zero}
 use Rattle.roam_cells.specs.Glyph.{IsColour, default_style, is_text, are_joiners}
@@ -12,17 +12,16 @@ use Rattle.roam_cells.specs.declared.styles.Colour.TheVariants.{Default, Index, 
 use Rattle.roam_text.specs.declared.functions.Function.{Function}
 use Rattle.roam_text.specs.declared.functions.Function.TheVariants.{Print}
 use Rattle.roam_term.specs.ControlFunctions.{csi, flag_code, colour_codes, set_style, set_mixture, restyle, place_cursor, hide_cursor, show_cursor, erase_all}
-use Rattle.roam_paint.specs.Painting.{Places, is_drawn, goes_on, styling, style_in}
+use Rattle.roam_paint.specs.Painting.{Places, is_drawn, goes_on, style_in}
 use Rattle.roam_paint.specs.Sequences.{spelling_of}
-use Rattle.roam_paint.proofs.Readings.{AreSmall, IsFinal, Legible, legible-plain, legible-private, legible-print}
+use Rattle.roam_paint.proofs.Readings.{AreSmall, IsFinal, legible-plain, legible-private, legible-print}
 use Rattle.roam_paint.proofs.Walk.{AreScalars, IsPaintable}
 use Rattle.roam_scroll_paint.specs.declared.bands.Band.{Band}
-use Rattle.roam_scroll_paint.specs.Bands.{IsBand, FitsBand, set_margins, reset_margins, to_row, line_feed, reverse_index, steps, edge_row, moves_band, moving, preparing}
-use Rattle.roam_scroll_paint.specs.Sequences.{text_of}
+use Rattle.roam_scroll_paint.specs.Bands.{IsBand, FitsBand, set_margins, reset_margins, to_row, line_feed, reverse_index, steps, moves_band, preparing}
 use Rattle.roam_scroll_paint.specs.Rows.{Marks, is_marked, placing_at, written_cell, written_row, erase_line, ends_at, erasing_from, row_functions, AreDrawn, nothing, stays, written}
 use Rattle.roam_scroll_paint.specs.Styles.{flag_added, colour_words, change_codes, adds, changing, styled_from}
 use Rattle.roam_scroll_paint.proofs.Changes.{adds-few}
-use Rattle.roam_scroll_paint.specs.Painting.{settling, hiding, revealing}
+use Rattle.roam_scroll_paint.specs.Painting.{hiding, revealing}
 use Rattle.roam_scroll_paint.proofs.Readings.{IsRead, as_legible, AreRead, IsBlind, IsPlain, ArePlain, plain-append, blind-print, blind-style, blind-place, blind-margins, blind-erase_line, blind-erase_all, blind-line_feed, blind-reverse_index, read-line_feed, read-reverse_index, read-erase_line, read-reset_margins}
 
 -- ---- each function
@@ -222,8 +221,7 @@ plain-band : (rows : ℕ) (b : Band) → rows ≤ 9999 → IsBand rows b → Are
 unfolding moves_band
 plain-band rows b few h =
     let two = h.two in
-    let inside = h.inside in
-    (
+    let inside = h.inside in (
       plain-set_margins (b.top + 1) b.bottom (omega (arith, two, inside, few)) (omega (arith, inside, few)),
       (plain-edge b.up b.top b.bottom two (omega (arith, inside, few)), plain-append (steps b) (reset_margins ∷ []) (plain-steps b.up b.count) (plain read-reset_margins (blind-margins (0 ∷ [])), tt)),
     )

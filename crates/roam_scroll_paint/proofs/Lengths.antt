@@ -1,5 +1,5 @@
 -- How long the text is at least that leaves nothing out.
-use Rattle.std.proofs.Common.{◌≡◌, ◌≤◌, ◌<◌, ℕ, zero, suc, ◌+◌, ◌-◌, Bool, true, false, List, [], ◌∷◌, ◌++◌, length, refl, sym, ap, ◌∙◌, subst, arith, add-one}
+use Rattle.std.proofs.Common.{◌≡◌, ◌≤◌, ◌<◌, ℕ, zero, suc, ◌+◌, ◌-◌, Bool, true, false, List, [], ◌∷◌, ◌++◌, length, ap, ◌∙◌, arith}
 use Rattle.std.specs.Prelude.{if◌then◌else◌}
 use Rattle.std.proofs.lemmas.List.{length-append}
 use Rattle.roam_cells.specs.Glyph.{default_style}
@@ -10,7 +10,7 @@ use Rattle.roam_paint.specs.Painting.{same_size, text_between}
 use Rattle.roam_paint.specs.Sequences.{spelling_of}
 use Rattle.roam_paint.specs.Texts.{place_text, row_text, row_style, rows_text, rows_style, opening_text, closing_text}
 use Rattle.roam_paint.proofs.Loops.{row_more, rows_more, opening_is, closing_is, painted_text}
-use Rattle.roam_scroll_paint.specs.Counting.{move_size, flags_size, style_size}
+use Rattle.roam_scroll_paint.specs.Counting.{move_size}
 use Rattle.roam_scroll_paint.proofs.Counts.{move_least, set_least}
 
 -- one place more

@@ -1,19 +1,16 @@
 -- A band of rows goes up or down on a ground terminal.
-use Rattle.std.proofs.Common.{◌≡◌, ◌≤◌, ◌<◌, ℕ, zero, suc, ◌+◌, ◌-◌, min, max, Bool, true, false, ◌&&◌, inl, inr, List, [], ◌∷◌, ◌++◌, Option, Some, None, refl, sym, ap, ◌∙◌, subst, arith, replicate, add-one}
-use Rattle.std.specs.Prelude.{if◌then◌else◌, nat_le, nat_lt, ◌==◌, ◌||◌}
-use Rattle.std.proofs.lemmas.Bool.{false≢true, cases_lt, lt-ltb, le-ltb, ne_eqb, eq-eqb}
-use Rattle.roam_cells.specs.Glyph.{Glyph, blank}
-use Rattle.roam_cells.specs.Place.{cell_at, AreWhole}
+use Rattle.std.proofs.Common.{◌≡◌, ◌≤◌, ◌<◌, ℕ, ◌+◌, ◌-◌, min, max, Bool, true, false, List, Option, None, refl, ap, ◌∙◌, arith}
+use Rattle.std.specs.Prelude.{if◌then◌else◌, nat_lt, ◌==◌, ◌||◌}
+use Rattle.std.proofs.lemmas.Bool.{lt-ltb, le-ltb, ne_eqb, eq-eqb}
+use Rattle.roam_cells.specs.Glyph.{Glyph}
 use Rattle.roam_cells.specs.declared.styles.Style.{Style}
-use Rattle.roam_cells.proofs.Places.{get_or-table}
 use Rattle.roam_grid.specs.Cursor.{after_carriage_return, after_index, after_reverse_index, moved_to}
 use Rattle.roam_grid.specs.Screen.{Screen}
 use Rattle.roam_grid.specs.Scrolling.{scrolled_up, scrolled_down, with_margins}
-use Rattle.roam_rows.specs.Places.{mapped_cells, moved_at}
+use Rattle.roam_rows.specs.Places.{mapped_cells}
 use Rattle.roam_rows.specs.Scrolling.{up, down}
 use Rattle.roam_term.specs.Terminal.{Live, changed_by}
-use Rattle.roam_term.proofs.Steps.{acted, acted-append, Constants, at_work, screen_at}
-use Rattle.roam_paint.specs.Painting.{Places}
+use Rattle.roam_term.proofs.Steps.{Constants, at_work, screen_at}
 use Rattle.roam_scroll_paint.specs.Bands.{set_margins, reset_margins, to_row, line_feed, reverse_index}
 
 module _ (k : Constants) where

@@ -1,5 +1,5 @@
 -- A text of functions is read as those functions.
-use Rattle.std.proofs.Common.{◌≡◌, ◌≤◌, ◌<◌, ℕ, ◌+◌, ◌==◌, Bool, true, false, not, ◌&&◌, List, [], ◌∷◌, ◌++◌, map, length, None, Some, refl, sym, ap, ◌∙◌, arith, append_assoc}
+use Rattle.std.proofs.Common.{◌≡◌, ℕ, ◌==◌, Bool, true, false, List, [], ◌∷◌, ◌++◌, map, None, Some, refl, sym, ap, ◌∙◌, append_assoc}
 use Rattle.std.specs.Prelude.{⊤, if◌then◌else◌}
 use Rattle.std.specs.List.{flat_map}
 use Rattle.std.specs.Char.{encode_utf8}
@@ -12,7 +12,7 @@ use Rattle.roam_charset.specs.Charsets.{mapped_by}
 use Rattle.roam_charset.specs.Sets.{in_use, spent}
 use Rattle.roam_grid.specs.Writing.{put_on, joined_on}
 use Rattle.roam_text.specs.declared.functions.Function.{Function}
-use Rattle.roam_text.specs.declared.functions.Function.TheVariants.{Print, C0, C1}
+use Rattle.roam_text.specs.declared.functions.Function.TheVariants.{Print}
 use Rattle.roam_text.specs.Log.{Item, Byte, Sign, character, bytes_of, signs, unfinished_part}
 use Rattle.roam_text.specs.ControlSequences.{first_sixteen}
 use Rattle.roam_text.specs.Functions.{functions, functions_of}

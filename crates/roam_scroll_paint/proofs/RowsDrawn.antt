@@ -1,8 +1,8 @@
 -- One row after another is drawn.
 use Rattle.std.proofs.Common.{◌≡◌, ◌≤◌, ◌<◌, ℕ, zero, suc, ◌+◌, ◌-◌, Bool, true, false, not, ◌&&◌, ◌||◌, inl, inr, List, [], ◌∷◌, ◌++◌, map, Option, None, refl, sym, ap, ◌∙◌, subst, arith}
 use Rattle.std.specs.Prelude.{if◌then◌else◌, nat_lt, ◌==◌}
-use Rattle.std.proofs.lemmas.Bool.{false≢true, cases_eq, cases_Bool, cases_lt, and_parts, ltb-true, eq-eqb, ne_eqb, ltb-false, not-false}
-use Rattle.roam_cells.specs.Glyph.{Glyph, is_wide, is_right_half, right_of, blank, default_style}
+use Rattle.std.proofs.lemmas.Bool.{cases_eq, cases_lt, and_parts, ltb-true, eq-eqb, ne_eqb, ltb-false, not-false}
+use Rattle.roam_cells.specs.Glyph.{Glyph, is_wide, is_right_half, blank, default_style}
 use Rattle.roam_cells.specs.Place.{cell_at}
 use Rattle.roam_cells.specs.Same.{same, same_style}
 use Rattle.roam_cells.specs.declared.styles.Style.{Style}
@@ -236,16 +236,20 @@ module _ (still : Constants) (prows pcols : ℕ) (over new : Places) (rows_in : 
       stands_there : (b : Bool) → ends_at m r end ≡ b → (last : Option ℕ) × (acted (if b then [] else placing_at r end ∷ []) (drawn_to end) ≡ ready_to style last)
       stands_there true e =
           let parts = and_parts (nat_lt 0 end) (m r (end - 1)) e in
-          let at = wrote.stands (ltb-true 0 end parts.0) (omega (arith, less, cols_in)) (d_here (end - 1) ∙ parts.1) (ap is_right_half end_blank) in
-          (wrote.last, wrote.is ∙ ap (λ a. at_work still wrote.cells a wrote.col wrote.pending style false wrote.last) at.0
-          ∙ ap (λ a. at_work still wrote.cells r a wrote.pending style false wrote.last) at.1
-          ∙ ap (λ a. at_work still wrote.cells r end a style false wrote.last) at.2)
+          let at = wrote.stands (ltb-true 0 end parts.0) (omega (arith, less, cols_in)) (d_here (end - 1) ∙ parts.1) (ap is_right_half end_blank) in (
+            wrote.last,
+            wrote.is ∙ ap (λ a. at_work still wrote.cells a wrote.col wrote.pending style false wrote.last) at.0
+                ∙ ap (λ a. at_work still wrote.cells r a wrote.pending style false wrote.last) at.1
+                ∙ ap (λ a. at_work still wrote.cells r end a style false wrote.last) at.2,
+          )
       stands_there false e =
           let row_back : r + 1 - 1 ≡ r = omega arith in
-          let col_back : end + 1 - 1 ≡ end = omega arith in
-          (None, placing_is r end (drawn_to end) ∙ ap (changed_by (place_cursor (r + 1) (end + 1))) wrote.is
-          ∙ goes still wrote.cells wrote.row wrote.col wrote.pending style false wrote.last (r + 1) (end + 1) (omega arith) (omega (arith, r_in, rows_in)) (omega arith) (omega (arith, less, cols_in))
-          ∙ ap (λ a. at_work still wrote.cells a (end + 1 - 1) false style false None) row_back ∙ ap (λ a. at_work still wrote.cells r a false style false None) col_back)
+          let col_back : end + 1 - 1 ≡ end = omega arith in (
+            None,
+            placing_is r end (drawn_to end) ∙ ap (changed_by (place_cursor (r + 1) (end + 1))) wrote.is
+                ∙ goes still wrote.cells wrote.row wrote.col wrote.pending style false wrote.last (r + 1) (end + 1) (omega arith) (omega (arith, r_in, rows_in)) (omega arith) (omega (arith, less, cols_in))
+                ∙ ap (λ a. at_work still wrote.cells a (end + 1 - 1) false style false None) row_back ∙ ap (λ a. at_work still wrote.cells r a false style false None) col_back,
+          )
 
       abbrev cells_left : List Glyph
       cells_left = mapped_cells rows cols wrote.cells (in_row r (erasure_source end cols))
@@ -271,7 +275,7 @@ module _ (still : Constants) (prows pcols : ℕ) (over new : Places) (rows_in : 
           | inl k ↦ keeps_left rows cols pcols new whole cols_in wrote.cells r end (omega (arith, r_in, rows_in)) end_blank j k q (wrote.shown.before j k q)
           | inr k ↦
               blanks_right rows cols pcols new whole cols_in wrote.cells r end j (omega (arith, r_in, rows_in)) k q
-              ∙ sym (elim (cases_lt j pcols) [ | inl a ↦ plan.blanks j k a | inr a ↦ blank_beyond r j a ])
+              ∙ sym (elim (cases_lt j pcols) [ inl a ↦ plan.blanks j k a | inr a ↦ blank_beyond r j a ])
         ];
         there = λ i j n p q e.
             keeps_other_row rows cols pcols new whole cols_in wrote.cells r end i j p q n (wrote.shown.rest i j p q (alike i j n e));
@@ -323,7 +327,7 @@ module _ (still : Constants) (prows pcols : ℕ) (over new : Places) (rows_in : 
       | inr n ↦ ready.above i j (omega (arith, p, n)) a b
       | inl e ↦
           ready.rest i j a b (ap (λ x. over x j) e
-          ∙ (elim (cases_lt j pcols) [ | inl k ↦ same_row j k | inr k ↦ beyond r j k ]) ∙ ap (λ x. new x j) (sym e))
+          ∙ (elim (cases_lt j pcols) [ inl k ↦ same_row j k | inr k ↦ beyond r j k ]) ∙ ap (λ x. new x j) (sym e))
     ];
     rest = ready.rest;
   }

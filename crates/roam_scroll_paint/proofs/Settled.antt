@@ -1,19 +1,18 @@
 -- What comes before the rows and behind them, as text.
-use Rattle.std.proofs.Common.{◌≡◌, ℕ, ◌-◌, Bool, true, false, List, [], ◌∷◌, ◌++◌, Option, refl, sym, ap, ◌∙◌, append_assoc}
+use Rattle.std.proofs.Common.{◌≡◌, ℕ, ◌-◌, Bool, false, List, [], ◌∷◌, ◌++◌, Option, refl, sym, ap, ◌∙◌, append_assoc}
 use Rattle.std.specs.List.{flat_map}
 use Rattle.std.proofs.lemmas.List.{append-nil}
 use Rattle.std.proofs.lemmas.Grind.{flat_map-append}
 use Rattle.roam_cells.specs.Glyph.{default_style}
 use Rattle.roam_cells.specs.declared.styles.Style.{Style}
 use Rattle.roam_screens.specs.Screenshot.{Screenshot}
-use Rattle.roam_text.specs.declared.functions.Function.{Function}
 use Rattle.roam_term.specs.Ground.{shown_at}
 use Rattle.roam_paint.specs.Painting.{same_size}
 use Rattle.roam_scroll_paint.specs.declared.bands.Band.{Band}
 use Rattle.roam_scroll_paint.specs.Bands.{FitsBand, drawn_over, preparing}
 use Rattle.roam_scroll_paint.specs.Sequences.{text_of}
 use Rattle.roam_scroll_paint.specs.Styles.{styled_from}
-use Rattle.roam_scroll_paint.specs.Rows.{placing_at, AreDrawn, AddsRows}
+use Rattle.roam_scroll_paint.specs.Rows.{placing_at, AddsRows}
 use Rattle.roam_scroll_paint.specs.Painting.{settling, hiding, revealing, IsBody, IsPaintingText}
 
 pub settling_text : (t : List ℕ) (new : Screenshot) (g : Style)

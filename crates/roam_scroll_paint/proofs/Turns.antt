@@ -1,5 +1,5 @@
 -- Texts of rows, one turn further.
-use Rattle.std.proofs.Common.{◌≡◌, ℕ, zero, suc, ◌+◌, Bool, List, [], ◌∷◌, ◌++◌, map, refl, sym, ap, ◌∙◌, subst, arith, append_assoc, add-one}
+use Rattle.std.proofs.Common.{◌≡◌, ℕ, suc, ◌+◌, Bool, List, [], ◌∷◌, ◌++◌, map, refl, sym, ap, ◌∙◌, subst, append_assoc, add-one}
 use Rattle.std.specs.Prelude.{if◌then◌else◌}
 use Rattle.std.specs.List.{flat_map}
 use Rattle.std.specs.Char.{encode_utf8}
@@ -71,8 +71,7 @@ pub whole_row : (marks : Marks) (new : Places) (cols n r end : ℕ) (g : Style) 
 unfolding row_functions row_style_left
 whole_row marks new cols n r end g t out later s h e p q u v =
     let d = is_marked marks in
-    let a = written_row d new r g end in
-    (
+    let a = written_row d new r g end in (
       u ∙ ap (λ k. out ++ flat_map text_of (erasing_from d r end k s)) e ∙ ap (λ l. l ++ flat_map text_of (erasing_from d r end cols s)) p
           ∙ append_assoc t (flat_map text_of a) (flat_map text_of (erasing_from d r end cols s))
           ∙ ap (λ x. t ++ (flat_map text_of a ++ flat_map text_of (erasing_from d r end cols x))) q

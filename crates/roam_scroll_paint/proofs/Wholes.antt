@@ -1,13 +1,11 @@
 -- Places in whole characters: those of a screen, and of one whose rows went elsewhere.
-use Rattle.std.proofs.Common.{◌≡◌, ◌≤◌, ◌<◌, ℕ, ◌+◌, ◌-◌, Bool, true, false, ◌&&◌, Option, Some, None, List, refl, sym, ap, ◌∙◌, subst, arith}
-use Rattle.std.specs.Prelude.{if◌then◌else◌, nat_le, nat_lt}
+use Rattle.std.proofs.Common.{◌≡◌, ◌≤◌, ◌<◌, ℕ, ◌+◌, ◌-◌, true, Option, Some, None, List, sym, ap, ◌∙◌, arith}
 use Rattle.std.proofs.lemmas.Bool.{false≢true}
-use Rattle.roam_cells.specs.Glyph.{Glyph, is_wide, is_right_half, right_of, blank}
+use Rattle.roam_cells.specs.Glyph.{Glyph, is_wide, is_right_half, right_of}
 use Rattle.roam_cells.specs.Place.{cell_at, AreWhole}
 use Rattle.roam_rows.proofs.Mending.{is_wide-blank}
 use Rattle.roam_paint.specs.Painting.{Places}
-use Rattle.roam_scroll_paint.specs.declared.bands.Band.{Band}
-use Rattle.roam_scroll_paint.specs.Bands.{taken, moved_source}
+use Rattle.roam_scroll_paint.specs.Bands.{taken}
 
 -- in rows of so many columns a wide character is followed by its right half, and a right half follows one
 pub record IsWhole (cols : ℕ) (p : Places) : Type 0 where

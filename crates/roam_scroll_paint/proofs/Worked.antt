@@ -1,5 +1,5 @@
 -- Worked texts and rows, computed.
-use Rattle.std.specs.Prelude.{◌≡◌, ℕ, true, false, List, [], ◌∷◌, ◌++◌, replicate, Some, None, refl}
+use Rattle.std.specs.Prelude.{◌≡◌, ℕ, true, false, List, [], ◌∷◌, replicate, Some, None, refl}
 use Rattle.std.specs.List.{flat_map}
 use Rattle.std.specs.Char.{encode_utf8}
 use Rattle.std.specs.Fmt.{digits}
@@ -9,12 +9,12 @@ use Rattle.roam_cells.specs.declared.styles.Style.{Style}
 use Rattle.roam_cells.specs.declared.styles.Colour.TheVariants.{Index, Rgb}
 use Rattle.roam_screens.specs.Screenshot.{Screenshot}
 use Rattle.roam_term.specs.Ground.{shown_at}
-use Rattle.roam_paint.specs.Painting.{Places, style_after}
+use Rattle.roam_paint.specs.Painting.{style_after}
 use Rattle.roam_scroll_paint.specs.declared.bands.Band.{Band}
 use Rattle.roam_scroll_paint.specs.Bands.{moved_source, moves_band}
 use Rattle.roam_scroll_paint.specs.Sequences.{text_of}
 use Rattle.roam_scroll_paint.specs.Styles.{change_codes, adds, styled_from}
-use Rattle.roam_scroll_paint.specs.Rows.{written_cell, written_row, erasing_from, style_left, row_functions}
+use Rattle.roam_scroll_paint.specs.Rows.{written_cell, written_row, erasing_from, row_functions}
 use Rattle.roam_scroll_paint.specs.Painting.{settling}
 
 -- ---- bands

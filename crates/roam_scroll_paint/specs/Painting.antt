@@ -1,8 +1,7 @@
 -- What leads from one screen to another: first as functions, and then as text.
-use Rattle.std.specs.Prelude.{◌≡◌, ℕ, ◌-◌, Bool, true, false, if◌then◌else◌, List, [], ◌∷◌, ◌++◌, Option}
+use Rattle.std.specs.Prelude.{◌≡◌, ℕ, ◌-◌, Bool, false, if◌then◌else◌, List, [], ◌∷◌, ◌++◌, Option}
 use Rattle.std.specs.List.{flat_map}
 use Rattle.roam_cells.specs.Glyph.{default_style}
-use Rattle.roam_cells.specs.Same.{same_style}
 use Rattle.roam_cells.specs.declared.styles.Style.{Style}
 use Rattle.roam_screens.specs.Screenshot.{Screenshot}
 use Rattle.roam_text.specs.declared.functions.Function.{Function}

@@ -80,7 +80,11 @@ fn cost_of(over: &[Cell], cells: &[Cell]) -> u32
     let end = blank_from(cells);
     let beyond = differing(over, cells, end, cells.len());
     let cost = ROW_COST.saturating_add(differing(over, cells, 0, end));
-    if beyond == 0 { cost } else { cost.saturating_add(END_COST) }
+    if beyond == 0 {
+        cost
+    } else {
+        cost.saturating_add(END_COST)
+    }
 }
 
 /// What each row costs where it stays: nothing where it shows already what it is to show. Where sizes differ there are no costs.

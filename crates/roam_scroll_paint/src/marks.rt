@@ -75,7 +75,8 @@ fn gap_cost(cells: &[Cell], from: usize, to: usize) -> usize
         cost = cost.saturating_add(style_cost(style, next));
         style = next;
     }
-    cost.saturating_add(style_cost(style, last)).saturating_sub(without)
+    cost.saturating_add(style_cost(style, last))
+        .saturating_sub(without)
 }
 
 /// The digits of a number, and three of one above 999.
@@ -105,7 +106,10 @@ fn is_gap(cells: &[Cell], row: usize, from: usize, to: usize) -> bool
     requires inside { to < length cells.now }
     requires few { (row < 1000) × (length cells.now < 1000) }
 {
-    0 < from && from < to && to - from <= WIDEST_GAP && gap_cost(cells, from, to) < move_cost(row, to)
+    0 < from
+        && from < to
+        && to - from <= WIDEST_GAP
+        && gap_cost(cells, from, to) < move_cost(row, to)
 }
 
 // A gap between what is marked before one column and from another on is marked, where it is one.

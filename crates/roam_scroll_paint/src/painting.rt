@@ -22,7 +22,7 @@ use roam_screens::Seen;
 use std::alloc::{AllocError, Global};
 
 /// A text of fewer bytes doesn't hide the cursor, where the cursor stays as visible as it is.
-const SHORT: usize = 122;
+const SHORT: usize = 128;
 
 // The default style, where another is set, and the cursor's place.
 #[tactic(auto, using(crate::proofs::Settled::settling_text))]
@@ -57,7 +57,12 @@ fn push_body<O: Seen, N: Seen>(
     Ok(())
 }
 
-fn body_of<O: Seen, N: Seen>(alloc: Global, old: &O, new: &N, costs: &[u32]) -> Result<Vec<u8>, AllocError>
+fn body_of<O: Seen, N: Seen>(
+    alloc: Global,
+    old: &O,
+    new: &N,
+    costs: &[u32],
+) -> Result<Vec<u8>, AllocError>
     requires costs { (r : ℕ) → slice_index_or costs.now r 1 ≡ 0 → IsSameRow (O.screen old.now) (N.screen new.now) r }
     ensures body { IfOk result (λ text. IsBody (O.screen old.now) (N.screen new.now) [] text.items) }
 {
@@ -89,7 +94,12 @@ fn is_as_visible<O: Seen, N: Seen>(old: &O, new: &N) -> bool
     old.visible() == new.visible()
 }
 
-fn moving_text<O: Seen, N: Seen>(alloc: Global, old: &O, new: &N, costs: &[u32]) -> Result<Vec<u8>, AllocError>
+fn moving_text<O: Seen, N: Seen>(
+    alloc: Global,
+    old: &O,
+    new: &N,
+    costs: &[u32],
+) -> Result<Vec<u8>, AllocError>
     requires costs { (r : ℕ) → slice_index_or costs.now r 1 ≡ 0 → IsSameRow (O.screen old.now) (N.screen new.now) r }
     ensures painting { IfOk result (λ text. IsPaintingText (O.screen old.now) (N.screen new.now) text.items) }
 {

@@ -42,7 +42,12 @@ fn push_flag(codes: &mut Vec<u16>, before: bool, after: bool, code: u16) -> Resu
     Ok(())
 }
 
-fn push_words(codes: &mut Vec<u16>, code: u16, ending: u16, colour: Colour) -> Result<(), AllocError>
+fn push_words(
+    codes: &mut Vec<u16>,
+    code: u16,
+    ending: u16,
+    colour: Colour,
+) -> Result<(), AllocError>
     ensures codes { OnOk result (codes.new.items ≡ codes.old.items ++ colour_words code ending colour) }
 {
     match colour {
@@ -133,8 +138,18 @@ fn adds(from: Style, to: Style, codes: &[u16]) -> bool
     ensures some { result ≡ true → 0 < length codes.now }
 {
     !ends_flag(from, to)
-        && !ends_alone(from.foreground, to.foreground, from.background, to.background)
-        && !ends_alone(from.background, to.background, from.foreground, to.foreground)
+        && !ends_alone(
+            from.foreground,
+            to.foreground,
+            from.background,
+            to.background,
+        )
+        && !ends_alone(
+            from.background,
+            to.background,
+            from.foreground,
+            to.foreground,
+        )
         && !codes.is_empty()
         && codes.len() <= 16
 }

@@ -120,7 +120,13 @@ fn ends_at(marks: &[bool], row: usize, col: usize) -> bool
 }
 
 #[tactic(auto, using(crate::proofs::Turns::end_text))]
-fn push_end(text: &mut Vec<u8>, stands: bool, row: usize, end: usize, style: Style) -> Result<(), AllocError>
+fn push_end(
+    text: &mut Vec<u8>,
+    stands: bool,
+    row: usize,
+    end: usize,
+    style: Style,
+) -> Result<(), AllocError>
     requires few { (row < 1000) × (end < 1000) }
     ensures text { OnOk result (text.new.items ≡ text.old.items ++ flat_map text_of ((if stands then [] else placing_at row end ∷ [])
         ++ (styled_from style default_style ++ erase_line ∷ []))) }

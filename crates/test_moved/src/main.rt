@@ -8,6 +8,7 @@
 
 #[cfg(test)]
 mod paintings;
+mod uses;
 
 use anyhow::{Context, bail};
 use roam_cells::Fault;
@@ -94,6 +95,7 @@ fn print(rt: &HostRuntime, text: Result<Vec<u8>, Fault>) -> anyhow::Result<()> {
     Ok(())
 }
 
+// Tells both texts between the two screens of a line.
 fn tell(rt: &HostRuntime, line: &str) -> anyhow::Result<()> {
     let mut words = line.split_whitespace();
     let old = next_screen(rt.alloc(), &mut words)?;

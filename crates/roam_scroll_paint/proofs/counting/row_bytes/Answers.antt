@@ -1,5 +1,5 @@
-use Rattle.std.proofs.Common.{◌≡◌, ◌≤◌, length, sym, ap, ◌∙◌, arith}
-use Rattle.roam_paint.specs.Texts.{row_text, row_style}
+use Rattle.std.proofs.Common.{◌≡◌, sym, ap, ◌∙◌, arith}
+use Rattle.roam_paint.specs.Texts.{row_style}
 use Rattle.roam_paint.specs.Painting.{differs, style_after}
 use Rattle.roam_term.specs.Ground.{shown_at}
 use Rattle.roam_paint.proofs.Loops.{style_start, style_more, stays_first, stays_next}

@@ -1,4 +1,4 @@
-use Rattle.std.proofs.Common.{◌≡◌, ◌≤◌, length, sym, ap, ◌∙◌, arith}
+use Rattle.std.proofs.Common.{◌≤◌, length, sym, ap, ◌∙◌, arith}
 use Rattle.roam_paint.specs.Texts.{row_text, row_style}
 use Rattle.roam_paint.proofs.Loops.{rows_style_start, rows_style_more}
 use Rattle.roam_scroll_paint.proofs.Lengths.{rows_longer, first_rows}

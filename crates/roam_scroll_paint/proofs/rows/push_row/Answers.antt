@@ -1,4 +1,4 @@
-use Rattle.std.proofs.Common.{◌≡◌, ◌∙◌}
+use Rattle.std.proofs.Common.{◌∙◌}
 use Rattle.roam_term.specs.Ground.{shown_at}
 use Rattle.roam_scroll_paint.proofs.Turns.{whole_row}
 use Rattle.roam_scroll_paint.proofs.rows.push_row.Goals as goal
