@@ -318,6 +318,9 @@ fn best_of<O: Seen, N: Seen>(old: &O, new: &N, costs: &[u32]) -> Found
         band: None,
         gain: LEAST_GAIN,
     };
+    if changed.to.saturating_sub(changed.from) < 2 {
+        return best;
+    }
     for quarter in 1..4u32 {
         let row = row_at(costs, count * quarter / 4);
         if changed.from <= row && row < changed.to && bare_cost(new.row(row)) != 0 {
