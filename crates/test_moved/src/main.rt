@@ -5,9 +5,9 @@
 //! It stands for no command of roam: `tools/try_moved` compares what terminals make of the texts.
 #![tactic(auto)]
 
-
 #[cfg(test)]
 mod paintings;
+#[cfg(test)]
 mod uses;
 
 use anyhow::{Context, bail};

@@ -4,10 +4,11 @@
 //! columns of a terminal, what is written to it, what is written to another of that size, and the text between their screens, with bars
 //! between. A case of `PAIRS` has two terminals, with a bar between.
 use crate::screen;
+use crate::uses::two_texts;
 use roam_cells::{Cell, Fault};
-use roam_paint::{open, paint};
-use roam_scroll_paint::paint_moved;
+use roam_paint::paint;
 use roam_screens::Shot;
+use roam_scroll_paint::paint_moved;
 use roam_term::Term;
 use std::alloc::Global;
 use std::test::*;
@@ -142,15 +143,6 @@ fn shows_after(alloc: Global, term: &mut Term, text: &[u8], screen: &Shot) -> bo
     term.feed(text).is_ok() && matches!(term.shot(alloc, 0), Ok(shown) if is_shown(&shown, screen))
 }
 
-// The text that opens a terminal and leads it to a screen.
-fn opening_to(alloc: Global, screen: &Shot) -> Result<Vec<u8>, Fault> {
-    let mut text = Vec::new(alloc);
-    open(&mut text)?;
-    let blank = Shot::blank(alloc, screen.rows(), screen.cols())?;
-    paint_moved(&blank, screen, &mut text)?;
-    Ok(text)
-}
-
 // The text between two screens, behind `before`, where it is no longer than the one that leaves nothing out.
 fn text_between(alloc: Global, old: &Shot, new: &Shot) -> Result<Vec<u8>, Fault> {
     let mut text = Vec::from_slice(alloc, b"before")?;
@@ -179,9 +171,9 @@ fn scrolls(alloc: Global, term: &mut Term) -> bool {
         && matches!(term.shot(alloc, 0), Ok(shown) if matches!(shown.at(shown.rows() - 1, 1), Some(cell) if cell.chars().as_slice() == ['Z'].as_slice()))
 }
 
-// A terminal goes to an old screen, there, back and there again.
+// A terminal goes to an old screen by the new one, then there, back and there again.
 fn goes_about(alloc: Global, term: &mut Term, old: &Shot, new: &Shot) -> bool {
-    matches!(opening_to(alloc, old), Ok(text) if shows_after(alloc, term, &text, old))
+    matches!(two_texts(alloc, new, old), Ok(text) if shows_after(alloc, term, &text, old))
         && goes_over(alloc, term, old, new)
         && goes_over(alloc, term, new, old)
         && goes_over(alloc, term, old, new)
@@ -222,7 +214,10 @@ fn holds(alloc: Global, case: &str) -> bool {
     let (old, rest) = rest.split_once('|').unwrap_or((rest, ""));
     let (input, text) = rest.split_once('|').unwrap_or((rest, ""));
     let (rows, cols, _) = words(old);
-    match (shown_by(alloc, old), screen(alloc, rows, cols, input.as_bytes())) {
+    match (
+        shown_by(alloc, old),
+        screen(alloc, rows, cols, input.as_bytes()),
+    ) {
         (Ok(old), Ok(new)) => is_written(alloc, &old, &new, text) && leads(alloc, &old, &new),
         _ => false,
     }
