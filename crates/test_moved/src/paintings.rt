@@ -165,10 +165,16 @@ fn goes_over(alloc: Global, term: &mut Term, old: &Shot, new: &Shot) -> bool {
     }
 }
 
+fn last_but_one_starts_with(shown: &Shot, char: char) -> bool {
+    match shown.at(shown.rows() - 1, 1) {
+        Some(cell) => cell.chars().as_slice() == [char].as_slice(),
+        None => false,
+    }
+}
+
 // Whether the last row of a terminal is the one above it once an LF came there: its margins are full.
 fn scrolls(alloc: Global, term: &mut Term) -> bool {
-    term.feed(b"\x1B[999;1HZ\n").is_ok()
-        && matches!(term.shot(alloc, 0), Ok(shown) if matches!(shown.at(shown.rows() - 1, 1), Some(cell) if cell.chars().as_slice() == ['Z'].as_slice()))
+    term.feed(b"\x1B[999;1HZ\n").is_ok() && matches!(term.shot(alloc, 0), Ok(shown) if last_but_one_starts_with(&shown, 'Z'))
 }
 
 // A terminal goes to an old screen by the new one, then there, back and there again.
