@@ -6,6 +6,7 @@ use std::alloc::Global;
 use std::io::{BufRead, BufReader};
 use std::str::SplitWhitespace;
 use test_hops::{change, narrow_change, painted, screen};
+use test_moved::moved;
 
 fn number(words: &mut SplitWhitespace<'_>) -> anyhow::Result<u16> {
     let word = words.next().and_then(|word| word.parse::<u16>().ok());
@@ -39,27 +40,43 @@ fn print(rt: &HostRuntime, text: Result<Vec<u8>, Fault>) -> anyhow::Result<()> {
     Ok(())
 }
 
+/// Which texts are told.
+#[derive(Clone, Copy)]
+pub enum Texts {
+    /// The change of version 2, that of version 1 between what version 1 shows of both screens, and what the painter writes.
+    Hop,
+    /// What the painter that moves rows writes, and what the other one does.
+    Moved,
+}
+
 fn tell_hop(rt: &HostRuntime, old: &RowShot, new: &RowShot) -> anyhow::Result<()> {
     print(rt, change(rt.alloc(), old, new))?;
     print(rt, narrow_change(rt.alloc(), old, new))?;
     print(rt, painted(rt.alloc(), old, new))
 }
 
-fn tell(rt: &HostRuntime, line: &str) -> anyhow::Result<()> {
+fn tell_moved(rt: &HostRuntime, old: &RowShot, new: &RowShot) -> anyhow::Result<()> {
+    print(rt, moved(rt.alloc(), old, new))?;
+    print(rt, painted(rt.alloc(), old, new))
+}
+
+fn tell(rt: &HostRuntime, line: &str, texts: Texts) -> anyhow::Result<()> {
     let mut words = line.split_whitespace();
     let old = next_screen(rt.alloc(), &mut words)?;
     let new = next_screen(rt.alloc(), &mut words)?;
-    tell_hop(rt, &old, &new)
+    match texts {
+        Texts::Hop => tell_hop(rt, &old, &new),
+        Texts::Moved => tell_moved(rt, &old, &new),
+    }
 }
 
 /// For each line `ROWS COLS HEX ROWS COLS HEX` of standard input, two screens given by their sizes and the bytes that make them (`-` for
-/// none), prints the change of version 2 from the first to the second, the change of version 1 between what version 1 shows of them, and
-/// what the painter writes, each a line of hexadecimal digits.
-pub fn tell_all(rt: &HostRuntime) -> anyhow::Result<()> {
+/// none), prints texts that lead from the first to the second, each a line of hexadecimal digits.
+pub fn tell_all(rt: &HostRuntime, texts: Texts) -> anyhow::Result<()> {
     let alloc = rt.alloc();
     for line in BufReader::new(alloc, rt.reader())?.lines(alloc) {
         let line = line?;
-        tell(rt, &line)?;
+        tell(rt, &line, texts)?;
     }
     Ok(())
 }

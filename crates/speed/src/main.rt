@@ -9,8 +9,8 @@
 //! after one changed row, a scroll, a redraw and a key, and as many ticks after a key with one client start and with nine; it prints for
 //! each its name, TIMES, the nanoseconds that passed and a number that depends on the work: of a key the bytes of all datagrams. `speed
 //! records N` makes a server that keeps eight screens for each of N client starts, and `speed clients N` keeps these starts too, with eight
-//! screens each, so that a caller can see how much memory that takes. `speed hops` measures
-//! nothing: of each line of standard input, which gives two screens, it tells the texts that lead from one to the other. Without words it
+//! screens each, so that a caller can see how much memory that takes. `speed hops` and
+//! `speed moved` measure nothing: of each line of standard input, which gives two screens, they tell texts that lead from one to the other. Without words it
 //! does a moment's work of each, and tells the texts of the lines of standard input.
 #![tactic(auto)]
 
@@ -23,6 +23,7 @@ mod paintings;
 mod ways;
 mod words;
 
+use crate::hops::Texts;
 use anyhow::bail;
 use std::env;
 use std::env::Args;
@@ -36,7 +37,7 @@ fn try_all(rt: &HostRuntime) -> anyhow::Result<()> {
     grids::try_once(rt)?;
     cores::try_once(rt)?;
     try_screens(rt)?;
-    hops::tell_all(rt)
+    hops::tell_all(rt, Texts::Hop)
 }
 
 fn measure(rt: &HostRuntime, what: &str, words: &mut Args) -> anyhow::Result<()> {
@@ -47,8 +48,11 @@ fn measure(rt: &HostRuntime, what: &str, words: &mut Args) -> anyhow::Result<()>
         "cores" => cores::measure(rt, words),
         "records" => cores::measure_kept(rt, words, false),
         "clients" => cores::measure_kept(rt, words, true),
-        "hops" => hops::tell_all(rt),
-        _ => bail!("what is asked for is grid, paint, update, cores, records, clients or hops"),
+        "hops" => hops::tell_all(rt, Texts::Hop),
+        "moved" => hops::tell_all(rt, Texts::Moved),
+        _ => bail!(
+            "what is asked for is grid, paint, update, cores, records, clients, hops or moved"
+        ),
     }
 }
 

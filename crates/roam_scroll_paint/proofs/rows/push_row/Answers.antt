@@ -1,0 +1,12 @@
+use Rattle.std.proofs.Common.{◌∙◌}
+use Rattle.roam_term.specs.Ground.{shown_at}
+use Rattle.roam_scroll_paint.proofs.Turns.{whole_row}
+use Rattle.roam_scroll_paint.proofs.rows.push_row.Goals as goal
+
+pub returns : goal.returns
+returns g c =
+    let new = g.N.Seen.screen c.args.new.now in
+    let both = whole_row c.args.marks.now (shown_at new) new.cols c.from.result c.args.row c.args.end c.args.style c.args.text.now.items
+    c.write_row.new.text.items c.erase_from.new.text.items c.in_ok-set.set c.in_ok-left.left (c.from.ensures ∙ c.cols.ensures.cols)
+    c.in_ok-set.ensures.text c.in_ok-set.ensures.style c.in_ok-left.ensures.text c.in_ok-left.ensures.style in
+    record { text = both.0; style = both.1 }

@@ -1,0 +1,17 @@
+//! Paints screens on a terminal, and moves the rows that are there: the text that leads a ground terminal from one screen to another, and is
+//! never longer than that of a painter which writes every place that differs.
+#![tactic(auto)]
+
+mod bands;
+mod choice;
+mod counting;
+mod differences;
+mod drawing;
+pub mod laws;
+mod marks;
+mod painting;
+mod renditions;
+mod rows;
+mod sequences;
+
+pub use painting::paint_moved;
