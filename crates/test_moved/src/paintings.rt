@@ -166,7 +166,7 @@ fn goes_over(alloc: Global, term: &mut Term, old: &Shot, new: &Shot) -> bool {
 }
 
 fn last_but_one_starts_with(shown: &Shot, char: char) -> bool {
-    match shown.at(shown.rows() - 1, 1) {
+    match shown.at(shown.rows().saturating_sub(1), 1) {
         Some(cell) => cell.chars().as_slice() == [char].as_slice(),
         None => false,
     }
