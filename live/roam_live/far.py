@@ -12,8 +12,9 @@ from roam_live.sessions import NearSession, Session, base
 
 TYPE_CHECKING = False
 if TYPE_CHECKING:
-    import argparse
     from collections.abc import Callable
+
+    from roam_live.parsing import Asked
 
 # The options of ssh that have a word behind them, and those of `mux ssh` itself.
 SSH_PAIRS = "BbcDEeFIiJLlmOoPpQRSWw"
@@ -37,12 +38,12 @@ def parted_options(words: list[str]) -> tuple[list[str], list[str]]:
     return own + rest, options
 
 
-def command_of(asked: argparse.Namespace) -> list[str]:
+def command_of(asked: Asked) -> list[str]:
     """The command over which a session is carried, as the words of `mux ssh` say."""
     return [*shlex.split(asked.ssh), *asked.options, asked.host, f"{asked.far} far {asked.name}"]
 
 
-def near_session(asked: argparse.Namespace, command: list[str]) -> NearSession:
+def near_session(asked: Asked, command: list[str]) -> NearSession:
     """What stands here for a session of another machine: one a host, a session, and a way to get there."""
     place = f"ssh:{re.sub('[^A-Za-z0-9_.@-]', '_', asked.host)}:{asked.name}"
     plain = ["ssh", asked.host, f"roam-mux far {asked.name}"]

@@ -7,7 +7,11 @@ from roam_live.words import printable
 
 TYPE_CHECKING = False
 if TYPE_CHECKING:
-    from typing import NoReturn
+    from types import SimpleNamespace
+    from typing import NoReturn, Union
+
+    # What the words behind a word of `mux` ask for: a value for each argument, by a parser or without one.
+    Asked = Union[argparse.Namespace, SimpleNamespace]
 
 
 class Parser(argparse.ArgumentParser):
