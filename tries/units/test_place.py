@@ -1,4 +1,6 @@
 """A session as a front end needs it, by each way to reach one: what isn't known of it is None, and a person is asked then."""
+import importlib.machinery
+import importlib.util
 import json
 import os
 import pathlib
@@ -14,10 +16,14 @@ from roam_live.display import Display
 from roam_live.moments import Moments
 from roam_live.places import Kept, Place
 from roam_live.ports import PortSession
-from roam_live.program import Home
+from roam_live.program import TOOLS, Home
 from roam_live.programs import busy_panes
 from roam_live.rects import MOST_STARTS, NOTHING, Places, Rect
 from roam_live.sessions import NearSession, Session
+
+loader = importlib.machinery.SourceFileLoader("mux", str(TOOLS / "mux"))
+mux = importlib.util.module_from_spec(importlib.util.spec_from_loader("mux", loader))
+loader.exec_module(mux)
 
 # A process that ended: no process has begun at this moment.
 ENDED = [1, 1]
@@ -122,6 +128,18 @@ class Known(Folder):
         for starts in (0, 63, 64):
             (self.folder / "rects").write_text(f"1 1 1 23 80\nstarts {starts}\nwatchers 0\nfocus 1\n", encoding="utf-8")
             self.assertEqual([session.is_full() for session in self.sessions()], [starts == MOST_STARTS] * 4)
+
+
+class Kill(Folder):
+    """What a person is told before a session is ended."""
+
+    def test_told(self):
+        """Programs are named; where none is known, they may be there all the same. Of another machine's session nothing ends but a relay."""
+        session = self.by_hand()
+        for busy, told in (({}, ""), ({2: "vi", 1: "less"}, "less in pane 1 and vi in pane 2"), (None, "programs that aren't known")):
+            with mock.patch.object(session, "busy", lambda busy=busy: busy):
+                self.assertEqual(mux.lost_with(session), told)
+        self.assertEqual(mux.lost_with(NearSession(self.folder, "main")), "")
 
 
 class Link:
