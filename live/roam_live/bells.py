@@ -5,7 +5,9 @@ from __future__ import annotations
 import contextlib
 import os
 import re
+import socket
 import time
+from collections.abc import Container
 
 from roam_live.carriers import listening
 from roam_live.program import Fault, Lines, connected_now, is_own_peer, read, reason, say
@@ -32,11 +34,11 @@ KEYPAD = re.compile(r"keypad ([1-9]) (application|numeric)")
 class Bells:
     """Finds bells in what a program writes, in any pieces."""
 
-    def __init__(self):
+    def __init__(self) -> None:
         self.is_string = False
         self.rest = b""
 
-    def rung(self, piece):
+    def rung(self, piece: bytes) -> bool:
         """Whether a bell rings in a piece."""
         *parts, last = (self.rest + piece).split(b"\x07")
         rings = False
@@ -50,7 +52,7 @@ class Bells:
         self.go_on(last[: len(last) - len(self.rest)])
         return rings
 
-    def go_on(self, text):
+    def go_on(self, text: bytes) -> None:
         """Goes on with bytes that have no bell: whether they end inside of a control string."""
         last = text.rfind(b"\x1b")
         if last >= 0:
@@ -61,37 +63,38 @@ class Bells:
 class BellSource:
     """The socket at which bells are told, in lines `bell P`. Where it can't be had that is told, and nobody follows."""
 
-    def __init__(self, folder):
+    def __init__(self, folder: str | os.PathLike[str]) -> None:
         self.path = os.path.join(folder, "bells")
-        self.listener = self.made = None
+        self.listener: socket.socket | None = None
+        self.made: os.stat_result | None = None
         try:
             self.listener = listening(self.path)
             self.made = os.lstat(self.path)
         except (Fault, OSError) as fault:
             say(f"no bells are told: {reason(fault)}")
-        self.followers = []
-        self.rung_at = {}
+        self.followers: list[socket.socket] = []
+        self.rung_at: dict[int, float] = {}
         self.deaf_until = 0.0
         # What each who comes is told in words, and of which panes the keypad is an application's.
         self.standing = ""
-        self.keypads = set()
+        self.keypads: set[int] = set()
 
-    def sources(self):
+    def sources(self) -> list[socket.socket]:
         """What is to be read: those that come, and the ends of those that are there. Where as many follow as may, who comes waits."""
-        is_open = self.listener and len(self.followers) < MOST_FOLLOWERS and time.monotonic() >= self.deaf_until
-        return ([self.listener] if is_open else []) + self.followers
+        is_open = len(self.followers) < MOST_FOLLOWERS and time.monotonic() >= self.deaf_until
+        return ([self.listener] if self.listener and is_open else []) + self.followers
 
-    def turn(self, readable):
+    def turn(self, readable: Container[object]) -> None:
         """Takes who comes, and lets go who has left."""
         if self.listener and self.listener in readable:
-            self.accept()
+            self.accept(self.listener)
         for peer in [peer for peer in self.followers if peer in readable and read(peer.fileno()) == b""]:
             self.drop(peer)
 
-    def accept(self):
+    def accept(self, listener: socket.socket) -> None:
         """Takes who comes, where it is of this user."""
         try:
-            peer = self.listener.accept()[0]
+            peer = listener.accept()[0]
         except OSError:
             # Where no descriptor is left who comes waits.
             self.deaf_until = time.monotonic() + APART
@@ -105,7 +108,7 @@ class BellSource:
         else:
             peer.close()
 
-    def tell(self, pane):
+    def tell(self, pane: int) -> None:
         """Tells of a bell; one that follows another too soon isn't told."""
         now = time.monotonic()
         if now < self.rung_at.get(pane, 0.0) + APART:
@@ -113,17 +116,17 @@ class BellSource:
         self.rung_at[pane] = now
         self.send(f"bell {pane}")
 
-    def tell_keypad(self, pane: int, is_application: bool):
+    def tell_keypad(self, pane: int, is_application: bool) -> None:
         """Tells how the keypad of a pane is, where that is new."""
         if is_application != (pane in self.keypads):
             self.keypads ^= {pane}
             self.send(f"keypad {pane} {'application' if is_application else 'numeric'}")
 
-    def say(self, text: str):
+    def say(self, text: str) -> None:
         """Tells something in words, in printable ASCII."""
         self.send(f"say {text}")
 
-    def send(self, line: str, peers: list | None = None):
+    def send(self, line: str, peers: list[socket.socket] | None = None) -> None:
         """Sends a line to those of who follow, or to all of them; who doesn't take it is let go."""
         for peer in list(self.followers if peers is None else peers):
             try:
@@ -131,12 +134,12 @@ class BellSource:
             except OSError:
                 self.drop(peer)
 
-    def drop(self, peer):
+    def drop(self, peer: socket.socket) -> None:
         """Lets one go who follows."""
         peer.close()
         self.followers.remove(peer)
 
-    def close(self):
+    def close(self) -> None:
         """Closes the socket, and removes it."""
         for peer in self.followers:
             peer.close()
@@ -151,9 +154,9 @@ class BellSource:
 class BellFollower:
     """Follows the bells of a session's folder, where somebody tells them."""
 
-    def __init__(self, folder):
-        self.path = folder and os.path.join(folder, "bells")
-        self.peer = None
+    def __init__(self, folder: str | os.PathLike[str] | None) -> None:
+        self.path = os.path.join(folder, "bells") if folder else ""
+        self.peer: socket.socket | None = None
         self.lines = Lines()
         # When the socket may be connected to again.
         self.again_at = 0.0
@@ -161,7 +164,7 @@ class BellFollower:
         self.words: list[str] = []
         self.keypads: set[int] = set()
 
-    def connect(self):
+    def connect(self) -> None:
         """Connects where somebody of this user tells bells: not again within a second of an end, so that one who ends each connection at
         once takes no processor."""
         if self.peer or not self.path or time.monotonic() < self.again_at:
@@ -178,12 +181,12 @@ class BellFollower:
         """How long until it is connected to again; None where that waits for no moment."""
         return max(0.0, self.again_at - time.monotonic()) if self.again_at and not self.peer else None
 
-    def sources(self):
+    def sources(self) -> list[socket.socket]:
         """What is to be read. Who tells bells may come, and come again, at any time."""
         self.connect()
         return [self.peer] if self.peer else []
 
-    def rung(self, readable):
+    def rung(self, readable: Container[object]) -> list[int]:
         """The panes that rang."""
         if not self.peer or self.peer not in readable:
             return []

@@ -1,6 +1,16 @@
 """What a person's keys ask for: acts, and wishes that the client itself grants."""
+from __future__ import annotations
+
 from roam_live.choices import PREFIX, PREFIXES
-from roam_live.keys import acts_of
+from roam_live.keys import Key, acts_of
+
+TYPE_CHECKING = False
+if TYPE_CHECKING:
+    from collections.abc import Callable
+
+    # What a key asks for at a moment, on a terminal of so many rows: acts, and a wish or nothing.
+    Asked = tuple[list[str], str]
+    Mode = Callable[[Key, float, int], Asked]
 
 # Keys after the prefix that are acts, and those that are wishes. An arrow is the wish to have the pane there in focus.
 BINDINGS = {"o": "next", **{str(pane): f"focus {pane}" for pane in range(1, 10)}}
@@ -38,14 +48,14 @@ C-b and then:
   C-b      C-b itself"""
 
 
-def help_with(prefix):
+def help_with(prefix: str) -> str:
     """The help, where a key of this name is the prefix."""
     # A prefix that is typed twice is itself, and nothing else.
     lines = [line for line in HELP.split("\n") if prefix == PREFIX or not line.startswith(f"  {prefix} ")]
     return "\n".join(lines).replace(PREFIX, prefix)
 
 
-def spelled(name):
+def spelled(name: str) -> str:
     """How a key is told of."""
     return next((known for known, letter in PREFIXES.items() if letter == name), name if name.isprintable() else "this key")
 
@@ -53,31 +63,31 @@ def spelled(name):
 class Typing:
     """Where a person is: typing, after the prefix, scrolling, pasting, or asked something."""
 
-    def __init__(self, prefix=PREFIX):
+    def __init__(self, prefix: str = PREFIX) -> None:
         self.prefix = PREFIXES[prefix]
-        self.mode = self.plain
+        self.mode: Mode = self.plain
         self.repeats_until = 0.0
         # How many rows the pane in focus was scrolled back.
         self.view = 0
 
-    def ask(self):
+    def ask(self) -> None:
         """Has the next key answer what is asked."""
         self.mode = self.answering
 
-    def answering(self, key, now, rows):
+    def answering(self, key: Key, now: float, rows: int) -> Asked:
         """The answer to what was asked: y, or any other key."""
         self.mode = self.plain
         return [], "yes" if key.name in ("y", "Y") else "no"
 
-    def left(self):
+    def left(self) -> list[str]:
         """The acts that are left to do where the person leaves."""
         return [NEWEST] if self.mode == self.scrolling else []
 
-    def asked(self, key, now, rows):
+    def asked(self, key: Key, now: float, rows: int) -> Asked:
         """The acts that a key asks for at a moment, on a terminal of so many rows, and the wish, or nothing."""
         return self.mode(key, now, rows)
 
-    def plain(self, key, now, rows):
+    def plain(self, key: Key, now: float, rows: int) -> Asked:
         """A key that is typed, but for the prefix."""
         if key.name == "paste":
             self.mode = self.pasting
@@ -89,14 +99,14 @@ class Typing:
             return self.prefixed(key, now, rows)
         return acts_of(key), ""
 
-    def pasting(self, key, now, rows):
+    def pasting(self, key: Key, now: float, rows: int) -> Asked:
         """What is pasted is typed as it is."""
         if key.name == "pasted":
             self.mode = self.plain
             return [], ""
         return acts_of(key), ""
 
-    def prefixed(self, key, now, rows):
+    def prefixed(self, key: Key, now: float, rows: int) -> Asked:
         """A key after the prefix; one that has no meaning there is told of."""
         self.mode = self.plain
         if key.name == self.prefix:
@@ -111,7 +121,7 @@ class Typing:
             return [BINDINGS[key.name]], ""
         return [], WISHES.get(key.name, "unknown")
 
-    def scrolling(self, key, now, rows):
+    def scrolling(self, key: Key, now: float, rows: int) -> Asked:
         """A key that scrolls, or one that ends it where the newest rows are: the prefix and a paste do so too. Another does nothing."""
         if key.name in SCROLLS:
             lines, pages = SCROLLS[key.name]

@@ -1,4 +1,6 @@
 """The rows that a session shows, as a terminal is shown them that only watches."""
+from __future__ import annotations
+
 import select
 import subprocess
 import sys
@@ -7,6 +9,10 @@ import time
 from roam_live.cells import Cells, width_of
 from roam_live.links import NO_MORE, Link
 from roam_live.program import TOOLS, Fault, read
+
+TYPE_CHECKING = False
+if TYPE_CHECKING:
+    from roam_live.sessions import Session
 
 # How long a screen is waited for, and once it is there: how long nothing may come until it is taken, and how long at most.
 FIRST_WAIT = 5.0
@@ -17,14 +23,14 @@ LONGEST = 1.0
 PAINT = b"\x1b[?25l"
 
 
-def shown_by(text):
+def shown_by(text: bytes) -> Cells:
     """The cells that a painter's text shows."""
     cells = Cells()
     cells.fed(text.decode("utf-8", "replace"))
     return cells
 
 
-def paints(source):
+def paints(source: int) -> bytes:
     """Whole paints that come from a client start, until there is a screen and nothing follows it for a moment."""
     text, has_screen = b"", False
     end = time.monotonic() + FIRST_WAIT
@@ -41,7 +47,7 @@ def paints(source):
     return text[: text.rfind(PAINT)]
 
 
-def rows_of(cells):
+def rows_of(cells: Cells) -> list[str]:
     """The rows that cells show, without the spaces at their ends."""
     rows = [""] * max(row for row, _ in cells.cells)
     ends = [1] * len(rows)
@@ -51,7 +57,7 @@ def rows_of(cells):
     return [row.rstrip(" ") for row in rows]
 
 
-def capture(session, is_drawn):
+def capture(session: Session, is_drawn: bool) -> int:
     """Prints what a session shows, or a picture of it, and tells the status."""
     link = Link(session.terminals, True)
     link.connect()

@@ -1,4 +1,6 @@
 """Datagrams over a Unix stream, as a server's socket for clients carries them: each behind its length, in two bytes."""
+from __future__ import annotations
+
 import os
 import socket
 
@@ -15,7 +17,7 @@ LITTLE = 1 << 16
 MOST = LITTLE + (1 << 22)
 
 
-def is_datagram(text):
+def is_datagram(text: bytes) -> bool:
     """Whether this may be a datagram of roam."""
     return SHORTEST <= len(text) <= LONGEST and text[:2] == LETTERS
 
@@ -23,17 +25,17 @@ def is_datagram(text):
 class Carrier:
     """One end of a stream that carries datagrams."""
 
-    def __init__(self, peer):
+    def __init__(self, peer: socket.socket) -> None:
         self.peer = peer
         self.peer.setblocking(False)
         self.coming, self.going = bytearray(), bytearray()
         self.takes = False
 
-    def fileno(self):
+    def fileno(self) -> int:
         """Its descriptor."""
         return self.peer.fileno()
 
-    def received(self):
+    def received(self) -> list[bytes] | None:
         """The datagrams that came whole; None where the other end has left, or says what is no datagram."""
         piece = read(self.peer.fileno())
         if piece == b"":
@@ -50,7 +52,7 @@ class Carrier:
             del self.coming[: 2 + length]
         return found
 
-    def send(self, datagram):
+    def send(self, datagram: bytes) -> None:
         """Queues a datagram: of an instruction all or none."""
         if datagram[INDEX] == b"\0\0":
             self.takes = len(self.going) <= LITTLE
@@ -58,16 +60,16 @@ class Carrier:
         if self.takes:
             self.going += len(datagram).to_bytes(2, "big") + datagram
 
-    def flush(self):
+    def flush(self) -> bool:
         """Writes what is taken; tells whether the other end is still there."""
         return write(self.peer.fileno(), self.going)
 
-    def close(self):
+    def close(self) -> None:
         """Closes the stream."""
         self.peer.close()
 
 
-def listening(path):
+def listening(path: str | os.PathLike[str]) -> socket.socket:
     """A socket at which clients of a session are waited for; one that is left there is removed, but where somebody listens."""
     if is_listened(path):
         raise Fault(f"somebody listens at {path} already")
@@ -76,7 +78,7 @@ def listening(path):
     except FileNotFoundError:
         pass
     one = socket.socket(socket.AF_UNIX, socket.SOCK_STREAM)
-    one.bind(path)
+    one.bind(str(path))
     one.listen(16)
     one.setblocking(False)
     return one

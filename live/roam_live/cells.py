@@ -1,7 +1,10 @@
 """The cells that a text shows: the painter's, which has CUP, SGR, ED 2, DECTCEM, a reset and characters, or the rows that tmux captures."""
+from __future__ import annotations
+
 import re
 import unicodedata
-from typing import NamedTuple
+from collections.abc import Iterable
+from typing import NamedTuple, Optional, Union
 
 MARKS = re.compile(r"\x1b\[(\d+);(\d+)H|\x1b\[([\d;]*)m|(\x1b\[2J|\x1bc)|\x1b\[\?25([hl])|\x1b\[[0-?]*[@-~]|([^\x1b])")
 
@@ -16,25 +19,30 @@ FLAGS = {1: "bold", 2: "faint", 3: "italic", 4: "underline", 5: "blink", 7: "rev
 GROUNDS = {3: ("foreground", 0), 4: ("background", 0), 9: ("foreground", 8), 10: ("background", 8)}
 
 
-class Style(NamedTuple):
-    """A style: its flags, and its colours as an index, as red, green and blue, or as None for the default."""
+# A colour: an index, red, green and blue, or None for the default.
+Mixture = tuple[int, int, int]
+Colour = Optional[Union[int, Mixture]]
 
-    flags: frozenset = frozenset()
-    foreground: object = None
-    background: object = None
+
+class Style(NamedTuple):
+    """A style: its flags, and its colours."""
+
+    flags: frozenset[str] = frozenset()
+    foreground: Colour = None
+    background: Colour = None
 
 
 class Cells:
     """What a painter's text shows: cells by row and column from 1, each a character and a style, and the cursor."""
 
-    def __init__(self):
-        self.cells = {}
+    def __init__(self) -> None:
+        self.cells: dict[tuple[int, int], tuple[str, Style]] = {}
         self.style = Style()
         self.row = self.col = 1
         self.has_cursor = True
         self.has_boxes = False
 
-    def fed(self, text):
+    def fed(self, text: str) -> None:
         """Goes on with a painter's text."""
         for mark in MARKS.finditer(text):
             row, col, style, erased, cursor, letter = mark.groups()
@@ -51,7 +59,7 @@ class Cells:
             elif letter:
                 self.write(BOXES.get(letter, letter) if self.has_boxes else letter)
 
-    def write(self, letter):
+    def write(self, letter: str) -> None:
         """Writes a character; one without a width joins the one before."""
         width = width_of(letter)
         if width == 0:
@@ -65,7 +73,7 @@ class Cells:
         self.col += width
 
 
-def cells_of_rows(rows):
+def cells_of_rows(rows: Iterable[str]) -> Cells:
     """The cells of rows as tmux captures them, a style of which goes on into the next."""
     shown = Cells()
     for row, text in enumerate(rows, 1):
@@ -74,42 +82,47 @@ def cells_of_rows(rows):
     return shown
 
 
-def width_of(letter):
+def width_of(letter: str) -> int:
     """How many columns a character takes."""
     if unicodedata.category(letter) in ("Mn", "Me", "Cf"):
         return 0
     return 2 if unicodedata.east_asian_width(letter) in "WF" else 1
 
 
-def styled(style, numbers):
+def styled(style: Style, numbers: Iterable[int]) -> Style:
     """A style after the numbers of an SGR."""
-    numbers = list(numbers)
-    while numbers:
-        number = numbers.pop(0)
+    left = list(numbers)
+    while left:
+        number = left.pop(0)
         if number == 0:
             style = Style()
         elif number in FLAGS:
             style = style._replace(flags=style.flags | {FLAGS[number]})
         elif number in (38, 48):
-            style = style._replace(**{"foreground" if number == 38 else "background": colour_of(numbers)})
+            style = with_colour(style, "foreground" if number == 38 else "background", colour_of(left))
         else:
             style = with_short(style, number)
     return style
 
 
-def with_short(style, number):
+def with_colour(style: Style, ground: str, colour: Colour) -> Style:
+    """A style with another colour of its foreground or background."""
+    return style._replace(foreground=colour) if ground == "foreground" else style._replace(background=colour)
+
+
+def with_short(style: Style, number: int) -> Style:
     """A style after a number of an SGR that is a colour, the default one or no flag by itself."""
     tens, digit = divmod(number, 10)
     if tens in GROUNDS and digit in (*range(8), 9):
         ground, first = GROUNDS[tens]
-        return style._replace(**{ground: None if digit == 9 else first + digit})
+        return with_colour(style, ground, None if digit == 9 else first + digit)
     if number == 22:
         return style._replace(flags=style.flags - {"bold", "faint"})
     return style._replace(flags=style.flags - {FLAGS[digit]}) if tens == 2 and digit in FLAGS else style
 
 
-def colour_of(numbers):
+def colour_of(numbers: list[int]) -> Colour:
     """The colour that the numbers behind 38 or 48 name, which are taken off."""
     kind, *rest = numbers[:4] + [0] * 4
     del numbers[: 2 if kind == 5 else 4]
-    return rest[0] if kind == 5 else tuple(rest[:3])
+    return rest[0] if kind == 5 else (rest[0], rest[1], rest[2])

@@ -1,4 +1,6 @@
 """What a person chooses by the environment: the prefix, and when guesses are shown."""
+from __future__ import annotations
+
 import os
 
 from roam_live.program import Fault
@@ -11,7 +13,7 @@ PREFIX = "C-b"
 GUESSING = ("adaptive", "always", "never")
 
 
-def chosen_prefix():
+def chosen_prefix() -> str:
     """The name of the prefix: that of the environment's ROAM_PREFIX, where it is there."""
     name = os.environ.get("ROAM_PREFIX") or PREFIX
     if name not in PREFIXES:
@@ -19,7 +21,7 @@ def chosen_prefix():
     return name
 
 
-def chosen_guessing(asked=None):
+def chosen_guessing(asked: str | None = None) -> str:
     """When guesses are shown: as asked, else as the environment's ROAM_GUESS says, where it is there."""
     name = asked or os.environ.get("ROAM_GUESS") or GUESSING[0]
     if name not in GUESSING:

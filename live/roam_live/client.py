@@ -1,8 +1,12 @@
 """A person's client of a session: a terminal connected to the session's client start, until the person leaves or the session ends."""
+from __future__ import annotations
+
 import contextlib
 import re
 import select
 import signal
+import socket
+from collections.abc import Callable, Container
 
 from roam_live.bells import BellFollower
 from roam_live.bindings import NEWEST
@@ -12,6 +16,10 @@ from roam_live.links import Keeper, Link
 from roam_live.moments import Moments
 from roam_live.program import noted_client, opened_process, read, woken, write
 from roam_live.watches import ShellsWatch
+
+TYPE_CHECKING = False
+if TYPE_CHECKING:
+    from roam_live.places import Place
 
 # So many bytes may wait for the terminal, and so many for the session, before what brings more is left alone.
 PAINTED_LIMIT = 1 << 16
@@ -37,7 +45,7 @@ SILENCE = re.compile(rb"(\x1b7\x1b\[\?7l\x1b\[999;1H\x1b\[0;7mroam: no answer fo
 class Client:
     """A person at a terminal, and the session there."""
 
-    def __init__(self, place, watches, prefix, guessing, is_new):
+    def __init__(self, place: Place, watches: bool, prefix: str, guessing: str, is_new: Callable[[], bool]) -> None:
         self.place = place
         self.wakeup = woken(signal.SIGWINCH, signal.SIGCONT, signal.SIGTSTP, *LEAVING)
         served = place.process(place.served)
@@ -50,16 +58,17 @@ class Client:
         self.display = Display(self.moments, lambda: self.link.say("repaint"))
         self.commands = Commands(place, self.link, self.display, self.moments, self.leave, is_new)
         self.commands.choose(prefix)
-        self.left, self.status = None, 0
+        self.left: str | None = None
+        self.status = 0
 
-    def leave(self, line, status=0):
+    def leave(self, line: str | None, status: int = 0) -> None:
         """Ends the client with a line; None goes on."""
         if line is not None and self.left is None:
             self.left, self.status = line, status
 
     # ---- the connection
 
-    def connect(self):
+    def connect(self) -> None:
         """Connects to the start; where that can't be done now it is tried again, and the person may leave."""
         failed = self.keeper.connect()
         if failed:
@@ -77,42 +86,42 @@ class Client:
         if loss:
             self.display.tell(loss, LOSS_TOLD)
 
-    def pause(self, said, wait):
+    def pause(self, said: str, wait: float) -> None:
         """Says what is in the way for so long."""
         self.commands.paused = wait >= 1
         self.display.show(f"{said}; tried anew in {wait} s" + ("; C-c or q leaves" if wait >= 1 else ""))
 
-    def lost(self):
+    def lost(self) -> None:
         """Goes on without the connection, which is had again: at once for the first time, else after a pause that grows."""
         said, wait = self.keeper.lost(), self.keeper.pause()
         self.moments.later("connect", wait, self.connect)
         if self.keeper.faults > 1:
             self.pause(said, wait)
 
-    def probe(self):
+    def probe(self) -> None:
         """Looks whether the server is there; a start whose server isn't ends."""
         self.moments.later("probe", PROBES, self.probe)
         self.place.is_served()
 
     # ---- the terminal
 
-    def resized(self):
+    def resized(self) -> None:
         """Goes by a new size of the terminal."""
         self.display.resized()
         self.moments.later("size", 0.0 if self.commands.is_fresh() else SIZES, self.commands.fit)
 
-    def continued(self):
+    def continued(self) -> None:
         """Takes the terminal again, which another may have had."""
         self.display.enter_again()
         self.resized()
 
-    def suspended(self, numbers):
+    def suspended(self, numbers: bytes) -> bytes:
         """Gives the terminal back, stops, and takes it again; tells the signals that are left of these and of those that came meanwhile."""
         self.display.outer.suspend()
         self.continued()
-        return [number for number in [*numbers, *(read(self.wakeup) or b"")] if number not in (signal.SIGTSTP, signal.SIGCONT)]
+        return bytes(number for number in numbers + (read(self.wakeup) or b"") if number not in (signal.SIGTSTP, signal.SIGCONT))
 
-    def signalled(self):
+    def signalled(self) -> None:
         """Goes by the signals that came."""
         numbers = read(self.wakeup) or b""
         if signal.SIGTSTP in numbers and self.left is None:
@@ -127,11 +136,12 @@ class Client:
 
     # ---- the loop
 
-    def ready(self):
+    def ready(self) -> list[int | socket.socket | Link]:
         """Waits until something can be read or written, or something is due, and tells what can be read."""
         outer, link = self.display.outer, self.link
-        sources = [self.wakeup, *([self.server] if self.server else []), *self.shells.sources(), *self.bells.sources()]
-        targets = [outer.end] if outer.waiting else []
+        sources: list[int | socket.socket | Link] = [self.wakeup, *([self.server] if self.server else []), *self.shells.sources()]
+        sources += self.bells.sources()
+        targets: list[int | Link] = [outer.end] if outer.waiting else []
         if len(link.waiting) < TYPED_LIMIT:
             sources.append(0)
         if link.peer:
@@ -140,7 +150,7 @@ class Client:
         waits = [wait for wait in (self.moments.wait_time(), self.shells.wait_time(), self.bells.wait_time()) if wait is not None]
         return select.select(sources, targets, [], min(waits, default=None))[0]
 
-    def turn(self):
+    def turn(self) -> None:
         """Does what can be done now."""
         readable = self.ready()
         outer = self.display.outer
@@ -168,7 +178,7 @@ class Client:
             self.leave("", 1)
         self.moments.do_due()
 
-    def carry(self, readable):
+    def carry(self, readable: Container[object]) -> None:
         """Carries what goes between the start and the terminal."""
         link = self.link
         piece = link.painted() if link in readable else None
@@ -179,7 +189,7 @@ class Client:
         if piece == b"" or link.peer and link.waiting and not link.send():
             self.lost()
 
-    def run(self):
+    def run(self) -> int:
         """Follows the session until the person leaves or it ends, and tells the status."""
         try:
             self.connect()
@@ -196,7 +206,7 @@ class Client:
         return self.status
 
 
-def follow(place, watches, prefix, guessing, is_new=lambda: False):
+def follow(place: Place, watches: bool, prefix: str, guessing: str, is_new: Callable[[], bool] = lambda: False) -> int:
     """Has a person follow a session at this terminal, and tells the status; guesses are shown always, where that helps, or never. Where the
     session is new, which may be known a moment later, it gets this terminal's size, whatever that is."""
     note = None

@@ -1,14 +1,24 @@
 """What a person at a terminal types, and what comes of it: acts for the session, and what the client does itself."""
+from __future__ import annotations
+
 import os
 import signal
 import time
+from collections.abc import Callable
 
 from roam_live import terminal
 from roam_live.bindings import NEWEST, Typing, help_with, spelled
-from roam_live.keys import Keys
+from roam_live.display import Display
+from roam_live.keys import Key, Keys
+from roam_live.links import Link
+from roam_live.moments import Moments
 from roam_live.program import has_others
 from roam_live.programs import told
-from roam_live.rects import BESIDE
+from roam_live.rects import BESIDE, Places
+
+TYPE_CHECKING = False
+if TYPE_CHECKING:
+    from roam_live.places import Place
 
 # An escape that nothing follows for so many seconds is the key.
 ESCAPE_WAIT = 0.025
@@ -29,7 +39,8 @@ NEW = 2.0
 class Commands:
     """The keys of one person, and what they ask for."""
 
-    def __init__(self, place, link, display, moments, leave, is_new=lambda: False):
+    def __init__(self, place: Place, link: Link, display: Display, moments: Moments, leave: Callable[[str | None], None],
+                 is_new: Callable[[], bool] = lambda: False) -> None:
         self.place, self.link, self.display, self.moments, self.leave = place, link, display, moments, leave
         self.keys = Keys()
         self.prefix = "C-b"
@@ -39,22 +50,23 @@ class Commands:
         # Whether the session is new, and whether it and this terminal were fitted to each other once, as far as that may be.
         self.is_new, self.is_fitted, self.new_until = is_new, False, 0.0
         # When a command of this person moved the focus, from which pane, and to which, where that is known.
-        self.moved_at, self.moved_from, self.moved_to = 0.0, 0, None
+        self.moved_at, self.moved_from = 0.0, 0
+        self.moved_to: int | None = None
 
-    def choose(self, prefix):
+    def choose(self, prefix: str) -> None:
         """Makes the key of a name the prefix."""
         self.prefix, self.typing, self.help = prefix, Typing(prefix), help_with(prefix)
         self.display.fits_line = "" if self.link.watches else f"{prefix} r fits this terminal, and cuts what is wider"
         self.display.leaves_line = f"{prefix} d leaves"
 
-    def fed(self, piece):
+    def fed(self, piece: bytes) -> None:
         """Takes bytes that were typed."""
         self.typed(self.keys.fed(piece))
         self.moments.drop("escape")
         if self.keys.waits():
             self.moments.later("escape", ESCAPE_WAIT, lambda: self.typed(self.keys.ended()))
 
-    def typed(self, keys):
+    def typed(self, keys: list[Key]) -> None:
         """Takes keys."""
         for key in keys:
             is_help = self.display.cover == self.help
@@ -64,7 +76,7 @@ class Commands:
             if not is_help or key.name in (self.typing.prefix, "paste"):
                 self.take(key)
 
-    def take(self, key):
+    def take(self, key: Key) -> None:
         """Takes a key. Under a cover nothing is typed; the prefix means there what it always does."""
         acts, wish = self.typing.asked(key, time.monotonic(), self.display.outer.size()[0])
         if self.paused:
@@ -77,7 +89,7 @@ class Commands:
         self.act(*acts)
         self.grant(wish, key)
 
-    def act(self, *acts):
+    def act(self, *acts: str) -> None:
         """Has acts typed, by who doesn't only watch."""
         if self.link.watches:
             return
@@ -88,7 +100,7 @@ class Commands:
                 self.moved_from = self.place.places().focus
                 self.moved_at, self.moved_to = time.monotonic(), int(pane) if word == "focus" else None
 
-    def places(self):
+    def places(self) -> Places:
         """Where the panes are, with the focus where this person put it: 0 where that may not be told yet."""
         places = self.place.places()
         is_told = places.focus == self.moved_to if self.moved_to else places.focus != self.moved_from
@@ -96,11 +108,11 @@ class Commands:
             return places
         return places._replace(focus=self.moved_to if self.moved_to in places.rects else 0)
 
-    def left(self):
+    def left(self) -> None:
         """Does what is left to do where the person leaves."""
         self.act(*self.typing.left())
 
-    def grant(self, wish, key):
+    def grant(self, wish: str, key: Key) -> None:
         """Does what the client itself is asked for."""
         if wish == "detach":
             self.leave("[detached]")
@@ -117,7 +129,7 @@ class Commands:
         elif wish and not self.link.watches:
             self.change(wish)
 
-    def change(self, wish):
+    def change(self, wish: str) -> None:
         """Does what somebody who only watches may not."""
         if wish == "scroll":
             self.display.tell(f"{self.typing.view} rows back: PgUp PgDn up down g G scroll, q ends it", None)
@@ -131,7 +143,7 @@ class Commands:
             self.act(*(["close"] if wish == "yes" else []))
             self.display.end_told()
 
-    def ask_size(self):
+    def ask_size(self) -> None:
         """Gives the session this terminal's size, where it may have it: what is wider than that is cut for good."""
         size = self.display.outer.size()
         if not terminal.is_large_enough(size):
@@ -140,12 +152,12 @@ class Commands:
             self.display.size_asked(terminal.largest(size))
             self.act(terminal.size_act(size))
 
-    def session_size(self):
+    def session_size(self) -> tuple[int, int]:
         """The rows and columns that the session has at most, by what was painted and what is told; 0 where nothing is known."""
         told, painted = self.place.places().size(), self.display.extent.size
         return max(told[0], painted[0]), max(told[1], painted[1])
 
-    def fit_first(self):
+    def fit_first(self) -> None:
         """Fits the session to this terminal, once something is known of it: a new one has nothing yet that could be cut."""
         if self.is_fitted:
             return
@@ -154,11 +166,11 @@ class Commands:
             self.is_fitted, self.new_until = True, time.monotonic() + NEW
         self.fit()
 
-    def is_fresh(self):
+    def is_fresh(self) -> bool:
         """Whether the session is so new that it goes by this terminal's size."""
         return time.monotonic() < self.new_until
 
-    def fit(self):
+    def fit(self) -> None:
         """Has the session grow to this terminal's size, where that cuts nothing and covers nobody else's terminal; a new one is given it."""
         size, own = self.session_size(), terminal.largest(self.display.outer.size())
         if self.is_fresh():
@@ -172,13 +184,13 @@ class Commands:
         else:
             self.ask_size()
 
-    def ring(self, pane):
+    def ring(self, pane: int) -> None:
         """Rings, and tells of a pane that isn't in focus."""
         self.display.ring()
         if self.places().focus != pane and not self.display.told:
             self.display.tell(f"bell in pane {pane}")
 
-    def split(self, wish):
+    def split(self, wish: str) -> None:
         """Splits the pane in focus, or tells why that can't be done."""
         why = self.places().unsplit(wish.split()[1])
         if why:
@@ -186,7 +198,7 @@ class Commands:
         else:
             self.act(wish)
 
-    def close(self):
+    def close(self) -> None:
         """Closes the pane in focus: where something else than a shell may run there, only once that is confirmed."""
         places, busy = self.places(), self.place.busy()
         if places.focus and len(places.rects) == 1:
@@ -199,7 +211,7 @@ class Commands:
             self.display.tell(f"close {runs}? y closes it", None)
             self.typing.ask()
 
-    def go(self, way):
+    def go(self, way: str) -> None:
         """Puts the pane on a side in focus; the next one where no rectangle is known."""
         places = self.places()
         if not places.focus:

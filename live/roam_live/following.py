@@ -1,8 +1,9 @@
 """The connection at which a server tells where its panes are, for a program that follows them as long as the server is there."""
 from __future__ import annotations
 
+import socket
 import time
-from collections.abc import Callable
+from collections.abc import Callable, Container
 
 from roam_live.program import Lines, connected, connected_now, read, reason, say, write
 
@@ -18,9 +19,9 @@ TELLS_NOTHING = "the server tells nothing, as where no descriptor is left for it
 class Following:
     """Follows a socket `panes`. A connection that ends is had again after pauses, where the server isn't gone with it."""
 
-    def __init__(self, path: str, tells: Callable[[str], None] = say):
+    def __init__(self, path: str, tells: Callable[[str], None] = say) -> None:
         self.path, self.tells = path, tells
-        self.peer = connected(path)
+        self.peer: socket.socket | None = connected(path)
         self.lines = Lines()
         self.waiting = bytearray()
         # How often in a row nothing came, when it is tried again, and by when something has to come.
@@ -32,15 +33,15 @@ class Following:
         # Whether the server is gone, as far as its socket tells.
         self.is_gone = False
 
-    def ends(self) -> list:
+    def ends(self) -> list[socket.socket]:
         """What may be read."""
         return [self.peer] if self.peer else []
 
-    def takers(self) -> list:
+    def takers(self) -> list[socket.socket]:
         """What waits to be written."""
         return [self.peer] if self.peer and self.waiting else []
 
-    def ask(self, line: str):
+    def ask(self, line: str) -> None:
         """Asks the server for something, while it is followed."""
         if self.peer:
             self.waiting += f"{line}\n".encode()
@@ -49,15 +50,15 @@ class Following:
         """When something is due."""
         return [moment for moment in (self.again_at, self.quiet_at) if moment is not None]
 
-    def turn(self, readable: list, writable: list) -> list[str]:
+    def turn(self, readable: Container[object], writable: Container[object]) -> list[str]:
         """Does what can be done now, and tells the lines that came."""
         now = time.monotonic()
         if self.again_at is not None and now >= self.again_at:
             self.connect()
             return []
-        if self.peer in writable:
+        if self.peer and self.peer in writable:
             write(self.peer.fileno(), self.waiting)
-        if self.peer not in readable:
+        if not self.peer or self.peer not in readable:
             if self.quiet_at is not None and now >= self.quiet_at:
                 self.quiet_at = None
                 self.tell(TELLS_NOTHING)
@@ -77,7 +78,7 @@ class Following:
                 self.tells("the panes are followed again")
         return lines
 
-    def lost(self, why: str):
+    def lost(self, why: str) -> None:
         """Lets go of a connection, which is had again after a pause."""
         if self.peer:
             self.peer.close()
@@ -88,13 +89,13 @@ class Following:
         if self.faults > 1 and not self.is_gone:
             self.tell(why)
 
-    def tell(self, why: str):
+    def tell(self, why: str) -> None:
         """Tells once why it can't follow."""
         if not self.told:
             self.why, self.told = why, f"the panes can't be followed: {why}"
             self.tells(self.told)
 
-    def connect(self):
+    def connect(self) -> None:
         """Connects anew. What is told then is all anew, and what was asked is asked again by who needs it."""
         self.again_at = None
         self.waiting.clear()

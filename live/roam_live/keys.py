@@ -1,4 +1,6 @@
 """Bytes of the outer terminal as keys, and keys as acts. The spellings are those of xterm, of the VT220 and of what stands between."""
+from __future__ import annotations
+
 import codecs
 import re
 from collections import namedtuple
@@ -6,6 +8,9 @@ from collections import namedtuple
 
 class Key(namedtuple("Key", "name text")):
     """A key: its name, which of a character is itself, and the text that the terminal sent for it."""
+
+    name: str
+    text: str
 
 
 # The keys that have an act of their own: what a pane's program is sent for them hangs on its modes.
@@ -39,11 +44,11 @@ BEGUN = re.compile(r"\x1b(\[\[?|\[[0-?]+[ -/]*|O)?")
 class Keys:
     """Keys of a stream that comes in any pieces."""
 
-    def __init__(self):
+    def __init__(self) -> None:
         self.decoder = codecs.getincrementaldecoder("utf-8")("replace")
         self.rest = ""
 
-    def fed(self, piece):
+    def fed(self, piece: bytes) -> list[Key]:
         """The keys that are whole now. An escape that may begin more waits."""
         text = self.rest + self.decoder.decode(piece)
         cut = text.rfind("\x1b", max(0, len(text) - 32))
@@ -51,29 +56,29 @@ class Keys:
         self.rest = text[cut:] if is_cut else ""
         return keys_in(text[:cut] if is_cut else text)
 
-    def waits(self):
+    def waits(self) -> bool:
         """Whether an escape waits for more."""
         return self.rest != ""
 
-    def ended(self):
+    def ended(self) -> list[Key]:
         """The keys of what waits, where no more came in time."""
         text, self.rest = self.rest, ""
         return [Key(letter, letter) for letter in text]
 
 
-def keys_in(text):
+def keys_in(text: str) -> list[Key]:
     """The keys of a text; a sequence that isn't known has the name of none."""
     return [Key(SPELLINGS.get(found[0], found[0] if len(found[0]) == 1 else "unknown"), found[0]) for found in WHOLE.finditer(text)]
 
 
-def acts_of(key):
+def acts_of(key: Key) -> list[str]:
     """The acts of a key that is typed: its own, or a character for each of its text."""
     if key.name in ACTS:
         return [f"key {key.name}"]
     return [TYPED.get(letter) or f"char {ord(letter):x}" for letter in key.text]
 
 
-def acts_of_bytes(text):
+def acts_of_bytes(text: bytes) -> list[str]:
     """The acts of bytes that come at once and nothing after them."""
     keys = Keys()
     return [act for key in keys.fed(text) + keys.ended() for act in acts_of(key)]

@@ -19,7 +19,7 @@ class Lasting:
     def __init__(self, folder: str, clock: Callable[[], float] = time.time):
         self.folder, self.clock = folder, clock
         self.own = self.found()
-        self.session = None
+        self.session: bytes | None = None
         self.used_at = float("-inf")
         self.due = time.monotonic()
 
@@ -31,7 +31,7 @@ class Lasting:
             return None
         return there.st_dev, there.st_ino
 
-    def demand(self):
+    def demand(self) -> None:
         """Refuses, by an OSError, where the folder was removed, or another took its place: what lies there is another session's."""
         if self.own is None or self.found() != self.own:
             raise FileNotFoundError(errno.ENOENT, "the session's folder was removed", self.folder)
@@ -56,7 +56,7 @@ class Lasting:
         """Whether a file isn't there."""
         return not os.path.lexists(os.path.join(self.folder, name))
 
-    def keep_session(self):
+    def keep_session(self) -> None:
         """Writes the session's id again, which this user alone may read, where its file is gone: no process tells it."""
         path = os.path.join(self.folder, "session")
         with contextlib.suppress(OSError):
@@ -69,7 +69,7 @@ class Lasting:
                     file.write(self.session)
                 os.replace(new, path)
 
-    def use(self):
+    def use(self) -> None:
         """Marks all that lies in the folder as used now."""
         for path in self.paths():
             with contextlib.suppress(OSError):

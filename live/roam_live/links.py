@@ -1,9 +1,16 @@
 """A connection to a session's client start: the lines that wait for it, what is painted there, and how it is had again where it is lost."""
+from __future__ import annotations
+
+import os
 import select
 import socket
 import time
 
 from roam_live.program import Fault, connected_now, read, reason
+
+TYPE_CHECKING = False
+if TYPE_CHECKING:
+    from roam_live.places import Place
 
 # The pauses before a start is started anew; a connection that lasted so long had no fault at its start.
 PAUSES = (0.1, 1, 2, 4, 8, 15)
@@ -29,10 +36,10 @@ LET_GO = "this terminal was let go; what was typed last may be lost"
 class Link:
     """A terminal's connection to the start. Each line goes whole to one connection: what of a line came to one that is lost is nothing."""
 
-    def __init__(self, path, watches, guessing="never"):
+    def __init__(self, path: str | os.PathLike[str], watches: bool, guessing: str = "never") -> None:
         self.path, self.watches = path, watches
         self.guessing = b"" if guessing == "never" else f"guess {guessing}\n".encode()
-        self.peer = None
+        self.peer: socket.socket | None = None
         self.waiting = bytearray()
         self.given = 0
         # How many acts the last line has, where more may join them.
@@ -40,11 +47,17 @@ class Link:
         self.since = 0.0
         self.has_painted = False
 
-    def fileno(self):
+    def fileno(self) -> int:
         """Its descriptor."""
-        return self.peer.fileno()
+        return self.end().fileno()
 
-    def connect(self):
+    def end(self) -> socket.socket:
+        """The connection, which has to be there."""
+        if self.peer is None:
+            raise ValueError("a link that isn't connected was asked for its connection")
+        return self.peer
+
+    def connect(self) -> None:
         """Connects to the start."""
         self.peer = connected_now(self.path)
         self.since, self.given, self.has_painted = time.monotonic(), 0, False
@@ -54,12 +67,12 @@ class Link:
         elif not self.waiting.startswith(self.guessing):
             self.waiting[:0] = self.guessing
 
-    def say(self, line):
+    def say(self, line: str) -> None:
         """Adds a line at the end."""
         self.waiting += f"{line}\n".encode()
         self.acts = 0
 
-    def type(self, *acts):
+    def type(self, *acts: str) -> None:
         """Adds acts at the end."""
         for act in acts:
             if 0 < self.acts < MOST_ACTS:
@@ -68,11 +81,11 @@ class Link:
                 self.waiting += f"{act}\n".encode()
             self.acts = self.acts % MOST_ACTS + 1
 
-    def send(self):
+    def send(self) -> bool:
         """Sends what the start takes now; tells whether it is still there."""
         self.acts = 0
         try:
-            self.given += self.peer.send(memoryview(self.waiting)[self.given : self.given + 65536])
+            self.given += self.end().send(memoryview(self.waiting)[self.given : self.given + 65536])
         except BlockingIOError:
             return True
         except OSError:
@@ -82,30 +95,30 @@ class Link:
         self.given -= whole
         return True
 
-    def comes(self, seconds):
+    def comes(self, seconds: float) -> bool:
         """Whether something comes in so many seconds."""
-        return bool(select.select([self.peer], [], [], seconds)[0])
+        return bool(select.select([self.end()], [], [], seconds)[0])
 
-    def painted(self):
+    def painted(self) -> bytes | None:
         """What was painted; None where nothing came, and nothing where the connection has ended."""
-        piece = read(self.peer.fileno())
+        piece = read(self.end().fileno())
         self.has_painted = self.has_painted or bool(piece)
         return piece
 
-    def close(self):
+    def close(self) -> None:
         """Closes it."""
         if self.peer:
             self.peer.close()
             self.peer = None
 
-    def part(self, seconds=LAST_WAIT):
+    def part(self, seconds: float = LAST_WAIT) -> bool:
         """Gives the start what was typed, closes, and tells whether it took all in so many seconds."""
         end = time.monotonic() + seconds
         has_said, has_ended = False, not self.peer
         while not has_ended and time.monotonic() < end:
             if not has_said and not self.waiting:
                 has_said = True
-                self.peer.shutdown(socket.SHUT_WR)
+                self.end().shutdown(socket.SHUT_WR)
             readable, writable, _ = select.select([self.peer], [self.peer] if self.waiting else [], [], 0.1)
             has_ended = bool(writable and not self.send() or readable and self.painted() == b"")
         self.close()
@@ -115,13 +128,13 @@ class Link:
 class Keeper:
     """Has a link connected: to the start that is there, or to another, which is started after pauses that grow."""
 
-    def __init__(self, place, link):
+    def __init__(self, place: Place, link: Link) -> None:
         self.place, self.link = place, link
         self.faults = 0
         self.begun_at = 0.0
-        self.start = None
+        self.start: int | None = None
 
-    def lost(self):
+    def lost(self) -> str:
         """Takes note of a link that has ended, and tells why, as far as that is known yet."""
         self.place.read()
         is_there, was_painted = self.place.runs("terminals"), self.link.has_painted
@@ -131,18 +144,18 @@ class Keeper:
             return LOST
         return LET_GO if was_painted else NO_MORE
 
-    def pause(self):
+    def pause(self) -> float:
         """The seconds until it is tried anew."""
         return PAUSES[min(self.faults, len(PAUSES)) - 1] if self.faults else 0.0
 
-    def connected(self):
+    def connected(self) -> str:
         """Takes note of a link that is there, and tells what was lost with the one before."""
         self.begun_at = 0.0
         self.place.read()
         before, self.start = self.start, self.place.process("terminals")
         return "" if before is None else LET_GO if before == self.start else LOST
 
-    def connect(self):
+    def connect(self) -> tuple[float, str] | None:
         """Connects where that can be done now; else the seconds until it is tried again, and why, where a person is to know."""
         try:
             self.link.connect()
@@ -162,7 +175,7 @@ class Keeper:
             return self.failed("the server has had the 64 client starts of its life, and hears no other")
         return self.begin(now)
 
-    def begin(self, now):
+    def begin(self, now: float) -> tuple[float, str]:
         """Starts a start, which has its socket soon."""
         try:
             self.place.revive()
@@ -171,7 +184,7 @@ class Keeper:
         self.begun_at = now
         return STEP, ""
 
-    def failed(self, said):
+    def failed(self, said: str) -> tuple[float, str]:
         """What is told of a fault, and the pause after it."""
         self.faults += 1
         self.begun_at = 0.0

@@ -1,4 +1,6 @@
 """Logs that don't grow without bound."""
+from __future__ import annotations
+
 import contextlib
 import os
 
@@ -7,7 +9,7 @@ LOG_LIMIT = 1 << 20
 KEPT = 1 << 19
 
 
-def make_room(path: "str | os.PathLike[str]", more: int = 0) -> None:
+def make_room(path: str | os.PathLike[str], more: int = 0) -> None:
     """Drops a log's oldest lines where it would have too many bytes with so many more. Who writes there appends, so it goes on at the end."""
     with contextlib.suppress(OSError):
         if os.stat(path).st_size + more <= LOG_LIMIT:

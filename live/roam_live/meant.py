@@ -1,4 +1,5 @@
 """Which word is meant by one that is none."""
+from __future__ import annotations
 
 # What tmux calls what `mux` has by another name.
 TMUX_WORDS = {
@@ -19,7 +20,8 @@ def slips(word: str, name: str) -> int:
     """How many slips make a name of a word: a letter too many or too few, another one, which in a short word counts as two, or two
     neighbours turned round."""
     other = 2 if len(word) < SHORT else 1
-    before, row = [], list(range(len(name) + 1))
+    before: list[int] = []
+    row = list(range(len(name) + 1))
     for down, letter in enumerate(word, 1):
         before, last, row = row, before, [down]
         for along, found in enumerate(name, 1):
@@ -30,7 +32,7 @@ def slips(word: str, name: str) -> int:
     return row[-1]
 
 
-def meant(name: str, words: "list[str]") -> str:
+def meant(name: str, words: list[str]) -> str:
     """The word that is meant by a name: one that tmux calls so, else one of these from which it differs by a slip; none where it is a name."""
     if name in TMUX_WORDS:
         return TMUX_WORDS[name]

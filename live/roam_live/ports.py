@@ -1,10 +1,13 @@
 """A session whose server has a UDP port of loopback, where somebody knows its id: no folder keeps others out there."""
+from __future__ import annotations
+
 import pathlib
 import shutil
 import subprocess
 import tempfile
 
-from roam_live.rects import MOST_STARTS, NOTHING, read_places
+from roam_live.program import Home
+from roam_live.rects import NOTHING, Places, read_places
 
 
 class PortSession:
@@ -12,59 +15,63 @@ class PortSession:
 
     served = "server"
 
-    def __init__(self, home, folder):
+    def __init__(self, home: Home, folder: str | None) -> None:
         self.home = home
         self.folder = pathlib.Path(folder) if folder else None
         self.own = tempfile.mkdtemp(prefix="roam-terminals-")
         self.terminals = pathlib.Path(self.own, "terminals")
-        self.start = None
+        self.start: subprocess.Popen[bytes] | None = None
         self.name = str(home)
 
-    def __str__(self):
+    def __str__(self) -> str:
         return str(self.home)
 
-    def read(self):
+    def read(self) -> None:
         """Nothing is noted of it."""
 
-    def process(self, role):
+    def process(self, role: str) -> int | None:
         """No process but the start is known."""
         return self.start.pid if role == "terminals" and self.start and self.start.poll() is None else None
 
-    def runs(self, role=None):
+    def runs(self, role: str | None = None) -> bool:
         """Whether the process of a role runs."""
         return self.process(role or self.served) is not None
 
-    def places(self):
+    def places(self) -> Places:
         """Where the panes are, as far as that is told."""
         return read_places(self.folder / "rects") if self.folder else NOTHING
 
-    def is_served(self):
+    def is_served(self) -> bool:
         """Whether somebody has the port. Where nobody has, the start isn't needed any more: it can't know by itself."""
         is_there = self.home.is_served()
-        if not is_there and self.runs("terminals"):
+        if not is_there and self.start and self.runs("terminals"):
             self.start.terminate()
         return is_there
 
-    def is_full(self):
-        """Whether the server knows as many starts as it ever does."""
-        return self.places().starts >= MOST_STARTS
+    def is_full(self) -> bool | None:
+        """Whether the server knows as many starts as it ever does; None where nothing is told of that."""
+        return self.places().is_full()
 
-    def busy(self):
+    def busy(self) -> dict[int, str] | None:
         """What runs in its panes isn't known here."""
         return None
 
-    def revive(self):
+    def revive_shells(self) -> bool:
+        """What keeps its shells isn't known here, and nothing is started."""
+        return False
+
+    def revive(self) -> None:
         """Starts the start, where it doesn't run."""
         if not self.runs("terminals"):
             self.terminals.unlink(missing_ok=True)
             words = self.home.attach_words(["--terminals", str(self.terminals)])
             self.start = subprocess.Popen(words, stdin=subprocess.DEVNULL, stdout=subprocess.DEVNULL, stderr=subprocess.DEVNULL)
 
-    def ending(self):
+    def ending(self) -> tuple[str, int]:
         """What is said where the session has ended, and the status."""
         return "[the session has ended]", 0
 
-    def close(self):
+    def close(self) -> None:
         """Ends the start."""
         if self.start:
             self.start.terminate()

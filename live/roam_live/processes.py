@@ -8,10 +8,18 @@ import os
 import pathlib
 import signal
 import time
-from collections.abc import Iterator
+from collections.abc import Callable, Iterator
 
 from roam_live.logs import make_room
 from roam_live.program import SAID_AFTER, Fault, Peer, begun, connected_in, is_own_folder, is_running, reason, replace_text, say
+
+TYPE_CHECKING = False
+if TYPE_CHECKING:
+    import subprocess
+    from typing import IO, Any
+
+    # What JSON has of a note, of which `is_note` says what may be one.
+    State = dict[str, Any]
 
 # How long a process has for what it brings, and how long for its end.
 START_WAIT = 10.0
@@ -38,30 +46,33 @@ def is_note(state: object) -> bool:
 class Processes:
     """What belongs to a session, by roles, as it is noted in its folder."""
 
+    # What it is called, where that is known.
+    name: str
+
     # The process whose end is the session's.
     served = "server"
 
-    def __init__(self, folder, server=None):
+    def __init__(self, folder: str | os.PathLike[str], server: int | None = None) -> None:
         self.folder = pathlib.Path(folder)
         # A server that was started by hand, where it is known.
         self.by_hand = server
         self.note = self.folder / "state.json"
         self.log = self.folder / "log"
         # The processes that this one started, which it takes note of once they have ended.
-        self.own = {}
+        self.own: dict[str, subprocess.Popen[bytes]] = {}
         # The process that serves, and when it began, as it ran when it was last looked at.
-        self.met = [server, begun(server)] if server else None
+        self.met: tuple[int, int | None] | None = (server, begun(server)) if server else None
         self.read()
 
-    def read(self):
+    def read(self) -> None:
         """Reads what was noted of it: nothing where the note isn't whole."""
         try:
             state = json.loads(self.note.read_text(encoding="utf-8"))
         except (OSError, ValueError):
             state = None
-        self.state = state if is_note(state) else None
+        self.state: State | None = state if is_note(state) else None
 
-    def process(self, role):
+    def process(self, role: str) -> int | None:
         """The process of a role; None where none runs."""
         if role == "server" and self.by_hand:
             return self.by_hand
@@ -69,13 +80,16 @@ class Processes:
         if own:
             own.poll()
         noted = (self.state or {}).get(role)
-        if not noted or not is_running(*noted):
+        if not noted:
+            return None
+        process: int = noted[0]
+        if not is_running(process, noted[1]):
             return None
         if role == self.served:
-            self.met = noted
-        return noted[0]
+            self.met = process, noted[1]
+        return process
 
-    def runs(self, role=None):
+    def runs(self, role: str | None = None) -> bool:
         """Whether the process of a role runs, that which serves where none is named."""
         return self.process(role or self.served) is not None
 
@@ -96,7 +110,7 @@ class Processes:
     # ---- the lock
 
     @contextlib.contextmanager
-    def locked(self, may_wait=True):
+    def locked(self, may_wait: bool = True) -> Iterator[None]:
         """Makes its folder, and keeps others from starting what belongs to it; BlockingIOError tells of another where that may not wait."""
         lock = self.taken_lock(may_wait)
         try:
@@ -135,12 +149,13 @@ class Processes:
         except OSError:
             return False
 
-    def wait_for_lock(self, lock: int, may_wait: bool):
+    def wait_for_lock(self, lock: int, may_wait: bool) -> None:
         """Waits until nobody else starts what belongs to it; what takes long, as an ssh that asks for a password, is told of."""
         end = time.monotonic() + SAID_AFTER
         while True:
             try:
-                return fcntl.flock(lock, fcntl.LOCK_EX | fcntl.LOCK_NB)
+                fcntl.flock(lock, fcntl.LOCK_EX | fcntl.LOCK_NB)
+                return
             except BlockingIOError:
                 if not may_wait:
                     raise
@@ -148,33 +163,40 @@ class Processes:
                 break
             time.sleep(0.02)
         say(f"waiting for another that starts what belongs to {self.folder}")
-        return fcntl.flock(lock, fcntl.LOCK_EX)
+        fcntl.flock(lock, fcntl.LOCK_EX)
 
     # ---- starts
 
-    def spawned(self, role, words, parts=os.setsid, **ends):
-        """A process that stays when this terminal goes, by a call that parts it; what it says is in the log. It notes itself before it
-        runs the words, so that it is found however this one ends."""
+    def spawned(self, role: str, words: list[str], parts: Callable[[], None] = os.setsid,
+                is_heard: bool = False) -> subprocess.Popen[bytes]:
+        """A process that stays when this terminal goes, by a call that parts it; what it says is in the log, or is heard at first: its
+        output by this process, and its errors where this one's go. It notes itself before it runs the words, so that it is found however
+        this one ends."""
         import subprocess
+
+        def begin() -> None:
+            parts()
+            self.note_own(role)
 
         try:
             replace_text(self.note, json.dumps(self.state))
             make_room(self.log)
             with open(self.log, "ab") as log:
-                ends = {"stdin": subprocess.DEVNULL, "stdout": log, "stderr": log, **ends}
-                process = subprocess.Popen(words, **ends, preexec_fn=lambda: (parts(), self.note_own(role)))
+                output: int | IO[bytes] = subprocess.PIPE if is_heard else log
+                errors = None if is_heard else log
+                process = subprocess.Popen(words, stdin=subprocess.DEVNULL, stdout=output, stderr=errors, preexec_fn=begin)
         except OSError as fault:
             where = f"{fault.filename}: " if fault.filename else ""
             raise Fault(f"session {self.name}: {ROLES[role]} can't be started: {where}{reason(fault)}") from fault
         except subprocess.SubprocessError as fault:
             raise Fault(f"session {self.name}: {ROLES[role]} can't be started: it can't be noted in {self.note}{self.unnoted()}") from fault
-        self.state[role] = [process.pid, begun(process.pid)]
+        self.state = {**(self.state or {}), role: [process.pid, begun(process.pid)]}
         self.own[role] = process
         return process
 
-    def note_own(self, role):
+    def note_own(self, role: str) -> None:
         """Notes this process as the one of a role."""
-        state = {**self.state, role: [os.getpid(), begun(os.getpid())]}
+        state = {**(self.state or {}), role: [os.getpid(), begun(os.getpid())]}
         replace_text(self.note, json.dumps(state))
 
     def unnoted(self) -> str:
@@ -185,7 +207,7 @@ class Processes:
             return f": {reason(fault)}"
         return ""
 
-    def said(self, before):
+    def said(self, before: int) -> str:
         """What was logged since it had so many bytes, in one line."""
         try:
             with open(self.log, "rb") as log:
@@ -195,11 +217,11 @@ class Processes:
             return ""
         return "; ".join(line.strip() for line in text.splitlines() if line.strip())[:SAID_MOST]
 
-    def logged(self):
+    def logged(self) -> int:
         """How many bytes the log has."""
         return self.log.stat().st_size if self.log.exists() else 0
 
-    def wait_for(self, role, before, test):
+    def wait_for(self, role: str, before: int, test: Callable[[], bool]) -> None:
         """Waits until what a process that was started brings is there; one that doesn't bring it is ended."""
         process = self.own[role]
         end = time.monotonic() + START_WAIT
@@ -215,7 +237,7 @@ class Processes:
 
     # ---- ends
 
-    def end(self, role):
+    def end(self, role: str) -> None:
         """Ends the process of this role, by force where it doesn't end in time."""
         for number in (signal.SIGTERM, signal.SIGKILL):
             process = self.process(role)
@@ -240,10 +262,10 @@ class Processes:
                 self.forget()
             raise
 
-    def clean(self):
+    def clean(self) -> None:
         """Removes what processes that don't run any more left."""
 
-    def forget(self):
+    def forget(self) -> None:
         """Removes the folder of one that doesn't run, where its log tells nothing; its lock is held."""
         attached = self.folder / "attached"
         with contextlib.suppress(OSError):

@@ -12,9 +12,14 @@ import struct
 import sys
 import time
 from collections import namedtuple
+from collections.abc import Callable
 
 from roam_live.logs import make_room
 from roam_live.words import one_line, printable
+
+TYPE_CHECKING = False
+if TYPE_CHECKING:
+    from typing import NoReturn
 
 TOOLS = pathlib.Path(__file__).resolve().parent.parent
 
@@ -30,43 +35,43 @@ LONGEST_WAIT = 10.0
 SAID_AFTER = 0.5
 
 # The logs that take the whole of what a tool didn't foresee: that of its session, once it is known.
-logs = []
+logs: list[pathlib.Path] = []
 
 
 class Fault(Exception):
     """What went wrong, as one line."""
 
 
-def tool_name():
+def tool_name() -> str:
     """The name under which this tool was started."""
     return pathlib.Path(sys.argv[0]).name
 
 
-def say(line):
+def say(line: str) -> None:
     """Says a line on standard error, which may be full or gone, or a log that is to stay small."""
     make_room_in_logs(len(line))
     with contextlib.suppress(OSError, ValueError):
         print(f"{tool_name()}: {printable(line)}", file=sys.stderr, flush=True)
 
 
-def make_room_in_logs(more):
+def make_room_in_logs(more: int) -> None:
     """Sees that the logs that are known stay small when so many bytes more come."""
     for path in logs:
         make_room(path, more)
 
 
-def reason(fault):
+def reason(fault: BaseException) -> str:
     """Why a call was refused, in the system's words."""
-    return getattr(fault, "strerror", None) or str(fault)
+    return (fault.strerror if isinstance(fault, OSError) else "") or str(fault)
 
 
-def log_to(folder):
+def log_to(folder: str | os.PathLike[str]) -> None:
     """Has what this tool doesn't foresee told in full in the log of a session's folder, where there is one."""
     path = pathlib.Path(folder, "log")
     logs[:] = [path] if path.is_file() else []
 
 
-def unforeseen(fault):
+def unforeseen(fault: Exception) -> str:
     """The line for what a tool didn't foresee; the logs get all of it."""
     import traceback
 
@@ -79,7 +84,7 @@ def unforeseen(fault):
     return f"roam: {tool_name()} failed: {line}" + "".join(f"; {path} has more" for path in logs)
 
 
-def run_tool(main):
+def run_tool(main: Callable[[], int | None]) -> NoReturn:
     """Runs a tool; a fault is one line on standard error and status 1. `python3 -X dev` shows where one comes from that nobody foresaw. The
     programs that it runs tell why they ended."""
     os.environ.setdefault(ASKS_WHY, "1")
@@ -103,7 +108,7 @@ def run_tool(main):
         sys.exit(unforeseen(fault))
 
 
-def nobody_reads():
+def nobody_reads() -> bool:
     """Whether it was standard output that nobody reads any more, as behind `| head`; what is left for it is dropped then."""
     output = select.poll()
     output.register(1, 0)
@@ -113,7 +118,7 @@ def nobody_reads():
     return True
 
 
-def program():
+def program() -> str:
     """The path of the program: the environment's ROAM, else what make built, else what was installed."""
     named = os.environ.get("ROAM")
     for path in [pathlib.Path(named)] if named else PLACES:
@@ -122,12 +127,12 @@ def program():
     raise Fault(f"{named or PLACES[0]} isn't there; make builds it")
 
 
-def random_id():
+def random_id() -> str:
     """An id that nobody had: 15 hexadecimal digits, the first no zero, so that it is below every bound of an id."""
     return f"{int.from_bytes(os.urandom(8), 'big') >> 4 | 1 << 59:x}"
 
 
-def is_id(word):
+def is_id(word: str) -> bool:
     """Whether a word is an id: 1 to 16 hexadecimal digits."""
     return 1 <= len(word) <= 16 and all(letter in "0123456789abcdefABCDEF" for letter in word)
 
@@ -138,6 +143,9 @@ CREDENTIALS = struct.Struct("3i")
 
 class Peer(namedtuple("Peer", "process user")):
     """Who is at the other end of a Unix socket."""
+
+    process: int
+    user: int
 
     @classmethod
     def of(cls, end: socket.socket) -> Peer:
@@ -157,7 +165,7 @@ def is_own_peer(end: socket.socket) -> bool:
         return False
 
 
-def connected_now(path: str | os.PathLike) -> socket.socket:
+def connected_now(path: str | os.PathLike[str]) -> socket.socket:
     """A connection to a Unix socket that is there, at which this user listens. It never waits: BlockingIOError tells of a listener that
     takes none now."""
     peer = socket.socket(socket.AF_UNIX, socket.SOCK_STREAM)
@@ -172,7 +180,7 @@ def connected_now(path: str | os.PathLike) -> socket.socket:
     return peer
 
 
-def connected_in(path: str | os.PathLike, seconds: float) -> socket.socket:
+def connected_in(path: str | os.PathLike[str], seconds: float) -> socket.socket:
     """The same, where a listener that takes none now is asked again for so many seconds."""
     end = time.monotonic() + seconds
     while True:
@@ -184,7 +192,7 @@ def connected_in(path: str | os.PathLike, seconds: float) -> socket.socket:
         time.sleep(0.01)
 
 
-def connected(path):
+def connected(path: str | os.PathLike[str]) -> socket.socket:
     """A connection to a Unix socket, which may still have to be made."""
     begun_at = time.monotonic()
     has_said = False
@@ -201,7 +209,7 @@ def connected(path):
         time.sleep(0.02)
 
 
-def unheard(path: str | os.PathLike) -> str:
+def unheard(path: str | os.PathLike[str]) -> str:
     """Why nobody of this user listens at a Unix socket, in words; nothing where somebody does, also one that takes nobody now."""
     try:
         connected_now(path).close()
@@ -212,12 +220,12 @@ def unheard(path: str | os.PathLike) -> str:
     return ""
 
 
-def is_listened(path: str | os.PathLike) -> bool:
+def is_listened(path: str | os.PathLike[str]) -> bool:
     """Whether somebody of this user listens at a Unix socket."""
     return not unheard(path)
 
 
-def is_port_served(port):
+def is_port_served(port: int) -> bool:
     """Whether somebody has this UDP port of loopback. One byte goes there, which is no datagram to a server."""
     with socket.socket(socket.AF_INET, socket.SOCK_DGRAM) as probe:
         probe.connect(("127.0.0.1", port))
@@ -232,7 +240,7 @@ def is_port_served(port):
         return True
 
 
-def begun(process):
+def begun(process: int) -> int | None:
     """When a process began, in the system's ticks; None where there is none, or only what is left of one that ended."""
     try:
         words = pathlib.Path(f"/proc/{process}/stat").read_text(encoding="utf-8", errors="replace").rpartition(")")[2].split()
@@ -241,7 +249,7 @@ def begun(process):
     return None if words[0] in "ZX" else int(words[19])
 
 
-def is_running(process, moment):
+def is_running(process: int, moment: int | None) -> bool:
     """Whether a process runs that began at this moment: a number may have been given anew."""
     return moment is not None and begun(process) == moment
 
@@ -251,14 +259,14 @@ def end_words(process: int, moment: int | None) -> str:
     return f"{process} {moment}"
 
 
-def note_end(folder: str | os.PathLike, process: int, moment: int | None):
+def note_end(folder: str | os.PathLike[str], process: int, moment: int | None) -> None:
     """Notes in a session's folder that the process that serves it is ended on purpose, before it is, so that nobody takes that for a
     fault."""
     with contextlib.suppress(OSError):
         replace_text(os.path.join(folder, "ended"), f"{end_words(process, moment)}\n")
 
 
-def opened_process(process):
+def opened_process(process: int) -> int:
     """A process as a file that can be read once it has ended."""
     try:
         return os.pidfd_open(process)
@@ -266,7 +274,7 @@ def opened_process(process):
         raise Fault("the session has ended") from fault
 
 
-def woken(*signals):
+def woken(*signals: int) -> int:
     """A pipe that tells each of these signals that came, for which nothing else is done."""
     reader, writer = os.pipe2(os.O_NONBLOCK | os.O_CLOEXEC)
     for number in signals:
@@ -275,7 +283,7 @@ def woken(*signals):
     return reader
 
 
-def replace_text(path, text, new=None):
+def replace_text(path: str | os.PathLike[str], text: str, new: str | None = None) -> None:
     """Gives a file a text, which is written beside it, at `new` where that is named; who reads it finds the old or the new one whole."""
     new = new or f"{path}.{os.getpid()}"
     try:
@@ -288,7 +296,7 @@ def replace_text(path, text, new=None):
         raise
 
 
-def is_own_folder(path: str | os.PathLike) -> bool:
+def is_own_folder(path: str | os.PathLike[str]) -> bool:
     """Whether a folder is there that this user made; a link to one has to be of this user too."""
     try:
         return os.path.isdir(path) and os.getuid() == os.lstat(path).st_uid == os.stat(path).st_uid
@@ -296,7 +304,7 @@ def is_own_folder(path: str | os.PathLike) -> bool:
         return False
 
 
-def noted_client(folder, kind="edits"):
+def noted_client(folder: str | os.PathLike[str] | None, kind: str = "edits") -> pathlib.Path | None:
     """The file by which `live/mux ls` counts this process as a client; None where no folder is named, and where none can be written."""
     if not folder:
         return None
@@ -318,30 +326,30 @@ def noted_client(folder, kind="edits"):
     return path
 
 
-def count_clients(folder):
+def count_clients(folder: str | os.PathLike[str]) -> int:
     """How many clients are noted in a session's folder; what one that was killed left is removed."""
-    folder = pathlib.Path(folder, "attached")
-    notes = list(folder.iterdir()) if folder.is_dir() else []
+    attached = pathlib.Path(folder, "attached")
+    notes = list(attached.iterdir()) if attached.is_dir() else []
     gone = [note for note in notes if not is_attached(note)]
     for note in gone:
         note.unlink(missing_ok=True)
     return len(notes) - len(gone)
 
 
-def has_others(folder):
+def has_others(folder: str | os.PathLike[str] | None) -> bool:
     """Whether another client that types is noted in a session's folder."""
     notes = pathlib.Path(folder, "attached").glob("[0-9]*") if folder else ()
     return any(note.name != str(os.getpid()) and is_attached(note) and kind_of(note) == "edits" for note in notes)
 
 
-def kind_of(note):
+def kind_of(note: pathlib.Path) -> str:
     """What the client that a file notes does: it edits, or it watches."""
     with contextlib.suppress(OSError, ValueError):
         return note.read_text(encoding="utf-8").split()[-1]
     return ""
 
 
-def is_attached(note):
+def is_attached(note: pathlib.Path) -> bool:
     """Whether the client that a file notes runs; who ends removes it, maybe at this moment."""
     try:
         return is_running(int(note.name), int(note.read_text(encoding="utf-8").split()[0]))
@@ -356,10 +364,10 @@ LONGEST_LINE = 1 << 16
 class Lines:
     """Lines of a stream that comes in any pieces."""
 
-    def __init__(self):
+    def __init__(self) -> None:
         self.rest = b""
 
-    def fed(self, piece):
+    def fed(self, piece: bytes) -> list[str]:
         """The lines that are whole now."""
         *lines, self.rest = (self.rest + piece).split(b"\n")
         self.rest = self.rest if len(self.rest) < LONGEST_LINE else b""
@@ -369,11 +377,11 @@ class Lines:
 class Home:
     """Where a server is reached: in its folder, or at a UDP port of loopback, where the session's id has to be known."""
 
-    def __init__(self, folder=None, port=None, session=None):
+    def __init__(self, folder: str | None = None, port: int = 0, session: str = "") -> None:
         self.folder, self.port, self.session = folder, port, session
 
     @classmethod
-    def of(cls, words):
+    def of(cls, words: list[str]) -> Home | None:
         """That of the words of a command line: DIR, or PORT SESSION; None where they are neither."""
         if len(words) == 1:
             return cls(folder=os.path.abspath(words[0]))
@@ -381,10 +389,10 @@ class Home:
             return cls(port=int(words[0]), session=words[1])
         return None
 
-    def __str__(self):
+    def __str__(self) -> str:
         return f"in {self.folder}" if self.folder else f"at port {self.port}"
 
-    def is_served(self):
+    def is_served(self) -> bool:
         """Whether a server is there."""
         return is_listened(f"{self.folder}/clients") if self.folder else is_port_served(self.port)
 
@@ -393,7 +401,7 @@ class Home:
         why = unheard(f"{self.folder}/clients") if self.folder and os.path.exists(f"{self.folder}/clients") else ""
         return f": {why}" if why and why != os.strerror(errno.ECONNREFUSED) else ""
 
-    def attach_words(self, more):
+    def attach_words(self, more: list[str]) -> list[str]:
         """The words of a client start; no id stands in them where the folder keeps others out."""
         if self.folder:
             return [program(), "attach", "--dir", self.folder, *more]
@@ -403,7 +411,7 @@ class Home:
 HOME = "a server is named by its folder, or by its port, 1 to 65535, and the session's id, 1 to 16 hexadecimal digits"
 
 
-def read(source):
+def read(source: int) -> bytes | None:
     """What came, None where nothing did, and nothing where no more will."""
     try:
         return os.read(source, 65536)
@@ -413,7 +421,7 @@ def read(source):
         return b""
 
 
-def write(target, waiting):
+def write(target: int, waiting: bytearray) -> bool:
     """Writes what is taken of what waits; tells whether the target is still there."""
     try:
         del waiting[: os.write(target, memoryview(waiting)[:65536].tobytes())]

@@ -15,33 +15,46 @@ SHELLS = {"sh", "ash", "bash", "dash", "zsh", "fish", "ksh", "mksh", "csh", "tcs
 FOREGROUND = 5
 
 
-def busy_panes(shells):
-    """The panes in which another program than a shell has the terminal, and its name, by the process that keeps the shells."""
-    found = {}
-    with contextlib.suppress(OSError, ValueError, IndexError):
+def busy_panes(shells: int) -> dict[int, str] | None:
+    """The panes in which another program than a shell has the terminal, and its name, by the process that keeps the shells; None where
+    the system doesn't tell, or tells of such a program and not in which pane it is."""
+    try:
         own = pathlib.Path(f"/proc/{shells}/task/{shells}/children").read_text(encoding="utf-8").split()
-        for process in own:
-            pane, name = pane_of(process), foreground(process)
-            if pane and name and not is_shell(name):
-                found[pane] = name
+    except OSError:
+        return None
+    found = {}
+    for process in own:
+        pane, name = pane_of(process), foreground(process)
+        if name and not is_shell(name):
+            if pane is None:
+                return None
+            found[pane] = name
+    # What is to become a pane's command isn't that yet.
+    found.pop(0, None)
     return found
 
 
-def pane_of(process):
-    """The pane of a process, by its environment; None where that isn't told."""
-    with contextlib.suppress(OSError, ValueError):
-        for word in pathlib.Path(f"/proc/{process}/environ").read_bytes().split(b"\0"):
-            if word.startswith(b"ROAM_PANE="):
-                return int(word.rpartition(b":")[2])
-    return None
+def pane_of(process: str) -> int | None:
+    """The pane of a process, by its environment: 0 where that names none, or the process has ended, and None where it can't be read."""
+    try:
+        words = pathlib.Path(f"/proc/{process}/environ").read_bytes().split(b"\0")
+    except PermissionError:
+        return None
+    except OSError:
+        return 0
+    with contextlib.suppress(ValueError):
+        return next((int(word.rpartition(b":")[2]) for word in words if word.startswith(b"ROAM_PANE=")), 0)
+    return 0
 
 
-def foreground(process):
+def foreground(process: str) -> str:
     """The printable name of the program that has the terminal of a process, as far as one is known; none where that process has ended."""
     try:
         words = pathlib.Path(f"/proc/{process}/stat").read_text(encoding="utf-8", errors="replace").rpartition(")")[2].split()
-        group = words[FOREGROUND]
+        state, group = words[0], words[FOREGROUND]
     except (OSError, IndexError):
+        return ""
+    if state in "ZX":
         return ""
     try:
         name = pathlib.Path(f"/proc/{group}/comm").read_bytes()[:-1].decode("utf-8", "replace")
@@ -70,11 +83,11 @@ def working_folder(processes: Iterable[int | None]) -> str:
     return ""
 
 
-def is_shell(name):
+def is_shell(name: str) -> bool:
     """Whether a program of this name is a shell."""
     return name.lstrip("-") in SHELLS | {os.path.basename(os.environ.get("SHELL", ""))}
 
 
-def told(busy):
+def told(busy: dict[int, str]) -> str:
     """Which programs run in which panes, in words."""
     return " and ".join(f"{name} in pane {pane}" for pane, name in sorted(busy.items()))

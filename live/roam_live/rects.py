@@ -1,4 +1,7 @@
 """Where the panes of a session are: as D/panes tells it to whoever follows, and as D/rects has it for the other tools."""
+from __future__ import annotations
+
+import os
 from collections import namedtuple
 
 from roam_live.program import replace_text
@@ -20,16 +23,30 @@ NUMBER_DIGITS = 4
 class Rect(namedtuple("Rect", "row col rows cols")):
     """A pane's first row and column, from 1, and its rows and columns."""
 
+    row: int
+    col: int
+    rows: int
+    cols: int
+
 
 class Places(namedtuple("Places", "rects focus starts watchers", defaults=(0, 0, 0))):
     """What is told of a session: the rectangles of its panes by number, the focus, and how many starts edited and watched so far."""
 
-    def size(self):
+    rects: dict[int, Rect]
+    focus: int
+    starts: int
+    watchers: int
+
+    def size(self) -> tuple[int, int]:
         """The session's rows and columns; none where no pane is known."""
         rows = max((rect.row + rect.rows for rect in self.rects.values()), default=0)
         return rows, max((rect.col + rect.cols - 1 for rect in self.rects.values()), default=0)
 
-    def neighbour(self, way):
+    def is_full(self) -> bool | None:
+        """Whether the server knows as many starts as it ever does; None where nothing is told."""
+        return self.starts >= MOST_STARTS if self.rects else None
+
+    def neighbour(self, way: str) -> int | None:
         """The pane that touches the one in focus on that side, nearest to its middle; None where none does."""
         here = self.rects[self.focus]
         down, right = BESIDE[way]
@@ -37,10 +54,10 @@ class Places(namedtuple("Places", "rects focus starts watchers", defaults=(0, 0,
         row = middle[0] if not down else here.row + (here.rows + 1 if down > 0 else -2)
         col = middle[1] if not right else here.col + (here.cols + 1 if right > 0 else -2)
         others = [(pane, rect) for pane, rect in self.rects.items() if pane != self.focus]
-        found = [(distance(rect, row, col), pane) for pane, rect in others if covers(rect, row, col, right)]
+        found = [(distance(rect, row, col), pane) for pane, rect in others if covers(rect, row, col, bool(right))]
         return min(found)[1] if found else None
 
-    def unsplit(self, way):
+    def unsplit(self, way: str) -> str:
         """Why the pane in focus can't be split that way; nothing where it can, or nothing is known."""
         here = self.rects.get(self.focus)
         if len(self.rects) >= MOST_PANES:
@@ -53,20 +70,20 @@ class Places(namedtuple("Places", "rects focus starts watchers", defaults=(0, 0,
 NOTHING = Places({})
 
 
-def covers(rect, row, col, is_beside):
+def covers(rect: Rect, row: float, col: float, is_beside: bool) -> bool:
     """Whether a pane has the column to a side, or the row above or below."""
     if is_beside:
         return rect.col <= col < rect.col + rect.cols
     return rect.row <= row < rect.row + rect.rows
 
 
-def distance(rect, row, col):
+def distance(rect: Rect, row: float, col: float) -> float:
     """How far a pane is from a point, along the side that it may lie off."""
     below, beside = rect.row + rect.rows - 1, rect.col + rect.cols - 1
     return max(rect.row - row, row - below, 0) + max(rect.col - col, col - beside, 0)
 
 
-def write_places(path, places):
+def write_places(path: str | os.PathLike[str], places: Places) -> None:
     """Writes where the panes are, a line each, how many starts there were, and the focus."""
     lines = [f"{pane} {rect.row} {rect.col} {rect.rows} {rect.cols}\n" for pane, rect in places.rects.items()]
     replace_text(path, "".join(lines) + f"starts {places.starts}\nwatchers {places.watchers}\nfocus {places.focus}\n")
@@ -87,7 +104,7 @@ def pane_of(word: str) -> int:
     return pane
 
 
-def read_places(path):
+def read_places(path: str | os.PathLike[str]) -> Places:
     """What is told in a file; nothing where it isn't there, not whole, or nothing that a session can have."""
     try:
         with open(path, encoding="utf-8") as text:

@@ -5,12 +5,15 @@ can be read once its bytes are there: the length of what the frame carries, the 
 end itself: how many bytes it has had, that the session has ended, where panes are, that one rang, or how its keypad is. So many bytes at
 most are on their way; the rest waits here, where what has grown old can be dropped, and not in the stream.
 """
+from __future__ import annotations
+
 import os
 import re
 import struct
 import time
 import zlib
 from collections import deque
+from collections.abc import Callable, Iterator
 
 from roam_live.carriers import LETTERS, LONGEST, SHORTEST
 from roam_live.program import Fault, read, write
@@ -57,12 +60,12 @@ class BadWords(Fault):
     """What the other end said that can't be."""
 
 
-def greeting(session):
+def greeting(session: str) -> bytes:
     """The line with which an end begins; the session is `-` where it isn't known."""
     return f"roam-relay {VERSION} {session}\n".encode()
 
 
-def read_greeting(source):
+def read_greeting(source: int) -> str:
     """The session that the other end's greeting names, read byte by byte: what follows is for who reads next."""
     line = b""
     while not line.endswith(b"\n") and len(line) < 64:
@@ -73,7 +76,7 @@ def read_greeting(source):
     return session_of(GREETING.match(line))
 
 
-def session_of(found):
+def session_of(found: re.Match[bytes] | None) -> str:
     """The session that a greeting names."""
     if not found:
         raise BadWords("the other end is no relay")
@@ -100,12 +103,12 @@ def demand_told(text: bytes) -> None:
         raise BadWords(f"what the other end tells can't be read: {text[:16]!r}")
 
 
-def instruction_of(datagram):
+def instruction_of(datagram: bytes) -> bytes:
     """What is the same in all fragments of an instruction; nothing for what is no datagram of roam."""
     return bytes(datagram[INSTRUCTION]) if datagram[:2] == LETTERS else b""
 
 
-def cost(datagram):
+def cost(datagram: bytes) -> int:
     """What a datagram that waits counts."""
     return len(datagram) + OVERHEAD
 
@@ -117,12 +120,13 @@ class Waiting:
     that those between told. Where that isn't few enough the oldest datagrams are dropped.
     """
 
-    def __init__(self):
-        self.datagrams = deque()
+    def __init__(self) -> None:
+        self.datagrams: deque[tuple[int, bytes]] = deque()
         self.size = 0
-        self.begun, self.newest = {}, {}
+        self.begun: dict[int, bytes] = {}
+        self.newest: dict[int, bytes] = {}
 
-    def add(self, peer, datagram):
+    def add(self, peer: int, datagram: bytes) -> None:
         """Adds a datagram at the end."""
         instruction = instruction_of(datagram)
         if instruction and instruction != self.newest.get(peer):
@@ -133,20 +137,20 @@ class Waiting:
         while self.size > WAITING_LIMIT:
             self.size -= cost(self.datagrams.popleft()[1])
 
-    def take(self):
+    def take(self) -> tuple[int, bytes]:
         """The oldest datagram and its peer."""
         peer, datagram = self.datagrams.popleft()
         self.size -= cost(datagram)
         self.begun[peer] = instruction_of(datagram)
         return peer, datagram
 
-    def forget(self, peer):
+    def forget(self, peer: int) -> None:
         """Drops what waits for a peer."""
         self._keep(lambda other, _: other != peer)
         for known in (self.begun, self.newest):
             known.pop(peer, None)
 
-    def _keep(self, is_kept):
+    def _keep(self, is_kept: Callable[[int, bytes], bool]) -> None:
         """Drops the datagrams for which this doesn't hold."""
         self.datagrams = deque(entry for entry in self.datagrams if is_kept(*entry))
         self.size = sum(cost(datagram) for _, datagram in self.datagrams)
@@ -155,32 +159,32 @@ class Waiting:
 class Stream:
     """One end of a stream: what came over it, and what goes."""
 
-    def __init__(self, source, target, session):
+    def __init__(self, source: int, target: int, session: str) -> None:
         self.source, self.target = source, target
-        self.session = None
+        self.session: str | None = None
         self.coming, self.going = bytearray(), bytearray(greeting(session))
         self.packer, self.unpacker = zlib.compressobj(), zlib.decompressobj()
         self.sent = self.acknowledged = self.had = self.told = 0
         self.heard = self.spoke = self.moved = self.told_at = time.monotonic()
 
-    def is_silent(self, seconds):
+    def is_silent(self, seconds: float) -> bool:
         """Whether for so long nothing has come, or nothing of what was sent has arrived: a stream may be stuck in one direction alone."""
         return time.monotonic() > self.silent_at(seconds)
 
-    def silent_at(self, seconds):
+    def silent_at(self, seconds: float) -> float:
         """The moment at which it is silent, where nothing changes before."""
         return seconds + (min(self.heard, self.moved) if self.sent > self.acknowledged else self.heard)
 
-    def due_at(self):
+    def due_at(self) -> float:
         """The moment at which this end has to say something: that it is there, or that what came has come."""
         return HEARTBEAT + (min(self.spoke, self.told_at) if self.had > self.told else self.spoke)
 
-    def tell(self, peer, text):
+    def tell(self, peer: int, text: bytes) -> None:
         """Sends a frame."""
         self.going += self.packer.compress(HEADER.pack(len(text), peer) + text) + self.packer.flush(zlib.Z_SYNC_FLUSH)
         self.spoke = time.monotonic()
 
-    def fill(self, waiting):
+    def fill(self, waiting: Waiting) -> None:
         """Takes datagrams that wait, as many as may be on their way."""
         if self.had - self.told >= TOLD_AFTER or time.monotonic() >= self.due_at():
             self.told, self.told_at = self.had, time.monotonic()
@@ -192,11 +196,11 @@ class Stream:
             self.sent += len(datagram)
             self.tell(peer, datagram)
 
-    def flush(self):
+    def flush(self) -> bool:
         """Writes what is taken; whether the other end is still there."""
         return write(self.target, self.going)
 
-    def received(self):
+    def received(self) -> Iterator[tuple[int, bytes]] | None:
         """The frames that came, one after another, each a peer and what it carries; None where the other end is gone. What came unpacks to
         a thousand times as much, so a frame is made when it is asked for; a fault comes where its frame would."""
         piece = read(self.source)
@@ -204,9 +208,9 @@ class Stream:
             return None
         if piece:
             self.heard = time.monotonic()
-        return self._unpacked(piece if self.session else self._greeted(piece or b""))
+        return self._unpacked((piece or b"") if self.session else self._greeted(piece or b""))
 
-    def _unpacked(self, piece):
+    def _unpacked(self, piece: bytes) -> Iterator[tuple[int, bytes]]:
         """The frames that are whole with a piece of what is compressed."""
         while piece:
             try:
@@ -218,14 +222,14 @@ class Stream:
             if self.unpacker.eof:
                 raise BadWords("what the other end says has ended, and the other end hasn't")
 
-    def _acknowledge(self, count):
+    def _acknowledge(self, count: int) -> None:
         """So many bytes have arrived."""
         if count > self.sent:
             raise BadWords(f"the other end has had {count} bytes, and was sent {self.sent}")
         if count > self.acknowledged:
             self.acknowledged, self.moved = count, time.monotonic()
 
-    def _greeted(self, piece):
+    def _greeted(self, piece: bytes) -> bytes:
         """What stands behind the greeting, once it has come; what a shell said before it is dropped."""
         self.coming += piece
         found = GREETING.search(self.coming)
@@ -238,7 +242,7 @@ class Stream:
         self.coming.clear()
         return rest
 
-    def _frames(self):
+    def _frames(self) -> Iterator[tuple[int, bytes]]:
         """Takes the whole frames off what came."""
         begin = 0
         while begin + HEADER.size <= len(self.coming):

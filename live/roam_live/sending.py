@@ -1,4 +1,6 @@
 """Acts that are typed into a session by a command, all or none."""
+from __future__ import annotations
+
 import os
 import re
 import subprocess
@@ -8,6 +10,12 @@ from roam_live.links import NO_MORE, Link
 from roam_live.program import Fault, Home
 from roam_live.rects import MOST_PANES, Places
 from roam_live.terminal import LEAST, MOST
+
+TYPE_CHECKING = False
+if TYPE_CHECKING:
+    from collections.abc import Callable
+
+    from roam_live.sessions import Session
 
 # How long a session's client start has for the acts that it is given, and for its first painting.
 SEND_WAIT = 10.0
@@ -21,10 +29,11 @@ TOLD_STEP = 0.05
 class Layout:
     """What is known of a session's panes after each of some acts."""
 
-    def __init__(self, places: Places):
+    def __init__(self, places: Places) -> None:
         self.places = places
         # How many panes there are, and their numbers where these are known; and whether each has the place that was told.
-        self.count, self.panes, self.is_told = len(places.rects), set(places.rects), True
+        self.count, self.is_told = len(places.rects), True
+        self.panes: set[int] | None = set(places.rects)
 
     def wrong(self, act: str) -> str:
         """Why an act can't be done; nothing where it can, or that isn't known. What is known goes by the act then."""
@@ -32,8 +41,9 @@ class Layout:
         if word == "size":
             self.is_told = False
             return wrong_size(*map(int, rest))
-        does = {"focus": self.focused, "split": self.split, "close": self.closed, "grow": self.grown, "next": self.passed}.get(word)
-        return does(*rest) if does and self.count else ""
+        does: dict[str, Callable[..., str]] = {"focus": self.focused, "split": self.split, "close": self.closed, "grow": self.grown,
+                                               "next": self.passed}
+        return does[word](*rest) if word in does and self.count else ""
 
     def focused(self, pane: str) -> str:
         """Goes on with a pane in focus, or tells why it can't be."""
@@ -83,14 +93,14 @@ def wrong_size(rows: int, cols: int) -> str:
     return f"a session has {LEAST[0]} to {MOST[0]} rows and {LEAST[1]} to {MOST[1]} columns"
 
 
-def wrong_in(acts: "list[str]", places: Places) -> str:
+def wrong_in(acts: list[str], places: Places) -> str:
     """Which of the acts can't be done where panes are at these places, and why; nothing where all can, as far as is known."""
     layout = Layout(places)
     found = ((act, layout.wrong(act)) for act in acts)
     return next((f"{act!r} can't be done: {why}" for act, why in found if why), "")
 
 
-def demand_acts(session, acts):
+def demand_acts(session: Session, acts: list[str]) -> None:
     """Refuses what is no act, by a client start that takes no turn: the session never knows it."""
     lines = "".join(f"{act}\n" for act in acts)
     words = Home(folder=str(session.folder)).attach_words(["--keys", "/dev/stdin", "--turns", "0"])
@@ -101,7 +111,7 @@ def demand_acts(session, acts):
         raise Fault(f"{acts[int(line[1]) - 1]!r} is no act; the page roam(1) lists them. None was typed" if line else said)
 
 
-def demand_doable(session, acts):
+def demand_doable(session: Session, acts: list[str]) -> None:
     """Refuses acts of which one can't be done."""
     end = time.monotonic() + TOLD_WAIT
     while True:
@@ -113,7 +123,7 @@ def demand_doable(session, acts):
         time.sleep(TOLD_STEP)
 
 
-def send(session, acts):
+def send(session: Session, acts: list[str]) -> int:
     """Types acts into a session, and ends once all were given to its client start."""
     acts = [act.replace("\n", "\\n") for act in acts]
     demand_acts(session, acts)

@@ -10,11 +10,12 @@ import pathlib
 import re
 import signal
 import stat
+from collections.abc import Iterable
 
 from roam_live.processes import Processes
 from roam_live.program import (TOOLS, Fault, begun, count_clients, end_words, is_listened, is_own_folder, note_end, program, replace_text,
                                say)
-from roam_live.rects import MOST_STARTS, NOTHING, read_places
+from roam_live.rects import MOST_STARTS, NOTHING, Places, read_places
 
 NAME = re.compile(r"[A-Za-z0-9_-]{1,32}")
 
@@ -37,7 +38,7 @@ MANY_STARTS = 32
 SOCKETS = ("clients", "panes", "terminals", "bells", *(f"p{pane}" for pane in range(1, 10)))
 
 
-def runtime_folder():
+def runtime_folder() -> pathlib.Path | None:
     """The folder that XDG_RUNTIME_DIR offers; one of another user, as after `su`, is told of and not used."""
     chosen = os.environ.get("XDG_RUNTIME_DIR")
     if not chosen:
@@ -49,7 +50,7 @@ def runtime_folder():
 
 
 @functools.lru_cache()
-def base():
+def base() -> pathlib.Path:
     """The folder of the user's sessions, which is made where it isn't there, and refused where others may enter it."""
     path = runtime_folder() or pathlib.Path("/tmp", f"roam-{os.getuid()}")
     try:
@@ -79,7 +80,7 @@ def sessions_here() -> list[Session]:
     return own + [NearSession(path) for path in folders if NEAR_NAME.fullmatch(path.name)]
 
 
-def check_name(name):
+def check_name(name: str) -> None:
     """Refuses what can't name a session."""
     if not NAME.fullmatch(name):
         raise Fault(f"{name!r} is no name: letters, digits, - and _, 32 at most")
@@ -95,7 +96,7 @@ class Session(Processes):
     # The socket at which the process of each role listens.
     sockets = {"server": "clients", "shells": "bells", "terminals": "terminals"}
 
-    def __init__(self, folder, name=None, server=None):
+    def __init__(self, folder: str | os.PathLike[str], name: str | None = None, server: int | None = None) -> None:
         super().__init__(folder, server)
         self.name = name or self.folder.name
         # Whether its processes were found by its sockets.
@@ -105,46 +106,52 @@ class Session(Processes):
             raise Fault(f"{self.folder} is too long for a socket's path")
 
     @classmethod
-    def named(cls, name):
+    def named(cls, name: str) -> Session:
         """That of a name."""
         check_name(name)
         return cls(base() / name)
 
-    def __str__(self):
+    def __str__(self) -> str:
         return f"in {self.folder}"
 
     # ---- what is known of it
 
-    def id(self):
+    def id(self) -> str:
         """The session's id, where it is known."""
         try:
             return (self.folder / "session").read_text(encoding="utf-8").strip()
         except OSError:
             return ""
 
-    def places(self):
+    def places(self) -> Places:
         """Where its panes are, as far as that is told; in a folder that another user made in its place nothing is."""
         return read_places(self.folder / "rects") if is_own_folder(self.folder) else NOTHING
 
-    def is_served(self):
+    def is_served(self) -> bool:
         """Whether a server is there, or a relay to one."""
         return is_listened(self.folder / "clients")
 
-    def is_full(self):
-        """Whether its server knows as many starts as it ever does."""
-        return self.places().starts >= MOST_STARTS
+    def is_full(self) -> bool | None:
+        """Whether its server knows as many starts as it ever does; None where nothing is told of that."""
+        return self.places().is_full()
 
-    def busy(self):
-        """The panes in which another program than a shell runs, and its name."""
+    def busy(self) -> dict[int, str] | None:
+        """The panes in which another program than a shell runs, and its name: in none where what is noted to have kept the shells has
+        ended. None where that isn't known: shells that were started by hand are noted nowhere, and found by their socket alone."""
         from roam_live.programs import busy_panes
 
         if self.state is None:
             with contextlib.suppress(Fault):
                 self.find()
         shells = self.process("shells")
-        return busy_panes(shells) if shells else {}
+        if shells is None and "shells" in (self.state or {}):
+            return {}
+        if shells is None:
+            with contextlib.suppress(Fault):
+                shells = self.listener(self.sockets["shells"])
+        return None if shells is None else busy_panes(shells)
 
-    def ending(self):
+    def ending(self) -> tuple[str, int]:
         """What is said where the process that serves it has ended, and the status: who ends it on purpose notes so before."""
         if self.met and self.ended() == end_words(*self.met):
             return "[the session has ended]", 0
@@ -157,14 +164,14 @@ class Session(Processes):
         except (OSError, ValueError):
             return ""
 
-    def note_end(self):
+    def note_end(self) -> None:
         """Notes that the process that serves it is about to be ended on purpose, so that who follows it tells no fault."""
-        if self.runs():
+        if self.runs() and self.met:
             note_end(self.folder, *self.met)
 
-    def demand_age(self):
+    def demand_age(self) -> None:
         """Refuses one that an earlier roam began."""
-        if self.runs("server") and self.state.get("version") != VERSION:
+        if self.runs("server") and (self.state or {}).get("version") != VERSION:
             raise Fault(f"session {self.name} was begun by an earlier roam, and is left to it: `mux kill {self.name}` ends it")
 
     # ---- whether it is there
@@ -177,7 +184,7 @@ class Session(Processes):
         process = self.listener(self.sockets[self.served])
         if process is None:
             return False
-        found = {self.served: process}
+        found: dict[str, int | None] = {self.served: process}
         for role in self.sockets:
             if role != self.served:
                 with contextlib.suppress(Fault):
@@ -187,19 +194,19 @@ class Session(Processes):
         self.is_found = True
         return self.runs()
 
-    def demand(self):
+    def demand(self) -> None:
         """Refuses where it doesn't run."""
         if not self.find():
             raise Fault(f"no session {self.name} is running")
 
-    def note_found(self):
+    def note_found(self) -> None:
         """Notes again what was found by its sockets, where the note is lost; its lock is held."""
         if self.is_found:
             replace_text(self.note, json.dumps(self.state))
 
     # ---- what belongs to it
 
-    def start(self, command=()):
+    def start(self, command: Iterable[str] = ()) -> None:
         """Starts the server and its shells, or a command in place of each shell; all or nothing."""
         self.clean()
         self.state = {"version": VERSION, "command": list(command)}
@@ -209,30 +216,31 @@ class Session(Processes):
             self.wait_for("server", before, lambda: (self.folder / "session").exists() and self.is_served())
             self.start_shells()
 
-    def start_shells(self, more=()):
+    def start_shells(self, more: Iterable[str] = ()) -> None:
         """Starts what keeps a shell in each pane."""
-        words = [str(TOOLS / "pane_shells"), "--close", "--server", str(self.state["server"][0]), *more]
-        self.spawned("shells", [*words, str(self.folder), *self.state.get("command", ())])
+        state = self.state or {}
+        words = [str(TOOLS / "pane_shells"), "--close", "--server", str(state["server"][0]), *more]
+        self.spawned("shells", [*words, str(self.folder), *state.get("command", ())])
 
-    def demand_shells(self):
+    def demand_shells(self) -> None:
         """Sees that what keeps its shells runs."""
         if not self.runs("shells"):
             self.start_shells(["--again"])
 
-    def start_terminals(self):
+    def start_terminals(self) -> None:
         """Starts the client start of this machine's terminals."""
         self.demand_room()
         self.terminals.unlink(missing_ok=True)
         self.state = self.state or {"version": VERSION}
-        return self.spawned("terminals", [program(), "attach", "--dir", str(self.folder), "--terminals", str(self.terminals)])
+        self.spawned("terminals", [program(), "attach", "--dir", str(self.folder), "--terminals", str(self.terminals)])
 
-    def demand_room(self):
+    def demand_room(self) -> None:
         """Refuses where the server knows as many starts as it ever does."""
         if self.is_full():
             raise Fault(f"session {self.name} has had the {MOST_STARTS} client starts of its life, and hears no other; what runs in it "
                         f"goes on, and `mux kill {self.name}` ends it")
 
-    def demand_terminals(self):
+    def demand_terminals(self) -> None:
         """Sees that the start of this machine's terminals runs, and is ready."""
         before = self.logged()
         if not self.has_terminals():
@@ -243,13 +251,13 @@ class Session(Processes):
         """Whether a client start for this machine's terminals is there, as is noted or as its socket tells."""
         return self.runs("terminals") or is_listened(self.terminals)
 
-    def revive(self):
+    def revive(self) -> None:
         """Starts the start of the terminals anew, where it has ended and nobody else does."""
         with contextlib.suppress(BlockingIOError), self.locked(may_wait=False):
             if not self.has_terminals():
                 self.start_terminals()
 
-    def revive_shells(self):
+    def revive_shells(self) -> bool:
         """Starts the shells anew where what kept them has ended; tells whether they run."""
         with contextlib.suppress(BlockingIOError), self.locked(may_wait=False):
             if self.find():
@@ -258,7 +266,7 @@ class Session(Processes):
 
     # ---- its end
 
-    def clean(self):
+    def clean(self) -> None:
         """Removes what a session that doesn't run any more left, but for its log and the note of its end. Where somebody answers still
         nothing is removed."""
         if self.is_served():
@@ -268,23 +276,23 @@ class Session(Processes):
         for path in [*(clients.iterdir() if clients.is_dir() else ()), *notes]:
             path.unlink(missing_ok=True)
 
-    def end_all(self):
+    def end_all(self) -> None:
         """Ends the session's processes; the shells hang up their programs once the server is gone."""
         self.note_end()
         for role in (self.served, "shells", "terminals"):
             self.end(role)
 
-    def kill(self):
+    def kill(self) -> None:
         """Ends what is left of the session, and removes it; its lock is held."""
         self.end_all()
         self.clean()
 
-    def tidy(self):
+    def tidy(self) -> None:
         """Removes what is left of a session that has ended; its lock is held, since one that is being started looks like that too."""
         if not self.find():
             self.kill()
 
-    def close(self):
+    def close(self) -> None:
         """Lets it go: its processes stay."""
 
     # ---- what `mux ls` says
@@ -299,7 +307,7 @@ class Session(Processes):
                 return self.line() if self.runs() else ""
         return ""
 
-    def line(self):
+    def line(self) -> str:
         """What `mux ls` says of it."""
         places = self.places()
         size = "{} by {}".format(*places.size()) if places.rects else "-"
@@ -315,26 +323,24 @@ class NearSession(Session):
     served = "relay"
     sockets = {"relay": "clients", "terminals": "terminals"}
 
-    def start(self, command=()):
+    def start(self, command: Iterable[str] = ()) -> None:
         """Refuses: how ssh is called isn't known."""
         raise Fault(f"no relay to {self.name} is running; `mux ssh` starts one")
 
-    def demand_shells(self):
+    def demand_shells(self) -> None:
         """Leaves the shells to the other machine."""
 
-    def start_relay(self, command):
+    def start_relay(self, command: list[str]) -> int:
         """Starts a relay over a command, which may ask at this terminal until it has answered; tells the status of one that didn't, and
         leaves no folder then."""
-        import subprocess
-
         self.clean()
         (self.folder / "ended").unlink(missing_ok=True)
         self.state = {"version": VERSION}
         words = [str(TOOLS / "relay"), "--alone", str(ALONE), "--log", str(self.log), "--dir", str(self.folder), "-", *command]
         with self.whole():
-            relay = self.spawned("relay", words, in_front, stdout=subprocess.PIPE, stderr=None)
+            relay = self.spawned("relay", words, in_front, is_heard=True)
             try:
-                has_answered = relay.stdout.readline() != b""
+                has_answered = bool(relay.stdout and relay.stdout.readline())
             finally:
                 take_front(os.getpgrp())
         status = 0 if has_answered else relay.wait()
@@ -343,11 +349,11 @@ class NearSession(Session):
             self.forget()
         return status
 
-    def busy(self):
+    def busy(self) -> dict[int, str] | None:
         """What runs in its panes isn't known here."""
         return None
 
-    def ending(self):
+    def ending(self) -> tuple[str, int]:
         """What is said where the relay has ended, and the status."""
         if self.met and self.ended() == end_words(*self.met):
             return "[the relay was ended; the session goes on at the other machine]", 0
@@ -367,14 +373,14 @@ def command_of(shells: int | None, folder: pathlib.Path) -> list[str]:
         return []
 
 
-def in_front():
+def in_front() -> None:
     """Makes this process a group of its own, which a terminal that hangs up leaves alone, and has that read what is typed."""
     os.setpgid(0, 0)
     signal.signal(signal.SIGTSTP, signal.SIG_IGN)
     take_front(os.getpgrp())
 
 
-def take_front(group):
+def take_front(group: int) -> None:
     """Has a process group read what is typed at this process's terminal, where it has one."""
     before = signal.signal(signal.SIGTTOU, signal.SIG_IGN)
     with contextlib.suppress(OSError):

@@ -1,4 +1,6 @@
 """The outer terminal: raw mode, its size, the other screen, and what of the painter's text may reach it."""
+from __future__ import annotations
+
 import codecs
 import contextlib
 import errno
@@ -10,6 +12,15 @@ import struct
 import termios
 
 from roam_live.words import printable
+
+TYPE_CHECKING = False
+if TYPE_CHECKING:
+    from typing import Any
+
+    # Rows and columns.
+    Size = tuple[int, int]
+    # A terminal's modes as `termios` has them: numbers, and a list of bytes at the last place, which no type of a list tells.
+    Modes = list[Any]
 
 # The sizes that a session may have.
 LEAST = (4, 8)
@@ -40,19 +51,19 @@ ENTRIES = ("tmux-256color", "screen-256color", "vt220")
 FOLDERS = ("/etc/terminfo", "/lib/terminfo", "/usr/lib/terminfo", "/usr/share/terminfo", "/usr/local/share/terminfo")
 
 
-def has_entry(name):
+def has_entry(name: str) -> bool:
     """Whether this machine's terminfo has an entry."""
     own = [os.environ[word] for word in ("TERMINFO",) if os.environ.get(word)]
     folders = [*own, os.path.expanduser("~/.terminfo"), *os.environ.get("TERMINFO_DIRS", "").split(":"), *FOLDERS]
     return any(os.path.exists(f"{folder}/{part}/{name}") for folder in folders if folder for part in (name[0], f"{ord(name[0]):x}"))
 
 
-def names():
+def names() -> dict[str, str]:
     """What tells a program which terminal a pane is: the first entry that this machine has."""
     return {"TERM": next((name for name in ENTRIES if has_entry(name)), ENTRIES[-1]), "COLORTERM": "truecolor"}
 
 
-def without_reset(held, piece):
+def without_reset(held: bytes, piece: bytes) -> tuple[bytes, bytes]:
     """The painter's text with each reset replaced, and what is held back: an escape at the end, which may begin one."""
     text = held + piece
     held = b"\x1b" if text.endswith(b"\x1b") else b""
@@ -64,18 +75,18 @@ def unwrapped(text: str) -> bytes:
     return f"\x1b[?7l{text}\x1b[?7h".encode("utf-8", "replace")
 
 
-def size_of(terminal):
+def size_of(terminal: int) -> Size:
     """A terminal's rows and columns; one that tells none has 24 and 80."""
     rows, cols = struct.unpack("HHHH", fcntl.ioctl(terminal, termios.TIOCGWINSZ, bytes(8)))[:2]
     return rows or 24, cols or 80
 
 
-def set_size(terminal, rows, cols):
+def set_size(terminal: int, rows: int, cols: int) -> None:
     """Gives a terminal a size; its programs are told where it is another."""
     fcntl.ioctl(terminal, termios.TIOCSWINSZ, struct.pack("HHHH", rows, cols, 0, 0))
 
 
-def become(command, size, environment, instead=None):
+def become(command: list[str], size: Size, environment: dict[str, str], instead: str | None = None) -> None:
     """Becomes a command on standard input, a terminal that has its size before the command asks for it; else the shell instead of it."""
     with contextlib.suppress(termios.error, OSError):
         set_size(0, *size)
@@ -90,7 +101,7 @@ def become(command, size, environment, instead=None):
         execute([instead], {**environment, "SHELL": instead})
 
 
-def execute(command, environment, more=""):
+def execute(command: list[str], environment: dict[str, str], more: str = "") -> None:
     """Becomes a command; where it can't be run a line on standard error says why."""
     try:
         os.execvpe(command[0], command, environment)
@@ -98,32 +109,33 @@ def execute(command, environment, more=""):
         os.write(2, f"{printable(f'{command[0]}: {fault.strerror}{more}')}\n".encode("utf-8", "replace"))
 
 
-def is_large_enough(size):
+def is_large_enough(size: Size) -> bool:
     """Whether a terminal's size is one that a session may have, or larger."""
     return size[0] >= LEAST[0] and size[1] >= LEAST[1]
 
 
-def largest(size):
+def largest(size: Size) -> Size:
     """The largest size that a session may have on a terminal of a size."""
     return min(size[0], MOST[0]), min(size[1], MOST[1])
 
 
-def size_act(size):
+def size_act(size: Size) -> str:
     """The act that gives a session a terminal's size, as far as it may have it."""
     return "size {} {}".format(*largest(size))
 
 
-def set_modes(terminal, when, modes):
+def set_modes(terminal: int, when: int, modes: Modes) -> None:
     """Gives a terminal modes; a signal between, as of a stop in the background and `fg`, has it asked for anew."""
     while True:
         try:
-            return termios.tcsetattr(terminal, when, modes)
+            termios.tcsetattr(terminal, when, modes)
+            return
         except termios.error as fault:
             if fault.args[0] != errno.EINTR:
                 raise
 
 
-def make_raw(terminal):
+def make_raw(terminal: int) -> Modes | None:
     """Has each byte that is typed come as it is, and tells the modes that were; None where the terminal refuses, or is gone."""
     try:
         before = termios.tcgetattr(terminal)
@@ -133,7 +145,7 @@ def make_raw(terminal):
     return before
 
 
-def raw(modes):
+def raw(modes: Modes) -> Modes:
     """A terminal's modes, changed so that each byte that is typed comes as it is."""
     modes[0] &= ~(termios.BRKINT | termios.ICRNL | termios.INLCR | termios.IGNCR | termios.INPCK | termios.ISTRIP | termios.IXON)
     modes[1] &= ~termios.OPOST
@@ -143,13 +155,13 @@ def raw(modes):
     return modes
 
 
-def restore(terminal, modes):
+def restore(terminal: int, modes: Modes) -> None:
     """Gives a terminal its modes back; what was typed and not read is no command of the shell that comes back."""
     with contextlib.suppress(termios.error, OSError):
         set_modes(terminal, termios.TCSAFLUSH, modes)
 
 
-def opened_for_writing(terminal):
+def opened_for_writing(terminal: int) -> int:
     """A terminal opened anew, so that writes to it needn't wait while those of other programs do; itself where it has no name here."""
     try:
         return os.open(os.ttyname(terminal), os.O_WRONLY | os.O_NOCTTY | os.O_NONBLOCK)
@@ -167,24 +179,25 @@ class Extent:
     MARKS = re.compile(rb"\x1b\[(\d+);(\d+)H|\x1b\[2J|\x1bc")
     ESCAPES = re.compile(rb"\x1b[^\[]|\x1b\[[0-?]*[@-~]")
 
-    def __init__(self):
+    def __init__(self) -> None:
         self.rest = b""
         self.row, self.col = 0, 1
         self.size = (0, 0)
         self.decoder = codecs.getincrementaldecoder("utf-8")("replace")
 
-    def is_between(self):
+    def is_between(self) -> bool:
         """Whether what was painted so far ends with a whole sequence and a whole character."""
         return not self.rest and not self.decoder.getstate()[0]
 
-    def fed(self, piece):
+    def fed(self, piece: bytes) -> bool:
         """Goes on with a piece of the painter's text, and tells whether all was erased in it."""
         text = self.rest + piece
         self.decoder.decode(piece[-4:])
         cut = text.rfind(b"\x1b")
         is_whole = cut < 0 or self.ESCAPES.match(text, cut)
         text, self.rest = (text, b"") if is_whole else (text[:cut], text[cut:])
-        begin, lowest, is_erased = 0, [], False
+        begin, is_erased = 0, False
+        lowest: list[tuple[int, bytes]] = []
         for mark in self.MARKS.finditer(text):
             lowest += self._lowest(text[begin : mark.start()])
             begin = mark.end()
@@ -195,7 +208,7 @@ class Extent:
             self._reach(col, part)
         return is_erased
 
-    def _moves(self, mark):
+    def _moves(self, mark: re.Match[bytes]) -> bool:
         """Goes on with a place of the cursor, or with nothing where all is erased; tells whether no row is as low as this one."""
         if mark[1] is None:
             self.row, self.size = 0, (0, 0)
@@ -207,16 +220,16 @@ class Extent:
         self.size = (self.row, 0)
         return True
 
-    def _lowest(self, part):
+    def _lowest(self, part: bytes) -> list[tuple[int, bytes]]:
         """What is written to the lowest row, with the column where that begins."""
         return [(self.col, part)] if part and self.row and self.row == self.size[0] else []
 
-    def _reach(self, col, part):
+    def _reach(self, col: int, part: bytes) -> None:
         """Goes on with what is written to the lowest row; behind other characters than ASCII the column isn't known."""
         letters = self.ESCAPES.sub(b"", part)
         self.col = col + len(letters) if letters.isascii() else -sum(MOST)
         self.size = (self.size[0], max(self.size[1], self.col - 1))
 
-    def fits(self, size):
+    def fits(self, size: Size) -> bool:
         """Whether what was painted fits into a terminal of this size."""
         return self.size[0] <= size[0] and self.size[1] <= size[1]

@@ -1,4 +1,6 @@
 """Words for a terminal. Whatever writes some there, or into a log, has them made printable here."""
+from __future__ import annotations
+
 import codecs
 
 # So many bytes of what a command says on its standard error are passed on.
@@ -19,7 +21,7 @@ def one_line(text: object) -> str:
 class Said:
     """What another program says, as it comes in pieces: printable lines, and not too many of them."""
 
-    def __init__(self, limit: int = SAID_LIMIT):
+    def __init__(self, limit: int = SAID_LIMIT) -> None:
         self.decoder = codecs.getincrementaldecoder("utf-8")("replace")
         self.limit = self.left = limit
 

@@ -1,0 +1,61 @@
+"""What the tools need of a session, however it is reached: one of this machine, one of another, one that was started by hand, or one at a
+port. What isn't known of it is None, and never an empty answer. Nothing of this module is loaded while a tool runs: it is for who checks
+types, and for who makes a session of another kind."""
+from __future__ import annotations
+
+import pathlib
+from typing import Protocol
+
+from roam_live.rects import Places
+
+
+class Kept(Protocol):
+    """A session whose shells are kept by a process that may end before it."""
+
+    name: str
+
+    def process(self, role: str) -> int | None:
+        """The process of a role, as `server`, `shells` or `terminals`; None where none runs, or none is known."""
+
+    def revive_shells(self) -> bool:
+        """Starts the shells anew where what kept them has ended, and this process may; tells whether they run."""
+
+
+class Place(Kept, Protocol):
+    """A session, as a front end needs it. Its words name where it is, as in `no server is {place}`."""
+
+    # The role of the process whose end is the session's.
+    served: str
+    # The socket of the client start.
+    terminals: pathlib.Path
+
+    @property
+    def folder(self) -> pathlib.Path | None:
+        """Where front ends are noted, bells are told, and where panes are; None where no folder is known."""
+
+    def read(self) -> None:
+        """Reads anew what is noted of it."""
+
+    def runs(self, role: str | None = None) -> bool:
+        """Whether the process of a role is known to run; that of the role `served` where none is named."""
+
+    def places(self) -> Places:
+        """Where the panes are, as far as that is told: `NOTHING` has no pane, which no session has."""
+
+    def is_served(self) -> bool:
+        """Whether somebody answers where its server is reached."""
+
+    def is_full(self) -> bool | None:
+        """Whether its server knows as many starts as it ever does; None where nothing is told of that."""
+
+    def busy(self) -> dict[int, str] | None:
+        """The panes in which another program than a shell runs, and its name; None where that isn't known, of one pane or of all."""
+
+    def revive(self) -> None:
+        """Starts the client start, where none is there; Fault or OSError tells why that can't be."""
+
+    def ending(self) -> tuple[str, int]:
+        """What a person is told once it has ended, and the status of the front end."""
+
+    def close(self) -> None:
+        """Lets it go: what was started for this front end alone ends."""

@@ -1,0 +1,202 @@
+"""A session as a front end needs it, by each way to reach one: what isn't known of it is None, and a person is asked then."""
+import importlib.machinery
+import importlib.util
+import json
+import os
+import pathlib
+import socket
+import subprocess
+import tempfile
+import unittest
+from unittest import mock
+
+from roam_live import display
+from roam_live.commands import Commands
+from roam_live.display import Display
+from roam_live.moments import Moments
+from roam_live.places import Kept, Place
+from roam_live.ports import PortSession
+from roam_live.program import TOOLS, Home
+from roam_live.programs import busy_panes
+from roam_live.rects import MOST_STARTS, NOTHING, Places, Rect
+from roam_live.sessions import NearSession, Session
+
+loader = importlib.machinery.SourceFileLoader("mux", str(TOOLS / "mux"))
+mux = importlib.util.module_from_spec(importlib.util.spec_from_loader("mux", loader))
+loader.exec_module(mux)
+
+# A process that ended: no process has begun at this moment.
+ENDED = [1, 1]
+
+TWO = Places({1: Rect(1, 1, 23, 39), 2: Rect(1, 41, 23, 40)}, 1, 1)
+
+
+class Folder(unittest.TestCase):
+    """A folder of a session whose server was started by hand: this process stands for it."""
+
+    def setUp(self):
+        made = tempfile.TemporaryDirectory()
+        self.addCleanup(made.cleanup)
+        self.folder = pathlib.Path(made.name)
+
+    def by_hand(self, **noted):
+        """The session, where some processes are noted."""
+        if noted:
+            (self.folder / "state.json").write_text(json.dumps({"version": 3, **noted}), encoding="utf-8")
+        return Session(self.folder, server=os.getpid())
+
+    def keep_shells(self):
+        """Has this process listen where bells are told, as what keeps shells does."""
+        listener = socket.socket(socket.AF_UNIX, socket.SOCK_STREAM)
+        self.addCleanup(listener.close)
+        listener.bind(str(self.folder / "bells"))
+        listener.listen()
+
+    def child(self, **environment):
+        """A child of this process, which isn't a shell."""
+        process = subprocess.Popen(["sleep", "60"], env=environment)
+        self.addCleanup(process.wait)
+        self.addCleanup(process.kill)
+        return process
+
+
+class Busy(Folder):
+    """What runs in the panes."""
+
+    def test_nothing_noted(self):
+        self.assertIsNone(self.by_hand().busy())
+        self.assertIsNone(Session(self.folder).busy())
+
+    def test_start_noted(self):
+        """The client start alone is noted by a front end that was started by hand, which tells nothing of shells."""
+        self.assertIsNone(self.by_hand(terminals=ENDED).busy())
+
+    def test_ended(self):
+        """Where what kept the shells has ended they were hung up."""
+        self.assertEqual(self.by_hand(shells=ENDED).busy(), {})
+
+    def test_found(self):
+        """What keeps shells is found by its socket."""
+        self.keep_shells()
+        self.assertEqual(self.by_hand().busy(), {})
+        self.child(ROAM_PANE=f"{self.folder}:2")
+        self.assertEqual(self.by_hand().busy(), {2: "a program"})
+
+    def test_untold(self):
+        """The system may tell nothing of the programs, or not in which pane one is."""
+        self.assertIsNone(busy_panes(1 << 30))
+        self.child(ROAM_PANE=f"{self.folder}:2")
+        with mock.patch("pathlib.Path.read_bytes", side_effect=PermissionError):
+            self.assertIsNone(busy_panes(os.getpid()))
+
+    def test_no_pane_yet(self):
+        """A process that is to become a pane's command, and one that has ended, are in no pane."""
+        self.child()
+        ended = self.child(ROAM_PANE=f"{self.folder}:2")
+        ended.kill()
+        os.waitid(os.P_PID, ended.pid, os.WEXITED | os.WNOWAIT)
+        self.assertEqual(busy_panes(os.getpid()), {})
+
+    def test_elsewhere(self):
+        """Of a session of another machine, or at a port, nothing is known of programs."""
+        self.assertIsNone(NearSession(self.folder, "main").busy())
+        session = PortSession(Home(port=1, session="1"), None)
+        self.addCleanup(session.close)
+        self.assertIsNone(session.busy())
+
+
+class Known(Folder):
+    """What else is known of a session."""
+
+    def sessions(self):
+        """One of each kind."""
+        at_port = PortSession(Home(port=1, session="1"), str(self.folder))
+        self.addCleanup(at_port.close)
+        return Session(self.folder), NearSession(self.folder, "main"), self.by_hand(), at_port
+
+    def test_all_there(self):
+        """Each has all that a front end needs."""
+        needed = {name for kind in (Kept, Place) for name in (*vars(kind), *kind.__annotations__) if not name.startswith("_")}
+        self.assertGreaterEqual(len(needed), 14)
+        for session in self.sessions():
+            self.assertEqual({name for name in needed if not hasattr(session, name)}, set(), type(session))
+
+    def test_full(self):
+        """Whether a server is full isn't known before something is told of it."""
+        for session in self.sessions():
+            self.assertEqual((session.places(), session.is_full()), (NOTHING, None))
+        for starts in (0, 63, 64):
+            (self.folder / "rects").write_text(f"1 1 1 23 80\nstarts {starts}\nwatchers 0\nfocus 1\n", encoding="utf-8")
+            self.assertEqual([session.is_full() for session in self.sessions()], [starts == MOST_STARTS] * 4)
+
+
+class Kill(Folder):
+    """What a person is told before a session is ended."""
+
+    def test_told(self):
+        """Programs are named; where none is known, they may be there all the same. Of another machine's session nothing ends but a relay."""
+        session = self.by_hand()
+        for busy, told in (({}, ""), ({2: "vi", 1: "less"}, "less in pane 1 and vi in pane 2"), (None, "programs that aren't known")):
+            with mock.patch.object(session, "busy", lambda busy=busy: busy):
+                self.assertEqual(mux.lost_with(session), told)
+        self.assertEqual(mux.lost_with(NearSession(self.folder, "main")), "")
+
+
+class Link:
+    """What is typed."""
+
+    watches = False
+
+    def __init__(self):
+        self.acts = []
+
+    def type(self, *acts):
+        """Keeps acts."""
+        self.acts += acts
+
+    def say(self, line):
+        """Nothing is shown here."""
+
+
+class Outer:
+    """A terminal of 24 rows and 80 columns."""
+
+    def __init__(self):
+        self.waiting = bytearray()
+
+    def size(self):
+        """Its rows and columns."""
+        return 24, 80
+
+
+class Close(Folder):
+    """A person who closes a pane of a session that was started by hand."""
+
+    def person(self, session, places):
+        """The keys of the person, what they ask for, and what is shown."""
+        link, moments = Link(), Moments()
+        with mock.patch.object(display, "Outer", Outer):
+            shown = Display(moments, lambda: None)
+        with mock.patch.object(session, "places", lambda: places):
+            commands = Commands(session, link, shown, moments, lambda line: None)
+            commands.fed(b"\x02x")
+        return commands, link, shown
+
+    def test_asked(self):
+        """Where it isn't known what runs a person is asked, and y alone closes the pane."""
+        for places, named in ((TWO, "pane 1"), (NOTHING, "this pane")):
+            for key, acts in ((b"y", ["close"]), (b"n", [])):
+                commands, link, shown = self.person(self.by_hand(), places)
+                self.assertEqual((link.acts, shown.told), ([], f"close whatever runs in {named}? y closes it"))
+                commands.fed(key)
+                self.assertEqual((link.acts, shown.told), (acts, ""))
+
+    def test_unasked(self):
+        """Where shells alone are known to run it is closed at once."""
+        self.keep_shells()
+        _, link, shown = self.person(self.by_hand(), TWO)
+        self.assertEqual((link.acts, shown.told), (["close"], ""))
+
+
+if __name__ == "__main__":
+    unittest.main()
