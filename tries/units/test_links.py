@@ -1,6 +1,6 @@
 """A terminal's connection to the client start, and how it is had again."""
+import errno
 import os
-import socket
 from unittest import mock
 
 from aids import Case, read_now
@@ -9,7 +9,7 @@ from roam_live.program import Fault
 
 
 class Peer:
-    """The start's end, which takes so many bytes each time, or refuses."""
+    """The start's end, which takes so many bytes each time, or refuses with an error's number, below 0."""
 
     def __init__(self, *answers):
         self.answers, self.taken = list(answers), []
@@ -18,8 +18,8 @@ class Peer:
         """Takes what is the next answer."""
         answer = self.answers.pop(0)
         self.taken.append(len(piece))
-        if isinstance(answer, OSError):
-            raise answer
+        if answer < 0:
+            raise OSError(-answer, "refused")
         return answer
 
 
@@ -109,7 +109,7 @@ class Lines(Linked):
         """What isn't taken waits, in pieces of 65,536 bytes; where the other end has gone that is told."""
         link, other = self.link(False)
         link.waiting += b"x" * 100_000 + b"\n"
-        peer = Peer(65536, BlockingIOError(11, "full"), 34465, OSError(32, "Broken pipe"))
+        peer = Peer(65536, -errno.EAGAIN, 34465, -errno.EPIPE)
         with mock.patch.object(link, "peer", peer):
             self.assertTrue(link.send())
             self.assertEqual((link.given, peer.taken), (65536, [65536]))

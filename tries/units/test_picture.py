@@ -37,7 +37,7 @@ class Shown(Case):
         self.assertEqual([width_of(letter) for letter in "a\u4e2d\uff21\u0301\u200d\u20dd\u00e9"], [1, 2, 2, 0, 0, 0, 1])
         cells = cells_of("\x1b[1;1Hxyz\x1b[1;2H\u4e2d\u0301b\x1b[2;1He\u0301\x1b[3;1H\u0301")
         found = {place: letter for place, (letter, _) in cells.cells.items()}
-        self.assertEqual(found, {(1, 1): "x", (1, 2): "\u4e2d\u0301", (1, 4): "b", (2, 1): "e\u0301", (3, -1): " \u0301"} | {})
+        self.assertEqual(found, {(1, 1): "x", (1, 2): "\u4e2d\u0301", (1, 4): "b", (2, 1): "e\u0301", (3, -1): " \u0301"})
 
     def test_boxes(self):
         """Between SO and SI letters are the DEC special graphics."""
@@ -57,8 +57,8 @@ class Shown(Case):
         for number, flag in flags:
             self.assertEqual(styled(plain, [number]).flags, {flag})
             off = 22 if flag in ("bold", "faint") else number + 20
-            self.assertEqual(styled(styled(plain, [3 if number != 3 else 4, number]), [off]).flags, {"underline" if number == 3 else "italic"}
-                             if number != 3 or True else set())
+            other, stays = (4, "underline") if number == 3 else (3, "italic")
+            self.assertEqual(styled(plain, [other, number, off]).flags, {stays})
         self.assertEqual(styled(plain, [1, 2, 22]), plain)
         for digit in range(8):
             found = styled(plain, [30 + digit, 100 + digit])

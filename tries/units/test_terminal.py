@@ -2,6 +2,7 @@
 import errno
 import os
 import pty
+import select
 import signal
 import termios
 from unittest import mock
@@ -124,6 +125,7 @@ class Modes(Case):
         os.write(self.slave, b"a\nb")
         self.assertEqual(os.read(self.master, 64), b"a\nb")
         os.write(self.master, b"rm -rf x\n")
+        select.select([self.slave], [], [], 10)
         terminal.restore(self.slave, before)
         self.assertEqual(termios.tcgetattr(self.slave), before)
         os.set_blocking(self.slave, False)
