@@ -9,6 +9,7 @@ from unittest import mock
 from aids import Case, closed, loaded, read_now
 from roam_live.carriers import LONGEST, SHORTEST
 from roam_live.program import Fault
+from test_relayed import HOSTILE, ODD
 from roam_live.relayed import BELL, COUNT, ENDED, HAD, HEADER, KILLED, RECTS, WAITING_LIMIT, BadWords, Stream, Waiting, greeting
 
 relay = loaded("relay")
@@ -220,6 +221,26 @@ class Nears(Ends):
             self.turn()
             self.assertIs(self.near.link, self.links[-1])
         self.assertNotIn("Traceback", self.said.getvalue())
+
+    def test_whatever(self):
+        """Whatever a far end says once it has answered, this one goes on, tells of it in printable words, and keeps little of it."""
+        self.answer()
+        for name, (text, told) in {**HOSTILE, **{name: (text, "") for name, text in ODD.items()}}.items():
+            with self.subTest(name):
+                link, before, kept = self.near.link, len(self.said.getvalue()), 0
+                for begin in range(0, len(text), 16384):
+                    if self.near.link is link:
+                        link.say(text[begin : begin + 16384])
+                        self.turn()
+                        kept = max(kept, len(link.stream.coming))
+                self.assertLess(kept, 140_000)
+                said = self.said.getvalue()[before:]
+                self.assertTrue("".join(said.split("\n")).isprintable())
+                self.assertIn(told, said)
+                self.assertEqual(self.near.link is link, not told)
+                self.near.tries = []
+                self.near.link, self.near.has_answered, self.near.next_try = None, False, 0.0
+                self.answer()
 
     def test_not_a_datagram(self):
         """What has the length of one and isn't roam's reaches no client."""
