@@ -1,5 +1,4 @@
 """What a painting shows: its cells, and the picture of them."""
-import contextlib
 import io
 import unittest
 import xml.etree.ElementTree
@@ -192,7 +191,7 @@ class Tool(Case):
 
     def test_wrong(self):
         said = self.heard()
-        with self.assertRaises(SystemExit) as way, contextlib.redirect_stdout(io.StringIO()):
+        with self.assertRaises(SystemExit) as way:
             self.run_with("a", "b", "c")
         self.assertEqual((way.exception.code, "a server is named by its folder" in said.getvalue()), (2, True))
 

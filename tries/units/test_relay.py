@@ -262,6 +262,32 @@ class Nears(Ends):
         with self.assertRaisesRegex(BadWords, "the other end is no relay"):
             self.turn(2)
 
+    def test_first_earlier(self):
+        """So does a first one of another version."""
+        self.turn()
+        self.links[0].say(b"roam-relay 1 abc\n")
+        with self.assertRaisesRegex(BadWords, "of an earlier roam"):
+            self.turn()
+
+    def test_many_clients(self):
+        """256 clients are taken; the others wait until one has left, and it goes on."""
+        clients = []
+        for number in range(260):
+            one = socket.socket(socket.AF_UNIX, socket.SOCK_STREAM)
+            self.addCleanup(one.close)
+            one.setblocking(False)
+            one.connect(str(self.folder / "clients"))
+            clients.append(one)
+            if number % 8 == 7:
+                with mock.patch.object(self.near, "tend"):
+                    self.turn(8)
+        self.turn(8)
+        self.assertEqual(len(self.near.carriers), 256)
+        for one in clients[:3]:
+            one.close()
+        self.turn(8)
+        self.assertEqual(len(self.near.carriers), 256)
+
     def test_other_session(self):
         """Another session behind the same command is the end of this one."""
         self.answer()
@@ -876,6 +902,19 @@ class Commands(Case):
         self.assertIsNone(link.errors)
         self.assertEqual(link.status(), -15)
         self.assertEqual(link.stream.going, b"roam-relay 2 -\n")
+
+    def test_sayings(self):
+        """What a command says is little and printable, and the logs that are known have room for it."""
+        link = relay.Link(["sleep", "60"], "-", False)
+        self.addCleanup(lambda: (link.end(), link.status()))
+        rooms, writes = self.patch_of(relay, "make_room_in_logs"), self.patch("os.write")
+        self.patch_of(relay, "read", return_value=b"the far host\x1b[c says so\n" * 2000)
+        for _ in range(20):
+            link.pass_errors()
+        said = b"".join(call[0][1] for call in writes.call_args_list).decode()
+        self.assertTrue("".join(said.split("\n")).isprintable() and said.endswith("bytes were said; no more is shown]\n"))
+        self.assertLess(len(said), 70_000)
+        self.assertEqual(sum(call[0][0] for call in rooms.call_args_list), len(said.encode()))
 
     def test_killed(self):
         """One that doesn't end in a second is ended by force."""

@@ -1,16 +1,12 @@
 """What the two ends of a relay say to each other, and what an end does with what can't be."""
 import os
 import pathlib
-import socket
-import subprocess
 import tempfile
-import time
 import unittest
 import zlib
 
 from roam_live import rects
 from roam_live.carriers import LONGEST, SHORTEST
-from roam_live.program import TOOLS
 from roam_live.relayed import BELL, COUNT, ENDED, HAD, HEADER, MOST_TOLD, RECTS, BadWords, Stream, greeting
 
 
@@ -58,76 +54,6 @@ ODD = {
     "places of huge numbers": packed(frame(0, RECTS + b"1 " + b"9" * 1500 + b" 1 " + b"9" * 1500 + b" 9\nfocus 1\n")),
     "what isn't known": packed(frame(0, b"z" * MOST_TOLD)),
 }
-
-
-class Near:
-    """A near end whose command says these bytes, and what it says on its standard error, in a folder."""
-
-    def __init__(self, folder, name, said, more="", log=None):
-        self.folder = pathlib.Path(folder, name)
-        self.folder.mkdir(mode=0o700)
-        self.said = self.folder / "said"
-        self.said.write_bytes(said)
-        words = [str(TOOLS / "relay"), "--alone", "3600", *(["--log", str(log)] if log else []), "--dir", str(self.folder), "-"]
-        command = ["sh", "-c", f"cat {self.said}; {more} sleep 30"]
-        self.process = subprocess.Popen([*words, *command], stdin=subprocess.DEVNULL, stdout=subprocess.PIPE, stderr=subprocess.PIPE)
-
-    def end(self):
-        """Ends it, and tells its status before that, and what it said."""
-        status = self.process.poll()
-        self.process.terminate()
-        _, said = self.process.communicate(timeout=10)
-        return status, said.decode("utf-8", "replace")
-
-
-class Ends(unittest.TestCase):
-    """Near ends, as processes."""
-
-    def test_first(self):
-        """A far end that begins with what can't be is told of, and the near end leaves."""
-        for said, told in ((b"x" * 70000, "the other end is no relay"), (b"roam-relay 1 abc\n", "of an earlier roam")):
-            with self.subTest(told), tempfile.TemporaryDirectory() as folder:
-                near = Near(folder, "near", said)
-                _, errors = near.process.communicate(timeout=10)
-                self.assertEqual(near.process.returncode, 1)
-                self.assertIn(told, errors.decode())
-
-    def test_sayings(self):
-        """What a command says is printable and little, before it has answered and after, and a log stays small."""
-        with tempfile.TemporaryDirectory() as folder:
-            log = pathlib.Path(folder, "log")
-            before = Near(folder, "before", b"", "yes \"$(printf '\\033[c')\" | head -c 500000 >&2;")
-            after = Near(folder, "after", greeting("abc"), "sleep 0.3; yes 'the far host says so' | head -c 9000000 >&2;", log)
-            self.assertEqual(after.process.stdout.readline(), b"port - session abc\n")
-            time.sleep(1.5)
-            said = before.end()[1]
-            self.assertTrue(said.startswith("?[c\n") and "".join(said.split("\n")).isprintable())
-            self.assertLess(len(said), 70_000)
-            after.end()
-            self.assertLess(log.stat().st_size, 70_000)
-            self.assertIn("no more is shown", log.read_text(encoding="utf-8"))
-
-    def test_many_clients(self):
-        """A near end takes as many clients as it has numbers for; the others wait, and it goes on."""
-        with tempfile.TemporaryDirectory() as folder:
-            near = Near(folder, "near", greeting("abc"))
-            near.process.stdout.readline()
-            peers = []
-            for _ in range(300):
-                peer = socket.socket(socket.AF_UNIX, socket.SOCK_STREAM)
-                peer.setblocking(False)
-                try:
-                    peer.connect(str(near.folder / "clients"))
-                except BlockingIOError:
-                    time.sleep(0.002)
-                peers.append(peer)
-            time.sleep(0.3)
-            held = len(os.listdir(f"/proc/{near.process.pid}/fd"))
-            self.assertIsNone(near.process.poll())
-            self.assertLess(held, 256 + 32)
-            for peer in peers:
-                peer.close()
-            self.assertEqual(near.end()[0], None)
 
 
 class Frames(unittest.TestCase):
