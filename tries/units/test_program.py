@@ -5,10 +5,12 @@ import signal
 import socket
 from unittest import mock
 
-from aids import Case, read_now
-from roam_live import choices, logs, program, programs
+from aids import Case, loaded, read_now
+from roam_live import carriers, choices, following, lasting, links, logs, program, programs, relayed, sessions, watches, words
 from roam_live.moments import Moments
 from roam_live.program import Fault, Home
+
+RELAY = loaded("relay")
 
 
 class Programs(Case):
@@ -420,7 +422,23 @@ class Numbers(Case):
 
     def test_limits(self):
         self.assertEqual((program.LONGEST_WAIT, program.SAID_AFTER, program.UNREAD_LIMIT, program.LONGEST_LINE), (10.0, 0.5, 65536, 65536))
-        self.assertEqual((logs.LOG_LIMIT, logs.KEPT), (1 << 20, 1 << 19))
+        self.assertEqual((logs.LOG_LIMIT, logs.KEPT, words.SAID_LIMIT), (1 << 20, 1 << 19, 64 * 1024))
         self.assertEqual((choices.PREFIX, choices.GUESSING), ("C-b", ("adaptive", "always", "never")))
         self.assertEqual({name: ord(letter) for name, letter in choices.PREFIXES.items() if name in ("C-a", "C-z", "C-]", "C-\\", "C-^", "C-_")},
                          {"C-a": 1, "C-z": 26, "C-]": 29, "C-\\": 28, "C-^": 30, "C-_": 31})
+
+    def test_pauses(self):
+        """A start follows another after 0.1 s, a keeper of shells after 0.3 s, and then after pauses that grow; a folder is used daily."""
+        self.assertEqual((links.PAUSES, following.PAUSES), ((0.1, 1, 2, 4, 8, 15),) * 2)
+        self.assertEqual((watches.PAUSES, watches.SOUND, following.QUIET), ((0.3, 1, 2, 4, 8, 15), 5.0, 3.0))
+        self.assertEqual((lasting.DAILY, lasting.LOOKS), (24 * 60 * 60, 60))
+
+    def test_relay(self):
+        """A relay is alone for an hour, the far end for half a minute; a peer is silent for seven seconds; `ls` tells more than 32 starts."""
+        self.assertEqual((sessions.ALONE, sessions.MANY_STARTS), (3600, 32))
+        self.assertEqual((RELAY.SILENT, RELAY.ALONE, RELAY.PEER_LIMIT, relayed.HEARTBEAT), (7.0, 30.0, 256, 3.0))
+        self.assertEqual((relayed.VERSION, relayed.NOISE_LIMIT, relayed.PLACES_LIMIT), (2, 65536, 4096))
+
+    def test_wide(self):
+        """A datagram has 43 to 1,242 bytes: a header of 42, and 1 to 1,200 behind it."""
+        self.assertEqual((carriers.SHORTEST, carriers.LONGEST), (42 + 1, 42 + 1200))
