@@ -1,6 +1,7 @@
 """The keeper of shells, made by hand: panes over sockets, commands that never run, and a server that is played."""
 import argparse
 import os
+import shutil
 import signal
 import struct
 from unittest import mock
@@ -141,6 +142,48 @@ class Panes(Keeper):
         pane.is_dropping = True
         self.turn(1)
         self.assertEqual((pane.to_terminal, pane.is_dropping, pane.written), (b"", False, 1))
+
+    def test_no_reader(self):
+        """What a pane's program doesn't read is taken from the server all the same, and dropped above a limit; other panes go on."""
+        panes = self.begin()
+        for _ in range(200):
+            panes[0].send(b"x" * 4000)
+            self.turn(2)
+        pane = self.keeper.panes[1]
+        self.assertEqual(len(pane.to_terminal), 65536)
+        panes[1].send(b"goes on")
+        self.turn()
+        self.assertEqual(read_now(self.made[1]), b"goes on")
+        self.assertEqual(self.said.getvalue().count("pane 1: what is typed isn't read there; above 65536 bytes it is dropped\n"), 1)
+        self.assertTrue(pane.is_dropping)
+        while pane.to_terminal:
+            read_now(self.made[0])
+            self.turn()
+        self.assertFalse(pane.is_dropping)
+
+    def test_folder(self):
+        """A new pane's command starts where the program in front in the pane in focus is, else where its command is; the first where the
+        server is."""
+        self.keeper.asked.server = 4711
+        works = self.patch_of(shells, "working_folder", return_value="/there")
+        self.patch_of(shells, "group_in_front", return_value=99)
+        self.begin()
+        self.assertEqual([call[0][0] for call in works.call_args_list], [[4711], [4711]])
+        self.tell("3 1 1 5 5 1", "focus 3")
+        self.assertEqual((works.call_args[0][0], self.keeper.panes[3].folder), ([99, 71, 4711], "/there"))
+
+    def test_folder_taken(self):
+        """A keeper whose folder was removed, and made anew by another session, goes to none of its sockets, and writes nothing there."""
+        self.begin()
+        self.folder.rename(self.folder.with_name(self.folder.name + "-old"))
+        self.addCleanup(shutil.rmtree, str(self.folder) + "-old")
+        self.folder.mkdir()
+        other = self.listening(self.folder / "p3")
+        self.tell("3 1 1 5 5 1", "focus 3")
+        self.assertIn("pane 3: the session's folder was removed; tried again\n", self.said.getvalue())
+        with self.assertRaises(BlockingIOError):
+            other.accept()
+        self.assertFalse((self.folder / "rects").exists())
 
     def test_terminal_gone(self):
         """A terminal that no program has any more is closed, and so is a connection that the server ends."""
