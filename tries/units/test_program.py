@@ -190,7 +190,7 @@ class Notes(Case):
         self.other("edits")
         self.assertEqual((program.count_clients(self.folder), program.has_others(self.folder)), (3, True))
         watcher.write_text("1 watches\n", encoding="utf-8")
-        for name, text in (("1073741824", "5 edits\n"), ("12", ""), ("x", "1 edits\n"), ("13", "x")):
+        for name, text in (("1073741824", "5 edits\n"), ("1073741825", ""), ("x", "1 edits\n"), ("1073741826", "x")):
             (self.folder / "attached" / name).write_text(text, encoding="utf-8")
         self.assertEqual(program.count_clients(self.folder), 2)
         self.assertEqual(len(list((self.folder / "attached").iterdir())), 2)
