@@ -374,7 +374,8 @@ class Loop(Fronts):
             self.assertEqual(outer.size(), (24, 80))
 
     def test_no_terminal(self):
-        for name, patched, told in (("isatty", mock.patch("os.isatty", side_effect=[True, False]), "standard input and output have to be a terminal"),
+        none = mock.patch("os.isatty", side_effect=[True, False])
+        for name, patched, told in (("isatty", none, "standard input and output have to be a terminal"),
                                     ("raw", mock.patch.object(terminal, "make_raw", return_value=None), "the terminal can't be made raw")):
             with self.subTest(name), patched, self.assertRaisesRegex(Fault, told):
                 display.Outer()

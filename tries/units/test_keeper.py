@@ -498,10 +498,12 @@ class Words(Case):
         """What is forked becomes the command, of the pane's size and in its folder, and ends where it can't."""
         pane = shells.Pane(argparse.Namespace(dir="/d", command=["vi"], instead="/bin/sh"), 3, 1, (5, 40), False, "/tmp")
         with mock.patch.object(shells.os, "forkpty", return_value=(0, 9)), mock.patch.object(shells.terminal, "become") as becomes, \
-                mock.patch.object(shells.os, "_exit", side_effect=InterruptedError) as exits, mock.patch.object(shells.os, "chdir") as enters:
+                mock.patch.object(shells.os, "_exit", side_effect=InterruptedError) as exits, \
+                mock.patch.object(shells.os, "chdir") as enters:
             with self.assertRaises(InterruptedError):
                 pane.run()
         exits.assert_called_once_with(127)
         enters.assert_called_once_with("/tmp")
         command, size, environment, instead = becomes.call_args[0]
-        self.assertEqual((command, size, instead, environment["PWD"], environment["ROAM_PANE"]), (["vi"], (5, 40), "/bin/sh", "/tmp", "/d:3"))
+        self.assertEqual((command, size, instead), (["vi"], (5, 40), "/bin/sh"))
+        self.assertEqual((environment["PWD"], environment["ROAM_PANE"]), ("/tmp", "/d:3"))

@@ -171,5 +171,6 @@ class Asked(unittest.TestCase):
         self.assertNotIn("C-z", [line.split()[0] for line in help_with("C-z").split("\n") if "suspend" in line])
 
     def test_spelled(self):
-        for name, told in (("\x02", "C-b"), ("\x1a", "C-z"), ("\x1c", "C-\\"), ("Z", "Z"), ("up", "up"), ("\x1b", "this key"), ("\x7f", "this key")):
+        for name, told in (("\x02", "C-b"), ("\x1a", "C-z"), ("\x1c", "C-\\"), ("Z", "Z"), ("up", "up"), ("\x1b", "this key"),
+                           ("\x7f", "this key")):
             self.assertEqual(spelled(name), told)

@@ -295,7 +295,8 @@ class Words(Mux):
                 self.assertEqual(vars(plain), parsed, (word, rest))
             else:
                 self.assertEqual(word, "new")
-        for word, rest in (("attach", ["-x"]), ("attach", ["a", "b"]), ("watch", []), ("send", ["a", "b"]), ("ssh", ["a"]), ("kill", ["-f", "x"])):
+        for word, rest in (("attach", ["-x"]), ("attach", ["a", "b"]), ("watch", []), ("send", ["a", "b"]), ("ssh", ["a"]),
+                           ("kill", ["-f", "x"])):
             self.assertIsNone(mux.plain_words(word, rest), (word, rest))
 
     def test_refused(self):
@@ -344,9 +345,10 @@ class Words(Mux):
         page = PAGE.read_text(encoding="utf-8")
         for word in mux.WORDS:
             self.assertRegex(page, rf"\b{word}\b")
-        self.assertEqual(list(mux.WORDS), ["attach", "new", "detach", "ls", "list", "watch", "kill", "send", "capture", "ssh", "far", "help"])
+        self.assertEqual(list(mux.WORDS), "attach new detach ls list watch kill send capture ssh far help".split())
 
     def test_ssh_words(self):
         asked = mux.asked_by("ssh", ["-p", "22", "--far", "f", "there"])
-        self.assertEqual((asked.options, asked.far, asked.ssh, asked.host, asked.name, asked.guess), (["-p", "22"], "f", "ssh", "there", "main", None))
+        self.assertEqual((asked.options, asked.far, asked.ssh), (["-p", "22"], "f", "ssh"))
+        self.assertEqual((asked.host, asked.name, asked.guess), ("there", "main", None))
         self.assertEqual(mux.asked_by("send", ["x", "a", "b"]).acts, ["a", "b"])

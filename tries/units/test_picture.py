@@ -91,6 +91,12 @@ class Colours(Case):
             self.assertEqual(colour.index(max(colour)), {1: 0, 2: 1, 4: 2}[index & 7])
         self.assertEqual((len(picture.SIXTEEN), max(map(max, picture.SIXTEEN))), (16, 255))
 
+    def test_sixteen(self):
+        """The sixteen are those of VS Code's terminal, but for blues that a dark ground leaves legible, and white."""
+        known = ((0, 0, 0), (205, 49, 49), (13, 188, 121), (229, 229, 16), (188, 63, 188), (17, 168, 205), (229, 229, 229), (102, 102, 102),
+                 (241, 76, 76), (35, 209, 139), (245, 245, 67), (214, 112, 214), (41, 184, 219))
+        self.assertEqual([picture.mixture(index, None) for index in (0, 1, 2, 3, 5, 6, 7, 8, 9, 10, 11, 13, 14)], list(known))
+
     def test_flags(self):
         """Reverse swaps, conceal hides, faint lies halfway to the background."""
         red, green = (200, 0, 0), (0, 100, 50)

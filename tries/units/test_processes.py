@@ -110,8 +110,9 @@ class Read(Based):
         """A line of `ls`: name, rows and columns, panes, clients, and the starts from 33 on."""
         session = self.session()
         self.assertEqual(session.line().split(), ["main", "-", "?", "panes", "0", "clients"])
-        for places, told in ((Places({1: Rect(1, 1, 23, 80)}, 1, 32), "main         24 by 80     1 pane   0 clients"),
-                             (Places({1: Rect(1, 1, 23, 39), 2: Rect(1, 41, 23, 40)}, 1, 33), "main         24 by 80     2 panes  0 clients, 33 of 64 starts")):
+        one, two = Places({1: Rect(1, 1, 23, 80)}, 1, 32), Places({1: Rect(1, 1, 23, 39), 2: Rect(1, 41, 23, 40)}, 1, 33)
+        for places, told in ((one, "main         24 by 80     1 pane   0 clients"),
+                             (two, "main         24 by 80     2 panes  0 clients, 33 of 64 starts")):
             write_places(self.folder / "rects", places)
             self.assertEqual(session.line(), told)
         (self.folder / "attached").mkdir()
@@ -119,7 +120,8 @@ class Read(Based):
         self.assertIn(" 1 client,", session.line())
 
     def test_names(self):
-        for name, is_one in (("main", True), ("a-b_9", True), ("x" * 32, True), ("x" * 33, False), ("", False), ("a.b", False), ("\u00e9", False)):
+        for name, is_one in (("main", True), ("a-b_9", True), ("x" * 32, True), ("x" * 33, False), ("", False), ("a.b", False),
+                             ("\u00e9", False)):
             if is_one:
                 sessions.check_name(name)
             else:
@@ -205,7 +207,7 @@ class Starts(Based):
         self.assertFalse(test())
         self.listening(self.folder / "clients")
         self.assertTrue(test())
-        self.assertEqual({**session.state, "server": 0, "shells": 0}, {"version": VERSION, "command": ["vi", "x"], "server": 0, "shells": 0})
+        self.assertEqual(session.state, {"version": VERSION, "command": ["vi", "x"], "server": OWN, "shells": OWN})
         with mock.patch.object(Session, "runs", side_effect=[True, False]):
             session.demand_shells()
             self.assertEqual(len(self.words), 2)
@@ -217,7 +219,8 @@ class Starts(Based):
         session = self.session()
         (self.folder / "terminals").touch()
         session.demand_terminals()
-        self.assertEqual(self.words, [("terminals", ["/roam", "attach", "--dir", str(self.folder), "--terminals", str(self.folder / "terminals")])])
+        words = ["/roam", "attach", "--dir", str(self.folder), "--terminals", str(self.folder / "terminals")]
+        self.assertEqual(self.words, [("terminals", words)])
         self.assertFalse((self.folder / "terminals").exists())
         self.assertEqual((self.waits[0][0], self.waits[0][2]()), ("terminals", False))
         self.listening(self.folder / "terminals")
@@ -284,7 +287,8 @@ class Spawned(Based):
         self.addCleanup(process.wait)
         self.addCleanup(process.kill)
         noted = json.loads((self.folder / "state.json").read_text(encoding="utf-8"))["server"]
-        self.assertEqual((noted, self.session_here.state["server"], os.getsid(process.pid)), ([process.pid, begun(process.pid)],) * 2 + (process.pid,))
+        self.assertEqual((noted, self.session_here.state["server"]), ([process.pid, begun(process.pid)],) * 2)
+        self.assertEqual(os.getsid(process.pid), process.pid)
         while self.session_here.logged() < 10:
             os.sched_yield()
         self.assertEqual((self.session_here.said(0), self.session_here.said(5)), ("said; more", "more"))
@@ -353,13 +357,14 @@ class Spawned(Based):
 
     def test_cleaned(self):
         """What is left goes, but for the log and the note of its end."""
-        names = ["clients", "panes", "terminals", "bells", *(f"p{pane}" for pane in range(1, 10)), "rects", "session", "session.new", "state.json"]
-        for name in [*names, "log", "lock", "ended", "own"]:
+        panes = [f"p{pane}" for pane in range(1, 10)]
+        names = ["clients", "panes", "terminals", "bells", *panes, "rects", "session", "session.new", "state.json"]
+        for name in [*names, "log", "lock", "ended", "own", "p0", "p10"]:
             (self.folder / name).touch()
         (self.folder / "attached").mkdir()
         (self.folder / "attached/1").touch()
         self.session_here.clean()
-        self.assertEqual(sorted(path.name for path in self.folder.rglob("*")), ["attached", "ended", "lock", "log", "own"])
+        self.assertEqual(sorted(path.name for path in self.folder.rglob("*")), ["attached", "ended", "lock", "log", "own", "p0", "p10"])
 
     def test_front(self):
         """What may ask is in front of the terminal while it does; where there is none that is no fault."""
@@ -370,7 +375,8 @@ class Spawned(Based):
         self.assertEqual(handles.call_args_list, [mock.call(signal.SIGTTOU, signal.SIG_IGN), mock.call(signal.SIGTTOU, "before")])
         opens.side_effect = OSError(6, "No such device or address")
         sessions.take_front(9)
-        with mock.patch("os.setpgid") as parts, mock.patch.object(sessions, "take_front") as takes, mock.patch("os.getpgrp", return_value=3):
+        self.patch("os.getpgrp", return_value=3)
+        with mock.patch("os.setpgid") as parts, mock.patch.object(sessions, "take_front") as takes:
             sessions.in_front()
         self.assertEqual((parts.call_args[0], takes.call_args[0]), ((0, 0), (3,)))
         self.assertIn(mock.call(signal.SIGTSTP, signal.SIG_IGN), handles.call_args_list)
@@ -399,7 +405,8 @@ class Ports(Case):
     def test_known(self):
         """Little is known of it, and where panes are only where a folder tells it."""
         self.session.read()
-        self.assertEqual((self.session.places(), self.session.busy(), self.session.is_full(), str(self.session)), (NOTHING, None, False, "at port 9"))
+        self.assertEqual((self.session.places(), self.session.busy(), self.session.is_full()), (NOTHING, None, False))
+        self.assertEqual(str(self.session), "at port 9")
         self.assertEqual((self.session.process("server"), self.session.process("shells"), self.session.runs()), (None, None, False))
         self.assertEqual(self.session.ending(), ("[the session has ended]", 0))
         folder = self.made_folder()
@@ -521,7 +528,8 @@ class Captures(Based):
         self.assertTrue(101.0 <= self.now < 101.31)
 
     def test_ended(self):
-        with mock.patch.object(captures.select, "select", return_value=([5], [], [])), mock.patch.object(captures, "read", return_value=b""):
+        self.patch_of(captures.select, "select", return_value=([5], [], []))
+        with mock.patch.object(captures, "read", return_value=b""):
             self.assertEqual(captures.paints(5), b"")
 
     def capture(self, text, is_drawn=False):
@@ -541,7 +549,8 @@ class Captures(Based):
 
     def test_nothing(self):
         for text, told in ((b"", "^no more terminals are taken: 16 are there$"), (b"\x1bc", "^session main showed nothing: it is busy$")):
-            with mock.patch.object(captures, "Link"), mock.patch.object(captures, "paints", return_value=text), self.assertRaisesRegex(Fault, told):
+            painted = mock.patch.object(captures, "paints", return_value=text)
+            with mock.patch.object(captures, "Link"), painted, self.assertRaisesRegex(Fault, told):
                 captures.capture(self.session(), False)
 
 

@@ -40,8 +40,8 @@ class Programs(Case):
 
     def test_ids(self):
         """An id is 1 to 16 hexadecimal digits; a new one has 15, of which the first is none."""
-        for word, is_one in (("5e55", True), ("0", True), ("ABCdef0123456789", True), ("ABCdef01234567890", False), ("", False), ("g", False),
-                             ("\u0663", False)):
+        for word, is_one in (("5e55", True), ("0", True), ("ABCdef0123456789", True), ("ABCdef01234567890", False), ("", False),
+                             ("g", False), ("\u0663", False)):
             self.assertEqual(program.is_id(word), is_one, word)
         found = {program.random_id() for _ in range(200)}
         self.assertEqual((len(found), {len(one) for one in found}), (200, {15}))
@@ -53,9 +53,9 @@ class Homes(Case):
 
     def test_words(self):
         """DIR, or PORT SESSION; ports are 1 to 65535."""
-        for words, told in ((["d"], f"in {os.getcwd()}/d"), (["/x/../y"], "in /y"), (["1", "5e55"], "at port 1"), (["65535", "0"], "at port 65535"),
-                            (["0", "5e55"], None), (["65536", "5e55"], None), (["x", "5e55"], None), (["7", "xyz"], None), ([], None),
-                            (["7", "1", "2"], None)):
+        for words, told in ((["d"], f"in {os.getcwd()}/d"), (["/x/../y"], "in /y"), (["1", "5e55"], "at port 1"),
+                            (["65535", "0"], "at port 65535"), (["0", "5e55"], None), (["65536", "5e55"], None), (["x", "5e55"], None),
+                            (["7", "xyz"], None), ([], None), (["7", "1", "2"], None)):
             home = Home.of(words)
             self.assertEqual(home and str(home), told, words)
         home = Home.of(["9", "5e55"])
@@ -267,8 +267,9 @@ class Ends(Case):
 
     def test_ends(self):
         """A fault is one printable line and status 1."""
-        for fault, code in ((Fault("no\x1b[c\n room"), "tool: no?[c; room"), (FileNotFoundError(2, "No such file", "/x"), "tool: /x: No such file"),
-                            (OSError(28, "full"), "tool: full"), (KeyboardInterrupt(), 130), (BrokenPipeError(32, "Broken pipe"), "tool: Broken pipe"),
+        for fault, code in ((Fault("no\x1b[c\n room"), "tool: no?[c; room"), (OSError(28, "full"), "tool: full"),
+                            (KeyboardInterrupt(), 130), (FileNotFoundError(2, "No such file", "/x"), "tool: /x: No such file"),
+                            (BrokenPipeError(32, "Broken pipe"), "tool: Broken pipe"),
                             (ValueError("\x1b"), "roam: tool failed: ValueError: ?"), (SystemExit(5), 5)):
             self.assertEqual(self.run_with(mock.Mock(side_effect=fault)), code)
         self.assertEqual((self.run_with(lambda: 3), self.run_with(lambda: None)), (3, None))
@@ -393,7 +394,8 @@ class Running(Case):
     def test_busy(self):
         """The panes in which something else than a shell has the terminal, by what the keeper of shells started."""
         stat = "({0}) S 1 {1} {1} 34816 {2} 4194304"
-        self.proc({"7/task/7/children": "10 20 30 40 50 ", **{f"{one}0/environ": f"A=b\0ROAM_PANE=/x:y/main:{one}\0" for one in range(1, 5)},
+        panes = {f"{one}0/environ": f"A=b\0ROAM_PANE=/x:y/main:{one}\0" for one in range(1, 5)}
+        self.proc({"7/task/7/children": "10 20 30 40 50 ", **panes,
                    "10/stat": "10 " + stat.format("sh", 10, 10), "10/comm": "bash\n", "20/stat": "20 " + stat.format("a) (b", 20, 21),
                    "21/comm": "vi\n", "30/stat": "30 " + stat.format("-zsh", 30, 30), "30/comm": "-zsh\n",
                    "40/stat": "40 " + stat.format("sh", 40, 41), "50/stat": "50 " + stat.format("sh", 50, 50), "50/comm": "vi\n"})
@@ -424,8 +426,8 @@ class Numbers(Case):
         self.assertEqual((program.LONGEST_WAIT, program.SAID_AFTER, program.UNREAD_LIMIT, program.LONGEST_LINE), (10.0, 0.5, 65536, 65536))
         self.assertEqual((logs.LOG_LIMIT, logs.KEPT, words.SAID_LIMIT), (1 << 20, 1 << 19, 64 * 1024))
         self.assertEqual((choices.PREFIX, choices.GUESSING), ("C-b", ("adaptive", "always", "never")))
-        self.assertEqual({name: ord(letter) for name, letter in choices.PREFIXES.items() if name in ("C-a", "C-z", "C-]", "C-\\", "C-^", "C-_")},
-                         {"C-a": 1, "C-z": 26, "C-]": 29, "C-\\": 28, "C-^": 30, "C-_": 31})
+        codes = {"C-a": 1, "C-z": 26, "C-]": 29, "C-\\": 28, "C-^": 30, "C-_": 31}
+        self.assertEqual({name: ord(choices.PREFIXES[name]) for name in codes}, codes)
 
     def test_pauses(self):
         """A start follows another after 0.1 s, a keeper of shells after 0.3 s, and then after pauses that grow; a folder is used daily."""
@@ -434,7 +436,7 @@ class Numbers(Case):
         self.assertEqual((lasting.DAILY, lasting.LOOKS), (24 * 60 * 60, 60))
 
     def test_relay(self):
-        """A relay is alone for an hour, the far end for half a minute; a peer is silent for seven seconds; `ls` tells more than 32 starts."""
+        """A relay is alone for an hour, its far end half a minute; seven seconds are silence; `ls` tells of more than 32 starts."""
         self.assertEqual((sessions.ALONE, sessions.MANY_STARTS), (3600, 32))
         self.assertEqual((RELAY.SILENT, RELAY.ALONE, RELAY.PEER_LIMIT, relayed.HEARTBEAT), (7.0, 30.0, 256, 3.0))
         self.assertEqual((relayed.VERSION, relayed.NOISE_LIMIT, relayed.PLACES_LIMIT), (2, 65536, 4096))

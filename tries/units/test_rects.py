@@ -23,7 +23,8 @@ class Sides(Case):
 
     def test_nearest(self):
         """Of two that touch it is the one nearest to the middle."""
-        steps = {(1, "right"): 2, (1, "down"): 3, (2, "down"): 4, (2, "left"): 1, (3, "right"): 4, (3, "up"): 1, (4, "left"): 1, (4, "up"): 2}
+        steps = {(1, "right"): 2, (1, "down"): 3, (2, "down"): 4, (2, "left"): 1, (3, "right"): 4, (3, "up"): 1, (4, "left"): 1,
+                 (4, "up"): 2}
         for (focus, way), pane in steps.items():
             self.assertEqual(Places(FOUR, focus).neighbour(way), pane, (focus, way))
         low = {1: Rect(1, 1, 23, 39), 2: Rect(1, 41, 15, 40), 3: Rect(17, 41, 7, 40)}

@@ -783,7 +783,7 @@ class Streams(Ends):
         return list(self.receiver.received())
 
     def test_cut(self):
-        """Frames come once, in order and whole, wherever they are cut, behind what a shell says at its start; and take less than they have."""
+        """Frames come once, in order and whole, wherever they are cut, behind what a shell says at its start; and are little."""
         waiting = Waiting()
         texts = [bytes([number]) * (34 + number * 9) for number in range(1, 60)]
         for number, text in enumerate(texts, 1):

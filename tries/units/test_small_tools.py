@@ -137,7 +137,8 @@ class Attach(Case):
         self.listening(self.folder / "clients")
         self.assertEqual(self.attach(str(self.folder)), 5)
         place, watches, prefix, guessing = self.follows.call_args[0]
-        self.assertEqual((type(place), place.folder, place.by_hand, watches, prefix, guessing), (Session, self.folder, None, False, "C-b", "adaptive"))
+        self.assertEqual((type(place), place.folder, place.by_hand), (Session, self.folder, None))
+        self.assertEqual((watches, prefix, guessing), (False, "C-b", "adaptive"))
         self.assertEqual(self.attach("--watch", "--guess", "never", "--server", "7", str(self.folder)), 5)
         place, watches, _, guessing = self.follows.call_args[0]
         self.assertEqual((place.by_hand, watches, guessing), (7, True, "never"))

@@ -1,9 +1,11 @@
 """The outer terminal: its modes and names, what of the painter's text reaches it, and the size of what was painted."""
 import errno
+import fcntl
 import os
 import pty
 import select
 import signal
+import struct
 import termios
 from unittest import mock
 
@@ -162,6 +164,7 @@ class Modes(Case):
         """A size is given and told; a terminal that tells none has 24 by 80."""
         terminal.set_size(self.slave, 33, 101)
         self.assertEqual(terminal.size_of(self.master), (33, 101))
+        self.assertEqual(struct.unpack("HHHH", fcntl.ioctl(self.slave, termios.TIOCGWINSZ, bytes(8))), (33, 101, 0, 0))
         terminal.set_size(self.slave, 0, 0)
         self.assertEqual(terminal.size_of(self.slave), (24, 80))
 
@@ -254,6 +257,7 @@ class Names(Case):
 
     def test_empty(self):
         """An empty name of a folder isn't the root."""
-        with mock.patch.dict(os.environ, {"TERMINFO": "", "TERMINFO_DIRS": "::"}), mock.patch("os.path.exists", return_value=False) as looks:
+        self.environment(TERMINFO="", TERMINFO_DIRS="::")
+        with mock.patch("os.path.exists", return_value=False) as looks:
             self.assertFalse(terminal.has_entry("vt220"))
         self.assertFalse([call for call in looks.call_args_list if call[0][0].startswith("/v/") or call[0][0].startswith("/76/")])

@@ -123,7 +123,8 @@ class Names(unittest.TestCase):
     def name_of(given):
         """What is told of a program with a terminal that named itself so, by what the system tells of it."""
         stat = "7 (sh) S 1 7 7 34816 9 4194304"
-        with mock.patch.object(pathlib.Path, "read_text", return_value=stat), mock.patch.object(pathlib.Path, "read_bytes", return_value=given + b"\n"):
+        told = mock.patch.object(pathlib.Path, "read_bytes", return_value=given + b"\n")
+        with mock.patch.object(pathlib.Path, "read_text", return_value=stat), told:
             return foreground(7)
 
 
@@ -132,8 +133,8 @@ class Faults(unittest.TestCase):
 
     def test_printable(self):
         """It is printable, also what ends a process."""
-        code = "def main(): raise Fault('no \\x1b[c\\nname \\u202e')"
-        words = [sys.executable, "-c", f"import sys; sys.path.insert(0, {str(TOOLS)!r})\nfrom roam_live.program import *\n{code}\nrun_tool(main)"]
+        code = "def main(): raise Fault('no \\x1b[c\\nname \\u202e')\nrun_tool(main)"
+        words = [sys.executable, "-c", f"import sys; sys.path.insert(0, {str(TOOLS)!r})\nfrom roam_live.program import *\n{code}"]
         run = subprocess.run(words, stderr=subprocess.PIPE, check=False)
         self.assertEqual((run.returncode, run.stderr), (1, b"-c: no ?[c; name ?\n"))
 
