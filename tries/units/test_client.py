@@ -380,6 +380,21 @@ class Loop(Fronts):
             with self.subTest(name), patched, self.assertRaisesRegex(Fault, told):
                 display.Outer()
 
+    def test_outer(self):
+        """What is typed comes from standard input, whose modes and size are gone by, and standard output is written."""
+        with mock.patch.object(terminal, "make_raw", return_value=[1]) as raws, mock.patch.object(terminal, "size_of") as sizes, \
+                mock.patch.object(terminal, "opened_for_writing", return_value=9) as opens, mock.patch("os.isatty", return_value=True) as asks:
+            outer = display.Outer()
+        self.assertEqual([one.call_args[0] for one in (raws, sizes, opens)], [(0,), (0,), (1,)])
+        self.assertEqual((asks.call_args_list, outer.modes, outer.end), ([mock.call(0), mock.call(1)], [1], 9))
+        with mock.patch.object(terminal, "make_raw") as raws:
+            outer.enter_again()
+        raws.assert_called_once_with(0)
+        with mock.patch.object(terminal, "restore") as restores, mock.patch("os.set_blocking") as blocks, \
+                mock.patch.object(display, "write", return_value=False):
+            outer.leave("")
+        self.assertEqual((restores.call_args[0], blocks.call_args[0]), ((0, [1]), (9, True)))
+
     def test_follow(self):
         """Who follows is noted while it does, and lets the session go."""
         seen = []

@@ -145,6 +145,11 @@ class Asked(unittest.TestCase):
         asked_by(typing, b"g\x02\x1b[5~", rows=40)
         self.assertEqual(typing.view, 20)
 
+    def test_begin(self):
+        """At first nothing is scrolled back, and no growth was before."""
+        typing = Typing()
+        self.assertEqual((typing.view, typing.repeats_until, typing.left()), (0, 0.0, []))
+
     def test_answer(self):
         """y answers with yes, and any other key with no."""
         for text, wish in ((b"y", "yes"), (b"Y", "yes"), (b"n", "no"), (b"\r", "no"), (b"\x02", "no")):
