@@ -382,8 +382,9 @@ class Loop(Fronts):
 
     def test_outer(self):
         """What is typed comes from standard input, whose modes and size are gone by, and standard output is written."""
+        asks = self.patch("os.isatty", return_value=True)
         with mock.patch.object(terminal, "make_raw", return_value=[1]) as raws, mock.patch.object(terminal, "size_of") as sizes, \
-                mock.patch.object(terminal, "opened_for_writing", return_value=9) as opens, mock.patch("os.isatty", return_value=True) as asks:
+                mock.patch.object(terminal, "opened_for_writing", return_value=9) as opens:
             outer = display.Outer()
         self.assertEqual([one.call_args[0] for one in (raws, sizes, opens)], [(0,), (0,), (1,)])
         self.assertEqual((asks.call_args_list, outer.modes, outer.end), ([mock.call(0), mock.call(1)], [1], 9))
