@@ -9,7 +9,14 @@ import tempfile
 import unittest
 from unittest import mock
 
-from roam_live.bells import AGAIN, APART, MOST_FOLLOWERS, BellFollower, BellSource
+from roam_live.bells import AGAIN, APART, MOST_FOLLOWERS, BellFollower, Bells as Finder, BellSource
+
+# What a program writes, and whether a bell rings in it.
+BELLS = (
+    (b"a\x07b", True), (b"\x1b]0;a title\x07", False), (b"\x1b]0;a title\x1b\\\x07", True), (b"\x1bPq\x07\x07", True),
+    (b"\x1b]0;\x1b[1m\x07", True), (b"\x1b\x07", True), (b"\x1b]0;\x18\x07", True), (b"\x1b[1mbold", False),
+    (b"\x1b]8;;there\x07shown\x1b]8;;\x07", False),
+)
 
 
 class Bells(unittest.TestCase):
@@ -167,3 +174,23 @@ class Bells(unittest.TestCase):
                 self.now += APART
                 self.source.tell(pane)
         self.assertLessEqual(len(self.source.followers), MOST_FOLLOWERS)
+
+
+class Found(unittest.TestCase):
+    """Bells in what a program writes."""
+
+    def test_cut(self):
+        """A bell is found wherever what is written is cut, and none that ends a control string."""
+        for text, wanted in BELLS:
+            for cut in range(len(text) + 1):
+                bells = Finder()
+                self.assertEqual(any([bells.rung(text[:cut]), bells.rung(text[cut:])]), wanted, (text, cut))
+
+    def test_bytewise(self):
+        for text, wanted in BELLS:
+            bells = Finder()
+            self.assertEqual(any([bells.rung(bytes([byte])) for byte in text]), wanted, text)
+
+    def test_numbers(self):
+        """A pane rings once a second, for sixteen who follow, and who was refused connects again after a second, as docs/LIVE.md has it."""
+        self.assertEqual((APART, MOST_FOLLOWERS, AGAIN), (1.0, 16, 1.0))

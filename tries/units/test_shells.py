@@ -1,14 +1,10 @@
 """What keeps the shells of a session: what it starts where, what waits for a program that doesn't read, and who is told what."""
 import argparse
 import contextlib
-import importlib.machinery
-import importlib.util
 import io
 import os
 import pathlib
 import pty
-import select
-import shutil
 import socket
 import subprocess
 import sys
@@ -17,16 +13,9 @@ import time
 import unittest
 import unittest.mock
 
-from roam_live.program import TOOLS, connected_now
+from aids import loaded
+from roam_live.program import TOOLS
 from roam_live.programs import group_in_front, working_folder
-
-
-def loaded(name):
-    """A tool as a module."""
-    loader = importlib.machinery.SourceFileLoader(name, str(TOOLS / name))
-    module = importlib.util.module_from_spec(importlib.util.spec_from_loader(name, loader))
-    loader.exec_module(module)
-    return module
 
 
 shells = loaded("pane_shells")
@@ -205,68 +194,6 @@ class Kept(unittest.TestCase):
         self.server.close()
         follower.close()
         self.assertEqual(process.wait(10), 0)
-
-    def test_unread(self):
-        """A pane that the server doesn't read is told of, to who follows bells too; one that it reads isn't."""
-        self.run_tool(str(self.folder), "sh", "-c", "echo here; exec cat")
-        self.told(b"1 1 1 23 39 1\n2 1 41 23 39 1\nfocus 1\n")
-        self.assertTrue(self.shows(self.server.taken("p1"), b"here"))
-        self.assertTrue(comes((self.folder / "bells").exists))
-        with connected_now(self.folder / "bells") as follower:
-            follower.setblocking(True)
-            follower.settimeout(10)
-            told = shells.UNREAD.format(2)
-            self.assertEqual(follower.recv(256), f"say {told}\n".encode())
-        self.assertEqual(self.said(), f"pane_shells: {told}\n")
-
-    def test_no_reader(self):
-        """What a pane's program doesn't read is taken from the server all the same, and dropped above a limit; other panes go on."""
-        command = "stty raw -echo; echo here; [ $ROAM_PANE = ${ROAM_PANE%1} ] || sleep 60; exec cat"
-        process = self.run_tool(str(self.folder), "sh", "-c", command)
-        self.told(b"1 1 1 23 39 1\n2 1 41 23 39 1\nfocus 1\n")
-        panes = [self.server.taken(name) for name in ("p1", "p2")]
-        for pane in panes:
-            self.assertTrue(self.shows(pane, b"here"))
-        for _ in range(200):
-            panes[0].sendall(b"x" * 4000)
-        panes[1].sendall(b"goes on")
-        self.assertTrue(self.shows(panes[1], b"goes on"))
-        self.assertEqual(self.said(), "pane_shells: pane 1: what is typed isn't read there; above 65536 bytes it is dropped\n")
-        text = pathlib.Path(f"/proc/{process.pid}/status").read_text(encoding="utf-8")
-        self.assertLess(next(int(line.split()[1]) for line in text.splitlines() if line.startswith("VmRSS")), 60_000)
-
-    def test_never(self):
-        """One that can't follow from the start says so in a pane, and comes to follow."""
-        process = self.run_tool(str(self.folder), "sh", "-c", "echo here; exec cat")
-        for _ in range(2):
-            self.server.taken("panes").close()
-        with self.server.taken("p1") as pane:
-            self.assertTrue(self.shows(pane, b"[no shell: the panes can't be followed: "))
-        self.assertIn("the panes can't be followed: ", self.said())
-        self.told(b"1 1 1 23 80 1\nfocus 1\n")
-        self.assertTrue(self.shows(self.server.taken("p1"), b"here"))
-        self.assertTrue(comes(lambda: "the panes are followed again" in self.said()))
-        self.assertIsNone(process.poll())
-
-    def test_folder_taken(self):
-        """A keeper whose folder was removed, and made anew by another session, goes to none of its sockets, and writes nothing there."""
-        self.run_tool(str(self.folder), "sh", "-c", "echo here; exec cat")
-        follower = self.told(b"1 1 1 23 80 1\nfocus 1\n")
-        pane = self.server.taken("p1")
-        self.assertTrue(self.shows(pane, b"here") and comes((self.folder / "rects").exists))
-        self.folder.rename(self.folder.with_name(self.folder.name + "-old"))
-        self.addCleanup(shutil.rmtree, str(self.folder) + "-old")
-        self.folder.mkdir()
-        other = Server(self.folder)
-        self.addCleanup(other.close)
-        follower.send(b"2 1 41 23 39 1\nfocus 2\n")
-        pane.send(b"still\n")
-        self.assertTrue(self.shows(pane, b"still"))
-        said = pathlib.Path(str(self.folder) + "-old", "said")
-        told = "pane_shells: pane 2: the session's folder was removed; tried again\n"
-        self.assertTrue(comes(lambda: told in said.read_text(encoding="utf-8")))
-        self.assertEqual(select.select([other.listeners["p2"], other.listeners["panes"]], [], [], 0.5)[0], [])
-        self.assertFalse((self.folder / "rects").exists())
 
     def test_last(self):
         """The end of the last shell is noted before the server is ended."""

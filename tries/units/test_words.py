@@ -1,13 +1,16 @@
 """What is written to terminals and logs: printable words, and not too many."""
+import contextlib
 import os
 import pathlib
 import subprocess
 import sys
 import tempfile
 import unittest
+from unittest import mock
 
-from roam_live import logs
+from roam_live import logs, program
 from roam_live.logs import KEPT, LOG_LIMIT, make_room
+from roam_live.processes import Processes
 from roam_live.program import TOOLS
 from roam_live.programs import foreground
 from roam_live.words import SAID_LIMIT, Said, one_line, printable
@@ -89,17 +92,23 @@ class Logs(unittest.TestCase):
 
     def test_each_writer(self):
         """Whoever says a line in a session's log, or fails there, or starts a process that writes there, keeps it small."""
-        starts = ("from roam_live.processes import Processes; p = Processes(folder); p.state = {}; p.name = 'x'; "
-                  "p.spawned('server', ['true']).wait()")
-        for code in ("say('x')", "run_tool(lambda: [][0])", starts):
-            with tempfile.TemporaryDirectory() as folder:
+        def fails():
+            with self.assertRaises(SystemExit), mock.patch("signal.signal"), mock.patch.dict(os.environ):
+                program.run_tool(lambda: [][0])
+
+        def starts():
+            there = Processes(folder)
+            there.state, there.name = {}, "x"
+            there.spawned("server", ["true"]).wait()
+
+        for writes in (lambda: program.say("x"), fails, starts):
+            with tempfile.TemporaryDirectory() as folder, mock.patch.object(program, "logs", []):
                 path = pathlib.Path(folder, "log")
                 path.write_bytes(b"a line\n" * (LOG_LIMIT // 3))
-                path_first = f"import sys; sys.path.insert(0, {str(TOOLS)!r}); folder = {folder!r}\n"
-                begun = f"{path_first}from roam_live.program import *\nlog_to(folder)\n"
-                with open(path, "ab") as log:
-                    subprocess.run([sys.executable, "-c", begun + code], stderr=log, check=False)
-                self.assertLess(path.stat().st_size, KEPT + 10_000, code)
+                program.log_to(folder)
+                with open(path, "a", encoding="utf-8") as log, contextlib.redirect_stderr(log):
+                    writes()
+                self.assertLess(path.stat().st_size, KEPT + 10_000)
 
 
 class Names(unittest.TestCase):
@@ -112,53 +121,28 @@ class Names(unittest.TestCase):
 
     @staticmethod
     def name_of(given):
-        """What is told of a program with a terminal that named itself so."""
-        renames = ("import ctypes, sys; ctypes.CDLL(None).prctl(15, bytes.fromhex(sys.argv[1]), 0, 0, 0); print('named', flush=True); "
-                   "input()")
-        here = "import os, pty, sys; os.execv(sys.executable, [sys.executable, *sys.argv[1:]])"
-        read, write = os.openpty()
-        words = [sys.executable, "-c", here, "-c", renames, given.hex()]
-        own = lambda: (os.setsid(), __import__("fcntl").ioctl(0, __import__("termios").TIOCSCTTY, 0))
-        with subprocess.Popen(words, stdin=write, stdout=subprocess.PIPE, preexec_fn=own) as process:
-            try:
-                process.stdout.readline()
-                return foreground(process.pid)
-            finally:
-                process.kill()
-                os.close(read)
-                os.close(write)
+        """What is told of a program with a terminal that named itself so, by what the system tells of it."""
+        stat = "7 (sh) S 1 7 7 34816 9 4194304"
+        told = mock.patch.object(pathlib.Path, "read_bytes", return_value=given + b"\n")
+        with mock.patch.object(pathlib.Path, "read_text", return_value=stat), told:
+            return foreground(7)
 
 
 class Faults(unittest.TestCase):
     """What a tool ends with."""
 
-    def run_with(self, code, **more):
-        """Runs a tool whose main is a line of code."""
-        words = [sys.executable, "-c", f"import sys; sys.path.insert(0, {str(TOOLS)!r})\nfrom roam_live.program import *\n{code}"]
-        return subprocess.run(words, stderr=subprocess.PIPE, check=False, **more)
-
     def test_printable(self):
-        for code in ("def main(): raise Fault('no \\x1b[c\\nname \\u202e')", "def main(): open('/no/\\x1b]0;x\\x07')"):
-            run = self.run_with(f"{code}\nrun_tool(main)")
-            self.assertEqual(run.returncode, 1)
-            said = run.stderr.decode()
-            self.assertTrue(said.endswith("\n") and said[:-1].isprintable(), said)
-
-    def test_unforeseen(self):
-        run = self.run_with("def main(): raise RuntimeError('\\x1b[c')\nrun_tool(main)")
-        self.assertEqual((run.returncode, run.stderr), (1, b"roam: -c failed: RuntimeError: ?[c\n"))
-
-    def test_nobody_reads(self):
-        reader, writer = os.pipe()
-        os.close(reader)
-        run = self.run_with("run_tool(lambda: print('x' * 100000))", stdout=writer)
-        os.close(writer)
-        self.assertEqual((run.returncode, run.stderr), (141, b""))
+        """It is printable, also what ends a process."""
+        code = "def main(): raise Fault('no \\x1b[c\\nname \\u202e')\nrun_tool(main)"
+        words = [sys.executable, "-c", f"import sys; sys.path.insert(0, {str(TOOLS)!r})\nfrom roam_live.program import *\n{code}"]
+        run = subprocess.run(words, stderr=subprocess.PIPE, check=False)
+        self.assertEqual((run.returncode, run.stderr), (1, b"-c: no ?[c; name ?\n"))
 
     def test_closed(self):
         """A standard output that is closed from the beginning is nothing to complain of."""
-        run = self.run_with("run_tool(lambda: print('x'))", preexec_fn=lambda: os.close(1))
-        self.assertEqual((run.returncode, run.stderr), (0, b""))
+        with mock.patch("sys.stdout", None), mock.patch("signal.signal"), mock.patch.dict(os.environ), self.assertRaises(SystemExit) as way:
+            program.run_tool(lambda: print("x"))
+        self.assertIsNone(way.exception.code)
 
 
 if __name__ == "__main__":

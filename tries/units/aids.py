@@ -1,0 +1,145 @@
+"""What unit tests share: tools as modules, a clock that is set by hand, folders and sockets that go with the test."""
+import contextlib
+import functools
+import importlib.machinery
+import importlib.util
+import io
+import os
+import pathlib
+import socket
+import subprocess
+import sys
+import tempfile
+import types
+import unittest
+from unittest import mock
+
+from roam_live.program import TOOLS
+
+
+@functools.lru_cache()
+def loaded(name: str) -> types.ModuleType:
+    """A tool of live/ as a module."""
+    loader = importlib.machinery.SourceFileLoader(name, str(TOOLS / name))
+    spec = importlib.util.spec_from_loader(name, loader)
+    assert spec
+    module = importlib.util.module_from_spec(spec)
+    loader.exec_module(module)
+    return module
+
+
+class Case(unittest.TestCase):
+    """A test with what it makes gone behind it."""
+
+    now = 100.0
+
+    def made_folder(self) -> pathlib.Path:
+        """A folder of its own."""
+        made = tempfile.TemporaryDirectory()
+        self.addCleanup(made.cleanup)
+        return pathlib.Path(os.path.realpath(made.name))
+
+    def patch(self, *words: object, **more: object) -> mock.Mock:
+        """What stands in for something while the test runs."""
+        patched = mock.patch(*words, **more)
+        self.addCleanup(patched.stop)
+        return patched.start()
+
+    def patch_of(self, target: object, name: str, *words: object, **more: object) -> mock.Mock:
+        """What stands in for something's part while the test runs."""
+        patched = mock.patch.object(target, name, *words, **more)
+        self.addCleanup(patched.stop)
+        return patched.start()
+
+    def stop_clock(self) -> None:
+        """Has the moment be `now`, which a sleep puts on, and nobody else."""
+        self.patch("time.monotonic", lambda: self.now)
+        self.patch("time.sleep", self.pass_time)
+
+    def pass_time(self, seconds: float) -> None:
+        """Lets so many seconds pass."""
+        self.now += seconds
+
+    def pair(self) -> "tuple[socket.socket, socket.socket]":
+        """Two ends of a stream, neither of which waits."""
+        ends = socket.socketpair()
+        for end in ends:
+            end.setblocking(False)
+            self.addCleanup(end.close)
+        return ends
+
+    def pipe(self) -> "tuple[int, int]":
+        """A pipe whose ends don't wait."""
+        ends = os.pipe2(os.O_NONBLOCK | os.O_CLOEXEC)
+        for end in ends:
+            self.addCleanup(closed, end)
+        return ends
+
+    def listening(self, path: "str | os.PathLike[str]") -> socket.socket:
+        """A socket at which connections are waited for."""
+        one = socket.socket(socket.AF_UNIX, socket.SOCK_STREAM)
+        self.addCleanup(one.close)
+        one.bind(str(path))
+        one.listen()
+        one.setblocking(False)
+        return one
+
+    def taken(self, listener: socket.socket) -> socket.socket:
+        """Who came there."""
+        one = listener.accept()[0]
+        self.addCleanup(one.close)
+        one.setblocking(False)
+        return one
+
+    def process(self, *words: str, **more: object) -> subprocess.Popen:
+        """A process, which sleeps where no words are named."""
+        process = subprocess.Popen(words or ("sleep", "60"), **more)
+        self.addCleanup(process.wait)
+        self.addCleanup(process.kill)
+        return process
+
+    def heard(self) -> io.StringIO:
+        """What is said on standard error from now on."""
+        said = io.StringIO()
+        held = contextlib.redirect_stderr(said)
+        held.__enter__()
+        self.addCleanup(held.__exit__, None, None, None)
+        return said
+
+    def printed(self) -> io.StringIO:
+        """What is printed from now on."""
+        text = io.StringIO()
+        held = contextlib.redirect_stdout(text)
+        held.__enter__()
+        self.addCleanup(held.__exit__, None, None, None)
+        return text
+
+    def environment(self, **words: "str | None") -> None:
+        """Has variables of the environment, without those that are None."""
+        held = mock.patch.dict(os.environ, {name: word for name, word in words.items() if word is not None})
+        held.start()
+        self.addCleanup(held.stop)
+        for name in [name for name, word in words.items() if word is None]:
+            os.environ.pop(name, None)
+
+    def words(self, *words: str) -> None:
+        """Has a tool be called with these words."""
+        self.patch_of(sys, "argv", [*words])
+
+
+def closed(end: int) -> None:
+    """Closes a descriptor, which may be closed already."""
+    with contextlib.suppress(OSError):
+        os.close(end)
+
+
+def read_now(end: "socket.socket | int") -> bytes:
+    """All that can be read at an end now."""
+    text = b""
+    with contextlib.suppress(BlockingIOError):
+        while True:
+            piece = os.read(end if isinstance(end, int) else end.fileno(), 65536)
+            if not piece:
+                break
+            text += piece
+    return text

@@ -1,0 +1,670 @@
+"""A person's front end: its loop on a pseudo-terminal, with a start that is played, and what keys ask of it."""
+import os
+import pty
+import signal
+import termios
+from unittest import mock
+
+from aids import Case, closed, read_now
+from roam_live import client, display, terminal
+from roam_live.client import Client
+from roam_live.program import Fault, begun
+from roam_live.rects import NOTHING, Places, Rect
+from test_display import Person, painting, places
+
+PANES = Places({1: Rect(1, 1, 23, 39), 2: Rect(1, 41, 11, 40), 3: Rect(13, 41, 11, 40)}, 1, 1)
+
+
+class Place:
+    """A session that is played."""
+
+    served, name = "server", "main"
+
+    def __init__(self, folder):
+        self.folder = folder
+        self.terminals = folder / "terminals"
+        self.processes = {}
+        self.told = places(24, 80)
+        self.runs_busy, self.is_closed, self.looks = {}, False, 0
+
+    def __str__(self):
+        return f"in {self.folder}"
+
+    def read(self):
+        """Reads what is noted."""
+
+    def process(self, role):
+        """The process of a role."""
+        return self.processes.get(role)
+
+    def runs(self, role=None):
+        """Whether it runs."""
+        return self.process(role or self.served) is not None
+
+    def places(self):
+        """Where the panes are."""
+        return self.told
+
+    def busy(self):
+        """What runs in the panes."""
+        return self.runs_busy
+
+    def is_served(self):
+        """Whether a server is there."""
+        self.looks += 1
+        return False
+
+    def is_full(self):
+        """Whether it hears no other start."""
+        return False
+
+    def ending(self):
+        """What is said at its end."""
+        return "[the session has ended]", 0
+
+    def close(self):
+        """Lets it go."""
+        self.is_closed = True
+
+
+class Fronts(Case):
+    """A front end on a pseudo-terminal of 24 by 80."""
+
+    def setUp(self):
+        self.stop_clock()
+        self.place = Place(self.made_folder())
+        self.listener = self.listening(self.place.terminals)
+        self.master, slave = pty.openpty()
+        terminal.set_size(slave, 24, 80)
+        self.before = termios.tcgetattr(slave)
+        kept = os.dup(0), os.dup(1)
+        os.dup2(slave, 0), os.dup2(slave, 1)
+        self.slave = slave
+        self.addCleanup(self.give_back, kept, slave)
+        os.set_blocking(self.master, False)
+        self.wakeup, self.wakes = self.pipe()
+        self.patch_of(client, "woken", return_value=self.wakeup)
+        self.front = Client(self.place, False, "C-b", "adaptive", lambda: False)
+        self.addCleanup(lambda: closed(self.front.display.outer.end))
+        self.addCleanup(lambda: self.front.link.close())
+
+    def give_back(self, kept, slave):
+        """Gives this process its own input and output."""
+        for end, number in zip(kept, (0, 1)):
+            os.dup2(end, number)
+            os.close(end)
+        os.close(slave)
+        os.close(self.master)
+
+    def turn(self, count=2):
+        """So many turns that wait for nothing."""
+        select = client.select.select
+        with mock.patch.object(client.select, "select", lambda *words: select(*words[:3], 0)):
+            for _ in range(count):
+                self.front.turn()
+
+    def connect(self):
+        """Connects; the start's end."""
+        self.front.connect()
+        self.start = self.taken(self.listener)
+        self.turn()
+        return self.start
+
+    def type(self, text):
+        """Types."""
+        os.write(self.master, text)
+        self.turn()
+
+    def shown(self):
+        """What came to the terminal."""
+        return read_now(self.master)
+
+
+class Loop(Fronts):
+    """Its turns."""
+
+    def test_connected(self):
+        """It says how guesses are shown, goes to the newest rows, and shows a painting from its reset on."""
+        start = self.connect()
+        self.assertEqual(read_now(start), b"guess adaptive\nview -500\n")
+        start.send(b"junk" + painting(24, 80, "hello"))
+        self.turn()
+        shown = self.shown()
+        self.assertTrue(shown.startswith(terminal.ENTERED) and b"hello" in shown)
+        self.assertNotIn(b"junk", shown)
+        self.assertNotIn(b"\x1bc", shown)
+
+    def test_typed(self):
+        """What is typed goes, and an escape that nothing follows in 25 ms."""
+        start = self.connect()
+        read_now(start)
+        self.type(b"ls\r")
+        self.assertEqual(read_now(start), b"char 6c ; char 73 ; key return\n")
+        self.type(b"\x1b")
+        self.assertEqual(read_now(start), b"")
+        self.now += 0.024
+        self.turn()
+        self.assertEqual(read_now(start), b"")
+        self.now += 0.001
+        self.turn()
+        self.assertEqual(read_now(start), b"char 1b\n")
+        self.type(b"\x1b")
+        self.type(b"[A")
+        self.now += 1
+        self.turn()
+        self.assertEqual(read_now(start), b"key up\n")
+
+    def test_silence(self):
+        """To what tells of a silent server the key that leaves is added."""
+        start = self.connect()
+        start.send(painting(24, 80) + b"\x1b7\x1b[?7l\x1b[999;1H\x1b[0;7mroam: no answer for 10 s\x1b[0m\x1b[?7h\x1b8")
+        self.turn()
+        self.assertIn(b"roam: no answer for 10 s; C-b d leaves\x1b[0m", self.shown())
+
+    def test_left(self):
+        """Who detaches is told so, and the terminal is as before."""
+        self.connect()
+        self.type(b"\x02d")
+        self.assertEqual((self.front.left, self.front.status), ("[detached]", 0))
+        with mock.patch.object(self.front, "connect"), mock.patch.object(self.front.link, "part") as parts:
+            self.assertEqual(self.front.run(), 0)
+        parts.assert_called_once_with()
+        self.assertTrue(self.shown().endswith(terminal.LEFT + b"[detached]\r\n"))
+        self.assertEqual(termios.tcgetattr(self.slave), self.before)
+        self.front.leave("another", 5)
+        self.assertEqual((self.front.left, self.front.status), ("[detached]", 0))
+
+    def test_fault(self):
+        """What nobody foresaw brings the terminal back too."""
+        with mock.patch.object(self.front, "turn", side_effect=RuntimeError), mock.patch.object(self.front.link, "part") as parts:
+            with self.assertRaises(RuntimeError):
+                self.front.run()
+        parts.assert_not_called()
+        self.assertTrue(self.shown().endswith(terminal.LEFT))
+        self.assertEqual(termios.tcgetattr(self.slave), self.before)
+        self.assertIsNone(self.front.link.peer)
+
+    def test_signals(self):
+        """SIGTERM, SIGHUP and SIGINT leave, with 128 and their number; a new size is gone by."""
+        for number, status in ((signal.SIGTERM, 143), (signal.SIGHUP, 129), (signal.SIGINT, 130)):
+            self.front.left = None
+            os.write(self.wakes, bytes([number]))
+            self.turn(1)
+            self.assertEqual((self.front.left, self.front.status), ("[terminated]", status))
+        self.front.left = None
+        self.front.moments.due.clear()
+        os.write(self.wakes, bytes([signal.SIGWINCH]))
+        self.turn(1)
+        self.assertEqual(self.front.moments.due["size"][0], 100.3)
+        os.write(self.wakes, bytes([signal.SIGCONT]))
+        with mock.patch.object(self.front.display, "enter_again") as enters:
+            self.turn(1)
+        enters.assert_called_once_with()
+
+    def test_suspended(self):
+        """C-b C-z gives the terminal back, stops, and takes it again; the signals that belong to that mean nothing more."""
+        self.connect()
+        with mock.patch("os.kill") as kills:
+            self.type(b"\x02\x1a")
+        kills.assert_called_once_with(os.getpid(), signal.SIGTSTP)
+        os.write(self.wakes, bytes([signal.SIGTSTP]))
+        with mock.patch.object(self.front.display.outer, "suspend", lambda: os.write(self.wakes, bytes([18, 20, 28, 15]))):
+            with mock.patch.object(self.front, "resized") as resizes:
+                self.turn(1)
+        self.assertEqual((resizes.call_count, self.front.left), (2, "[terminated]"))
+        os.write(self.wakes, bytes([signal.SIGTSTP]))
+        with mock.patch.object(self.front.display.outer, "suspend") as suspends:
+            self.turn(1)
+        suspends.assert_not_called()
+
+    def test_stops(self):
+        """It stops its group by the signal's own action, and handles it again then."""
+        outer = self.front.display.outer
+        handled = []
+        with mock.patch("os.kill", lambda *words: handled.append((words, signal.getsignal(signal.SIGTSTP)))):
+            before = signal.getsignal(signal.SIGTSTP)
+            outer.suspend()
+        self.assertEqual(handled, [((0, signal.SIGTSTP), signal.SIG_DFL)])
+        self.assertEqual(signal.getsignal(signal.SIGTSTP), before)
+        self.assertFalse(os.get_blocking(outer.end))
+        self.shown()
+        outer.enter_again()
+        self.assertEqual(outer.waiting, terminal.ENTERED)
+        self.assertFalse(termios.tcgetattr(self.slave)[3] & termios.ICANON)
+
+    def test_lost(self):
+        """A start that ends is connected to again after 0.1 s; in a longer pause that is told, and q leaves."""
+        start = self.connect()
+        start.send(painting(24, 80))
+        self.turn()
+        self.front.place.processes["terminals"] = None
+        start.close()
+        self.turn()
+        self.assertEqual((self.front.link.peer, self.front.moments.due["connect"][0]), (None, 100.1))
+        self.listener.close()
+        self.now += 0.1
+        self.turn()
+        self.assertIn(b"no server is in ", self.shown())
+        self.assertTrue(self.front.commands.paused)
+        self.assertEqual(self.front.display.cover, f"no server is in {self.place.folder}; tried anew in 1 s; C-c or q leaves")
+        self.type(b"q")
+        self.assertEqual(self.front.left, "[left]")
+
+    def test_back(self):
+        """Once it is there again what was lost is told, and all is painted anew."""
+        self.place.processes["terminals"] = 5
+        start = self.connect()
+        start.send(painting(24, 80))
+        self.turn()
+        self.place.processes["terminals"] = 6
+        start.close()
+        self.turn()
+        self.now += 0.1
+        self.turn()
+        start = self.taken(self.listener)
+        self.assertEqual(self.front.display.told, "the client start has ended; what was typed last may be lost")
+        self.assertEqual(self.front.moments.due["told"][0], self.now + 3.0)
+        self.shown()
+        start.send(b"old" + painting(24, 80, "new"))
+        self.turn()
+        shown = self.shown()
+        self.assertTrue(b"new" in shown and b"old" not in shown)
+
+    def test_served(self):
+        """The end of the server's process is the session's."""
+        reader, writer = self.pipe()
+        self.front.server = reader
+        os.close(writer)
+        self.turn(1)
+        self.assertEqual((self.front.left, self.front.status), ("[the session has ended]", 0))
+
+    def test_hung_up(self):
+        """A terminal that is gone is left with status 1."""
+        with mock.patch.object(client, "read", side_effect=lambda end: b"" if end == 0 else None):
+            os.write(self.master, b"x")
+            self.turn(1)
+        self.assertEqual((self.front.left, self.front.status), ("", 1))
+        self.front.left = None
+        self.front.display.outer.waiting += b"x"
+        with mock.patch.object(client, "write", return_value=False):
+            self.turn(1)
+        self.assertEqual(self.front.left, "")
+
+    def test_probes(self):
+        """Where no process of the server is known it is looked for each two seconds."""
+        def leave():
+            self.now += 2.0
+            self.front.moments.do_due()
+            self.front.left = ""
+
+        with mock.patch.object(self.front, "turn", leave), mock.patch.object(self.front.link, "part"):
+            self.front.run()
+        self.assertEqual((self.place.looks, self.front.moments.due["probe"][0]), (1, self.now + 2.0))
+
+    def test_shells(self):
+        """What is told of the shells stands three seconds, and bells ring, with what is said beside them."""
+        self.connect()
+        with mock.patch.object(self.front.shells, "turn", return_value="the shells had ended"):
+            self.turn(1)
+        self.assertEqual((self.front.display.told, self.front.moments.due["told"][0]), ("the shells had ended", 103.0))
+        with mock.patch.object(self.front.bells, "rung", return_value=[2]), mock.patch.object(self.front.commands, "ring") as rings:
+            with mock.patch.object(self.front.bells, "said", return_value=["pane 3 isn't shown"]):
+                self.turn(1)
+        rings.assert_called_once_with(2)
+        self.assertEqual(self.front.display.told, "pane 3 isn't shown")
+
+    def test_limits(self):
+        """While 65,536 bytes wait for the terminal nothing more is read of the start."""
+        start = self.connect()
+        start.send(b"x")
+        self.front.display.outer.waiting[:] = bytes(65536)
+        with mock.patch.object(client, "write", return_value=True):
+            with mock.patch.object(self.front.link, "painted") as paints:
+                self.turn(1)
+                paints.assert_not_called()
+            del self.front.display.outer.waiting[0]
+            with mock.patch.object(self.front.link, "painted", return_value=None) as paints:
+                self.turn(1)
+                paints.assert_called_once_with()
+        self.front.display.outer.waiting.clear()
+        os.write(self.master, b"x")
+        self.front.link.waiting[:] = bytes(1 << 24)
+        with mock.patch.object(self.front.commands, "fed") as feeds, mock.patch.object(self.front.link, "send", return_value=True):
+            self.turn(1)
+            feeds.assert_not_called()
+            del self.front.link.waiting[0]
+            self.turn(1)
+            feeds.assert_called_once_with(b"x")
+        self.front.link.waiting.clear()
+
+    def test_sizes(self):
+        """A size that has stood for 0.3 s is the session's; of a new session each."""
+        start = self.connect()
+        start.send(painting(24, 80))
+        self.turn()
+        read_now(start)
+        terminal.set_size(self.slave, 30, 90)
+        self.front.resized()
+        self.turn()
+        self.assertEqual(read_now(start), b"")
+        self.now += 0.3
+        self.turn()
+        self.assertEqual(read_now(start), b"size 30 90\n")
+        self.front.commands.new_until = self.now + 1
+        terminal.set_size(self.slave, 20, 70)
+        self.front.resized()
+        self.turn()
+        self.assertEqual(read_now(start), b"size 20 70\n")
+
+    def test_unknown_size(self):
+        """A session of which nothing is known is fitted once something was painted, 0.3 s later."""
+        self.place.told = NOTHING
+        start = self.connect()
+        start.send(painting(20, 70))
+        self.turn()
+        self.assertEqual(read_now(start), b"guess adaptive\nview -500\n")
+        self.now += 0.3
+        self.turn()
+        self.assertEqual(read_now(start), b"size 24 80\n")
+
+    def test_gone_terminal(self):
+        """Of a terminal that has hung up the size that it had is known."""
+        outer = self.front.display.outer
+        with mock.patch.object(terminal, "size_of", side_effect=OSError(5, "gone")):
+            self.assertEqual(outer.size(), (24, 80))
+
+    def test_no_terminal(self):
+        none = mock.patch("os.isatty", side_effect=[True, False])
+        for name, patched, told in (("isatty", none, "standard input and output have to be a terminal"),
+                                    ("raw", mock.patch.object(terminal, "make_raw", return_value=None), "the terminal can't be made raw")):
+            with self.subTest(name), patched, self.assertRaisesRegex(Fault, told):
+                display.Outer()
+
+    def test_outer(self):
+        """What is typed comes from standard input, whose modes and size are gone by, and standard output is written."""
+        asks = self.patch("os.isatty", return_value=True)
+        with mock.patch.object(terminal, "make_raw", return_value=[1]) as raws, mock.patch.object(terminal, "size_of") as sizes, \
+                mock.patch.object(terminal, "opened_for_writing", return_value=9) as opens:
+            outer = display.Outer()
+        self.assertEqual([one.call_args[0] for one in (raws, sizes, opens)], [(0,), (0,), (1,)])
+        self.assertEqual((asks.call_args_list, outer.modes, outer.end), ([mock.call(0), mock.call(1)], [1], 9))
+        with mock.patch.object(terminal, "make_raw") as raws:
+            outer.enter_again()
+        raws.assert_called_once_with(0)
+        with mock.patch.object(terminal, "restore") as restores, mock.patch("os.set_blocking") as blocks, \
+                mock.patch.object(display, "write", return_value=False):
+            outer.leave("")
+        self.assertEqual((restores.call_args[0], blocks.call_args[0]), ((0, [1]), (9, True)))
+
+    def test_follow(self):
+        """Who follows is noted while it does, and lets the session go."""
+        seen = []
+
+        def runs():
+            note = self.place.folder / "attached" / str(os.getpid())
+            seen.append(note.read_text(encoding="utf-8"))
+            return 5
+
+        with mock.patch.object(client, "Client") as made:
+            made.return_value.run = runs
+            self.assertEqual(client.follow(self.place, True, "C-a", "never"), 5)
+            self.assertEqual(made.call_args[0][:4], (self.place, True, "C-a", "never"))
+        self.assertEqual(seen, [f"{begun(os.getpid())} watches\n"])
+        self.assertEqual((list((self.place.folder / "attached").iterdir()), self.place.is_closed), ([], True))
+
+
+class Wishes(Case):
+    """What keys ask of a front end."""
+
+    def setUp(self):
+        self.stop_clock()
+
+    def person(self, told=PANES, **more):
+        """A person at a terminal of 24 by 80, with panes that are known."""
+        person = Person(24, 80, told=told, **more)
+        person.display.painted(painting(24, 80))
+        person.busy = {}
+        person.place.busy = lambda: person.busy
+        return person
+
+    def test_sides(self):
+        """An arrow goes to the pane there; nowhere where none is, and to the next where nothing is known."""
+        for key, acts in ((b"C", ["focus 2"]), (b"D", []), (b"A", [])):
+            self.assertEqual(self.person().types(b"\x02\x1b[" + key), acts)
+        self.assertEqual(self.person(NOTHING).types(b"\x02\x1b[C"), ["next"])
+
+    def test_moved(self):
+        """What is asked soon after goes by where this person put the focus, though that isn't told yet."""
+        person = self.person()
+        self.assertEqual(person.types(b"\x02\x1b[C\x02\x1b[B"), ["focus 2", "focus 3"])
+        self.now += 1.01
+        self.assertEqual(person.types(b"\x02\x1b[C"), ["focus 2"])
+        person.place.told = PANES._replace(focus=2)
+        self.assertEqual(person.types(b"\x02\x1b[D"), ["focus 1"])
+
+    def test_unknown_focus(self):
+        """Where it isn't known yet an arrow goes by what is told, and a close asks."""
+        person = self.person()
+        self.assertEqual(person.types(b"\x02o\x02\x1b[C"), ["next", "focus 2"])
+        person = self.person()
+        person.busy = {2: "vi"}
+        self.assertEqual(person.types(b"\x02o\x02x"), ["next"])
+        self.assertEqual(person.display.told, "close whatever runs in this pane? y closes it")
+        person.place.told = PANES._replace(focus=3)
+        self.assertEqual(person.types(b"n\x02x"), ["close"])
+
+    def test_split(self):
+        person = self.person()
+        self.assertEqual(person.types(b'\x02%\x02"'), ["split right", "split down"])
+        small = self.person(Places({1: Rect(1, 1, 4, 8)}, 1, 1))
+        small.display.told = ""
+        self.assertEqual((small.types(b"\x02%"), small.display.told), ([], "pane 1 is too small to be split: 4 by 8"))
+
+    def test_close(self):
+        """A pane with a shell is closed at once; one where another program runs once that is confirmed."""
+        self.assertEqual(self.person().types(b"\x02x"), ["close"])
+        person = self.person()
+        person.busy = {1: "vi", 2: "less"}
+        self.assertEqual((person.types(b"\x02x"), person.display.told), ([], "close vi in pane 1? y closes it"))
+        self.assertNotIn("told", person.moments.due)
+        self.assertEqual((person.types(b"y"), person.display.told), (["close"], ""))
+        person = self.person()
+        person.busy = {1: "vi"}
+        self.assertEqual((person.types(b"\x02xn"), person.display.told), ([], ""))
+        person = self.person()
+        person.busy = {2: "vi"}
+        self.assertEqual(person.types(b"\x02x"), ["close"])
+
+    def test_close_unknown(self):
+        """Where it isn't known what runs it asks."""
+        person = self.person()
+        person.busy = None
+        self.assertEqual((person.types(b"\x02x"), person.display.told), ([], "close whatever runs in pane 1? y closes it"))
+        person = self.person(NOTHING)
+        person.busy = None
+        self.assertEqual((person.types(b"\x02x"), person.display.told), ([], "close whatever runs in this pane? y closes it"))
+
+    def test_close_last(self):
+        person = self.person(places(24, 80))
+        self.assertEqual((person.types(b"\x02x"), person.display.told),
+                         ([], "the last pane goes with its shell, and the session with it"))
+
+    def test_scroll(self):
+        """The scroll mode is told until it ends."""
+        person = self.person()
+        self.assertEqual(person.types(b"\x02[kk"), ["view 1", "view 1"])
+        self.assertEqual(person.display.told, "2 rows back: PgUp PgDn up down g G scroll, q ends it")
+        self.assertNotIn("told", person.moments.due)
+        self.assertEqual((person.types(b"q"), person.display.told), (["view -500"], ""))
+        person.types(b"\x02[")
+        person.commands.left()
+        self.assertEqual(person.link.acts[-1], "view -500")
+
+    def test_unknown(self):
+        person = self.person()
+        person.types(b"\x02Z")
+        self.assertEqual((person.display.told, person.moments.due["told"][0]), ("C-b Z means nothing; C-b ? shows the keys", 101.0))
+
+    def test_watches(self):
+        """Who only watches types nothing, and may leave, repaint and have the help."""
+        person = self.person(watches=True)
+        self.assertEqual(person.types(b"ls\r\x02%\x02x\x02o\x021\x02[\x02\x1b[C\x02r"), [])
+        self.assertEqual(person.display.told, "")
+        person.types(b"\x02?")
+        self.assertTrue(person.display.cover)
+        person.types(b"\x02d")
+        self.assertEqual(person.left, "[detached]")
+
+    def test_bell(self):
+        """A bell rings, and a pane that isn't in focus is told of, where nothing else is told."""
+        person = self.person()
+        before = person.display.outer.waiting.count(b"\x07")
+        person.commands.ring(1)
+        self.assertEqual((person.display.told, person.display.outer.waiting.count(b"\x07") - before), ("", 1))
+        person.commands.ring(2)
+        self.assertEqual(person.display.told, "bell in pane 2")
+        person.commands.ring(3)
+        self.assertEqual(person.display.told, "bell in pane 2")
+
+    def test_fits_told(self):
+        person = self.person()
+        person.commands.fit()
+        self.assertEqual(person.link.acts, [])
+        self.assertEqual(person.types(b"\x02r"), ["size 24 80"])
+        self.assertEqual(person.link.lines, ["repaint"])
+
+    def test_new(self):
+        """A new session goes by its terminal's size for two seconds."""
+        person = Person(24, 80, is_new=True)
+        self.assertEqual(person.commands.new_until, 102.0)
+        self.assertTrue(person.commands.is_fresh())
+        self.now = 102.0
+        self.assertFalse(person.commands.is_fresh())
+
+
+class Painted(Case):
+    """Paintings, cut at each place, and the lines over them."""
+
+    def setUp(self):
+        self.stop_clock()
+
+    def person(self):
+        """A person at a terminal of 5 by 20, to whom nothing was painted yet."""
+        person = Person(5, 20, told=places(5, 20))
+        person.display.outer.waiting.clear()
+        return person
+
+    def test_cut(self):
+        """What a terminal is written is the same wherever a painting is cut; nothing before the reset, and no reset."""
+        text = b"old\x1b[1m" + painting(5, 20, "\u00e9") + painting(5, 20, "z")
+        wanted = (painting(5, 20, "\u00e9") + painting(5, 20, "z")).replace(b"\x1bc", terminal.CLEARED)
+        for cut in range(len(text) + 1):
+            person = self.person()
+            person.display.painted(text[:cut])
+            person.display.painted(text[cut:])
+            self.assertEqual(person.display.outer.waiting, wanted, cut)
+
+    def test_told_cut(self):
+        """A line over the last row is never written into the middle of a sequence or a character."""
+        text = painting(5, 20, "\u00e9")
+        line = b"\x1b7\x1b[?7l\x1b[5;1H\x1b[0;7m" + b"hello".ljust(20) + b"\x1b[0m\x1b[?7h\x1b8"
+        for cut in range(2, len(text) + 1):
+            person = self.person()
+            person.display.painted(text[:cut])
+            person.display.tell("hello")
+            person.display.painted(text[cut:])
+            written = bytes(person.display.outer.waiting)
+            self.assertIn(line, written, cut)
+            rest = written
+            while b"\x1b7" in rest:
+                before, _, after = rest.partition(b"\x1b7")
+                extent = terminal.Extent()
+                extent.fed(before)
+                self.assertTrue(extent.is_between(), cut)
+                rest = before + after.partition(b"\x1b8")[2]
+            self.assertEqual(rest, text.replace(b"\x1bc", terminal.CLEARED), cut)
+
+    def test_bell_cut(self):
+        """Nor is a bell, which rings under a cover at any time."""
+        person = self.person()
+        person.display.painted(painting(5, 20) + b"\x1b[1")
+        person.display.ring()
+        self.assertNotIn(b"\x07", person.display.outer.waiting)
+        person.display.show("help")
+        person.display.ring()
+        self.assertTrue(person.display.outer.waiting.endswith(b"\x07"))
+
+    def test_told(self):
+        """A line stands a second, then the last row is painted anew; one without a time stands until it is ended."""
+        person = self.person()
+        person.display.painted(painting(5, 20))
+        person.display.tell("one")
+        self.assertEqual(person.moments.due["told"][0], 101.0)
+        person.display.tell("two", None)
+        self.assertNotIn("told", person.moments.due)
+        person.display.end_told()
+        person.display.end_told()
+        self.assertEqual((person.display.told, person.link.lines), ("", ["repaint"]))
+
+    def test_told_small(self):
+        """It is as wide as the session, and stands in the terminal's last row where nothing is known."""
+        person = Person(10, 30)
+        person.display.outer.waiting.clear()
+        person.display.tell("x" * 40)
+        self.assertIn(b"\x1b[10;1H\x1b[0;7m" + b"x" * 30 + b"\x1b[0m", person.display.outer.waiting)
+        person.display.painted(painting(6, 20))
+        person.display.outer.waiting.clear()
+        person.display.tell("ab")
+        self.assertIn(b"\x1b[6;1H\x1b[0;7m" + b"ab".ljust(20) + b"\x1b[0m", person.display.outer.waiting)
+
+    def test_shown(self):
+        """Lines in place of the session are cut to the terminal, a column free at the right."""
+        person = self.person()
+        person.display.show("one two three four five six\n" * 4)
+        self.assertEqual(person.display.outer.shown(), ["one two three four", "five six"] * 2 + ["one two three four"])
+
+    def test_resized(self):
+        """A cover is shown again at a new size, and half a second later all is painted anew."""
+        person = self.person()
+        person.display.painted(painting(5, 20))
+        person.display.show("help")
+        person.display.outer.waiting.clear()
+        person.display.resized()
+        self.assertIn(b"help", person.display.outer.waiting)
+        self.assertEqual(person.moments.due["repaint"][0], 100.5)
+        person.display.cover = ""
+        self.now += 0.5
+        person.moments.do_due()
+        self.assertEqual((person.link.lines, person.display.is_stale), (["repaint"], True))
+
+    def test_repainted(self):
+        """A session that was painted at its new size isn't asked to paint again."""
+        person = self.person()
+        person.display.resized()
+        person.display.painted(painting(5, 20))
+        self.assertNotIn("repaint", person.moments.due)
+
+    def test_entered_again(self):
+        """After another had the terminal all is painted anew."""
+        person = self.person()
+        person.display.outer.enter_again = mock.Mock()
+        person.display.painted(painting(5, 20))
+        person.display.enter_again()
+        person.display.outer.enter_again.assert_called_once_with()
+        self.assertEqual(person.link.lines, ["repaint"])
+
+    def test_given(self):
+        """A session has half a second for a size, and two more until it is told that its panes have no room."""
+        person = self.person()
+        person.display.size_asked((5, 20))
+        self.assertEqual((person.display.settled_at, person.moments.due["refused"][0]), (100.5, 102.5))
+        person.display.painted(painting(6, 20))
+        self.assertEqual((person.display.cover, person.moments.due["hide"][0]), ("", 100.5))
+        self.now = 100.5
+        person.moments.do_due()
+        self.assertTrue(person.display.cover.startswith("too small: 5 by 20 of 6 by 20"))
+        self.now = 102.5
+        person.moments.do_due()
+        self.assertIn("its panes have no room here", person.display.cover)
+        person.display.resized()
+        self.assertFalse(person.display.is_refused)

@@ -1,0 +1,509 @@
+"""The keeper of shells, made by hand: panes over sockets, commands that never run, and a server that is played."""
+import argparse
+import os
+import shutil
+import signal
+import struct
+from unittest import mock
+
+from aids import Case, loaded, read_now
+from roam_live import rects
+from roam_live.program import Fault, begun
+from roam_live.rects import Rect
+
+shells = loaded("pane_shells")
+
+
+class Keeper(Case):
+    """A keeper that follows a socket `panes` of its own."""
+
+    def setUp(self):
+        self.stop_clock()
+        self.folder = self.made_folder()
+        self.listeners = {name: self.listening(self.folder / name) for name in ("panes", "p1", "p2", "p3")}
+        self.wakeup, self.wakes = self.pipe()
+        self.said = self.heard()
+        self.made = []
+        self.patch_of(shells.os, "forkpty", side_effect=self.forked)
+        self.kills = self.patch_of(shells.os, "kill")
+        self.ended = {}
+        self.patch_of(shells, "has_ended", side_effect=lambda process: self.ended.get(process, False))
+        self.keeper = self.kept()
+        self.server = self.taken(self.listeners["panes"])
+
+    def kept(self, **more):
+        """A keeper."""
+        known = {"close": False, "server": None, "again": False, "dir": str(self.folder), "command": ["sh"], "instead": None}
+        keeper = shells.Shells(argparse.Namespace(**{**known, **more}), self.wakeup)
+        self.addCleanup(self.leave, keeper)
+        return keeper
+
+    def leave(self, keeper):
+        """Closes what a keeper has."""
+        keeper.bells.close()
+        for number in list(keeper.panes):
+            keeper.drop(number)
+        for spare in (keeper.spare, keeper.voice):
+            spare.free()
+        if keeper.following.peer:
+            keeper.following.peer.close()
+
+    def forked(self):
+        """A command's process and terminal: a socket here."""
+        one, other = self.pair()
+        self.made.append(other)
+        return 70 + len(self.made), os.dup(one.fileno())
+
+    def turn(self, count=3):
+        """So many turns that don't wait."""
+        with mock.patch.object(self.keeper, "wait_time", return_value=0):
+            for _ in range(count):
+                self.keeper.turn()
+
+    def tell(self, *lines):
+        """Has the server tell of its panes."""
+        self.server.send("".join(f"{line}\n" for line in lines).encode())
+        self.turn()
+
+    def begin(self, *lines):
+        """Two panes; the ends of their connections at the server."""
+        self.tell("1 1 1 23 39 4", "2 1 41 23 40 5", "focus 1", "starts 3 of 64", *lines)
+        return [self.taken(self.listeners[name]) for name in ("p1", "p2")]
+
+
+class Panes(Keeper):
+    """What is told of panes, and what is done for them."""
+
+    def test_begun(self):
+        """Each pane has a command of its size, and bytes go both ways."""
+        panes = self.begin()
+        self.assertEqual([pane.size for pane in self.keeper.panes.values()], [(23, 39), (23, 40)])
+        self.made[0].send(b"out")
+        panes[0].send(b"in")
+        self.made[1].send(b"two")
+        self.turn()
+        self.assertEqual([read_now(end) for end in (panes[0], self.made[0], panes[1])], [b"out", b"in", b"two"])
+        self.assertEqual(self.said.getvalue(), "")
+
+    def test_noted(self):
+        """Where the panes are is noted, with the counts."""
+        self.begin("watchers 2 of 16")
+        found = rects.read_places(self.folder / "rects")
+        self.assertEqual(found, rects.Places({1: Rect(1, 1, 23, 39), 2: Rect(1, 41, 23, 40)}, 1, 3, 2))
+
+    def test_sizes(self):
+        """A new size is told to the programs, and the same isn't."""
+        self.begin()
+        sizes = self.patch_of(shells.terminal, "set_size")
+        self.tell("1 1 1 23 39 4", "2 1 41 11 40 5", "focus 2")
+        sizes.assert_called_once_with(self.keeper.panes[2].terminal, 11, 40)
+        sizes.side_effect = OSError(5, "gone")
+        self.tell("1 1 1 20 39 4")
+        self.assertEqual(self.keeper.panes[1].size, (20, 39))
+
+    def test_gone(self):
+        """A pane that goes is hung up, and one of another life takes its place."""
+        panes = self.begin()
+        self.tell("2 gone", "focus 1")
+        self.assertEqual([call[0] for call in self.kills.call_args_list], [(72, signal.SIGHUP), (72, signal.SIGCONT)])
+        self.assertEqual((panes[1].recv(1), list(self.keeper.panes), self.keeper.hung, list(self.keeper.rects)), (b"", [1], [72], [1]))
+        self.tell("1 1 1 23 80 6", "focus 1")
+        self.assertEqual((panes[0].recv(1), self.keeper.panes[1].process, self.keeper.panes[1].life), (b"", 73, 6))
+        self.kills.side_effect = PermissionError(1, "another's")
+        self.tell("1 gone")
+        self.assertEqual(self.keeper.panes, {})
+
+    def test_earlier(self):
+        """An earlier server tells no places."""
+        with self.assertRaisesRegex(Fault, "^the server is of an earlier roam: it doesn't tell where panes are$"):
+            self.tell("1 23 80")
+
+    def test_rung(self):
+        """A bell is told."""
+        self.begin()
+        tells = self.patch_of(self.keeper.bells, "tell")
+        self.made[1].send(b"x\x07y")
+        self.turn()
+        tells.assert_called_once_with(2)
+
+    def test_limits(self):
+        """A pane that takes nothing has 16,384 bytes wait, and then its program does; one that reads nothing 65,536."""
+        pane = self.keeper.panes.get(1) or (self.begin(), self.keeper.panes[1])[1]
+        pane.to_pane += bytes(16383)
+        self.assertEqual(len(pane.sources()), 2)
+        pane.to_pane += b"x"
+        self.assertEqual(pane.sources(), [pane.peer.fileno()])
+        pane.to_pane.clear()
+        self.assertEqual(pane.targets(), [])
+        pane.to_terminal += b"x"
+        self.assertEqual(pane.targets(), [pane.terminal])
+        pane.to_pane += b"x"
+        self.assertEqual(pane.targets(), [pane.peer.fileno(), pane.terminal])
+        pane.is_dropping = True
+        self.turn(1)
+        self.assertEqual((pane.to_terminal, pane.is_dropping, pane.written), (b"", False, 1))
+
+    def test_no_reader(self):
+        """What a pane's program doesn't read is taken from the server all the same, and dropped above a limit; other panes go on."""
+        panes = self.begin()
+        for _ in range(200):
+            panes[0].send(b"x" * 4000)
+            self.turn(2)
+        pane = self.keeper.panes[1]
+        self.assertEqual(len(pane.to_terminal), 65536)
+        panes[1].send(b"goes on")
+        self.turn()
+        self.assertEqual(read_now(self.made[1]), b"goes on")
+        self.assertEqual(self.said.getvalue().count("pane 1: what is typed isn't read there; above 65536 bytes it is dropped\n"), 1)
+        self.assertTrue(pane.is_dropping)
+        while pane.to_terminal:
+            read_now(self.made[0])
+            self.turn()
+        self.assertFalse(pane.is_dropping)
+
+    def test_folder(self):
+        """A new pane's command starts where the program in front in the pane in focus is, else where its command is; the first where the
+        server is."""
+        self.keeper.asked.server = 4711
+        works = self.patch_of(shells, "working_folder", return_value="/there")
+        self.patch_of(shells, "group_in_front", return_value=99)
+        self.begin()
+        self.assertEqual([call[0][0] for call in works.call_args_list], [[4711], [4711]])
+        self.tell("3 1 1 5 5 1", "focus 3")
+        self.assertEqual((works.call_args[0][0], self.keeper.panes[3].folder), ([99, 71, 4711], "/there"))
+
+    def test_folder_taken(self):
+        """A keeper whose folder was removed, and made anew by another session, goes to none of its sockets, and writes nothing there."""
+        self.begin()
+        self.folder.rename(self.folder.with_name(self.folder.name + "-old"))
+        self.addCleanup(shutil.rmtree, str(self.folder) + "-old")
+        self.folder.mkdir()
+        other = self.listening(self.folder / "p3")
+        self.tell("3 1 1 5 5 1", "focus 3")
+        self.assertIn("pane 3: the session's folder was removed; tried again\n", self.said.getvalue())
+        with self.assertRaises(BlockingIOError):
+            other.accept()
+        self.assertFalse((self.folder / "rects").exists())
+
+    def test_terminal_gone(self):
+        """A terminal that no program has any more is closed, and so is a connection that the server ends."""
+        panes = self.begin()
+        self.made[0].close()
+        panes[1].close()
+        self.turn()
+        self.assertEqual((self.keeper.panes[1].terminal, self.keeper.panes[2].peer), (None, None))
+        self.assertEqual((self.keeper.panes[1].in_front(), self.keeper.panes[2].is_unread()), ([], False))
+        panes[0].send(b"x")
+        self.turn()
+        self.assertEqual(self.keeper.panes[1].to_terminal, b"")
+
+    def test_unread(self):
+        """What the server doesn't read for three seconds is told of, once."""
+        panes = self.begin()
+        for end in self.made:
+            end.send(b"hello")
+        self.turn()
+        read_now(panes[1])
+        self.now += 2.9
+        self.turn()
+        self.assertEqual(self.said.getvalue(), "")
+        self.now += 0.1
+        with mock.patch.object(shells.fcntl, "ioctl", side_effect=[struct.pack("i", 5), struct.pack("i", 0)]):
+            self.turn()
+        told = "pane 1 isn't shown: the server doesn't read it, as where no descriptor is left for it\n"
+        self.assertTrue(self.said.getvalue().endswith(told))
+        self.assertEqual(self.said.getvalue().count("isn't shown"), 1)
+        pane = self.keeper.panes[1]
+        for written, unread in ((0, False), (1, True), (16384, True), (16385, False)):
+            pane.written = written
+            with mock.patch.object(shells.fcntl, "ioctl", return_value=struct.pack("i", 1)):
+                self.assertEqual(pane.is_unread(), unread, written)
+
+
+class Refused(Keeper):
+    """What the system refuses is told of, and tried again."""
+
+    def test_command(self):
+        """A command that can't be started is told of in its pane, where a key tries again."""
+        self.patch_of(shells.os, "forkpty", side_effect=OSError(11, "Resource temporarily unavailable"))
+        panes = self.begin()
+        self.turn()
+        self.assertEqual(read_now(panes[0]), b"[not started: Resource temporarily unavailable; a key tries again]\r\n")
+        self.patch_of(shells.os, "forkpty", side_effect=self.forked)
+        panes[0].send(b"x")
+        self.turn()
+        self.assertEqual((self.keeper.panes[1].process, self.keeper.panes[2].process, read_now(self.made[0])), (71, None, b""))
+
+    def test_connection(self):
+        """A pane that can't be connected says so, is told of once, and is tried again each quarter of a second."""
+        with mock.patch.object(shells, "connected_now", side_effect=OSError(24, "Too many open files")) as connects:
+            says = self.patch_of(shells, "say_in")
+            self.tell("1 1 1 23 80 4", "focus 1")
+            says.assert_called_once_with(f"{self.folder}/p1", "[not started: Too many open files; tried again]\r\n")
+            self.assertEqual(self.keeper.again_at, 100.25)
+            self.now += 0.24
+            self.turn()
+            self.assertEqual(connects.call_count, 1)
+            self.now += 0.01
+            self.turn()
+            self.assertEqual((connects.call_count, says.call_count), (2, 1))
+        self.assertEqual(self.said.getvalue().count("pane 1: Too many open files; tried again\n"), 1)
+        self.now += 0.25
+        self.turn()
+        self.assertEqual((self.keeper.again_at, self.keeper.refused, self.keeper.panes[1].process), (None, set(), 71))
+
+    def test_not_there(self):
+        """A pane whose socket isn't there is no place to say so."""
+        says = self.patch_of(shells, "say_in")
+        self.tell("9 1 1 23 80 4", "focus 9")
+        says.assert_not_called()
+        self.assertIn("pane 9: No such file or directory; tried again\n", self.said.getvalue())
+
+    def test_rects(self):
+        """Places that can't be written are written later."""
+        with mock.patch.object(shells, "write_places", side_effect=OSError(28, "No space left on device")):
+            self.begin()
+            self.assertIn("rects: No space left on device; tried again\n", self.said.getvalue())
+        self.now += 0.25
+        self.turn()
+        self.assertTrue((self.folder / "rects").exists())
+
+    def test_spares(self):
+        """Descriptors are kept for what has to be had."""
+        self.assertTrue(self.keeper.spare.end is not None and self.keeper.voice.end is not None)
+        self.keeper.spare.free()
+        self.keeper.spare.free()
+        with mock.patch.object(shells.os, "open", side_effect=OSError(24, "Too many open files")):
+            self.keeper.keep_spares()
+        self.assertIn("a spare descriptor: Too many open files; tried again\n", self.said.getvalue())
+        self.now += 0.25
+        self.turn()
+        self.assertIsNotNone(self.keeper.spare.end)
+
+    def test_said(self):
+        """A line is said in a pane that has no shell."""
+        shells.say_in(self.folder / "p3", "why\ud800\r\n")
+        self.assertEqual(self.taken(self.listeners["p3"]).recv(16), b"why?\r\n")
+        shells.say_in(self.folder / "none", "why")
+
+
+class Ended(Keeper):
+    """Commands that end, and the session's end."""
+
+    def end(self, process):
+        """Has a command end."""
+        self.ended[process] = True
+        os.write(self.wakes, bytes([signal.SIGCHLD]))
+        self.turn()
+
+    def test_stays(self):
+        """Without --close a pane whose command ended shows that, behind what it wrote last, and stays."""
+        panes = self.begin()
+        self.made[0].send(b"bye")
+        self.end(71)
+        self.assertEqual(read_now(panes[0]), b"bye\r\n[ended]")
+        self.assertEqual((self.keeper.panes[1].terminal, self.keeper.panes[1].runs(), self.keeper.is_over), (None, False, False))
+
+    def test_last_words(self):
+        """What it left behind may write for ever: 16,384 bytes and a piece are taken."""
+        self.begin()
+        pane = self.keeper.panes[1]
+        with mock.patch.object(shells, "read", return_value=b"x" * 10_000) as reads:
+            pane.ends()
+        self.assertEqual((reads.call_count, len(pane.to_pane)), (2, 20_000))
+
+    def test_closes(self):
+        """With --close the server is asked to close it, and again after three seconds; the focus goes where it was before."""
+        self.keeper.asked.close = True
+        self.begin("focus 2", "focus 1")
+        self.end(71)
+        self.assertEqual(read_now(self.server), b"close 1 4 2\n")
+        self.now += 2.9
+        self.turn()
+        self.assertEqual(read_now(self.server), b"")
+        self.now += 0.1
+        self.turn()
+        self.assertEqual(read_now(self.server), b"close 1 4 2\n")
+        self.tell("1 gone", "focus 2")
+        self.assertFalse(self.keeper.is_over)
+
+    def test_other(self):
+        """A pane that hasn't the focus leaves it, and the focus goes to none whose command has ended."""
+        self.keeper.asked.close = True
+        self.begin()
+        self.end(72)
+        self.assertEqual(read_now(self.server), b"close 2 5\n")
+        self.tell("focus 2", "focus 1")
+        self.end(71)
+        self.assertIn(b"close 1 4\n", read_now(self.server))
+
+    def test_last(self):
+        """The end of the last is the session's: it is noted, and the server is told to end."""
+        self.keeper.asked.close, self.keeper.asked.server, self.keeper.server_began = True, 4711, 17
+        self.tell("1 1 1 23 80 4", "focus 1")
+        self.kills.side_effect = ProcessLookupError(3, "none")
+        self.end(71)
+        self.assertEqual((self.keeper.is_over, self.kills.call_args_list), (True, [mock.call(4711, signal.SIGTERM)]))
+        self.assertEqual((self.folder / "ended").read_text(encoding="utf-8"), "4711 17\n")
+
+    def test_signals(self):
+        """SIGTERM and SIGHUP end it, and its shells hang up."""
+        for number in (signal.SIGTERM, signal.SIGHUP):
+            self.keeper.is_over = False
+            os.write(self.wakes, bytes([number]))
+            self.turn(1)
+            self.assertTrue(self.keeper.is_over)
+        panes = self.begin()
+        self.assertEqual(self.keeper.run(), 0)
+        self.assertEqual((self.keeper.panes, panes[0].recv(1), (self.folder / "bells").exists()), ({}, b"", False))
+
+    def test_hung(self):
+        """The processes of panes that are gone are waited for."""
+        self.begin()
+        self.tell("2 gone")
+        self.end(72)
+        self.assertEqual(self.keeper.hung, [])
+
+    def test_server_gone(self):
+        """The server's end is the session's; one that runs and doesn't listen is waited for."""
+        self.begin()
+        for end in (self.server, self.listeners["panes"]):
+            end.close()
+        self.turn()
+        self.assertFalse(self.keeper.is_over)
+        self.keeper.asked.server, self.keeper.server_began = os.getpid(), begun(os.getpid())
+        self.now += 0.1
+        self.turn()
+        self.assertFalse(self.keeper.is_over)
+        self.keeper.server_began -= 1
+        self.now += 1
+        self.turn()
+        self.assertTrue(self.keeper.is_over)
+
+    def test_let_go(self):
+        """Panes of which nothing is told once it follows anew are gone, by the first focus."""
+        panes = self.begin()
+        self.server.close()
+        self.turn()
+        self.assertEqual((self.keeper.untold, self.keeper.is_followed()), ({1, 2}, False))
+        self.now += 0.1
+        self.turn()
+        self.server = self.taken(self.listeners["panes"])
+        self.tell("1 1 1 23 80 4")
+        self.assertEqual((self.keeper.untold, panes[0].fileno() > 0, self.keeper.is_followed()), ({2}, True, False))
+        self.tell("focus 1")
+        self.assertEqual((list(self.keeper.panes), panes[1].recv(1), self.keeper.is_followed()), ([1], b"", True))
+
+    def test_not_followed(self):
+        """A pane says where nothing can be followed from the start, once."""
+        says = self.patch_of(shells, "say_in")
+        for _ in range(3):
+            self.server.close()
+            self.turn(2)
+            self.now = self.keeper.following.again_at or self.now
+            self.turn(1)
+            self.server = self.taken(self.listeners["panes"])
+        self.assertEqual(says.call_count, 1)
+        self.assertTrue(says.call_args[0][1].startswith("[no shell: the panes can't be followed: the server lets this go"))
+        self.assertTrue(self.keeper.bells.standing.startswith("the panes can't be followed: "))
+
+
+class Again(Keeper):
+    """Shells that another kept before."""
+
+    def test_dropped(self):
+        """What was typed since is dropped before a shell runs, half a second after the last of it."""
+        self.keeper = self.kept(again=True)
+        self.server = self.taken(self.listeners["panes"])
+        panes = self.begin()
+        self.assertEqual(self.made, [])
+        self.now += 0.4
+        panes[0].send(b"rm -rf x\r")
+        self.turn()
+        self.now += 0.1
+        self.turn()
+        self.assertEqual(len(self.made), 1)
+        self.assertEqual(read_now(panes[1]), b"\r\n[a new shell; what was typed since the last one ended is dropped]\r\n")
+        self.now += 0.4
+        self.turn()
+        self.assertEqual((len(self.made), read_now(self.made[0]), read_now(self.made[1])), (2, b"", b""))
+        self.tell("3 1 1 5 5 1", "focus 3")
+        self.assertEqual(len(self.made), 3)
+
+
+class Waits(Keeper):
+    """How long nothing is due."""
+
+    def test_moments(self):
+        self.keeper.lasting.due = 160.0
+        self.begin()
+        self.keeper.lasting.due = 160.0
+        self.assertAlmostEqual(self.keeper.wait_time(), 3.0)
+        for pane in self.keeper.panes.values():
+            pane.look_at = None
+        self.assertAlmostEqual(self.keeper.wait_time(), 60.0)
+        self.keeper.again_at = 100.25
+        self.assertAlmostEqual(self.keeper.wait_time(), 0.25)
+        self.now = 101.0
+        self.assertEqual(self.keeper.wait_time(), 0.0)
+        self.keeper.again_at, self.keeper.asked.close = None, True
+        self.keeper.panes[1].has_ended, self.keeper.panes[1].asked_until = True, 103.0
+        self.assertAlmostEqual(self.keeper.wait_time(), 2.0)
+        self.keeper.untold.add(1)
+        self.assertAlmostEqual(self.keeper.wait_time(), 59.0)
+
+    def test_daily(self):
+        """The note of the places is written again where a cleaner took it."""
+        self.begin()
+        (self.folder / "rects").unlink()
+        self.keeper.lasting.due = self.now
+        self.turn()
+        self.assertTrue((self.folder / "rects").exists())
+
+
+class Words(Case):
+    """The words of the command line."""
+
+    def test_words(self):
+        self.environment(SHELL="/bin/zsh")
+        self.words("pane_shells", "--close", "--server", "7", "d", "vi", "-R", "x")
+        asked = shells.read_words()
+        self.assertEqual((asked.close, asked.server, asked.again, asked.dir, asked.command, asked.instead),
+                         (True, 7, False, "d", ["vi", "-R", "x"], None))
+        self.words("pane_shells", "--again", "d")
+        asked = shells.read_words()
+        self.assertEqual((asked.close, asked.again, asked.command, asked.instead), (False, True, ["/bin/zsh"], "/bin/sh"))
+        self.environment(SHELL=None)
+        self.assertEqual(shells.read_words().command, ["/bin/sh"])
+
+    def test_main(self):
+        folder = self.made_folder()
+        self.words("pane_shells", str(folder))
+        made, woken = self.patch_of(shells, "Shells"), self.patch_of(shells, "woken", return_value=5)
+        made.return_value.run.return_value = 0
+        self.assertEqual(shells.main(), 0)
+        self.assertEqual((made.call_args[0][1], woken.call_args[0]), (5, (signal.SIGCHLD, signal.SIGTERM, signal.SIGHUP)))
+        self.words("pane_shells", str(folder / "none"))
+        with self.assertRaisesRegex(Fault, "/none is no folder$"):
+            shells.main()
+
+    def test_has_ended(self):
+        process = self.process("true")
+        self.assertTrue(shells.os.waitid(os.P_PID, process.pid, os.WEXITED | os.WNOWAIT))
+        self.assertTrue(shells.has_ended(process.pid))
+        self.assertTrue(shells.has_ended(process.pid))
+        self.assertFalse(shells.has_ended(self.process().pid))
+
+    def test_child(self):
+        """What is forked becomes the command, of the pane's size and in its folder, and ends where it can't."""
+        pane = shells.Pane(argparse.Namespace(dir="/d", command=["vi"], instead="/bin/sh"), 3, 1, (5, 40), False, "/tmp")
+        with mock.patch.object(shells.os, "forkpty", return_value=(0, 9)), mock.patch.object(shells.terminal, "become") as becomes, \
+                mock.patch.object(shells.os, "_exit", side_effect=InterruptedError) as exits, \
+                mock.patch.object(shells.os, "chdir") as enters:
+            with self.assertRaises(InterruptedError):
+                pane.run()
+        exits.assert_called_once_with(127)
+        enters.assert_called_once_with("/tmp")
+        command, size, environment, instead = becomes.call_args[0]
+        self.assertEqual((command, size, instead), (["vi"], (5, 40), "/bin/sh"))
+        self.assertEqual((environment["PWD"], environment["ROAM_PANE"]), ("/tmp", "/d:3"))

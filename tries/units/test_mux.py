@@ -1,0 +1,354 @@
+"""What the words of mux do, and how they are read."""
+import argparse
+import pathlib
+from unittest import mock
+
+from aids import Case, loaded
+from roam_live import captures, choices, client, far, sending, sessions
+from roam_live.program import Fault
+from roam_live.relayed import greeting
+from roam_live.sessions import NearSession, Session
+
+mux = loaded("mux")
+PAGE = pathlib.Path(__file__).resolve().parents[2] / "docs/man/roam-mux.1"
+
+
+class Mux(Case):
+    """A folder of sessions, and a session in it whose parts are told to be there."""
+
+    def setUp(self):
+        self.base = self.made_folder() / "roam"
+        self.base.mkdir(mode=0o700)
+        for module in (sessions, far):
+            self.patch_of(module, "base", lambda: self.base)
+        self.environment(ROAM_PREFIX=None, ROAM_GUESS=None, ROAM_PANE=None, SHELL="/bin/sh")
+        self.said, self.text = self.heard(), self.printed()
+        self.follows = self.patch_of(client, "follow", return_value=7)
+        self.is_terminal = True
+        self.patch_of(mux.os, "isatty", lambda end: self.is_terminal)
+        self.runs, self.done = set(), []
+        for name in ("start", "start_shells", "demand_terminals", "demand_shells", "note_found", "kill", "end_all", "tidy"):
+            self.patch_of(Session, name, self.does(name))
+        self.patch_of(Session, "find", lambda session: session.name in self.runs)
+        self.patch_of(Session, "runs", lambda session, role=None: session.name in self.runs)
+        self.patch_of(Session, "demand_age", self.does("demand_age"))
+        self.patch_of(Session, "busy", lambda session: {1: "vi"})
+
+    def does(self, name):
+        """What notes that a part of a session was called."""
+        def called(session, *words):
+            self.done.append((name, session.name, *words))
+            if name == "end_all":
+                self.runs.discard(session.name)
+        return called
+
+    def mux(self, *words):
+        """What mux does with words."""
+        self.words("mux", *words)
+        return mux.main()
+
+    def refuses(self, told, *words):
+        """Has mux refuse words with a text."""
+        with self.assertRaises(Fault) as fault:
+            self.mux(*words)
+        self.assertEqual(str(fault.exception), told)
+
+
+class Attaches(Mux):
+    """Words that attach."""
+
+    def test_new(self):
+        """A session that isn't running is started, and is new; `main` where none is named."""
+        for words, name in (((), "main"), (("work",), "work"), (("--", "send"), "send")):
+            self.done.clear()
+            self.assertEqual(self.mux(*words), 7)
+            self.assertEqual(self.done, [("kill", name), ("start", name, ()), ("demand_terminals", name)])
+            session, is_watching, prefix, guessing, is_new = self.follows.call_args[0]
+            self.assertEqual((session.name, is_watching, prefix, guessing, is_new()), (name, False, "C-b", "adaptive", True))
+
+    def test_running(self):
+        """One that is running is attached to, its missing parts are started, and it is not new."""
+        self.runs.add("main")
+        for words in (("attach",), ("main",), ("attach", "main"), ("attach", "--guess", "never", "main")):
+            self.done.clear()
+            self.assertEqual(self.mux(*words), 7)
+            self.assertEqual([one[0] for one in self.done], ["demand_age", "note_found", "demand_shells", "demand_terminals"])
+            self.assertFalse(self.follows.call_args[0][4]())
+        self.assertEqual(self.follows.call_args[0][3], "never")
+
+    def test_watch(self):
+        self.runs.add("main")
+        self.mux("watch", "main")
+        self.assertTrue(self.follows.call_args[0][1])
+
+    def test_none(self):
+        for words in (("attach", "none"), ("watch", "none"), ("kill", "none"), ("send", "none", "key up"), ("capture", "none")):
+            self.refuses("no session none is running", *words)
+
+    def test_terminal(self):
+        """Without a terminal nothing is started."""
+        self.is_terminal = False
+        for words in ((), ("new", "x"), ("ssh", "there")):
+            self.refuses("standard input and output have to be a terminal", *words)
+        self.assertEqual((self.done, list(self.base.iterdir())), ([], []))
+
+    def test_inside(self):
+        """A session isn't shown in a pane of its own."""
+        self.environment(ROAM_PANE=f"{self.base}/main:3")
+        self.refuses("this is a pane of session main; a session inside itself has no end")
+        self.assertEqual(self.mux("other"), 7)
+
+    def test_environment(self):
+        self.environment(ROAM_PREFIX="C-3")
+        self.refuses("ROAM_PREFIX is 'C-3', and may be C-a to C-z, C-], C-\\, C-^ or C-_")
+        self.environment(ROAM_PREFIX="C-a", ROAM_GUESS="often")
+        self.refuses("ROAM_GUESS is 'often', and may be adaptive, always or never")
+        self.environment(ROAM_GUESS="always")
+        self.mux()
+        self.assertEqual(self.follows.call_args[0][2:4], ("C-a", "always"))
+        self.assertEqual((choices.chosen_guessing("never"), choices.chosen_guessing()), ("never", "always"))
+        self.refuses("C-a d, typed in the client, detaches it; the session goes on", "detach")
+
+
+class Starts(Mux):
+    """`new`, `kill`, `send` and `capture`."""
+
+    def test_new(self):
+        """It starts a session with a command in place of the shell; with -d without a client."""
+        self.assertEqual(self.mux("new", "-d", "work", "sh", "-c", "x"), 0)
+        self.assertEqual(self.done[1], ("start", "work", ["sh", "-c", "x"]))
+        self.follows.assert_not_called()
+        self.assertEqual(self.mux("new", "--guess", "always", "work"), 7)
+        self.assertEqual((self.follows.call_args[0][3], self.follows.call_args[0][4]()), ("always", True))
+        self.runs.add("work")
+        self.refuses("session work is running; `mux attach work` attaches to it", "new", "work")
+        self.refuses("'/no/such' is no command; the options of new stand before NAME", "new", "-d", "x", "/no/such")
+        self.refuses("'a b' is no name: letters, digits, - and _, 32 at most", "new", "-d", "a b")
+
+    def test_kill(self):
+        """It asks where something else than a shell runs, but with -f."""
+        self.runs.add("main")
+        self.is_terminal = False
+        self.refuses("session main runs vi in pane 1; `mux kill -f main` ends it", "kill", "main")
+        self.is_terminal = True
+        for answer, status in (("n\n", 1), ("", 1), ("y\n", 0)):
+            with mock.patch("sys.stdin") as asked:
+                asked.readline.return_value = answer
+                self.assertEqual(self.mux("kill", "main"), status)
+        self.assertEqual(self.said.getvalue(), "session main runs vi in pane 1; end it? [y/N] " * 3)
+        self.assertEqual(self.done, [("end_all", "main"), ("tidy", "main")])
+        self.runs.add("main")
+        self.assertEqual(self.mux("kill", "-f", "main"), 0)
+
+    def test_not_ended(self):
+        self.runs.add("main")
+        with mock.patch.object(Session, "end_all"):
+            self.refuses("session main doesn't end", "kill", "-f", "main")
+
+    def test_ready(self):
+        """What types and what looks needs a client start alone."""
+        self.runs.add("main")
+        with mock.patch.object(sending, "send", return_value=3) as sends, mock.patch.object(captures, "capture", return_value=4) as takes:
+            self.assertEqual(self.mux("send", "main", "char 61", "key up"), 3)
+            self.assertEqual(sends.call_args[0][1], ["char 61", "key up"])
+            self.assertEqual(self.mux("capture", "main"), 4)
+            self.assertFalse(takes.call_args[0][1])
+            self.mux("capture", "--svg", "main")
+            self.assertTrue(takes.call_args[0][1])
+        self.assertEqual([one[0] for one in self.done[:3]], ["demand_age", "note_found", "demand_terminals"])
+
+    def test_started(self):
+        """Whether it ran before is told; what is left of one that doesn't run goes."""
+        session = Session.named("main")
+        self.assertEqual((mux.started(session), self.done), (False, [("kill", "main")]))
+        self.runs.add("main")
+        self.assertTrue(mux.started(session))
+
+
+class Listed(Mux):
+    """`ls`."""
+
+    def test_listed(self):
+        for name in ("b", "a", "ssh:there:main"):
+            (self.base / name).mkdir()
+        lines = {"a": "a 24 by 80\x1b[c", "b": "", "ssh:there:main": Fault("somebody listens")}
+
+        def listed(session):
+            if isinstance(lines[session.name], Fault):
+                raise lines[session.name]
+            return lines[session.name]
+
+        with mock.patch.object(Session, "listed", listed):
+            self.assertEqual(self.mux("ls"), 1)
+            self.assertEqual(self.text.getvalue(), "a 24 by 80?[c\n")
+            self.assertIn("session ssh:there:main: somebody listens\n", self.said.getvalue())
+            lines["ssh:there:main"] = ""
+            self.assertEqual(self.mux("list"), 0)
+
+
+class Far(Mux):
+    """Sessions of other machines."""
+
+    def test_ssh(self):
+        """A relay is started where none runs, and its status is that of one that didn't answer."""
+        starts = self.patch_of(NearSession, "start_relay", return_value=0)
+        self.assertEqual(self.mux("ssh", "-p", "22", "me@there", "work"), 7)
+        starts.assert_called_once_with(["ssh", "-p", "22", "me@there", "roam-mux far work"])
+        session = self.follows.call_args[0][0]
+        self.assertEqual(session.folder.name.rpartition(":")[0], "ssh:me@there:work")
+        self.assertEqual(self.done, [("kill", "work"), ("demand_terminals", "work")])
+        with mock.patch.object(far, "is_first_start", side_effect=[True, False]):
+            self.assertEqual([self.follows.call_args[0][4]() for _ in range(2)], [True, False])
+        starts.return_value = 255
+        self.assertEqual(self.mux("ssh", "--guess", "never", "there"), 255)
+        self.runs.add("main")
+        self.assertEqual(self.mux("ssh", "there"), 7)
+        self.assertEqual((starts.call_count, self.follows.call_args[0][4]()), (2, False))
+        self.refuses("'a b' is no name: letters, digits, - and _, 32 at most", "ssh", "there", "a b")
+
+    def test_options(self):
+        """The options before the host are for ssh, but those of mux; a letter may have its word at once, and stand behind others."""
+        for words, own, options in (
+            ("there", "there", ""), ("-p 22 there work", "there work", "-p 22"), ("-p22 there", "there", "-p22"),
+            ("-v -4C there", "there", "-v -4C"), ("-vp 22 there -x", "there -x", "-vp 22"), ("--ssh x there", "--ssh x there", ""),
+            ("--far y -i key --guess never there", "--far y --guess never there", "-i key"), ("-h there", "-h there", ""),
+            ("-p", "", "-p"), ("--ssh", "--ssh", ""), ("-o A=b -J jump me@there w", "me@there w", "-o A=b -J jump"),
+            ("--ssh=x there", "--ssh=x there", ""), ("", "", ""), ("-tt -L1:b:2 there", "there", "-tt -L1:b:2"),
+        ):
+            self.assertEqual(far.parted_options(words.split()), (own.split(), options.split()), words)
+
+    def test_pairs(self):
+        """The letters that have a word behind them are those of ssh(1)."""
+        self.assertEqual(sorted(far.SSH_PAIRS), sorted("BbcDEeFIiJLlmOopQRSWw" + "P"))
+
+    def test_near(self):
+        """One folder a host, a session and a way to get there; a host's odd letters don't leave the folder."""
+        asked = argparse.Namespace(ssh="ssh", far="roam-mux", options=[], host="there", name="main")
+        names = [far.near_session(asked, far.command_of(asked)).folder.name]
+        asked.options = ["-p", "22"]
+        names.append(far.near_session(asked, far.command_of(asked)).folder.name)
+        asked.options, asked.ssh = [], "ssh -p 23"
+        self.assertEqual(far.command_of(asked), ["ssh", "-p", "23", "there", "roam-mux far main"])
+        names.append(far.near_session(asked, far.command_of(asked)).folder.name)
+        self.assertEqual((names[0], len(set(names))), ("ssh:there:main", 3))
+        for name in names[1:]:
+            self.assertRegex(name, "^ssh:there:main:[0-9a-f]{8}$")
+        asked.host = "../a b"
+        self.assertTrue(far.near_session(asked, ["x"]).folder.name.startswith("ssh:.._a_b:main:"))
+        self.assertEqual(far.near_session(asked, ["x"]).name, "main")
+
+    def test_first_start(self):
+        """A session is new here where its server has had one start at most, as far as is known."""
+        (self.base / "main").mkdir()
+        session = Session.named("main")
+        for text, is_first in ((None, False), ("1 1 1 2 3\nstarts 1\nfocus 1\n", True), ("1 1 1 2 3\nstarts 2\nfocus 1\n", False)):
+            if text:
+                (self.base / "main/rects").write_text(text, encoding="utf-8")
+            self.assertEqual(far.is_first_start(session), is_first)
+
+    def test_carry(self):
+        """What `mux ssh` runs there starts the session where the other end knows none, and becomes a relay."""
+        becomes, writes = self.patch_of(far.os, "execv"), self.patch_of(far.os, "write")
+        greets = self.patch_of(far, "read_greeting", return_value="-")
+        self.refuses("standard input is a terminal; `mux ssh` on another machine starts this end", "far", "main")
+        self.is_terminal = False
+        self.patch_of(Session, "process", return_value=17)
+        self.mux("far", "main")
+        self.assertEqual(self.done, [("kill", "main"), ("start", "main")])
+        words = [str(far.TOOLS / "relay"), "--far", "--greeted", "--server", "17", "--dir", str(self.base / "main"), "-"]
+        becomes.assert_called_once_with(words[0], words)
+        self.assertEqual(greets.call_args[0], (0,))
+        self.done.clear()
+        self.runs.add("main")
+        self.mux("far", "main")
+        self.assertNotIn("start", [one[0] for one in self.done])
+        writes.assert_not_called()
+
+    def test_carry_known(self):
+        """One that the other end knew and that has ended isn't started anew."""
+        becomes, writes = self.patch_of(far.os, "execv"), self.patch_of(far.os, "write")
+        self.patch_of(far, "read_greeting", return_value="5e55")
+        self.is_terminal = False
+        (self.base / "main").mkdir()
+        for runs, name in ((False, "5e55"), (True, "another")):
+            (self.runs.add if runs else self.runs.discard)("main")
+            (self.base / "main/session").write_text(f"{name}\n", encoding="utf-8")
+            self.assertEqual(self.mux("far", "main"), 0)
+            writes.assert_called_with(1, greeting("0"))
+        becomes.assert_not_called()
+        self.assertEqual(self.done, [])
+        (self.base / "main/session").write_text("5e55\n", encoding="utf-8")
+        self.mux("far", "main")
+        becomes.assert_called_once()
+
+
+class Words(Mux):
+    """How words are read."""
+
+    def test_plain(self):
+        """What argparse would make of words with a name at most."""
+        for word, rest in (("attach", []), ("attach", ["x"]), ("new", ["x"]), ("ls", []), ("watch", ["x"]), ("kill", ["x"]),
+                           ("capture", ["x"]), ("far", ["x"]), ("help", []), ("help", ["ls"]), ("detach", [])):
+            plain = mux.plain_words(word, rest)
+            parsed = vars(mux.parser_of(word).parse_args(rest))
+            if plain is not None:
+                self.assertEqual(vars(plain), parsed, (word, rest))
+            else:
+                self.assertEqual(word, "new")
+        for word, rest in (("attach", ["-x"]), ("attach", ["a", "b"]), ("watch", []), ("send", ["a", "b"]), ("ssh", ["a"]),
+                           ("kill", ["-f", "x"])):
+            self.assertIsNone(mux.plain_words(word, rest), (word, rest))
+
+    def test_refused(self):
+        """Words that name no session: a slip is told of, the rest gets the usage; all with status 2."""
+        hint = "mux: 'atach' is no word of mux; attach is, and `mux -- atach` takes it as a session's name\n"
+        for words, told in ((("atach",), hint), (("atach", "x"), "mux: 'atach' is no word of mux; attach is\n")):
+            self.assertEqual(self.mux(*words), 2)
+            self.assertTrue(self.said.getvalue().endswith(told))
+        for words in (("-x",), ("zebra", "b"), ("--", "zebra", "b"), ("--x", "a")):
+            before = len(self.said.getvalue())
+            self.assertEqual(self.mux(*words), 2)
+            self.assertTrue(self.said.getvalue()[before:].startswith("usage: mux [NAME] | attach | new | "), words)
+        self.runs.add("atach")
+        self.assertEqual(self.mux("atach"), 7)
+        self.assertEqual(self.mux("--"), 7)
+
+    def test_help(self):
+        """`help` explains all words, or one; --help behind one does too."""
+        for words in (("help",), ("-h",), ("--help",)):
+            before = len(self.text.getvalue())
+            self.assertEqual(self.mux(*words), 0)
+            self.assertTrue(self.text.getvalue()[before:].startswith("mux [NAME] | WORD ..: sessions by name."))
+        self.assertEqual(self.mux("help", "ls"), 0)
+        self.assertIn("usage: mux ls", self.text.getvalue())
+        self.refuses("'lst' is no word of mux, ls is; `mux help` lists them", "help", "lst")
+        self.refuses("'zebra' is no word of mux; `mux help` lists them", "help", "zebra")
+        with self.assertRaises(SystemExit):
+            self.mux("kill", "--help")
+        self.assertIn("ends a session and the programs in it", self.text.getvalue())
+
+    def test_called(self):
+        """It is called as it was named."""
+        with mock.patch.object(mux, "CALLED", "roam mux"):
+            self.assertEqual(self.mux("help"), 0)
+            self.assertTrue(self.text.getvalue().startswith("roam mux [NAME] | WORD"))
+
+    def test_version(self):
+        with mock.patch.object(mux, "program", return_value="/roam"), mock.patch.object(mux.os, "execv", side_effect=SystemExit) as becomes:
+            for word in ("-V", "--version"):
+                with self.assertRaises(SystemExit):
+                    self.mux(word)
+        self.assertEqual(becomes.call_args_list, [mock.call("/roam", ["/roam", "--version"])] * 2)
+
+    def test_words(self):
+        """The words are those of the page roam-mux(1)."""
+        page = PAGE.read_text(encoding="utf-8")
+        for word in mux.WORDS:
+            self.assertRegex(page, rf"\b{word}\b")
+        self.assertEqual(list(mux.WORDS), "attach new detach ls list watch kill send capture ssh far help".split())
+
+    def test_ssh_words(self):
+        asked = mux.asked_by("ssh", ["-p", "22", "--far", "f", "there"])
+        self.assertEqual((asked.options, asked.far, asked.ssh), (["-p", "22"], "f", "ssh"))
+        self.assertEqual((asked.host, asked.name, asked.guess), ("there", "main", None))
+        self.assertEqual(mux.asked_by("send", ["x", "a", "b"]).acts, ["a", "b"])

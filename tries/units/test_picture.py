@@ -1,0 +1,229 @@
+"""What a painting shows: its cells, and the picture of them."""
+import io
+import unittest
+import xml.etree.ElementTree
+
+from aids import Case, loaded
+from roam_live.cells import Cells, Style, cells_of_rows, styled, width_of
+
+picture = loaded("picture")
+PLACE = "{http://www.w3.org/2000/svg}"
+
+
+def cells_of(text):
+    """The cells that a text shows."""
+    cells = Cells()
+    cells.fed(text)
+    return cells
+
+
+class Shown(Case):
+    """The cells that a painter's text shows."""
+
+    def test_places(self):
+        cells = cells_of("\x1b[2J\x1b[3;5Hab\x1b[1;1Hc\x1b[?25l")
+        self.assertEqual({place: letter for place, (letter, _) in cells.cells.items()}, {(3, 5): "a", (3, 6): "b", (1, 1): "c"})
+        self.assertEqual((cells.row, cells.col, cells.has_cursor), (1, 2, False))
+        cells.fed("\x1b[?25h")
+        self.assertTrue(cells.has_cursor)
+        for erases in ("\x1bc", "\x1b[2J"):
+            cells.fed(erases)
+            self.assertEqual(cells.cells, {})
+            cells.fed("x")
+
+    def test_widths(self):
+        """A wide character takes two columns, and what has no width joins the one before."""
+        self.assertEqual([width_of(letter) for letter in "a\u4e2d\uff21\u0301\u200d\u20dd\u00e9"], [1, 2, 2, 0, 0, 0, 1])
+        cells = cells_of("\x1b[1;1Hxyz\x1b[1;2H\u4e2d\u0301b\x1b[2;1He\u0301\x1b[3;1H\u0301")
+        found = {place: letter for place, (letter, _) in cells.cells.items()}
+        self.assertEqual(found, {(1, 1): "x", (1, 2): "\u4e2d\u0301", (1, 4): "b", (2, 1): "e\u0301", (3, -1): " \u0301"})
+
+    def test_boxes(self):
+        """Between SO and SI letters are the DEC special graphics."""
+        cells = cells_of("q\x0eqxlmjk\x0fq")
+        self.assertEqual("".join(letter for letter, _ in cells.cells.values()), "q\u2500\u2502\u250c\u2514\u2518\u2510q")
+
+    def test_rows(self):
+        """Rows as tmux captures them: a style goes on into the next."""
+        cells = cells_of_rows(["\x1b[1mab", "c"])
+        self.assertEqual(cells.cells[2, 1], ("c", Style(frozenset({"bold"}))))
+        self.assertEqual(cells.cells[1, 2][0], "b")
+
+    def test_styles(self):
+        """The numbers of SGR, as ECMA-48 and xterm have them."""
+        plain = Style()
+        flags = ((1, "bold"), (2, "faint"), (3, "italic"), (4, "underline"), (5, "blink"), (7, "reverse"), (8, "conceal"), (9, "strike"))
+        for number, flag in flags:
+            self.assertEqual(styled(plain, [number]).flags, {flag})
+            off = 22 if flag in ("bold", "faint") else number + 20
+            other, stays = (4, "underline") if number == 3 else (3, "italic")
+            self.assertEqual(styled(plain, [other, number, off]).flags, {stays})
+        self.assertEqual(styled(plain, [1, 2, 22]), plain)
+        for digit in range(8):
+            found = styled(plain, [30 + digit, 100 + digit])
+            self.assertEqual((found.foreground, found.background), (digit, 8 + digit))
+            found = styled(plain, [90 + digit, 40 + digit])
+            self.assertEqual((found.foreground, found.background), (8 + digit, digit))
+        self.assertEqual(styled(plain, [31, 42, 39, 49]), plain)
+        self.assertEqual(styled(plain, [31, 42, 0]), plain)
+        self.assertEqual(styled(plain, [31, 98, 108, 6, 21, 77]).foreground, 1)
+        self.assertEqual(styled(plain, [38, 5, 200, 48, 2, 1, 2, 3, 4]), Style(frozenset({"underline"}), 200, (1, 2, 3)))
+        self.assertEqual(styled(plain, [48, 5, 7, 38, 2, 9, 8, 7, 1]), Style(frozenset({"bold"}), (9, 8, 7), 7))
+        self.assertEqual(cells_of("\x1b[;31mx").cells[1, 1][1], Style(frozenset(), 1))
+        self.assertEqual(cells_of("\x1b[31m\x1b[mx").cells[1, 1][1], plain)
+
+    def test_default_flags(self):
+        self.assertEqual(styled(Style(frozenset({"bold", "reverse"})), [27]), Style(frozenset({"bold"})))
+
+
+class Colours(Case):
+    """Colours as red, green and blue."""
+
+    def test_mixture(self):
+        """The sixteen, the cube of xterm from 16, and the greys from 232."""
+        self.assertEqual(picture.mixture(None, (1, 2, 3)), (1, 2, 3))
+        self.assertEqual(picture.mixture((4, 5, 6), (1, 2, 3)), (4, 5, 6))
+        for index, colour in ((0, (0, 0, 0)), (16, (0, 0, 0)), (17, (0, 0, 95)), (22, (0, 95, 0)), (52, (95, 0, 0)), (231, (255, 255, 255)),
+                              (196, (255, 0, 0)), (110, (135, 175, 215)), (232, (8, 8, 8)), (255, (238, 238, 238)), (244, (128, 128, 128))):
+            self.assertEqual(picture.mixture(index, (9, 9, 9)), colour, index)
+        for index in (1, 2, 4, 9, 10, 12):
+            colour = picture.mixture(index, None)
+            self.assertEqual(colour.index(max(colour)), {1: 0, 2: 1, 4: 2}[index & 7])
+        self.assertEqual((len(picture.SIXTEEN), max(map(max, picture.SIXTEEN))), (16, 255))
+
+    def test_sixteen(self):
+        """The sixteen are those of VS Code's terminal, but for blues that a dark ground leaves legible, and white."""
+        known = ((0, 0, 0), (205, 49, 49), (13, 188, 121), (229, 229, 16), (188, 63, 188), (17, 168, 205), (229, 229, 229), (102, 102, 102),
+                 (241, 76, 76), (35, 209, 139), (245, 245, 67), (214, 112, 214), (41, 184, 219))
+        self.assertEqual([picture.mixture(index, None) for index in (0, 1, 2, 3, 5, 6, 7, 8, 9, 10, 11, 13, 14)], list(known))
+
+    def test_flags(self):
+        """Reverse swaps, conceal hides, faint lies halfway to the background."""
+        red, green = (200, 0, 0), (0, 100, 50)
+        for flags, found in (((), ("#c80000", "#006432")), (("reverse",), ("#006432", "#c80000")), (("conceal",), ("#006432", "#006432")),
+                             (("faint",), ("#643219", "#006432")), (("bold",), ("#c80000", "#006432")),
+                             (("reverse", "conceal"), ("#c80000", "#c80000"))):
+            self.assertEqual(picture.colours(Style(frozenset(flags), red, green)), found)
+        self.assertEqual(picture.colours(Style()), ("#d8d8d8", "#18181c"))
+
+
+class Drawn(Case):
+    """The elements of a picture: a cell is 8 wide and 17 high, and 8 stay free all round."""
+
+    def elements(self, text):
+        """The elements of the picture of a text, behind the two of its ground."""
+        tree = xml.etree.ElementTree.fromstring(picture.picture(cells_of(text + "\x1b[?25l")))
+        self.size = tree.get("width"), tree.get("height"), tree.get("viewBox"), tree[0].get("width"), tree[0].get("height")
+        return [(one.tag.removeprefix(PLACE), dict(one.attrib), one.text) for one in tree[1]]
+
+    def test_size(self):
+        self.elements("\x1b[24;80Hx")
+        self.assertEqual(self.size, ("656", "424", "0 0 656 424", "656", "424"))
+
+    def test_cursor(self):
+        tree = xml.etree.ElementTree.fromstring(picture.picture(cells_of("\x1b[2;3Hx")))
+        cursor = tree[1][-1]
+        self.assertEqual([cursor.get(name) for name in ("x", "y", "width", "height")], ["32", "25", "8", "17"])
+
+    def test_texts(self):
+        """Latin signs stand together where no two columns are free between them; each other sign stands alone."""
+        found = self.elements("\x1b[1;1Hab  cd e\x1b[2;3H\u03b1\u03b2x&<")
+        places = [(one["x"], one["y"], text, one.get("textLength")) for tag, one, text in found]
+        self.assertEqual(places, [("8", "21", "ab", "16"), ("40", "21", "cd e", "32"), ("24", "38", "\u03b1", None),
+                                  ("32", "38", "\u03b2", None), ("40", "38", "x&<", "24")])
+        self.assertEqual({one["fill"] for _, one, _ in found}, {"#d8d8d8"})
+
+    def test_wide(self):
+        found = self.elements("\x1b[1;1H\u4e2dab\x1b[2;1He\u0301f")
+        self.assertEqual([(one["x"], text) for _, one, text in found], [("8", "\u4e2d"), ("24", "ab"), ("8", "e\u0301"), ("16", "f")])
+
+    def test_marks(self):
+        found = self.elements("\x1b[1;31mb\x1b[0;3;4mi\x1b[0;9ms\x1b[0;44mx \x1b[0my")
+        tags = [tag for tag, _, _ in found]
+        self.assertEqual(tags, ["text", "text", "path", "text", "path", "rect", "text", "text"])
+        self.assertEqual(found[0][1]["font-weight"], "bold")
+        self.assertNotIn("font-style", found[0][1])
+        self.assertEqual((found[1][1]["font-style"], found[2][1]["d"], found[4][1]["d"]), ("italic", "M16 23.5h8", "M24 16.5h8"))
+        self.assertEqual([found[5][1][name] for name in ("x", "y", "width", "height", "fill")], ["32", "8", "16", "17", "#4678dc"])
+        self.assertEqual(found[7][1]["x"], "48")
+
+    def test_runs(self):
+        """A run is of neighbours in one row with one style."""
+        found = picture.runs(cells_of("\x1b[1;1Ha\u4e2db\x1b[1;6Hc\x1b[1;7H\x1b[1md\x1b[2;1He"))
+        self.assertEqual([(row, [col for col, _ in places]) for row, _, places in found], [(1, [1, 2, 4]), (1, [6]), (1, [7]), (2, [1])])
+
+    def test_boxes(self):
+        """The strokes of a sign for boxes go from the middle of its cell to its sides."""
+        ends = {"l": "H8", "r": "H16", "u": "V8", "d": "V25"}
+        sides = {"\u2500": "lr", "\u2502": "ud", "\u250c": "rd", "\u2510": "ld", "\u2514": "ru", "\u2518": "lu", "\u251c": "rud",
+                 "\u2524": "lud", "\u252c": "lrd", "\u2534": "lru", "\u253c": "lrud"}
+        for letter, strokes in sides.items():
+            path = self.elements(letter)[0][1]["d"]
+            self.assertEqual(sorted(path.split("M12.5 16.5")[1:]), sorted(ends[side] for side in strokes), letter)
+        self.assertEqual(self.elements("\x1b[2;3H\u2500")[0][1]["d"], "M28.5 33.5H24M28.5 33.5H32")
+
+    def test_blocks(self):
+        """The blocks of Unicode fill eighths of their cell."""
+        for letter, place in (("\u2588", "8 8 8 17"), ("\u2580", "8 8 8 8.5"), ("\u2584", "8 16.5 8 8.5"), ("\u258c", "8 8 4 17"),
+                              ("\u2590", "12 8 4 17"), ("\u2581", "8 22.875 8 2.125"), ("\u258f", "8 8 1 17"), ("\u2589", "8 8 7 17"),
+                              ("\u2587", "8 10.125 8 14.875")):
+            one = self.elements(letter)[0][1]
+            self.assertEqual(" ".join(one[name] for name in ("x", "y", "width", "height")), place, letter)
+        one = self.elements("\x1b[2;3H\u2588")[0][1]
+        self.assertEqual((one["x"], one["y"]), ("24", "25"))
+
+    def test_words(self):
+        self.assertEqual(picture.words_of(3, " a  b c   d "), [(4, "a"), (7, "b c"), (13, "d")])
+        self.assertEqual(picture.words_of(1, "     "), [])
+
+
+class Tool(Case):
+    """live/picture as it is called."""
+
+    def run_with(self, *words, text=b""):
+        """Its status and what it printed."""
+        self.words("picture", *words)
+        self.patch("sys.stdin", io.TextIOWrapper(io.BytesIO(text)))
+        printed = self.printed()
+        return picture.main(), printed.getvalue()
+
+    def test_input(self):
+        status, text = self.run_with(text=b"\x1b[1;1Hab")
+        self.assertTrue(status == 0 and text.startswith("<svg ") and text.endswith("</svg>\n"))
+
+    def test_nothing(self):
+        with self.assertRaisesRegex(picture.Fault, "^nothing was painted$"):
+            self.run_with(text=b"\x1b[2J")
+
+    def test_wrong(self):
+        said = self.heard()
+        with self.assertRaises(SystemExit) as way:
+            self.run_with("a", "b", "c")
+        self.assertEqual((way.exception.code, "a server is named by its folder" in said.getvalue()), (2, True))
+
+    def test_watched(self):
+        """It watches until nothing new was painted for half a second, and ten seconds at most; the client ends."""
+        self.stop_clock()
+        process = self.process("sh", "-c", "printf '\\033[2J'; printf '\\033[1;1Hab'; exec sleep 60", stdout=-1)
+        self.addCleanup(process.stdout.close)
+        asked = []
+
+        def waits(sources, *_):
+            asked.append(_[2])
+            if len(asked) == 1 or not cells:
+                return [sources[0]], [], []
+            return [], [], []
+
+        cells = []
+        self.patch_of(picture, "read", side_effect=lambda source: cells.append(1) or b"\x1b[1;1Hab")
+        self.patch_of(picture.select, "select", side_effect=waits)
+        popen = self.patch_of(picture.subprocess, "Popen", return_value=process)
+        home = picture.Home(folder="/x")
+        self.patch_of(home, "attach_words", side_effect=lambda more: ["roam", *more])
+        self.assertEqual(picture.watched(home), b"\x1b[1;1Hab")
+        self.assertEqual((asked, popen.call_args[0][0]), ([10.0, 0.5], ["roam", "--watch"]))
+        self.assertEqual(process.returncode, -9)
+
+
+if __name__ == "__main__":
+    unittest.main()

@@ -1,0 +1,643 @@
+"""What is known of a session by its folder, what is started there, and what is typed and read there by commands."""
+import json
+import os
+import pathlib
+import signal
+import subprocess
+import unittest
+from unittest import mock
+
+from aids import Case
+from roam_live import captures, carriers, ports, processes, sending, sessions
+from roam_live.carriers import LONGEST, SHORTEST, Carrier
+from roam_live.cells import Cells
+from roam_live.parsing import Parser
+from roam_live.ports import PortSession
+from roam_live.processes import Processes, is_note
+from roam_live.program import Fault, Home, begun
+from roam_live.rects import NOTHING, Places, Rect, write_places
+from roam_live.relayed import greeting, read_greeting
+from roam_live.sessions import VERSION, NearSession, Session
+
+OWN = [os.getpid(), begun(os.getpid())]
+
+
+class Based(Case):
+    """A folder of sessions, and the clock stands."""
+
+    def setUp(self):
+        self.base = self.made_folder() / "roam"
+        self.base.mkdir(mode=0o700)
+        self.patch_of(sessions, "base", lambda: self.base)
+        self.folder = self.base / "main"
+        self.folder.mkdir()
+        self.said = self.heard()
+
+    def note(self, **noted):
+        """Notes something."""
+        (self.folder / "state.json").write_text(json.dumps({"version": VERSION, "command": [], **noted}), encoding="utf-8")
+
+    def session(self):
+        """The session."""
+        return Session.named("main")
+
+
+class Read(Based):
+    """Notes, whole and not."""
+
+    def test_cut(self):
+        """A note that isn't whole is none, wherever it is cut."""
+        self.note(server=OWN, shells=[1, None])
+        whole = (self.folder / "state.json").read_bytes()
+        self.assertEqual(self.session().process("server"), os.getpid())
+        for cut in range(len(whole)):
+            (self.folder / "state.json").write_bytes(whole[:cut])
+            self.assertIsNone(self.session().state, cut)
+            self.assertIsNone(self.session().process("server"))
+
+    def test_notes(self):
+        """A process is noted by two numbers, of which the moment may not be known."""
+        for state, is_one in (({}, True), ({"server": [1, 2]}, True), ({"shells": [1, None]}, True), ({"relay": [1.0, 2]}, False),
+                              ({"server": [True, 2]}, False), ({"server": [1, "2"]}, False), ({"terminals": [1]}, False),
+                              ({"server": [1, 2, 3]}, False), ({"x": 1}, True), ([], False), (None, False), ({"server": {}}, False)):
+            self.assertEqual(is_note(state), is_one, state)
+
+    def test_runs(self):
+        """A process runs that began at the moment that is noted."""
+        self.note(server=[OWN[0], OWN[1] + 1], shells=OWN)
+        session = self.session()
+        self.assertEqual((session.process("server"), session.process("shells"), session.process("terminals")), (None, os.getpid(), None))
+        self.assertEqual((session.runs(), session.runs("shells"), session.met), (False, True, None))
+        self.note(server=OWN)
+        session.read()
+        self.assertTrue(session.runs())
+        self.assertEqual(session.met, OWN)
+
+    def test_missing(self):
+        """Each file that is missing, or no file, is nothing that is known."""
+        session = self.session()
+        self.assertEqual((session.id(), session.places(), session.ended(), session.logged(), session.said(0)), ("", NOTHING, "", 0, ""))
+        for name in ("session", "rects", "ended", "state.json"):
+            (self.folder / name).mkdir()
+        session = self.session()
+        self.assertEqual((session.id(), session.places(), session.ended(), session.state), ("", NOTHING, "", None))
+
+    def test_known(self):
+        (self.folder / "session").write_text("5e55\n", encoding="utf-8")
+        write_places(self.folder / "rects", Places({1: Rect(1, 1, 23, 80)}, 1, 64, 0))
+        session = self.session()
+        self.assertEqual((session.id(), session.is_full(), str(session)), ("5e55", True, f"in {self.folder}"))
+        write_places(self.folder / "rects", Places({1: Rect(1, 1, 23, 80)}, 1, 63, 0))
+        self.assertFalse(session.is_full())
+        (self.folder / "ended").write_bytes(b"\xff")
+        self.assertEqual(session.ended(), "")
+
+    def test_busy(self):
+        """What runs is known by what keeps the shells."""
+        busy = self.patch("roam_live.programs.busy_panes", return_value={1: "vi"})
+        self.note(server=OWN, shells=OWN)
+        self.assertEqual(self.session().busy(), {1: "vi"})
+        busy.assert_called_once_with(os.getpid())
+        self.assertIsNone(NearSession(self.base / "ssh:a:b").busy())
+
+    # A session that was started by hand isn't noted, so nobody knows what runs in its panes: C-b x closes a program there unasked.
+    @unittest.expectedFailure
+    def test_busy_unknown(self):
+        """Where nobody is known who keeps the shells it isn't known either."""
+        self.assertIsNone(Session(self.folder, server=os.getpid()).busy())
+
+    def test_line(self):
+        """A line of `ls`: name, rows and columns, panes, clients, and the starts from 33 on."""
+        session = self.session()
+        self.assertEqual(session.line().split(), ["main", "-", "?", "panes", "0", "clients"])
+        one, two = Places({1: Rect(1, 1, 23, 80)}, 1, 32), Places({1: Rect(1, 1, 23, 39), 2: Rect(1, 41, 23, 40)}, 1, 33)
+        for places, told in ((one, "main         24 by 80     1 pane   0 clients"),
+                             (two, "main         24 by 80     2 panes  0 clients, 33 of 64 starts")):
+            write_places(self.folder / "rects", places)
+            self.assertEqual(session.line(), told)
+        (self.folder / "attached").mkdir()
+        (self.folder / "attached" / str(OWN[0])).write_text(f"{OWN[1]} edits\n", encoding="utf-8")
+        self.assertIn(" 1 client,", session.line())
+
+    def test_names(self):
+        for name, is_one in (("main", True), ("a-b_9", True), ("x" * 32, True), ("x" * 33, False), ("", False), ("a.b", False),
+                             ("\u00e9", False)):
+            if is_one:
+                sessions.check_name(name)
+            else:
+                with self.assertRaisesRegex(Fault, "is no name: letters, digits, - and _, 32 at most$"):
+                    sessions.check_name(name)
+        with self.assertRaisesRegex(Fault, "is too long for a socket's path$"):
+            Session(self.base / ("x" * (108 - len(str(self.base)) - len("//terminals"))))
+        Session(self.base / ("x" * (107 - len(str(self.base)) - len("//terminals"))))
+
+
+class Bases(Case):
+    """Where sessions lie: in XDG_RUNTIME_DIR or /tmp, in a folder that the user alone may enter."""
+
+    def setUp(self):
+        self.folder, self.said = self.made_folder(), self.heard()
+        self.path = self.patch_of(sessions.pathlib, "Path", side_effect=self.path_of)
+        sessions.base.cache_clear()
+        self.addCleanup(sessions.base.cache_clear)
+
+    def path_of(self, *words):
+        """A path, with the folder here in place of /tmp."""
+        return pathlib.PosixPath(*(str(self.folder) if word == "/tmp" else word for word in words))
+
+    def test_runtime(self):
+        self.environment(XDG_RUNTIME_DIR=str(self.folder))
+        self.assertEqual(sessions.base(), self.folder / "roam")
+        self.assertEqual((self.folder / "roam").stat().st_mode & 0o777, 0o700)
+
+    def test_tmp(self):
+        self.environment(XDG_RUNTIME_DIR=None)
+        self.assertEqual(sessions.base(), self.folder / f"roam-{os.getuid()}")
+        self.assertEqual(self.said.getvalue(), "")
+
+    def test_not_own(self):
+        """One of another user is told of and not used."""
+        self.environment(XDG_RUNTIME_DIR=str(self.folder / "none"))
+        self.assertEqual(sessions.base().name, f"roam-{os.getuid()}")
+        self.assertIn("none, which is no folder of yours; /tmp has the sessions\n", self.said.getvalue())
+
+    def test_open(self):
+        """A folder that others may enter, a link and a file are refused."""
+        self.environment(XDG_RUNTIME_DIR=None)
+        there = self.folder / f"roam-{os.getuid()}"
+        for made in (lambda: (there.mkdir(), there.chmod(0o750)), lambda: there.symlink_to(self.folder), lambda: there.touch()):
+            sessions.base.cache_clear()
+            made()
+            with self.assertRaisesRegex(Fault, "has to be a folder that you own and nobody else may enter$|File exists$"):
+                sessions.base()
+            there.rmdir() if there.is_dir() and not there.is_symlink() else there.unlink()
+        with mock.patch("os.getuid", return_value=os.getuid() + 1):
+            (self.folder / f"roam-{os.getuid()}").mkdir(mode=0o700)
+            with self.assertRaisesRegex(Fault, "has to be a folder that you own"):
+                sessions.base()
+
+
+class Starts(Based):
+    """What a session starts, by words that don't run here."""
+
+    def setUp(self):
+        super().setUp()
+        self.patch_of(sessions, "program", return_value="/roam")
+        self.patch_of(Session, "spawned", lambda session, role, words, *_, **__: self.spawn(session, role, words))
+        self.patch_of(Session, "wait_for", lambda session, role, before, test: self.waits.append((role, before, test)))
+        self.words, self.waits = [], []
+
+    def spawn(self, session, role, words):
+        """Notes what is started."""
+        self.words.append((role, words))
+        session.state[role] = OWN
+        return mock.Mock()
+
+    def test_spawned(self):
+        """A server, and then a shell in each pane, or a command in its place."""
+        (self.folder / "log").write_bytes(b"said before\n")
+        session = self.session()
+        session.start(["vi", "x"])
+        tools = str(sessions.TOOLS / "pane_shells")
+        self.assertEqual(self.words, [("server", ["/roam", "serve", "--dir", str(self.folder)]),
+                                      ("shells", [tools, "--close", "--server", str(OWN[0]), str(self.folder), "vi", "x"])])
+        role, before, test = self.waits[0]
+        self.assertEqual((role, before, test()), ("server", 12, False))
+        (self.folder / "session").touch()
+        self.assertFalse(test())
+        self.listening(self.folder / "clients")
+        self.assertTrue(test())
+        self.assertEqual(session.state, {"version": VERSION, "command": ["vi", "x"], "server": OWN, "shells": OWN})
+        with mock.patch.object(Session, "runs", side_effect=[True, False]):
+            session.demand_shells()
+            self.assertEqual(len(self.words), 2)
+            session.demand_shells()
+        self.assertEqual(self.words[2][1][4:], ["--again", str(self.folder), "vi", "x"])
+
+    def test_terminals(self):
+        """The start of the terminals is started where none is there, and waited for."""
+        session = self.session()
+        (self.folder / "terminals").touch()
+        session.demand_terminals()
+        words = ["/roam", "attach", "--dir", str(self.folder), "--terminals", str(self.folder / "terminals")]
+        self.assertEqual(self.words, [("terminals", words)])
+        self.assertFalse((self.folder / "terminals").exists())
+        self.assertEqual((self.waits[0][0], self.waits[0][2]()), ("terminals", False))
+        self.listening(self.folder / "terminals")
+        self.assertTrue(self.waits[0][2]() and session.has_terminals())
+        session.demand_terminals()
+        session.revive()
+        self.assertEqual(len(self.words), 1)
+
+    def test_full(self):
+        """A server that has had its 64 starts hears no other, which is told."""
+        write_places(self.folder / "rects", Places({1: Rect(1, 1, 23, 80)}, 1, 64, 0))
+        told = ("session main has had the 64 client starts of its life, and hears no other; what runs in it goes on, and `mux kill main` "
+                "ends it")
+        with self.assertRaises(Fault) as fault:
+            self.session().demand_terminals()
+        self.assertEqual(str(fault.exception), told)
+
+    def test_revived(self):
+        """Nobody waits for another that starts it just now."""
+        session = self.session()
+        lock = session.taken_lock(True)
+        session.revive()
+        self.assertFalse(session.revive_shells())
+        os.close(lock)
+        self.assertEqual(self.words, [])
+        session.revive()
+        self.assertEqual([role for role, _ in self.words], ["terminals"])
+        self.note(server=OWN)
+        with mock.patch.object(Session, "demand_shells", lambda session: session.state.update(shells=OWN)):
+            self.assertTrue(session.revive_shells())
+
+    def test_age(self):
+        """One that an earlier roam began is left to it."""
+        for version in (None, 1, 2):
+            self.note(server=OWN, version=version)
+            with self.assertRaisesRegex(Fault, "^session main was begun by an earlier roam, and is left to it: `mux kill main` ends it$"):
+                self.session().demand_age()
+        self.note(server=OWN, version=3)
+        self.session().demand_age()
+        self.note(version=1)
+        self.session().demand_age()
+
+    def test_near(self):
+        """How ssh is called isn't known of what stands for another machine's session; its shells are left to that machine."""
+        near = NearSession(self.base / "ssh:a:main", "main")
+        with self.assertRaisesRegex(Fault, "^no relay to main is running; `mux ssh` starts one$"):
+            near.start()
+        near.demand_shells()
+        near.close()
+        self.assertEqual(self.words, [])
+
+
+class Spawned(Based):
+    """What is started for real."""
+
+    def setUp(self):
+        super().setUp()
+        self.session_here = self.session()
+        self.session_here.state = {"version": VERSION}
+
+    def test_noted(self):
+        """A process notes itself, parts from the terminal, and what it says is in the log."""
+        process = self.session_here.spawned("server", ["sh", "-c", "echo said; echo more >&2; exec sleep 60"])
+        self.addCleanup(process.wait)
+        self.addCleanup(process.kill)
+        noted = json.loads((self.folder / "state.json").read_text(encoding="utf-8"))["server"]
+        self.assertEqual((noted, self.session_here.state["server"]), ([process.pid, begun(process.pid)],) * 2)
+        self.assertEqual(os.getsid(process.pid), process.pid)
+        while self.session_here.logged() < 10:
+            os.sched_yield()
+        self.assertEqual((self.session_here.said(0), self.session_here.said(5)), ("said; more", "more"))
+
+    def test_waited(self):
+        """What doesn't bring in ten seconds what it is for is ended, which is told."""
+        process = self.session_here.spawned("server", ["sleep", "60"])
+        self.stop_clock()
+        self.session_here.wait_for("server", 0, lambda: True)
+        with self.assertRaisesRegex(Fault, "^session main: the server didn't start: nothing is said; see .*/main/log$"):
+            self.session_here.wait_for("server", 0, lambda: False)
+        self.assertTrue(110.0 <= self.now < 110.1)
+        self.assertEqual(process.returncode, -9)
+
+    def test_said(self):
+        """500 letters of what it said are told."""
+        (self.folder / "log").write_bytes(b"before\n" + b"x" * 2000 + b"\n")
+        self.assertEqual(self.session_here.said(7), "x" * 500)
+
+    def test_ended(self):
+        """SIGTERM ends a process, and SIGKILL one that doesn't end in two seconds."""
+        self.stop_clock()
+        kills, left = self.patch("os.kill"), [7, 7, 7]
+        self.patch_of(Processes, "process", lambda session, role: left[0] if left else None)
+        kills.side_effect = lambda process, number: left.clear() if number == signal.SIGKILL else None
+        self.session_here.end("server")
+        self.assertEqual(kills.call_args_list, [mock.call(7, signal.SIGTERM), mock.call(7, signal.SIGKILL)])
+        self.assertTrue(102.0 <= self.now < 102.1)
+        kills.reset_mock()
+        self.session_here.end("server")
+        kills.assert_not_called()
+        left[:] = [8]
+        kills.side_effect = ProcessLookupError(3, "none")
+        self.session_here.end("server")
+
+    def test_lock(self):
+        """Who waits for another longer than half a second says so."""
+        self.stop_clock()
+        locks = self.patch_of(processes.fcntl, "flock", side_effect=self.lock_taken)
+        lock = self.session_here.taken_lock(True)
+        self.addCleanup(os.close, lock)
+        self.assertIn(f"waiting for another that starts what belongs to {self.folder}\n", self.said.getvalue())
+        self.assertTrue(100.5 < self.now < 100.6)
+        self.assertEqual(locks.call_args_list[0][0][1], processes.fcntl.LOCK_EX | processes.fcntl.LOCK_NB)
+        self.assertEqual(locks.call_args[0], (lock, processes.fcntl.LOCK_EX))
+        with self.assertRaises(BlockingIOError):
+            self.session_here.taken_lock(False)
+
+    @staticmethod
+    def lock_taken(_, how):
+        """Has another have the lock, for who doesn't wait."""
+        if how & processes.fcntl.LOCK_NB:
+            raise BlockingIOError(11, "taken")
+
+    def test_forgotten(self):
+        """The folder goes where its log tells nothing."""
+        for name in ("log", "lock"):
+            (self.folder / name).touch()
+        (self.folder / "attached").mkdir()
+        self.session_here.forget()
+        self.assertFalse(self.folder.exists())
+        self.folder.mkdir()
+        (self.folder / "log").write_bytes(b"x")
+        self.session_here.forget()
+        self.assertEqual([path.name for path in self.folder.iterdir()], ["log"])
+
+    def test_cleaned(self):
+        """What is left goes, but for the log and the note of its end."""
+        panes = [f"p{pane}" for pane in range(1, 10)]
+        names = ["clients", "panes", "terminals", "bells", *panes, "rects", "session", "session.new", "state.json"]
+        for name in [*names, "log", "lock", "ended", "own", "p0", "p10"]:
+            (self.folder / name).touch()
+        (self.folder / "attached").mkdir()
+        (self.folder / "attached/1").touch()
+        self.session_here.clean()
+        self.assertEqual(sorted(path.name for path in self.folder.rglob("*")), ["attached", "ended", "lock", "log", "own", "p0", "p10"])
+
+    def test_front(self):
+        """What may ask is in front of the terminal while it does; where there is none that is no fault."""
+        opens, sets = self.patch("os.open", return_value=55), self.patch("os.tcsetpgrp")
+        closes, handles = self.patch("os.close"), self.patch("signal.signal", return_value="before")
+        sessions.take_front(9)
+        self.assertEqual((opens.call_args[0][0], sets.call_args[0], closes.call_args[0]), ("/dev/tty", (55, 9), (55,)))
+        self.assertEqual(handles.call_args_list, [mock.call(signal.SIGTTOU, signal.SIG_IGN), mock.call(signal.SIGTTOU, "before")])
+        opens.side_effect = OSError(6, "No such device or address")
+        sessions.take_front(9)
+        self.patch("os.getpgrp", return_value=3)
+        with mock.patch("os.setpgid") as parts, mock.patch.object(sessions, "take_front") as takes:
+            sessions.in_front()
+        self.assertEqual((parts.call_args[0], takes.call_args[0]), ((0, 0), (3,)))
+        self.assertIn(mock.call(signal.SIGTSTP, signal.SIG_IGN), handles.call_args_list)
+
+    def test_relay(self):
+        """A relay that answers stays; its words tell where it logs, and after which time alone it ends."""
+        near = NearSession(self.base / "ssh:there:main", "main")
+        near.folder.mkdir()
+        (near.folder / "ended").touch()
+        with mock.patch.object(sessions, "take_front") as takes, mock.patch.object(NearSession, "spawned") as spawns:
+            spawns.return_value.stdout.readline.return_value = b"port - session abc\n"
+            self.assertEqual(near.start_relay(["ssh", "there"]), 0)
+        words = [str(sessions.TOOLS / "relay"), "--alone", "3600", "--log", str(near.log), "--dir", str(near.folder), "-", "ssh", "there"]
+        self.assertEqual(spawns.call_args, mock.call("relay", words, sessions.in_front, stdout=subprocess.PIPE, stderr=None))
+        takes.assert_called_once_with(os.getpgrp())
+        self.assertFalse((near.folder / "ended").exists())
+
+
+class Ports(Case):
+    """A session that is reached by a port."""
+
+    def setUp(self):
+        self.session = PortSession(Home(port=9, session="5e55"), None)
+        self.addCleanup(self.session.close)
+
+    def test_known(self):
+        """Little is known of it, and where panes are only where a folder tells it."""
+        self.session.read()
+        self.assertEqual((self.session.places(), self.session.busy(), self.session.is_full()), (NOTHING, None, False))
+        self.assertEqual(str(self.session), "at port 9")
+        self.assertEqual((self.session.process("server"), self.session.process("shells"), self.session.runs()), (None, None, False))
+        self.assertEqual(self.session.ending(), ("[the session has ended]", 0))
+        folder = self.made_folder()
+        write_places(folder / "rects", Places({1: Rect(1, 1, 23, 80)}, 1, 64))
+        other = PortSession(Home(port=9, session="5e55"), str(folder))
+        self.addCleanup(other.close)
+        self.assertEqual((other.places().starts, other.is_full(), other.name), (64, True, "at port 9"))
+        write_places(folder / "rects", Places({1: Rect(1, 1, 23, 80)}, 1, 63))
+        self.assertFalse(other.is_full())
+
+    def test_revived(self):
+        """Its start is started where it doesn't run, and ends with the server or the session."""
+        started = self.patch_of(ports.subprocess, "Popen", return_value=self.process())
+        with mock.patch.object(Home, "attach_words", lambda _, more: ["roam", *more]):
+            self.session.revive()
+            self.session.revive()
+        self.assertEqual((started.call_count, started.call_args[0][0]), (1, ["roam", "--terminals", str(self.session.terminals)]))
+        self.assertEqual((self.session.process("terminals"), self.session.process("server")), (self.session.start.pid, None))
+        with mock.patch.object(Home, "is_served", side_effect=[True, False]):
+            self.assertTrue(self.session.is_served())
+            self.assertTrue(self.session.runs("terminals"))
+            self.assertFalse(self.session.is_served())
+        self.assertEqual(self.session.start.wait(10), -15)
+        self.assertFalse(self.session.runs("terminals"))
+        own = pathlib.Path(self.session.own)
+        self.assertTrue(own.is_dir())
+        self.session.close()
+        self.assertFalse(own.exists())
+
+
+class Sends(Based):
+    """Acts that a command types."""
+
+    def setUp(self):
+        super().setUp()
+        self.stop_clock()
+        self.link = self.patch_of(sending, "Link").return_value
+        self.link.comes.return_value, self.link.part.return_value = True, True
+        self.link.painted.return_value = b"x"
+        self.runs = self.patch_of(sending.subprocess, "run", return_value=mock.Mock(returncode=0))
+        self.patch("roam_live.program.program", return_value="/roam")
+
+    def test_sent(self):
+        """They are read by a start that takes no turn, and typed once all can be done."""
+        self.assertEqual(sending.send(self.session(), ["char 61", "key up"]), 0)
+        words = ["/roam", "attach", "--dir", str(self.folder), "--keys", "/dev/stdin", "--turns", "0"]
+        self.assertEqual((self.runs.call_args[0][0], self.runs.call_args[1]["input"]), (words, b"char 61\nkey up\n"))
+        self.assertEqual(sending.Link.call_args[0], (self.folder / "terminals", False))
+        self.link.comes.assert_called_once_with(5.0)
+        self.link.type.assert_called_once_with("char 61", "key up")
+        self.link.part.assert_called_once_with(10.0)
+
+    def test_no_act(self):
+        """What is no act is named, and none is typed."""
+        self.runs.return_value = mock.Mock(returncode=1, stderr=b"roam: line 2: what is this\nmore\n")
+        with self.assertRaisesRegex(Fault, r"^'b\\\\nc' is no act; the page roam\(1\) lists them. None was typed$"):
+            sending.send(self.session(), ["a", "b\nc"])
+        self.runs.return_value.stderr = b"roam: no server\nx\n"
+        with self.assertRaisesRegex(Fault, "^roam: no server$"):
+            sending.send(self.session(), ["a"])
+        self.link.type.assert_not_called()
+
+    def test_not_done(self):
+        """What can't be done is looked at again for a second, since what was asked for before may not be told yet."""
+        write_places(self.folder / "rects", Places({1: Rect(1, 1, 23, 80)}, 1, 1))
+        with self.assertRaisesRegex(Fault, "^'focus 2' can't be done: there is no pane 2. None was typed$"):
+            sending.send(self.session(), ["focus 2"])
+        self.assertTrue(101.0 < self.now <= 101.1)
+        self.link.connect.assert_not_called()
+        self.patch("time.sleep", lambda _: write_places(self.folder / "rects", Places({1: Rect(1, 1, 9, 9), 2: Rect(1, 11, 9, 9)}, 1, 1)))
+        self.assertEqual(sending.send(self.session(), ["focus 2"]), 0)
+
+    def test_refused(self):
+        self.link.painted.return_value = b""
+        with self.assertRaisesRegex(Fault, "^no more terminals are taken: 16 are there$"):
+            sending.send(self.session(), ["char 61"])
+        self.link.comes.return_value, self.link.part.return_value = False, False
+        with self.assertRaisesRegex(Fault, "^session main takes no more acts; some may have been typed$"):
+            sending.send(self.session(), ["char 61"])
+
+
+class Captures(Based):
+    """The rows that a session shows."""
+
+    PAINT = b"\x1b[?25l\x1b[2J\x1b[1;1Hab  c \x1b[3;2H\xe4\xb8\xadx\x1b[1;1H\x1b[?25h"
+
+    def test_rows(self):
+        """Without the spaces at their ends, and wide characters in their columns."""
+        self.assertEqual(captures.rows_of(captures.shown_by(self.PAINT)), ["ab  c", "", " \u4e2dx"])
+        cells = Cells()
+        cells.fed("\x1b[2;3H\u4e2d\x1b[2;6Hb")
+        self.assertEqual(captures.rows_of(cells), ["", "  \u4e2d b"])
+
+    def test_paints(self):
+        """A screen is waited for five seconds, then until nothing comes for 0.2 s, a second at most, and only whole paints are taken."""
+        self.stop_clock()
+        asked, pieces = [], [b"\x1bc", self.PAINT, None]
+
+        def waits(sources, *_):
+            asked.append(round(_[2], 3))
+            self.now += 1 if len(asked) < 3 else 0.2
+            return [sources[0]] if pieces[0] else [], [], []
+
+        with mock.patch.object(captures.select, "select", waits), mock.patch.object(captures, "read", lambda _: pieces.pop(0)):
+            self.assertEqual(captures.paints(5), b"\x1bc" + self.PAINT)
+        self.assertEqual(asked, [5.0, 4.0, 0.2])
+
+    def test_busy(self):
+        """Of one that paints without an end what is whole is taken after a second."""
+        self.stop_clock()
+
+        def waits(sources, *_):
+            self.now += 0.15
+            return [5], [], []
+
+        with mock.patch.object(captures.select, "select", waits), mock.patch.object(captures, "read", lambda _: self.PAINT):
+            text = captures.paints(5)
+        self.assertTrue(self.PAINT * 5 == text[: len(self.PAINT) * 5] and len(text) % len(self.PAINT) == 0)
+        self.assertTrue(101.0 <= self.now < 101.31)
+
+    def test_ended(self):
+        self.patch_of(captures.select, "select", return_value=([5], [], []))
+        with mock.patch.object(captures, "read", return_value=b""):
+            self.assertEqual(captures.paints(5), b"")
+
+    def capture(self, text, is_drawn=False):
+        """What capture does with a painting."""
+        with mock.patch.object(captures, "Link") as link, mock.patch.object(captures, "paints", return_value=text):
+            status = captures.capture(self.session(), is_drawn)
+        self.assertEqual((link.call_args[0], link.return_value.close.call_count), ((self.folder / "terminals", True), 1))
+        return status
+
+    def test_printed(self):
+        with mock.patch("sys.stdout") as printed:
+            self.assertEqual(self.capture(self.PAINT), 0)
+        printed.buffer.write.assert_called_once_with("ab  c\n\n \u4e2dx\n".encode())
+        with mock.patch.object(captures.subprocess, "run", return_value=mock.Mock(returncode=3)) as runs:
+            self.assertEqual(self.capture(self.PAINT, True), 3)
+        self.assertEqual((runs.call_args[0][0], runs.call_args[1]["input"]), ([str(captures.TOOLS / "picture")], self.PAINT))
+
+    def test_nothing(self):
+        for text, told in ((b"", "^no more terminals are taken: 16 are there$"), (b"\x1bc", "^session main showed nothing: it is busy$")):
+            painted = mock.patch.object(captures, "paints", return_value=text)
+            with mock.patch.object(captures, "Link"), painted, self.assertRaisesRegex(Fault, told):
+                captures.capture(self.session(), False)
+
+
+class Carried(Case):
+    """Datagrams over a stream."""
+
+    def setUp(self):
+        one, self.other = self.pair()
+        self.carrier = Carrier(one)
+
+    @staticmethod
+    def datagram(length, index=0):
+        """A datagram of so many bytes, at a place in its instruction."""
+        return (b"RM" + bytes(34) + index.to_bytes(2, "big")).ljust(length, b"x")
+
+    def framed(self, *texts):
+        """Texts, each behind its length in two bytes."""
+        return b"".join(len(text).to_bytes(2, "big") + text for text in texts)
+
+    def test_cut(self):
+        """They come whole, wherever the stream is cut."""
+        texts = [self.datagram(SHORTEST), self.datagram(60)]
+        stream = self.framed(*texts)
+        for cut in range(len(stream) + 1):
+            found = []
+            for piece in (stream[:cut], stream[cut:]):
+                if piece:
+                    self.other.send(piece)
+                found += self.carrier.received()
+            self.assertEqual(found, texts, cut)
+
+    def test_lengths(self):
+        """43 to 1,242 bytes; another length is no datagram, and the end."""
+        self.assertEqual((SHORTEST, LONGEST), (43, 1242))
+        for length, is_one in ((43, True), (1242, True), (42, False), (1243, False), (0, False)):
+            one, other = self.pair()
+            other.send(length.to_bytes(2, "big") + bytes(length))
+            self.assertEqual(Carrier(one).received(), [bytes(length)] if is_one else None, length)
+            self.assertEqual(carriers.is_datagram(self.datagram(length)[:length]), is_one, length)
+        self.assertFalse(carriers.is_datagram(b"RX" + bytes(60)))
+        self.other.close()
+        self.assertIsNone(self.carrier.received())
+
+    def test_queued(self):
+        """Of an instruction all is queued or none: while 65,536 bytes wait an instruction more is."""
+        self.carrier.going += bytes(65536)
+        for length, index in ((100, 0), (200, 1)):
+            self.carrier.send(self.datagram(length, index))
+        size = 65536 + 102 + 202
+        self.assertEqual(len(self.carrier.going), size)
+        for index in (0, 1):
+            self.carrier.send(self.datagram(100, index))
+        self.assertEqual(len(self.carrier.going), size)
+        self.carrier.going.clear()
+        self.carrier.send(self.datagram(100, 1))
+        self.assertEqual(len(self.carrier.going), 0)
+        self.carrier.send(self.datagram(100, 0))
+        self.carrier.going += bytes(carriers.MOST)
+        before = len(self.carrier.going)
+        self.carrier.send(self.datagram(100, 1))
+        self.assertEqual(len(self.carrier.going), before)
+
+    def test_flushed(self):
+        self.carrier.send(self.datagram(50))
+        self.assertTrue(self.carrier.flush())
+        self.assertEqual(self.other.recv(99), self.framed(self.datagram(50)))
+        self.other.close()
+        self.carrier.send(self.datagram(50))
+        self.assertFalse(self.carrier.flush())
+        self.carrier.close()
+        self.assertEqual(self.carrier.fileno(), -1)
+
+    def test_greeting(self):
+        """A relay's greeting is read byte by byte: what follows it is for who reads next."""
+        reader, writer = self.pipe()
+        os.write(writer, greeting("5e55") + b"more")
+        self.assertEqual((read_greeting(reader), os.read(reader, 9)), ("5e55", b"more"))
+        for text, told in ((b"x" * 80, "the other end is no relay"), (b"roam-relay 1 -\n", "of an earlier roam"), (b"roam-r", "has left")):
+            reader, writer = self.pipe()
+            os.write(writer, text)
+            os.close(writer)
+            with self.assertRaisesRegex(Fault, told):
+                read_greeting(reader)
+
+    def test_words(self):
+        """Refusals of a command line are printable."""
+        said = self.heard()
+        with self.assertRaises(SystemExit):
+            Parser(prog="x").parse_args(["\x1b[c"])
+        self.assertIn("unrecognized arguments: ?[c\n", said.getvalue())

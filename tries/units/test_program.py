@@ -1,0 +1,446 @@
+"""What the tools share of the program, sockets and processes: names of servers, notes of who is there, and the ends of tools."""
+import os
+import pathlib
+import signal
+import socket
+from unittest import mock
+
+from aids import Case, loaded, read_now
+from roam_live import carriers, choices, following, lasting, links, logs, program, programs, relayed, sessions, watches, words
+from roam_live.moments import Moments
+from roam_live.program import Fault, Home
+
+RELAY = loaded("relay")
+
+
+class Programs(Case):
+    """Where the program is."""
+
+    def test_places(self):
+        """That of ROAM, else the first that is there and can be run."""
+        folder = self.made_folder()
+        files = [folder / name for name in ("none", "text", "one", "two")]
+        for path in files[1:]:
+            path.touch()
+        for path in files[2:]:
+            path.chmod(0o755)
+        self.patch_of(program, "PLACES", tuple(files))
+        self.environment(ROAM=None)
+        self.assertEqual(program.program(), str(files[2]))
+        self.environment(ROAM=str(files[3]))
+        self.assertEqual(program.program(), str(files[3]))
+        for named in (files[0], files[1], folder):
+            self.environment(ROAM=str(named))
+            with self.assertRaisesRegex(Fault, f"^{named} isn't there; make builds it$"):
+                program.program()
+        self.environment(ROAM=None)
+        self.patch_of(program, "PLACES", tuple(files[:2]))
+        with self.assertRaisesRegex(Fault, f"^{files[0]} isn't there; make builds it$"):
+            program.program()
+
+    def test_ids(self):
+        """An id is 1 to 16 hexadecimal digits; a new one has 15, of which the first is none."""
+        for word, is_one in (("5e55", True), ("0", True), ("ABCdef0123456789", True), ("ABCdef01234567890", False), ("", False),
+                             ("g", False), ("\u0663", False)):
+            self.assertEqual(program.is_id(word), is_one, word)
+        found = {program.random_id() for _ in range(200)}
+        self.assertEqual((len(found), {len(one) for one in found}), (200, {15}))
+        self.assertFalse([one for one in found if one[0] in "01234567"])
+
+
+class Homes(Case):
+    """Where a server is reached."""
+
+    def test_words(self):
+        """DIR, or PORT SESSION; ports are 1 to 65535."""
+        for words, told in ((["d"], f"in {os.getcwd()}/d"), (["/x/../y"], "in /y"), (["1", "5e55"], "at port 1"),
+                            (["65535", "0"], "at port 65535"), (["0", "5e55"], None), (["65536", "5e55"], None), (["x", "5e55"], None),
+                            (["7", "xyz"], None), ([], None), (["7", "1", "2"], None)):
+            home = Home.of(words)
+            self.assertEqual(home and str(home), told, words)
+        home = Home.of(["9", "5e55"])
+        self.assertEqual((home.port, home.session, home.folder), (9, "5e55", None))
+
+    def test_attach_words(self):
+        """No id stands in a process's words where the folder keeps others out."""
+        self.patch_of(program, "program", return_value="/roam")
+        self.assertEqual(Home(folder="/d").attach_words(["--watch"]), ["/roam", "attach", "--dir", "/d", "--watch"])
+        words = Home(port=9, session="5e55").attach_words(["--watch"])
+        self.assertEqual((words[:7], len(words[7]), words[8:]),
+                         (["/roam", "attach", "--port", "9", "--session", "5e55", "--client"], 15, ["--watch"]))
+
+    def test_served(self):
+        folder = self.made_folder()
+        home = Home(folder=str(folder))
+        self.assertEqual((home.is_served(), home.why_unserved()), (False, ""))
+        listener = self.listening(folder / "clients")
+        self.assertTrue(home.is_served())
+        with mock.patch("os.getuid", return_value=os.getuid() + 1):
+            self.assertEqual(home.why_unserved(), f": user {os.getuid() - 1} listens there, and not you")
+        listener.close()
+        self.assertEqual((home.is_served(), home.why_unserved()), (False, ""))
+
+    def test_port(self):
+        """A port is served where somebody has it."""
+        with socket.socket(socket.AF_INET, socket.SOCK_DGRAM) as one:
+            one.bind(("127.0.0.1", 0))
+            port = one.getsockname()[1]
+            self.assertTrue(Home(port=port, session="0").is_served())
+            self.assertEqual(one.recv(10), b"\0")
+        self.assertFalse(program.is_port_served(port))
+        self.assertEqual(Home(port=port, session="0").why_unserved(), "")
+
+
+class Waits(Case):
+    """Connections that are waited for."""
+
+    def setUp(self):
+        self.stop_clock()
+        self.said = self.heard()
+
+    def test_waited(self):
+        """A socket that isn't there yet is waited for ten seconds, and after half of one that is said, once."""
+        path = self.made_folder() / "clients"
+        with self.assertRaisesRegex(Fault, f"^{path}: No such file or directory$"):
+            program.connected(path)
+        self.assertTrue(110.0 <= self.now < 110.1)
+        self.assertEqual(self.said.getvalue().count(f"waiting for {path}\n"), 1)
+        self.now = 100.0
+        self.said.truncate(0)
+        tries = [FileNotFoundError(2, "none")] * 20 + [ConnectionRefusedError(111, "none"), BlockingIOError(11, "full"), mock.sentinel.peer]
+        with mock.patch.object(program, "connected_now", side_effect=tries):
+            self.assertIs(program.connected(path), mock.sentinel.peer)
+        self.assertEqual(self.said.getvalue(), "")
+
+    def test_refused(self):
+        """What won't come isn't waited for."""
+        with mock.patch.object(program, "connected_now", side_effect=OSError(24, "Too many open files")):
+            with self.assertRaisesRegex(Fault, "^x: Too many open files$"):
+                program.connected("x")
+        self.assertEqual(self.now, 100.0)
+
+    def test_in(self):
+        with mock.patch.object(program, "connected_now", side_effect=BlockingIOError(11, "full")) as connects:
+            with self.assertRaises(BlockingIOError):
+                program.connected_in("x", 0.5)
+        self.assertTrue(0.5 <= self.now - 100 <= 0.52 and connects.call_count >= 50)
+        with mock.patch.object(program, "connected_now", side_effect=[BlockingIOError(11, "full"), 5]):
+            self.assertEqual(program.connected_in("x", 0.5), 5)
+
+
+class Begun(Case):
+    """Processes by their begin."""
+
+    def test_own(self):
+        own = program.begun(os.getpid())
+        self.assertEqual(own, int(pathlib.Path("/proc/self/stat").read_text(encoding="utf-8").rpartition(")")[2].split()[19]))
+        self.assertTrue(program.is_running(os.getpid(), own))
+        self.assertFalse(program.is_running(os.getpid(), own + 1) or program.is_running(os.getpid(), None))
+        self.assertIsNone(program.begun(1 << 30))
+
+    def test_ended(self):
+        """What is left of one that has ended is none."""
+        process = self.process("true")
+        os.waitid(os.P_PID, process.pid, os.WEXITED | os.WNOWAIT)
+        self.assertIsNone(program.begun(process.pid))
+        self.assertFalse(program.is_running(process.pid, None))
+
+    def test_opened(self):
+        """A process can be read once it has ended."""
+        process = self.process("cat", stdin=-1)
+        end = program.opened_process(process.pid)
+        self.addCleanup(os.close, end)
+        self.assertEqual(program.select.select([end], [], [], 0)[0], [])
+        process.stdin.close()
+        self.assertEqual(program.select.select([end], [], [], 10)[0], [end])
+        process.wait()
+        with self.assertRaisesRegex(Fault, "^the session has ended$"):
+            program.opened_process(process.pid)
+
+    def test_end(self):
+        """An end is noted by the process and its begin; where that can't be written nothing is."""
+        folder = self.made_folder()
+        program.note_end(folder, 17, 99)
+        self.assertEqual((folder / "ended").read_text(encoding="utf-8"), "17 99\n")
+        program.note_end(folder / "none", 17, 99)
+
+
+class Notes(Case):
+    """Who is noted as a front end."""
+
+    def setUp(self):
+        self.folder = self.made_folder()
+        self.said = self.heard()
+
+    def other(self, kind):
+        """Another that is noted."""
+        process = self.process()
+        (self.folder / "attached").mkdir(exist_ok=True)
+        note = self.folder / "attached" / str(process.pid)
+        note.write_text(f"{program.begun(process.pid)} {kind}\n", encoding="utf-8")
+        return note
+
+    def test_noted(self):
+        """Its file is named by the process, and has its begin and what it does; who was killed isn't counted."""
+        note = program.noted_client(self.folder)
+        self.assertEqual((note.name, note.read_text(encoding="utf-8")), (str(os.getpid()), f"{program.begun(os.getpid())} edits\n"))
+        self.assertEqual((program.count_clients(self.folder), program.has_others(self.folder)), (1, False))
+        watcher = self.other("watches")
+        self.assertEqual((program.count_clients(self.folder), program.has_others(self.folder)), (2, False))
+        self.other("edits")
+        self.assertEqual((program.count_clients(self.folder), program.has_others(self.folder)), (3, True))
+        watcher.write_text("1 watches\n", encoding="utf-8")
+        for name, text in (("1073741824", "5 edits\n"), ("1073741825", ""), ("x", "1 edits\n"), ("1073741826", "x")):
+            (self.folder / "attached" / name).write_text(text, encoding="utf-8")
+        self.assertEqual(program.count_clients(self.folder), 2)
+        self.assertEqual(len(list((self.folder / "attached").iterdir())), 2)
+
+    def test_none(self):
+        self.assertEqual((program.noted_client(None), program.has_others(None), program.count_clients(self.folder)), (None, False, 0))
+        with self.assertRaisesRegex(Fault, "/none is no folder$"):
+            program.noted_client(self.folder / "none")
+        (self.folder / "attached").touch()
+        self.assertIsNone(program.noted_client(self.folder))
+        self.assertIn("this client isn't counted: ", self.said.getvalue())
+        self.assertEqual(program.kind_of(self.folder / "no"), "")
+
+    def test_replaced(self):
+        """Who reads a file finds the old or the new text whole; where it can't be written the old one stays, and nothing beside it."""
+        path = self.folder / "note"
+        program.replace_text(path, "one")
+        program.replace_text(path, "two", f"{path}.new")
+        self.assertEqual([one.name for one in self.folder.iterdir()], ["note"])
+        with mock.patch("os.replace", side_effect=OSError(28, "full")), self.assertRaises(OSError):
+            program.replace_text(path, "three")
+        self.assertEqual((path.read_text(encoding="utf-8"), [one.name for one in self.folder.iterdir()]), ("two", ["note"]))
+        with self.assertRaises(OSError):
+            program.replace_text(self.folder / "none/x", "y")
+
+
+class Ends(Case):
+    """What reads and writes, and how a tool ends."""
+
+    def test_read(self):
+        """Nothing now is None, and no more ever is nothing; 65,536 bytes at most come at once."""
+        one, other = self.pair()
+        self.assertIsNone(program.read(one.fileno()))
+        other.send(b"ab")
+        self.assertEqual(program.read(one.fileno()), b"ab")
+        other.close()
+        self.assertEqual((program.read(one.fileno()), program.read(1 << 20)), (b"", b""))
+        with mock.patch("os.read", return_value=b"x") as reads:
+            program.read(7)
+        reads.assert_called_once_with(7, 65536)
+
+    def test_write(self):
+        one, other = self.pair()
+        waiting = bytearray(b"abc")
+        self.assertTrue(program.write(one.fileno(), waiting))
+        self.assertEqual((waiting, read_now(other)), (b"", b"abc"))
+        waiting += bytes(100_000)
+        with mock.patch("os.write", side_effect=[65536, BlockingIOError(11, "full")]) as writes:
+            self.assertTrue(program.write(7, waiting) and program.write(7, waiting))
+            self.assertEqual((len(writes.call_args_list[0][0][1]), len(waiting)), (65536, 34464))
+        other.close()
+        self.assertFalse(program.write(one.fileno(), waiting))
+        self.assertEqual(waiting, b"")
+
+    def test_woken(self):
+        """Signals that come are told over a pipe."""
+        before = signal.getsignal(signal.SIGUSR2)
+        reader = program.woken(signal.SIGUSR2)
+        try:
+            os.kill(os.getpid(), signal.SIGUSR2)
+            self.assertEqual(os.read(reader, 9), bytes([signal.SIGUSR2]))
+            self.assertFalse(os.get_blocking(reader))
+        finally:
+            os.close(signal.set_wakeup_fd(-1))
+            signal.signal(signal.SIGUSR2, before)
+            os.close(reader)
+
+    def run_with(self, main):
+        """The status with which a tool ends, or its line."""
+        self.words("/x/tool")
+        with mock.patch("signal.signal"), mock.patch.dict(os.environ), self.assertRaises(SystemExit) as way:
+            program.run_tool(main)
+        return way.exception.code
+
+    def test_ends(self):
+        """A fault is one printable line and status 1."""
+        for fault, code in ((Fault("no\x1b[c\n room"), "tool: no?[c; room"), (OSError(28, "full"), "tool: full"),
+                            (KeyboardInterrupt(), 130), (FileNotFoundError(2, "No such file", "/x"), "tool: /x: No such file"),
+                            (BrokenPipeError(32, "Broken pipe"), "tool: Broken pipe"),
+                            (ValueError("\x1b"), "roam: tool failed: ValueError: ?"), (SystemExit(5), 5)):
+            self.assertEqual(self.run_with(mock.Mock(side_effect=fault)), code)
+        self.assertEqual((self.run_with(lambda: 3), self.run_with(lambda: None)), (3, None))
+
+    def test_asks(self):
+        """The programs that it runs are asked why they ended, where nothing else was asked."""
+        seen = []
+        for before, asked in ((None, "1"), ("0", "0")):
+            self.environment(ROAM_WHY=before)
+            self.run_with(lambda: seen.append(os.environ["ROAM_WHY"]))
+            self.assertEqual(seen.pop(), asked)
+
+    def test_nobody_reads(self):
+        """Where nobody reads what it prints it ends as by SIGPIPE."""
+        with mock.patch.object(program, "nobody_reads", return_value=True):
+            self.assertEqual(self.run_with(mock.Mock(side_effect=BrokenPipeError(32, "Broken pipe"))), 141)
+            self.assertEqual(self.run_with(mock.Mock(side_effect=OSError(28, "full"))), "tool: full")
+
+    def test_dropped(self):
+        """What is left to print goes nowhere then."""
+        reader, writer = os.pipe()
+        kept = os.dup(1)
+        try:
+            os.dup2(writer, 1)
+            self.assertFalse(program.nobody_reads())
+            os.close(reader)
+            self.assertTrue(program.nobody_reads())
+            os.write(1, b"x")
+        finally:
+            os.dup2(kept, 1)
+            os.close(kept)
+            os.close(writer)
+
+    def test_logged(self):
+        """What nobody foresaw is told in full in the log of the session's folder, where there is one, and in a line."""
+        folder = self.made_folder()
+        log = folder / "log"
+        self.addCleanup(program.logs.clear)
+        program.log_to(folder)
+        self.assertEqual(program.logs, [])
+        log.touch()
+        program.log_to(folder)
+        code = self.run_with(lambda: [][0])
+        self.assertEqual(code, f"roam: tool failed: IndexError: list index out of range; {log} has more")
+        text = log.read_text(encoding="utf-8")
+        self.assertTrue(text.startswith(f"tool, process {os.getpid()}:\nTraceback ") and "IndexError: list index out of range\n" in text)
+
+    def test_said(self):
+        """A line that can't be said is no fault."""
+        self.words("/x/tool")
+        said = self.heard()
+        program.say("a\x1bb")
+        self.assertEqual(said.getvalue(), "tool: a?b\n")
+        with mock.patch("sys.stderr", mock.Mock(write=mock.Mock(side_effect=OSError(28, "full")))):
+            program.say("x")
+        self.assertEqual(program.reason(OSError(28, "full")), "full")
+        self.assertEqual(program.reason(Fault("why")), "why")
+
+    def test_lines(self):
+        """Lines come whole, wherever they are cut."""
+        for cut in range(26):
+            lines = program.Lines()
+            text = b"1 23 80 1\nfocus 1\n\xc3\xa9\xff\n2 "
+            self.assertEqual(lines.fed(text[:cut]) + lines.fed(text[cut:]), ["1 23 80 1", "focus 1", "\u00e9\ufffd"], cut)
+        lines = program.Lines()
+        self.assertEqual((lines.fed(b"x" * 65535), lines.fed(b"\n")), ([], ["x" * 65535]))
+        self.assertEqual((lines.fed(b"x" * 65536), lines.fed(b"y\n")), ([], ["y"]))
+
+
+class Due(Case):
+    """What is due at a moment."""
+
+    def setUp(self):
+        self.stop_clock()
+
+    def test_due(self):
+        """What is due is done once, in any order; what a later one made needless, or put off, isn't."""
+        moments, done = Moments(), []
+        self.assertIsNone(moments.wait_time())
+        moments.later("a", 2.0, lambda: done.append("a"))
+        moments.later("b", 1.0, lambda: (done.append("b"), moments.drop("c"), moments.later("d", 1.0, lambda: done.append("late"))))
+        moments.later("c", 1.5, lambda: done.append("c"))
+        moments.later("d", 1.5, lambda: done.append("d"))
+        self.assertEqual(moments.wait_time(), 1.0)
+        self.now += 0.875
+        moments.do_due()
+        self.assertEqual(done, [])
+        self.now += 0.75
+        moments.do_due()
+        self.assertEqual((done, moments.wait_time()), (["b"], 0.375))
+        self.now += 5
+        self.assertEqual(moments.wait_time(), 0.0)
+        moments.do_due()
+        self.assertEqual((done, moments.wait_time()), (["b", "a", "late"], None))
+        moments.drop("none")
+
+    def test_replaced(self):
+        moments, done = Moments(), []
+        moments.later("a", 1.0, lambda: done.append(1))
+        moments.later("a", 3.0, lambda: done.append(2))
+        self.now += 1.0
+        moments.do_due()
+        self.now += 2.0
+        moments.do_due()
+        self.assertEqual(done, [2])
+
+
+class Running(Case):
+    """Which programs run in panes."""
+
+    def proc(self, files):
+        """Has files of /proc with these texts, and no others."""
+        def read(path, *_, **__):
+            text = files.get(str(path).removeprefix("/proc/"))
+            if text is None:
+                raise FileNotFoundError(2, "none")
+            return text
+
+        self.patch_of(pathlib.Path, "read_text", read)
+        self.patch_of(pathlib.Path, "read_bytes", lambda path: (lambda text: text.encode() if isinstance(text, str) else text)(read(path)))
+
+    def test_busy(self):
+        """The panes in which something else than a shell has the terminal, by what the keeper of shells started."""
+        stat = "({0}) S 1 {1} {1} 34816 {2} 4194304"
+        panes = {f"{one}0/environ": f"A=b\0ROAM_PANE=/x:y/main:{one}\0" for one in range(1, 5)}
+        self.proc({"7/task/7/children": "10 20 30 40 50 ", **panes,
+                   "10/stat": "10 " + stat.format("sh", 10, 10), "10/comm": "bash\n", "20/stat": "20 " + stat.format("a) (b", 20, 21),
+                   "21/comm": "vi\n", "30/stat": "30 " + stat.format("-zsh", 30, 30), "30/comm": "-zsh\n",
+                   "40/stat": "40 " + stat.format("sh", 40, 41), "50/stat": "50 " + stat.format("sh", 50, 50), "50/comm": "vi\n"})
+        self.environment(SHELL="/opt/mine")
+        self.assertEqual(programs.busy_panes(7), {2: "vi", 4: "a program"})
+        self.assertEqual(programs.busy_panes(8), {})
+        self.assertEqual((programs.foreground(10), programs.foreground(99)), ("bash", ""))
+        self.assertEqual((programs.pane_of(30), programs.pane_of(50)), (3, None))
+
+    def test_shells(self):
+        self.environment(SHELL="/opt/mine")
+        found = [programs.is_shell(name) for name in ("sh", "-bash", "fish", "mine", "vi", "shx", "")]
+        self.assertEqual(found, [True, True, True, True, False, False, False])
+
+    def test_told(self):
+        self.assertEqual(programs.told({2: "vi", 1: "less"}), "less in pane 1 and vi in pane 2")
+
+    def test_cut_stat(self):
+        """A process of which less is told is none."""
+        self.proc({"10/stat": "10 (sh) S 1"})
+        self.assertEqual(programs.foreground(10), "")
+
+
+class Numbers(Case):
+    """What the pages say of numbers: README, roam-mux(1), PROTOCOL and the help texts."""
+
+    def test_limits(self):
+        self.assertEqual((program.LONGEST_WAIT, program.SAID_AFTER, program.UNREAD_LIMIT, program.LONGEST_LINE), (10.0, 0.5, 65536, 65536))
+        self.assertEqual((logs.LOG_LIMIT, logs.KEPT, words.SAID_LIMIT), (1 << 20, 1 << 19, 64 * 1024))
+        self.assertEqual((choices.PREFIX, choices.GUESSING), ("C-b", ("adaptive", "always", "never")))
+        codes = {"C-a": 1, "C-z": 26, "C-]": 29, "C-\\": 28, "C-^": 30, "C-_": 31}
+        self.assertEqual({name: ord(choices.PREFIXES[name]) for name in codes}, codes)
+
+    def test_pauses(self):
+        """A start follows another after 0.1 s, a keeper of shells after 0.3 s, and then after pauses that grow; a folder is used daily."""
+        self.assertEqual((links.PAUSES, following.PAUSES), ((0.1, 1, 2, 4, 8, 15),) * 2)
+        self.assertEqual((watches.PAUSES, watches.SOUND, following.QUIET), ((0.3, 1, 2, 4, 8, 15), 5.0, 3.0))
+        self.assertEqual((lasting.DAILY, lasting.LOOKS), (24 * 60 * 60, 60))
+
+    def test_relay(self):
+        """A relay is alone for an hour, its far end half a minute; seven seconds are silence; `ls` tells of more than 32 starts."""
+        self.assertEqual((sessions.ALONE, sessions.MANY_STARTS), (3600, 32))
+        self.assertEqual((RELAY.SILENT, RELAY.ALONE, RELAY.PEER_LIMIT, relayed.HEARTBEAT), (7.0, 30.0, 256, 3.0))
+        self.assertEqual((relayed.VERSION, relayed.NOISE_LIMIT, relayed.PLACES_LIMIT, relayed.WAITING_LIMIT), (2, 65536, 4096, 4 << 20))
+
+    def test_wide(self):
+        """A datagram has 43 to 1,242 bytes: a header of 42, and 1 to 1,200 behind it."""
+        self.assertEqual((carriers.SHORTEST, carriers.LONGEST), (42 + 1, 42 + 1200))

@@ -1,0 +1,169 @@
+"""live/pane_shell and live/attach, made by hand."""
+import os
+import socket
+from unittest import mock
+
+from aids import Case, loaded, read_now
+from roam_live.ports import PortSession
+from roam_live.program import Fault
+from roam_live.sessions import Session
+
+shell, attach = loaded("pane_shell"), loaded("attach")
+
+
+class Shell(Case):
+    """One pane's command, and bytes both ways."""
+
+    def setUp(self):
+        self.said = self.heard()
+        self.pane, self.server = self.pair()
+        self.master, self.command = self.pair()
+
+    def ends(self, *answers):
+        """Whether the command's end came first, where these are ready, turn by turn."""
+        ready = list(answers)
+        with mock.patch.object(shell.select, "select", lambda sources, targets, _: self.asked.append((sources, targets)) or ready.pop(0)):
+            self.asked = []
+            return shell.has_ended(self.master.fileno(), self.pane.fileno())
+
+    def test_carried(self):
+        """Bytes go both ways until the command's end, whose last words are written."""
+        pane, master = self.pane.fileno(), self.master.fileno()
+        self.command.send(b"out")
+        self.server.send(b"in")
+        self.master_end()
+        self.assertTrue(self.ends(([pane, master], [], []), ([], [pane, master], []), ([master], [], [])))
+        self.assertEqual((read_now(self.server), self.got), (b"out", b"in"))
+        self.assertEqual([targets for _, targets in self.asked], [[], [pane, master], []])
+        self.assertEqual(self.asked[0][0], [pane, master])
+
+    def master_end(self):
+        """Has the command read once, and end then."""
+        self.got = b""
+        reads = shell.read
+
+        def read(end):
+            if end == self.master.fileno() and not self.got and len(self.asked) == 3:
+                self.got = read_now(self.command)
+                self.command.close()
+            return reads(end)
+
+        self.patch_of(shell, "read", read)
+
+    def test_pane_first(self):
+        """A pane that ends first hangs the command up, also where it takes nothing more."""
+        self.server.close()
+        self.assertFalse(self.ends(([self.pane.fileno()], [], [])))
+        self.command.send(b"x")
+        pane, self.pane = self.pane, self.pair()[0]
+        with mock.patch.object(shell, "write", return_value=False):
+            self.assertFalse(self.ends(([self.master.fileno()], [], []), ([], [self.pane.fileno()], [])))
+
+    def test_limits(self):
+        """Nothing is read of a command while 65,536 bytes wait for the pane; what is typed above as many is dropped, which is told once."""
+        pane, master = self.pane.fileno(), self.master.fileno()
+        pieces = {master: b"x" * 65536, pane: b"y" * 40000}
+        answers = [([master], [], []), ([pane], [], []), ([pane], [], []), ([pane], [], []), ([pane], [], [])]
+        with mock.patch.object(shell, "read", lambda end: b"" if len(self.asked) == 5 else pieces[end]):
+            self.assertFalse(self.ends(*answers))
+        self.assertEqual([sources for sources, _ in self.asked], [[pane, master]] + [[pane]] * 4)
+        self.assertEqual(self.said.getvalue().count("what is typed isn't read; above 65536 bytes it is dropped\n"), 1)
+
+    def test_words(self):
+        """Its size and command are as asked, and its status is the command's; 0 where the pane ended first."""
+        self.environment(SHELL="/bin/zsh")
+        self.patch_of(shell, "connected", return_value=self.pane)
+        starts, ends = self.patch_of(shell, "started", return_value=(7, 8)), self.patch_of(shell, "has_ended", return_value=True)
+        waits = self.patch_of(shell.os, "waitpid", return_value=(7, 3 << 8))
+        self.words("pane_shell", "--rows", "9", "--cols", "9999", "p1", "vi", "-R")
+        self.assertEqual((shell.main(), starts.call_args[0], ends.call_args[0]), (3, (["vi", "-R"], (9, 9999)), (8, self.pane.fileno())))
+        waits.assert_called_once_with(7, 0)
+        waits.return_value = (7, 9)
+        self.words("pane_shell", "p1")
+        self.assertEqual((shell.main(), starts.call_args[0]), (137, (["/bin/zsh"], (23, 80))))
+        ends.return_value = False
+        self.assertEqual(shell.main(), 0)
+        self.environment(SHELL=None)
+        shell.main()
+        self.assertEqual(starts.call_args[0][0], ["/bin/sh"])
+        for words in ((), ("--rows", "0", "p1"), ("--rows", "10000", "p1"), ("--cols", "x", "p1")):
+            self.words("pane_shell", *words)
+            with self.assertRaises(SystemExit) as way:
+                shell.main()
+            self.assertEqual(way.exception.code, 2)
+        self.assertIn("the pane's socket is missing", self.said.getvalue())
+
+    def test_started(self):
+        """The command has TERM of a VT220, and nothing of another terminal."""
+        self.environment(LINES="5", COLORTERM="x", ROAM_WHY="1", KEPT="one")
+        with mock.patch.object(shell.pty, "fork", return_value=(0, 9)), mock.patch.object(shell.terminal, "become") as becomes, \
+                mock.patch.object(shell.os, "_exit", side_effect=InterruptedError) as exits:
+            with self.assertRaises(InterruptedError):
+                shell.started(["vi"], (5, 40))
+        exits.assert_called_once_with(127)
+        command, size, environment = becomes.call_args[0]
+        self.assertEqual((command, size, environment["TERM"], environment["KEPT"]), (["vi"], (5, 40), "vt220", "one"))
+        self.assertFalse({"LINES", "COLORTERM", "ROAM_WHY"} & environment.keys())
+        with mock.patch.object(shell.pty, "fork", return_value=(7, self.master.fileno())):
+            self.master.setblocking(True)
+            self.assertEqual(shell.started(["vi"], (5, 40)), (7, self.master.fileno()))
+        self.assertFalse(os.get_blocking(self.master.fileno()))
+
+    def test_rest(self):
+        """All that waits is written at the end, however long the pane takes."""
+        waiting = bytearray(b"abc")
+        shell.write_rest(self.pane.fileno(), waiting)
+        self.assertEqual((waiting, read_now(self.server), os.get_blocking(self.pane.fileno())), (b"", b"abc", True))
+
+
+class Attach(Case):
+    """A front end by a folder or a port."""
+
+    def setUp(self):
+        self.environment(ROAM_PREFIX=None, ROAM_GUESS=None)
+        self.follows = self.patch_of(attach, "follow", return_value=5)
+        self.patch_of(attach, "program", return_value="/roam")
+        self.folder = self.made_folder()
+        self.said = self.heard()
+
+    def attach(self, *words):
+        """What it does with words."""
+        self.words("attach", *words)
+        return attach.main()
+
+    def test_folder(self):
+        with self.assertRaisesRegex(Fault, f"^no server is in {self.folder}$"):
+            self.attach(str(self.folder))
+        self.listening(self.folder / "clients")
+        self.assertEqual(self.attach(str(self.folder)), 5)
+        place, watches, prefix, guessing = self.follows.call_args[0]
+        self.assertEqual((type(place), place.folder, place.by_hand), (Session, self.folder, None))
+        self.assertEqual((watches, prefix, guessing), (False, "C-b", "adaptive"))
+        self.assertEqual(self.attach("--watch", "--guess", "never", "--server", "7", str(self.folder)), 5)
+        place, watches, _, guessing = self.follows.call_args[0]
+        self.assertEqual((place.by_hand, watches, guessing), (7, True, "never"))
+
+    def test_known_server(self):
+        """Where its process is named nobody has to listen yet."""
+        self.assertEqual(self.attach("--server", str(os.getpid()), str(self.folder)), 5)
+
+    def test_port(self):
+        with socket.socket(socket.AF_INET, socket.SOCK_DGRAM) as one:
+            one.bind(("127.0.0.1", 0))
+            port = str(one.getsockname()[1])
+            self.assertEqual(self.attach("--dir", str(self.folder), port, "5e55"), 5)
+        place = self.follows.call_args[0][0]
+        self.addCleanup(place.close)
+        self.assertEqual((type(place), place.folder, place.name), (PortSession, self.folder, f"at port {port}"))
+        with self.assertRaisesRegex(Fault, f"^no server is at port {port}$"):
+            self.attach(port, "5e55")
+
+    def test_wrong(self):
+        for words in (("a", "b", "c"), ("0", "5e55"), ()):
+            with self.assertRaises(SystemExit) as way:
+                self.attach(*words)
+            self.assertEqual(way.exception.code, 2)
+        self.assertIn("a server is named by its folder, or by its port, 1 to 65535", self.said.getvalue())
+        self.environment(ROAM_PREFIX="x")
+        with self.assertRaisesRegex(Fault, "^ROAM_PREFIX is 'x'"):
+            self.attach(str(self.folder))

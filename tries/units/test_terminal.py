@@ -1,0 +1,263 @@
+"""The outer terminal: its modes and names, what of the painter's text reaches it, and the size of what was painted."""
+import errno
+import fcntl
+import os
+import pty
+import select
+import signal
+import struct
+import termios
+from unittest import mock
+
+from aids import Case
+from roam_live import terminal
+
+NOTICE = b"\x1b7\x1b[999;1H\x1b[0;7mroam: no answer\x1b[0m\x1b8"
+SCREEN = b"\x1b[2J\x1b[1;1H\x1b[0m\xc3\xa9\xc3\xa9xy\x1b[0m\x1b[24;1H\x1b[0;7m[1]" + b" " * 77 + b"\x1b[1;1H"
+
+
+class Resets(Case):
+    """What stands for a reset."""
+
+    def test_cut(self):
+        """A reset is replaced, wherever it is cut, and an escape at the end is held back."""
+        text = b"\x1bc\x1b[?25l\x1b[1;1Hab\x1bc\x1b[2;3Hcd\x1b"
+        wanted = text[:-1].replace(b"\x1bc", terminal.CLEARED)
+        for cut in range(len(text) + 1):
+            first, held = terminal.without_reset(b"", text[:cut])
+            second, held = terminal.without_reset(held, text[cut:])
+            self.assertEqual((first + second, held), (wanted, b"\x1b"), cut)
+        self.assertEqual(terminal.without_reset(b"\x1b", b"[1m"), (b"\x1b[1m", b""))
+
+    def test_erases(self):
+        """It has no reset, which would erase what scrolled off a person's own screen, and ends with all erased and the cursor at home."""
+        for text in (terminal.CLEARED, terminal.ENTERED, terminal.LEFT):
+            self.assertNotIn(b"\x1bc", text)
+            self.assertNotIn(b"\x1b[3J", text)
+        self.assertTrue(terminal.CLEARED.endswith(b"\x1b[2J\x1b[H"))
+        self.assertTrue(terminal.ENTERED.startswith(b"\x1b[?1049h\x1b[?2004h"))
+        self.assertTrue(terminal.LEFT.endswith(b"\x1b[?1049l") and b"\x1b[?2004l" in terminal.LEFT)
+
+    def test_unwrapped(self):
+        self.assertEqual(terminal.unwrapped("a\ud800"), b"\x1b[?7la?\x1b[?7h")
+
+
+class Sizes(Case):
+    """The size of a session by what was painted."""
+
+    def test_cut(self):
+        """It is known wherever the painting is cut, and what tells of a silent server changes nothing."""
+        text = SCREEN + NOTICE
+        for cut in range(len(text) + 1):
+            extent = terminal.Extent()
+            erased = [extent.fed(text[:cut]), extent.fed(text[cut:])]
+            self.assertEqual((extent.size, any(erased)), ((24, 80), True), cut)
+        extent = terminal.Extent()
+        for byte in text:
+            extent.fed(bytes([byte]))
+        self.assertEqual(extent.size, (24, 80))
+
+    def test_between(self):
+        """Whether a piece ends between sequences and characters."""
+        for text, is_between in ((b"", True), (b"ab", True), (b"\x1b", False), (b"\x1b[", False), (b"\x1b[1", False), (b"\x1b[1m", True),
+                                 (b"\xc3", False), (b"\xc3\xa9", True), (b"\xe2\x82", False), (b"\xe2\x82\xac", True), (b"\x1b8", True),
+                                 (b"\xf0\x9f\x98", False), (b"xx\xf0\x9f\x98\x80", True)):
+            extent = terminal.Extent()
+            extent.fed(text)
+            self.assertEqual(extent.is_between(), is_between, text)
+
+    def test_erased(self):
+        """What is erased is known anew, by either function."""
+        for erases in (b"\x1bc", b"\x1b[2J"):
+            extent = terminal.Extent()
+            extent.fed(SCREEN)
+            self.assertTrue(extent.fed(erases))
+            self.assertEqual(extent.size, (0, 0))
+            self.assertFalse(extent.fed(b"\x1b[10;1H\x1b[0;7m" + b" " * 40))
+            self.assertEqual(extent.size, (10, 40))
+
+    def test_lowest(self):
+        """It is the lowest row that counts, from the column at which something is written."""
+        extent = terminal.Extent()
+        extent.fed(b"\x1b[2J\x1b[5;1Hxxxx\x1b[4;1H" + b"y" * 70 + b"\x1b[5;30Hzz")
+        self.assertEqual(extent.size, (5, 31))
+        extent.fed(b"\x1b[200;1Hab")
+        self.assertEqual(extent.size, (200, 2))
+        extent.fed(b"\x1b[201;1Habc")
+        self.assertEqual(extent.size, (200, 2))
+
+    def test_wide(self):
+        """Behind other characters than ASCII the column isn't known, until the cursor is placed anew."""
+        extent = terminal.Extent()
+        extent.fed("\x1b[2J\x1b[3;1H\u4e2d\u4e2dxx".encode())
+        self.assertEqual(extent.size, (3, 0))
+        extent.fed(b"more\x1b[3;9Hend")
+        self.assertEqual(extent.size, (3, 11))
+
+    def test_fits(self):
+        extent = terminal.Extent()
+        extent.fed(SCREEN)
+        found = [extent.fits(size) for size in ((24, 80), (25, 81), (23, 80), (24, 79), (200, 500))]
+        self.assertEqual(found, [True, True, False, False, True])
+
+    def test_limits(self):
+        """A session has 4 to 200 rows and 8 to 500 columns."""
+        for size, is_large in (((4, 8), True), ((3, 8), False), ((4, 7), False), ((300, 7), False), ((300, 600), True)):
+            self.assertEqual(terminal.is_large_enough(size), is_large, size)
+        self.assertEqual(terminal.largest((300, 600)), (200, 500))
+        self.assertEqual(terminal.largest((24, 80)), (24, 80))
+        self.assertEqual(terminal.size_act((300, 80)), "size 200 80")
+        self.assertEqual((terminal.LEAST, terminal.MOST), ((4, 8), (200, 500)))
+
+
+class Modes(Case):
+    """The modes of a pseudo-terminal."""
+
+    def setUp(self):
+        self.master, self.slave = pty.openpty()
+        for end in (self.master, self.slave):
+            self.addCleanup(os.close, end)
+
+    def test_raw(self):
+        """Each byte comes as it is, and all is as before in the end."""
+        before = termios.tcgetattr(self.slave)
+        self.assertEqual(terminal.make_raw(self.slave), before)
+        os.write(self.master, b"\x03\x1a\r\x13\x04x\x7f\x16\x0f")
+        self.assertEqual(os.read(self.slave, 64), b"\x03\x1a\r\x13\x04x\x7f\x16\x0f")
+        os.write(self.slave, b"a\nb")
+        self.assertEqual(os.read(self.master, 64), b"a\nb")
+        os.write(self.master, b"rm -rf x\n")
+        select.select([self.slave], [], [], 10)
+        terminal.restore(self.slave, before)
+        self.assertEqual(termios.tcgetattr(self.slave), before)
+        os.set_blocking(self.slave, False)
+        with self.assertRaises(BlockingIOError):
+            os.read(self.slave, 64)
+
+    def test_bits(self):
+        """Those modes are changed that POSIX names for it, and no others."""
+        modes = [-1, -1, -1 & ~termios.CSIZE | termios.CS7, -1, 1, 2, [b"\x09"] * 32]
+        found = terminal.raw(list(modes))
+        off = termios.BRKINT | termios.ICRNL | termios.INLCR | termios.IGNCR | termios.INPCK | termios.ISTRIP | termios.IXON
+        self.assertEqual(found[0], ~off)
+        self.assertEqual(found[1], ~termios.OPOST)
+        self.assertEqual(found[2] & (termios.CSIZE | termios.PARENB), termios.CS8)
+        self.assertEqual(found[3], ~(termios.ECHO | termios.ICANON | termios.IEXTEN | termios.ISIG))
+        self.assertEqual((found[6][termios.VMIN], found[6][termios.VTIME], found[4:6]), (1, 0, [1, 2]))
+
+    def test_no_terminal(self):
+        """What is none can't be made raw, and to restore it is no fault."""
+        reader, _ = self.pipe()
+        self.assertIsNone(terminal.make_raw(reader))
+        terminal.restore(reader, [0] * 6 + [[b"\0"] * 32])
+
+    def test_interrupted(self):
+        """A signal between has it asked for anew; another fault is one."""
+        interrupted = termios.error(errno.EINTR, "Interrupted")
+        with mock.patch("termios.tcsetattr", side_effect=[interrupted, interrupted, None]) as sets:
+            terminal.set_modes(self.slave, termios.TCSADRAIN, [])
+            self.assertEqual(sets.call_args_list, [mock.call(self.slave, termios.TCSADRAIN, [])] * 3)
+        with mock.patch("termios.tcsetattr", side_effect=termios.error(errno.EIO, "gone")), self.assertRaises(termios.error):
+            terminal.set_modes(self.slave, termios.TCSADRAIN, [])
+
+    def test_size(self):
+        """A size is given and told; a terminal that tells none has 24 by 80."""
+        terminal.set_size(self.slave, 33, 101)
+        self.assertEqual(terminal.size_of(self.master), (33, 101))
+        self.assertEqual(struct.unpack("HHHH", fcntl.ioctl(self.slave, termios.TIOCGWINSZ, bytes(8))), (33, 101, 0, 0))
+        terminal.set_size(self.slave, 0, 0)
+        self.assertEqual(terminal.size_of(self.slave), (24, 80))
+
+    def test_opened(self):
+        """A terminal is opened anew and doesn't wait there; what has no name is taken twice."""
+        for end in (self.slave, self.pipe()[1]):
+            opened = terminal.opened_for_writing(end)
+            self.addCleanup(os.close, opened)
+            self.assertNotEqual(opened, end)
+        again = terminal.opened_for_writing(self.slave)
+        self.addCleanup(os.close, again)
+        self.assertFalse(os.get_blocking(again))
+        self.assertTrue(os.get_blocking(self.slave))
+
+
+class Commands(Case):
+    """What a command becomes."""
+
+    def test_become(self):
+        """It has its size, erases characters of UTF-8, and no signal is kept from it."""
+        master, slave = pty.openpty()
+        for end in (master, slave):
+            self.addCleanup(os.close, end)
+        wakes, handles = self.patch("signal.set_wakeup_fd"), self.patch("signal.signal")
+        runs = self.patch("os.execvpe")
+        sizes = self.patch_of(terminal, "set_size", wraps=lambda _, *size: self.assertEqual(size, (5, 40)))
+        gets = self.patch("termios.tcgetattr", return_value=[0, 1, 2])
+        sets = self.patch("termios.tcsetattr")
+        terminal.become(["sh", "-c", "x"], (5, 40), {"A": "b"})
+        self.assertEqual((sizes.call_args[0][0], gets.call_args[0]), (0, (0,)))
+        sets.assert_called_once_with(0, termios.TCSANOW, [0o40000, 1, 2])
+        wakes.assert_called_once_with(-1)
+        self.assertEqual({call[0] for call in handles.call_args_list}, {(number, signal.SIG_DFL) for number in terminal.SIGNALS})
+        for number in (signal.SIGCHLD, signal.SIGTERM, signal.SIGHUP, signal.SIGINT, signal.SIGPIPE):
+            self.assertIn(number, terminal.SIGNALS)
+        self.assertEqual(runs.call_args_list[0][0], ("sh", ["sh", "-c", "x"], {"A": "b"}))
+
+    def test_instead(self):
+        """Where it can't be run that is told, and another shell is there, which is named as the shell."""
+        for name in ("signal.set_wakeup_fd", "signal.signal"):
+            self.patch(name)
+        self.patch_of(terminal, "set_size")
+        self.patch("termios.tcgetattr", side_effect=termios.error(5, "gone"))
+        runs = self.patch("os.execvpe", side_effect=[FileNotFoundError(2, "No such file or directory"), None])
+        writes = self.patch("os.write")
+        terminal.become(["/no\x1b[c"], (5, 40), {"A": "b"}, "/bin/sh")
+        self.assertEqual(writes.call_args[0], (2, b"/no?[c: No such file or directory; this is /bin/sh\n"))
+        self.assertEqual(runs.call_args[0], ("/bin/sh", ["/bin/sh"], {"A": "b", "SHELL": "/bin/sh"}))
+
+    def test_not_run(self):
+        writes, runs = self.patch("os.write"), self.patch("os.execvpe", side_effect=PermissionError(13, "Permission denied"))
+        terminal.execute(["x", "y"], {})
+        self.assertEqual(writes.call_args[0], (2, b"x: Permission denied\n"))
+        runs.assert_called_once_with("x", ["x", "y"], {})
+
+
+class Names(Case):
+    """TERM of a pane: tmux-256color, else screen-256color, else vt220, the first that this machine has."""
+
+    def setUp(self):
+        self.folder = self.made_folder()
+        self.patch_of(terminal, "FOLDERS", (str(self.folder / "system"),))
+        self.environment(HOME=str(self.folder / "home"), TERMINFO=None, TERMINFO_DIRS=None)
+
+    def enter(self, place, name):
+        """Has an entry in a folder, below its first letter or that letter's number."""
+        path = self.folder / place / name
+        path.parent.mkdir(parents=True, exist_ok=True)
+        path.touch()
+
+    def test_first(self):
+        self.assertEqual(terminal.names(), {"TERM": "vt220", "COLORTERM": "truecolor"})
+        self.enter("system/s", "screen-256color")
+        self.assertEqual(terminal.names()["TERM"], "screen-256color")
+        self.enter("system/t", "tmux-256color")
+        self.assertEqual(terminal.names()["TERM"], "tmux-256color")
+
+    def test_places(self):
+        """It is looked for where terminfo is: in TERMINFO, the home, TERMINFO_DIRS, and by a letter or its number."""
+        places = (("own/74", {"TERMINFO": "own"}), ("home/.terminfo/t", {}), ("b/t", {"TERMINFO_DIRS": "a:b"}))
+        for place, words in places:
+            with self.subTest(place):
+                self.enter(place, "tmux-256color")
+                more = {name: ":".join(str(self.folder / word) for word in text.split(":")) for name, text in words.items()}
+                with mock.patch.dict(os.environ, more):
+                    self.assertTrue(terminal.has_entry("tmux-256color"))
+                    self.assertFalse(terminal.has_entry("tmux"))
+                (self.folder / place / "tmux-256color").unlink()
+                self.assertFalse(terminal.has_entry("tmux-256color"))
+
+    def test_empty(self):
+        """An empty name of a folder isn't the root."""
+        self.environment(TERMINFO="", TERMINFO_DIRS="::")
+        with mock.patch("os.path.exists", return_value=False) as looks:
+            self.assertFalse(terminal.has_entry("vt220"))
+        self.assertFalse([call for call in looks.call_args_list if call[0][0].startswith("/v/") or call[0][0].startswith("/76/")])
