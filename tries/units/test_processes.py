@@ -71,7 +71,7 @@ class Read(Based):
         self.note(server=OWN)
         session.read()
         self.assertTrue(session.runs())
-        self.assertEqual(session.met, OWN)
+        self.assertEqual(session.met, tuple(OWN))
 
     def test_missing(self):
         """Each file that is missing, or no file, is nothing that is known."""
@@ -100,8 +100,6 @@ class Read(Based):
         busy.assert_called_once_with(os.getpid())
         self.assertIsNone(NearSession(self.base / "ssh:a:b").busy())
 
-    # A session that was started by hand isn't noted, so nobody knows what runs in its panes: C-b x closes a program there unasked.
-    @unittest.expectedFailure
     def test_busy_unknown(self):
         """Where nobody is known who keeps the shells it isn't known either."""
         self.assertIsNone(Session(self.folder, server=os.getpid()).busy())
@@ -390,7 +388,7 @@ class Spawned(Based):
             spawns.return_value.stdout.readline.return_value = b"port - session abc\n"
             self.assertEqual(near.start_relay(["ssh", "there"]), 0)
         words = [str(sessions.TOOLS / "relay"), "--alone", "3600", "--log", str(near.log), "--dir", str(near.folder), "-", "ssh", "there"]
-        self.assertEqual(spawns.call_args, mock.call("relay", words, sessions.in_front, stdout=subprocess.PIPE, stderr=None))
+        self.assertEqual(spawns.call_args, mock.call("relay", words, sessions.in_front, is_heard=True))
         takes.assert_called_once_with(os.getpgrp())
         self.assertFalse((near.folder / "ended").exists())
 
@@ -405,7 +403,7 @@ class Ports(Case):
     def test_known(self):
         """Little is known of it, and where panes are only where a folder tells it."""
         self.session.read()
-        self.assertEqual((self.session.places(), self.session.busy(), self.session.is_full()), (NOTHING, None, False))
+        self.assertEqual((self.session.places(), self.session.busy(), self.session.is_full()), (NOTHING, None, None))
         self.assertEqual(str(self.session), "at port 9")
         self.assertEqual((self.session.process("server"), self.session.process("shells"), self.session.runs()), (None, None, False))
         self.assertEqual(self.session.ending(), ("[the session has ended]", 0))

@@ -401,7 +401,7 @@ class Running(Case):
                    "40/stat": "40 " + stat.format("sh", 40, 41), "50/stat": "50 " + stat.format("sh", 50, 50), "50/comm": "vi\n"})
         self.environment(SHELL="/opt/mine")
         self.assertEqual(programs.busy_panes(7), {2: "vi", 4: "a program"})
-        self.assertEqual(programs.busy_panes(8), {})
+        self.assertIsNone(programs.busy_panes(8))
         self.assertEqual((programs.foreground(10), programs.foreground(99)), ("bash", ""))
         self.assertEqual((programs.pane_of(30), programs.pane_of(50)), (3, None))
 

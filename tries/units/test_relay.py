@@ -183,7 +183,7 @@ class Nears(Ends):
         self.assertEqual(read_now(follower), b"bell 3\n")
         (self.folder / "rects").unlink()
         (self.folder / "rects").mkdir()
-        self.near.note_places("x")
+        self.near.note_places(str(self.folder), "x")
         self.assertIn("rects: Is a directory", self.said.getvalue())
         (self.folder / "rects").rmdir()
 
@@ -448,21 +448,17 @@ class Nears(Ends):
         self.near.carriers = [None] * 256
         self.assertFalse(self.near.takes_clients())
         self.near.carriers = []
-        listener = self.near.listener
-        self.near.listener = mock.Mock(accept=mock.Mock(side_effect=OSError(24, "Too many open files")))
-        self.near.take_client()
+        self.near.take_client(mock.Mock(accept=mock.Mock(side_effect=OSError(24, "Too many open files"))))
         self.assertEqual((self.near.takes_clients(), "a client waits: Too many open files" in self.said.getvalue()), (False, True))
         self.now += 1.0
         self.assertTrue(self.near.takes_clients())
-        self.near.listener.accept.side_effect = BlockingIOError(11, "none")
-        self.near.take_client()
+        self.near.take_client(mock.Mock(accept=mock.Mock(side_effect=BlockingIOError(11, "none"))))
         self.assertTrue(self.near.takes_clients())
-        self.near.listener = listener
         with mock.patch("os.getuid", return_value=os.getuid() + 1):
             one = socket.socket(socket.AF_UNIX, socket.SOCK_STREAM)
             self.addCleanup(one.close)
             one.connect(str(self.folder / "clients"))
-            self.near.take_client()
+            self.near.take_client(self.near.listener)
         self.assertEqual((self.near.carriers, one.recv(1)), ([], b""))
 
     def test_lies(self):
