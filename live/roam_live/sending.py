@@ -41,6 +41,7 @@ class Layout:
         if word == "size":
             self.is_told = False
             return wrong_size(*map(int, rest))
+        # The program has read the act: it has as many words as what does it takes.
         does: dict[str, Callable[..., str]] = {"focus": self.focused, "split": self.split, "close": self.closed, "grow": self.grown,
                                                "next": self.passed}
         return does[word](*rest) if word in does and self.count else ""
