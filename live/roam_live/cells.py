@@ -6,7 +6,7 @@ import unicodedata
 from collections.abc import Iterable
 from typing import NamedTuple, Optional, Union
 
-MARKS = re.compile(r"\x1b\[(\d+);(\d+)H|\x1b\[([\d;]*)m|(\x1b\[2J|\x1bc)|\x1b\[\?25([hl])|\x1b\[[0-?]*[@-~]|([^\x1b])")
+MARKS = re.compile(r"\x1b\[(\d+);(\d+)H|\x1b\[([\d;]*)m|(\x1b\[2J|\x1bc)|\x1b\[\?25([hl])|\x1b\[[0-?]*[@-~]|\x1b[=>]|([^\x1b])")
 
 # The signs for boxes, as a row of tmux has them between these.
 SHIFT_OUT, SHIFT_IN = "\x0e", "\x0f"
