@@ -72,9 +72,10 @@ class Follows(unittest.TestCase):
     def test_let_go(self):
         """A server that ends each connection is tried after pauses that grow, and that is told once, and that it is over."""
         tried = []
-        for _ in range(9):
+        for number in range(9):
             self.server.close()
             self.assertEqual(self.turn(), [])
+            self.assertEqual(LET_GO in self.said.getvalue(), number > 0)
             self.assertIsNone(self.following.peer)
             tried.append(round(self.following.again_at - self.now, 3))
             self.assertEqual(self.turn(), [])

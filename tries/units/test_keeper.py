@@ -247,6 +247,8 @@ class Refused(Keeper):
             self.now += 0.01
             self.turn()
             self.assertEqual((connects.call_count, says.call_count), (2, 1))
+            self.now += 0.25
+            self.turn()
         self.assertEqual(self.said.getvalue().count("pane 1: Too many open files; tried again\n"), 1)
         self.now += 0.25
         self.turn()
@@ -325,7 +327,7 @@ class Ended(Keeper):
         self.turn()
         self.assertEqual(read_now(self.server), b"close 1 4 2\n")
         self.tell("1 gone", "focus 2")
-        self.assertFalse(self.keeper.is_over)
+        self.assertEqual((self.keeper.is_over, self.keeper.history), (False, [2]))
 
     def test_other(self):
         """A pane that hasn't the focus leaves it, and the focus goes to none whose command has ended."""

@@ -137,7 +137,8 @@ class Lines(Linked):
         link.type("char 61")
         answers = iter([([], [link.peer], []), ([], [], []), ([link.peer], [], [])])
 
-        def waits(readable, writable, _, seconds):
+        def waits(readable, writable, odd, seconds):
+            self.assertEqual((readable, writable, odd, seconds), ([link.peer], [link.peer] if link.waiting else [], [], 0.1))
             ready = next(answers)
             if ready[0]:
                 self.assertEqual(other.recv(64), b"char 61\n")

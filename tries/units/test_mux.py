@@ -92,6 +92,15 @@ class Attaches(Mux):
             self.refuses("standard input and output have to be a terminal", *words)
         self.assertEqual((self.done, list(self.base.iterdir())), ([], []))
 
+    def test_each_end(self):
+        """Both ends have to be one."""
+        for ends, told in (({0}, True), ({1, 2}, True), ({0, 1}, False)):
+            self.patch_of(mux.os, "isatty", lambda end, ends=ends: end in ends)
+            if told:
+                self.refuses("standard input and output have to be a terminal")
+            else:
+                self.assertEqual(self.mux(), 7)
+
     def test_inside(self):
         """A session isn't shown in a pane of its own."""
         self.environment(ROAM_PANE=f"{self.base}/main:3")
@@ -119,7 +128,8 @@ class Starts(Mux):
         self.assertEqual(self.done[1], ("start", "work", ["sh", "-c", "x"]))
         self.follows.assert_not_called()
         self.assertEqual(self.mux("new", "--guess", "always", "work"), 7)
-        self.assertEqual((self.follows.call_args[0][3], self.follows.call_args[0][4]()), ("always", True))
+        session, is_watching, prefix, guessing, is_new = self.follows.call_args[0]
+        self.assertEqual((session.name, is_watching, prefix, guessing, is_new()), ("work", False, "C-b", "always", True))
         self.runs.add("work")
         self.refuses("session work is running; `mux attach work` attaches to it", "new", "work")
         self.refuses("'/no/such' is no command; the options of new stand before NAME", "new", "-d", "x", "/no/such")

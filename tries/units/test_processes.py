@@ -117,6 +117,17 @@ class Read(Based):
         (self.folder / "attached" / str(OWN[0])).write_text(f"{OWN[1]} edits\n", encoding="utf-8")
         self.assertIn(" 1 client,", session.line())
 
+    def test_command_found(self):
+        """One whose note is lost is found by its sockets, and its command by what keeps the shells."""
+        session = self.session()
+        self.patch_of(Session, "listener", lambda _, name: {"clients": OWN[0], "bells": OWN[0]}.get(name))
+        with mock.patch.object(sessions, "command_of", return_value=["vi"]) as asks:
+            self.assertTrue(session.find())
+        asks.assert_called_once_with(OWN[0], self.folder)
+        self.assertEqual(session.state, {"version": 3, "command": ["vi"], "server": OWN, "shells": OWN})
+        session.note_found()
+        self.assertEqual(json.loads((self.folder / "state.json").read_text(encoding="utf-8")), session.state)
+
     def test_names(self):
         for name, is_one in (("main", True), ("a-b_9", True), ("x" * 32, True), ("x" * 33, False), ("", False), ("a.b", False),
                              ("\u00e9", False)):
