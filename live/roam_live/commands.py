@@ -171,7 +171,7 @@ class Commands:
         return time.monotonic() < self.new_until
 
     def fit(self) -> None:
-        """Has the session grow to this terminal's size, where that cuts nothing and covers nobody else's terminal; a new one is given it."""
+        """Has the session grow to this terminal's size, where that cuts nothing and covers nobody else's terminal; a new one has it."""
         size, own = self.session_size(), terminal.largest(self.display.outer.size())
         if self.is_fresh():
             self.ask_size()

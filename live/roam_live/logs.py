@@ -10,7 +10,7 @@ KEPT = 1 << 19
 
 
 def make_room(path: str | os.PathLike[str], more: int = 0) -> None:
-    """Drops a log's oldest lines where it would have too many bytes with so many more. Who writes there appends, so it goes on at the end."""
+    """Drops a log's oldest lines where it would have too many bytes with so many more. Who writes there appends: it goes on at the end."""
     with contextlib.suppress(OSError):
         if os.stat(path).st_size + more <= LOG_LIMIT:
             return

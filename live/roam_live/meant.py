@@ -12,7 +12,7 @@ TMUX_WORDS = {
 # A slip may be of two letters in a word that has so many, and of one in a shorter one.
 LONG = 5
 
-# In a word of fewer letters another letter makes another name: `net` is no slip of `new`. One too many, one too few, or two turned round do.
+# In a word of fewer letters another letter makes another name: `net` is no slip of `new`. One too many or too few, or two turned round do.
 SHORT = 4
 
 
@@ -33,7 +33,7 @@ def slips(word: str, name: str) -> int:
 
 
 def meant(name: str, words: list[str]) -> str:
-    """The word that is meant by a name: one that tmux calls so, else one of these from which it differs by a slip; none where it is a name."""
+    """The word that is meant by a name: one that tmux calls so, else one of these that differs by a slip; none where it is a name."""
     if name in TMUX_WORDS:
         return TMUX_WORDS[name]
     if len(name) < 2:

@@ -8,10 +8,10 @@
 //! a screen, ticks an idle server with one client start and with 64, takes as many rounds of a tick and its datagrams at the client start
 //! after one changed row, a scroll, a redraw and a key, and as many ticks after a key with one client start and with nine; it prints for
 //! each its name, TIMES, the nanoseconds that passed and a number that depends on the work: of a key the bytes of all datagrams. `speed
-//! records N` makes a server that keeps eight screens for each of N client starts, and `speed clients N` keeps these starts too, with eight
-//! screens each, so that a caller can see how much memory that takes. `speed hops` and
-//! `speed moved` measure nothing: of each line of standard input, which gives two screens, they tell texts that lead from one to the other. Without words it
-//! does a moment's work of each, and tells the texts of the lines of standard input.
+//! records N` makes a server that keeps eight screens for each of N client starts, and `speed clients N` keeps these starts too, with
+//! eight screens each, so that a caller can see how much memory that takes. `speed hops` and `speed moved` measure nothing: of each line
+//! of standard input, which gives two screens, they tell texts that lead from one to the other. Without words it does a moment's work of
+//! each, and tells the texts of the lines of standard input.
 #![tactic(auto)]
 
 mod changes;

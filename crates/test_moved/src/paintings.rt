@@ -1,8 +1,8 @@
 //! Texts that move rows, and what terminals show that are led by them.
 //!
-//! Tables are texts, a case after the other with an empty line between them. A case of `TEXTS` has a name, and in the next line the rows and
-//! columns of a terminal, what is written to it, what is written to another of that size, and the text between their screens, with bars
-//! between. A case of `PAIRS` has two terminals, with a bar between.
+//! Tables are texts, a case after the other with an empty line between them. A case of `TEXTS` has a name, and in the next line the rows
+//! and columns of a terminal, what is written to it, what is written to another of that size, and the text between their screens, with
+//! bars between. A case of `PAIRS` has two terminals, with a bar between.
 use crate::uses::two_texts;
 use roam_cells::{Cell, Fault};
 use roam_paint::paint;

@@ -206,11 +206,12 @@ fn first_wrong_of<'a>(rt: &HostRuntime, stories: &'a str) -> Result<Option<&'a s
 ///
 /// One peer at a time: that the first program left is read before what the second wrote.
 ///
-/// A program follows the panes: one pane, two, one of them sized and the other moved, closed and made anew in one turn, closed; and how many
-/// client starts there are.
+/// A program follows the panes: one pane, two, one of them sized and the other moved, closed and made anew in one turn, closed; and how
+/// many client starts there are.
 ///
-/// Programs follow and close. Two are told each what is new for it; a line that asks for no close, for one of a pane that is gone, or of the
-/// last pane; of two closes the second waits until a turn was taken with the first, and a pane that is still there then may be closed again.
+/// Programs follow and close. Two are told each what is new for it; a line that asks for no close, for one of a pane that is gone, or of
+/// the last pane; of two closes the second waits until a turn was taken with the first, and a pane that is still there then may be closed
+/// again.
 const STORIES: &str = "\
 refused -
 

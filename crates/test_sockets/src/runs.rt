@@ -1,12 +1,12 @@
 //! Runs of `roam serve` and `roam attach`, as text: what ends them, and what stays.
 //!
-//! `folder PATH`, `closed PATH`, which the user alone may enter, and `open PATH`, which others may, make a folder; `link PATH` makes one to
-//! `own` beside it; `file PATH TEXT`, in which `/` stands for the end of a line; `remove PATH` removes a file. A line that ends with `well`,
-//! with what was heard, or with the fault, is a run that ends so: `serves FOLDER` of `serve` at any free port, `serves alone FOLDER` without
-//! one, `serves taken FOLDER` at one that is bound; `types PATH` of `attach` that types the acts of a file where nobody answers; `watches
-//! 3` of one that only watches and takes so many turns; `follows FOLDER` of one that reaches its server there, `follows bound FOLDER` while
-//! the sockets there are bound. Behind `types` and `watches` stands `closed` where the outer terminal is closed, and `unread` where what is
-//! painted goes where nobody reads.
+//! `folder PATH`, `closed PATH`, which the user alone may enter, and `open PATH`, which others may, make a folder; `link PATH` makes one
+//! to `own` beside it; `file PATH TEXT`, in which `/` stands for the end of a line; `remove PATH` removes a file. A line that ends with
+//! `well`, with what was heard, or with the fault, is a run that ends so: `serves FOLDER` of `serve` at any free port, `serves alone
+//! FOLDER` without one, `serves taken FOLDER` at one that is bound; `types PATH` of `attach` that types the acts of a file where nobody
+//! answers; `watches 3` of one that only watches and takes so many turns; `follows FOLDER` of one that reaches its server there, `follows
+//! bound FOLDER` while the sockets there are bound. Behind `types` and `watches` stands `closed` where the outer terminal is closed, and
+//! `unread` where what is painted goes where nobody reads.
 use crate::files::ports_in;
 use roam_attaching::{Attach, Home, Typed, run_attach};
 use roam_faults::RunFault;

@@ -154,8 +154,8 @@ fn is_nobody_seen(rt: &HostRuntime) -> Result<bool, Fail> {
     Ok(sees_nobody(&mut ports, reader))
 }
 
-// The first line of a story that isn't so: `read` where what is painted is read, `unread` where it isn't, or `nobody`, where it is seen that
-// a descriptor's reader is gone.
+// The first line of a story that isn't so: `read` where what is painted is read, `unread` where it isn't, or `nobody`, where it is seen
+// that a descriptor's reader is gone.
 fn first_wrong<'a>(rt: &HostRuntime, story: &'a str) -> Result<Option<&'a str>, Fail> {
     match story.split_once('\n') {
         Some(("read", lines)) => first_wrong_read(rt, lines),
