@@ -137,14 +137,16 @@ class Session(Processes):
 
     def busy(self) -> dict[int, str] | None:
         """The panes in which another program than a shell runs, and its name: in none where what is noted to have kept the shells has
-        ended. None where that isn't known: shells that were started by hand are noted nowhere, and found by their socket alone."""
+        ended, or was never begun, as where a start was killed half-way. None where that isn't known: shells that were started by hand are
+        noted nowhere, and found by their socket alone."""
         from roam_live.programs import busy_panes
 
         if self.state is None:
             with contextlib.suppress(Fault):
                 self.find()
         shells = self.process("shells")
-        if shells is None and "shells" in (self.state or {}):
+        noted = self.state if self.state and not self.is_found else {}
+        if shells is None and (self.served in noted or "shells" in noted):
             return {}
         if shells is None:
             with contextlib.suppress(Fault):

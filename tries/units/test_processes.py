@@ -104,6 +104,11 @@ class Read(Based):
         """Where nobody is known who keeps the shells it isn't known either."""
         self.assertIsNone(Session(self.folder, server=os.getpid()).busy())
 
+    def test_busy_half(self):
+        """Of a start that was killed before its shells were begun nothing runs."""
+        self.note(server=OWN)
+        self.assertEqual(self.session().busy(), {})
+
     def test_line(self):
         """A line of `ls`: name, rows and columns, panes, clients, and the starts from 33 on."""
         session = self.session()
