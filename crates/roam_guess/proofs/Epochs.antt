@@ -1,15 +1,17 @@
 -- An epoch is hidden until a screen confirms a guess of it, and ends with an act that isn't guessed.
-use Rattle.std.proofs.Common.{◌≡◌, ℕ, zero, suc, Bool, true, false, cond, ◌&&◌, List, [], ◌∷◌, take, map, Option, Some, None, ◌⊎◌, inl, inr, refl, sym, ap, ◌∙◌}
+use Rattle.std.proofs.Common.{◌≡◌, ℕ, zero, suc, ◌+◌, Bool, true, false, cond, ◌&&◌, List, [], ◌∷◌, length, take, drop, map, Option, Some, None, ◌⊎◌, inl, inr, refl, sym, ap, ◌∙◌}
 use Rattle.std.specs.List.{fold}
-use Rattle.std.specs.Prelude.{is_some, not, ◌||◌}
+use Rattle.std.specs.Prelude.{is_some, nat_lt, not, ◌||◌}
 use Rattle.std.proofs.lemmas.Bool.{false≢true}
+use Rattle.std.proofs.lemmas.List.{drop-drop, drop-map}
 use Rattle.roam_cells.specs.Glyph.{Glyph}
 use Rattle.roam_screens.specs.Screenshot.{Screenshot}
-use Rattle.roam_guess.specs.Guesses.{GuessesOf, dropped, is_none, last_act, lost, none}
-use Rattle.roam_guess.specs.Laws.{EpochsEnd, NothingShows, NoneConfirms, Step, Typed, Seen, Ended, TrustIsEarned, UnconfirmedIsHidden, after, confirms, seen_by}
+use Rattle.roam_guess.specs.Guesses.{GuessesOf, dropped, is_none, last_act, none}
+use Rattle.roam_guess.specs.Laws.{EndedShowsNoMore, EpochsEnd, NothingShows, NoneConfirms, NoneEarns, ShowsNoMore, Step, Typed, Passed, Seen, Ended, TrustIsEarned, UnconfirmedIsHidden, after, confirms, seen_by, untold}
+use Rattle.roam_guess.specs.Laws.ShowsNoMore.{ones_left, untrusted}
 use Rattle.roam_guess.specs.Overlay.{cursor_line, guessed}
 use Rattle.roam_guess.specs.Typing.{guess_for, with_guess_or_end}
-use Rattle.roam_guess.specs.Verdicts.{confirmed, count_right, expired, has_credit, is_any_over, is_any_wrong, is_ended, shows, with_told}
+use Rattle.roam_guess.specs.Verdicts.{count_right, expired, has_credit, is_any_over, is_ended, left_by, shows, with_told}
 use Rattle.roam_guess.specs.declared.guesses.Guess.{Guess}
 
 -- ---- nothing is shown
@@ -62,23 +64,18 @@ begun_trusted : (guesses : GuessesOf) (b : Bool) → (cond b none guesses).trust
 begun_trusted guesses true e = absurd (false≢true e)
 begun_trusted guesses false e = e
 
-expired_trusted : (guesses : GuessesOf) (wrong over : Bool)
-    → (cond wrong (dropped guesses) (cond over (lost guesses) guesses)).trusted ≡ true → guesses.trusted ≡ true
-expired_trusted guesses true over e = absurd (false≢true e)
-expired_trusted guesses false true e = e
-expired_trusted guesses false false e = e
+expired_trusted : (guesses : GuessesOf) (over : Bool) → (cond over (dropped guesses) guesses).trusted ≡ true → guesses.trusted ≡ true
+expired_trusted guesses true e = absurd (false≢true e)
+expired_trusted guesses false e = e
 
-seen_trusted : (number acknowledged now : ℕ) (s : Screenshot) (guesses : GuessesOf)
-    → (seen_by number acknowledged now s guesses).trusted ≡ true
+seen_trusted : (acknowledged now : ℕ) (s : Screenshot) (guesses : GuessesOf) → (seen_by acknowledged now s guesses).trusted ≡ true
     → (guesses.trusted ≡ true) ⊎ (has_credit (cursor_line s) guesses.list ≡ true)
-seen_trusted number acknowledged now s guesses e =
+seen_trusted acknowledged now s guesses e =
     let count = count_right (cursor_line s) s.cursor_col guesses.list in
-    let right = confirmed (cursor_line s) s.cursor_col guesses in
-    let noted : GuessesOf =
-    record right { list = map (with_told acknowledged (record { at = now; number = number })) right.list } in
-    let left = expired number now noted in
+    let noted = left_by acknowledged now s guesses in
+    let left = expired now noted in
     let kept = begun_trusted left (is_none left.list && is_ended left.ends_with acknowledged) e in
-    let before = expired_trusted noted (is_any_wrong number now noted.list) (is_any_over now noted.list) kept in
+    let before = expired_trusted noted (is_any_over now noted.list) kept in
     elim (either guesses.trusted (has_credit (cursor_line s) (take count guesses.list)) before) [
       | inl was ↦ inl was
       | inr credit ↦ inr (credit_of (cursor_line s) count guesses.list credit)
@@ -91,7 +88,8 @@ dropped_hidden guesses false = refl
 pub trust_is_earned : TrustIsEarned
 trust_is_earned guesses = record {
   typed = λ number act s. typed_trusted number guesses (guess_for number act s guesses);
-  seen = λ number acknowledged now s e. seen_trusted number acknowledged now s guesses e;
+  passed = λ number. refl;
+  seen = λ acknowledged now s e. seen_trusted acknowledged now s guesses e;
   ends = λ acknowledged. dropped_hidden guesses (true && is_ended (last_act guesses.ends_with guesses.list) acknowledged);
 }
 
@@ -101,33 +99,30 @@ no_guess : (ended few visible : Bool) (guess : Option Guess) → ended ≡ true 
 no_guess true few visible guess e = refl
 no_guess false few visible guess e = absurd (false≢true e)
 
-expired_ends : (guesses : GuessesOf) (last : ℕ) (wrong over : Bool) → guesses.ends_with ≡ Some last
-    → (cond wrong (dropped guesses) (cond over (lost guesses) guesses)).ends_with ≡ Some last
-expired_ends guesses last true over was = ap (λ (o : Option ℕ). last_act o guesses.list) was
-expired_ends guesses last false true was = ap (λ (o : Option ℕ). last_act o guesses.list) was
-expired_ends guesses last false false was = was
+expired_ends : (guesses : GuessesOf) (last : ℕ) (over : Bool) → guesses.ends_with ≡ Some last
+    → (cond over (dropped guesses) guesses).ends_with ≡ Some last
+expired_ends guesses last true was = ap (λ (o : Option ℕ). last_act o guesses.list) was
+expired_ends guesses last false was = was
 
 begun_none : (guesses : GuessesOf) (last : ℕ) (b : Bool) → guesses.ends_with ≡ Some last → (cond b none guesses).ends_with ≡ None
     → cond b none guesses ≡ none
 begun_none guesses last true was e = refl
 begun_none guesses last false was e = let other : None ≡ Some last = sym e ∙ was in absurd cc
 
-seen_none : (guesses : GuessesOf) (last : ℕ) → guesses.ends_with ≡ Some last → (number acknowledged now : ℕ) (s : Screenshot)
-    → (seen_by number acknowledged now s guesses).ends_with ≡ None → seen_by number acknowledged now s guesses ≡ none
-seen_none guesses last was number acknowledged now s e =
-    let right = confirmed (cursor_line s) s.cursor_col guesses in
-    let noted : GuessesOf =
-    record right { list = map (with_told acknowledged (record { at = now; number = number })) right.list } in
-    let left = expired number now noted in
+seen_none : (guesses : GuessesOf) (last : ℕ) → guesses.ends_with ≡ Some last → (acknowledged now : ℕ) (s : Screenshot)
+    → (seen_by acknowledged now s guesses).ends_with ≡ None → seen_by acknowledged now s guesses ≡ none
+seen_none guesses last was acknowledged now s e =
+    let noted = left_by acknowledged now s guesses in
+    let left = expired now noted in
     begun_none left last (is_none left.list && is_ended left.ends_with acknowledged)
-    (expired_ends noted last (is_any_wrong number now noted.list) (is_any_over now noted.list) was) e
+    (expired_ends noted last (is_any_over now noted.list) was) e
 
 pub epochs_end : EpochsEnd
 epochs_end guesses last was = record {
   typed = λ number act s.
       ap (λ (o : Option Guess). (with_guess_or_end number guesses o).list)
       (no_guess (is_some guesses.ends_with) _ s.visible _ (ap (λ (o : Option ℕ). is_some o) was));
-  seen = λ number acknowledged now s e. seen_none guesses last was number acknowledged now s e;
+  seen = λ acknowledged now s e. seen_none guesses last was acknowledged now s e;
 }
 
 -- ---- whole runs
@@ -143,10 +138,11 @@ not_trusted false h = refl
 step_hidden : (guesses : GuessesOf) (step : Step) → guesses.trusted ≡ false → confirms guesses step ≡ false
     → (after guesses step).trusted ≡ false
 step_hidden guesses (Typed number act shown) hidden e = typed_trusted number guesses (guess_for number act shown guesses) ∙ hidden
-step_hidden guesses (Seen number acknowledged now shown) hidden e =
-    not_trusted (seen_by number acknowledged now shown guesses).trusted
+step_hidden guesses (Passed number) hidden e = hidden
+step_hidden guesses (Seen acknowledged now shown) hidden e =
+    not_trusted (seen_by acknowledged now shown guesses).trusted
     (λ is. neither guesses.trusted (has_credit (cursor_line shown) guesses.list) hidden
-    (seen_trusted number acknowledged now shown guesses is) e)
+    (seen_trusted acknowledged now shown guesses is) e)
 step_hidden guesses (Ended acknowledged) hidden e =
     dropped_hidden guesses (true && is_ended (last_act guesses.ends_with guesses.list) acknowledged)
 
@@ -157,6 +153,73 @@ run_hidden (step ∷ steps) guesses hidden none_confirms =
     run_hidden steps (after guesses step) (step_hidden guesses step hidden none_confirms.0) none_confirms.1
 
 pub unconfirmed_is_hidden : UnconfirmedIsHidden
-unconfirmed_is_hidden steps s h =
-    let end = fold after none steps in
-    hidden_by end s end.trusted (run_hidden steps none refl h)
+unconfirmed_is_hidden guesses steps s hidden h =
+    let end = fold after guesses steps in
+    hidden_by end s end.trusted (run_hidden steps guesses hidden h)
+
+-- ---- after what ends an epoch
+
+untold_by : (b : Bool) (now : ℕ) (guess : Guess) → untold (cond b guess (record guess { told = Some now })) ≡ untold guess
+untold_by true now guess = refl
+untold_by false now guess = refl
+
+untold_told : (acknowledged now : ℕ) (guesses : List Guess) → map untold (map (with_told acknowledged now) guesses) ≡ map untold guesses
+untold_told acknowledged now [] = refl
+untold_told acknowledged now (guess ∷ guesses) =
+    ap (λ (g : Guess). g ∷ map untold (map (with_told acknowledged now) guesses))
+    (untold_by (is_some guess.told || nat_lt acknowledged guess.number) now guess)
+    ∙ ap (λ (gs : List Guess). untold guess ∷ gs) (untold_told acknowledged now guesses)
+
+drop_all : (guesses : List Guess) → [] ≡ drop (length guesses) guesses
+drop_all [] = refl
+drop_all (guess ∷ guesses) = drop_all guesses
+
+all_gone : (before : GuessesOf) (guesses : GuessesOf) (last : ℕ) → guesses.list ≡ [] → guesses.ends_with ≡ Some last
+    → ShowsNoMore before guesses
+all_gone before guesses last none_left was =
+    ones_left last (length (map untold before.list)) was (ap (λ (gs : List Guess). map untold gs) none_left ∙ drop_all (map untold before.list))
+
+begun_no_more : (before guesses : GuessesOf) (b : Bool) → ShowsNoMore before guesses → ShowsNoMore before (cond b none guesses)
+begun_no_more before guesses true h = untrusted refl
+begun_no_more before guesses false h = h
+
+expired_no_more : (before guesses : GuessesOf) (last gone : ℕ) (over : Bool) → guesses.ends_with ≡ Some last
+    → map untold guesses.list ≡ drop gone (map untold before.list) → ShowsNoMore before (cond over (dropped guesses) guesses)
+expired_no_more before guesses last gone true was same =
+    all_gone before (dropped guesses) last refl (ap (λ (o : Option ℕ). last_act o guesses.list) was)
+expired_no_more before guesses last gone false was same = ones_left last gone was same
+
+seen_no_more : (before guesses : GuessesOf) (last gone acknowledged now : ℕ) (s : Screenshot) → guesses.ends_with ≡ Some last
+    → map untold guesses.list ≡ drop gone (map untold before.list) → ShowsNoMore before (seen_by acknowledged now s guesses)
+seen_no_more before guesses last gone acknowledged now s was same =
+    let count = count_right (cursor_line s) s.cursor_col guesses.list in
+    let noted = left_by acknowledged now s guesses in
+    let over = expired now noted in
+    begun_no_more before over (is_none over.list && is_ended over.ends_with acknowledged)
+    (expired_no_more before noted last (gone + count) (is_any_over now noted.list) was
+    (untold_told acknowledged now (drop count guesses.list) ∙ sym (drop-map untold count guesses.list) ∙ ap (λ (gs : List Guess). drop count gs) same
+    ∙ drop-drop count gone (map untold before.list)))
+
+step_no_more : (before guesses : GuessesOf) (step : Step) → (guesses.trusted ≡ false → confirms guesses step ≡ false)
+    → ShowsNoMore before guesses → ShowsNoMore before (after guesses step)
+step_no_more before guesses step e (untrusted h) = untrusted (step_hidden guesses step h (e h))
+step_no_more before guesses (Typed number act shown) e (ones_left last gone was same) =
+    let guessed : guess_for number act shown guesses ≡ None =
+    no_guess (is_some guesses.ends_with) _ shown.visible _ (ap (λ (o : Option ℕ). is_some o) was) in
+    ones_left number gone (ap (λ (o : Option Guess). (with_guess_or_end number guesses o).ends_with) guessed)
+    (ap (λ (o : Option Guess). map untold (with_guess_or_end number guesses o).list) guessed ∙ same)
+step_no_more before guesses (Passed number) e (ones_left last gone was same) = ones_left number gone refl same
+step_no_more before guesses (Seen acknowledged now shown) e (ones_left last gone was same) =
+    seen_no_more before guesses last gone acknowledged now shown was same
+step_no_more before guesses (Ended acknowledged) e (ones_left last gone was same) =
+    begun_no_more before (dropped guesses) (true && is_ended (last_act guesses.ends_with guesses.list) acknowledged)
+    (all_gone before (dropped guesses) last refl (ap (λ (o : Option ℕ). last_act o guesses.list) was))
+
+run_no_more : (before guesses : GuessesOf) (steps : List Step) → NoneEarns guesses steps → ShowsNoMore before guesses
+    → ShowsNoMore before (fold after guesses steps)
+run_no_more before guesses [] e h = h
+run_no_more before guesses (step ∷ steps) e h =
+    run_no_more before (after guesses step) steps e.1 (step_no_more before guesses step e.0 h)
+
+pub ended_shows_no_more : EndedShowsNoMore
+ended_shows_no_more before last steps was e = run_no_more before before steps e (ones_left last 0 was refl)

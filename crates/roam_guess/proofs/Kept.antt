@@ -13,7 +13,6 @@ use Rattle.roam_guess.specs.Underlined.{underlined_guess, underlined_place}
 use Rattle.roam_guess.specs.Verdicts.{with_told}
 use Rattle.roam_guess.specs.declared.guesses.Place.{Place}
 use Rattle.roam_guess.specs.declared.guesses.Guess.{Guess}
-use Rattle.roam_guess.specs.declared.guesses.Told.{Told}
 
 -- ---- a cell that is written
 
@@ -49,11 +48,11 @@ written_kept number c row guesses col = written_by (may_write row guesses col) n
 
 -- ---- what is noted of a guess
 
-noted_by : (b : Bool) (told : Told) (guess : Guess) → IsGuess guess → IsGuess (cond b guess (record guess { told = Some told }))
+noted_by : (b : Bool) (told : ℕ) (guess : Guess) → IsGuess guess → IsGuess (cond b guess (record guess { told = Some told }))
 noted_by true told guess h = h
 noted_by false told guess h = h
 
-pub noted_kept : (acknowledged : ℕ) (told : Told) (guesses : List Guess) → All IsGuess guesses
+pub noted_kept : (acknowledged told : ℕ) (guesses : List Guess) → All IsGuess guesses
     → All IsGuess (map (with_told acknowledged told) guesses)
 noted_kept acknowledged told [] all = All-nil IsGuess
 noted_kept acknowledged told (guess ∷ guesses) all =
@@ -61,7 +60,7 @@ noted_kept acknowledged told (guess ∷ guesses) all =
     (noted_by (is_some guess.told || nat_lt acknowledged guess.number) told guess (All-head IsGuess guess guesses all))
     (noted_kept acknowledged told guesses (All-tail IsGuess guess guesses all))
 
-pub noted_length : (acknowledged : ℕ) (told : Told) (guesses : List Guess)
+pub noted_length : (acknowledged told : ℕ) (guesses : List Guess)
     → length (map (with_told acknowledged told) guesses) ≡ length guesses
 noted_length acknowledged told guesses = length-map guesses (with_told acknowledged told)
 

@@ -1,11 +1,10 @@
 -- No guess is left whose time is over.
-use Rattle.std.proofs.Common.{◌≡◌, ℕ, Bool, true, false, cond, ◌&&◌, List, [], ◌∷◌, map, refl}
+use Rattle.std.proofs.Common.{◌≡◌, ℕ, Bool, true, false, cond, ◌&&◌, List, [], ◌∷◌, refl, ap}
 use Rattle.std.specs.Prelude.{◌||◌}
 use Rattle.std.proofs.lemmas.List.Elements.{All-cons, All-nil}
-use Rattle.roam_guess.specs.Guesses.{GuessesOf, dropped, is_none, lost, none}
-use Rattle.roam_guess.specs.Laws.{AreInTime, TimeEnds}
-use Rattle.roam_guess.specs.Overlay.{cursor_line}
-use Rattle.roam_guess.specs.Verdicts.{confirmed, expired, is_any_over, is_any_wrong, is_ended, is_over, with_told}
+use Rattle.roam_guess.specs.Guesses.{GuessesOf, dropped, is_none, none}
+use Rattle.roam_guess.specs.Laws.{AreInTime, TimeEnds, UnechoedEnds}
+use Rattle.roam_guess.specs.Verdicts.{expired, is_any_over, is_ended, is_over, left_by}
 use Rattle.roam_guess.specs.declared.guesses.Guess.{Guess}
 
 abbrev InTime : ℕ → Guess → Type 0
@@ -30,21 +29,37 @@ none_over now (guess ∷ guesses) e =
     none_over_by now guess guesses (is_over now guess) refl
     (none_over now guesses (later_over (is_over now guess) (is_any_over now guesses) e)) e
 
-expired_in_time : (now : ℕ) (guesses : GuessesOf) (wrong over : Bool) → is_any_over now guesses.list ≡ over
-    → AreInTime now (cond wrong (dropped guesses) (cond over (lost guesses) guesses)).list
-expired_in_time now guesses true over e = All-nil (InTime now)
-expired_in_time now guesses false true e = All-nil (InTime now)
-expired_in_time now guesses false false e = none_over now guesses.list e
+expired_in_time : (now : ℕ) (guesses : GuessesOf) (over : Bool) → is_any_over now guesses.list ≡ over
+    → AreInTime now (cond over (dropped guesses) guesses).list
+expired_in_time now guesses true e = All-nil (InTime now)
+expired_in_time now guesses false e = none_over now guesses.list e
 
 begun_in_time : (now : ℕ) (guesses : GuessesOf) (b : Bool) → AreInTime now guesses.list → AreInTime now (cond b none guesses).list
 begun_in_time now guesses true h = All-nil (InTime now)
 begun_in_time now guesses false h = h
 
 pub time_ends : TimeEnds
-time_ends number acknowledged now s guesses =
-    let right = confirmed (cursor_line s) s.cursor_col guesses in
-    let noted : GuessesOf =
-    record right { list = map (with_told acknowledged (record { at = now; number = number })) right.list } in
-    let left = expired number now noted in
+time_ends acknowledged now s guesses =
+    let noted = left_by acknowledged now s guesses in
+    let left = expired now noted in
     begun_in_time now left (is_none left.list && is_ended left.ends_with acknowledged)
-    (expired_in_time now noted (is_any_wrong number now noted.list) (is_any_over now noted.list) refl)
+    (expired_in_time now noted (is_any_over now noted.list) refl)
+
+-- ---- where the time of one is over
+
+over_drops : (guesses : GuessesOf) (over : Bool) → over ≡ true → cond over (dropped guesses) guesses ≡ dropped guesses
+over_drops guesses true e = refl
+over_drops guesses false e = absurd cc
+
+begun_empty : (guesses : GuessesOf) (b : Bool) → guesses.list ≡ [] → guesses.trusted ≡ false
+    → ((cond b none guesses).list ≡ []) × ((cond b none guesses).trusted ≡ false)
+begun_empty guesses true e h = (refl, refl)
+begun_empty guesses false e h = (e, h)
+
+pub unechoed_ends : UnechoedEnds
+unechoed_ends acknowledged now s guesses over =
+    let noted = left_by acknowledged now s guesses in
+    let left = expired now noted in
+    let gone : left ≡ dropped noted = over_drops noted (is_any_over now noted.list) over in
+    begun_empty left (is_none left.list && is_ended left.ends_with acknowledged) (ap (λ (g : GuessesOf). g.list) gone)
+    (ap (λ (g : GuessesOf). g.trusted) gone)

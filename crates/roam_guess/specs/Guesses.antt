@@ -35,11 +35,8 @@ abbrev pub last_act : Option ℕ → List Guess → Option ℕ
 last_act None guesses = last_of None guesses
 last_act (Some number) guesses = Some number
 
--- all guesses go without a verdict: nothing more is guessed until what was typed is acknowledged, since where it goes isn't known
-abbrev pub lost : GuessesOf → GuessesOf
-lost guesses = record { list = []; trusted = guesses.trusted; ends_with = last_act guesses.ends_with guesses.list }
-
--- all guesses go, and the epoch isn't trusted any more
+-- all guesses go, the epoch isn't trusted any more, and nothing more is guessed until what was typed is acknowledged, since where it goes
+-- isn't known
 abbrev pub dropped : GuessesOf → GuessesOf
 dropped guesses = record { list = []; trusted = false; ends_with = last_act guesses.ends_with guesses.list }
 

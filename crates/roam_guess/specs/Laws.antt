@@ -1,13 +1,13 @@
 -- What is true of guesses, whatever is typed and shown.
-use Rattle.std.specs.Prelude.{◌≡◌, ◌≢◌, ◌⊎◌, ℕ, ◌+◌, ◌<◌, Bool, true, false, List, [], ◌∷◌, Some, None, All}
+use Rattle.std.specs.Prelude.{◌≡◌, ◌≢◌, ◌⊎◌, ℕ, ◌+◌, ◌<◌, Bool, true, false, List, [], ◌∷◌, map, drop, Some, None, All}
 use Rattle.std.specs.List.{fold}
 use Rattle.roam_acts.specs.declared.acts.Act.{Act}
 use Rattle.roam_cells.specs.Place.{cell_at}
 use Rattle.roam_screens.specs.Screenshot.{Screenshot, IsScreenshot}
 use Rattle.roam_guess.specs.Guesses.{GuessesOf, IsGuess, dropped, is_narrow, none}
 use Rattle.roam_guess.specs.Overlay.{cursor_line, overlay}
-use Rattle.roam_guess.specs.Typing.{latest, typed_by}
-use Rattle.roam_guess.specs.Verdicts.{begun, has_credit, is_over, judged}
+use Rattle.roam_guess.specs.Typing.{ended_with, latest, typed_by}
+use Rattle.roam_guess.specs.Verdicts.{begun, has_credit, is_any_over, is_over, judged, left_by}
 use Rattle.roam_guess.specs.declared.guesses.Guess.{Guess}
 
 -- ---- what is shown over a screen
@@ -42,13 +42,14 @@ NothingShows = (guesses : GuessesOf) (s : Screenshot) → ShowsScreen guesses s
 -- ---- epochs
 
 -- the guesses once a screen was seen that follows the one before
-abbrev pub seen_by : ℕ → ℕ → ℕ → Screenshot → GuessesOf → GuessesOf
-seen_by number acknowledged now s guesses = begun acknowledged (judged number acknowledged now s guesses)
+abbrev pub seen_by : ℕ → ℕ → Screenshot → GuessesOf → GuessesOf
+seen_by acknowledged now s guesses = begun acknowledged (judged acknowledged now s guesses)
 
 -- an epoch is trusted since a guess of it was confirmed with credit by a screen that was seen, and by nothing else
 pub record IsTrustedByScreens (guesses : GuessesOf) : Type 0 where
   pub typed : (number : ℕ) (act : Act) (s : Screenshot) → (typed_by number act s guesses).trusted ≡ guesses.trusted
-  pub seen : (number acknowledged now : ℕ) (s : Screenshot) → (seen_by number acknowledged now s guesses).trusted ≡ true
+  pub passed : (number : ℕ) → (ended_with number guesses).trusted ≡ guesses.trusted
+  pub seen : (acknowledged now : ℕ) (s : Screenshot) → (seen_by acknowledged now s guesses).trusted ≡ true
       → (guesses.trusted ≡ true) ⊎ (has_credit (cursor_line s) guesses.list ≡ true)
   pub ends : (acknowledged : ℕ) → (begun acknowledged (dropped guesses)).trusted ≡ false
 
@@ -58,30 +59,34 @@ TrustIsEarned = (guesses : GuessesOf) → IsTrustedByScreens guesses
 -- where an act wasn't guessed, nothing more is guessed until another epoch begins, which has no guess and isn't trusted
 pub record EndsWithAct (guesses : GuessesOf) : Type 0 where
   pub typed : (number : ℕ) (act : Act) (s : Screenshot) → (typed_by number act s guesses).list ≡ guesses.list
-  pub seen : (number acknowledged now : ℕ) (s : Screenshot) → (seen_by number acknowledged now s guesses).ends_with ≡ None
-      → seen_by number acknowledged now s guesses ≡ none
+  pub seen : (acknowledged now : ℕ) (s : Screenshot) → (seen_by acknowledged now s guesses).ends_with ≡ None
+      → seen_by acknowledged now s guesses ≡ none
 
 abbrev pub EpochsEnd : Type 0
 EpochsEnd = (guesses : GuessesOf) (last : ℕ) → guesses.ends_with ≡ Some last → EndsWithAct guesses
 
 -- ---- whole runs
 
--- what comes to guesses: an act is typed where a screen is shown, a screen is seen that follows the one before, or one that doesn't
+-- what comes to guesses: an act is typed where a screen is shown; acts are typed that aren't to be guessed, the last one of a number; a
+-- screen is seen that follows the one before, or one that doesn't
 pub data Step : Type 0 where
   Typed : (number : ℕ) → (act : Act) → (shown : Screenshot) → Step
-  Seen : (number : ℕ) → (acknowledged : ℕ) → (now : ℕ) → (shown : Screenshot) → Step
+  Passed : (number : ℕ) → Step
+  Seen : (acknowledged : ℕ) → (now : ℕ) → (shown : Screenshot) → Step
   Ended : (acknowledged : ℕ) → Step
 
 -- the guesses after it
 abbrev pub after : GuessesOf → Step → GuessesOf
 after guesses (Typed number act shown) = typed_by number act shown guesses
-after guesses (Seen number acknowledged now shown) = seen_by number acknowledged now shown guesses
+after guesses (Passed number) = ended_with number guesses
+after guesses (Seen acknowledged now shown) = seen_by acknowledged now shown guesses
 after guesses (Ended acknowledged) = begun acknowledged (dropped guesses)
 
 -- it confirms a guess with credit
 abbrev pub confirms : GuessesOf → Step → Bool
 confirms guesses (Typed number act shown) = false
-confirms guesses (Seen number acknowledged now shown) = has_credit (cursor_line shown) guesses.list
+confirms guesses (Passed number) = false
+confirms guesses (Seen acknowledged now shown) = has_credit (cursor_line shown) guesses.list
 confirms guesses (Ended acknowledged) = false
 
 -- none of these does, one after the other
@@ -89,9 +94,32 @@ abbrev pub NoneConfirms : GuessesOf → List Step → Type 0
 NoneConfirms guesses [] = Unit {0}
 NoneConfirms guesses (step ∷ steps) = (confirms guesses step ≡ false) × NoneConfirms (after guesses step) steps
 
--- whatever comes since an epoch began: where no screen confirmed a guess with credit, the screen itself is shown
+-- whatever comes in an epoch that isn't trusted: where no screen confirms a guess with credit, the screen itself is shown
 abbrev pub UnconfirmedIsHidden : Type 0
-UnconfirmedIsHidden = (steps : List Step) (s : Screenshot) → NoneConfirms none steps → overlay (fold after none steps) s ≡ s
+UnconfirmedIsHidden =
+    (guesses : GuessesOf) (steps : List Step) (s : Screenshot) → guesses.trusted ≡ false → NoneConfirms guesses steps
+    → overlay (fold after guesses steps) s ≡ s
+
+-- no screen confirms with credit a guess of an epoch that isn't trusted
+abbrev pub NoneEarns : GuessesOf → List Step → Type 0
+NoneEarns guesses [] = Unit {0}
+NoneEarns guesses (step ∷ steps) = (guesses.trusted ≡ false → confirms guesses step ≡ false) × NoneEarns (after guesses step) steps
+
+-- a guess but when its acknowledgement was seen
+abbrev pub untold : Guess → Guess
+untold guess = record guess { told = None }
+
+-- nothing more is guessed, and the last of the guesses that were there are left; or the epoch isn't trusted
+pub data ShowsNoMore (before guesses : GuessesOf) : Type 0 where
+  ones_left : (last gone : ℕ) → guesses.ends_with ≡ Some last → map untold guesses.list ≡ drop gone (map untold before.list)
+      → ShowsNoMore before guesses
+  untrusted : guesses.trusted ≡ false → ShowsNoMore before guesses
+
+-- After what ends an epoch nothing more is shown than what was guessed before, until a screen confirms with credit a guess of another.
+abbrev pub EndedShowsNoMore : Type 0
+EndedShowsNoMore =
+    (before : GuessesOf) (last : ℕ) (steps : List Step) → before.ends_with ≡ Some last → NoneEarns before steps
+    → ShowsNoMore before (fold after before steps)
 
 -- ---- time
 
@@ -100,5 +128,11 @@ abbrev pub AreInTime : ℕ → List Guess → Type 0
 AreInTime now guesses = All (λ (guess : Guess). is_over now guess ≡ false) guesses
 
 abbrev pub TimeEnds : Type 0
-TimeEnds = (number acknowledged now : ℕ) (s : Screenshot) (guesses : GuessesOf)
-    → AreInTime now (seen_by number acknowledged now s guesses).list
+TimeEnds = (acknowledged now : ℕ) (s : Screenshot) (guesses : GuessesOf) → AreInTime now (seen_by acknowledged now s guesses).list
+
+-- Where the time of a guess is over that a screen doesn't confirm, as of a key that isn't echoed, none is left, and the epoch isn't trusted:
+-- so nothing is shown until a guess that is made later is confirmed with credit.
+abbrev pub UnechoedEnds : Type 0
+UnechoedEnds = (acknowledged now : ℕ) (s : Screenshot) (guesses : GuessesOf)
+    → is_any_over now (left_by acknowledged now s guesses).list ≡ true
+    → ((seen_by acknowledged now s guesses).list ≡ []) × ((seen_by acknowledged now s guesses).trusted ≡ false)

@@ -178,8 +178,12 @@ guess_for number act s guesses =
     if may_grow guesses && s.visible
     then guess_of number (kind_of act) (cursor_line s) guesses.list (last_column s.cursor_col guesses.list) else None
 
+-- what was typed up to an act isn't guessed: the epoch ends with it
+abbrev pub ended_with : ℕ → GuessesOf → GuessesOf
+ended_with number guesses = record guesses { ends_with = Some number }
+
 abbrev pub with_guess_or_end : ℕ → GuessesOf → Option Guess → GuessesOf
-with_guess_or_end number guesses None = record guesses { ends_with = Some number }
+with_guess_or_end number guesses None = ended_with number guesses
 with_guess_or_end number guesses (Some guess) = record guesses { list = guesses.list ++ guess ∷ [] }
 
 -- the guesses after an act: what it shows is guessed, or the epoch ends with it

@@ -4,12 +4,11 @@ use Rattle.std.specs.Str.{bytes_eq}
 use Rattle.roam_cells.specs.Glyph.{Glyph}
 use Rattle.roam_cells.specs.Place.{glyph_at, row_of}
 use Rattle.roam_screens.specs.Screenshot.{Screenshot}
-use Rattle.roam_guess.specs.Guesses.{GuessesOf, dropped, grace, is_none, lost, none}
+use Rattle.roam_guess.specs.Guesses.{GuessesOf, dropped, grace, is_none, none}
 use Rattle.roam_guess.specs.Overlay.{cursor_line, has_place}
 use Rattle.roam_guess.specs.Typing.{latest}
 use Rattle.roam_guess.specs.declared.guesses.Guess.{Guess}
 use Rattle.roam_guess.specs.declared.guesses.Place.{Place}
-use Rattle.roam_guess.specs.declared.guesses.Told.{Told}
 
 -- ---- right
 
@@ -59,52 +58,39 @@ confirmed row col guesses =
       ends_with = guesses.ends_with;
     }
 
--- ---- over, and wrong
+-- ---- over
 
 -- a guess of which it is noted when its acknowledgement was seen first
-abbrev pub with_told : ℕ → Told → Guess → Guess
-with_told acknowledged told guess =
-    if is_some guess.told || nat_lt acknowledged guess.number then guess else record guess { told = Some told }
+abbrev pub with_told : ℕ → ℕ → Guess → Guess
+with_told acknowledged now guess =
+    if is_some guess.told || nat_lt acknowledged guess.number then guess else record guess { told = Some now }
 
 -- its time is over: its acknowledgement was seen so long ago
-abbrev pub is_long_ago : ℕ → Option Told → Bool
+abbrev pub is_long_ago : ℕ → Option ℕ → Bool
 is_long_ago now None = false
-is_long_ago now (Some told) = nat_le grace (now - told.at)
+is_long_ago now (Some told) = nat_le grace (now - told)
 
 abbrev pub is_over : ℕ → Guess → Bool
 is_over now guess = is_long_ago now guess.told
-
--- a later number came since then
-abbrev pub is_before : ℕ → Option Told → Bool
-is_before number None = false
-is_before number (Some told) = nat_lt told.number number
-
-abbrev pub is_told_later : ℕ → Guess → Bool
-is_told_later number guess = is_before number guess.told
-
--- one is wrong: its time is over, and a later number came, which doesn't show it
-abbrev pub is_any_wrong : ℕ → ℕ → List Guess → Bool
-is_any_wrong number now [] = false
-is_any_wrong number now (guess ∷ guesses) =
-    (is_over now guess && is_told_later number guess) || is_any_wrong number now guesses
 
 -- the time of one is over
 abbrev pub is_any_over : ℕ → List Guess → Bool
 is_any_over now [] = false
 is_any_over now (guess ∷ guesses) = is_over now guess || is_any_over now guesses
 
--- where the time of one is over all go, as those behind it stand where it would; where one is wrong, the epoch isn't trusted any more
-abbrev pub expired : ℕ → ℕ → GuessesOf → GuessesOf
-expired number now guesses =
-    if is_any_wrong number now guesses.list then dropped guesses
-    else if is_any_over now guesses.list then lost guesses else guesses
+-- where the time of one is over all go, as those behind it stand where it would
+abbrev pub expired : ℕ → GuessesOf → GuessesOf
+expired now guesses = if is_any_over now guesses.list then dropped guesses else guesses
 
--- what a screen tells of the guesses: which are right, which acknowledgements were seen, and whose time is over
-abbrev pub judged : ℕ → ℕ → ℕ → Screenshot → GuessesOf → GuessesOf
-judged number acknowledged now s guesses =
+-- the guesses that a screen doesn't confirm, and of which it is noted when their acknowledgements were seen
+abbrev pub left_by : ℕ → ℕ → Screenshot → GuessesOf → GuessesOf
+left_by acknowledged now s guesses =
     let right = confirmed (cursor_line s) s.cursor_col guesses in
-    expired number now
-    (record right { list = map (with_told acknowledged (record { at = now; number = number })) right.list })
+    record right { list = map (with_told acknowledged now) right.list }
+
+-- what a screen tells of the guesses: which are right, which acknowledgements were seen, and whether the time of one is over
+abbrev pub judged : ℕ → ℕ → Screenshot → GuessesOf → GuessesOf
+judged acknowledged now s guesses = expired now (left_by acknowledged now s guesses)
 
 -- ---- epochs
 

@@ -9,15 +9,6 @@ use std::marker::Model;
 /// How many guesses there are at most.
 pub(crate) const MOST_GUESSES: usize = 64;
 
-/// When an act's acknowledgement was seen.
-#[derive(Clone, Copy)]
-pub struct Told {
-    /// The moment, in milliseconds.
-    pub at: u64,
-    /// The number of the screen that was shown then.
-    pub number: u64,
-}
-
 /// A cell that is guessed to stand in a column.
 #[derive(Clone, Copy)]
 pub struct Place {
@@ -38,8 +29,8 @@ pub struct Guess {
     pub after: u16,
     /// Whether another cell stood there when it was made, so that the screen tells when it comes.
     pub credit: bool,
-    /// When its acknowledgement was seen.
-    pub told: Option<Told>,
+    /// The moment, in milliseconds, at which its acknowledgement was seen.
+    pub told: Option<u64>,
 }
 
 /// What is guessed now for one outer terminal: at most 64 guesses, in the order of their acts.

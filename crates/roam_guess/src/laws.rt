@@ -1,5 +1,5 @@
 //! Laws of the definitions, each the contract of a function that does nothing when it runs.
-ghost use Rattle.roam_guess.specs.Laws.{EpochsEnd, NothingShows, OverlayChangesGuessed, TimeEnds, TrustIsEarned, UnconfirmedIsHidden};
+ghost use Rattle.roam_guess.specs.Laws.{EndedShowsNoMore, EpochsEnd, NothingShows, OverlayChangesGuessed, TimeEnds, TrustIsEarned, UnconfirmedIsHidden, UnechoedEnds};
 
 /// What is shown over a screen differs from it in the row of the cursor alone, at places where a guess writes and a cell of one column
 /// stands, and there one of one column stands again.
@@ -17,7 +17,7 @@ pub fn trust_is_earned()
     ensures earned { TrustIsEarned }
 {}
 
-/// Whatever is typed and seen since an epoch began, the screen itself is shown while no screen confirmed a guess with credit.
+/// Whatever is typed and seen in an epoch that isn't trusted, the screen itself is shown while no screen confirms a guess with credit.
 pub fn unconfirmed_is_hidden()
     ensures hidden { UnconfirmedIsHidden }
 {}
@@ -25,6 +25,17 @@ pub fn unconfirmed_is_hidden()
 /// After an act that isn't guessed nothing is, until another epoch begins: with no guess, and hidden.
 pub fn epochs_end()
     ensures ends { EpochsEnd }
+{}
+
+/// After what ends an epoch, whatever is typed and seen, nothing more is shown than what was guessed before, until a screen confirms with
+/// credit a guess of another epoch.
+pub fn ended_shows_no_more()
+    ensures ends { EndedShowsNoMore }
+{}
+
+/// Where a screen doesn't confirm a guess whose time is over, as of a key that isn't echoed, no guess is left and the epoch isn't trusted.
+pub fn unechoed_ends()
+    ensures ends { UnechoedEnds }
 {}
 
 /// After a screen is seen no guess is left whose acknowledgement was seen a tenth of a second before or earlier.

@@ -1,11 +1,11 @@
 //! Which guesses are right, wrong or over.
 ghost use Rattle.std.specs.Prelude.{◌≡◌, ◌↔◌, ◌<◌, ◌≤◌, true, length, map, drop};
 ghost use Rattle.std.specs.Vec.{vec_capacity};
-ghost use Rattle.roam_guess.specs.Guesses.{dropped, last_act, last_of, lost};
+ghost use Rattle.roam_guess.specs.Guesses.{dropped, last_act, last_of};
 ghost use Rattle.roam_guess.specs.Overlay.{cursor_line};
-ghost use Rattle.roam_guess.specs.Verdicts.{Follows, begun, confirmed, count_right, expired, has_credit, is_any_over, is_any_wrong, is_over, is_right, is_told_later, is_way, is_written, judged, shows, with_told};
+ghost use Rattle.roam_guess.specs.Verdicts.{Follows, begun, confirmed, count_right, expired, has_credit, is_any_over, is_over, is_right, is_way, is_written, judged, shows, with_told};
 
-use crate::guesses::{Guess, Guesses, Told};
+use crate::guesses::{Guess, Guesses};
 use crate::over::has_place;
 use crate::typed::latest;
 use roam_cells::{Cell, are_same_cells};
@@ -75,32 +75,32 @@ fn has_credit(row: &[Cell], guesses: &[Guess]) -> bool
 }
 
 // A guess of which it is noted when its acknowledgement was seen first.
-fn with_told(guess: Guess, acknowledged: u64, told: Told) -> Guess
-    ensures told { result ≡ with_told acknowledged told guess }
+fn with_told(guess: Guess, acknowledged: u64, now: u64) -> Guess
+    ensures told { result ≡ with_told acknowledged now guess }
 {
     if guess.told.is_some() || acknowledged < guess.number {
         return guess;
     }
     let mut guess = guess;
-    guess.told = Some(told);
+    guess.told = Some(now);
     guess
 }
 
 // Notes of each guess when its acknowledgement was seen first.
-fn tell_each(guesses: &mut [Guess], acknowledged: u64, told: Told)
-    ensures told { guesses.new ≡ map (with_told acknowledged told) guesses.old }
+fn tell_each(guesses: &mut [Guess], acknowledged: u64, now: u64)
+    ensures told { guesses.new ≡ map (with_told acknowledged now) guesses.old }
 {
     for guess in guesses.iter_mut() {
-        *guess = with_told(*guess, acknowledged, told);
+        *guess = with_told(*guess, acknowledged, now);
     }
 }
 
 // The same of all that are kept.
-fn tell_all(list: &mut Vec<Guess>, acknowledged: u64, told: Told)
-    ensures told { list.new.items ≡ map (with_told acknowledged told) list.old.items }
+fn tell_all(list: &mut Vec<Guess>, acknowledged: u64, now: u64)
+    ensures told { list.new.items ≡ map (with_told acknowledged now) list.old.items }
     ensures capacity { vec_capacity list.new ≡ vec_capacity list.old }
 {
-    tell_each(list, acknowledged, told);
+    tell_each(list, acknowledged, now);
 }
 
 // Whether the time of a guess is over.
@@ -109,29 +109,8 @@ fn is_over(guess: &Guess, now: u64) -> bool
 {
     match guess.told {
         None => false,
-        Some(told) => now.saturating_sub(told.at) >= GRACE,
+        Some(told) => now.saturating_sub(told) >= GRACE,
     }
-}
-
-// Whether a later number came since the acknowledgement of a guess was seen.
-fn is_told_later(guess: &Guess, number: u64) -> bool
-    ensures later { result ≡ is_told_later number guess.now }
-{
-    match guess.told {
-        None => false,
-        Some(told) => told.number < number,
-    }
-}
-
-// Whether one of the guesses is wrong: its time is over, and a later number came.
-fn is_any_wrong(guesses: &[Guess], number: u64, now: u64) -> bool
-    ensures wrong { result ≡ is_any_wrong number now guesses.now }
-{
-    if guesses.is_empty() {
-        return false;
-    }
-    (is_over(&guesses[0], now) && is_told_later(&guesses[0], number))
-        || is_any_wrong(&guesses[1..], number, now)
 }
 
 // Whether the time of one of the guesses is over.
@@ -188,15 +167,7 @@ fn follows<S: Seen>(before: &S, shown: &S, guesses: &[Guess]) -> bool
 }
 
 impl Guesses {
-    // All guesses go without a verdict: nothing more is guessed until what was typed is acknowledged.
-    fn lose_all(&mut self)
-        ensures lost { self.new ≡ lost self.old }
-    {
-        self.ends_with = last_act(self.ends_with, &self.list);
-        self.list.clear();
-    }
-
-    // All guesses go, and the epoch isn't trusted any more.
+    // All guesses go, and the epoch isn't trusted any more: it ends once what was typed is acknowledged.
     fn drop_all(&mut self)
         ensures dropped { self.new ≡ dropped self.old }
     {
@@ -214,10 +185,10 @@ impl Guesses {
     }
 
     // It is noted which acknowledgements were seen.
-    fn tell(&mut self, acknowledged: u64, told: Told)
-        ensures told { self.new ≡ record self.old { list = map (with_told acknowledged told) self.old.list } }
+    fn tell(&mut self, acknowledged: u64, now: u64)
+        ensures told { self.new ≡ record self.old { list = map (with_told acknowledged now) self.old.list } }
     {
-        tell_all(&mut self.list, acknowledged, told);
+        tell_all(&mut self.list, acknowledged, now);
     }
 
     // The guesses that are right go, and their epoch is trusted where one of them had credit.
@@ -230,14 +201,12 @@ impl Guesses {
         self.drop_first(count);
     }
 
-    // Where the time of a guess is over all go, since those behind it stand where it would; where one is wrong, the epoch isn't trusted.
-    fn expire(&mut self, number: u64, now: u64)
-        ensures expired { self.new ≡ expired number now self.old }
+    // Where the time of a guess is over all go, since those behind it stand where it would.
+    fn expire(&mut self, now: u64)
+        ensures expired { self.new ≡ expired now self.old }
     {
-        if is_any_wrong(&self.list, number, now) {
+        if is_any_over(&self.list, now) {
             self.drop_all();
-        } else if is_any_over(&self.list, now) {
-            self.lose_all();
         }
     }
 
@@ -267,26 +236,26 @@ impl Guesses {
     }
 
     // What is shown tells which guesses are right.
-    fn judge<S: Seen>(&mut self, number: u64, acknowledged: u64, shown: &S, now: u64)
-        ensures judged { self.new ≡ judged number acknowledged now (S.screen shown.now) self.old }
+    fn judge<S: Seen>(&mut self, acknowledged: u64, shown: &S, now: u64)
+        ensures judged { self.new ≡ judged acknowledged now (S.screen shown.now) self.old }
     {
         shown.facts();
         let (row, col) = shown.cursor();
         self.confirm(shown.row(row - 1), col);
-        self.tell(acknowledged, Told { at: now, number });
-        self.expire(number, now);
+        self.tell(acknowledged, now);
+        self.expire(now);
     }
 
-    /// The screen of a number is shown at a moment in milliseconds, after another one, and so many acts are acknowledged. Guesses that are
-    /// right go; all go where the time of one is over, and where the screen doesn't follow the one before. It takes no memory.
-    pub fn seen<S: Seen>(&mut self, number: u64, acknowledged: u64, before: &S, shown: &S, now: u64)
+    /// A screen is shown at a moment in milliseconds, after another one, and so many acts are acknowledged. Guesses that are right go; all
+    /// go where the time of one is over, and where the screen doesn't follow the one before. It takes no memory.
+    pub fn seen<S: Seen>(&mut self, acknowledged: u64, before: &S, shown: &S, now: u64)
         ensures goes_on { Follows (S.screen before.now) (S.screen shown.now) self.old.list
-            → self.new ≡ begun acknowledged (judged number acknowledged now (S.screen shown.now) self.old) }
+            → self.new ≡ begun acknowledged (judged acknowledged now (S.screen shown.now) self.old) }
         ensures ends { (¬ (Follows (S.screen before.now) (S.screen shown.now) self.old.list))
             → self.new ≡ begun acknowledged (dropped self.old) }
     {
         if follows(before, shown, &self.list) {
-            self.judge(number, acknowledged, shown, now);
+            self.judge(acknowledged, shown, now);
         } else {
             self.drop_all();
         }

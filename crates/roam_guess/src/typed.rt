@@ -1,7 +1,7 @@
 //! What a key is guessed to show.
 ghost use Rattle.std.specs.Prelude.{◌≡◌, ◌^◌, ◌<◌, ◌≤◌, ◌++◌, ◌∷◌, [], true, length, Some, IfSome};
 ghost use Rattle.roam_guess.specs.Guesses.{IsGuess};
-ghost use Rattle.roam_guess.specs.Typing.{back_guess, cell_in, differs, erased_guess, forth_guess, guess_for, guess_of, guess_with, has_room, is_blank_to_edge, is_border, is_clear, is_free, is_inside, is_space, kind_of, latest, may_grow, moved_guess, narrow_cell, style_left, typed_by, written_guess};
+ghost use Rattle.roam_guess.specs.Typing.{back_guess, cell_in, differs, erased_guess, forth_guess, guess_for, ended_with, guess_of, guess_with, has_room, is_blank_to_edge, is_border, is_clear, is_free, is_inside, is_space, kind_of, latest, may_grow, moved_guess, narrow_cell, style_left, typed_by, written_guess};
 
 use crate::guesses::{Guess, Guesses, MOST_GUESSES, Place};
 use crate::over::{has_place, last_column};
@@ -288,9 +288,9 @@ impl Guesses {
         let _ = self.list.extend_from_slice(&[guess]);
     }
 
-    // This act isn't guessed: the epoch ends with it.
-    fn end_with(&mut self, number: u64)
-        ensures ends { self.new ≡ record self.old { ends_with = Some number } }
+    /// What was typed up to the act of a number isn't guessed: the epoch ends with that act.
+    pub fn end_with(&mut self, number: u64)
+        ensures ends { self.new ≡ ended_with number self.old }
     {
         self.ends_with = Some(number);
     }
