@@ -1,10 +1,11 @@
 -- What a line of an outer terminal asks for (this project's profile): a word of its connection, or acts, with ` ; ` between them.
-use Rattle.std.specs.Prelude.{◌≡◌, ◌≢◌, ℕ, zero, suc, ◌+◌, ◌==◌, ◌&&◌, Bool, List, [], ◌∷◌, take, drop, slice_index, Option, Some, None, codes, if◌then◌else◌}
+use Rattle.std.specs.Prelude.{◌≡◌, ◌≢◌, ℕ, zero, suc, ◌+◌, ◌==◌, ◌&&◌, Bool, true, false, List, [], ◌∷◌, take, drop, slice_index, Option, Some, None, codes, if◌then◌else◌}
 use Rattle.std.specs.Option.{option_map}
+use Rattle.std.specs.Str.{bytes_eq}
 use Rattle.roam_acts.specs.declared.acts.Act.{Act}
 use Rattle.roam_typing.specs.Keys.{AreLinesOf}
 use Rattle.roam_typing.specs.declared.entries.Entry.{Entry}
-use Rattle.roam_typing.specs.declared.entries.Entry.TheVariants.{Acts, Repaint, Watch, Guess, End}
+use Rattle.roam_typing.specs.declared.entries.Entry.TheVariants.{Acts, Paste, Repaint, Watch, Guess, End}
 use Rattle.roam_typing.specs.declared.entries.Guessing.{Guessing}
 use Rattle.roam_typing.specs.declared.entries.Guessing.TheVariants.{Always, Adaptive, Never}
 
@@ -37,12 +38,17 @@ guessing_line Always = codes "guess always"
 guessing_line Adaptive = codes "guess adaptive"
 guessing_line Never = codes "guess never"
 
--- a line is no word
+-- `paste ; ` leads a line
+abbrev pub is_pasted : List ℕ → Bool
+is_pasted line = bytes_eq (take 8 line) (codes "paste ; ")
+
+-- a line is no word, and none leads it
 pub record IsNoWord (line : List ℕ) : Type 0 where
   pub repaint : line ≢ codes "repaint"
   pub watch : line ≢ codes "watch"
   pub end : line ≢ codes "end"
   pub guess : (guessing : Guessing) → line ≢ guessing_line guessing
+  pub paste : is_pasted line ≡ false
 
 -- a line says an entry
 abbrev pub Says : List ℕ → Entry → Type 0
@@ -50,11 +56,13 @@ Says line Repaint = line ≡ codes "repaint"
 Says line Watch = line ≡ codes "watch"
 Says line (Guess guessing) = line ≡ guessing_line guessing
 Says line End = line ≡ codes "end"
+Says line (Paste acts) = (is_pasted line ≡ true) × AreLinesOf (parts_of most_cuts (drop 8 line)) acts.items
 Says line (Acts acts) = IsNoWord line × AreLinesOf (parts_of most_cuts line) acts.items
 
 -- the acts of an entry
 abbrev pub acts_in : Entry → List Act
 acts_in (Acts acts) = acts.items
+acts_in (Paste acts) = acts.items
 acts_in Repaint = []
 acts_in Watch = []
 acts_in (Guess guessing) = []

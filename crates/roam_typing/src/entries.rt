@@ -4,7 +4,7 @@ ghost use Rattle.std.specs.List.{All};
 ghost use Rattle.roam_acts.specs.declared.acts.Act.{Act as ActOf};
 ghost use Rattle.roam_acts.specs.Acts.{IsInRange};
 ghost use Rattle.roam_typing.specs.Keys.{AreLinesOf, IsLineOf};
-ghost use Rattle.roam_typing.specs.Entries.{Says, acts_in, begins_separator, cut_of, guessing_line, most_cuts, parts_of};
+ghost use Rattle.roam_typing.specs.Entries.{Says, acts_in, begins_separator, cut_of, guessing_line, is_pasted, most_cuts, parts_of};
 ghost use Rattle.roam_typing.specs.declared.entries.Entry.{Entry as EntryOf};
 ghost use Rattle.roam_typing.specs.declared.entries.Guessing.{Guessing as GuessingOf};
 
@@ -14,6 +14,9 @@ use std::alloc::Global;
 
 /// How many times a line is cut at most: it has one act more.
 const MOST_CUTS: u8 = 63;
+
+/// What leads a line of acts that were pasted.
+const PASTE: &[u8] = b"paste ; ";
 
 /// How many bytes a separator has.
 const SEPARATOR: usize = 3;
@@ -36,6 +39,9 @@ pub enum Guessing {
 pub enum Entry {
     /// These acts are typed, 1 to 64, with nothing between them.
     Acts(Vec<Act>),
+
+    /// These acts are typed likewise, and nothing is guessed of what they show.
+    Paste(Vec<Act>),
 
     /// What is shown there isn't known any more: all is painted anew.
     Repaint,
@@ -130,6 +136,26 @@ fn read_guessing(line: &[u8]) -> Option<Guessing>
     None
 }
 
+// Whether `paste ; ` leads a line.
+fn is_pasted(line: &[u8]) -> bool
+    ensures pasted { result ≡ is_pasted line.now }
+    ensures within { result ≡ true → 8 ≤ length line.now }
+{
+    line.len() >= PASTE.len() && line.split_at(PASTE.len()).0 == PASTE
+}
+
+// The acts of a line, 1 to 64 of them.
+fn read_acts(alloc: Global, line: &[u8]) -> Result<Vec<Act>, Fault>
+    ensures found { IfOk result (λ acts. AreLinesOf (parts_of 63 line.now) acts.items × All IsInRange acts.items) }
+    ensures only { (all : List ActOf) → AreLinesOf (parts_of 63 line.now) all
+        → MatchResult result (λ acts. acts.items ≡ all) (λ fault. fault ≡ Fault.OutOfMemory) }
+    ensures fault { IfErr result (λ fault. (fault ≡ Fault.BadAct) ⊎ (fault ≡ Fault.OutOfMemory)) }
+{
+    let mut acts = Vec::new(alloc);
+    push_acts(&mut acts, line, MOST_CUTS)?;
+    Ok(acts)
+}
+
 /// What a line without its end asks for. `BadAct` where it asks for nothing, `OutOfMemory`.
 pub fn read_entry(alloc: Global, line: &[u8]) -> Result<Entry, Fault>
     // What is read is said so.
@@ -151,7 +177,10 @@ pub fn read_entry(alloc: Global, line: &[u8]) -> Result<Entry, Fault>
     if let Some(guessing) = read_guessing(line) {
         return Ok(Entry::Guess(guessing));
     }
-    let mut acts = Vec::new(alloc);
-    push_acts(&mut acts, line, MOST_CUTS)?;
+    if is_pasted(line) {
+        let acts = read_acts(alloc, line.split_at(PASTE.len()).1)?;
+        return Ok(Entry::Paste(acts));
+    }
+    let acts = read_acts(alloc, line)?;
     Ok(Entry::Acts(acts))
 }
