@@ -1,5 +1,4 @@
 mod Behind
 mod Showing
-mod Standing
 mod Taking
 mod Writing

@@ -9,13 +9,13 @@ use Rattle.roam_hub.specs.Clients.TypesAll.{watching, full, spent, typed as type
 use Rattle.roam_typing.specs.Entries.{Says, acts_in}
 use Rattle.roam_typing.specs.declared.entries.Entry.{Entry}
 use Rattle.roam_typing.specs.declared.entries.Entry.TheVariants.{Acts}
-use Rattle.roam_terminals.specs.Lines.{IsFirst, ended, ended_all}
+use Rattle.roam_typing.specs.Lines.{IsFirst, ended, ended_all}
 use Rattle.roam_terminals.specs.Terminals.{Hears, Reads, Stands, Takes, TakesAll, Types, TypesLine, typed_by, watches_after}
 use Rattle.roam_terminals.specs.Terminals.Takes.{waits, taken}
 use Rattle.roam_terminals.specs.Terminals.TypesLine.{held, unheard, typed as typed_line}
 use Rattle.roam_terminals.specs.declared.terminal.State.{State}
 use Rattle.roam_terminals.specs.declared.terminal.State.TheVariants.{Gone}
-use Rattle.roam_terminals.proofs.Standing.{first_is_ended}
+use Rattle.roam_typing.proofs.Fronts.{first_is_ended}
 
 -- typing nothing leaves a start
 pub types_none : (client client' : ClientView) → client' ≡ client → Types [] client client'

@@ -1,5 +1,4 @@
 pub mod Delays
-pub mod Lines
 pub mod Overlaid
 pub mod Sharing
 pub mod Silence

@@ -6,7 +6,7 @@ use Rattle.roam_hub.specs.Clients.{ClientView, keeping, after_typed_all}
 use Rattle.roam_typing.specs.Entries.{Says, acts_in}
 use Rattle.roam_typing.specs.declared.entries.Entry.{Entry}
 use Rattle.roam_typing.specs.declared.entries.Entry.TheVariants.{Acts, Repaint, Watch, Guess, End}
-use Rattle.roam_terminals.specs.Lines.{IsFirst, ended_all}
+use Rattle.roam_typing.specs.Lines.{IsFirst, ended_all}
 use Rattle.roam_terminals.specs.declared.terminal.State.{State}
 use Rattle.roam_terminals.specs.declared.terminal.State.TheVariants.{Gone}
 

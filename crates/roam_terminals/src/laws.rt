@@ -1,5 +1,5 @@
 //! Laws of the definitions, each the contract of a function that does nothing when it runs.
-ghost use Rattle.roam_terminals.specs.Lines.{FirstIsEnded};
+ghost use Rattle.roam_typing.specs.Lines.{FirstIsEnded};
 ghost use Rattle.roam_terminals.specs.Overlaid.{TakenBackIsNoted};
 
 use roam_paint::laws::painted_leads_over;

@@ -4,7 +4,7 @@ ghost use Rattle.std.specs.List.{All};
 ghost use Rattle.roam_acts.specs.Acts.{IsInRange};
 ghost use Rattle.roam_acts.specs.declared.acts.Act.{Act as ActOf};
 ghost use Rattle.roam_frames.specs.Carriers.{Writes};
-ghost use Rattle.roam_terminals.specs.Lines.{IsFirst, nothing_came};
+ghost use Rattle.roam_typing.specs.Lines.{IsFirst, nothing_came};
 ghost use Rattle.roam_terminals.specs.Sharing.{MayTurn};
 ghost use Rattle.roam_terminals.specs.Silence.{notice_of};
 ghost use Rattle.roam_terminals.specs.Terminals.{Hears, Reads, Takes, Types, TypesLine};

@@ -1,4 +1,5 @@
 mod Cutting
+mod Fronts
 mod Lengths
 mod Parting
 mod Reading

@@ -3,8 +3,11 @@
 
 mod entries;
 mod keys;
+pub mod laws;
+mod lines;
 mod typing;
 
 pub use entries::{Entry, Guessing, read_entry};
 pub use keys::acts_of;
+pub use lines::{Front, LONGEST_LINE, Lines};
 pub use typing::{ActLines, Stream, Typist};

@@ -1,6 +1,6 @@
 use Rattle.std.proofs.Common.{◌≡◌, sym, ap, ◌∙◌, subst}
 use Rattle.roam_typing.specs.Entries.{acts_in}
-use Rattle.roam_terminals.specs.Lines.{IsFirst}
+use Rattle.roam_typing.specs.Lines.{IsFirst}
 use Rattle.roam_terminals.specs.Terminals.{TypesLine, watches_after}
 use Rattle.roam_terminals.proofs.Taking.{acts_take, word_takes}
 use Rattle.roam_terminals.proofs.terminal.Terminal.take_entry.Goals as goal

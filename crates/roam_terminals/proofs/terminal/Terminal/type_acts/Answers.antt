@@ -1,5 +1,5 @@
 use Rattle.std.proofs.Common.{◌≡◌, sym, ap, subst}
-use Rattle.roam_terminals.specs.Lines.{IsFirst}
+use Rattle.roam_typing.specs.Lines.{IsFirst}
 use Rattle.roam_terminals.specs.Terminals.TypesLine.{typed}
 use Rattle.roam_terminals.proofs.Taking.{types_all}
 use Rattle.roam_terminals.proofs.terminal.Terminal.type_acts.Goals as goal

@@ -1,12 +1,13 @@
 -- Lines in a stream (this project's profile): each is ended by LF.
 use Rattle.std.specs.Prelude.{◌≡◌, ℕ, ◌+◌, ◌==◌, List, [], ◌∷◌, ◌++◌, length, take, drop, nat_lt, Option, Some, None, if◌then◌else◌}
 use Rattle.std.specs.List.{flat_map, position}
-use Rattle.roam_terminals.specs.declared.lines.Front.{Front}
-use Rattle.roam_terminals.specs.declared.lines.Front.TheVariants.{Line, Part, TooLong}
+use Rattle.roam_typing.specs.Typing.{ended_line}
+use Rattle.roam_typing.specs.declared.lines.Front.{Front}
+use Rattle.roam_typing.specs.declared.lines.Front.TheVariants.{Line, Part, TooLong}
 
--- the most bytes of a line without its end: 64 acts of 14 bytes and 63 times the 3 bytes between two
+-- the most bytes of a line without its end: `paste ; `, 64 acts of 14 bytes and 63 times the 3 bytes between two
 abbrev pub longest_line : ℕ
-longest_line = 1085
+longest_line = 1093
 
 -- the bytes that came and aren't taken, and how many lines were taken
 pub record LinesView : Type 0 where
@@ -26,12 +27,9 @@ front_by (Some end) count = if nat_lt longest_line end then TooLong else Line en
 abbrev pub front_of : List ℕ → Front
 front_of kept = front_by (position (λ byte. byte == 0x0A) kept) (length kept)
 
--- a line as it came
-abbrev pub ended : List ℕ → List ℕ
-ended line = line ++ 0x0A ∷ []
-
+-- lines as they came
 abbrev pub ended_all : List (List ℕ) → List ℕ
-ended_all lines = flat_map ended lines
+ended_all lines = flat_map ended_line lines
 
 -- a line stands first of these bytes, and then the rest
 pub record IsFirst (kept line rest : List ℕ) : Type 0 where
@@ -43,4 +41,4 @@ pub record IsFirst (kept line rest : List ℕ) : Type 0 where
 
 -- the bytes are that line with its end, and then the rest
 abbrev pub FirstIsEnded : Type 0
-FirstIsEnded = (kept line rest : List ℕ) → IsFirst kept line rest → kept ≡ ended line ++ rest
+FirstIsEnded = (kept line rest : List ℕ) → IsFirst kept line rest → kept ≡ ended_line line ++ rest

@@ -5,8 +5,9 @@ use Rattle.std.specs.List.{position}
 use Rattle.std.proofs.lemmas.Bool.{eqb-true}
 use Rattle.std.proofs.lemmas.List.{length-take-le, take-append-drop, take_more}
 use Rattle.std.proofs.lemmas.List.Quantifiers.{position-Some}
-use Rattle.roam_terminals.specs.declared.lines.Front.TheVariants.{Line, Part, TooLong}
-use Rattle.roam_terminals.specs.Lines.{IsFirst, ended, front_by, front_of, longest_line}
+use Rattle.roam_typing.specs.declared.lines.Front.TheVariants.{Line, Part, TooLong}
+use Rattle.roam_typing.specs.Lines.{IsFirst, front_by, front_of, longest_line}
+use Rattle.roam_typing.specs.Typing.{ended_line}
 
 -- a byte ends a line
 abbrev pub is_end : ℕ → Bool
@@ -32,7 +33,7 @@ line_end kept n e = by (position is_end kept) refl e
         subst (λ (k : ℕ). (k < length kept) × (get_or kept k 0 ≡ 10)) same (found.0, eqb-true _ _ found.1)
 
 -- the bytes are that line with its end, and then the rest
-pub first_is_ended : (kept line rest : List ℕ) → IsFirst kept line rest → kept ≡ ended line ++ rest
+pub first_is_ended : (kept line rest : List ℕ) → IsFirst kept line rest → kept ≡ ended_line line ++ rest
 first_is_ended kept line rest is =
     let n = length line in
     let end = line_end kept n is.front in

@@ -1,6 +1,6 @@
 use Rattle.std.proofs.Common.{sym, ◌∙◌}
-use Rattle.roam_terminals.proofs.Standing.{line_first}
-use Rattle.roam_terminals.proofs.lines.Lines.took.Goals as goal
+use Rattle.roam_typing.proofs.Fronts.{line_first}
+use Rattle.roam_typing.proofs.lines.Lines.took.Goals as goal
 
 pub returns-clause-none : goal.returns-clause-none
 returns-clause-none c none =

@@ -1,14 +1,14 @@
 //! The lines that come over a stream, each ended by LF.
 ghost use Rattle.std.specs.Prelude.{◌≡◌, ◌==◌, ◌++◌, ◌+◌, ◌≤◌, ◌<◌, ℕ, List, [], length, drop, IfSome, OnOk, OnErr, IsOkUnless, None, Some};
 ghost use Rattle.std.specs.List.{position};
-ghost use Rattle.roam_terminals.specs.Lines.{IsFirst, front_by, front_of, nothing_came};
+ghost use Rattle.roam_typing.specs.Lines.{IsFirst, front_by, front_of, nothing_came};
 
 use roam_cells::Fault;
 use std::alloc::Global;
 use std::marker::Model;
 
-/// The most bytes of a line without its end: 64 acts of 14 bytes, as `size 9999 9999`, and 63 times the 3 bytes between two.
-pub const LONGEST_LINE: usize = 1085;
+/// The most bytes of a line without its end: `paste ; `, 64 acts of 14 bytes, as `size 9999 9999`, and 63 times the 3 bytes between two.
+pub const LONGEST_LINE: usize = 1093;
 
 /// What stands first of what came and isn't taken yet.
 #[derive(Clone, Copy, Debug, PartialEq, Eq)]
@@ -31,7 +31,7 @@ pub struct Lines {
 }
 
 impl Model for Lines {
-    ghost use Rattle.roam_terminals.specs.Lines.{LinesView};
+    ghost use Rattle.roam_typing.specs.Lines.{LinesView};
 
     ghost Value = { LinesView };
 
