@@ -79,6 +79,12 @@ module _ (painted_leads : PaintedLeadsOver) (opened_begins : OpenedBeginsBlank) 
   text_leads (Some noted) s is rows cols lines log ready fits =
       (painted_leads rows cols lines log noted.screen s is ready fits.rows_fit fits.cols_fit).displays
 
+  -- what is painted leads to what is noted then
+  pub text_noted : (outer outer' : Option Noted) (n : ℕ) (s : Screenshot) (text : List ℕ) → IsScreenshot s → text ≡ text_for outer s
+      → outer' ≡ Some (record { number = n; screen = s }) → Leads outer text outer'
+  text_noted outer outer' n s text is same now =
+      subst (Leads outer text) (sym now) (subst (λ l. Shows outer l s) (sym same) (text_leads outer s is))
+
   same_leads : (outer : Option Noted) → Leads outer [] outer
   same_leads None = tt
   same_leads (Some noted) =

@@ -122,6 +122,13 @@ pub record AttachTurn (number : ℕ) (screen : Screenshot) (outer outer' : Optio
   pub parts : Then (Types next taken) (Then (ReceivesUpTo (IsToClient now) 2048 32)
       (Then (Paints number screen outer outer') (ClientTicks now to))) rest
 
+-- a turn of a client start that shows nothing: the moment; at most 32 datagrams of up to 2,048 bytes; a tick
+pub record QuietTurn (to : Addr) (calls : List (Call ClientCall)) : Type 0 where
+  pub now : ℕ
+  pub rest : List (Call ClientCall)
+  pub all : calls ≡ Port (Now now) ∷ rest
+  pub parts : Then (ReceivesUpTo (IsToClient now) 2048 32) (ClientTicks now to) rest
+
 -- the bytes that are shown in it
 abbrev pub shown_in : {C : Type 0} → List (Call C) → List ℕ
 shown_in [] = []

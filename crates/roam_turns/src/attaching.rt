@@ -7,7 +7,7 @@ ghost use Rattle.roam_screens.specs.Screenshot.{IsScreenshot};
 ghost use Rattle.roam_turns.specs.Calls.{ClientCall, PortCall};
 ghost use Rattle.roam_turns.specs.Painting.{Follows, IsNoted, IsBehind, Leads, Led, Shows};
 ghost use Rattle.roam_turns.specs.Parts.{Call, Makes, ReceivesUpTo};
-ghost use Rattle.roam_turns.specs.Turns.{IsToClient, Types, Paints, ClientTicks, AttachTurn, shown_in};
+ghost use Rattle.roam_turns.specs.Turns.{IsToClient, Types, Paints, ClientTicks, AttachTurn, QuietTurn, shown_in};
 
 use crate::cores::ClientCore;
 use crate::outer::Outer;
@@ -101,6 +101,26 @@ fn tick_and_send<C: ClientCore, P: Ports>(
         Ok(texts) => send_texts(ports, to, &texts),
         Err(_) => (),
     }
+}
+
+/// One turn of a client start that shows nothing: the moment; at most 32 datagrams of up to 2,048 bytes, until one receive brings nothing;
+/// and a tick, whose datagrams are sent to `to`. What the start refuses is dropped, and a datagram that isn't sent is lost.
+pub fn quiet_turn<C: ClientCore, P: Ports>(
+    alloc: Global,
+    client: &mut C,
+    ports: &mut P,
+    to: Addr,
+)
+    ensures turn { Makes C.step (QuietTurn to) (P.told ports.old) (P.told ports.new) (C.made client.old) (C.made client.new)
+        client.old client.new }
+    // What the start shows never falls, and under one number it is one screen.
+    ensures follows { Follows (C.number client.old) (C.screen client.old) (C.number client.new) (C.screen client.new) }
+    ensures written { Keeps (P.written ports.old) (P.written ports.new) }
+    ensures notice { P.notice ports.new ≡ P.notice ports.old }
+{
+    let now = ports.now();
+    receive_all(alloc, client, ports, now);
+    tick_and_send(alloc, client, ports, to, now);
 }
 
 /// One turn of a client start round its ports: the moment; the next act, where there is one; at most 32 datagrams of up to 2,048 bytes,

@@ -11,7 +11,7 @@ mod screens;
 mod sending;
 mod serving;
 
-pub use attaching::attach_turn;
+pub use attaching::{attach_turn, quiet_turn};
 pub use cores::{ClientCore, ServerCore};
 pub use memory::MemoryPorts;
 pub use outer::Outer;
