@@ -10,9 +10,10 @@ use Rattle.roam_cells.specs.declared.styles.Style.{Style}
 use Rattle.roam_guess.specs.Guesses.{IsGuess, MayStand, is_narrow}
 use Rattle.roam_guess.specs.Typing.{may_write, narrow_cell, style_left, with_cell, written_guess}
 use Rattle.roam_guess.specs.Underlined.{underlined_guess, underlined_place}
-use Rattle.roam_guess.specs.Verdicts.{with_told}
+use Rattle.roam_guess.specs.Verdicts.{counts, with_since, with_told}
 use Rattle.roam_guess.specs.declared.guesses.Place.{Place}
 use Rattle.roam_guess.specs.declared.guesses.Guess.{Guess}
+use Rattle.roam_guess.specs.declared.guesses.Moment.{Moment}
 
 -- ---- a cell that is written
 
@@ -48,21 +49,35 @@ written_kept number c row guesses col = written_by (may_write row guesses col) n
 
 -- ---- what is noted of a guess
 
-noted_by : (b : Bool) (told : ℕ) (guess : Guess) → IsGuess guess → IsGuess (cond b guess (record guess { told = Some told }))
-noted_by true told guess h = h
-noted_by false told guess h = h
+noted_by : (b d : Bool) (now : ℕ) (guess : Guess) → IsGuess guess
+    → IsGuess (cond b guess (cond d (record guess { told = Some now }) guess))
+noted_by true d now guess h = h
+noted_by false true now guess h = h
+noted_by false false now guess h = h
 
-pub noted_kept : (acknowledged told : ℕ) (guesses : List Guess) → All IsGuess guesses
-    → All IsGuess (map (with_told acknowledged told) guesses)
-noted_kept acknowledged told [] all = All-nil IsGuess
-noted_kept acknowledged told (guess ∷ guesses) all =
-    All-cons IsGuess (with_told acknowledged told guess) (map (with_told acknowledged told) guesses)
-    (noted_by (is_some guess.told || nat_lt acknowledged guess.number) told guess (All-head IsGuess guess guesses all))
-    (noted_kept acknowledged told guesses (All-tail IsGuess guess guesses all))
+pub noted_kept : (moment : Moment) (guesses : List Guess) → All IsGuess guesses → All IsGuess (map (with_told moment) guesses)
+noted_kept moment [] all = All-nil IsGuess
+noted_kept moment (guess ∷ guesses) all =
+    All-cons IsGuess (with_told moment guess) (map (with_told moment) guesses)
+    (noted_by (is_some guess.told) (counts moment guess) moment.at guess (All-head IsGuess guess guesses all))
+    (noted_kept moment guesses (All-tail IsGuess guess guesses all))
 
-pub noted_length : (acknowledged told : ℕ) (guesses : List Guess)
-    → length (map (with_told acknowledged told) guesses) ≡ length guesses
-noted_length acknowledged told guesses = length-map guesses (with_told acknowledged told)
+pub noted_length : (moment : Moment) (guesses : List Guess) → length (map (with_told moment) guesses) ≡ length guesses
+noted_length moment guesses = length-map guesses (with_told moment)
+
+since_by : (b : Bool) (now : ℕ) (guess : Guess) → IsGuess guess → IsGuess (cond b guess (record guess { since = Some now }))
+since_by true now guess h = h
+since_by false now guess h = h
+
+pub waiting_kept : (now : ℕ) (guesses : List Guess) → All IsGuess guesses → All IsGuess (map (with_since now) guesses)
+waiting_kept now [] all = All-nil IsGuess
+waiting_kept now (guess ∷ guesses) all =
+    All-cons IsGuess (with_since now guess) (map (with_since now) guesses)
+    (since_by (is_some guess.since) now guess (All-head IsGuess guess guesses all))
+    (waiting_kept now guesses (All-tail IsGuess guess guesses all))
+
+pub waiting_length : (now : ℕ) (guesses : List Guess) → length (map (with_since now) guesses) ≡ length guesses
+waiting_length now guesses = length-map guesses (with_since now)
 
 -- ---- underlined
 

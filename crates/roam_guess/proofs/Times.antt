@@ -1,49 +1,67 @@
 -- No guess is left whose time is over.
-use Rattle.std.proofs.Common.{◌≡◌, ℕ, Bool, true, false, cond, ◌&&◌, List, [], ◌∷◌, refl, ap}
-use Rattle.std.specs.Prelude.{◌||◌}
-use Rattle.std.proofs.lemmas.List.Elements.{All-cons, All-nil}
+use Rattle.std.proofs.Common.{◌≡◌, ℕ, Bool, true, false, cond, ◌&&◌, List, [], ◌∷◌, Some, map, refl, ap, sym, ◌∙◌}
+use Rattle.std.specs.Prelude.{All, is_some, ◌||◌}
+use Rattle.std.proofs.lemmas.List.Elements.{All-cons, All-head, All-nil, All-tail}
 use Rattle.roam_guess.specs.Guesses.{GuessesOf, dropped, is_none, none}
-use Rattle.roam_guess.specs.Laws.{AreInTime, TimeEnds, UnechoedEnds}
-use Rattle.roam_guess.specs.Verdicts.{expired, is_any_over, is_ended, is_over, left_by}
+use Rattle.roam_guess.specs.Laws.{IsInTime, TimeEnds, UnechoedEnds}
+use Rattle.roam_guess.specs.Verdicts.{counts, expired, is_any_over, is_ended, is_over, left_by, with_told}
 use Rattle.roam_guess.specs.declared.guesses.Guess.{Guess}
+use Rattle.roam_guess.specs.declared.guesses.Moment.{Moment}
 
-abbrev InTime : ℕ → Guess → Type 0
-InTime now guess = is_over now guess ≡ false
+-- ---- of each whose acknowledgement counts it is noted
 
-in_time_on : (now : ℕ) (guess : Guess) (guesses : List Guess) → InTime now guess → AreInTime now guesses → AreInTime now (guess ∷ guesses)
-in_time_on now guess guesses h all = All-cons (InTime now) guess guesses h all
+abbrev IsTold : Moment → Guess → Type 0
+IsTold moment guess = counts moment guess ≡ true → is_some guess.told ≡ true
 
-none_over_by : (now : ℕ) (guess : Guess) (guesses : List Guess) (b : Bool) → is_over now guess ≡ b → (AreInTime now guesses)
-    → (b || is_any_over now guesses) ≡ false → AreInTime now (guess ∷ guesses)
-none_over_by now guess guesses true over more e = absurd cc
-none_over_by now guess guesses false not_over more e = in_time_on now guess guesses not_over more
+told_by : (b d : Bool) (moment : Moment) (guess : Guess) → is_some guess.told ≡ b → counts moment guess ≡ d
+    → IsTold moment (cond b guess (cond d (record guess { told = Some moment.at }) guess))
+told_by true d moment guess is e = λ h. is
+told_by false true moment guess is e = λ h. refl
+told_by false false moment guess is e = λ h. absurd cc
+
+all_told : (moment : Moment) (guesses : List Guess) → All (IsTold moment) (map (with_told moment) guesses)
+all_told moment [] = All-nil (IsTold moment)
+all_told moment (guess ∷ guesses) =
+    All-cons (IsTold moment) (with_told moment guess) (map (with_told moment) guesses)
+    (told_by (is_some guess.told) (counts moment guess) moment guess refl refl) (all_told moment guesses)
+
+-- ---- where none is over, all are in time
+
+in_time : (moment : Moment) (guess : Guess) (guesses : List Guess) (b : Bool) → is_over moment.at guess ≡ b
+    → (b || is_any_over moment.at guesses) ≡ false → IsTold moment guess → All (IsInTime moment) guesses
+    → All (IsInTime moment) (guess ∷ guesses)
+in_time moment guess guesses true over e told more = absurd cc
+in_time moment guess guesses false over e told more =
+    All-cons (IsInTime moment) guess guesses (record { over = over; told = told }) more
 
 later_over : (a b : Bool) → (a || b) ≡ false → b ≡ false
 later_over true b e = absurd cc
 later_over false b e = e
 
--- where none is over, all are in time
-none_over : (now : ℕ) (guesses : List Guess) → is_any_over now guesses ≡ false → AreInTime now guesses
-none_over now [] e = All-nil (InTime now)
-none_over now (guess ∷ guesses) e =
-    none_over_by now guess guesses (is_over now guess) refl
-    (none_over now guesses (later_over (is_over now guess) (is_any_over now guesses) e)) e
+none_over : (moment : Moment) (guesses : List Guess) → is_any_over moment.at guesses ≡ false → All (IsTold moment) guesses
+    → All (IsInTime moment) guesses
+none_over moment [] e told = All-nil (IsInTime moment)
+none_over moment (guess ∷ guesses) e told =
+    in_time moment guess guesses (is_over moment.at guess) refl e (All-head (IsTold moment) guess guesses told)
+    (none_over moment guesses (later_over (is_over moment.at guess) (is_any_over moment.at guesses) e)
+    (All-tail (IsTold moment) guess guesses told))
 
-expired_in_time : (now : ℕ) (guesses : GuessesOf) (over : Bool) → is_any_over now guesses.list ≡ over
-    → AreInTime now (cond over (dropped guesses) guesses).list
-expired_in_time now guesses true e = All-nil (InTime now)
-expired_in_time now guesses false e = none_over now guesses.list e
+expired_in_time : (moment : Moment) (guesses : GuessesOf) (over : Bool) → is_any_over moment.at guesses.list ≡ over
+    → All (IsTold moment) guesses.list → All (IsInTime moment) (cond over (dropped guesses) guesses).list
+expired_in_time moment guesses true e told = All-nil (IsInTime moment)
+expired_in_time moment guesses false e told = none_over moment guesses.list e told
 
-begun_in_time : (now : ℕ) (guesses : GuessesOf) (b : Bool) → AreInTime now guesses.list → AreInTime now (cond b none guesses).list
-begun_in_time now guesses true h = All-nil (InTime now)
-begun_in_time now guesses false h = h
+begun_in_time : (moment : Moment) (guesses : GuessesOf) (b : Bool) → All (IsInTime moment) guesses.list
+    → All (IsInTime moment) (cond b none guesses).list
+begun_in_time moment guesses true h = All-nil (IsInTime moment)
+begun_in_time moment guesses false h = h
 
 pub time_ends : TimeEnds
-time_ends acknowledged now s guesses =
-    let noted = left_by acknowledged now s guesses in
-    let left = expired now noted in
-    begun_in_time now left (is_none left.list && is_ended left.ends_with acknowledged)
-    (expired_in_time now noted (is_any_over now noted.list) refl)
+time_ends moment s guesses =
+    let noted = left_by moment s guesses in
+    let left = expired moment.at noted in
+    begun_in_time moment left (is_none left.list && is_ended left.ends_with moment.acknowledged)
+    (expired_in_time moment noted (is_any_over moment.at noted.list) refl (all_told moment _))
 
 -- ---- where the time of one is over
 
@@ -57,9 +75,9 @@ begun_empty guesses true e h = (refl, refl)
 begun_empty guesses false e h = (e, h)
 
 pub unechoed_ends : UnechoedEnds
-unechoed_ends acknowledged now s guesses over =
-    let noted = left_by acknowledged now s guesses in
-    let left = expired now noted in
-    let gone : left ≡ dropped noted = over_drops noted (is_any_over now noted.list) over in
-    begun_empty left (is_none left.list && is_ended left.ends_with acknowledged) (ap (λ (g : GuessesOf). g.list) gone)
+unechoed_ends moment s guesses over =
+    let noted = left_by moment s guesses in
+    let left = expired moment.at noted in
+    let gone : left ≡ dropped noted = over_drops noted (is_any_over moment.at noted.list) over in
+    begun_empty left (is_none left.list && is_ended left.ends_with moment.acknowledged) (ap (λ (g : GuessesOf). g.list) gone)
     (ap (λ (g : GuessesOf). g.trusted) gone)

@@ -10,9 +10,13 @@ use Rattle.roam_guess.specs.declared.guesses.Place.{Place}
 abbrev pub most_guesses : ℕ
 most_guesses = 64
 
--- how many milliseconds a guess stays after its acknowledgement was seen
+-- how many milliseconds a guess stays after its acknowledgement counted
 abbrev pub grace : ℕ
 grace = 100
+
+-- how many milliseconds after it was made an acknowledgement counts at the latest
+abbrev pub longest : ℕ
+longest = 150
 
 -- all that is guessed: the guesses in the order of their acts, whether one of their epoch was confirmed with credit, and the act, where one
 -- wasn't guessed, with which their epoch ends
@@ -44,10 +48,19 @@ abbrev pub is_none : List Guess → Bool
 is_none [] = true
 is_none (guess ∷ guesses) = false
 
--- the number of the act of a guess, from 0 on in their order
-abbrev pub number_in : List Guess → ℕ → Option ℕ
-number_in [] place = None
-number_in (guess ∷ guesses) place = if place == 0 then Some guess.number else number_in guesses (place - 1)
+-- since a moment or since now
+abbrev pub waited_since : ℕ → Option ℕ → ℕ
+waited_since now None = 0
+waited_since now (Some since) = now - since
+
+-- for how many milliseconds a guess has waited
+abbrev pub waited : ℕ → Guess → ℕ
+waited now guess = waited_since now guess.since
+
+-- the same of a guess, from 0 on in their order
+abbrev pub waited_in : ℕ → List Guess → ℕ → Option ℕ
+waited_in now [] place = None
+waited_in now (guess ∷ guesses) place = if place == 0 then Some (waited now guess) else waited_in now guesses (place - 1)
 
 -- whether anything is shown over a screen
 abbrev pub are_shown : GuessesOf → Bool

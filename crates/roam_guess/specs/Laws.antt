@@ -1,5 +1,5 @@
 -- What is true of guesses, whatever is typed and shown.
-use Rattle.std.specs.Prelude.{◌≡◌, ◌≢◌, ◌⊎◌, ℕ, ◌+◌, ◌<◌, Bool, true, false, List, [], ◌∷◌, map, drop, Some, None, All}
+use Rattle.std.specs.Prelude.{◌≡◌, ◌≢◌, ◌⊎◌, ℕ, ◌+◌, ◌<◌, Bool, true, false, List, [], ◌∷◌, map, drop, Some, None, is_some, All}
 use Rattle.std.specs.List.{fold}
 use Rattle.roam_acts.specs.declared.acts.Act.{Act}
 use Rattle.roam_cells.specs.Place.{cell_at}
@@ -7,8 +7,9 @@ use Rattle.roam_screens.specs.Screenshot.{Screenshot, IsScreenshot}
 use Rattle.roam_guess.specs.Guesses.{GuessesOf, IsGuess, dropped, is_narrow, none}
 use Rattle.roam_guess.specs.Overlay.{cursor_line, overlay}
 use Rattle.roam_guess.specs.Typing.{ended_with, latest, typed_by}
-use Rattle.roam_guess.specs.Verdicts.{begun, has_credit, is_any_over, is_over, judged, left_by}
+use Rattle.roam_guess.specs.Verdicts.{begun, counts, has_credit, is_any_over, is_over, judged, left_by}
 use Rattle.roam_guess.specs.declared.guesses.Guess.{Guess}
+use Rattle.roam_guess.specs.declared.guesses.Moment.{Moment}
 
 -- ---- what is shown over a screen
 
@@ -42,14 +43,14 @@ NothingShows = (guesses : GuessesOf) (s : Screenshot) → ShowsScreen guesses s
 -- ---- epochs
 
 -- the guesses once a screen was seen that follows the one before
-abbrev pub seen_by : ℕ → ℕ → Screenshot → GuessesOf → GuessesOf
-seen_by acknowledged now s guesses = begun acknowledged (judged acknowledged now s guesses)
+abbrev pub seen_by : Moment → Screenshot → GuessesOf → GuessesOf
+seen_by moment s guesses = begun moment.acknowledged (judged moment s guesses)
 
 -- an epoch is trusted since a guess of it was confirmed with credit by a screen that was seen, and by nothing else
 pub record IsTrustedByScreens (guesses : GuessesOf) : Type 0 where
   pub typed : (number : ℕ) (act : Act) (s : Screenshot) → (typed_by number act s guesses).trusted ≡ guesses.trusted
   pub passed : (number : ℕ) → (ended_with number guesses).trusted ≡ guesses.trusted
-  pub seen : (acknowledged now : ℕ) (s : Screenshot) → (seen_by acknowledged now s guesses).trusted ≡ true
+  pub seen : (moment : Moment) (s : Screenshot) → (seen_by moment s guesses).trusted ≡ true
       → (guesses.trusted ≡ true) ⊎ (has_credit (cursor_line s) guesses.list ≡ true)
   pub ends : (acknowledged : ℕ) → (begun acknowledged (dropped guesses)).trusted ≡ false
 
@@ -59,8 +60,7 @@ TrustIsEarned = (guesses : GuessesOf) → IsTrustedByScreens guesses
 -- where an act wasn't guessed, nothing more is guessed until another epoch begins, which has no guess and isn't trusted
 pub record EndsWithAct (guesses : GuessesOf) : Type 0 where
   pub typed : (number : ℕ) (act : Act) (s : Screenshot) → (typed_by number act s guesses).list ≡ guesses.list
-  pub seen : (acknowledged now : ℕ) (s : Screenshot) → (seen_by acknowledged now s guesses).ends_with ≡ None
-      → seen_by acknowledged now s guesses ≡ none
+  pub seen : (moment : Moment) (s : Screenshot) → (seen_by moment s guesses).ends_with ≡ None → seen_by moment s guesses ≡ none
 
 abbrev pub EpochsEnd : Type 0
 EpochsEnd = (guesses : GuessesOf) (last : ℕ) → guesses.ends_with ≡ Some last → EndsWithAct guesses
@@ -72,21 +72,21 @@ EpochsEnd = (guesses : GuessesOf) (last : ℕ) → guesses.ends_with ≡ Some la
 pub data Step : Type 0 where
   Typed : (number : ℕ) → (act : Act) → (shown : Screenshot) → Step
   Passed : (number : ℕ) → Step
-  Seen : (acknowledged : ℕ) → (now : ℕ) → (shown : Screenshot) → Step
+  Seen : (moment : Moment) → (shown : Screenshot) → Step
   Ended : (acknowledged : ℕ) → Step
 
 -- the guesses after it
 abbrev pub after : GuessesOf → Step → GuessesOf
 after guesses (Typed number act shown) = typed_by number act shown guesses
 after guesses (Passed number) = ended_with number guesses
-after guesses (Seen acknowledged now shown) = seen_by acknowledged now shown guesses
+after guesses (Seen moment shown) = seen_by moment shown guesses
 after guesses (Ended acknowledged) = begun acknowledged (dropped guesses)
 
 -- it confirms a guess with credit
 abbrev pub confirms : GuessesOf → Step → Bool
 confirms guesses (Typed number act shown) = false
 confirms guesses (Passed number) = false
-confirms guesses (Seen acknowledged now shown) = has_credit (cursor_line shown) guesses.list
+confirms guesses (Seen moment shown) = has_credit (cursor_line shown) guesses.list
 confirms guesses (Ended acknowledged) = false
 
 -- none of these does, one after the other
@@ -105,13 +105,13 @@ abbrev pub NoneEarns : GuessesOf → List Step → Type 0
 NoneEarns guesses [] = Unit {0}
 NoneEarns guesses (step ∷ steps) = (guesses.trusted ≡ false → confirms guesses step ≡ false) × NoneEarns (after guesses step) steps
 
--- a guess but when its acknowledgement was seen
-abbrev pub untold : Guess → Guess
-untold guess = record guess { told = None }
+-- a guess but for its moments
+abbrev pub timeless : Guess → Guess
+timeless guess = record guess { since = None; told = None }
 
 -- nothing more is guessed, and the last of the guesses that were there are left; or the epoch isn't trusted
 pub data ShowsNoMore (before guesses : GuessesOf) : Type 0 where
-  ones_left : (last gone : ℕ) → guesses.ends_with ≡ Some last → map untold guesses.list ≡ drop gone (map untold before.list)
+  ones_left : (last gone : ℕ) → guesses.ends_with ≡ Some last → map timeless guesses.list ≡ drop gone (map timeless before.list)
       → ShowsNoMore before guesses
   untrusted : guesses.trusted ≡ false → ShowsNoMore before guesses
 
@@ -123,16 +123,18 @@ EndedShowsNoMore =
 
 -- ---- time
 
--- no guess is left whose time is over
-abbrev pub AreInTime : ℕ → List Guess → Type 0
-AreInTime now guesses = All (λ (guess : Guess). is_over now guess ≡ false) guesses
+-- the time of a guess isn't over, and of one whose acknowledgement counts it is noted
+pub record IsInTime (moment : Moment) (guess : Guess) : Type 0 where
+  pub over : is_over moment.at guess ≡ false
+  pub told : counts moment guess ≡ true → is_some guess.told ≡ true
 
+-- After a screen is seen this is true of each guess that is left. So none stays for a quarter of a second after the first screen that was
+-- seen once its act was acknowledged.
 abbrev pub TimeEnds : Type 0
-TimeEnds = (acknowledged now : ℕ) (s : Screenshot) (guesses : GuessesOf) → AreInTime now (seen_by acknowledged now s guesses).list
+TimeEnds = (moment : Moment) (s : Screenshot) (guesses : GuessesOf) → All (IsInTime moment) (seen_by moment s guesses).list
 
 -- Where the time of a guess is over that a screen doesn't confirm, as of a key that isn't echoed, none is left, and the epoch isn't trusted:
 -- so nothing is shown until a guess that is made later is confirmed with credit.
 abbrev pub UnechoedEnds : Type 0
-UnechoedEnds = (acknowledged now : ℕ) (s : Screenshot) (guesses : GuessesOf)
-    → is_any_over now (left_by acknowledged now s guesses).list ≡ true
-    → ((seen_by acknowledged now s guesses).list ≡ []) × ((seen_by acknowledged now s guesses).trusted ≡ false)
+UnechoedEnds = (moment : Moment) (s : Screenshot) (guesses : GuessesOf) → is_any_over moment.at (left_by moment s guesses).list ≡ true
+    → ((seen_by moment s guesses).list ≡ []) × ((seen_by moment s guesses).trusted ≡ false)

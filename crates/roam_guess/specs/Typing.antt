@@ -121,12 +121,13 @@ guess_with number row col cell after =
       place = Some (record { col = col; cell = cell });
       after = after;
       credit = differs (glyph_at row (col - 1)) cell;
+      since = None;
       told = None;
     }
 
 -- the guess that the cursor alone moves
 abbrev pub moved_guess : ℕ → ℕ → Guess
-moved_guess number after = record { number = number; place = None; after = after; credit = false; told = None }
+moved_guess number after = record { number = number; place = None; after = after; credit = false; since = None; told = None }
 
 abbrev pub with_cell : ℕ → List Glyph → ℕ → ℕ → Option Glyph → Option Guess
 with_cell number row col after None = None

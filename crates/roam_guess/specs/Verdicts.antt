@@ -1,13 +1,14 @@
 -- Which guesses are right, wrong or over, once another screen is shown (this project's profile, after Mosh's speculative local echo).
-use Rattle.std.specs.Prelude.{◌≡◌, ◌⊎◌, ℕ, ◌+◌, ◌-◌, ◌==◌, Bool, true, false, ◌&&◌, ◌||◌, nat_le, nat_lt, List, [], ◌∷◌, map, take, drop, Option, None, Some, is_some, if◌then◌else◌}
+use Rattle.std.specs.Prelude.{◌≡◌, ◌⊎◌, ℕ, ◌+◌, ◌-◌, ◌==◌, Bool, true, false, ◌&&◌, ◌||◌, nat_le, nat_lt, min, List, [], ◌∷◌, map, take, drop, Option, None, Some, is_some, if◌then◌else◌}
 use Rattle.std.specs.Str.{bytes_eq}
 use Rattle.roam_cells.specs.Glyph.{Glyph}
 use Rattle.roam_cells.specs.Place.{glyph_at, row_of}
 use Rattle.roam_screens.specs.Screenshot.{Screenshot}
-use Rattle.roam_guess.specs.Guesses.{GuessesOf, dropped, grace, is_none, none}
+use Rattle.roam_guess.specs.Guesses.{GuessesOf, dropped, grace, is_none, longest, none, waited}
 use Rattle.roam_guess.specs.Overlay.{cursor_line, has_place}
 use Rattle.roam_guess.specs.Typing.{latest}
 use Rattle.roam_guess.specs.declared.guesses.Guess.{Guess}
+use Rattle.roam_guess.specs.declared.guesses.Moment.{Moment}
 use Rattle.roam_guess.specs.declared.guesses.Place.{Place}
 
 -- ---- right
@@ -60,12 +61,26 @@ confirmed row col guesses =
 
 -- ---- over
 
--- a guess of which it is noted when its acknowledgement was seen first
-abbrev pub with_told : ℕ → ℕ → Guess → Guess
-with_told acknowledged now guess =
-    if is_some guess.told || nat_lt acknowledged guess.number then guess else record guess { told = Some now }
+-- a guess waits since the first screen that is seen after it was made
+abbrev pub with_since : ℕ → Guess → Guess
+with_since now guess = if is_some guess.since then guess else record guess { since = Some now }
 
--- its time is over: its acknowledgement was seen so long ago
+abbrev pub waiting : ℕ → GuessesOf → GuessesOf
+waiting now guesses = record guesses { list = map (with_since now) guesses.list }
+
+-- an acknowledgement counts once a guess has waited so long, since an echo comes after it, and later where the network loses
+abbrev pub least_wait : Moment → ℕ
+least_wait moment = min moment.delay longest
+
+abbrev pub counts : Moment → Guess → Bool
+counts moment guess = nat_le guess.number moment.acknowledged && nat_le (least_wait moment) (waited moment.at guess)
+
+-- a guess of which it is noted when its acknowledgement counted first
+abbrev pub with_told : Moment → Guess → Guess
+with_told moment guess =
+    if is_some guess.told then guess else (if counts moment guess then record guess { told = Some moment.at } else guess)
+
+-- its time is over: its acknowledgement counted so long ago
 abbrev pub is_long_ago : ℕ → Option ℕ → Bool
 is_long_ago now None = false
 is_long_ago now (Some told) = nat_le grace (now - told)
@@ -82,15 +97,15 @@ is_any_over now (guess ∷ guesses) = is_over now guess || is_any_over now guess
 abbrev pub expired : ℕ → GuessesOf → GuessesOf
 expired now guesses = if is_any_over now guesses.list then dropped guesses else guesses
 
--- the guesses that a screen doesn't confirm, and of which it is noted when their acknowledgements were seen
-abbrev pub left_by : ℕ → ℕ → Screenshot → GuessesOf → GuessesOf
-left_by acknowledged now s guesses =
-    let right = confirmed (cursor_line s) s.cursor_col guesses in
-    record right { list = map (with_told acknowledged now) right.list }
+-- the guesses that a screen doesn't confirm, and of which it is noted when their acknowledgements counted
+abbrev pub left_by : Moment → Screenshot → GuessesOf → GuessesOf
+left_by moment s guesses =
+    let right = confirmed (cursor_line s) s.cursor_col (waiting moment.at guesses) in
+    record right { list = map (with_told moment) right.list }
 
--- what a screen tells of the guesses: which are right, which acknowledgements were seen, and whether the time of one is over
-abbrev pub judged : ℕ → ℕ → Screenshot → GuessesOf → GuessesOf
-judged acknowledged now s guesses = expired now (left_by acknowledged now s guesses)
+-- what a screen tells of the guesses: which are right, which acknowledgements count, and whether the time of one is over
+abbrev pub judged : Moment → Screenshot → GuessesOf → GuessesOf
+judged moment s guesses = expired moment.at (left_by moment s guesses)
 
 -- ---- epochs
 

@@ -1,6 +1,6 @@
 //! Guesses, and what is true of them.
 ghost use Rattle.std.specs.Prelude.{◌≡◌, IfOk, IsOkUnless, length};
-ghost use Rattle.roam_guess.specs.Guesses.{are_shown, none, number_in};
+ghost use Rattle.roam_guess.specs.Guesses.{are_shown, none, waited, waited_in};
 
 use roam_cells::{Cell, Fault};
 use std::alloc::Global;
@@ -8,6 +8,17 @@ use std::marker::Model;
 
 /// How many guesses there are at most.
 pub(crate) const MOST_GUESSES: usize = 64;
+
+/// When a screen is shown.
+#[derive(Clone, Copy)]
+pub struct Moment {
+    /// The moment, in milliseconds.
+    pub at: u64,
+    /// How many acts are acknowledged then.
+    pub acknowledged: u64,
+    /// How many milliseconds what is typed takes to be shown, of late.
+    pub delay: u64,
+}
 
 /// A cell that is guessed to stand in a column.
 #[derive(Clone, Copy)]
@@ -29,7 +40,9 @@ pub struct Guess {
     pub after: u16,
     /// Whether another cell stood there when it was made, so that the screen tells when it comes.
     pub credit: bool,
-    /// The moment, in milliseconds, at which its acknowledgement was seen.
+    /// The moment, in milliseconds, since which it waits: that of the first screen that was seen after it was made.
+    pub since: Option<u64>,
+    /// The moment, in milliseconds, at which its acknowledgement counted.
     pub told: Option<u64>,
 }
 
@@ -53,17 +66,27 @@ impl Model for Guesses {
     ghost invariant = { λ g. IsKept g.list };
 }
 
-// The number of the act of a guess, from 0 on, where there are so many.
-fn number_in(guesses: &[Guess], place: usize) -> Option<u64>
-    ensures number { result ≡ number_in guesses.now place }
+// For how many milliseconds a guess has waited at a moment.
+pub(crate) fn waited(guess: &Guess, now: u64) -> u64
+    ensures waited { result ≡ waited now guess.now }
+{
+    match guess.since {
+        None => 0,
+        Some(since) => now.saturating_sub(since),
+    }
+}
+
+// The same of a guess, from 0 on, where there are so many.
+fn waited_in(guesses: &[Guess], now: u64, place: usize) -> Option<u64>
+    ensures waited { result ≡ waited_in now guesses.now place }
 {
     if guesses.is_empty() {
         return None;
     }
     if place == 0 {
-        return Some(guesses[0].number);
+        return Some(waited(&guesses[0], now));
     }
-    number_in(&guesses[1..], place - 1)
+    waited_in(&guesses[1..], now, place - 1)
 }
 
 impl Guesses {
@@ -87,11 +110,11 @@ impl Guesses {
         self.list.len()
     }
 
-    /// The number of the act of a guess, from 0 on in their order, where there are so many.
-    pub fn number_of(&self, place: usize) -> Option<u64>
-        ensures number { result ≡ number_in self.now.list place }
+    /// For how many milliseconds a guess, from 0 on in their order, has waited at a moment, where there are so many.
+    pub fn waited(&self, now: u64, place: usize) -> Option<u64>
+        ensures waited { result ≡ waited_in now self.now.list place }
     {
-        number_in(&self.list, place)
+        waited_in(&self.list, now, place)
     }
 
     /// Whether anything is shown over a screen.

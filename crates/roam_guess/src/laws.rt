@@ -38,7 +38,8 @@ pub fn unechoed_ends()
     ensures ends { UnechoedEnds }
 {}
 
-/// After a screen is seen no guess is left whose acknowledgement was seen a tenth of a second before or earlier.
+/// After a screen is seen no guess is left whose acknowledgement counted a tenth of a second before or earlier; and an acknowledgement
+/// counts 150 ms after its guess was seen first at the latest.
 pub fn time_ends()
     ensures ends { TimeEnds }
 {}

@@ -11,4 +11,4 @@ mod seen;
 mod typed;
 mod underlined;
 
-pub use guesses::{Guess, Guesses, Place};
+pub use guesses::{Guess, Guesses, Moment, Place};

@@ -3,16 +3,20 @@ ghost use Rattle.std.specs.Prelude.{◌≡◌, ◌↔◌, ◌<◌, ◌≤◌, tr
 ghost use Rattle.std.specs.Vec.{vec_capacity};
 ghost use Rattle.roam_guess.specs.Guesses.{dropped, last_act, last_of};
 ghost use Rattle.roam_guess.specs.Overlay.{cursor_line};
-ghost use Rattle.roam_guess.specs.Verdicts.{Follows, begun, confirmed, count_right, expired, has_credit, is_any_over, is_over, is_right, is_way, is_written, judged, shows, with_told};
+ghost use Rattle.roam_guess.specs.Verdicts.{Follows, begun, confirmed, count_right, counts, expired, has_credit, is_any_over, is_over, is_right, is_way, is_written, judged, shows, waiting, with_since, with_told};
 
-use crate::guesses::{Guess, Guesses};
+use crate::guesses::{Guess, Guesses, Moment, waited};
 use crate::over::has_place;
 use crate::typed::latest;
 use roam_cells::{Cell, are_same_cells};
 use roam_screens::Seen;
 
-/// How many milliseconds a guess stays after its acknowledgement was seen.
+/// How many milliseconds a guess stays after its acknowledgement counted.
 const GRACE: u64 = 100;
+
+/// How many milliseconds after it was made an acknowledgement counts at the latest, so that no guess stays longer than a quarter of a second
+/// after its acknowledgement came, however long the last ones took.
+const LONGEST: u64 = 150;
 
 // Whether a row shows a guessed cell's code points where it is guessed.
 fn shows(row: &[Cell], guess: &Guess) -> bool
@@ -74,33 +78,69 @@ fn has_credit(row: &[Cell], guesses: &[Guess]) -> bool
     (guesses[0].credit && shows(row, &guesses[0])) || has_credit(row, &guesses[1..])
 }
 
-// A guess of which it is noted when its acknowledgement was seen first.
-fn with_told(guess: Guess, acknowledged: u64, now: u64) -> Guess
-    ensures told { result ≡ with_told acknowledged now guess }
+// A guess that waits since a moment, where it didn't before.
+fn with_since(guess: Guess, now: u64) -> Guess
+    ensures since { result ≡ with_since now guess }
 {
-    if guess.told.is_some() || acknowledged < guess.number {
+    if guess.since.is_some() {
         return guess;
     }
     let mut guess = guess;
-    guess.told = Some(now);
+    guess.since = Some(now);
     guess
 }
 
-// Notes of each guess when its acknowledgement was seen first.
-fn tell_each(guesses: &mut [Guess], acknowledged: u64, now: u64)
-    ensures told { guesses.new ≡ map (with_told acknowledged now) guesses.old }
+// Each waits since a moment, where it didn't before.
+fn wait_each(guesses: &mut [Guess], now: u64)
+    ensures since { guesses.new ≡ map (with_since now) guesses.old }
 {
     for guess in guesses.iter_mut() {
-        *guess = with_told(*guess, acknowledged, now);
+        *guess = with_since(*guess, now);
     }
 }
 
 // The same of all that are kept.
-fn tell_all(list: &mut Vec<Guess>, acknowledged: u64, now: u64)
-    ensures told { list.new.items ≡ map (with_told acknowledged now) list.old.items }
+fn wait_all(list: &mut Vec<Guess>, now: u64)
+    ensures since { list.new.items ≡ map (with_since now) list.old.items }
     ensures capacity { vec_capacity list.new ≡ vec_capacity list.old }
 {
-    tell_each(list, acknowledged, now);
+    wait_each(list, now);
+}
+
+// Whether the acknowledgement of a guess counts: it came, and the guess has waited as long as others took, but for a limit.
+fn counts(guess: &Guess, moment: Moment) -> bool
+    ensures counts { result ≡ counts moment guess.now }
+{
+    guess.number <= moment.acknowledged && waited(guess, moment.at) >= moment.delay.min(LONGEST)
+}
+
+// A guess of which it is noted when its acknowledgement counted first.
+fn with_told(guess: Guess, moment: Moment) -> Guess
+    ensures told { result ≡ with_told moment guess }
+{
+    if guess.told.is_some() || !counts(&guess, moment) {
+        return guess;
+    }
+    let mut guess = guess;
+    guess.told = Some(moment.at);
+    guess
+}
+
+// Notes of each guess when its acknowledgement counted first.
+fn tell_each(guesses: &mut [Guess], moment: Moment)
+    ensures told { guesses.new ≡ map (with_told moment) guesses.old }
+{
+    for guess in guesses.iter_mut() {
+        *guess = with_told(*guess, moment);
+    }
+}
+
+// The same of all that are kept.
+fn tell_all(list: &mut Vec<Guess>, moment: Moment)
+    ensures told { list.new.items ≡ map (with_told moment) list.old.items }
+    ensures capacity { vec_capacity list.new ≡ vec_capacity list.old }
+{
+    tell_each(list, moment);
 }
 
 // Whether the time of a guess is over.
@@ -184,11 +224,18 @@ impl Guesses {
         drop(self.list.drain(..count));
     }
 
-    // It is noted which acknowledgements were seen.
-    fn tell(&mut self, acknowledged: u64, now: u64)
-        ensures told { self.new ≡ record self.old { list = map (with_told acknowledged now) self.old.list } }
+    // Those that were made since wait from a moment on.
+    fn wait(&mut self, now: u64)
+        ensures waiting { self.new ≡ waiting now self.old }
     {
-        tell_all(&mut self.list, acknowledged, now);
+        wait_all(&mut self.list, now);
+    }
+
+    // It is noted which acknowledgements count.
+    fn tell(&mut self, moment: Moment)
+        ensures told { self.new ≡ record self.old { list = map (with_told moment) self.old.list } }
+    {
+        tell_all(&mut self.list, moment);
     }
 
     // The guesses that are right go, and their epoch is trusted where one of them had credit.
@@ -236,29 +283,30 @@ impl Guesses {
     }
 
     // What is shown tells which guesses are right.
-    fn judge<S: Seen>(&mut self, acknowledged: u64, shown: &S, now: u64)
-        ensures judged { self.new ≡ judged acknowledged now (S.screen shown.now) self.old }
+    fn judge<S: Seen>(&mut self, moment: Moment, shown: &S)
+        ensures judged { self.new ≡ judged moment (S.screen shown.now) self.old }
     {
         shown.facts();
         let (row, col) = shown.cursor();
+        self.wait(moment.at);
         self.confirm(shown.row(row - 1), col);
-        self.tell(acknowledged, now);
-        self.expire(now);
+        self.tell(moment);
+        self.expire(moment.at);
     }
 
-    /// A screen is shown at a moment in milliseconds, after another one, and so many acts are acknowledged. Guesses that are right go; all
-    /// go where the time of one is over, and where the screen doesn't follow the one before. It takes no memory.
-    pub fn seen<S: Seen>(&mut self, acknowledged: u64, before: &S, shown: &S, now: u64)
+    /// A screen is shown at a moment, after another one. Guesses that are right go; all go where the time of one is over, and where the
+    /// screen doesn't follow the one before. It takes no memory.
+    pub fn seen<S: Seen>(&mut self, moment: Moment, before: &S, shown: &S)
         ensures goes_on { Follows (S.screen before.now) (S.screen shown.now) self.old.list
-            → self.new ≡ begun acknowledged (judged acknowledged now (S.screen shown.now) self.old) }
+            → self.new ≡ begun moment.acknowledged (judged moment (S.screen shown.now) self.old) }
         ensures ends { (¬ (Follows (S.screen before.now) (S.screen shown.now) self.old.list))
-            → self.new ≡ begun acknowledged (dropped self.old) }
+            → self.new ≡ begun moment.acknowledged (dropped self.old) }
     {
         if follows(before, shown, &self.list) {
-            self.judge(acknowledged, shown, now);
+            self.judge(moment, shown);
         } else {
             self.drop_all();
         }
-        self.begin(acknowledged);
+        self.begin(moment.acknowledged);
     }
 }

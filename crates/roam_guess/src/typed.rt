@@ -170,6 +170,7 @@ fn guess_with(number: u64, row: &[Cell], col: u16, cell: Cell, after: u16) -> Gu
         place: Some(Place { col, cell }),
         after,
         credit: differs(&row[col as usize - 1], &cell),
+        since: None,
         told: None,
     }
 }
@@ -183,6 +184,7 @@ fn moved_guess(number: u64, after: u16) -> Guess
         place: None,
         after,
         credit: false,
+        since: None,
         told: None,
     }
 }

@@ -41,6 +41,7 @@ fn underlined_guess(guess: Guess) -> Guess
         place: underlined_place(guess.place),
         after: guess.after,
         credit: guess.credit,
+        since: guess.since,
         told: guess.told,
     }
 }

@@ -5,7 +5,7 @@ use Rattle.roam_guess.proofs.seen.tell_each.Goals as goal
 
 pub loop-guess-preserved : goal.loop-guess-preserved
 loop-guess-preserved c =
-    let f = with_told c.args.acknowledged c.args.now in
+    let f = with_told c.args.moment in
     let item = c.guess-item in
     let i = c.loop-guess.guess-index in
     ap (set c.loop-guess.guesses i) (c.with_told.ensures.told ∙ ap f (sym item.is))

@@ -4,4 +4,4 @@ use Rattle.roam_guess.proofs.seen.tell_each.Given as goal
 
 abbrev pub invariant-loop-guess : goal.invariant-loop-guess
 invariant-loop-guess l =
-    l.guesses ≡ map (with_told l.acknowledged l.now) (take l.guess-index l.initial.guesses) ++ drop l.guess-index l.initial.guesses
+    l.guesses ≡ map (with_told l.moment) (take l.guess-index l.initial.guesses) ++ drop l.guess-index l.initial.guesses

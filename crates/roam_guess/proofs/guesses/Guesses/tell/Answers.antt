@@ -10,8 +10,8 @@ invariant_of-self c =
     let old : List Guess = c.self.inside.list.items in
     let new = c.tell_all.ensures.told in
     record {
-      few = omega (arith, ap length new, noted_length c.args.acknowledged c.args.now old, c.self.invariant.few);
+      few = omega (arith, ap length new, noted_length c.args.moment old, c.self.invariant.few);
       room = omega (arith, c.tell_all.ensures.capacity, c.self.invariant.room);
       guesses = subst (λ (xs : List Guess). All IsGuess xs) (sym new)
-          (noted_kept c.args.acknowledged c.args.now old c.self.invariant.guesses);
+          (noted_kept c.args.moment old c.self.invariant.guesses);
     }
