@@ -1,5 +1,5 @@
 //! Which guesses are right, wrong or over.
-ghost use Rattle.std.specs.Prelude.{◌≡◌, ◌↔◌, ◌<◌, ◌≤◌, true, length, map, drop};
+ghost use Rattle.std.specs.Prelude.{◌≡◌, ◌↔◌, ◌⊎◌, ◌<◌, ◌≤◌, true, length, map, drop};
 ghost use Rattle.std.specs.Vec.{vec_capacity};
 ghost use Rattle.roam_guess.specs.Guesses.{dropped, last_act, last_of};
 ghost use Rattle.roam_guess.specs.Overlay.{cursor_line};
@@ -301,6 +301,9 @@ impl Guesses {
             → self.new ≡ begun moment.acknowledged (judged moment (S.screen shown.now) self.old) }
         ensures ends { (¬ (Follows (S.screen before.now) (S.screen shown.now) self.old.list))
             → self.new ≡ begun moment.acknowledged (dropped self.old) }
+        // It is one or the other.
+        ensures either { Follows (S.screen before.now) (S.screen shown.now) self.old.list
+            ⊎ (Follows (S.screen before.now) (S.screen shown.now) self.old.list → ⊥) }
     {
         if follows(before, shown, &self.list) {
             self.judge(moment, shown);

@@ -1,0 +1,92 @@
+-- What is guessed of an outer terminal: the fold of what is typed and of the screens that are noted of it, one after the other.
+use Rattle.std.specs.Prelude.{◌≡◌, ℕ, ◌+◌, ◌-◌, ◌^◌, ◌==◌, ◌||◌, ◌&&◌, not, min, nat_lt, Bool, true, false, List, [], ◌∷◌, length, Option, Some, None, if◌then◌else◌}
+use Rattle.std.specs.List.{fold}
+use Rattle.roam_acts.specs.declared.acts.Act.{Act}
+use Rattle.roam_guess.specs.Guesses.{GuessesOf, are_shown}
+use Rattle.roam_guess.specs.Laws.{Step, Typed, Passed, Seen, Ended, after}
+use Rattle.roam_guess.specs.Overlay.{cursor_line, overlay}
+use Rattle.roam_guess.specs.Underlined.{underlined}
+use Rattle.roam_guess.specs.Verdicts.{Follows, count_right}
+use Rattle.roam_guess.specs.declared.guesses.Moment.{Moment}
+use Rattle.roam_screens.specs.Screenshot.{Screenshot}
+use Rattle.roam_overlay.specs.Delays.{DelaysOf, after_right, is_long, longest}
+
+-- a screen by which guesses were judged, and its number
+pub record JudgedOf : Type 0 where
+  pub number : ℕ
+  pub screen : Screenshot
+
+-- the guesses, whether they are shown where what is typed takes long alone, how long it takes, and the screen of the last judgement
+pub record OverlayOf : Type 0 where
+  pub guesses : GuessesOf
+  pub adaptive : Bool
+  pub delays : DelaysOf
+  pub seen : Option JudgedOf
+
+-- the screen of the last judgement, or another where there was none
+abbrev pub screen_or : Option JudgedOf → Screenshot → Screenshot
+screen_or None s = s
+screen_or (Some judged) s = judged.screen
+
+-- ---- what is typed
+
+-- a line of more acts isn't guessed
+abbrev pub most_guessed : ℕ
+most_guessed = 8
+
+abbrev pub next_number : ℕ → ℕ
+next_number number = min (number + 1) (2 ^ 64 - 1)
+
+-- acts are typed, the first under a number
+abbrev pub typed_steps : ℕ → List Act → Screenshot → List Step
+typed_steps first [] s = []
+typed_steps first (act ∷ acts) s = Typed first act s ∷ typed_steps (next_number first) acts s
+
+-- the number of the last of so many acts
+abbrev pub last_number : ℕ → ℕ → ℕ
+last_number first count = min (first + count) (2 ^ 64 - 1) - 1
+
+-- the acts of a line are typed: what was pasted, and a line of more than eight acts, isn't guessed, and ends the epoch
+abbrev pub line_steps : Bool → ℕ → List Act → Screenshot → List Step
+line_steps pasted first acts s =
+    if pasted || nat_lt most_guessed (length acts) then Passed (last_number first (length acts)) ∷ [] else typed_steps first acts s
+
+-- ---- what is seen
+
+-- a screen is judged by after another one: it follows that one, or it doesn't
+pub data Sees (before s : Screenshot) (moment : Moment) (guesses : GuessesOf) (step : Step) : Type 0 where
+  seen : Follows before s guesses.list → step ≡ Seen moment s → Sees before s moment guesses step
+  ended : (Follows before s guesses.list → ⊥) → step ≡ Ended moment.acknowledged → Sees before s moment guesses step
+
+-- the screen of the last judgement has a number
+abbrev pub is_number : ℕ → Option JudgedOf → Bool
+is_number number None = false
+is_number number (Some judged) = judged.number == number
+
+-- the screen of a number is that of the last judgement from now on; where there is no memory the one before stays
+pub data Notes (number : ℕ) (s : Screenshot) (old new : Option JudgedOf) : Type 0 where
+  already : is_number number old ≡ true → new ≡ old → Notes number s old new
+  noted : is_number number old ≡ false → new ≡ Some (record { number = number; screen = s }) → Notes number s old new
+  no_memory : is_number number old ≡ false → new ≡ old → Notes number s old new
+
+-- A screen of a number is noted at a moment, and so many acts are acknowledged: the guesses are judged by it.
+pub record Judges (number : ℕ) (s : Screenshot) (acknowledged now : ℕ) (old new : OverlayOf) : Type 0 where
+  pub adaptive : new.adaptive ≡ old.adaptive
+  pub delays : new.delays
+      ≡ after_right old.guesses.list now (count_right (cursor_line s) s.cursor_col old.guesses.list) old.delays
+  pub step : Step
+  pub sees : Sees (screen_or old.seen s) s
+      (record { at = now; acknowledged = acknowledged; delay = longest new.delays.last }) old.guesses step
+  pub guesses : new.guesses ≡ after old.guesses step
+  pub seen : Notes number s old.seen new.seen
+
+-- ---- what is shown
+
+-- whether what is guessed is shown
+abbrev pub is_shown : OverlayOf → Bool
+is_shown o = are_shown o.guesses && (not o.adaptive || o.delays.slow)
+
+-- a screen with what is guessed over it at a moment, underlined where it comes late
+abbrev pub laid_over : OverlayOf → Screenshot → ℕ → Screenshot
+laid_over o s now =
+    if is_long o.delays.last o.guesses.list now then overlay (underlined o.guesses) s else overlay o.guesses s
