@@ -8,7 +8,7 @@ use Rattle.std.proofs.lemmas.List.Elements.{All-cons, All-head, All-tail, All-we
 use Rattle.roam_screens.specs.Screenshot.{Screenshot}
 use Rattle.roam_turns.specs.Painting.{Follows, IsBehind}
 use Rattle.roam_turns.specs.declared.outer.Noted.{Noted}
-use Rattle.roam_terminals.specs.Sharing.{AreEachBehind, AreSettled, Settles}
+use Rattle.roam_terminals.specs.Sharing.{AreEachBehind}
 use Rattle.roam_terminals.specs.declared.terminal.Terminal.{Terminal}
 
 follows_both : (n n' n'' : ℕ) (s s' s'' : Screenshot) → Follows n s n' s' → Follows n' s' n'' s'' → Follows n s n'' s''
@@ -59,18 +59,3 @@ pub whole_back : {X : Type 0} (n : ℕ) (new old : List X) → length new ≡ le
 whole_back n new old len is =
     let rest : drop (length new) old ≡ [] = ap (λ k. drop k old) len ∙ drop-length old in
     ap (λ l. take n (new ++ l)) rest ∙ (ap (λ l. take n l) (append-nil new) ∙ (ap (λ k. take k new) (is ∙ sym len) ∙ take-length new))
-
--- ---- what becomes of each where silences are told and what waits is written
-
-abbrev pub Settled : {S : Type 0} → List (Terminal S) → Terminal S → Type 0
-Settled {S} olds new = (old : Terminal S) × Contains olds old × Settles old new
-
-pub settled_first : {S : Type 0} (first first' : Terminal S) (others others' : List (Terminal S)) → Settles first first'
-    → AreSettled others others' → AreSettled (first ∷ others) (first' ∷ others')
-settled_first first first' others others' s h =
-    All-cons (Settled (first ∷ others)) first' others' (first, Contains-append_left (first ∷ []) others first (Contains-push [] first), s)
-    (All-weaker (Settled others) (Settled (first ∷ others)) (λ t w. (w.0, Contains-append_right (first ∷ []) others w.0 w.1, w.2)) others' h)
-
-pub settled_filtered : {S F : Type 0} (R : F → Terminal S → Bool → F → Type 0) (f : F) (olds xs ys : List (Terminal S))
-    → IsFiltered R f xs ys → AreSettled olds xs → AreSettled olds ys
-settled_filtered R f olds xs ys is h = subst (λ l. AreSettled olds l) (sym is.4) (chosen (Settled olds) is.0 xs h)

@@ -1,4 +1,5 @@
 mod Behind
+mod Heard
 mod Showing
 mod Taking
-mod Writing
+mod Written

@@ -1,16 +1,18 @@
 -- What is taken of a terminal's lines, one after another.
-use Rattle.std.proofs.Common.{◌≡◌, ℕ, Bool, true, false, List, Vec, [], ◌∷◌, ◌++◌, append-nil, append_assoc, refl, sym, ap, ◌∙◌, subst}
+use Rattle.std.proofs.Common.{◌≡◌, ℕ, Bool, true, false, List, [], ◌∷◌, ◌++◌, append-nil, append_assoc, refl, sym, ap, ◌∙◌, subst}
 use Rattle.std.proofs.KnownBytes.{Consumes-nil, Consumes-trans}
 use Rattle.std.specs.Prelude.{◌≢◌, Option, Ok}
-use Rattle.std.specs.declared.alloc.Global.{Global}
 use Rattle.roam_acts.specs.declared.acts.Act.{Act}
 use Rattle.roam_hub.specs.Clients.{ClientView, TypesAll}
 use Rattle.roam_hub.specs.Clients.TypesAll.{watching, full, spent, typed as typed_now, no_memory}
 use Rattle.roam_typing.specs.Entries.{Says, acts_in}
 use Rattle.roam_typing.specs.declared.entries.Entry.{Entry}
-use Rattle.roam_typing.specs.declared.entries.Entry.TheVariants.{Acts}
-use Rattle.roam_typing.specs.Lines.{IsFirst, ended, ended_all}
-use Rattle.roam_terminals.specs.Terminals.{Hears, Reads, Stands, Takes, TakesAll, Types, TypesLine, typed_by, watches_after}
+use Rattle.roam_typing.specs.Lines.{IsFirst, ended_all}
+use Rattle.roam_typing.specs.Typing.{ended_line}
+use Rattle.roam_overlay.specs.Overlays.{OverlayOf}
+use Rattle.roam_terminals.specs.Terminals.{Guesses, Hears, MayGuess, Reads, Stands, Takes, TakesAll, Types, TypesLine, typed_by, watches_after}
+use Rattle.roam_terminals.specs.Terminals.Guesses.{guessed as are_guessed, stay as are_same}
+use Rattle.roam_terminals.specs.Terminals.MayGuess.{guessed as was_guessed, stay as was_same}
 use Rattle.roam_terminals.specs.Terminals.Takes.{waits, taken}
 use Rattle.roam_terminals.specs.Terminals.TypesLine.{held, unheard, typed as typed_line}
 use Rattle.roam_terminals.specs.declared.terminal.State.{State}
@@ -36,10 +38,10 @@ takes_more (first ∷ lines) line entry w mid w' acts more h says watches typed 
     let rest = takes_more lines line entry (watches_after h.0 w) mid w' h.1 more h.4 says watches typed in
     (h.0, h.1 ++ more, h.2, ap (λ l. l ++ more) h.3 ∙ append_assoc (typed_by w h.0) h.1 more, rest)
 
-ended_more : (lines : List (List ℕ)) (line : List ℕ) → ended_all (lines ++ line ∷ []) ≡ ended_all lines ++ ended line
-ended_more [] line = append-nil (ended line)
+ended_more : (lines : List (List ℕ)) (line : List ℕ) → ended_all (lines ++ line ∷ []) ≡ ended_all lines ++ ended_line line
+ended_more [] line = append-nil (ended_line line)
 ended_more (first ∷ lines) line =
-    ap (λ l. ended first ++ l) (ended_more lines line) ∙ sym (append_assoc (ended first) (ended_all lines) (ended line))
+    ap (λ l. ended_line first ++ l) (ended_more lines line) ∙ sym (append_assoc (ended_line first) (ended_all lines) (ended_line line))
 
 -- what was read is kept behind what was
 pub stands_read : (kept bytes : List ℕ) (w : Bool) (log : List ℕ) (all : List Act) → Stands kept w log all
@@ -62,7 +64,7 @@ stands_taken entry kept kept' w w' acts log all (taken line first says watches t
     record {
       lines = h.lines ++ line ∷ [];
       is = h.is ∙ (ap (λ l. ended_all h.lines ++ l) (first_is_ended kept line kept' first)
-          ∙ (sym (append_assoc (ended_all h.lines) (ended line) kept') ∙ ap (λ l. l ++ kept') (sym (ended_more h.lines line))));
+          ∙ (sym (append_assoc (ended_all h.lines) (ended_line line) kept') ∙ ap (λ l. l ++ kept') (sym (ended_more h.lines line))));
       takes = takes_more h.lines line entry false w w' all acts h.takes says watches typed;
     }
 
@@ -88,19 +90,25 @@ word_takes entry kept kept' w w' client none watches line rest first says same =
     nothing false = sym none
 
 -- acts
-pub acts_take : (entry : Entry) (v : Vec Act Global) (kept kept' : List ℕ) (w w' : Bool) (client client' : ClientView) → entry ≡ Acts v → w' ≡ w
-    → (line rest : List ℕ) → IsFirst kept line rest → Says line entry → TypesLine v.items kept kept' w client client'
-    → (acts : List Act) × Types acts client client' × Takes entry kept kept' w w' acts
-acts_take entry v kept kept' w w' client client' is same line rest first says (held k c) =
+pub acts_take : (entry : Entry) (items : List Act) (kept kept' : List ℕ) (w w' : Bool) (client client' : ClientView) → acts_in entry ≡ items
+    → watches_after entry w ≡ w → w' ≡ w → (line rest : List ℕ) → IsFirst kept line rest → Says line entry
+    → TypesLine items kept kept' w client client' → (acts : List Act) × Types acts client client' × Takes entry kept kept' w w' acts
+acts_take entry items kept kept' w w' client client' is stays same line rest first says (held k c) =
     ([], types_none client client' c, waits k same refl)
-acts_take entry v kept kept' w w' client client' is same line rest first says (unheard watches k c) =
-    let after : w' ≡ watches_after entry w = same ∙ sym (ap (λ e. watches_after e w) is) in
+acts_take entry items kept kept' w w' client client' is stays same line rest first says (unheard watches k c) =
+    let after : w' ≡ watches_after entry w = same ∙ sym stays in
     let typed : [] ≡ typed_by w entry = ap (λ b. typed_by b entry) (sym watches) in
     ([], types_none client client' c, taken line (subst (IsFirst kept line) (sym (k line rest first)) first) says after typed)
-acts_take entry v kept kept' w w' client client' is same line rest first says (typed_line watches k types) =
-    let after : w' ≡ watches_after entry w = same ∙ sym (ap (λ e. watches_after e w) is) in
-    let acts : v.items ≡ typed_by w entry = sym (ap acts_in is) ∙ ap (λ b. typed_by b entry) (sym watches) in
-    (v.items, types, taken line (subst (IsFirst kept line) (sym (k line rest first)) first) says after acts)
+acts_take entry items kept kept' w w' client client' is stays same line rest first says (typed_line watches k types) =
+    let after : w' ≡ watches_after entry w = same ∙ sym stays in
+    let acts : items ≡ typed_by w entry = sym is ∙ ap (λ b. typed_by b entry) (sym watches) in
+    (items, types, taken line (subst (IsFirst kept line) (sym (k line rest first)) first) says after acts)
+
+-- what is guessed of acts
+pub guesses_typed : (w pasted : Bool) (acts : List Act) (client : ClientView) (old new : Option OverlayOf)
+    → MayGuess w pasted acts client old new → Guesses client old new
+guesses_typed w pasted acts client old new (was_guessed watches is) = are_guessed pasted acts is
+guesses_typed w pasted acts client old new (was_same same) = are_same same
 
 -- ---- what is read
 

@@ -1,5 +1,7 @@
-pub mod Delays
+pub mod Hearing
 pub mod Overlaid
+pub mod Painted
 pub mod Sharing
 pub mod Silence
 pub mod Terminals
+pub mod Writing

@@ -1,34 +1,17 @@
 -- What stands over the screen that is noted of an outer terminal, and what leads from one such screen to the next.
-use Rattle.std.specs.Prelude.{◌≡◌, ◌⊎◌, ℕ, ◌+◌, ◌^◌, ◌-◌, min, List, [], ◌∷◌, ◌++◌, Option, Some, None}
-use Rattle.roam_acts.specs.declared.acts.Act.{Act}
-use Rattle.roam_guess.specs.Guesses.{GuessesOf}
-use Rattle.roam_guess.specs.Overlay.{overlay}
-use Rattle.roam_guess.specs.Typing.{typed_by}
-use Rattle.roam_guess.specs.Underlined.{underlined}
-use Rattle.roam_paint.specs.Painting.{text_between}
-use Rattle.roam_screens.specs.Screenshot.{Screenshot, IsScreenshot}
-use Rattle.roam_turns.specs.Painting.{Leads}
+use Rattle.std.specs.Prelude.{◌≡◌, ◌⊎◌, ℕ, List, [], ◌∷◌, ◌++◌, Option, Some, None, true}
+use Rattle.roam_overlay.specs.Overlays.{OverlayOf, is_shown, laid_over}
+use Rattle.roam_screens.specs.Screenshot.{Screenshot}
+use Rattle.roam_turns.specs.Painting.{Leads, ShowsSized}
 use Rattle.roam_turns.specs.declared.outer.Noted.{Noted}
 use Rattle.roam_terminals.specs.declared.laying.Taken.{Taken}
-use Rattle.roam_terminals.specs.declared.overlay.Overlay.{Overlay}
 
--- ---- what is guessed
-
--- the guesses after acts were typed, the first under a number
-abbrev pub after_typed_each : ℕ → List Act → Screenshot → GuessesOf → GuessesOf
-after_typed_each first [] s guesses = guesses
-after_typed_each first (act ∷ acts) s guesses = after_typed_each (min (first + 1) (2 ^ 64 - 1)) acts s (typed_by first act s guesses)
-
--- a screen with guesses over it, underlined or not
-abbrev pub IsLaid : GuessesOf → Screenshot → Screenshot → Type 0
-IsLaid guesses s over = (over ≡ overlay guesses s) ⊎ (over ≡ overlay (underlined guesses) s)
-
--- what stands over the screen that is noted, where something does, is that screen with what is guessed over it
-abbrev pub IsOver : Option Overlay → Option Noted → Option Screenshot → Type 0
-IsOver guessing outer None = Unit {0}
-IsOver None outer (Some over) = ⊥
-IsOver (Some guessing) None (Some over) = ⊥
-IsOver (Some guessing) (Some noted) (Some over) = IsLaid guessing.guesses noted.screen over
+-- what stands over the screen that is noted at a moment, where something does, is that screen with what is guessed and shown over it
+abbrev pub IsOver : ℕ → Option OverlayOf → Option Noted → Option Screenshot → Type 0
+IsOver now guessing outer None = Unit {0}
+IsOver now None outer (Some over) = ⊥
+IsOver now (Some guessing) None (Some over) = ⊥
+IsOver now (Some guessing) (Some noted) (Some over) = (is_shown guessing ≡ true) × (over ≡ laid_over guessing noted.screen now)
 
 -- ---- what a terminal shows
 
@@ -43,18 +26,17 @@ pub record IsSize (one other : Screenshot) : Type 0 where
   pub rows : one.rows ≡ other.rows
   pub cols : one.cols ≡ other.cols
 
--- the text between two screens of one size
+-- a text that leads from one screen to another of its size
 pub record Between (one other : Screenshot) (text : List ℕ) : Type 0 where
   pub size : IsSize one other
-  pub screen : IsScreenshot other
-  pub text_is : text ≡ text_between one other
+  pub leads : (n : ℕ) → ShowsSized (Some (record { number = n; screen = one })) text other
 
--- the text that takes back what stands over the screen that is noted
+-- a text that takes back what stands over the screen that is noted
 abbrev pub IsBack : Screenshot → Option Noted → List ℕ → Type 0
 IsBack over None text = ⊥
 IsBack over (Some noted) text = Between over noted.screen text
 
--- the text that lays a screen over the one that is noted
+-- a text that lays a screen over the one that is noted
 abbrev pub IsForth : Option Noted → Screenshot → List ℕ → Type 0
 IsForth None over text = ⊥
 IsForth (Some noted) over text = Between noted.screen over text

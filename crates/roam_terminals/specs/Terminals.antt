@@ -1,18 +1,26 @@
 -- What a client start takes of an outer terminal: its lines in their order, each once.
-use Rattle.std.specs.Prelude.{◌≡◌, ◌≢◌, ℕ, Bool, true, false, List, [], ◌∷◌, ◌++◌, Option}
+use Rattle.std.specs.Prelude.{◌≡◌, ◌≢◌, ℕ, ◌+◌, ◌<◌, Bool, true, false, List, [], ◌∷◌, ◌++◌, length, Option, Some, None}
+use Rattle.std.specs.List.{fold}
 use Rattle.std.specs.Io.KnownBytes.{Consumes}
 use Rattle.roam_acts.specs.declared.acts.Act.{Act}
+use Rattle.roam_acts.specs.Senders.{HasNoRoom, IsShort, last_number}
+use Rattle.roam_guess.specs.Guesses.{none}
+use Rattle.roam_guess.specs.Laws.{after}
 use Rattle.roam_hub.specs.Clients.{ClientView, keeping, after_typed_all}
+use Rattle.roam_overlay.specs.Delays.{no_delay}
+use Rattle.roam_overlay.specs.Overlays.{OverlayOf, line_steps, next_number, screen_or}
+use Rattle.roam_screens.specs.Screenshot.{Screenshot}
 use Rattle.roam_typing.specs.Entries.{Says, acts_in}
 use Rattle.roam_typing.specs.declared.entries.Entry.{Entry}
-use Rattle.roam_typing.specs.declared.entries.Entry.TheVariants.{Acts, Repaint, Watch, Guess, End}
+use Rattle.roam_typing.specs.declared.entries.Entry.TheVariants.{Acts, Paste, Repaint, Watch, Guess, End}
 use Rattle.roam_typing.specs.Lines.{IsFirst, ended_all}
 use Rattle.roam_terminals.specs.declared.terminal.State.{State}
-use Rattle.roam_terminals.specs.declared.terminal.State.TheVariants.{Gone}
+use Rattle.roam_terminals.specs.declared.terminal.State.TheVariants.{Here, Deaf, Left, Refused, Gone}
 
 -- whether a terminal only watches after an entry
 abbrev pub watches_after : Entry → Bool → Bool
 watches_after (Acts acts) watches = watches
+watches_after (Paste acts) watches = watches
 watches_after Repaint watches = watches
 watches_after Watch watches = true
 watches_after (Guess guessing) watches = watches
@@ -49,6 +57,66 @@ pub record Hears (before after : Option (List ℕ)) (kept kept' : List ℕ) (wat
   pub typed : Types acts client client'
   pub stands : state' ≢ Gone → (log : List ℕ) (all : List Act) → Stands kept watches log all
       → Stands kept' watches' (log ++ bytes) (all ++ acts)
+
+-- ---- whose lines are taken
+
+-- more of a terminal may come
+abbrev pub is_read : State → Bool
+is_read Here = true
+is_read Deaf = true
+is_read Left = false
+is_read Refused = false
+is_read Gone = false
+
+-- its lines are taken: also those that came whole before it left
+abbrev pub is_heard : State → Bool
+is_heard Here = true
+is_heard Deaf = true
+is_heard Left = true
+is_heard Refused = false
+is_heard Gone = false
+
+-- so many acts are unacknowledged at most where another line is taken
+abbrev pub most_acts : ℕ
+most_acts = 64
+
+-- why acts aren't typed now: too many would be unacknowledged, the start only watches, or its numbers are spent
+pub data Holds (acts : List Act) (client : ClientView) : Type 0 where
+  many : most_acts < length client.kept.acts.acts + length acts → Holds acts client
+  watching : client.kept.watches ≡ true → Holds acts client
+  full : HasNoRoom client.kept.acts (length acts) → Holds acts client
+  spent : IsShort client.kept.acts (length acts) → Holds acts client
+
+-- ---- what is guessed of them
+
+-- the guesses of a terminal after acts of its line were typed, the first under a number, where a start showed a screen
+abbrev pub guesses_after : Bool → ℕ → List Act → Screenshot → Option OverlayOf → Option OverlayOf
+guesses_after pasted first acts shown None = None
+guesses_after pasted first acts shown (Some o) =
+    Some (record o { guesses = fold after o.guesses (line_steps pasted first acts (screen_or o.seen shown)) })
+
+-- the number of the next act of a start
+abbrev pub first_number : ClientView → ℕ
+first_number client = next_number (last_number client.kept.acts)
+
+-- guesses begin anew, or there are none
+pub data IsSet (new : Option OverlayOf) : Type 0 where
+  no_guesses : new ≡ None → IsSet new
+  fresh : (adaptive : Bool) → new ≡ Some (record { guesses = none; adaptive = adaptive; delays = no_delay; seen = None }) → IsSet new
+
+-- acts of a line are guessed where they are typed, and where they aren't nothing changes
+pub data MayGuess (watches pasted : Bool) (acts : List Act) (client : ClientView) (old new : Option OverlayOf) : Type 0 where
+  guessed : watches ≡ false
+      → new ≡ guesses_after pasted (first_number client) acts client.kept.receiver.newest.state old
+      → MayGuess watches pasted acts client old new
+  stay : new ≡ old → MayGuess watches pasted acts client old new
+
+-- a line of a terminal changes what is guessed of it: its acts are guessed; it says when guesses are shown; or nothing changes
+pub data Guesses (client : ClientView) (old new : Option OverlayOf) : Type 0 where
+  guessed : (pasted : Bool) (acts : List Act)
+      → new ≡ guesses_after pasted (first_number client) acts client.kept.receiver.newest.state old → Guesses client old new
+  set : IsSet new → Guesses client old new
+  stay : new ≡ old → Guesses client old new
 
 -- ---- a line at a time
 

@@ -1,21 +1,20 @@
 //! What is guessed is laid over the screen that is noted of an outer terminal, and taken back before another is painted.
-ghost use Rattle.std.specs.Prelude.{◌≡◌, ◌⊎◌, ◌++◌, ◌≤◌, [], Option, true, false, None, Some, IfSome, IfOk, OnOk, OnErr, IsOkUnless};
+ghost use Rattle.std.specs.Prelude.{◌≡◌, ◌⊎◌, ◌++◌, ◌≤◌, ℕ, [], Option, true, false, None, Some, IfSome, IfOk, OnOk, OnErr, IsOkUnless};
 ghost use Rattle.roam_screens.specs.Screenshot.{Screenshot};
 ghost use Rattle.roam_terminals.specs.Overlaid.{IsBack, IsForth, IsOver, IsSize, Lays, TakesBack, on_show};
-ghost use Rattle.roam_terminals.specs.Sharing.{Turns};
-ghost use Rattle.roam_turns.specs.Painting.{Follows, IsBehind, Led};
+ghost use Rattle.roam_terminals.specs.Painted.{IsJudged, MayPaint, Paints, is_ready, shown_of};
+ghost use Rattle.roam_turns.specs.Painting.{IsBehind, LeadsSized};
 ghost use Rattle.roam_turns.specs.declared.outer.Noted.{Noted as NotedOf};
 
-use crate::painter::Painter;
 use crate::silence::Silence;
 use crate::terminal::Terminal;
 use roam_cells::{Fault, are_same_cells};
 use roam_frames::Outbox;
-use roam_hub::{Addr, Client};
+use roam_hub::Client;
 use roam_paint::laws::painted_leads_over;
 use roam_paint::paint;
 use roam_screens::{RowShot, Seen, Shown};
-use roam_turns::{Outer, Ports};
+use roam_turns::Outer;
 use std::alloc::Global;
 use std::io::{Read, Write};
 
@@ -58,10 +57,11 @@ fn is_same(one: &RowShot, other: &RowShot) -> bool
         && are_same_rows(one, other)
 }
 
-// The text that takes back what stands over the screen that is noted; none where that has another size, or there is no memory.
+// A text that takes back what stands over the screen that is noted; none where that has another size, or there is no memory.
 fn text_back(alloc: Global, over: &RowShot, outer: &Outer) -> Option<Vec<u8>>
     ensures back { IfSome result (λ text. IsBack over.now outer.now text.items) }
 {
+    painted_leads_over();
     let (_, screen) = outer.noted()?;
     if !is_size(over, &screen) {
         return None;
@@ -72,10 +72,11 @@ fn text_back(alloc: Global, over: &RowShot, outer: &Outer) -> Option<Vec<u8>>
     Some(text)
 }
 
-// The text that lays a screen over the one that is noted; none where that has another size, or there is no memory.
+// A text that lays a screen over the one that is noted; none where that has another size, or there is no memory.
 fn text_forth(alloc: Global, outer: &Outer, over: &RowShot) -> Option<Vec<u8>>
     ensures forth { IfSome result (λ text. IsForth outer.now over.now text.items) }
 {
+    painted_leads_over();
     let (_, screen) = outer.noted()?;
     if !is_size(over, &screen) {
         return None;
@@ -135,7 +136,7 @@ fn is_there(waiting: &Outbox, taken: &Taken, over: &Option<RowShot>) -> bool
 impl<S: Read + Write + Drop> Terminal<S> {
     // Takes back what stands over the screen that is noted: the text for it stands first in the next entry. Where there is no memory for
     // it nothing is noted any more.
-    pub(crate) fn take_back(&mut self, alloc: Global) -> Option<Taken>
+    fn take_back(&mut self, alloc: Global) -> Option<Taken>
         ensures taken { TakesBack self.old.over self.old.outer self.new.outer result }
         ensures others { self.new ≡ record self.old { over = None; outer = self.new.outer } }
     {
@@ -149,8 +150,26 @@ impl<S: Read + Write + Drop> Terminal<S> {
         }
     }
 
+    // Paints what the start shows: the text that leads there from what is noted waits. Where there is no memory to keep it nothing is
+    // noted any more.
+    fn paint_noted(&mut self, alloc: Global, client: &Client)
+        requires ready { self.old.waiting ≡ [] }
+        ensures leads { LeadsSized self.old.outer self.new.waiting self.new.outer }
+        ensures noted { (self.new.outer ≡ Some (shown_of client.now)) ⊎ ((self.new.outer ≡ self.old.outer) ⊎ (self.new.outer ≡ None)) }
+        ensures others { self.new ≡ record self.old { outer = self.new.outer; waiting = self.new.waiting } }
+    {
+        let (number, screen) = client.shown();
+        let Some(text) = self.outer.paint(alloc, number, &screen) else {
+            return;
+        };
+        if self.waiting.push(&text).is_err() {
+            self.forget();
+        }
+    }
+
     // The guesses are judged by the screen that is noted.
     fn judge(&mut self, alloc: Global, client: &Client, now: u64)
+        ensures judged { IsJudged now client.now self.old.outer self.old.guessing self.new.guessing }
         ensures others { self.new ≡ record self.old { guessing = self.new.guessing } }
     {
         if let Some(overlay) = &mut self.guessing
@@ -162,7 +181,7 @@ impl<S: Read + Write + Drop> Terminal<S> {
 
     // What is to stand over the screen that is noted: nothing in a silence, which is told.
     fn wanted(&self, alloc: Global, silence: Silence) -> Option<RowShot>
-        ensures over { IsOver self.now.guessing self.now.outer result }
+        ensures over { IsOver silence.moment self.now.guessing self.now.outer result }
     {
         if silence.is_long() {
             return None;
@@ -186,14 +205,14 @@ impl<S: Read + Write + Drop> Terminal<S> {
     // changed nothing waits; where there is no memory for that text nothing is noted any more.
     fn lay_again(&mut self, alloc: Global, wanted: Option<RowShot>, taken: Taken)
         requires bare { self.old.over ≡ None }
-        ensures led { (over : Screenshot) (outer : Option NotedOf) → taken.over ≡ over → IsBack over outer taken.text.items
-            → Led outer (Some []) self.old.outer (Some self.old.waiting)
-            → Led (on_show (Some over) outer) (Some []) (on_show self.new.over self.new.outer) (Some self.new.waiting) }
-        ensures over { IsOver self.old.guessing self.old.outer wanted → IsOver self.old.guessing self.new.outer self.new.over }
+        ensures leads { (over : Screenshot) (outer : Option NotedOf) → taken.over ≡ over → IsBack over outer taken.text.items
+            → LeadsSized outer self.old.waiting self.old.outer
+            → LeadsSized (on_show (Some over) outer) self.new.waiting (on_show self.new.over self.new.outer) }
+        ensures over { (now : ℕ) → IsOver now self.old.guessing self.old.outer wanted
+            → IsOver now self.old.guessing self.new.outer self.new.over }
         ensures outer { (self.new.outer ≡ self.old.outer) ⊎ (self.new.outer ≡ None) }
         ensures others { self.new ≡ record self.old { over = self.new.over; outer = self.new.outer; waiting = self.new.waiting } }
     {
-        painted_leads_over();
         if is_there(&self.waiting, &taken, &wanted) {
             self.over = Some(taken.over);
             return;
@@ -209,42 +228,50 @@ impl<S: Read + Write + Drop> Terminal<S> {
     // Lays a screen over the one that is noted, behind what waits and what takes back the one that stood there.
     fn lay(&mut self, alloc: Global, wanted: Option<RowShot>, taken: Option<Taken>)
         requires bare { self.old.over ≡ None }
-        ensures led { (over : Option Screenshot) (outer mid : Option NotedOf) → TakesBack over outer mid taken
-            → Led mid (Some []) self.old.outer (Some self.old.waiting)
-            → Led (on_show over outer) (Some []) (on_show self.new.over self.new.outer) (Some self.new.waiting) }
-        ensures over { IsOver self.old.guessing self.old.outer wanted → IsOver self.old.guessing self.new.outer self.new.over }
+        ensures leads { (over : Option Screenshot) (outer mid : Option NotedOf) → TakesBack over outer mid taken
+            → LeadsSized mid self.old.waiting self.old.outer
+            → LeadsSized (on_show over outer) self.new.waiting (on_show self.new.over self.new.outer) }
+        ensures over { (now : ℕ) → IsOver now self.old.guessing self.old.outer wanted
+            → IsOver now self.old.guessing self.new.outer self.new.over }
         ensures outer { (self.new.outer ≡ self.old.outer) ⊎ (self.new.outer ≡ None) }
         ensures others { self.new ≡ record self.old { over = self.new.over; outer = self.new.outer; waiting = self.new.waiting } }
     {
-        painted_leads_over();
         match taken {
             Some(taken) => self.lay_again(alloc, wanted, taken),
             None => self.lay_over(alloc, wanted),
         }
     }
 
-    /// Takes a turn of the start with it: what stands over the screen that is noted is taken back first, and what is guessed is laid over
-    /// the one that is noted then. All of it waits to be written, whole.
-    pub(crate) fn turn_over<P: Ports + Drop>(
-        &mut self,
-        alloc: Global,
-        client: &mut Client,
-        painter: &mut Painter<P>,
-        to: Addr,
-    )
-        requires ready { (self.old.waiting ≡ []) × (painter.old.painting ≡ []) }
-        requires behind { IsBehind self.old.outer client.old.kept.receiver.newest.number client.old.kept.receiver.newest.state }
-        ensures turns { Turns to self.old self.new client.old client.new }
-        ensures follows { Follows client.old.kept.receiver.newest.number client.old.kept.receiver.newest.state
-            client.new.kept.receiver.newest.number client.new.kept.receiver.newest.state }
-        ensures behind { IsBehind self.new.outer client.new.kept.receiver.newest.number client.new.kept.receiver.newest.state }
-        ensures painted { painter.new.painting ≡ [] }
+    // Paints it: what stands over the screen that is noted is taken back first, then what the start shows is painted, and what is guessed
+    // is laid over that. All of it waits to be written, whole.
+    fn paint(&mut self, alloc: Global, client: &Client, silence: Silence)
+        requires ready { is_ready self.old ≡ true }
+        ensures paints { Paints silence client.now self.old self.new }
+        ensures behind { IsBehind self.old.outer client.now.kept.receiver.newest.number client.now.kept.receiver.newest.state
+            → IsBehind self.new.outer client.now.kept.receiver.newest.number client.now.kept.receiver.newest.state }
     {
         let taken = self.take_back(alloc);
-        self.turn(alloc, client, painter, to);
-        let silence = painter.silence();
+        self.paint_noted(alloc, client);
         self.judge(alloc, client, silence.moment());
         let wanted = self.wanted(alloc, silence);
         self.lay(alloc, wanted, taken);
+    }
+
+    // Whether it is to be painted now: all that was painted before is written, and it tells of no silence.
+    fn is_ready(&self) -> bool
+        ensures ready { result ≡ is_ready self.now }
+    {
+        self.is_here() && self.told.is_none() && self.waiting.len() == 0
+    }
+
+    /// Paints what the start shows where it is ready for it.
+    pub(crate) fn paint_if_ready(&mut self, alloc: Global, client: &Client, silence: Silence)
+        ensures paints { MayPaint silence client.now self.old self.new }
+        ensures behind { IsBehind self.old.outer client.now.kept.receiver.newest.number client.now.kept.receiver.newest.state
+            → IsBehind self.new.outer client.now.kept.receiver.newest.number client.now.kept.receiver.newest.state }
+    {
+        if self.is_ready() {
+            self.paint(alloc, client, silence);
+        }
     }
 }

@@ -2,18 +2,16 @@
 //! is painted of what it shows.
 #![tactic(auto)]
 
-mod delays;
+mod hearing;
 pub mod laws;
 mod laying;
-mod lines;
-mod overlay;
-mod painter;
+mod listening;
 mod sharing;
 mod silence;
 mod terminal;
+mod writing;
 
-pub use lines::{Front, LONGEST_LINE, Lines};
-pub use painter::Painter;
+pub use listening::Listening;
 pub use sharing::{MOST_TERMINALS, SharedStart};
 pub use silence::{End, Silence, notice};
 pub use terminal::Terminal;

@@ -1,16 +1,20 @@
 //! A client start that stays while outer terminals come and go, one after the other.
 ghost use Rattle.std.specs.Prelude.{◌≡◌, ◌⊎◌, ◌<◌, ◌++◌, ◌∷◌, [], true, false, length, ℕ, List, None, OnOk, OnErr, IfErr};
 ghost use Rattle.roam_screens.specs.Screenshot.{Screenshot};
-ghost use Rattle.roam_terminals.specs.Sharing.{AreEachBehind, AreSettled, HearsAll, Rounds, Turns, TurnsAll, TurnsAlone, most_terminals};
+ghost use Rattle.roam_terminals.specs.Painted.{MayPaint};
+ghost use Rattle.roam_terminals.specs.Sharing.{AreEach, AreEachBehind, HearsAll, Rounds, Settles, most_terminals, turned_round, who_stay};
 ghost use Rattle.roam_terminals.specs.declared.terminal.Terminal.{Terminal as TerminalOf};
-ghost use Rattle.roam_turns.specs.Painting.{Follows};
+ghost use Rattle.roam_turns.specs.Cores.{client_step};
+ghost use Rattle.roam_turns.specs.Parts.{Makes};
+ghost use Rattle.roam_turns.specs.Turns.{QuietTurn};
 
-use crate::painter::Painter;
+use crate::hearing::Taking;
+use crate::listening::Listening;
 use crate::silence::Silence;
-use crate::terminal::{Taking, Terminal};
+use crate::terminal::Terminal;
 use roam_cells::Fault;
 use roam_hub::{Addr, Client};
-use roam_turns::{Outer, Ports, attach_turn};
+use roam_turns::{Ports, quiet_turn};
 use std::alloc::Global;
 use std::io::{Read, Write};
 use std::marker::Model;
@@ -31,24 +35,17 @@ const GUESSED: u64 = 20;
 pub struct SharedStart<S> {
     client: Client,
     all: Vec<Terminal<S>>,
-    // A terminal that isn't there: its turn is taken where no other is.
-    nobody: Outer,
     is_ending: bool,
 }
 
 impl<S> Model for SharedStart<S> {
-    ghost use Rattle.roam_terminals.specs.Sharing.{AreBehind, Shared};
+    ghost use Rattle.roam_terminals.specs.Sharing.{AreEachBehind, Shared};
 
     ghost Value = { Shared S };
 
-    ghost view = { λ s. record {
-      client = s.client;
-      all = s.all.items;
-      nobody = s.nobody;
-      is_ending = s.is_ending;
-    } };
+    ghost view = { λ s. record { client = s.client; all = s.all.items; is_ending = s.is_ending } };
 
-    ghost invariant = { λ s. AreBehind s.all.items s.nobody s.client.kept.receiver.newest.number s.client.kept.receiver.newest.state };
+    ghost invariant = { λ s. AreEachBehind s.all.items s.client.kept.receiver.newest.number s.client.kept.receiver.newest.state };
 }
 
 // Hears each terminal, and tells how long may be waited for more, and whether one asked for the end.
@@ -74,49 +71,41 @@ fn hear_all<S: Read + Write + Drop>(
     )
 }
 
-// Takes a turn with each terminal that is ready for it, and tells whether any was.
-fn turn_all<S: Read + Write + Drop, P: Ports + Drop>(
+// Paints each terminal that is ready for it.
+fn paint_all<S: Read + Write + Drop>(
     alloc: Global,
     all: &mut [Terminal<S>],
-    client: &mut Client,
-    painter: &mut Painter<P>,
-    to: Addr,
-) -> bool
-    requires behind { AreEachBehind all.old client.old.kept.receiver.newest.number client.old.kept.receiver.newest.state }
-    requires painted { painter.old.painting ≡ [] }
-    ensures turns { TurnsAll to all.old all.new client.old client.new }
+    client: &Client,
+    silence: Silence,
+)
+    ensures paints { AreEach (MayPaint silence client.now) all.old all.new }
     ensures len { length all.new ≡ length all.old }
-    ensures follows { Follows client.old.kept.receiver.newest.number client.old.kept.receiver.newest.state
-        client.new.kept.receiver.newest.number client.new.kept.receiver.newest.state }
-    ensures behind { AreEachBehind all.new client.new.kept.receiver.newest.number client.new.kept.receiver.newest.state }
-    ensures painted { painter.new.painting ≡ [] }
-    ensures none { result ≡ false → (client.new ≡ client.old) × (all.new ≡ all.old) }
+    ensures behind { AreEachBehind all.old client.now.kept.receiver.newest.number client.now.kept.receiver.newest.state
+        → AreEachBehind all.new client.now.kept.receiver.newest.number client.now.kept.receiver.newest.state }
 {
     let Some((first, others)) = all.split_first_mut() else {
-        return false;
+        return;
     };
-    let was_ready = first.turn_if_ready(alloc, client, painter, to);
-    let is_any = turn_all(alloc, others, client, painter, to);
-    is_any || was_ready
+    first.paint_if_ready(alloc, client, silence);
+    paint_all(alloc, others, client, silence);
 }
 
 // Tells each terminal of a silence, and writes what waits for it.
 fn write_all<S: Read + Write + Drop>(alloc: Global, all: &mut [Terminal<S>], silence: Silence)
+    ensures settles { AreEach (Settles S.contents silence) all.old all.new }
     ensures len { length all.new ≡ length all.old }
-    ensures settled { AreSettled all.old all.new }
     ensures behind { (n : ℕ) (s : Screenshot) → AreEachBehind all.old n s → AreEachBehind all.new n s }
 {
     let Some((first, others)) = all.split_first_mut() else {
         return;
     };
-    first.tell_silence(alloc, silence);
-    first.flush(silence.moment());
+    first.settle(alloc, silence);
     write_all(alloc, others, silence);
 }
 
 // Lets those go that left.
 fn retain<S: Read + Write + Drop>(all: &mut Vec<Terminal<S>>)
-    ensures settled { (olds : List (TerminalOf S)) → AreSettled olds all.old.items → AreSettled olds all.new.items }
+    ensures stay { all.new.items ≡ who_stay all.old.items }
     ensures behind { (n : ℕ) (s : Screenshot) → AreEachBehind all.old.items n s → AreEachBehind all.new.items n s }
 {
     all.retain(|terminal| !terminal.is_gone());
@@ -125,7 +114,7 @@ fn retain<S: Read + Write + Drop>(all: &mut Vec<Terminal<S>>)
 // The first terminal is the last from now on.
 fn rotate<S: Drop>(all: &mut [Terminal<S>])
     ensures len { length all.new ≡ length all.old }
-    ensures settled { (olds : List (TerminalOf S)) → AreSettled olds all.old → AreSettled olds all.new }
+    ensures round { all.new ≡ turned_round all.old }
     ensures behind { (n : ℕ) (s : Screenshot) → AreEachBehind all.old n s → AreEachBehind all.new n s }
 {
     if all.len() > 1 {
@@ -149,12 +138,11 @@ impl<S: Read + Write + Drop> SharedStart<S> {
     /// A client start; no terminal is there yet.
     pub fn new(alloc: Global, client: Client) -> SharedStart<S>
         ensures client { result.client ≡ client }
-        ensures none { (result.all ≡ []) × (result.nobody ≡ None) × (result.is_ending ≡ false) }
+        ensures none { (result.all ≡ []) × (result.is_ending ≡ false) }
     {
         SharedStart {
             client,
             all: Vec::new(alloc),
-            nobody: Outer::new(),
             is_ending: false,
         }
     }
@@ -184,6 +172,7 @@ impl<S: Read + Write + Drop> SharedStart<S> {
     pub fn add(&mut self, alloc: Global, stream: S) -> Result<(), Fault>
         ensures added { OnOk result ((terminal : TerminalOf S) × (terminal.stream ≡ stream) × (terminal.outer ≡ None)
             × (self.new.all ≡ self.old.all ++ terminal ∷ [])) }
+        ensures room { OnOk result (length self.old.all < most_terminals) }
         ensures err { OnErr result (self.new.all ≡ self.old.all) }
         ensures others { self.new ≡ record self.old { all = self.new.all } }
         ensures fault { IfErr result (λ fault. (fault ≡ Fault.Busy) ⊎ (fault ≡ Fault.OutOfMemory)) }
@@ -212,47 +201,64 @@ impl<S: Read + Write + Drop> SharedStart<S> {
         }
     }
 
-    // Takes turns: with each terminal that is ready for it, or with nobody where none is.
-    fn turn<P: Ports + Drop>(&mut self, alloc: Global, painter: &mut Painter<P>, to: Addr)
-        ensures turns { TurnsAll to self.old.all self.new.all self.old.client self.new.client
-            ⊎ ((self.new.all ≡ self.old.all) × TurnsAlone to self.old.client self.new.client) }
+    // Hears each terminal.
+    fn hear(&mut self, alloc: Global) -> u64
+        ensures hears { HearsAll S.remaining self.old.all self.new.all self.old.client self.new.client }
     {
-        painter.clear();
-        if !turn_all(alloc, &mut self.all, &mut self.client, painter, to) {
-            attach_turn(alloc, &mut self.client, &mut self.nobody, painter, to, None);
-        }
+        let (wait, is_ending) = hear_all(alloc, &mut self.all, &mut self.client);
+        self.is_ending = self.is_ending || is_ending;
+        wait
     }
 
-    // Tells each terminal of a silence, writes what waits for it, and lets those go that left.
+    // Takes a turn of the start that shows nothing.
+    fn turn<P: Ports + Drop>(&mut self, alloc: Global, ports: &mut Listening<P>, to: Addr)
+        ensures turns { Makes client_step (QuietTurn to) (P.told ports.old.ports) (P.told ports.new.ports) None None
+            self.old.client self.new.client }
+        ensures others { self.new ≡ record self.old { client = self.new.client } }
+    {
+        quiet_turn(alloc, &mut self.client, ports, to);
+    }
+
+    // Paints each that is ready.
+    fn paint(&mut self, alloc: Global, silence: Silence)
+        ensures paints { AreEach (MayPaint silence self.old.client) self.old.all self.new.all }
+        ensures others { self.new ≡ record self.old { all = self.new.all } }
+    {
+        paint_all(alloc, &mut self.all, &self.client, silence);
+    }
+
+    // Tells each terminal of a silence, and writes what waits for it; those that left go, and the first is the last from now on.
     fn write(&mut self, alloc: Global, silence: Silence)
-        ensures client { self.new.client ≡ self.old.client }
-        ensures settled { AreSettled self.old.all self.new.all }
+        ensures settles { (settled : List (TerminalOf S)) × AreEach (Settles S.contents silence) self.old.all settled
+            × (self.new.all ≡ turned_round (who_stay settled)) }
+        ensures others { self.new ≡ record self.old { all = self.new.all } }
     {
         write_all(alloc, &mut self.all, silence);
         retain(&mut self.all);
         rotate(&mut self.all);
     }
 
-    /// A round of the start with its terminals, round ports: of each the line that stands first is taken, then each that is ready takes a
-    /// turn, whose datagrams go to an address, and what waits for them is written. They are asked in another order each time. Answers how
-    /// many milliseconds may be waited at most until the next round where nothing comes.
+    /// A round of the start with its terminals, round ports: of each the line that stands first is taken; then the start takes a turn, whose
+    /// datagrams go to an address; then each terminal that is ready is painted, and what waits for them is written. They are asked in
+    /// another order each time. Answers how many milliseconds may be waited at most until the next round where nothing comes.
     pub fn round<P: Ports + Drop>(
         &mut self,
         alloc: Global,
-        painter: &mut Painter<P>,
+        ports: &mut Listening<P>,
         to: Addr,
     ) -> u64
-        ensures rounds { Rounds S.remaining to self.old self.new }
+        ensures rounds { Rounds S.remaining S.contents to ports.new.silence (P.told ports.old.ports) (P.told ports.new.ports)
+            self.old self.new }
     {
-        let (wait, is_ending) = hear_all(alloc, &mut self.all, &mut self.client);
-        self.is_ending = self.is_ending || is_ending;
+        let wait = self.hear(alloc);
         let was_flooded = self.is_waiting();
-        self.turn(alloc, painter, to);
-        self.write(alloc, painter.silence());
+        self.turn(alloc, ports, to);
+        self.paint(alloc, ports.silence());
+        self.write(alloc, ports.silence());
         if was_flooded && !self.is_waiting() {
             0
         } else {
-            self.wait_for(wait, painter.silence())
+            self.wait_for(wait, ports.silence())
         }
     }
 }

@@ -3,6 +3,7 @@ use Rattle.std.specs.Prelude.{◌≡◌, ℕ, ◌≤◌, List, ◌++◌, map, Op
 use Rattle.std.specs.Io.KnownBytes.{Appends}
 use Rattle.roam_screens.specs.Screenshot.{Screenshot, blank_screenshot}
 use Rattle.roam_text.specs.Log.{Item, Byte}
+use Rattle.roam_term.specs.Ground.{IsSized}
 use Rattle.roam_term.specs.Terminal.{term}
 use Rattle.roam_paint.specs.Painting.{text_between, blanking_text}
 use Rattle.roam_paint.specs.Ground.{Displays}
@@ -50,10 +51,24 @@ Shows outer bytes screen =
     (rows cols lines : ℕ) (log : List Item) → DisplaysNoted rows cols lines log outer → Fits rows cols lines log screen
     → Displays rows cols lines (log ++ map Byte bytes) screen
 
+-- such bytes, after which the terminal has its size
+pub record ShowsAt (rows cols lines : ℕ) (log : List Item) (bytes : List ℕ) (screen : Screenshot) : Type 0 where
+  pub displays : Displays rows cols lines (log ++ map Byte bytes) screen
+  pub size : IsSized (term rows cols lines log).live (term rows cols lines (log ++ map Byte bytes)).live
+
+abbrev pub ShowsSized : Option Noted → List ℕ → Screenshot → Type 0
+ShowsSized outer bytes screen =
+    (rows cols lines : ℕ) (log : List Item) → DisplaysNoted rows cols lines log outer → Fits rows cols lines log screen
+    → ShowsAt rows cols lines log bytes screen
+
 -- once they are written it shows what is noted then
 abbrev pub Leads : Option Noted → List ℕ → Option Noted → Type 0
 Leads outer bytes None = Unit {0}
 Leads outer bytes (Some noted) = Shows outer bytes noted.screen
+
+abbrev pub LeadsSized : Option Noted → List ℕ → Option Noted → Type 0
+LeadsSized outer bytes None = Unit {0}
+LeadsSized outer bytes (Some noted) = ShowsSized outer bytes noted.screen
 
 -- where it is known what was written to it before and what is then, the text between leads it to what is noted then
 abbrev pub Led : Option Noted → Option (List ℕ) → Option Noted → Option (List ℕ) → Type 0

@@ -1,7 +1,7 @@
 //! What is known of the outer terminal.
 ghost use Rattle.std.specs.Prelude.{◌≡◌, ◌↔◌, None, Some, IsTrue, IfOk, IfSome};
 ghost use Rattle.roam_screens.specs.Shown.{shown_by};
-ghost use Rattle.roam_turns.specs.Painting.{IsNoted, Leads, text_for};
+ghost use Rattle.roam_turns.specs.Painting.{IsNoted, LeadsSized, text_for};
 
 use crate::screens::AnyShot;
 use roam_cells::Fault;
@@ -108,7 +108,8 @@ impl Outer {
     /// The text that leads the terminal from what is noted to a screen, which is noted under a number from then on; where nothing is noted
     /// it opens the terminal first. None where that number is noted already or memory is wanting: then what is noted stays.
     pub fn paint(&mut self, alloc: Global, number: u64, screen: &Shown<'_>) -> Option<Vec<u8>>
-        ensures leads { IfSome result (λ text. Leads self.old text.items self.new) }
+        // The terminal has its size then.
+        ensures leads { IfSome result (λ text. LeadsSized self.old text.items self.new) }
         ensures noted { IfSome result (λ _. self.new ≡ Some (record { number = number; screen = shown_by screen.now })) }
         ensures other { IfSome result (λ _. IsNoted number self.old → ⊥) }
         ensures none { result ≡ None → self.new ≡ self.old }

@@ -1,5 +1,5 @@
 mod Cutting
-mod Fronts
+pub mod Fronts
 mod Lengths
 mod Parting
 mod Reading

@@ -1,6 +1,8 @@
-use Rattle.std.proofs.Common.{rules, ap, ◌∙◌}
+use Rattle.std.proofs.Common.{rules}
 use Rattle.std.specs.Prelude.{◌≢◌}
+use Rattle.roam_terminals.specs.Hearing.IsRead.{read, refused}
 use Rattle.roam_terminals.specs.declared.terminal.State.TheVariants.{Gone}
+use Rattle.roam_terminals.proofs.Heard.{read_on, refused_after}
 use Rattle.roam_terminals.proofs.Taking.{reads_more}
 use Rattle.roam_terminals.proofs.terminal.Terminal.read_line.Goals as goal
 
@@ -9,11 +11,18 @@ returns-then-not-read_piece-clause-reads g c =
     let on : c.loop.self.state ≢ Gone = search rules in
     reads_more _ _ _ _ _ _ _ _ on c.loop.invariant.reads c.read_piece.ensures.reads
 
+pub returns-then-not-read_piece-clause-others : goal.returns-then-not-read_piece-clause-others
+returns-then-not-read_piece-clause-others g c =
+    read (read_on c.args.self.now c.loop.self c.read_piece.new.self c.loop.invariant.others c.read_piece.ensures.others)
+
+pub returns-in-TooLong-clause-others : goal.returns-in-TooLong-clause-others
+returns-in-TooLong-clause-others g c =
+    refused_after c.args.self.now c.loop.self c.refuse.new.self c.loop.invariant.others c.refuse.ensures.refused
+
 pub loop-preserved : goal.loop-preserved
 loop-preserved g c =
     let on : c.loop.self.state ≢ Gone = search rules in
     record {
-      watches = ap (λ t. t.watches) c.read_piece.ensures.others ∙ c.loop.invariant.watches;
-      outer = ap (λ t. t.outer) c.read_piece.ensures.others ∙ c.loop.invariant.outer;
+      others = read_on c.args.self.now c.loop.self c.read_piece.new.self c.loop.invariant.others c.read_piece.ensures.others;
       reads = reads_more _ _ _ _ _ _ _ _ on c.loop.invariant.reads c.read_piece.ensures.reads;
     }

@@ -4,8 +4,7 @@ use Rattle.roam_terminals.proofs.terminal.Terminal.read_line.Given as goal
 
 abbrev pub invariant-loop : goal.invariant-loop
 invariant-loop g l = record {
-  watches : l.self.watches ≡ l.initial.self.watches;
-  outer : l.self.outer ≡ l.initial.self.outer;
+  others : l.self ≡ record l.initial.self { stream = l.self.stream; lines = l.self.lines; state = l.self.state };
   reads : Reads (g.S.Read.remaining l.initial.self.stream) (g.S.Read.remaining l.self.stream) l.initial.self.lines.kept
       l.self.lines.kept l.self.state;
 }

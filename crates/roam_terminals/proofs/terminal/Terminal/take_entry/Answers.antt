@@ -2,17 +2,41 @@ use Rattle.std.proofs.Common.{◌≡◌, sym, ap, ◌∙◌, subst}
 use Rattle.roam_typing.specs.Entries.{acts_in}
 use Rattle.roam_typing.specs.Lines.{IsFirst}
 use Rattle.roam_terminals.specs.Terminals.{TypesLine, watches_after}
-use Rattle.roam_terminals.proofs.Taking.{acts_take, word_takes}
+use Rattle.roam_terminals.specs.Terminals.Guesses.{set}
+use Rattle.roam_terminals.proofs.Taking.{acts_take, guesses_typed, word_takes}
 use Rattle.roam_terminals.proofs.terminal.Terminal.take_entry.Goals as goal
 
 pub returns-in-Acts-clause-takes : goal.returns-in-Acts-clause-takes
 returns-in-Acts-clause-takes g c =
     let says = c.requires.says in
-    let watches : c.type_acts.new.self.watches ≡ c.args.self.now.watches = ap (λ t. t.watches) c.type_acts.ensures.others in
-    acts_take c.args.entry.now c.in-Acts.acts c.args.self.now.lines.kept c.type_acts.new.self.lines.kept c.args.self.now.watches
-    c.type_acts.new.self.watches c.args.client.now c.type_acts.new.client c.in-Acts.is watches says.0 says.1 says.2 says.3
-    (subst (λ l. TypesLine l c.args.self.now.lines.kept c.type_acts.new.self.lines.kept c.args.self.now.watches c.args.client.now
-    c.type_acts.new.client) c.deref.ensures.value c.type_acts.ensures.takes)
+    let old = c.args.self.now in
+    let new = c.type_acts.new.self in
+    let watches : new.watches ≡ old.watches = ap (λ t. t.watches) c.type_acts.ensures.others in
+    acts_take c.args.entry.now c.in-Acts.acts.items old.lines.kept new.lines.kept old.watches new.watches c.args.client.now
+    c.type_acts.new.client (ap acts_in c.in-Acts.is) (ap (λ e. watches_after e old.watches) c.in-Acts.is) watches says.0 says.1 says.2 says.3
+    (subst (λ l. TypesLine l old.lines.kept new.lines.kept old.watches c.args.client.now c.type_acts.new.client) c.deref.ensures.value
+    c.type_acts.ensures.takes)
+
+pub returns-in-Acts-clause-guesses : goal.returns-in-Acts-clause-guesses
+returns-in-Acts-clause-guesses g c = guesses_typed _ _ _ c.args.client.now _ _ c.type_acts.ensures.guesses
+
+pub returns-in-Paste-clause-takes : goal.returns-in-Paste-clause-takes
+returns-in-Paste-clause-takes g c =
+    let says = c.requires.says in
+    let old = c.args.self.now in
+    let new = c.type_acts-in-Paste.new.self in
+    let watches : new.watches ≡ old.watches = ap (λ t. t.watches) c.type_acts-in-Paste.ensures.others in
+    acts_take c.args.entry.now c.in-Paste.acts.items old.lines.kept new.lines.kept old.watches new.watches c.args.client.now
+    c.type_acts-in-Paste.new.client (ap acts_in c.in-Paste.is) (ap (λ e. watches_after e old.watches) c.in-Paste.is) watches says.0 says.1
+    says.2 says.3
+    (subst (λ l. TypesLine l old.lines.kept new.lines.kept old.watches c.args.client.now c.type_acts-in-Paste.new.client)
+    c.deref-in-Paste.ensures.value c.type_acts-in-Paste.ensures.takes)
+
+pub returns-in-Paste-clause-guesses : goal.returns-in-Paste-clause-guesses
+returns-in-Paste-clause-guesses g c = guesses_typed _ _ _ c.args.client.now _ _ c.type_acts-in-Paste.ensures.guesses
+
+pub returns-in-Guess-clause-guesses : goal.returns-in-Guess-clause-guesses
+returns-in-Guess-clause-guesses g c = set c.set_guessing.ensures.set
 
 pub returns-in-Repaint-clause-takes : goal.returns-in-Repaint-clause-takes
 returns-in-Repaint-clause-takes g c =

@@ -1,0 +1,102 @@
+-- What is written of what waits, piece after piece.
+use Rattle.std.proofs.Common.{◌≡◌, ◌⊎◌, ℕ, ◌+◌, Bool, true, false, List, [], ◌∷◌, ◌++◌, take, drop, Option, Some, None, sym, ap, ◌∙◌, refl, subst, arith, inl, inr}
+use Rattle.std.proofs.KnownBytes.{Appends-kept, Appends-nil, Appends-trans}
+use Rattle.std.proofs.lemmas.List.{drop-drop, drop-take, take-append-drop}
+use Rattle.std.proofs.lemmas.Grind.{common_steps}
+use Rattle.std.specs.Io.KnownBytes.{Appends, Keeps}
+use Rattle.roam_frames.specs.Carriers.{Writes}
+use Rattle.roam_terminals.specs.Painted.{is_here}
+use Rattle.roam_terminals.specs.Silence.{due_of, is_over, notice_of}
+use Rattle.roam_terminals.specs.Writing.{Flushes, TellsSilence, is_empty, seen_by, state_after, stuck_after, unwritten}
+use Rattle.roam_terminals.specs.Writing.TellsSilence.{over, told, quiet}
+use Rattle.roam_terminals.specs.declared.silence.Silence.{Silence}
+use Rattle.roam_terminals.specs.declared.terminal.State.{State}
+use Rattle.roam_terminals.specs.declared.terminal.State.TheVariants.{Here, Deaf, Left, Refused, Gone}
+use Rattle.roam_terminals.specs.declared.terminal.Terminal.{Terminal}
+
+take_shorter : (a b : ℕ) (xs : List ℕ) → take a (take (a + b) xs) ≡ take a xs
+take_shorter a b xs = grind (arith, common_steps)
+
+take_more : (a b : ℕ) (xs : List ℕ) → take a xs ++ take b (drop a xs) ≡ take (a + b) xs
+take_more a b xs = sym (sym (take-append-drop a (take (a + b) xs)) ∙ ap (λ t. take a (take (a + b) xs) ++ t) (drop-take a b xs)
+    ∙ ap (λ t. t ++ take b (drop a xs)) (take_shorter a b xs))
+
+pub writes_none : (before after : Option (List ℕ)) (old : List ℕ) → Keeps before after → Writes before after old old
+writes_none before after old keeps = record { count = 0; written = Appends-kept before before after [] (Appends-nil before) keeps; left = refl }
+
+pub writes_more : (before mid after : Option (List ℕ)) (old came new : List ℕ) → Writes before mid old came → Writes mid after came new → Writes before after old new
+writes_more before mid after old came new first later = record {
+  count = first.count + later.count;
+  written = subst (Appends before after) (ap (λ t. take first.count old ++ take later.count t) first.left ∙ take_more first.count later.count old)
+      (Appends-trans before mid after (take first.count old) (take later.count came) first.written later.written);
+  left = later.left ∙ ap (λ t. drop later.count t) first.left ∙ drop-drop later.count first.count old;
+}
+
+-- ---- one write after another
+
+pub others_write : {S : Type 0} (a b c : Terminal S) → b ≡ record a { stream = b.stream; waiting = b.waiting; state = b.state }
+    → c ≡ record b { stream = c.stream; waiting = c.waiting; state = c.state }
+    → c ≡ record a { stream = c.stream; waiting = c.waiting; state = c.state }
+others_write {S} a b c h k = k ∙ ap (λ (t : Terminal S). record t { stream = c.stream; waiting = c.waiting; state = c.state }) h
+
+pub fails_from : (a b c : State) → b ≡ a → ((c ≡ b) ⊎ (c ≡ unwritten b)) → (c ≡ a) ⊎ (c ≡ unwritten a)
+fails_from a b c same (inl is) = inl (is ∙ same)
+fails_from a b c same (inr is) = inr (is ∙ ap unwritten same)
+
+pub flushes_by : {S : Type 0} (contents : S → Option (List ℕ)) (now : ℕ) (has_taken : Bool) (old mid new : Terminal S)
+    → Writes (contents old.stream) (contents mid.stream) old.waiting mid.waiting
+    → ((mid.state ≡ old.state) ⊎ (mid.state ≡ unwritten old.state))
+    → mid ≡ record old { stream = mid.stream; waiting = mid.waiting; state = mid.state }
+    → new.stuck ≡ stuck_after (is_empty mid.waiting) has_taken now mid.stuck
+    → new.state ≡ state_after (is_empty mid.waiting) has_taken now mid.stuck mid.state
+    → new ≡ record mid { stuck = new.stuck; state = new.state } → Flushes contents now old new
+flushes_by {S} contents now has_taken old mid new writes fails first stuck state later =
+    let stream : new.stream ≡ mid.stream = ap (λ t. t.stream) later in
+    let waiting : new.waiting ≡ mid.waiting = ap (λ t. t.waiting) later in
+    let was : mid.stuck ≡ old.stuck = ap (λ t. t.stuck) first in
+    record {
+      writes = subst (λ s. Writes (contents old.stream) (contents s) old.waiting new.waiting) (sym stream)
+          (subst (λ w. Writes (contents old.stream) (contents mid.stream) old.waiting w) (sym waiting) writes);
+      has_taken = has_taken;
+      written = mid.state;
+      fails = fails;
+      stuck = stuck ∙ (λ i. stuck_after (is_empty (sym waiting i)) has_taken now (was i));
+      state = state ∙ (λ i. state_after (is_empty (sym waiting i)) has_taken now (was i) mid.state);
+      others = later ∙ ap (λ (t : Terminal S). record t { stuck = new.stuck; state = new.state }) first
+          ∙ (λ i. record old { stream = sym stream i; waiting = sym waiting i; stuck = new.stuck; state = new.state });
+    }
+
+-- ---- silence
+
+pub empty_is : (waiting : List ℕ) → is_empty waiting ≡ true → waiting ≡ []
+empty_is [] e = refl
+empty_is (byte ∷ bytes) e = absurd cc
+
+pub here_is : (s : State) → is_here s ≡ true → s ≡ Here
+here_is Here e = refl
+here_is Deaf e = absurd cc
+here_is Left e = absurd cc
+here_is Refused e = absurd cc
+here_is Gone e = absurd cc
+
+pub tells_by : {S : Type 0} (silence : Silence) (seconds : ℕ) (old new : Terminal S) → is_over (seen_by silence old) ≡ false
+    → due_of (seen_by silence old) ≡ Some seconds → old.waiting ≡ [] → old.over ≡ None → old.state ≡ Here
+    → ((new ≡ old)
+    ⊎ (new ≡ record old { told = Some seconds; outer = None; waiting = old.waiting ++ notice_of seconds }))
+    → TellsSilence silence old new
+tells_by silence seconds old new h due empty bare here (inl same) = quiet h same
+tells_by silence seconds old new h due empty bare here (inr is) =
+    told seconds h due empty bare here
+    (is ∙ (λ i. record old { told = Some seconds; outer = None; waiting = empty i ++ notice_of seconds }))
+
+pub settled_outer : {S : Type 0} (silence : Silence) (contents : S → Option (List ℕ)) (now : ℕ) (old mid new : Terminal S)
+    → TellsSilence silence old mid → Flushes contents now mid new → (new.outer ≡ old.outer) ⊎ (new.outer ≡ None)
+settled_outer silence contents now old mid new tells flushes = by (told_outer tells)
+  where
+    told_outer : TellsSilence silence old mid → (mid.outer ≡ old.outer) ⊎ (mid.outer ≡ None)
+    told_outer (over h is) = inr (ap (λ t. t.outer) is)
+    told_outer (told seconds h due empty bare here is) = inr (ap (λ t. t.outer) is)
+    told_outer (quiet h is) = inl (ap (λ t. t.outer) is)
+    by : (mid.outer ≡ old.outer) ⊎ (mid.outer ≡ None) → (new.outer ≡ old.outer) ⊎ (new.outer ≡ None)
+    by (inl same) = inl (ap (λ t. t.outer) flushes.others ∙ same)
+    by (inr gone) = inr (ap (λ t. t.outer) flushes.others ∙ gone)

@@ -1,0 +1,53 @@
+-- An outer terminal is painted from what its client start shows.
+use Rattle.std.specs.Prelude.{◌≡◌, ◌⊎◌, ℕ, Bool, true, false, not, ◌&&◌, List, Option, Some, None, is_some}
+use Rattle.roam_hub.specs.Clients.{ClientView}
+use Rattle.roam_overlay.specs.Overlays.{OverlayOf, Judges}
+use Rattle.roam_turns.specs.Painting.{LeadsSized}
+use Rattle.roam_turns.specs.declared.outer.Noted.{Noted}
+use Rattle.roam_terminals.specs.Overlaid.{IsOver, on_show}
+use Rattle.roam_terminals.specs.Silence.{seconds_of}
+use Rattle.roam_terminals.specs.Writing.{is_empty}
+use Rattle.roam_terminals.specs.declared.silence.Silence.{Silence}
+use Rattle.roam_terminals.specs.declared.terminal.State.{State}
+use Rattle.roam_terminals.specs.declared.terminal.State.TheVariants.{Here, Deaf, Left, Refused, Gone}
+use Rattle.roam_terminals.specs.declared.terminal.Terminal.{Terminal}
+
+abbrev pub is_here : State → Bool
+is_here Here = true
+is_here Deaf = false
+is_here Left = false
+is_here Refused = false
+is_here Gone = false
+
+-- a terminal is to be painted: it is there, tells of no silence, and all that was painted before is written
+abbrev pub is_ready : {S : Type 0} → Terminal S → Bool
+is_ready t = is_here t.state && (not (is_some t.told) && is_empty t.waiting)
+
+-- what a start shows, under its number
+abbrev pub shown_of : ClientView → Noted
+shown_of client = record { number = client.kept.receiver.newest.number; screen = client.kept.receiver.newest.state }
+
+-- the guesses of a terminal are judged at a moment by the screen that is noted of it; where none is, or there are none, they stay
+pub data IsJudged (now : ℕ) (client : ClientView) (noted : Option Noted) (old new : Option OverlayOf) : Type 0 where
+  judged : (n : Noted) (o o' : OverlayOf) → noted ≡ Some n → old ≡ Some o → new ≡ Some o'
+      → Judges n.number n.screen client.kept.acts.acked now o o' → IsJudged now client noted old new
+  stay : new ≡ old → IsJudged now client noted old new
+
+-- A terminal was painted: what waits for it leads it from what it showed to what it shows, the screen that is noted with what is guessed
+-- over it. What is noted is what the start shows, or what was noted before, where that has its number or memory was wanting; where there is
+-- no memory to take back what was laid over it, nothing is.
+pub record Paints {S : Type 0} (silence : Silence) (client : ClientView) (old new : Terminal S) : Type 0 where
+  pub ready : is_ready old ≡ true
+  pub noted : Option Noted
+  pub is_noted : (noted ≡ Some (shown_of client)) ⊎ ((noted ≡ old.outer) ⊎ (noted ≡ None))
+  pub stays : (new.outer ≡ noted) ⊎ (new.outer ≡ None)
+  pub leads : LeadsSized (on_show old.over old.outer) new.waiting (on_show new.over new.outer)
+  pub judged : IsJudged silence.moment client noted old.guessing new.guessing
+  pub over : IsOver silence.moment new.guessing new.outer new.over
+  pub others : new
+      ≡ record old { outer = new.outer; guessing = new.guessing; over = new.over; waiting = new.waiting }
+
+-- one that is ready was painted, another is as it was
+pub data MayPaint {S : Type 0} (silence : Silence) (client : ClientView) (old new : Terminal S) : Type 0 where
+  painted : Paints silence client old new → MayPaint silence client old new
+  not_ready : is_ready old ≡ false → new ≡ old → MayPaint silence client old new

@@ -1,0 +1,278 @@
+//! What an outer terminal types: its lines are read and taken, each once and in order.
+ghost use Rattle.std.specs.Prelude.{◌≡◌, ◌≢◌, ◌⊎◌, ◌++◌, ◌≤◌, ℕ, List, [], true, false, length, None, Some, IfOk};
+ghost use Rattle.std.specs.List.{All};
+ghost use Rattle.roam_acts.specs.Acts.{IsInRange};
+ghost use Rattle.roam_acts.specs.declared.acts.Act.{Act as ActOf};
+ghost use Rattle.roam_terminals.specs.Hearing.{HearsOne, IsRead, IsTaken};
+ghost use Rattle.roam_terminals.specs.Terminals.{Guesses, Holds, IsSet, MayGuess, Reads, Takes, Types, TypesLine, guesses_after, is_heard, is_read};
+ghost use Rattle.roam_typing.specs.Entries.{Says, acts_in};
+ghost use Rattle.roam_typing.specs.Lines.{IsFirst};
+ghost use Rattle.roam_typing.specs.Typing.{IsStreamEnd, bytes_given};
+
+use crate::terminal::{State, Terminal, is_for_now};
+use roam_acts::Act;
+use roam_acts::limits::MOST_ACTS;
+use roam_cells::Fault;
+use roam_hub::Client;
+use roam_overlay::Overlay;
+use roam_typing::{Entry, Front, Guessing, read_entry};
+use std::alloc::Global;
+use std::io;
+use std::io::{Read, Write};
+
+/// How many bytes are read at once at most.
+const PIECE: usize = 1024;
+
+/// So many pieces are more than a line.
+const MOST_READS: u32 = 4;
+
+/// What became of the line of a terminal that stood first.
+#[derive(Clone, Copy, Debug, PartialEq, Eq)]
+pub(crate) enum Taking {
+    /// None stood there.
+    Nothing,
+
+    /// It was taken.
+    Line,
+
+    /// It was taken, and ends the start.
+    End,
+
+    /// It waits until acts are acknowledged.
+    Waits,
+
+    /// It waits since there was no memory.
+    NoMemory,
+}
+
+// Guesses that begin, where there is memory for them.
+fn new_overlay(alloc: Global, adaptive: bool) -> Option<Overlay>
+    ensures set { IsSet result }
+{
+    match Overlay::new(alloc, adaptive) {
+        Ok(overlay) => Some(overlay),
+        Err(_) => None,
+    }
+}
+
+// What guesses are shown by, where they are to be and there is memory for it; a terminal that watches has none.
+fn overlay_for(alloc: Global, guessing: Guessing, watches: bool) -> Option<Overlay>
+    ensures set { IsSet result }
+    ensures watching { watches ≡ true → result ≡ None }
+{
+    if watches {
+        return None;
+    }
+    match guessing {
+        Guessing::Always => new_overlay(alloc, false),
+        Guessing::Adaptive => new_overlay(alloc, true),
+        Guessing::Never => None,
+    }
+}
+
+impl<S: Read + Write + Drop> Terminal<S> {
+    // A read brought bytes or not; tells whether it brought some that are kept.
+    fn take_piece(&mut self, answer: &io::Result<usize>, piece: &[u8]) -> bool
+        requires within { IfOk answer.now (λ n. n ≤ length piece.now) }
+        ensures on { result ≡ true → self.new.state ≡ self.old.state }
+        ensures kept { self.new.state ≢ State.Gone → self.new.lines.kept ≡ self.old.lines.kept ++ bytes_given answer.now piece.now }
+        // It left where the stream is over, and nowhere else.
+        ensures left { self.new.state ≡ State.Left → (self.old.state ≡ State.Left) ⊎ IsStreamEnd answer.now }
+        ensures others { self.new ≡ record self.old { lines = self.new.lines; state = self.new.state } }
+    {
+        match answer {
+            Ok(0) => self.state = State::Left,
+            Ok(count) => {
+                if self.lines.came(&piece[..*count]).is_ok() {
+                    return true;
+                }
+                self.state = State::Gone;
+            }
+            Err(error) => {
+                if !is_for_now(error) {
+                    self.state = State::Left;
+                }
+            }
+        }
+        false
+    }
+
+    // Reads a piece, and tells whether one came.
+    fn read_piece(&mut self) -> bool
+        ensures on { result ≡ true → self.new.state ≡ self.old.state }
+        ensures reads { Reads (S.remaining self.old.stream) (S.remaining self.new.stream) self.old.lines.kept self.new.lines.kept
+            self.new.state }
+        ensures others { self.new ≡ record self.old { stream = self.new.stream; lines = self.new.lines; state = self.new.state } }
+    {
+        let mut piece = [0; PIECE];
+        let answer = self.stream.read(&mut piece);
+        self.take_piece(&answer, &piece)
+    }
+
+    // Whether more of it may come.
+    fn is_read(&self) -> bool
+        ensures read { result ≡ is_read self.now.state }
+    {
+        match self.state {
+            State::Here | State::Deaf => true,
+            State::Left | State::Refused | State::Gone => false,
+        }
+    }
+
+    // Reads until a line stands first or nothing more comes now.
+    fn read_line(&mut self, alloc: Global)
+        ensures reads { Reads (S.remaining self.old.stream) (S.remaining self.new.stream) self.old.lines.kept self.new.lines.kept
+            self.new.state }
+        ensures others { IsRead self.old self.new }
+    {
+        for _ in 0..MOST_READS {
+            if !self.is_read() {
+                return;
+            }
+            match self.lines.front() {
+                Front::Line(_) => return,
+                Front::TooLong => return self.refuse(alloc, Fault::BadAct),
+                Front::Part => {
+                    if !self.read_piece() {
+                        return;
+                    }
+                }
+            }
+        }
+    }
+}
+
+impl<S: Read + Write + Drop> Terminal<S> {
+    // Whether its lines are taken: also those that came whole before it left.
+    fn is_heard(&self) -> bool
+        ensures heard { result ≡ is_heard self.now.state }
+    {
+        match self.state {
+            State::Here | State::Deaf | State::Left => true,
+            State::Refused | State::Gone => false,
+        }
+    }
+
+    // The acts of a line were typed at the start, the first under a number, where it showed a screen: what they show is guessed, where that
+    // is wanted.
+    fn guess(&mut self, is_pasted: bool, first: u64, acts: &[Act], client: &Client)
+        ensures guesses { self.new.guessing
+            ≡ guesses_after is_pasted first acts.now client.now.kept.receiver.newest.state self.old.guessing }
+        ensures others { self.new ≡ record self.old { guessing = self.new.guessing } }
+    {
+        if let Some(overlay) = &mut self.guessing {
+            overlay.typed(is_pasted, first, acts, &client.shown().1);
+        }
+    }
+
+    // Guesses are shown from now on, or aren't any more; a terminal that watches has none, and one for which there is no memory.
+    fn set_guessing(&mut self, alloc: Global, guessing: Guessing)
+        ensures set { IsSet self.new.guessing }
+        ensures watching { self.old.watches ≡ true → self.new.guessing ≡ None }
+        ensures others { self.new ≡ record self.old { guessing = self.new.guessing } }
+    {
+        self.guessing = overlay_for(alloc, guessing, self.watches);
+    }
+
+    // Types the acts of the line that stands first, all or none.
+    fn type_acts(&mut self, client: &mut Client, acts: &[Act], is_pasted: bool) -> Taking
+        requires in_range { All IsInRange acts.now }
+        requires first { (line rest : List ℕ) × IsFirst self.old.lines.kept line rest }
+        ensures takes { TypesLine acts.now self.old.lines.kept self.new.lines.kept self.old.watches client.old client.new }
+        ensures guesses { MayGuess self.old.watches is_pasted acts.now client.old self.old.guessing self.new.guessing }
+        // What waits does so for a reason.
+        ensures waits { result ≡ Taking.Waits → Holds acts.now client.old }
+        ensures taken { result ≢ Taking.End }
+        ensures number { client.new.kept.receiver ≡ client.old.kept.receiver }
+        ensures others { self.new ≡ record self.old { lines = self.new.lines; guessing = self.new.guessing } }
+    {
+        if self.watches {
+            self.lines.took();
+            return Taking::Line;
+        }
+        let first = client.typed_count().saturating_add(1);
+        if client.unacknowledged().saturating_add(acts.len()) > MOST_ACTS {
+            return Taking::Waits;
+        }
+        match client.typed_all(acts) {
+            Ok(()) => {
+                self.guess(is_pasted, first, acts, client);
+                self.lines.took();
+                Taking::Line
+            }
+            Err(Fault::OutOfMemory) => Taking::NoMemory,
+            Err(_) => Taking::Waits,
+        }
+    }
+
+    // Does what the line that stands first asks for.
+    fn take_entry(&mut self, alloc: Global, client: &mut Client, entry: &Entry) -> Taking
+        requires in_range { All IsInRange (acts_in entry.now) }
+        requires says { (line rest : List ℕ) × IsFirst self.old.lines.kept line rest × Says line entry.now }
+        ensures takes { (acts : List ActOf) × Types acts client.old client.new
+            × Takes entry.now self.old.lines.kept self.new.lines.kept self.old.watches self.new.watches acts }
+        ensures guesses { Guesses client.old self.old.guessing self.new.guessing }
+        ensures waits { result ≡ Taking.Waits → Holds (acts_in entry.now) client.old }
+        // It ends the start where it says so and doesn't watch.
+        ensures end { result ≡ Taking.End → (entry.now ≡ Entry.End) × (self.old.watches ≡ false) }
+        ensures ends { entry.now ≡ Entry.End → self.old.watches ≡ false → result ≡ Taking.End }
+        ensures repaint { entry.now ≡ Entry.Repaint → self.new.outer ≡ None }
+        ensures number { client.new.kept.receiver ≡ client.old.kept.receiver }
+        ensures shown { ((self.new.outer ≡ self.old.outer) × (self.new.waiting ≡ self.old.waiting)) ⊎ (self.new.outer ≡ None) }
+        ensures others { IsTaken self.old self.new }
+    {
+        match entry {
+            Entry::Acts(acts) => self.type_acts(client, acts, false),
+            Entry::Paste(acts) => self.type_acts(client, acts, true),
+            Entry::Repaint => {
+                self.forget();
+                self.lines.took();
+                Taking::Line
+            }
+            Entry::Watch if self.lines.count() == 0 => {
+                self.watches = true;
+                self.lines.took();
+                Taking::Line
+            }
+            Entry::Watch => {
+                self.refuse(alloc, Fault::BadAct);
+                Taking::Nothing
+            }
+            Entry::Guess(guessing) => {
+                self.set_guessing(alloc, *guessing);
+                self.lines.took();
+                Taking::Line
+            }
+            Entry::End => {
+                self.lines.took();
+                if self.watches {
+                    Taking::Line
+                } else {
+                    Taking::End
+                }
+            }
+        }
+    }
+
+    /// Reads what came, and does what the line that stands first asks for: its acts are typed at the start, all of them or none.
+    pub(crate) fn hear(&mut self, alloc: Global, client: &mut Client) -> Taking
+        ensures hears { HearsOne S.remaining self.old self.new client.old client.new }
+        ensures ends { result ≡ Taking.End → self.old.watches ≡ false }
+        ensures number { client.new.kept.receiver ≡ client.old.kept.receiver }
+    {
+        self.read_line(alloc);
+        if !self.is_heard() {
+            return Taking::Nothing;
+        }
+        let Some(line) = self.lines.first() else {
+            return Taking::Nothing;
+        };
+        match read_entry(alloc, line) {
+            Ok(entry) => self.take_entry(alloc, client, &entry),
+            Err(fault) => {
+                self.refuse(alloc, fault);
+                Taking::Nothing
+            }
+        }
+    }
+}

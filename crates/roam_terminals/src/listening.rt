@@ -1,0 +1,81 @@
+//! Ports that know when something was heard last.
+ghost use Rattle.std.specs.Prelude.{◌≡◌, ◌≤◌, None, Some, IfSome, length};
+
+use crate::silence::Silence;
+use roam_hub::Addr;
+use roam_turns::Ports;
+
+/// The ports of a client start, which know the moment and when something was heard last. Each call goes to the ports beneath; nothing is
+/// shown there, since a start's terminals are painted by themselves.
+#[derive(Drop)]
+pub struct Listening<P> {
+    ports: P,
+    silence: Silence,
+}
+
+impl<P: Ports + Drop> Listening<P> {
+    /// Nothing was heard yet.
+    pub fn new(ports: P) -> Listening<P>
+        ensures ports { result.ports ≡ ports }
+        ensures silence { result.silence ≡ record { moment = 0; heard = None; told = None } }
+    {
+        Listening {
+            ports,
+            silence: Silence::new(),
+        }
+    }
+
+    /// The ports beneath.
+    pub fn ports(&mut self) -> &mut P {
+        &mut self.ports
+    }
+
+    /// When something was heard last.
+    pub fn silence(&self) -> Silence
+        ensures silence { result ≡ self.now.silence }
+    {
+        self.silence
+    }
+}
+
+impl<P: Ports + Drop> Ports for Listening<P> {
+    ghost told = { λ p. P.told p.ports };
+
+    ghost written = { λ p. P.written p.ports };
+
+    ghost notice = { λ p. P.notice p.ports };
+
+    fn now(&mut self) -> u64 {
+        let moment = self.ports.now();
+        self.silence.at(moment);
+        moment
+    }
+
+    fn receive(&mut self, buf: &mut [u8]) -> Option<(Addr, usize)> {
+        let came = self.ports.receive(buf);
+        if came.is_some() {
+            self.silence.hear();
+        }
+        came
+    }
+
+    fn send(&mut self, to: Addr, bytes: &[u8]) -> bool {
+        self.ports.send(to, bytes)
+    }
+
+    fn pane_lives(&mut self, pane: u8, life: Option<u64>) {
+        self.ports.pane_lives(pane, life);
+    }
+
+    fn pane_in(&mut self, pane: u8, buf: &mut [u8]) -> Option<usize> {
+        self.ports.pane_in(pane, buf)
+    }
+
+    fn pane_out(&mut self, pane: u8, bytes: &[u8]) -> usize {
+        self.ports.pane_out(pane, bytes)
+    }
+
+    fn show(&mut self, bytes: &[u8]) -> bool {
+        self.ports.show(bytes)
+    }
+}
