@@ -1,4 +1,5 @@
 pub mod Addresses
 pub mod Clients
+pub mod Lanes
 pub mod Pace
 pub mod Waits

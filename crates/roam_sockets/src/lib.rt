@@ -4,6 +4,7 @@
 mod chance;
 mod clients;
 mod files;
+mod lanes;
 pub mod laws;
 mod moments;
 mod pace;
