@@ -1,7 +1,9 @@
 -- Client starts that reach a server over streams: each has a number of its own.
-use Rattle.std.specs.Prelude.{◌≡◌, ◌⊎◌, ℕ, ◌+◌, ◌-◌, ◌≤◌, List, [], ◌∷◌, ◌++◌, map}
+use Rattle.std.specs.Prelude.{◌≡◌, ◌≢◌, ◌⊎◌, ℕ, ◌+◌, ◌-◌, ◌%◌, ◌≤◌, ◌<◌, true, List, [], ◌∷◌, ◌++◌, length, map, slice_get, IfSome}
 use Rattle.std.specs.List.{Contains, range_with_len}
 use Rattle.roam_hub.specs.declared.addresses.Addr.{Addr}
+use Rattle.roam_frames.specs.declared.frames.Front.TheVariants.{Part}
+use Rattle.roam_frames.specs.Frames.{front_of}
 use Rattle.roam_sockets.specs.Addresses.{address_of}
 use Rattle.roam_sockets.specs.declared.clients.ClientPeer.{ClientPeer}
 use Rattle.roam_sockets.specs.declared.clients.Clients.{Clients}
@@ -28,3 +30,29 @@ AcceptsOne old new = Stays old new
 -- an address is that of one that is there
 abbrev pub IsOf : Clients → Addr → Type 0
 IsOf clients addr = (number : ℕ) × Contains (numbers_of clients.all.items) number × (addr ≡ address_of number)
+
+-- a client start that was asked has no whole datagram now, or its stream is over
+abbrev pub HasNone : ClientPeer → Type 0
+HasNone peer = (peer.carrier.over ≡ true) ⊎ (front_of peer.carrier.frames ≡ Part)
+
+-- the one at a place has none
+abbrev pub HasNoneAt : List ClientPeer → ℕ → Type 0
+HasNoneAt all at = IfSome (slice_get all at) HasNone
+
+-- so many places behind a first one, round
+abbrev pub place_behind : ℕ → ℕ → ℕ → ℕ
+place_behind count first step = (first % count + step) % count
+
+-- the one at a place is the next in its turn: all others from the first place on to it have none
+pub record IsNext (all : List ClientPeer) (first at : ℕ) : Type 0 where
+  pub step : ℕ
+  pub within : at < length all
+  pub is : at ≡ place_behind (length all) first step
+  pub before : (k : ℕ) → k < step → place_behind (length all) first k ≢ at → HasNoneAt all (place_behind (length all) first k)
+
+-- A datagram came from the next in its turn, and another time the one behind it is asked first.
+pub record IsInTurn (old new : Clients) (from : Addr) : Type 0 where
+  pub at : ℕ
+  pub next : IsNext new.all.items old.turn at
+  pub is : IfSome (slice_get new.all.items at) (λ peer. from ≡ address_of peer.number)
+  pub turn : new.turn ≡ at + 1

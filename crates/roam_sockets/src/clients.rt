@@ -1,9 +1,10 @@
 //! The streams of client starts at a server's socket.
-ghost use Rattle.std.specs.Prelude.{◌≡◌, ◌⊎◌, ◌++◌, ◌+◌, ◌<◌, ◌≤◌, ◌^◌, ℕ, [], ◌∷◌, true, length, IfErr, IfOk, IfSome, OnErr, OnOk, IsOkUnless, string_bytes};
+ghost use Rattle.std.specs.Prelude.{◌≡◌, ◌≢◌, ◌⊎◌, ◌++◌, ◌+◌, ◌<◌, ◌≤◌, ◌^◌, ℕ, [], ◌∷◌, length, slice_get, None, IfErr, IfOk, IfSome, OnErr, OnOk, IsOkUnless, string_bytes};
 ghost use Rattle.std.specs.List.{Contains};
 ghost use Rattle.roam_sockets.specs.Addresses.{address_of, number_of};
-ghost use Rattle.roam_sockets.specs.Clients.{Accepts, AcceptsOne, IsOf, Stays, numbers_of};
+ghost use Rattle.roam_sockets.specs.Clients.{Accepts, AcceptsOne, HasNoneAt, IsInTurn, IsNext, IsOf, Stays, numbers_of, place_behind};
 
+use crate::arrivals::Arrivals;
 use crate::files::listen;
 use crate::waits::Waits;
 use mio::net::{UnixListener, UnixStream};
@@ -79,10 +80,14 @@ fn receive_from(
 ) -> Option<(usize, Addr, usize)>
     ensures within { IfSome result (λ r. r.2 ≤ length buf.new) }
     ensures from { IfSome result (λ r. (number : ℕ) × Contains (numbers_of all.old) number × (r.1 ≡ address_of number)) }
+    ensures next { IfSome result (λ r. IsNext all.new first r.0) }
+    ensures is { IfSome result (λ r. IfSome (slice_get all.new r.0) (λ peer. r.1 ≡ address_of peer.number)) }
+    ensures none { result ≡ None → (k : ℕ) → k < length all.old → HasNoneAt all.new (place_behind (length all.old) first k) }
     ensures stays { numbers_of all.new ≡ numbers_of all.old }
 {
-    for step in 0..all.len() {
-        let at = first.wrapping_add(step) % all.len();
+    let count = all.len();
+    for step in 0..count {
+        let at = (first % count + step) % count;
         if let Some((from, len)) = receive_at(all, at, buf) {
             return Some((at, from, len));
         }
@@ -95,6 +100,9 @@ fn receive_at(all: &mut [ClientPeer], at: usize, buf: &mut [u8]) -> Option<(Addr
     requires within { at < length all.old }
     ensures within { IfSome result (λ r. r.1 ≤ length buf.new) }
     ensures from { IfSome result (λ r. (number : ℕ) × Contains (numbers_of all.old) number × (r.0 ≡ address_of number)) }
+    ensures is { IfSome result (λ r. IfSome (slice_get all.new at) (λ peer. r.0 ≡ address_of peer.number)) }
+    ensures none { result ≡ None → HasNoneAt all.new at }
+    ensures others { (k : ℕ) → k ≢ at → slice_get all.new k ≡ slice_get all.old k }
     ensures stays { numbers_of all.new ≡ numbers_of all.old }
 {
     let peer = &mut all[at];
@@ -121,6 +129,17 @@ fn flush_all(all: &mut [ClientPeer]) -> bool
         is_all = is_all && is_done;
     }
     is_all
+}
+
+impl Arrivals for Clients {
+    fn next_arrival(&mut self, buf: &mut [u8]) -> Option<(Addr, usize)>
+        ensures within { IfSome result (λ r. r.1 ≤ length buf.new) }
+        ensures from { IfSome result (λ r. IsOf self.old r.0) }
+        ensures turn { IfSome result (λ r. IsInTurn self.old self.new r.0) }
+        ensures stays { Stays self.old self.new }
+    {
+        self.receive(buf)
+    }
 }
 
 impl Clients {
@@ -191,10 +210,11 @@ impl Clients {
     pub fn receive(&mut self, buf: &mut [u8]) -> Option<(Addr, usize)>
         ensures within { IfSome result (λ r. r.1 ≤ length buf.new) }
         ensures from { IfSome result (λ r. IsOf self.old r.0) }
+        ensures turn { IfSome result (λ r. IsInTurn self.old self.new r.0) }
         ensures stays { Stays self.old self.new }
     {
         let (at, from, len) = receive_from(&mut self.all, self.turn, buf)?;
-        self.turn = at.wrapping_add(1);
+        self.turn = at + 1;
         Some((from, len))
     }
 

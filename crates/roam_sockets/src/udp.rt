@@ -3,6 +3,7 @@ ghost use Rattle.std.specs.Prelude.{◌≡◌, ◌⊎◌, ◌≤◌, [], ◌∷�
 ghost use Rattle.roam_sockets.specs.Addresses.{number_of};
 ghost use Rattle.roam_sockets.specs.Lanes.{Flushes, SendsTo};
 
+use crate::arrivals::Arrivals;
 use crate::lanes::{DatagramSocket, Paced};
 use crate::waits::Waits;
 use mio::net::UdpSocket;
@@ -40,6 +41,16 @@ impl DatagramSocket for UdpSocket {
             Ok(len) => len == datagram.len(),
             Err(_) => false,
         }
+    }
+}
+
+impl Arrivals for Udp {
+    fn next_arrival(&mut self, buf: &mut [u8]) -> Option<(Addr, usize)>
+        ensures within { IfSome result (λ r. r.1 ≤ length buf.new) }
+        ensures far { IfSome result (λ r. number_of r.0 ≡ None) }
+        ensures port { self.new.port ≡ self.old.port }
+    {
+        self.receive(buf)
     }
 }
 
