@@ -1,15 +1,17 @@
 -- What goes to addresses, one datagram and one lane after another.
-use Rattle.std.proofs.Common.{◌≡◌, ◌≢◌, ℕ, get_or, take, drop, suc, ◌+◌, ◌-◌, ◌≤◌, ◌<◌, Bool, true, false, List, [], ◌∷◌, ◌++◌, length, map, Option, Some, None, refl, sym, ap, subst, ◌∙◌, append_assoc, append-nil, length-append, inl, inr, arith}
-use Rattle.std.specs.List.{All, flat_map}
+use Rattle.std.proofs.Common.{◌≡◌, ◌≢◌, ℕ, get_or, take, drop, ◌+◌, ◌≤◌, ◌<◌, Bool, true, false, List, [], ◌∷◌, ◌++◌, length, Option, Some, None, refl, sym, ap, subst, ◌∙◌, append_assoc, append-nil, length-append, inl, inr, arith}
+use Rattle.std.specs.Prelude.{◌↔◌, ◌==◌, ◌&&◌, ◌||◌, IsTrue, cond, nat_lt, not}
+use Rattle.std.specs.List.{All, filter, list_any}
 use Rattle.std.proofs.lemmas.List.{map-append}
 use Rattle.std.proofs.lemmas.List.Concat.{flat_map-append}
 use Rattle.std.proofs.lemmas.List.Elements.{All-push, All-nil}
 use Rattle.std.proofs.lemmas.Bool.{cases_lt}
 use Rattle.std.proofs.lemmas.Bool.Decides.{nat_tests}
+use Rattle.std.proofs.Math.Bool.{and-false, and-true}
 use Rattle.std.proofs.Math.Seq.{drop-length, take-length}
 use Rattle.roam_hub.specs.declared.addresses.Addr.{Addr}
 use Rattle.roam_frames.specs.Frames.{IsCarried, framed, framed_all}
-use Rattle.roam_sockets.specs.Lanes.{Goes, GoesOne, Handed, Hands, all_to}
+use Rattle.roam_sockets.specs.Lanes.{Goes, GoesOne, Handed, Hands, SendsEach, all_to, is_any_waiting, is_kept, is_waiting}
 use Rattle.roam_sockets.specs.Pace.{gone_at, may_go, most_a_moment}
 use Rattle.roam_sockets.specs.declared.lanes.Lane.{Lane}
 use Rattle.roam_sockets.specs.declared.pace.Pace.{Pace}
@@ -82,3 +84,32 @@ pub whole_back : {X : Type 0} (n : ℕ) (new old : List X) → length new ≡ le
 whole_back n new old len is =
     let rest : drop (length new) old ≡ [] = ap (λ k. drop k old) len ∙ drop-length old in
     ap (λ l. take n (new ++ l)) rest ∙ (ap (λ l. take n l) (append-nil new) ∙ (ap (λ k. take k new) (is ∙ sym len) ∙ take-length new))
+
+-- ---- what waits in no lane
+
+all_by : (waiting : List ℕ) (is_all : Bool) → (IsTrue is_all ↔ (waiting ≡ [])) → is_all ≡ not (nat_lt 0 (length waiting))
+all_by [] true h = refl
+all_by [] false h = let e = h.1 refl in cc
+all_by (x ∷ xs) true h = let e = h.0 refl in cc
+all_by (x ∷ xs) false h = let some : nat_lt 0 (length (x ∷ xs)) ≡ true = grind (arith, nat_tests) in rw some refl
+
+picked : (waits went : Bool) (lane : Lane) (others : List Lane) → is_waiting lane ≡ waits
+    → list_any is_waiting (cond (waits || went) (lane ∷ others) others) ≡ (waits || list_any is_waiting others)
+picked true went lane others is = rw is refl
+picked false true lane others is = rw is refl
+picked false false lane others is = refl
+
+both : (others is_all waits any : Bool) → others ≡ not any → is_all ≡ not waits → (others && is_all) ≡ not (waits || any)
+both others is_all true any p q = rw q (and-false others)
+both others is_all false any p q = rw (p, q) (and-true (not any))
+
+-- all was sent exactly where nothing waits in those that are kept
+pub none_waits : (now : ℕ) (olds mids : List Lane) (before after : Option (List Handed)) (are_all : Bool) → SendsEach now olds mids before after are_all
+    → are_all ≡ not (is_any_waiting (filter (is_kept now) mids))
+none_waits now [] [] before after are_all h = h.1
+none_waits now [] (n ∷ ns) before after are_all h = absurd h
+none_waits now (o ∷ os) [] before after are_all h = absurd h
+none_waits now (o ∷ os) (n ∷ ns) before after are_all (mid, is_all, others, sends, later, is) =
+    is ∙ both others is_all (is_waiting n) (is_any_waiting (filter (is_kept now) ns)) (none_waits now os ns mid after others later)
+    (all_by n.queue.waiting is_all sends.all)
+    ∙ ap not (sym (picked (is_waiting n) (n.pace.moment == now) n (filter (is_kept now) ns) refl))

@@ -1,8 +1,12 @@
 -- Client starts are asked one after another, round.
-use Rattle.std.proofs.Common.{◌≡◌, ◌≢◌, ℕ, ◌+◌, ◌<◌, List, length, slice_get, refl, sym, ap, subst, inl, inr, arith}
+use Rattle.std.proofs.Common.{◌≡◌, ◌≢◌, ℕ, ◌+◌, ◌<◌, List, Some, get_or, length, slice_get, slice_set, ◌∙◌, sym, ap, subst, inl, inr, arith}
 use Rattle.std.specs.Prelude.{IfSome}
 use Rattle.std.proofs.lemmas.Bool.{cases_lt, cases_order}
-use Rattle.roam_sockets.specs.Clients.{HasNone, HasNoneAt, place_behind}
+use Rattle.std.proofs.lemmas.Grind.{common_steps}
+use Rattle.std.proofs.lemmas.List.{get_or-set_same, length-set}
+use Rattle.std.proofs.lemmas.Option.{gets, slice_get-get_or}
+use Rattle.roam_frames.specs.Queues.{IsQueued}
+use Rattle.roam_sockets.specs.Clients.{HasNone, HasNoneAt, IsQueuedAt, place_behind}
 use Rattle.roam_sockets.specs.declared.clients.ClientPeer.{ClientPeer}
 
 -- one was asked: that has none now, and no other changed
@@ -35,3 +39,20 @@ pub before_it : (count count' : ℕ) (all all' : List ClientPeer) (first step at
 before_it count count' all all' first step at same others none k lt other =
     let none_here = subst (λ n. HasNoneAt all (place_behind n first k)) (sym same) (none k lt) in
     subst (λ o. IfSome o HasNone) (sym (others (place_behind count' first k) other)) none_here
+
+-- ---- the one at a place
+
+other_place : (all : List ClientPeer) (at k : ℕ) (new : ClientPeer) → k ≢ at → slice_get (slice_set all at new) k ≡ slice_get all k
+other_place all at k new other = grind (arith, common_steps, gets)
+
+-- a datagram was queued for it
+pub queued_at : (all : List ClientPeer) (at : ℕ) (old new : ClientPeer) (datagram : List ℕ) → at < length all
+    → IsQueued (get_or all at old).carrier.queue datagram new.carrier.queue → IsQueuedAt all (slice_set all at new) at datagram
+queued_at all at old new datagram lt queued = record {
+  old = get_or all at old;
+  new = new;
+  there = slice_get-get_or all at old lt;
+  then_there = slice_get-get_or (slice_set all at new) at new (omega (arith, lt, length-set all at new)) ∙ ap Some (get_or-set_same all at new new lt);
+  queued = queued;
+  others = λ k other. other_place all at k new other;
+}

@@ -1,5 +1,5 @@
 -- What comes from two, each of which is asked first in its turn.
-use Rattle.std.specs.Prelude.{◌≡◌, ◌⊎◌, ℕ, Bool, true, false, List, [], ◌∷◌, take, Option, Some, None, IsSome, if◌then◌else◌}
+use Rattle.std.specs.Prelude.{◌≡◌, ℕ, List, [], ◌∷◌, take, Option, Some, None, IsSome}
 use Rattle.roam_hub.specs.declared.addresses.Addr.{Addr}
 
 -- a datagram that came, and from where

@@ -1,9 +1,10 @@
 -- Client starts that reach a server over streams: each has a number of its own.
-use Rattle.std.specs.Prelude.{◌≡◌, ◌≢◌, ◌⊎◌, ℕ, ◌+◌, ◌-◌, ◌%◌, ◌≤◌, ◌<◌, true, List, [], ◌∷◌, ◌++◌, length, map, slice_get, IfSome}
+use Rattle.std.specs.Prelude.{◌≡◌, ◌≢◌, ◌⊎◌, ℕ, ◌+◌, ◌-◌, ◌%◌, ◌≤◌, ◌<◌, true, List, [], ◌∷◌, ◌++◌, length, map, slice_get, Option, Some, None, IfSome}
 use Rattle.std.specs.List.{Contains, range_with_len}
 use Rattle.roam_hub.specs.declared.addresses.Addr.{Addr}
 use Rattle.roam_frames.specs.declared.frames.Front.TheVariants.{Part}
 use Rattle.roam_frames.specs.Frames.{front_of}
+use Rattle.roam_frames.specs.Queues.{IsQueued}
 use Rattle.roam_sockets.specs.Addresses.{address_of}
 use Rattle.roam_sockets.specs.declared.clients.ClientPeer.{ClientPeer}
 use Rattle.roam_sockets.specs.declared.clients.Clients.{Clients}
@@ -56,3 +57,21 @@ pub record IsInTurn (old new : Clients) (from : Addr) : Type 0 where
   pub next : IsNext new.all.items old.turn at
   pub is : IfSome (slice_get new.all.items at) (λ peer. from ≡ address_of peer.number)
   pub turn : new.turn ≡ at + 1
+
+-- the one at a place has a number
+abbrev pub IsPlaceOf : List ClientPeer → ℕ → ℕ → Type 0
+IsPlaceOf all at number = (peer : ClientPeer) × (slice_get all at ≡ Some peer) × (peer.number ≡ number)
+
+-- a datagram was queued for the one at a place, and no other changed
+pub record IsQueuedAt (olds news : List ClientPeer) (at : ℕ) (datagram : List ℕ) : Type 0 where
+  pub old : ClientPeer
+  pub new : ClientPeer
+  pub there : slice_get olds at ≡ Some old
+  pub then_there : slice_get news at ≡ Some new
+  pub queued : IsQueued old.carrier.queue datagram new.carrier.queue
+  pub others : (k : ℕ) → k ≢ at → slice_get news k ≡ slice_get olds k
+
+-- it was for the one of a number
+abbrev pub IsQueuedFor : List ClientPeer → List ClientPeer → Option ℕ → List ℕ → Type 0
+IsQueuedFor olds news None datagram = ⊥
+IsQueuedFor olds news (Some number) datagram = (at : ℕ) × IsPlaceOf olds at number × IsQueuedAt olds news at datagram

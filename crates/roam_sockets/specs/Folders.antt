@@ -1,5 +1,5 @@
 -- Whose folder it is.
-use Rattle.std.specs.Prelude.{◌≡◌, ◌≢◌, ℕ, bit_and, Bool, true}
+use Rattle.std.specs.Prelude.{◌≡◌, ℕ, bit_and, Bool, true}
 use Rattle.std.specs.Fs.{IsDir}
 use Rattle.std.specs.declared.fs.FileType.{FileType}
 

@@ -1,13 +1,12 @@
 -- What waits for an address, and goes there at a pace.
 use Rattle.std.specs.Prelude.{◌≡◌, ◌≢◌, ◌⊎◌, ◌↔◌, ℕ, ◌+◌, ◌≤◌, ◌<◌, ◌==◌, ◌||◌, ◌&&◌, Bool, true, false, List, [], ◌∷◌, ◌++◌, length, map, slice_get, slice_set, nat_lt, Option, Some, None, IsTrue}
-use Rattle.std.specs.List.{All, filter}
+use Rattle.std.specs.List.{All, filter, list_any}
 use Rattle.roam_hub.specs.declared.addresses.Addr.{Addr}
 use Rattle.roam_frames.specs.declared.frames.Front.TheVariants.{Whole}
 use Rattle.roam_frames.specs.Frames.{IsCarried, framed, framed_all, front_of}
 use Rattle.roam_frames.specs.Queues.{IsLost, IsQueued, Queued, nothing_queued}
 use Rattle.roam_sockets.specs.Pace.{gone_at, may_go, most_a_moment}
 use Rattle.roam_sockets.specs.declared.lanes.Lane.{Lane}
-use Rattle.roam_sockets.specs.declared.pace.Pace.{Pace}
 
 -- a datagram that was handed to a socket, and where it is to go
 pub record Handed : Type 0 where
@@ -73,9 +72,17 @@ SendsEach now (old ∷ olds) (new ∷ news) before after are_all =
     (mid : Option (List Handed)) × (is_all others : Bool) × Sends now old new before mid is_all × SendsEach now olds news mid after others
     × (are_all ≡ (others && is_all))
 
+-- something waits in a lane
+abbrev pub is_waiting : Lane → Bool
+is_waiting lane = nat_lt 0 (length lane.queue.waiting)
+
+-- something waits in one of these
+abbrev pub is_any_waiting : List Lane → Bool
+is_any_waiting lanes = list_any is_waiting lanes
+
 -- something waits in a lane, or went at this moment
 abbrev pub is_kept : ℕ → Lane → Bool
-is_kept now lane = nat_lt 0 (length lane.queue.waiting) || (lane.pace.moment == now)
+is_kept now lane = is_waiting lane || (lane.pace.moment == now)
 
 -- what waits in all lanes was sent, as much as may go, and those are kept that are needed
 pub record Flushes (now : ℕ) (olds news : List Lane) (before after : Option (List Handed)) (are_all : Bool) : Type 0 where

@@ -1,8 +1,8 @@
 //! The streams of client starts at a server's socket.
-ghost use Rattle.std.specs.Prelude.{◌≡◌, ◌≢◌, ◌⊎◌, ◌++◌, ◌+◌, ◌<◌, ◌≤◌, ◌^◌, ℕ, [], ◌∷◌, length, slice_get, None, IfErr, IfOk, IfSome, OnErr, OnOk, IsOkUnless, string_bytes};
+ghost use Rattle.std.specs.Prelude.{◌≡◌, ◌≢◌, ◌⊎◌, ◌++◌, ◌+◌, ◌<◌, ◌≤◌, ◌^◌, ℕ, [], ◌∷◌, length, slice_get, true, None, IfErr, IfOk, IfSome, OnErr, OnOk, IsOkUnless, string_bytes};
 ghost use Rattle.std.specs.List.{Contains};
 ghost use Rattle.roam_sockets.specs.Addresses.{address_of, number_of};
-ghost use Rattle.roam_sockets.specs.Clients.{Accepts, AcceptsOne, HasNoneAt, IsInTurn, IsNext, IsOf, Stays, numbers_of, place_behind};
+ghost use Rattle.roam_sockets.specs.Clients.{Accepts, AcceptsOne, HasNoneAt, IsInTurn, IsNext, IsOf, IsPlaceOf, IsQueuedAt, IsQueuedFor, Stays, numbers_of, place_behind};
 
 use crate::arrivals::Arrivals;
 use crate::files::listen;
@@ -110,9 +110,10 @@ fn receive_at(all: &mut [ClientPeer], at: usize, buf: &mut [u8]) -> Option<(Addr
     Some((address_of(peer.number), len))
 }
 
-// Queues a datagram for the one at a place.
+// Queues a datagram for the one at a place, and tells whether it did.
 fn send_at(all: &mut [ClientPeer], at: usize, bytes: &[u8]) -> bool
     requires within { at < length all.old }
+    ensures queued { result ≡ true → IsQueuedAt all.old all.new at bytes.now }
     ensures stays { numbers_of all.new ≡ numbers_of all.old }
 {
     let peer = &mut all[at];
@@ -129,6 +130,19 @@ fn flush_all(all: &mut [ClientPeer]) -> bool
         is_all = is_all && is_done;
     }
     is_all
+}
+
+// The place of the one of a number.
+fn place_of(all: &[ClientPeer], number: u64) -> Option<usize>
+    ensures found { IfSome result (λ at. IsPlaceOf all.now at number) }
+    ensures within { IfSome result (λ at. at < length all.now) }
+{
+    for (at, peer) in all.iter().enumerate() {
+        if peer.number == number {
+            return Some(at);
+        }
+    }
+    None
 }
 
 impl Arrivals for Clients {
@@ -221,12 +235,13 @@ impl Clients {
     /// Queues a datagram for the one at an address, and tells whether it did: it is lost where nobody is there any more, and where much
     /// waits for who is.
     pub fn send(&mut self, to: Addr, bytes: &[u8]) -> bool
+        ensures queued { result ≡ true → IsQueuedFor self.old.all.items self.new.all.items (number_of to) bytes.now }
         ensures stays { Stays self.old self.new }
     {
         let Some(number) = number_of(to) else {
             return false;
         };
-        match self.all.iter().position(|peer| peer.number == number) {
+        match place_of(&self.all, number) {
             Some(at) => send_at(&mut self.all, at, bytes),
             None => false,
         }

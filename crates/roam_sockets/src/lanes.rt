@@ -1,7 +1,7 @@
 //! What waits for an address, and goes there at a pace: over any socket that takes datagrams.
-ghost use Rattle.std.specs.Prelude.{◌≡◌, ◌≢◌, ◌↔◌, ◌∷◌, [], List, Option, None, IfSome, IsTrue, true, false};
+ghost use Rattle.std.specs.Prelude.{◌≡◌, ◌≢◌, ◌↔◌, ◌∷◌, [], List, Option, None, IfSome, IsTrue, not, true, false};
 ghost use Rattle.std.specs.List.{All};
-ghost use Rattle.roam_sockets.specs.Lanes.{AreReady, Flushes, GoesOne, Handed, Hands, IsDone, IsFresh, IsLaneAt, Sends, SendsEach, SendsTo, Takes, is_kept};
+ghost use Rattle.roam_sockets.specs.Lanes.{AreReady, Flushes, GoesOne, Handed, Hands, IsDone, IsFresh, IsLaneAt, Sends, SendsEach, SendsTo, Takes, is_any_waiting, is_kept};
 
 use crate::pace::Pace;
 use roam_frames::{Queue, first_in};
@@ -172,6 +172,7 @@ impl<D: DatagramSocket> Paced<D> {
     /// went at this moment, is forgotten.
     pub(crate) fn flush(&mut self, now: u64) -> bool
         ensures flushes { Flushes now self.old.lanes.items self.new.lanes.items (D.handed self.old.socket) (D.handed self.new.socket) result }
+        ensures all { result ≡ not (is_any_waiting self.new.lanes.items) }
     {
         let are_all = send_each(&mut self.lanes, &mut self.socket, now);
         self.lanes.retain(|lane| lane.is_kept(now));

@@ -1,7 +1,7 @@
 //! UDP on loopback.
-ghost use Rattle.std.specs.Prelude.{◌≡◌, ◌⊎◌, ◌≤◌, [], ◌∷◌, length, None, IfOk, IfSome, IfErr};
+ghost use Rattle.std.specs.Prelude.{◌≡◌, ◌⊎◌, ◌≤◌, [], ◌∷◌, length, not, None, IfOk, IfSome, IfErr};
 ghost use Rattle.roam_sockets.specs.Addresses.{number_of};
-ghost use Rattle.roam_sockets.specs.Lanes.{Flushes, SendsTo};
+ghost use Rattle.roam_sockets.specs.Lanes.{Flushes, SendsTo, is_any_waiting};
 
 use crate::arrivals::Arrivals;
 use crate::lanes::{DatagramSocket, Paced};
@@ -118,6 +118,7 @@ impl Udp {
     pub fn flush(&mut self, now: u64) -> bool
         ensures port { self.new.port ≡ self.old.port }
         ensures flushes { Flushes now self.old.paced.lanes.items self.new.paced.lanes.items None None result }
+        ensures all { result ≡ not (is_any_waiting self.new.paced.lanes.items) }
     {
         self.paced.flush(now)
     }

@@ -1,5 +1,3 @@
-use Rattle.std.proofs.Common.{◌≡◌, ◌≢◌, ℕ, ◌<◌}
-use Rattle.std.specs.List.{All}
 use Rattle.roam_sockets.proofs.Sending.{AreOthers}
 use Rattle.roam_sockets.proofs.lanes.place_of.Given as goal
 
