@@ -1,12 +1,12 @@
 -- What is read of a stream and written to it, piece after piece.
 use Rattle.std.proofs.Common.{◌≡◌, ℕ, ◌+◌, Bool, true, false, List, [], ◌∷◌, ◌++◌, take, drop, Option, Some, None, inl, inr, sym, ap, ◌∙◌, refl, append_assoc, append-nil, subst, arith}
-use Rattle.std.specs.Prelude.{◌⊎◌}
+use Rattle.std.specs.Prelude.{◌⊎◌, IsErr}
 use Rattle.std.proofs.KnownBytes.{Appends-kept, Appends-nil, Appends-trans, Consumes-nil, Consumes-trans}
 use Rattle.std.proofs.lemmas.List.{drop-drop, drop-take, take-append-drop}
 use Rattle.std.proofs.lemmas.Grind.{common_steps}
 use Rattle.std.specs.Io.KnownBytes.{Appends, Consumes, Keeps}
 use Rattle.roam_frames.specs.Carriers.{Came, IsGiven, Receives, Writes}
-use Rattle.roam_frames.specs.Streams.{Answer, Answered, Asks}
+use Rattle.roam_frames.specs.Streams.{Answer, Answered, Asks, HasAnswered, HasStopped}
 
 pub kept_none : (known : Option (List ℕ)) (old : List ℕ) → Came known known old old
 kept_none known old = record { bytes = []; consumed = Consumes-nil known; kept = sym (append-nil old) }
@@ -65,6 +65,29 @@ asks_one Ends before after was is answer answered stays over = record {
     | inr ends ↦ inr (record { earlier = []; answer = answer; later = []; answered = answered; ends = ends })
   ];
 }
+
+-- an answer stays among those that were given
+pub has_more : (Ends : Answer → Type 0) (before mid after : Option (List Answer)) (first : List Answer) → Answered before mid first
+    → HasAnswered Ends mid after → HasAnswered Ends before after
+has_more Ends before mid after first p by = record {
+  earlier = first ++ by.earlier;
+  answer = by.answer;
+  later = by.later;
+  answered = subst (Answered before after) (sym (append_assoc first by.earlier (by.answer ∷ by.later)))
+      (answered_more before mid after first (by.earlier ++ by.answer ∷ by.later) p by.answered);
+  ends = by.ends;
+}
+
+pub has_one : (Ends : Answer → Type 0) (before after : Option (List Answer)) (answer : Answer) → Answered before after (answer ∷ []) → Ends answer
+    → HasAnswered Ends before after
+has_one Ends before after answer answered ends = record { earlier = []; answer = answer; later = []; answered = answered; ends = ends }
+
+pub stopped_more : (over : Bool) (waiting : List ℕ) (before mid after : Option (List Answer)) (first : List Answer) → Answered before mid first
+    → HasStopped over waiting mid after → HasStopped over waiting before after
+stopped_more over waiting before mid after first p stopped = elim stopped [
+  | inl none ↦ inl none
+  | inr other ↦ inr (elim other [ inl is ↦ inl is | inr by ↦ inr (has_more IsErr before mid after first p by) ])
+]
 
 -- one that isn't over wasn't
 pub open_before : (was is : Bool) → (was ≡ true → is ≡ true) → is ≡ false → was ≡ false

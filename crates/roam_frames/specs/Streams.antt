@@ -1,5 +1,5 @@
 -- What a stream answers to reads and writes, and how it is over.
-use Rattle.std.specs.Prelude.{◌≡◌, ◌⊎◌, ℕ, Bool, true, List, [], ◌∷◌, ◌++◌, take, Option, Some, None, Result, Ok, Err, IsOk}
+use Rattle.std.specs.Prelude.{◌≡◌, ◌⊎◌, ℕ, Bool, true, List, [], ◌∷◌, ◌++◌, take, Option, Some, None, Result, Ok, Err, IsOk, IsErr}
 use Rattle.std.specs.declared.io.Error.{Error}
 use Rattle.roam_faults.specs.Streams.{IsStreamEnd}
 
@@ -36,3 +36,7 @@ pub record Asks (Ends : Answer → Type 0) (before after : Option (List Answer))
   pub answered : Answered before after answers
   pub stays : was ≡ true → is ≡ true
   pub over : is ≡ true → (was ≡ true) ⊎ HasAnswered Ends before after
+
+-- no more is written of what waits: nothing waits, or the stream is over, or a write has failed
+abbrev pub HasStopped : Bool → List ℕ → Option (List Answer) → Option (List Answer) → Type 0
+HasStopped over waiting before after = (waiting ≡ []) ⊎ ((over ≡ true) ⊎ HasAnswered IsErr before after)

@@ -1,10 +1,10 @@
 //! One end of a stream that carries datagrams.
-ghost use Rattle.std.specs.Prelude.{◌≡◌, ◌⊎◌, ◌↔◌, ◌++◌, ◌<◌, ◌≤◌, ℕ, List, [], IsTrue, true, false, length, drop, None, Some, IfSome, IsOk, IfOk, IfErr};
+ghost use Rattle.std.specs.Prelude.{◌≡◌, ◌⊎◌, ◌↔◌, ◌++◌, ◌<◌, ◌≤◌, ℕ, List, [], IsTrue, true, false, length, drop, None, Some, IfSome, IsOk, IsErr, IfOk, IfErr};
 ghost use Rattle.std.specs.Io.KnownBytes.{Consumes};
 ghost use Rattle.roam_faults.specs.Streams.{IsStreamEnd};
 ghost use Rattle.roam_frames.specs.Carriers.{Came, IsGiven, IsOverByReads, Receives, Writes};
 ghost use Rattle.roam_frames.specs.Frames.{front_of};
-ghost use Rattle.roam_frames.specs.Streams.{Asks, HasAnswered, MayEndReading, bytes_of};
+ghost use Rattle.roam_frames.specs.Streams.{Asks, HasAnswered, HasStopped, MayEndReading, bytes_of};
 ghost use Rattle.roam_frames.specs.Queues.{IsLost, IsQueued, nothing_queued};
 
 use crate::frames::{Frames, Front};
@@ -170,6 +170,8 @@ impl<S: Stream> Carrier<S> {
         ensures took { IfOk answer.now (λ n. self.new.queue ≡ record self.old.queue { waiting = drop n self.old.queue.waiting }) }
         ensures goes { IfOk answer.now (λ n. IsTrue result ↔ 0 < n) }
         ensures failed { IfErr answer.now (λ _. (self.new.queue ≡ self.old.queue) × (result ≡ false)) }
+        ensures went { result ≡ true → IsOk answer.now }
+        ensures stops { result ≡ false → (self.new.over ≡ true) ⊎ IsErr answer.now }
         ensures others { self.new ≡ record self.old { queue = self.new.queue; over = self.new.over } }
     {
         self.over = self.over || is_stream_end(answer);
@@ -184,6 +186,9 @@ impl<S: Stream> Carrier<S> {
     fn write_piece(&mut self) -> bool
         ensures writes { Writes (S.contents self.old.stream) (S.contents self.new.stream) self.old.queue.waiting self.new.queue.waiting }
         ensures asks { Asks IsStreamEnd (S.answers self.old.stream) (S.answers self.new.stream) self.old.over self.new.over }
+        ensures stops { result ≡ false → HasStopped self.new.over self.new.queue.waiting
+            (S.answers self.old.stream) (S.answers self.new.stream) }
+        ensures went { result ≡ true → HasAnswered IsOk (S.answers self.old.stream) (S.answers self.new.stream) }
         ensures frames { self.new.frames ≡ self.old.frames }
     {
         let piece = self.queue.front();
@@ -200,6 +205,9 @@ impl<S: Stream> Carrier<S> {
         ensures over { self.new.over ≡ true → (self.old.over ≡ true)
             ⊎ HasAnswered IsStreamEnd (S.answers self.old.stream) (S.answers self.new.stream) }
         ensures stays { self.old.over ≡ true → self.new.over ≡ true }
+        ensures all { result ≡ true → HasStopped self.new.over self.new.queue.waiting
+            (S.answers self.old.stream) (S.answers self.new.stream) }
+        ensures went { result ≡ false → HasAnswered IsOk (S.answers self.old.stream) (S.answers self.new.stream) }
         ensures frames { self.new.frames ≡ self.old.frames }
     {
         for _ in 0..MOST_WRITES {

@@ -7,10 +7,11 @@ use Rattle.std.proofs.lemmas.List.{get_or-set_same, length-set}
 use Rattle.std.proofs.lemmas.Option.{gets, slice_get-get_or}
 use Rattle.roam_frames.specs.Queues.{IsQueued}
 use Rattle.roam_sockets.specs.Clients.{HasNone, HasNoneAt, IsQueuedAt, place_behind}
+use Rattle.mio.specs.declared.net.uds.stream.UnixStream.{UnixStream}
 use Rattle.roam_sockets.specs.declared.clients.ClientPeer.{ClientPeer}
 
 -- one was asked: that has none now, and no other changed
-pub still_none : (all all' : List ClientPeer) (at p : ℕ) → HasNoneAt all' at → ((k : ℕ) → k ≢ at → slice_get all' k ≡ slice_get all k)
+pub still_none : (all all' : List (ClientPeer UnixStream)) (at p : ℕ) → HasNoneAt all' at → ((k : ℕ) → k ≢ at → slice_get all' k ≡ slice_get all k)
     → HasNoneAt all p → HasNoneAt all' p
 still_none all all' at p here others none = elim (cases_order p at) [
   | inl same ↦ subst (λ k. HasNoneAt all' k) (sym same) here
@@ -21,10 +22,10 @@ still_none all all' at p here others none = elim (cases_order p at) [
 ]
 
 -- of a count, the first so many from one on have none
-abbrev pub HaveNone : ℕ → List ClientPeer → ℕ → ℕ → Type 0
+abbrev pub HaveNone : ℕ → List (ClientPeer UnixStream) → ℕ → ℕ → Type 0
 HaveNone count all first step = (k : ℕ) → k < step → HasNoneAt all (place_behind count first k)
 
-pub one_less : (count : ℕ) (all all' : List ClientPeer) (first step : ℕ) → HasNoneAt all' (place_behind count first step)
+pub one_less : (count : ℕ) (all all' : List (ClientPeer UnixStream)) (first step : ℕ) → HasNoneAt all' (place_behind count first step)
     → ((k : ℕ) → k ≢ place_behind count first step → slice_get all' k ≡ slice_get all k) → HaveNone count all first step
     → HaveNone count all' first (step + 1)
 one_less count all all' first step here others none k lt = elim (cases_lt k step) [
@@ -33,7 +34,7 @@ one_less count all all' first step here others none k lt = elim (cases_lt k step
 ]
 
 -- the others that had none have none
-pub before_it : (count count' : ℕ) (all all' : List ClientPeer) (first step at : ℕ) → count' ≡ count
+pub before_it : (count count' : ℕ) (all all' : List (ClientPeer UnixStream)) (first step at : ℕ) → count' ≡ count
     → ((k : ℕ) → k ≢ at → slice_get all' k ≡ slice_get all k) → HaveNone count all first step
     → (k : ℕ) → k < step → place_behind count' first k ≢ at → HasNoneAt all' (place_behind count' first k)
 before_it count count' all all' first step at same others none k lt other =
@@ -42,11 +43,11 @@ before_it count count' all all' first step at same others none k lt other =
 
 -- ---- the one at a place
 
-other_place : (all : List ClientPeer) (at k : ℕ) (new : ClientPeer) → k ≢ at → slice_get (slice_set all at new) k ≡ slice_get all k
+other_place : (all : List (ClientPeer UnixStream)) (at k : ℕ) (new : ClientPeer UnixStream) → k ≢ at → slice_get (slice_set all at new) k ≡ slice_get all k
 other_place all at k new other = grind (arith, common_steps, gets)
 
 -- a datagram was queued for it
-pub queued_at : (all : List ClientPeer) (at : ℕ) (old new : ClientPeer) (datagram : List ℕ) → at < length all
+pub queued_at : (all : List (ClientPeer UnixStream)) (at : ℕ) (old new : ClientPeer UnixStream) (datagram : List ℕ) → at < length all
     → IsQueued (get_or all at old).carrier.queue datagram new.carrier.queue → IsQueuedAt all (slice_set all at new) at datagram
 queued_at all at old new datagram lt queued = record {
   old = get_or all at old;

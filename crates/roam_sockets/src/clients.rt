@@ -1,8 +1,8 @@
 //! The streams of client starts at a server's socket.
 ghost use Rattle.std.specs.Prelude.{◌≡◌, ◌≢◌, ◌⊎◌, ◌++◌, ◌+◌, ◌<◌, ◌≤◌, ◌^◌, ℕ, [], ◌∷◌, length, slice_get, true, None, IfErr, IfOk, IfSome, OnErr, OnOk, IsOkUnless, string_bytes};
-ghost use Rattle.std.specs.List.{Contains};
+ghost use Rattle.std.specs.List.{AllZip, Contains};
 ghost use Rattle.roam_sockets.specs.Addresses.{address_of, number_of};
-ghost use Rattle.roam_sockets.specs.Clients.{Accepts, AcceptsOne, HasNoneAt, IsInTurn, IsNext, IsOf, IsPlaceOf, IsQueuedAt, IsQueuedFor, Stays, numbers_of, place_behind};
+ghost use Rattle.roam_sockets.specs.Clients.{Accepts, AcceptsOne, HasNoneAt, IsDone, IsFlushed, IsInTurn, IsNext, IsOf, IsPlaceOf, IsQueuedAt, IsQueuedFor, KeepsOpen, Stays, numbers_of, place_behind};
 
 use crate::arrivals::Arrivals;
 use crate::files::listen;
@@ -10,7 +10,7 @@ use crate::waits::Waits;
 use mio::net::{UnixListener, UnixStream};
 use roam_cells::Fault;
 use roam_faults::RunFault;
-use roam_frames::Carrier;
+use roam_frames::{Carrier, Stream};
 use roam_hub::Addr;
 use std::alloc::Global;
 use std::fs::{Files, remove_file};
@@ -24,9 +24,9 @@ const NUMBERS_END: u64 = 1 << 40;
 
 /// A client start at the other end of a stream, by its number.
 #[derive(Drop)]
-pub(crate) struct ClientPeer {
+pub(crate) struct ClientPeer<S> {
     number: u64,
-    carrier: Carrier<UnixStream>,
+    carrier: Carrier<S>,
 }
 
 /// The socket at which client starts reach a server, and the streams of those that are there. Each has an address of network 0, which no
@@ -35,7 +35,7 @@ pub(crate) struct ClientPeer {
 pub struct Clients {
     path: String,
     listener: UnixListener,
-    all: Vec<ClientPeer>,
+    all: Vec<ClientPeer<UnixStream>>,
     last: u64,
     turn: usize,
 }
@@ -74,7 +74,7 @@ fn number_of(addr: Addr) -> Option<u64>
 // A datagram that came from one of them, each asked once from a place on: whose place it is, from where, and how many bytes of `buf` it
 // fills from the front.
 fn receive_from(
-    all: &mut [ClientPeer],
+    all: &mut [ClientPeer<UnixStream>],
     first: usize,
     buf: &mut [u8],
 ) -> Option<(usize, Addr, usize)>
@@ -96,7 +96,11 @@ fn receive_from(
 }
 
 // A datagram that came from the one at a place.
-fn receive_at(all: &mut [ClientPeer], at: usize, buf: &mut [u8]) -> Option<(Addr, usize)>
+fn receive_at(
+    all: &mut [ClientPeer<UnixStream>],
+    at: usize,
+    buf: &mut [u8],
+) -> Option<(Addr, usize)>
     requires within { at < length all.old }
     ensures within { IfSome result (λ r. r.1 ≤ length buf.new) }
     ensures from { IfSome result (λ r. (number : ℕ) × Contains (numbers_of all.old) number × (r.0 ≡ address_of number)) }
@@ -111,7 +115,7 @@ fn receive_at(all: &mut [ClientPeer], at: usize, buf: &mut [u8]) -> Option<(Addr
 }
 
 // Queues a datagram for the one at a place, and tells whether it did.
-fn send_at(all: &mut [ClientPeer], at: usize, bytes: &[u8]) -> bool
+fn send_at(all: &mut [ClientPeer<UnixStream>], at: usize, bytes: &[u8]) -> bool
     requires within { at < length all.old }
     ensures queued { result ≡ true → IsQueuedAt all.old all.new at bytes.now }
     ensures stays { numbers_of all.new ≡ numbers_of all.old }
@@ -120,20 +124,20 @@ fn send_at(all: &mut [ClientPeer], at: usize, bytes: &[u8]) -> bool
     peer.carrier.send(bytes)
 }
 
-// Writes what waits for them, and tells whether that was all that goes at this moment.
-fn flush_all(all: &mut [ClientPeer]) -> bool
-    ensures stays { numbers_of all.new ≡ numbers_of all.old }
+// Writes what waits for each, and tells whether that was all that goes at this moment.
+fn flush_all<S: Stream>(all: &mut [ClientPeer<S>]) -> bool
+    ensures each { AllZip (λ old new. IsFlushed S.answers old new) all.old all.new }
+    ensures done { result ≡ true → AllZip (λ old new. IsDone S.answers old new) all.old all.new }
 {
-    let mut is_all = true;
-    for peer in all.iter_mut() {
-        let is_done = peer.carrier.flush();
-        is_all = is_all && is_done;
-    }
-    is_all
+    let Some((first, others)) = all.split_first_mut() else {
+        return true;
+    };
+    let is_done = first.carrier.flush();
+    flush_all(others) && is_done
 }
 
 // The place of the one of a number.
-fn place_of(all: &[ClientPeer], number: u64) -> Option<usize>
+fn place_of(all: &[ClientPeer<UnixStream>], number: u64) -> Option<usize>
     ensures found { IfSome result (λ at. IsPlaceOf all.now at number) }
     ensures within { IfSome result (λ at. at < length all.now) }
 {
@@ -250,6 +254,7 @@ impl Clients {
     /// Writes what waits for them, as much as goes now, and lets those go that left. Tells whether that was all that goes at this moment.
     pub fn flush(&mut self) -> bool
         ensures last { self.new.last ≡ self.old.last }
+        ensures keeps { KeepsOpen ⟦<UnixStream as Stream>⟧.answers self.old.all.items self.new.all.items }
     {
         let is_all = flush_all(&mut self.all);
         self.all.retain(|peer| !peer.carrier.is_over());
