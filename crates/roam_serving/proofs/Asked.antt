@@ -1,7 +1,7 @@
 -- What lines come to, one after another, and what a close types.
 use Rattle.roam_terminals.specs.Lines.{IsFirst}
-use Rattle.std.proofs.Common.{◌≡◌, ◌≢◌, ℕ, ◌+◌, drop, length, List, [], ◌∷◌, ◌++◌, Option, Some, None, true, false, Bool, refl, sym, subst, ap, ◌∙◌, append_assoc, append-nil}
-use Rattle.std.specs.Prelude.{◌⊎◌, ◌↔◌, IfOk, IfSome, IsSome, Result, Ok, Err, Vec, fold}
+use Rattle.std.proofs.Common.{◌≡◌, ℕ, ◌+◌, drop, length, List, [], ◌∷◌, ◌++◌, Option, Some, None, true, false, Bool, refl, sym, subst, ap, ◌∙◌, append_assoc, append-nil}
+use Rattle.std.specs.Prelude.{◌↔◌, IfOk, IfSome, IsSome, Result, Ok, Err, Vec}
 use Rattle.std.specs.declared.alloc.Global.{Global}
 use Rattle.roam_cells.specs.declared.faults.Fault.{Fault}
 use Rattle.roam_acts.specs.declared.acts.Act.{Act}
@@ -15,7 +15,7 @@ use Rattle.roam_pane_list.specs.declared.closes.Closing.{Closing}
 use Rattle.roam_pane_list.specs.declared.closes.Closing.TheVariants as closing
 use Rattle.roam_pane_list.specs.declared.pane_list.PaneList.{PaneList}
 use Rattle.roam_serving.specs.Asking.{AsksFor, DoesLine, IsAsked, IsClosing, bad, gone, last, closes, refused}
-use Rattle.roam_serving.specs.Closing.{Closes, TypesClose, closing_acts}
+use Rattle.roam_serving.specs.Closing.{TypesClose, closing_acts}
 use Rattle.roam_serving.specs.declared.closing.Closer.{Closer}
 
 -- ---- what a close types

@@ -1,5 +1,5 @@
 -- What the line of a program comes to that follows the panes.
-use Rattle.std.specs.Prelude.{◌≡◌, ◌≢◌, ◌⊎◌, ◌++◌, ℕ, true, false, List, [], None, IfSome, IsSome, codes}
+use Rattle.std.specs.Prelude.{◌≡◌, ◌⊎◌, ◌++◌, ℕ, true, false, List, [], None, IfSome, IsSome, codes}
 use Rattle.roam_pane_list.specs.Closes.{IsAlone, IsClose, IsPane, close_text, focus_after, is_making}
 use Rattle.roam_pane_list.specs.declared.closes.Close.{Close}
 use Rattle.roam_pane_list.specs.declared.pane_list.PaneList.{PaneList}

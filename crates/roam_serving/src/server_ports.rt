@@ -160,6 +160,7 @@ impl<R: Clock + Drop> ServerPorts<R> {
         ensures followers { IfOk result (λ ports. (ports.followers.all.items ≡ [])
             × (string_bytes ports.followers.path ≡ panes_path folder.now)) }
         ensures clients { IfOk result (λ ports. (string_bytes ports.clients.path ≡ clients_path folder.now) × (ports.clients.last ≡ 0)) }
+        ensures own { IfOk result (λ ports. (ports.closer.session ≡ own.session) × (ports.closer.client ≡ None)) }
         ensures faults { IfErr result (λ fault. (fault ≡ RunFault.Bind) ⊎ (fault ≡ RunFault.Core Fault.OutOfMemory)) }
     {
         let waits = Waits::new(rt, alloc)?;
@@ -254,6 +255,7 @@ impl<R: Clock + Drop> ServerPorts<R> {
         ensures told { AreAllTold ⟦<UnixStream as Stream>⟧.contents now.now self.old.followers.all.items self.new.followers.all.items }
         ensures asked { (settled : CloserOf) × Settles now.now self.old.closer settled
             × IsAsked now.now self.old.moment settled self.new.closer }
+        ensures moment { self.new.moment ≡ self.old.moment }
     {
         self.take_followers();
         let may_ask = self
@@ -292,12 +294,7 @@ impl<R: Clock + Drop> Ports for ServerPorts<R> {
             self.waits.stir();
             return Some((OWN, len));
         }
-        let came = next_arrival(
-            &mut self.udp,
-            &mut self.clients,
-            &mut self.is_udp_next,
-            buf,
-        )?;
+        let came = next_arrival(&mut self.udp, &mut self.clients, &mut self.is_udp_next, buf)?;
         self.waits.stir();
         Some(came)
     }

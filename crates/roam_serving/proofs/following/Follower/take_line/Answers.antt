@@ -1,4 +1,3 @@
-use Rattle.std.proofs.Common.{rules}
 use Rattle.roam_serving.proofs.following.Follower.take_line.Goals as goal
 
 pub returns-clause-takes : goal.returns-clause-takes

@@ -1,4 +1,4 @@
-use Rattle.std.proofs.Common.{rules, subst, sym}
+use Rattle.std.proofs.Common.{subst, sym}
 use Rattle.roam_serving.specs.Asking.{IsAsked}
 use Rattle.roam_serving.specs.Following.{Replies}
 use Rattle.roam_serving.proofs.Asked.{asked_more}
