@@ -5,6 +5,8 @@
 
 mod ends;
 mod faults;
+mod streams;
 
 pub use ends::end;
 pub use faults::RunFault;
+pub use streams::{is_for_now, is_stream_end};

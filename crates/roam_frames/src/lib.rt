@@ -7,8 +7,10 @@ mod frames;
 pub mod laws;
 mod outbox;
 mod queues;
+mod streams;
 
 pub use carriers::Carrier;
 pub use frames::{Frames, Front, LONGEST_DATAGRAM, first_in};
 pub use outbox::Outbox;
 pub use queues::Queue;
+pub use streams::Stream;

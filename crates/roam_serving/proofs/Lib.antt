@@ -1,4 +1,5 @@
 mod Answering
+mod Asked
 mod Bound
 mod Turning
 mod Telling

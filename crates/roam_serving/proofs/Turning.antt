@@ -1,5 +1,5 @@
 -- One turn more of a server.
-use Rattle.std.proofs.Common.{◌≡◌, ℕ, suc, zero, ◌+◌, None, refl, sym, subst, arith}
+use Rattle.std.proofs.Common.{◌≡◌, ℕ, suc, ◌+◌, None, refl, sym, subst, arith}
 use Rattle.roam_hub.specs.Servers.{ServerView}
 use Rattle.roam_turns.specs.Cores.{server_step}
 use Rattle.roam_turns.specs.Parts.{Makes}

@@ -1,6 +1,6 @@
 -- The socket where a program follows which panes there are.
-use Rattle.std.specs.Prelude.{min, length, true, false, ◌≡◌, ◌⊎◌, ◌++◌, ◌≤◌, ℕ, [], List, drop, Option, Some, None, IfSome, codes}
-use Rattle.std.specs.List.{All, Contains, flat_map}
+use Rattle.std.specs.Prelude.{min, length, true, false, Bool, is_some, ◌≡◌, ◌⊎◌, ◌++◌, ◌≤◌, ℕ, [], List, take, drop, Option, Some, None, IfSome, codes}
+use Rattle.std.specs.List.{All, AllZip, filter, flat_map}
 use Rattle.roam_layout.specs.declared.rects.Rect.{Rect}
 use Rattle.roam_session.specs.Lives.{life_of}
 use Rattle.roam_session.specs.Places.{focus_at, rect_at}
@@ -10,6 +10,8 @@ use Rattle.roam_pane_list.specs.Known.{nothing, pane_at}
 use Rattle.roam_pane_list.specs.Lines.{lines_text, lines_between}
 use Rattle.roam_pane_list.specs.declared.pane_list.ListedPane.{ListedPane}
 use Rattle.roam_pane_list.specs.declared.pane_list.PaneList.{PaneList}
+use Rattle.roam_terminals.specs.Lines.{nothing_came}
+use Rattle.roam_serving.specs.Programs.{Wrote}
 use Rattle.roam_serving.specs.declared.following.Follower.{Follower}
 
 -- its file in a folder
@@ -20,20 +22,25 @@ panes_path folder = folder ++ codes "/panes"
 abbrev pub room : ℕ
 room = 65536
 
+-- how many programs may follow the panes at once
+abbrev pub most_followers : ℕ
+most_followers = 8
+
 -- nothing was told yet, and nothing waits
-pub record IsFresh (f : Follower) : Type 0 where
+pub record IsFresh {S : Type 0} (f : Follower S) : Type 0 where
   pub told : f.told ≡ nothing
   pub waiting : f.waiting.items ≡ []
+  pub lines : f.lines ≡ nothing_came
 
--- what is said to a line by which nothing is done
+-- what is said to a line by which nothing is done; nothing is said to a close of a pane that is gone
 abbrev pub IsReply : List ℕ → Type 0
-IsReply text = (text ≡ codes "bad line\n") ⊎ ((text ≡ codes "last pane\n") ⊎ (text ≡ codes "out of memory\n"))
+IsReply text = (text ≡ []) ⊎ ((text ≡ codes "bad line\n") ⊎ ((text ≡ codes "last pane\n") ⊎ (text ≡ codes "out of memory\n")))
 
 abbrev pub joined : List (List ℕ) → List ℕ
 joined texts = flat_map (λ (text : List ℕ). text) texts
 
 -- replies wait behind what waited, or none does
-pub record Replies (old new : Follower) : Type 0 where
+pub record Replies {S : Type 0} (old new : Follower S) : Type 0 where
   pub told : new.told ≡ old.told
   pub replies : List (List ℕ)
   pub each : All IsReply replies
@@ -43,24 +50,48 @@ pub record Replies (old new : Follower) : Type 0 where
 abbrev pub news : PaneList → PaneList → List ℕ
 news told now = lines_text (lines_between told now)
 
--- The program that is there was told what is so: what waits for it is the rest of what waited before and the news.
-pub record Tells (now : PaneList) (old new : Follower) : Type 0 where
+-- The program that is there was told what is so: the first of what waited before and of the news was written to it, and the rest waits.
+pub record Tells {S : Type 0} (contents : S → Option (List ℕ)) (now : PaneList) (old new : Follower S) : Type 0 where
   pub told : new.told ≡ now
-  pub waiting : (n : ℕ) × (new.waiting.items ≡ drop n (old.waiting.items ++ news old.told now))
+  pub count : ℕ
+  pub waiting : new.waiting.items ≡ drop count (old.waiting.items ++ news old.told now)
+  pub wrote : Wrote contents old.program.stream new.program.stream (take count (old.waiting.items ++ news old.told now))
 
--- one of these programs was, after replies to its lines
-abbrev pub WasTold : PaneList → List Follower → Follower → Type 0
-WasTold now olds f = (old : Follower) × Contains olds old × ((mid : Follower) × Replies old mid × Tells now mid f)
+-- it was, after replies to its lines
+pub record WasTold {S : Type 0} (contents : S → Option (List ℕ)) (now : PaneList) (old new : Follower S) : Type 0 where
+  pub mid : Follower S
+  pub replies : Replies old mid
+  pub tells : Tells contents now mid new
 
--- these are programs that followed before, and some that came
-abbrev pub AreOldOrFresh : List Follower → List Follower → Type 0
-AreOldOrFresh olds all = All (λ (f : Follower). Contains olds f ⊎ IsFresh f) all
+-- one that is still there was
+abbrev pub IsTold : {S : Type 0} → (S → Option (List ℕ)) → PaneList → Follower S → Follower S → Type 0
+IsTold contents now old new = IfSome new.program.stream (λ _. WasTold contents now old new)
 
--- each program that is there was told what is so, one that followed before or one that came
-pub record AreTold (now : PaneList) (olds news : List Follower) : Type 0 where
-  pub all : List Follower
-  pub came : AreOldOrFresh olds all
-  pub told : All (λ (f : Follower). IfSome f.peer.stream (λ _. WasTold now all f)) news
+-- some came, and stand behind the others
+pub record HaveCome {S : Type 0} (olds all : List (Follower S)) : Type 0 where
+  pub came : List (Follower S)
+  pub fresh : All IsFresh came
+  pub behind : all ≡ olds ++ came
+
+-- it is there
+abbrev pub is_there : {S : Type 0} → Follower S → Bool
+is_there f = is_some f.program.stream
+
+-- the first stands last
+abbrev pub turned : {X : Type 0} → List X → List X
+turned xs = drop 1 xs ++ take 1 xs
+
+-- Each program was told what is so, in its place; those that are still there stay, and the first of them stands last then.
+pub record AreTold {S : Type 0} (contents : S → Option (List ℕ)) (now : PaneList) (all news : List (Follower S)) : Type 0 where
+  pub told : List (Follower S)
+  pub each : AllZip (IsTold contents now) all told
+  pub stay : news ≡ turned (filter is_there told)
+
+-- so were those that followed before and those that came
+pub record AreAllTold {S : Type 0} (contents : S → Option (List ℕ)) (now : PaneList) (olds news : List (Follower S)) : Type 0 where
+  pub all : List (Follower S)
+  pub come : HaveCome olds all
+  pub are_told : AreTold contents now all news
 
 -- a pane that is there: its life, its place and its size
 abbrev pub pane_of : Option ℕ → Option Rect → Option ListedPane

@@ -1,8 +1,7 @@
 -- The peers of a pane's socket: the programs that come to it.
 use Rattle.std.specs.Prelude.{ℕ, ◌≡◌, ◌≢◌, ◌+◌, ◌-◌, ◌≤◌, ◌⊎◌, Bool, true, List, length, slice_get, Option, Some, None, IsSome, IfSome, Result, Ok, Err}
-use Rattle.std.specs.IoError.{error_kind}
 use Rattle.std.specs.declared.io.Error.{Error}
-use Rattle.std.specs.declared.io.ErrorKind.TheVariants.{WouldBlock}
+use Rattle.roam_faults.specs.Streams.{IsForNow}
 use Rattle.mio.specs.declared.net.uds.stream.UnixStream.{UnixStream}
 use Rattle.roam_serving.specs.declared.peers.Making.{Making}
 use Rattle.roam_serving.specs.declared.panes.Pane.{Pane}
@@ -10,12 +9,7 @@ use Rattle.roam_serving.specs.declared.panes.Pane.{Pane}
 -- a peer that answers a read or a write so has failed: it isn't only that nothing goes at this moment
 abbrev pub HasFailed : Result ℕ Error → Type 0
 HasFailed (Ok n) = ⊥
-HasFailed (Err error) = error_kind error ≢ WouldBlock
-
--- a peer that answers a read so is gone: there is nothing more of it, or it has failed
-abbrev pub IsGone : Result ℕ Error → Type 0
-IsGone (Ok n) = n ≡ 0
-IsGone (Err error) = error_kind error ≢ WouldBlock
+HasFailed (Err error) = IsForNow error → ⊥
 
 -- which making of a pane is there, or none
 abbrev pub life_in : Option Making → Option ℕ

@@ -1,8 +1,10 @@
 //! The server's own client start, which closes a pane where a program asks for it that follows the panes.
-ghost use Rattle.std.specs.Prelude.{◌≡◌, ◌≤◌, ℕ, true, length, None, Some, IfSome, IsTrue, ◌↔◌, OnOk, OnErr};
+ghost use Rattle.std.specs.Prelude.{◌≡◌, ◌≤◌, ℕ, true, length, None, IfSome, IfOk, IsTrue, ◌↔◌, OnOk, OnErr};
+ghost use Rattle.roam_frames.specs.Frames.{IsFilled};
 ghost use Rattle.roam_pane_list.specs.Closes.{IsPane};
 ghost use Rattle.roam_hub.specs.Clients.{TypesAll};
-ghost use Rattle.roam_serving.specs.Closing.{IsThere, closing_acts};
+ghost use Rattle.roam_serving.specs.Asking.{Settles};
+ghost use Rattle.roam_serving.specs.Closing.{Closes, HearsAnswer, IsStartOf, IsThere, TypesClose, closing_acts};
 
 use roam_acts::Act;
 use roam_cells::Fault;
@@ -64,6 +66,20 @@ fn type_close(client: &mut Client, pane: u8, after: Option<u8>) -> Result<(), Fa
     }
 }
 
+// Types the acts that close a pane, and answers the datagrams that the start sends then.
+fn send_close(
+    alloc: Global,
+    client: &mut Client,
+    pane: u8,
+    after: Option<u8>,
+    now: u64,
+) -> Result<Vec<Vec<u8>>, Fault>
+    ensures types { IfOk result (λ texts. TypesClose client.old client.new pane after now texts) }
+{
+    type_close(client, pane, after)?;
+    client.tick(alloc, now)
+}
+
 impl Closer {
     /// No start is made yet.
     pub(crate) fn new(session: u64, id: u64) -> Closer
@@ -81,14 +97,15 @@ impl Closer {
 
     /// Whether no close is under way.
     pub(crate) fn is_free(&self) -> bool
-        ensures free { result ≡ true → self.now.closing ≡ None }
+        ensures free { IsTrue result ↔ (self.now.closing ≡ None) }
     {
         self.closing.is_none()
     }
 
     // The start, which is made where there is none.
     fn taken(&mut self, alloc: Global) -> Result<Client, Fault>
-        ensures others { (self.new.client ≡ None) × (self.new.datagram ≡ self.old.datagram) × (self.new.closing ≡ self.old.closing) }
+        ensures start { IfOk result (λ start. IsStartOf self.old.client self.old self.new.id start) }
+        ensures others { self.new ≡ record self.old { client = None; id = self.new.id } }
     {
         match self.client.take() {
             Some(client) => Ok(client),
@@ -109,12 +126,12 @@ impl Closer {
         after: Option<u8>,
         now: u64,
     ) -> Result<(), Fault>
-        ensures closing { OnOk result (self.new.closing ≡ Some (close.now.pane, close.now.life)) }
-        ensures err { OnErr result (self.new.closing ≡ self.old.closing) }
+        ensures closes { OnOk result (Closes self.old self.new close.now.pane close.now.life after now) }
+        ensures err { OnErr result ((self.new.closing ≡ self.old.closing) × (self.new.datagram ≡ self.old.datagram)) }
+        ensures session { self.new.session ≡ self.old.session }
     {
         let mut client = self.taken(alloc)?;
-        type_close(&mut client, close.pane, after)?;
-        let mut datagrams = client.tick(alloc, now)?;
+        let mut datagrams = send_close(alloc, &mut client, close.pane, after, now)?;
         self.datagram = datagrams.pop();
         self.closing = Some((close.pane, close.life));
         self.client = Some(client);
@@ -124,6 +141,8 @@ impl Closer {
     /// The datagram that waits: how many bytes of `buf` it fills from the front.
     pub(crate) fn receive(&mut self, buf: &mut [u8]) -> Option<usize>
         ensures within { IfSome result (λ n. n ≤ length buf.new) }
+        ensures none { result ≡ None → self.old.datagram ≡ None }
+        ensures given { IfSome result (λ n. IfSome self.old.datagram (λ datagram. IsFilled datagram.items n buf.new)) }
         ensures once { self.new ≡ record self.old { datagram = None } }
     {
         let datagram = self.datagram.take()?;
@@ -135,7 +154,9 @@ impl Closer {
     }
 
     /// An answer came from the server: it is heard while acts are unacknowledged.
-    pub(crate) fn hear(&mut self, alloc: Global, bytes: &[u8], now: u64) {
+    pub(crate) fn hear(&mut self, alloc: Global, bytes: &[u8], now: u64)
+        ensures hears { HearsAnswer self.old.client self.old self.new bytes.now now }
+    {
         if let Some(client) = &mut self.client {
             if !client.is_settled() {
                 // What is refused is lost.
@@ -147,9 +168,7 @@ impl Closer {
     /// A turn was taken with the datagram, and these panes are there then. Where the pane still is, something was refused for want of
     /// memory: that start is let go, so that none of its acts is ever taken later, where they might close another pane.
     pub(crate) fn settle(&mut self, panes: &PaneList)
-        ensures settled { self.old.datagram ≡ None → self.new.closing ≡ None }
-        ensures let_go { self.old.datagram ≡ None → IfSome self.old.closing (λ pair. IsPane pair.0
-            → IsThere panes.now pair.0 pair.1 → self.new.client ≡ None) }
+        ensures settles { Settles panes.now self.old self.new }
     {
         if self.datagram.is_some() {
             return;

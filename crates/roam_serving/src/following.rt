@@ -1,16 +1,20 @@
 //! The socket `panes`, where programs follow which panes there are, how large each is and which is in focus, and ask for one to be closed.
-ghost use Rattle.std.specs.Prelude.{◌≡◌, ◌⊎◌, ◌++◌, ◌∷◌, ◌≤◌, ℕ, List, [], length, is_some, drop, true, false, string_bytes, None, IfOk, IfErr, OnOk, IfSome, IsSome, IsOkUnless};
-ghost use Rattle.std.specs.List.{All};
-ghost use Rattle.roam_serving.specs.Following.{AreOldOrFresh, AreTold, IsFresh, IsReply, Replies, Tells, WasTold, news, panes_path, room};
+ghost use Rattle.std.specs.Prelude.{◌≡◌, ◌≢◌, ◌⊎◌, ◌++◌, ◌∷◌, ◌≤◌, ◌<◌, ℕ, List, [], length, is_some, take, drop, true, false, string_bytes, None, IfOk, IfErr, OnOk, IfSome, IsOkUnless};
+ghost use Rattle.std.specs.List.{AllZip, filter};
+ghost use Rattle.roam_terminals.specs.Lines.{IsFirst};
+ghost use Rattle.roam_serving.specs.Asking.{DoesLine, IsAsked, Settles, TakesLine};
+ghost use Rattle.roam_serving.specs.Following.{AreTold, HaveCome, IsFresh, IsReply, IsTold, Replies, Tells, is_there, most_followers, news, panes_path, room, turned};
+ghost use Rattle.roam_serving.specs.Programs.{Wrote};
+ghost use Rattle.roam_serving.specs.declared.closing.Closer.{Closer as CloserOf};
 ghost use Rattle.roam_serving.specs.declared.following.Follower.{Follower as FollowerOf};
-ghost use Rattle.roam_pane_list.specs.declared.pane_list.PaneList.{PaneList as PaneListOf};
 
 use crate::closing::Closer;
-use crate::peers::Peer;
-use mio::net::UnixListener;
+use crate::programs::Program;
+use mio::net::{UnixListener, UnixStream};
 use mio::{Interest, Registry, Token};
 use roam_cells::Fault;
 use roam_faults::RunFault;
+use roam_frames::Stream;
 use roam_pane_list::{Closing, PaneList, acts_for, lines_between, read_close};
 use roam_sockets::listen;
 use roam_terminals::{Front, Lines};
@@ -33,20 +37,44 @@ const MOST_LINES: u32 = 16;
 /// A program that follows the session's panes: what it was told, what waits for it, and the lines that came from it. It stands beside the
 /// turn, and not in it (docs/DECISIONS.md, 64).
 #[derive(Drop)]
-pub(crate) struct Follower {
-    peer: Peer,
+pub(crate) struct Follower<S> {
+    program: Program<S>,
     told: PaneList,
     waiting: Vec<u8>,
     lines: Lines,
 }
 
-impl Follower {
+// Does what a line asks for, and answers what is said to it: nothing where its pane is gone, or is being closed.
+fn do_line(
+    alloc: Global,
+    line: &[u8],
+    now: &PaneList,
+    closer: &mut Closer,
+    moment: u64,
+) -> &'static [u8]
+    requires free { closer.old.closing ≡ None }
+    ensures does { DoesLine now.now line.now moment closer.old closer.new result.now }
+{
+    let Some(close) = read_close(line) else {
+        return b"bad line\n";
+    };
+    match acts_for(now, &close) {
+        Closing::Gone => b"",
+        Closing::LastPane => b"last pane\n",
+        Closing::Acts { after } => match closer.close(alloc, &close, after, moment) {
+            Ok(()) => b"",
+            Err(_) => b"out of memory\n",
+        },
+    }
+}
+
+impl<S: Stream + Drop> Follower<S> {
     // A program that came; it was told nothing yet.
-    fn new(alloc: Global, peer: Peer) -> Follower
+    fn new(alloc: Global, program: Program<S>) -> Follower<S>
         ensures fresh { IsFresh result }
     {
         Follower {
-            peer,
+            program,
             told: PaneList::unknown(),
             waiting: Vec::new(alloc),
             lines: Lines::new(alloc),
@@ -57,7 +85,7 @@ impl Follower {
     fn add(&mut self, alloc: Global, now: &PaneList) -> Result<(), Fault>
         ensures added { OnOk result (self.new.waiting.items ≡ self.old.waiting.items ++ news self.old.told now.now) }
         ensures told { OnOk result (self.new.told ≡ now.now) }
-        ensures peer { self.new.peer ≡ self.old.peer }
+        ensures program { self.new.program ≡ self.old.program }
         ensures fault { IsOkUnless result Fault.OutOfMemory }
     {
         let text = lines_between(alloc, &self.told, now)?;
@@ -66,27 +94,31 @@ impl Follower {
         Ok(())
     }
 
-    // A line of ours waits for the program; one for which there is no memory for it is let go.
-    fn say(&mut self, line: &[u8])
-        requires reply { IsReply line.now }
+    // A text of ours waits for the program; one for which there is no memory for it is let go.
+    fn say(&mut self, text: &[u8])
+        requires reply { IsReply text.now }
         ensures replies { Replies self.old self.new }
+        ensures said { (self.new.program.stream ≡ None) ⊎ (self.new.waiting.items ≡ self.old.waiting.items ++ text.now) }
+        ensures others { self.new ≡ record self.old { program = self.new.program; waiting = self.new.waiting } }
     {
-        if self.waiting.extend_from_slice(line).is_err() {
-            self.peer.let_go();
+        if self.waiting.extend_from_slice(text).is_err() {
+            self.program.let_go();
         }
     }
 
     // Hands the program what waits; what it took goes.
     fn hand_over(&mut self)
-        ensures took { (n : ℕ) × (self.new.waiting.items ≡ drop n self.old.waiting.items) }
+        ensures took { (n : ℕ) × (self.new.waiting.items ≡ drop n self.old.waiting.items)
+            × Wrote S.contents self.old.program.stream self.new.program.stream (take n self.old.waiting.items) }
         ensures told { self.new.told ≡ self.old.told }
     {
-        let count = self.peer.tell(&self.waiting);
+        let count = self.program.tell(&self.waiting);
         drop(self.waiting.drain(..count));
     }
 
     // Reads until a line stands first or nothing more comes now. One that wrote more than a line has is let go.
     fn read_line(&mut self)
+        ensures came { (bytes : List ℕ) × (self.new.lines.kept ≡ self.old.lines.kept ++ bytes) }
         ensures told { self.new.told ≡ self.old.told }
         ensures waiting { self.new.waiting ≡ self.old.waiting }
     {
@@ -94,41 +126,46 @@ impl Follower {
         for _ in 0..MOST_READS {
             match self.lines.front() {
                 Front::Line(_) => return,
-                Front::TooLong => return self.peer.let_go(),
+                Front::TooLong => return self.program.let_go(),
                 Front::Part => {
-                    let Some(count) = self.peer.hear(&mut piece) else {
+                    let Some(count) = self.program.hear(&mut piece) else {
                         return;
                     };
                     if self.lines.came(&piece[..count]).is_err() {
-                        return self.peer.let_go();
+                        return self.program.let_go();
                     }
                 }
             }
         }
     }
 
-    // Does what the line that stands first asks for, and tells whether one did.
-    fn take_line(&mut self, alloc: Global, now: &PaneList, closer: &mut Closer, moment: u64) -> bool
+    // Does what the line that stands first asks for, where one does.
+    fn do_first(&mut self, alloc: Global, now: &PaneList, closer: &mut Closer, moment: u64) -> bool
+        requires free { closer.old.closing ≡ None }
+        ensures takes { result ≡ true → TakesLine now.now moment closer.old closer.new self.old self.new }
+        ensures none { result ≡ false → (closer.new ≡ closer.old) × (self.new ≡ self.old) }
         ensures replies { Replies self.old self.new }
     {
-        self.read_line();
         let Some(line) = self.lines.first() else {
             return false;
         };
-        match read_close(line) {
-            None => self.say(b"bad line\n"),
-            Some(close) => match acts_for(now, &close) {
-                Closing::Gone => {}
-                Closing::LastPane => self.say(b"last pane\n"),
-                Closing::Acts { after } => {
-                    if closer.close(alloc, &close, after, moment).is_err() {
-                        self.say(b"out of memory\n");
-                    }
-                }
-            },
-        }
+        let said = do_line(alloc, line, now, closer, moment);
+        self.say(said);
         self.lines.took();
         true
+    }
+
+    // Does what the next line asks for, and tells whether one did.
+    fn take_line(&mut self, alloc: Global, now: &PaneList, closer: &mut Closer, moment: u64) -> bool
+        requires free { closer.old.closing ≡ None }
+        ensures takes { result ≡ true → (mid : FollowerOf S) × (bytes : List ℕ) × (mid.lines.kept ≡ self.old.lines.kept ++ bytes)
+            × (mid.waiting ≡ self.old.waiting) × TakesLine now.now moment closer.old closer.new mid self.new }
+        ensures none { result ≡ false → closer.new ≡ closer.old }
+        ensures asked { IsAsked now.now moment closer.old closer.new }
+        ensures replies { Replies self.old self.new }
+    {
+        self.read_line();
+        self.do_first(alloc, now, closer, moment)
     }
 
     // Does what its lines ask for, while no close is under way, and tells whether more of them may be there.
@@ -139,6 +176,7 @@ impl Follower {
         closer: &mut Closer,
         moment: u64,
     ) -> bool
+        ensures asked { IsAsked now.now moment closer.old closer.new }
         ensures replies { Replies self.old self.new }
     {
         for _ in 0..MOST_LINES {
@@ -152,51 +190,64 @@ impl Follower {
     // Tells the program what is new of the panes. One that leaves 65,536 bytes waiting is let go, and so is one for which there is no
     // memory: it may come again, and is told all then.
     fn tell(&mut self, alloc: Global, now: &PaneList)
-        ensures tells { IfSome self.new.peer.stream (λ _. Tells now.now self.old self.new) }
+        ensures tells { IfSome self.new.program.stream (λ _. Tells S.contents now.now self.old self.new) }
         ensures room { length self.new.waiting.items ≤ room }
     {
         let is_added = self.add(alloc, now).is_ok();
         self.hand_over();
         if !is_added || self.waiting.len() > ROOM {
-            self.peer.let_go();
+            self.program.let_go();
             self.waiting.clear();
         }
+    }
+
+    // Whether it is there.
+    fn is_there(&self) -> bool
+        ensures there { result ≡ is_there self.now }
+    {
+        self.program.is_there()
     }
 }
 
 // Adds a program where fewer than eight are there; one for which there is no memory may come again.
-fn add(alloc: Global, all: &mut Vec<Follower>, peer: Peer)
-    ensures added { (all.new.items ≡ all.old.items) ⊎ ((f : FollowerOf) × IsFresh f × (all.new.items ≡ all.old.items ++ f ∷ [])) }
+fn add(alloc: Global, all: &mut Vec<Follower<UnixStream>>, program: Program<UnixStream>)
+    ensures came { HaveCome all.old.items all.new.items }
+    ensures few { length all.old.items ≤ most_followers → length all.new.items ≤ most_followers }
 {
     if all.len() < MOST_FOLLOWERS {
-        let _ = all.push(Follower::new(alloc, peer));
+        let _ = all.push(Follower::new(alloc, program));
     }
 }
 
 // Takes those that wait at the socket; those above eight, and those for which there is no memory, are closed.
-fn accept_all(alloc: Global, listener: &UnixListener, registry: &Registry, all: &mut Vec<Follower>)
-    ensures came { AreOldOrFresh all.old.items all.new.items }
+fn accept_all(
+    alloc: Global,
+    listener: &UnixListener,
+    registry: &Registry,
+    all: &mut Vec<Follower<UnixStream>>,
+)
+    ensures came { HaveCome all.old.items all.new.items }
+    ensures few { length all.old.items ≤ most_followers → length all.new.items ≤ most_followers }
 {
     for _ in 0..8 * MOST_FOLLOWERS {
-        let mut peer = Peer::none();
-        peer.accept(listener, registry);
-        if !peer.is_there() {
+        let program = Program::next(listener, registry);
+        if !program.is_there() {
             return;
         }
-        add(alloc, all, peer);
+        add(alloc, all, program);
     }
 }
 
 // Does what the lines of each program ask for, and tells it what is new of the panes. Tells whether more may be asked for already.
-fn tell_each(
+fn tell_each<S: Stream + Drop>(
     alloc: Global,
-    all: &mut [Follower],
+    all: &mut [Follower<S>],
     now: &PaneList,
     closer: &mut Closer,
     moment: u64,
 ) -> bool
-    ensures len { length all.new ≡ length all.old }
-    ensures told { All (λ f. IfSome f.peer.stream (λ _. WasTold now.now all.old f)) all.new }
+    ensures told { AllZip (λ old new. IsTold S.contents now.now old new) all.old all.new }
+    ensures asked { IsAsked now.now moment closer.old closer.new }
 {
     let Some((first, others)) = all.split_first_mut() else {
         return false;
@@ -206,18 +257,11 @@ fn tell_each(
     tell_each(alloc, others, now, closer, moment) || may_ask
 }
 
-// Lets those go that left.
-fn retain(all: &mut Vec<Follower>)
-    ensures told { (now : PaneListOf) (olds : List FollowerOf) → AreTold now olds all.old.items → AreTold now olds all.new.items }
+// Lets those go that left, and has the first of the others asked last another time.
+fn turn<S: Stream + Drop>(all: &mut Vec<Follower<S>>)
+    ensures turned { all.new.items ≡ turned (filter is_there all.old.items) }
 {
-    all.retain(|follower| follower.peer.is_there());
-}
-
-// The first is asked last another time.
-fn rotate(all: &mut [Follower])
-    ensures len { length all.new ≡ length all.old }
-    ensures told { (now : PaneListOf) (olds : List FollowerOf) → AreTold now olds all.old → AreTold now olds all.new }
-{
+    all.retain(|follower| follower.is_there());
     if all.len() > 1 {
         all.rotate_left(1);
     }
@@ -225,18 +269,18 @@ fn rotate(all: &mut [Follower])
 
 // Does what the lines of the programs ask for, tells each what is new of the panes, and lets those go that left; the next is asked first
 // another time. Tells whether more may be asked for already.
-fn tell_all(
+fn tell_all<S: Stream + Drop>(
     alloc: Global,
-    all: &mut Vec<Follower>,
+    all: &mut Vec<Follower<S>>,
     now: &PaneList,
     closer: &mut Closer,
     moment: u64,
 ) -> bool
-    ensures told { (olds : List FollowerOf) → AreOldOrFresh olds all.old.items → AreTold now.now olds all.new.items }
+    ensures told { AreTold S.contents now.now all.old.items all.new.items }
+    ensures asked { IsAsked now.now moment closer.old closer.new }
 {
     let may_ask = tell_each(alloc, all, now, closer, moment);
-    retain(all);
-    rotate(all);
+    turn(all);
     may_ask
 }
 
@@ -245,7 +289,7 @@ fn tell_all(
 pub(crate) struct Followers {
     path: String,
     listener: UnixListener,
-    all: Vec<Follower>,
+    all: Vec<Follower<UnixStream>>,
 }
 
 impl Followers {
@@ -278,7 +322,8 @@ impl Followers {
     /// Takes the programs that wait at the socket.
     pub(crate) fn accept(&mut self, alloc: Global, registry: &Registry)
         ensures path { self.new.path ≡ self.old.path }
-        ensures came { AreOldOrFresh self.old.all.items self.new.all.items }
+        ensures came { HaveCome self.old.all.items self.new.all.items }
+        ensures few { length self.old.all.items ≤ most_followers → length self.new.all.items ≤ most_followers }
     {
         accept_all(alloc, &self.listener, registry, &mut self.all);
     }
@@ -293,7 +338,8 @@ impl Followers {
         moment: u64,
     ) -> bool
         ensures path { self.new.path ≡ self.old.path }
-        ensures told { (olds : List FollowerOf) → AreOldOrFresh olds self.old.all.items → AreTold now.now olds self.new.all.items }
+        ensures told { AreTold ⟦<UnixStream as Stream>⟧.contents now.now self.old.all.items self.new.all.items }
+        ensures asked { (settled : CloserOf) × Settles now.now closer.old settled × IsAsked now.now moment settled closer.new }
     {
         closer.settle(now);
         tell_all(alloc, &mut self.all, now, closer, moment)

@@ -5,6 +5,7 @@ mod closing;
 mod following;
 mod panes;
 mod peers;
+mod programs;
 mod refused;
 mod server_ports;
 mod serving;

@@ -1,11 +1,12 @@
 //! The peers of sockets, one at a time; those of the panes' sockets are each for the making of the pane that they came to.
 ghost use Rattle.std.specs.Prelude.{◌≡◌, ◌≢◌, ◌⊎◌, ◌↔◌, ◌<◌, ◌≤◌, length, IsTrue, IsSome, IfSome, is_some, None};
-ghost use Rattle.roam_serving.specs.Peers.{HasFailed, IsGone, life_in, peer_in};
+ghost use Rattle.roam_serving.specs.Peers.{HasFailed, life_in, peer_in};
 
 use mio::net::{UnixListener, UnixStream};
 use mio::{Interest, Registry, Token};
+use roam_faults::{is_for_now, is_stream_end};
 use std::io;
-use std::io::{ErrorKind, Read, Write};
+use std::io::{Read, Write};
 
 /// So many peers that are gone already are let go at once.
 const MOST_GONE: u32 = 64;
@@ -23,24 +24,26 @@ pub(crate) struct Making {
     peer: Peer,
 }
 
-// Whether a peer that answered so has failed.
-fn has_failed(answer: &io::Result<usize>) -> bool
+/// Whether a peer that answered a write so has failed.
+pub(crate) fn has_failed(answer: &io::Result<usize>) -> bool
     ensures failed { IsTrue result ↔ HasFailed answer.now }
 {
     match answer {
         Ok(_) => false,
-        Err(error) => error.kind() != ErrorKind::WouldBlock,
+        Err(error) => !is_for_now(error),
     }
 }
 
-// Whether a peer that answered a read so is gone.
-fn is_gone(answer: &io::Result<usize>) -> bool
-    ensures gone { IsTrue result ↔ IsGone answer.now }
-{
-    match answer {
-        Ok(count) => *count == 0,
-        Err(_) => has_failed(answer),
-    }
+/// The next program that waits at a socket. It is reported where the program waits.
+pub(crate) fn next_at(listener: &UnixListener, registry: &Registry) -> Option<UnixStream> {
+    let (mut stream, _) = listener.accept().ok()?;
+    // Where it isn't reported, a wait ends by its time alone.
+    let _ = registry.register(
+        &mut stream,
+        Token(0),
+        Interest::READABLE | Interest::WRITABLE,
+    );
+    Some(stream)
 }
 
 /// The making of a pane that is there from now on, or that none is. That which was there stays with its peer; the peer of any other goes.
@@ -100,19 +103,9 @@ impl Peer {
     pub(crate) fn accept(&mut self, listener: &UnixListener, registry: &Registry)
         ensures one { IfSome self.old.stream (λ _. self.new ≡ self.old) }
     {
-        if self.stream.is_some() {
-            return;
+        if self.stream.is_none() {
+            self.stream = next_at(listener, registry);
         }
-        let Ok((mut stream, _)) = listener.accept() else {
-            return;
-        };
-        // Where it isn't reported, a wait ends by its time alone.
-        let _ = registry.register(
-            &mut stream,
-            Token(0),
-            Interest::READABLE | Interest::WRITABLE,
-        );
-        self.stream = Some(stream);
     }
 
     /// Takes those that wait, where there is none, until one wrote something, or wrote nothing yet: those that are gone are let go, and of
@@ -151,7 +144,7 @@ impl Peer {
         ensures one { (self.new ≡ self.old) ⊎ (self.new.stream ≡ None) }
     {
         let answer = self.stream.as_mut()?.read(buf);
-        if is_gone(&answer) {
+        if is_stream_end(&answer) {
             self.stream = None;
             return None;
         }

@@ -1,29 +1,33 @@
 //! The ports of a server over sockets. What they carried isn't told.
-ghost use Rattle.std.specs.Prelude.{◌≡◌, ◌≢◌, ◌⊎◌, ◌<◌, ◌≤◌, [], ℕ, true, false, length, map, string_bytes, is_some, nat_lt, None, IfOk, IfSome, IfErr};
+ghost use Rattle.std.specs.Prelude.{◌≡◌, ◌≢◌, ◌⊎◌, ◌<◌, ◌≤◌, [], ℕ, true, false, not, length, map, string_bytes, is_some, nat_lt, None, IfOk, IfSome, IfErr};
 ghost use Rattle.std.specs.List.{All};
 ghost use Rattle.std.specs.Option.{option_map};
 ghost use Rattle.roam_sockets.specs.Clients.{Accepts};
 ghost use Rattle.roam_sockets.specs.declared.udp.Udp.{Udp as UdpOf};
-ghost use Rattle.roam_serving.specs.Following.{AreOldOrFresh, AreTold, panes_path};
+ghost use Rattle.roam_sockets.specs.Waits.{wait_for};
+ghost use Rattle.roam_serving.specs.Asking.{IsAsked, Settles};
+ghost use Rattle.roam_serving.specs.Closing.{HearsAnswer, own_address};
+ghost use Rattle.roam_serving.specs.Following.{AreAllTold, HaveCome, most_followers, panes_path};
+ghost use Rattle.roam_serving.specs.Rests.{is_paced};
+ghost use Rattle.roam_serving.specs.declared.closing.Closer.{Closer as CloserOf};
 ghost use Rattle.roam_serving.specs.Panes.{IsPortOf, clients_path, paths_of};
 ghost use Rattle.roam_serving.specs.Peers.{Asks, Changes, Lives};
 
 use crate::closing::{Closer, OWN};
 use crate::following::Followers;
 use crate::panes::Panes;
+use mio::net::UnixStream;
 use roam_cells::Fault;
 use roam_faults::RunFault;
+use roam_frames::Stream;
 use roam_hub::Addr;
 use roam_pane_list::PaneList;
-use roam_sockets::{Clients, Moments, Udp, Waits, wait_until};
+use roam_sockets::{Clients, Moments, Udp, Waits, next_by_turns, wait_for};
 use roam_turns::Ports;
 use std::alloc::Global;
 use std::fs::Files;
 use std::net::Net;
 use std::time::Clock;
-
-/// How long it waits where datagrams are kept back so that they go at a pace.
-const PACE_WAIT: u64 = 1;
 
 /// It is looked so often whether somebody waits at the sockets, where no wait told.
 const LOOKS: u64 = 20;
@@ -98,13 +102,6 @@ fn bind_udp(
     }
 }
 
-// A datagram that came to a UDP port, where there is one.
-fn receive_udp(udp: &mut Option<Udp>, buf: &mut [u8]) -> Option<(Addr, usize)>
-    ensures within { IfSome result (λ r. r.1 ≤ length buf.new) }
-{
-    udp.as_mut()?.receive(buf)
-}
-
 // Sends a datagram by UDP, where there is a port for it.
 fn send_udp(udp: &mut Option<Udp>, to: Addr, bytes: &[u8], now: u64) -> bool {
     match udp {
@@ -114,10 +111,31 @@ fn send_udp(udp: &mut Option<Udp>, to: Addr, bytes: &[u8], now: u64) -> bool {
 }
 
 // Sends what waits by UDP, as much as may go at this moment, and tells whether that was all.
-fn flush_udp(udp: &mut Option<Udp>, now: u64) -> bool {
+fn flush_udp(udp: &mut Option<Udp>, now: u64) -> bool
+    ensures all { result ≡ not (is_paced udp.new) }
+{
     match udp {
         None => true,
         Some(udp) => udp.flush(now),
+    }
+}
+
+// The next datagram that came to the streams or to the port, each asked first in its turn.
+fn next_arrival(
+    udp: &mut Option<Udp>,
+    clients: &mut Clients,
+    is_udp_next: &mut bool,
+    buf: &mut [u8],
+) -> Option<(Addr, usize)>
+    ensures within { IfSome result (λ r. r.1 ≤ length buf.new) }
+    ensures turn { is_udp_next.new ≡ not is_udp_next.old }
+{
+    match udp {
+        None => {
+            *is_udp_next = !*is_udp_next;
+            clients.receive(buf)
+        }
+        Some(udp) => next_by_turns(clients, udp, is_udp_next, buf),
     }
 }
 
@@ -142,6 +160,7 @@ impl<R: Clock + Drop> ServerPorts<R> {
         ensures followers { IfOk result (λ ports. (ports.followers.all.items ≡ [])
             × (string_bytes ports.followers.path ≡ panes_path folder.now)) }
         ensures clients { IfOk result (λ ports. (string_bytes ports.clients.path ≡ clients_path folder.now) × (ports.clients.last ≡ 0)) }
+        ensures own { IfOk result (λ ports. (ports.closer.session ≡ own.session) × (ports.closer.client ≡ None)) }
         ensures faults { IfErr result (λ fault. (fault ≡ RunFault.Bind) ⊎ (fault ≡ RunFault.Core Fault.OutOfMemory)) }
     {
         let waits = Waits::new(rt, alloc)?;
@@ -189,8 +208,7 @@ impl<R: Clock + Drop> ServerPorts<R> {
     // Takes client starts that wait at their socket, once in 20 milliseconds and after each wait; so it is with those who follow the panes.
     fn look(&mut self, alloc: Global, has_waited: bool)
         ensures clients { Accepts self.old.clients self.new.clients }
-        ensures panes { self.new.panes ≡ self.old.panes }
-        ensures waits { self.new.waits ≡ self.old.waits }
+        ensures others { self.new ≡ record self.old { clients = self.new.clients; looked = self.new.looked; may_come = self.new.may_come } }
     {
         if has_waited || self.moment.wrapping_sub(self.looked) >= LOOKS {
             self.clients.accept(alloc, &self.waits);
@@ -203,22 +221,26 @@ impl<R: Clock + Drop> ServerPorts<R> {
     /// came since the last call and no datagram of its own start waits.
     pub fn rest(&mut self, due: Option<u64>)
         ensures quiet { self.new.waits.quiet ≡ true }
+        ensures waited { IfSome self.new.waits.longest (λ longest. (self.old.waits.quiet ≡ true) × (self.old.closer.closing ≡ None)
+            × (longest ≡ wait_for due self.old.moment (is_paced self.new.udp))) }
         ensures panes { self.new.panes ≡ self.old.panes }
+        ensures followers { self.new.followers ≡ self.old.followers }
+        ensures moment { self.new.moment ≡ self.old.moment }
     {
         if !self.clients.flush() || !self.closer.is_free() {
             self.waits.stir();
         }
-        let longest = wait_until(due, self.moment);
         let is_paced = !flush_udp(&mut self.udp, self.moment);
         let waits = self.waits.is_quiet();
-        self.waits.rest(if is_paced { PACE_WAIT } else { longest });
+        self.waits.rest(wait_for(due, self.moment, is_paced));
         self.look(self.alloc, waits);
     }
 
     // Takes the programs that wait at the socket `panes`, where one may.
     fn take_followers(&mut self)
-        ensures came { AreOldOrFresh self.old.followers.all.items self.new.followers.all.items }
-        ensures panes { self.new.panes ≡ self.old.panes }
+        ensures came { HaveCome self.old.followers.all.items self.new.followers.all.items }
+        ensures few { length self.old.followers.all.items ≤ most_followers → length self.new.followers.all.items ≤ most_followers }
+        ensures others { self.new ≡ record self.old { followers = self.new.followers; may_come = self.new.may_come } }
     {
         if self.may_come {
             self.followers.accept(self.alloc, self.waits.registry());
@@ -230,7 +252,10 @@ impl<R: Clock + Drop> ServerPorts<R> {
     /// they ask for.
     pub fn tell_panes(&mut self, now: &PaneList)
         ensures panes { self.new.panes ≡ self.old.panes }
-        ensures told { AreTold now.now self.old.followers.all.items self.new.followers.all.items }
+        ensures told { AreAllTold ⟦<UnixStream as Stream>⟧.contents now.now self.old.followers.all.items self.new.followers.all.items }
+        ensures asked { (settled : CloserOf) × Settles now.now self.old.closer settled
+            × IsAsked now.now self.old.moment settled self.new.closer }
+        ensures moment { self.new.moment ≡ self.old.moment }
     {
         self.take_followers();
         let may_ask = self
@@ -238,25 +263,6 @@ impl<R: Clock + Drop> ServerPorts<R> {
             .tell(self.alloc, now, &mut self.closer, self.moment);
         if may_ask {
             self.waits.stir();
-        }
-    }
-
-    // A datagram from the streams or from the port, whichever is to be asked first now, or else from the other.
-    fn receive_next(&mut self, buf: &mut [u8]) -> Option<(Addr, usize)>
-        ensures within { IfSome result (λ r. r.1 ≤ length buf.new) }
-        ensures panes { self.new.panes ≡ self.old.panes }
-        ensures waits { self.new.waits ≡ self.old.waits }
-    {
-        self.is_udp_next = !self.is_udp_next;
-        if self.is_udp_next {
-            return match receive_udp(&mut self.udp, buf) {
-                Some(came) => Some(came),
-                None => self.clients.receive(buf),
-            };
-        }
-        match self.clients.receive(buf) {
-            Some(came) => Some(came),
-            None => receive_udp(&mut self.udp, buf),
         }
     }
 
@@ -271,6 +277,7 @@ impl<R: Clock + Drop> ServerPorts<R> {
 impl<R: Clock + Drop> Ports for ServerPorts<R> {
     fn now(&mut self) -> u64
         ensures set { (moment : ℕ) → self.old.moments ≡ Moments.Set moment → result ≡ moment }
+        ensures moment { self.new.moment ≡ result }
         ensures panes { self.new.panes ≡ self.old.panes }
     {
         self.moment = self.moments.now();
@@ -287,12 +294,15 @@ impl<R: Clock + Drop> Ports for ServerPorts<R> {
             self.waits.stir();
             return Some((OWN, len));
         }
-        let came = self.receive_next(buf)?;
+        let came = next_arrival(&mut self.udp, &mut self.clients, &mut self.is_udp_next, buf)?;
         self.waits.stir();
         Some(came)
     }
 
-    fn send(&mut self, to: Addr, bytes: &[u8]) -> bool {
+    fn send(&mut self, to: Addr, bytes: &[u8]) -> bool
+        ensures own { to ≡ own_address → HearsAnswer self.old.closer.client self.old.closer self.new.closer bytes.now self.old.moment }
+        ensures others { to ≢ own_address → self.new.closer ≡ self.old.closer }
+    {
         if to == OWN {
             self.closer.hear(self.alloc, bytes, self.moment);
             return true;

@@ -1,16 +1,19 @@
 //! `roam serve`: a server round its sockets.
-ghost use Rattle.std.specs.Prelude.{◌≡◌, ◌⊎◌, ℕ, min, Some, Ok, IfOk, OnOk, IfErr, IsOkUnless};
+ghost use Rattle.std.specs.Prelude.{◌≡◌, ◌⊎◌, ◌<◌, ℕ, min, Some, Ok, IfOk, OnOk, IfErr, IsOkUnless};
 ghost use Rattle.roam_session.specs.Lives.{life_of};
 ghost use Rattle.roam_session.specs.Places.{rect_at};
 ghost use Rattle.roam_world.specs.Servers.{Server as ServerOf};
 ghost use Rattle.roam_hub.specs.Servers.{Stands};
 ghost use Rattle.roam_serving.specs.Following.{ArePanesOf, pane_of};
+ghost use Rattle.roam_serving.specs.Rests.{HasRested, HasTold};
 ghost use Rattle.roam_serving.specs.Runs.{Serves, ServesTurns};
 
 use crate::server_ports::{OwnStart, ServerPorts};
+use mio::net::UnixStream;
 use roam_acts::limits::PANES_END;
 use roam_cells::Fault;
 use roam_faults::RunFault;
+use roam_frames::Stream;
 use roam_hub::Server;
 use roam_pane_list::{ListedPane, PaneList};
 use roam_sockets::{Moments, own_folder, random_id, write_alone};
@@ -74,8 +77,21 @@ fn panes_of(server: &Server) -> PaneList
     panes
 }
 
-// Takes the turns of a server, tells after each who follows the panes, and waits where one brought nothing: until something is due where
-// the turns go on for good, else a short while, so that they end by themselves.
+// After a turn tells who follows the panes, and waits where it brought nothing: until something is due where the turns go on for good, else a
+// short while, so that they end by themselves.
+fn tell_and_rest<C: Clock + Drop>(turns: u64, server: &Server, ports: &mut ServerPorts<C>)
+    ensures told { HasTold ⟦<UnixStream as Stream>⟧.contents server.now ports.new.followers.all.items }
+    ensures rested { HasRested turns server.now ports.new.moment ports.new.udp ports.new.waits.longest }
+{
+    ports.tell_panes(&panes_of(server));
+    ports.rest(if turns == FOR_GOOD {
+        server.next_due()
+    } else {
+        Some(0)
+    });
+}
+
+// Takes the turns of a server, and after each tells and waits.
 fn serve_turns<C: Clock + Drop>(
     alloc: Global,
     turns: u64,
@@ -83,15 +99,13 @@ fn serve_turns<C: Clock + Drop>(
     ports: &mut ServerPorts<C>,
 )
     ensures turns { ServesTurns turns server.old server.new }
+    // After each turn, and so after the last.
+    ensures told { 0 < turns → HasTold ⟦<UnixStream as Stream>⟧.contents server.new ports.new.followers.all.items }
+    ensures rested { 0 < turns → HasRested turns server.new ports.new.moment ports.new.udp ports.new.waits.longest }
 {
     for _ in 0..turns {
         serve_turn(alloc, server, ports);
-        ports.tell_panes(&panes_of(server));
-        ports.rest(if turns == FOR_GOOD {
-            server.next_due()
-        } else {
-            Some(0)
-        });
+        tell_and_rest(turns, server, ports);
     }
 }
 
@@ -128,6 +142,17 @@ fn remove_session<R: Files + AllocGlobal>(rt: &R, folder: &str) {
     }
 }
 
+// The start of a session by which its server closes panes.
+fn own_start(chance: &impl RandomSource, session: u64) -> Result<OwnStart, RunFault>
+    ensures session { IfOk result (λ own. own.session ≡ session) }
+    ensures fault { IsOkUnless result RunFault.Read }
+{
+    Ok(OwnStart {
+        session,
+        id: random_id(chance)?,
+    })
+}
+
 // Takes the turns of a session round ports that are bound, and removes the sockets' files.
 fn serve_bound<R: Files + Net + Clock + RandomSource + Eprint + AllocGlobal>(
     rt: &R,
@@ -139,10 +164,7 @@ fn serve_bound<R: Files + Net + Clock + RandomSource + Eprint + AllocGlobal>(
     ensures faults { IfErr result (λ fault. (fault ≡ RunFault.Bind) ⊎ (fault ≡ RunFault.Core Fault.OutOfMemory) ⊎ (fault ≡ RunFault.Read)) }
 {
     let alloc = rt.alloc();
-    let own = OwnStart {
-        session,
-        id: random_id(rt)?,
-    };
+    let own = own_start(rt, session)?;
     let mut ports = ServerPorts::bind(rt, alloc, serve.folder, serve.port, Moments::real(rt), own)?;
     let written = write_session(rt, serve.folder, session);
     if written.is_ok() {

@@ -1,9 +1,10 @@
 -- The numbers of client starts, one more after another.
-use Rattle.std.proofs.Common.{◌≡◌, ℕ, suc, zero, ◌+◌, ◌-◌, ◌≤◌, ◌<◌, Bool, List, [], ◌∷◌, ◌++◌, length, map, refl, sym, ap, subst, ◌∙◌, append_assoc, append-nil, get_or, inl, inr, arith}
+use Rattle.std.proofs.Common.{◌≡◌, ℕ, suc, zero, ◌+◌, ◌-◌, ◌≤◌, ◌<◌, List, [], ◌∷◌, ◌++◌, length, sym, ap, ◌∙◌, append_assoc, append-nil, get_or, inl, inr, arith}
 use Rattle.std.specs.List.{Contains, range_with_len}
 use Rattle.std.proofs.lemmas.List.{length-map}
 use Rattle.std.proofs.Math.ListN.{get_or-map}
 use Rattle.roam_sockets.specs.Clients.{Accepts, AcceptsOne, Stays, numbers_of}
+use Rattle.mio.specs.declared.net.uds.stream.UnixStream.{UnixStream}
 use Rattle.roam_sockets.specs.declared.clients.ClientPeer.{ClientPeer}
 use Rattle.roam_sockets.specs.declared.clients.Clients.{Clients}
 
@@ -49,7 +50,7 @@ accepts_one old mid new so_far one =
     elim one [ inl stays ↦ accepts_same old mid new so_far stays | inr came ↦ accepts_more old mid new so_far came.0 came.1 ]
 
 -- the number of the one at a place is among them
-pub contained : (all : List ClientPeer) (at : ℕ) (d : ClientPeer) → at < length all → d ≡ get_or all at d → Contains (numbers_of all) (get_or all at d).number
+pub contained : (all : List (ClientPeer UnixStream)) (at : ℕ) (d : ClientPeer UnixStream) → at < length all → d ≡ get_or all at d → Contains (numbers_of all) (get_or all at d).number
 contained all at d lt is =
-    let long : length (numbers_of all) ≡ length all = length-map all (λ (peer : ClientPeer). peer.number) in
-    (at, omega (arith, long), ap (λ (p : ClientPeer). get_or (numbers_of all) at p.number) (sym is) ∙ get_or-map (λ (p : ClientPeer). p.number) all at d)
+    let long : length (numbers_of all) ≡ length all = length-map all (λ (peer : ClientPeer UnixStream). peer.number) in
+    (at, omega (arith, long), ap (λ (p : ClientPeer UnixStream). get_or (numbers_of all) at p.number) (sym is) ∙ get_or-map (λ (p : ClientPeer UnixStream). p.number) all at d)

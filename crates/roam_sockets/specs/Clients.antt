@@ -1,13 +1,17 @@
 -- Client starts that reach a server over streams: each has a number of its own.
-use Rattle.std.specs.Prelude.{◌≡◌, ◌⊎◌, ℕ, ◌+◌, ◌-◌, ◌≤◌, List, [], ◌∷◌, ◌++◌, map}
-use Rattle.std.specs.List.{Contains, range_with_len}
+use Rattle.std.specs.Prelude.{◌≡◌, ◌≢◌, ◌⊎◌, ℕ, ◌+◌, ◌-◌, ◌%◌, ◌≤◌, ◌<◌, true, List, [], ◌∷◌, ◌++◌, length, map, slice_get, Option, Some, None, IfSome, IsOk, Bool, not}
+use Rattle.std.specs.List.{AllZip, Contains, filter, range_with_len}
 use Rattle.roam_hub.specs.declared.addresses.Addr.{Addr}
+use Rattle.roam_frames.specs.declared.frames.Front.TheVariants.{Part}
+use Rattle.roam_frames.specs.Frames.{front_of}
+use Rattle.roam_frames.specs.Queues.{IsQueued}
+use Rattle.roam_frames.specs.Streams.{Answer, HasAnswered, HasStopped}
 use Rattle.roam_sockets.specs.Addresses.{address_of}
 use Rattle.roam_sockets.specs.declared.clients.ClientPeer.{ClientPeer}
 use Rattle.roam_sockets.specs.declared.clients.Clients.{Clients}
 
 -- the numbers of those that are there
-abbrev pub numbers_of : List ClientPeer → List ℕ
+abbrev pub numbers_of : {S : Type 0} → List (ClientPeer S) → List ℕ
 numbers_of peers = map (λ peer. peer.number) peers
 
 -- those that came now stand behind the others under the numbers after the last that was given
@@ -28,3 +32,71 @@ AcceptsOne old new = Stays old new
 -- an address is that of one that is there
 abbrev pub IsOf : Clients → Addr → Type 0
 IsOf clients addr = (number : ℕ) × Contains (numbers_of clients.all.items) number × (addr ≡ address_of number)
+
+-- a client start that was asked has no whole datagram now, or its stream is over
+abbrev pub HasNone : {S : Type 0} → ClientPeer S → Type 0
+HasNone peer = (peer.carrier.over ≡ true) ⊎ (front_of peer.carrier.frames ≡ Part)
+
+-- the one at a place has none
+abbrev pub HasNoneAt : {S : Type 0} → List (ClientPeer S) → ℕ → Type 0
+HasNoneAt all at = IfSome (slice_get all at) HasNone
+
+-- so many places behind a first one, round
+abbrev pub place_behind : ℕ → ℕ → ℕ → ℕ
+place_behind count first step = (first % count + step) % count
+
+-- the one at a place is the next in its turn: all others from the first place on to it have none
+pub record IsNext {S : Type 0} (all : List (ClientPeer S)) (first at : ℕ) : Type 0 where
+  pub step : ℕ
+  pub within : at < length all
+  pub is : at ≡ place_behind (length all) first step
+  pub before : (k : ℕ) → k < step → place_behind (length all) first k ≢ at → HasNoneAt all (place_behind (length all) first k)
+
+-- A datagram came from the next in its turn, and another time the one behind it is asked first.
+pub record IsInTurn (old new : Clients) (from : Addr) : Type 0 where
+  pub at : ℕ
+  pub next : IsNext new.all.items old.turn at
+  pub is : IfSome (slice_get new.all.items at) (λ peer. from ≡ address_of peer.number)
+  pub turn : new.turn ≡ at + 1
+
+-- the one at a place has a number
+abbrev pub IsPlaceOf : {S : Type 0} → List (ClientPeer S) → ℕ → ℕ → Type 0
+IsPlaceOf {S} all at number = (peer : ClientPeer S) × (slice_get all at ≡ Some peer) × (peer.number ≡ number)
+
+-- a datagram was queued for the one at a place, and no other changed
+pub record IsQueuedAt {S : Type 0} (olds news : List (ClientPeer S)) (at : ℕ) (datagram : List ℕ) : Type 0 where
+  pub old : ClientPeer S
+  pub new : ClientPeer S
+  pub there : slice_get olds at ≡ Some old
+  pub then_there : slice_get news at ≡ Some new
+  pub queued : IsQueued old.carrier.queue datagram new.carrier.queue
+  pub others : (k : ℕ) → k ≢ at → slice_get news k ≡ slice_get olds k
+
+-- it was for the one of a number
+abbrev pub IsQueuedFor : {S : Type 0} → List (ClientPeer S) → List (ClientPeer S) → Option ℕ → List ℕ → Type 0
+IsQueuedFor olds news None datagram = ⊥
+IsQueuedFor olds news (Some number) datagram = (at : ℕ) × IsPlaceOf olds at number × IsQueuedAt olds news at datagram
+
+-- what a stream answers to reads and writes, where that is known
+abbrev pub AnswersOf : Type 0 → Type 0
+AnswersOf S = S → Option (List Answer)
+
+-- as much was written of what waits for a client start as goes at this moment
+abbrev pub IsDone : {S : Type 0} → AnswersOf S → ClientPeer S → ClientPeer S → Type 0
+IsDone answers old new =
+    HasStopped new.carrier.over new.carrier.queue.waiting (answers old.carrier.stream) (answers new.carrier.stream)
+
+-- it was, or some was written
+pub record IsFlushed {S : Type 0} (answers : AnswersOf S) (old new : ClientPeer S) : Type 0 where
+  pub number : new.number ≡ old.number
+  pub tried : IsDone answers old new ⊎ HasAnswered IsOk (answers old.carrier.stream) (answers new.carrier.stream)
+
+-- its stream isn't over
+abbrev pub is_open : {S : Type 0} → ClientPeer S → Bool
+is_open peer = not peer.carrier.over
+
+-- what waited for each was written, some of it or as much as goes, and those stay whose stream isn't over
+pub record KeepsOpen {S : Type 0} (answers : AnswersOf S) (olds news : List (ClientPeer S)) : Type 0 where
+  pub mids : List (ClientPeer S)
+  pub each : AllZip (IsFlushed answers) olds mids
+  pub open_ones : news ≡ filter is_open mids

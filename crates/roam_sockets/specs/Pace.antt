@@ -1,5 +1,5 @@
 -- How fast datagrams go to one address.
-use Rattle.std.specs.Prelude.{ℕ, ◌+◌, ◌==◌, Bool, nat_lt, if◌then◌else◌}
+use Rattle.std.specs.Prelude.{ℕ, ◌==◌, Bool, nat_lt, if◌then◌else◌}
 use Rattle.roam_sockets.specs.declared.pace.Pace.{Pace}
 
 -- a socket of loopback holds some 90 datagrams that wait to be read: so many go to one address in a millisecond

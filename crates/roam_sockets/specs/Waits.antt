@@ -16,3 +16,7 @@ tell_of_no_reader events = list_any is_unread events
 abbrev pub wait_until : Option ℕ → ℕ → ℕ
 wait_until None now = 3600000
 wait_until (Some due) now = if nat_le due now then 10 else min 3600000 (due - now)
+
+-- how long may be waited where datagrams are kept back by their pace, or aren't: a millisecond, or until what is due
+abbrev pub wait_for : Option ℕ → ℕ → Bool → ℕ
+wait_for due now is_paced = if is_paced then 1 else wait_until due now

@@ -1,15 +1,16 @@
 //! The streams of client starts at a server's socket.
-ghost use Rattle.std.specs.Prelude.{◌≡◌, ◌⊎◌, ◌++◌, ◌+◌, ◌<◌, ◌≤◌, ◌^◌, ℕ, [], ◌∷◌, true, length, IfErr, IfOk, IfSome, OnErr, OnOk, IsOkUnless, string_bytes};
-ghost use Rattle.std.specs.List.{Contains};
+ghost use Rattle.std.specs.Prelude.{◌≡◌, ◌≢◌, ◌⊎◌, ◌++◌, ◌+◌, ◌<◌, ◌≤◌, ◌^◌, ℕ, [], ◌∷◌, length, slice_get, true, None, IfErr, IfOk, IfSome, OnErr, OnOk, IsOkUnless, string_bytes};
+ghost use Rattle.std.specs.List.{AllZip, Contains};
 ghost use Rattle.roam_sockets.specs.Addresses.{address_of, number_of};
-ghost use Rattle.roam_sockets.specs.Clients.{Accepts, AcceptsOne, IsOf, Stays, numbers_of};
+ghost use Rattle.roam_sockets.specs.Clients.{Accepts, AcceptsOne, HasNoneAt, IsDone, IsFlushed, IsInTurn, IsNext, IsOf, IsPlaceOf, IsQueuedAt, IsQueuedFor, KeepsOpen, Stays, numbers_of, place_behind};
 
+use crate::arrivals::Arrivals;
 use crate::files::listen;
 use crate::waits::Waits;
 use mio::net::{UnixListener, UnixStream};
 use roam_cells::Fault;
 use roam_faults::RunFault;
-use roam_frames::Carrier;
+use roam_frames::{Carrier, Stream};
 use roam_hub::Addr;
 use std::alloc::Global;
 use std::fs::{Files, remove_file};
@@ -23,9 +24,9 @@ const NUMBERS_END: u64 = 1 << 40;
 
 /// A client start at the other end of a stream, by its number.
 #[derive(Drop)]
-pub(crate) struct ClientPeer {
+pub(crate) struct ClientPeer<S> {
     number: u64,
-    carrier: Carrier<UnixStream>,
+    carrier: Carrier<S>,
 }
 
 /// The socket at which client starts reach a server, and the streams of those that are there. Each has an address of network 0, which no
@@ -34,7 +35,7 @@ pub(crate) struct ClientPeer {
 pub struct Clients {
     path: String,
     listener: UnixListener,
-    all: Vec<ClientPeer>,
+    all: Vec<ClientPeer<UnixStream>>,
     last: u64,
     turn: usize,
 }
@@ -73,16 +74,20 @@ fn number_of(addr: Addr) -> Option<u64>
 // A datagram that came from one of them, each asked once from a place on: whose place it is, from where, and how many bytes of `buf` it
 // fills from the front.
 fn receive_from(
-    all: &mut [ClientPeer],
+    all: &mut [ClientPeer<UnixStream>],
     first: usize,
     buf: &mut [u8],
 ) -> Option<(usize, Addr, usize)>
     ensures within { IfSome result (λ r. r.2 ≤ length buf.new) }
     ensures from { IfSome result (λ r. (number : ℕ) × Contains (numbers_of all.old) number × (r.1 ≡ address_of number)) }
+    ensures next { IfSome result (λ r. IsNext all.new first r.0) }
+    ensures is { IfSome result (λ r. IfSome (slice_get all.new r.0) (λ peer. r.1 ≡ address_of peer.number)) }
+    ensures none { result ≡ None → (k : ℕ) → k < length all.old → HasNoneAt all.new (place_behind (length all.old) first k) }
     ensures stays { numbers_of all.new ≡ numbers_of all.old }
 {
-    for step in 0..all.len() {
-        let at = first.wrapping_add(step) % all.len();
+    let count = all.len();
+    for step in 0..count {
+        let at = (first % count + step) % count;
         if let Some((from, len)) = receive_at(all, at, buf) {
             return Some((at, from, len));
         }
@@ -91,10 +96,17 @@ fn receive_from(
 }
 
 // A datagram that came from the one at a place.
-fn receive_at(all: &mut [ClientPeer], at: usize, buf: &mut [u8]) -> Option<(Addr, usize)>
+fn receive_at(
+    all: &mut [ClientPeer<UnixStream>],
+    at: usize,
+    buf: &mut [u8],
+) -> Option<(Addr, usize)>
     requires within { at < length all.old }
     ensures within { IfSome result (λ r. r.1 ≤ length buf.new) }
     ensures from { IfSome result (λ r. (number : ℕ) × Contains (numbers_of all.old) number × (r.0 ≡ address_of number)) }
+    ensures is { IfSome result (λ r. IfSome (slice_get all.new at) (λ peer. r.0 ≡ address_of peer.number)) }
+    ensures none { result ≡ None → HasNoneAt all.new at }
+    ensures others { (k : ℕ) → k ≢ at → slice_get all.new k ≡ slice_get all.old k }
     ensures stays { numbers_of all.new ≡ numbers_of all.old }
 {
     let peer = &mut all[at];
@@ -102,25 +114,50 @@ fn receive_at(all: &mut [ClientPeer], at: usize, buf: &mut [u8]) -> Option<(Addr
     Some((address_of(peer.number), len))
 }
 
-// Queues a datagram for the one at a place.
-fn send_at(all: &mut [ClientPeer], at: usize, bytes: &[u8]) -> bool
+// Queues a datagram for the one at a place, and tells whether it did.
+fn send_at(all: &mut [ClientPeer<UnixStream>], at: usize, bytes: &[u8]) -> bool
     requires within { at < length all.old }
+    ensures queued { result ≡ true → IsQueuedAt all.old all.new at bytes.now }
     ensures stays { numbers_of all.new ≡ numbers_of all.old }
 {
     let peer = &mut all[at];
     peer.carrier.send(bytes)
 }
 
-// Writes what waits for them, and tells whether that was all that goes at this moment.
-fn flush_all(all: &mut [ClientPeer]) -> bool
-    ensures stays { numbers_of all.new ≡ numbers_of all.old }
+// Writes what waits for each, and tells whether that was all that goes at this moment.
+fn flush_all<S: Stream>(all: &mut [ClientPeer<S>]) -> bool
+    ensures each { AllZip (λ old new. IsFlushed S.answers old new) all.old all.new }
+    ensures done { result ≡ true → AllZip (λ old new. IsDone S.answers old new) all.old all.new }
 {
-    let mut is_all = true;
-    for peer in all.iter_mut() {
-        let is_done = peer.carrier.flush();
-        is_all = is_all && is_done;
+    let Some((first, others)) = all.split_first_mut() else {
+        return true;
+    };
+    let is_done = first.carrier.flush();
+    flush_all(others) && is_done
+}
+
+// The place of the one of a number.
+fn place_of(all: &[ClientPeer<UnixStream>], number: u64) -> Option<usize>
+    ensures found { IfSome result (λ at. IsPlaceOf all.now at number) }
+    ensures within { IfSome result (λ at. at < length all.now) }
+{
+    for (at, peer) in all.iter().enumerate() {
+        if peer.number == number {
+            return Some(at);
+        }
     }
-    is_all
+    None
+}
+
+impl Arrivals for Clients {
+    fn next_arrival(&mut self, buf: &mut [u8]) -> Option<(Addr, usize)>
+        ensures within { IfSome result (λ r. r.1 ≤ length buf.new) }
+        ensures from { IfSome result (λ r. IsOf self.old r.0) }
+        ensures turn { IfSome result (λ r. IsInTurn self.old self.new r.0) }
+        ensures stays { Stays self.old self.new }
+    {
+        self.receive(buf)
+    }
 }
 
 impl Clients {
@@ -191,22 +228,24 @@ impl Clients {
     pub fn receive(&mut self, buf: &mut [u8]) -> Option<(Addr, usize)>
         ensures within { IfSome result (λ r. r.1 ≤ length buf.new) }
         ensures from { IfSome result (λ r. IsOf self.old r.0) }
+        ensures turn { IfSome result (λ r. IsInTurn self.old self.new r.0) }
         ensures stays { Stays self.old self.new }
     {
         let (at, from, len) = receive_from(&mut self.all, self.turn, buf)?;
-        self.turn = at.wrapping_add(1);
+        self.turn = at + 1;
         Some((from, len))
     }
 
     /// Queues a datagram for the one at an address, and tells whether it did: it is lost where nobody is there any more, and where much
     /// waits for who is.
     pub fn send(&mut self, to: Addr, bytes: &[u8]) -> bool
+        ensures queued { result ≡ true → IsQueuedFor self.old.all.items self.new.all.items (number_of to) bytes.now }
         ensures stays { Stays self.old self.new }
     {
         let Some(number) = number_of(to) else {
             return false;
         };
-        match self.all.iter().position(|peer| peer.number == number) {
+        match place_of(&self.all, number) {
             Some(at) => send_at(&mut self.all, at, bytes),
             None => false,
         }
@@ -215,6 +254,7 @@ impl Clients {
     /// Writes what waits for them, as much as goes now, and lets those go that left. Tells whether that was all that goes at this moment.
     pub fn flush(&mut self) -> bool
         ensures last { self.new.last ≡ self.old.last }
+        ensures keeps { KeepsOpen ⟦<UnixStream as Stream>⟧.answers self.old.all.items self.new.all.items }
     {
         let is_all = flush_all(&mut self.all);
         self.all.retain(|peer| !peer.carrier.is_over());

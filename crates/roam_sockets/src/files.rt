@@ -1,6 +1,10 @@
 //! The files of sockets, the folder that they lie in, and what its user alone may read.
+ghost use Rattle.std.specs.Prelude.{◌≡◌, ◌≢◌, ◌↔◌, IsOk, Err};
+ghost use Rattle.std.specs.Fs.{IsDir};
+ghost use Rattle.roam_sockets.specs.Folders.{MayHold};
+
 use mio::net::{UnixListener, UnixStream};
-use std::fs::{Files, OpenOptions, metadata, remove_file, rename, symlink_metadata};
+use std::fs::{FileType, Files, OpenOptions, metadata, remove_file, rename, symlink_metadata};
 use std::io;
 use std::io::{ErrorKind, Write};
 use std::net::Net;
@@ -64,22 +68,45 @@ pub enum FolderFault {
     Open,
 }
 
+/// Whether what is there may hold a server's sockets, by its kind, whose it is, whose this process is, and its permissions; where it has to
+/// be the user's alone, nobody else may have any.
+pub fn may_hold(
+    kind: &FileType,
+    owner: u32,
+    own: u32,
+    mode: u32,
+    is_alone: bool,
+) -> Result<(), FolderFault>
+    ensures may { IsOk result ↔ MayHold kind.now owner own mode is_alone }
+    ensures no_folder { (result ≡ Err FolderFault.NoFolder) ↔ (IsDir kind.now → ⊥) }
+    ensures not_own { (result ≡ Err FolderFault.NotOwn) ↔ (IsDir kind.now × (owner ≢ own)) }
+    ensures found { result ≢ Err FolderFault.Missing }
+{
+    if !kind.is_dir() {
+        return Err(FolderFault::NoFolder);
+    }
+    if owner != own {
+        return Err(FolderFault::NotOwn);
+    }
+    if is_alone && mode & OTHERS != 0 {
+        return Err(FolderFault::Open);
+    }
+    Ok(())
+}
+
 /// Whether a folder is this user's own, and no link to one; where it has to be theirs alone, whether nobody else may enter it.
 pub fn own_folder(files: &impl Files, folder: &str, is_alone: bool) -> Result<(), FolderFault> {
     let (Ok(found), Ok(process)) = (symlink_metadata(files, folder), metadata(files, PROCESS))
     else {
         return Err(FolderFault::Missing);
     };
-    if !found.is_dir() {
-        return Err(FolderFault::NoFolder);
-    }
-    if found.uid() != process.uid() {
-        return Err(FolderFault::NotOwn);
-    }
-    if is_alone && found.mode() & OTHERS != 0 {
-        return Err(FolderFault::Open);
-    }
-    Ok(())
+    may_hold(
+        &found.file_type(),
+        found.uid(),
+        process.uid(),
+        found.mode(),
+        is_alone,
+    )
 }
 
 /// Binds a path once more, to see why it can't be, and leaves nothing there.

@@ -3,7 +3,7 @@ ghost use Rattle.std.specs.Prelude.{◌≡◌, ◌+◌, ◌<◌, ◌==◌};
 ghost use Rattle.roam_sockets.specs.Pace.{gone_at, may_go, most_a_moment};
 
 /// How many datagrams go to one address at one moment.
-pub(crate) const MOST_A_MOMENT: u32 = 48;
+const MOST_A_MOMENT: u32 = 48;
 
 /// How many datagrams went to an address at a moment.
 #[derive(Clone, Copy, Debug)]

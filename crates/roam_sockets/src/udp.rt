@@ -1,31 +1,23 @@
 //! UDP on loopback.
-ghost use Rattle.std.specs.Prelude.{◌≡◌, ◌⊎◌, ◌+◌, ◌≤◌, [], ◌∷◌, length, IfOk, IfSome, IfErr};
+ghost use Rattle.std.specs.Prelude.{◌≡◌, ◌⊎◌, ◌≤◌, [], ◌∷◌, length, not, None, IfOk, IfSome, IfErr};
+ghost use Rattle.roam_sockets.specs.Addresses.{number_of};
+ghost use Rattle.roam_sockets.specs.Lanes.{Flushes, SendsTo, is_any_waiting};
 
-use crate::pace::{MOST_A_MOMENT, Pace};
+use crate::arrivals::Arrivals;
+use crate::lanes::{DatagramSocket, Paced};
 use crate::waits::Waits;
 use mio::net::UdpSocket;
 use roam_faults::RunFault;
-use roam_frames::{Queue, first_in};
 use roam_hub::Addr;
 use std::alloc::Global;
 use std::io;
 use std::net::{IpAddr, Ipv4Addr, Net, SocketAddr};
 
-/// What waits for an address, and how fast it goes there.
-#[derive(Drop)]
-struct Lane {
-    to: Addr,
-    queue: Queue,
-    pace: Pace,
-}
-
 /// A UDP socket on loopback. What goes to one address is paced: 48 datagrams in a millisecond, of an instruction all or none.
 #[derive(Drop)]
 pub struct Udp {
-    socket: UdpSocket,
+    paced: Paced<UdpSocket>,
     port: u16,
-    alloc: Global,
-    lanes: Vec<Lane>,
 }
 
 /// A port of this machine.
@@ -43,47 +35,22 @@ fn socket_addr(addr: Addr) -> SocketAddr {
     SocketAddr::new(IpAddr::V4(Ipv4Addr::new(a, b, c, d)), addr.port)
 }
 
-// Sends a datagram, and tells whether it went.
-fn send_at_once(socket: &UdpSocket, to: Addr, bytes: &[u8]) -> bool {
-    match socket.send_to(bytes, socket_addr(to)) {
-        Ok(len) => len == bytes.len(),
-        Err(_) => false,
+impl DatagramSocket for UdpSocket {
+    fn send_once(&mut self, to: Addr, datagram: &[u8]) -> bool {
+        match self.send_to(datagram, socket_addr(to)) {
+            Ok(len) => len == datagram.len(),
+            Err(_) => false,
+        }
     }
 }
 
-impl Lane {
-    // Queues a datagram, and sends what may go at this moment; tells whether it was queued. The queue has to see each, also one that goes
-    // at once: it takes the later ones of an instruction where it took those before.
-    fn send(&mut self, socket: &UdpSocket, bytes: &[u8], now: u64) -> bool {
-        let is_queued = self.queue.push(bytes);
-        self.send_waiting(socket, now);
-        is_queued
-    }
-
-    // Sends the datagram that waits longest, where one does and may go at this moment, and tells whether it did.
-    fn send_first(&mut self, socket: &UdpSocket, now: u64) -> bool {
-        if !self.pace.may_go(now) {
-            return false;
-        }
-        let Some(datagram) = first_in(self.queue.front()) else {
-            return false;
-        };
-        let framed = datagram.len() + 2;
-        // One that isn't sent is a loss.
-        let _ = send_at_once(socket, self.to, datagram);
-        self.queue.took(framed);
-        self.pace.went(now);
-        true
-    }
-
-    // Sends what waits, as much as may go at this moment, and tells whether that was all.
-    fn send_waiting(&mut self, socket: &UdpSocket, now: u64) -> bool {
-        for _ in 0..MOST_A_MOMENT {
-            if !self.send_first(socket, now) {
-                break;
-            }
-        }
-        self.queue.front().is_empty()
+impl Arrivals for Udp {
+    fn next_arrival(&mut self, buf: &mut [u8]) -> Option<(Addr, usize)>
+        ensures within { IfSome result (λ r. r.1 ≤ length buf.new) }
+        ensures far { IfSome result (λ r. number_of r.0 ≡ None) }
+        ensures port { self.new.port ≡ self.old.port }
+    {
+        self.receive(buf)
     }
 }
 
@@ -108,10 +75,8 @@ impl Udp {
         };
         waits.report(&mut socket, false);
         Ok(Udp {
-            socket,
+            paced: Paced::new(alloc, socket),
             port: if port == 0 { bound } else { port },
-            alloc,
-            lanes: Vec::new(alloc),
         })
     }
 
@@ -126,9 +91,10 @@ impl Udp {
     /// dropped: its addresses are those of streams.
     pub fn receive(&mut self, buf: &mut [u8]) -> Option<(Addr, usize)>
         ensures within { IfSome result (λ r. r.1 ≤ length buf.new) }
+        ensures far { IfSome result (λ r. number_of r.0 ≡ None) }
         ensures port { self.new.port ≡ self.old.port }
     {
-        match self.socket.recv_from(buf) {
+        match self.paced.socket().recv_from(buf) {
             Ok((len, SocketAddr::V4(from))) if from.ip().octets()[0] != 0 => {
                 let from = Addr {
                     host: from.ip().octets(),
@@ -140,47 +106,20 @@ impl Udp {
         }
     }
 
-    // The place of an address's lane, which is made where there is none; none where there is no memory for it.
-    fn lane(&mut self, to: Addr) -> Option<usize>
-        ensures within { IfSome result (λ at. at + 1 ≤ length self.new.lanes.items) }
-        ensures port { self.new.port ≡ self.old.port }
-    {
-        if let Some(at) = self.lanes.iter().position(|lane| lane.to == to) {
-            return Some(at);
-        }
-        let at = self.lanes.len();
-        let lane = Lane {
-            to,
-            queue: Queue::new(self.alloc),
-            pace: Pace::new(),
-        };
-        self.lanes.push(lane).ok()?;
-        Some(at)
-    }
-
     /// Sends a datagram at a moment, or queues it where enough went to this address then; tells whether either was done.
     pub fn send(&mut self, to: Addr, bytes: &[u8], now: u64) -> bool
         ensures port { self.new.port ≡ self.old.port }
+        ensures sends { SendsTo now to self.old.paced.lanes.items self.new.paced.lanes.items bytes.now result None None }
     {
-        match self.lane(to) {
-            Some(at) => {
-                let lane = &mut self.lanes[at];
-                lane.send(&self.socket, bytes, now)
-            }
-            None => send_at_once(&self.socket, to, bytes),
-        }
+        self.paced.send(to, bytes, now)
     }
 
     /// Sends what waits, as much as may go at this moment, and tells whether that was all.
     pub fn flush(&mut self, now: u64) -> bool
         ensures port { self.new.port ≡ self.old.port }
+        ensures flushes { Flushes now self.old.paced.lanes.items self.new.paced.lanes.items None None result }
+        ensures all { result ≡ not (is_any_waiting self.new.paced.lanes.items) }
     {
-        let mut is_all = true;
-        for lane in self.lanes.iter_mut() {
-            is_all = lane.send_waiting(&self.socket, now) && is_all;
-        }
-        // An address to which nothing waits, and nothing went at this moment, is forgotten.
-        self.lanes.retain(|lane| !lane.queue.front().is_empty() || lane.pace.is_at(now));
-        is_all
+        self.paced.flush(now)
     }
 }

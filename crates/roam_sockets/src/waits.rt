@@ -1,7 +1,7 @@
 //! The wait for what comes.
-ghost use Rattle.std.specs.Prelude.{◌≡◌, ◌⊎◌, ◌&&◌, ◌||◌, true, false, IfErr, IfOk};
+ghost use Rattle.std.specs.Prelude.{◌≡◌, ◌⊎◌, ◌&&◌, ◌||◌, true, false, Some, None, IfErr, IfOk, if◌then◌else◌};
 ghost use Rattle.mio.specs.Events.{items};
-ghost use Rattle.roam_sockets.specs.Waits.{tell_of_no_reader, wait_until};
+ghost use Rattle.roam_sockets.specs.Waits.{tell_of_no_reader, wait_for, wait_until};
 
 use mio::event::Source;
 use mio::unix::SourceFd;
@@ -33,6 +33,23 @@ pub struct Waits {
     events: Events<Global>,
     quiet: bool,
     unread: bool,
+    // How many milliseconds the last call might wait, where it waited.
+    longest: Option<u64>,
+}
+
+/// How many milliseconds a program waits where datagrams are kept back so that they go at a pace.
+const PACE_WAIT: u64 = 1;
+
+/// How many milliseconds may be waited where datagrams may be kept back so that they go at a pace: one where they are, else until what is
+/// due.
+pub fn wait_for(due: Option<u64>, now: u64, is_paced: bool) -> u64
+    ensures wait { result ≡ wait_for due now is_paced }
+{
+    if is_paced {
+        PACE_WAIT
+    } else {
+        wait_until(due, now)
+    }
 }
 
 /// How many milliseconds may be waited from a moment on for what is due at another, if ever, after all that was due before was done: ten
@@ -72,6 +89,7 @@ impl Waits {
             events,
             quiet: true,
             unread: false,
+            longest: None,
         })
     }
 
@@ -129,7 +147,9 @@ impl Waits {
     pub fn rest(&mut self, longest: u64)
         ensures quiet { self.new.quiet ≡ true }
         ensures unread { self.new.unread ≡ (self.old.unread || (self.old.quiet && tell_of_no_reader (items self.new.events))) }
+        ensures longest { self.new.longest ≡ (if self.old.quiet then Some longest else None) }
     {
+        self.longest = if self.quiet { Some(longest) } else { None };
         if self.quiet {
             // A wait that fails is over at once.
             let _ = self

@@ -1,8 +1,6 @@
 -- The acts that come over a stream, one a line, cut into pieces anywhere (this project's profile).
-use Rattle.std.specs.Prelude.{◌≡◌, ◌≢◌, ◌⊎◌, ℕ, ◌+◌, ◌-◌, ◌^◌, ◌≤◌, min, List, [], ◌∷◌, ◌++◌, length, take, Option, Some, None, Result, Ok, Err}
-use Rattle.std.specs.IoError.{error_kind}
+use Rattle.std.specs.Prelude.{◌≡◌, ◌≢◌, ℕ, ◌+◌, ◌-◌, ◌^◌, ◌≤◌, min, List, [], ◌∷◌, ◌++◌, length, take, Option, Some, None, Result, Ok, Err}
 use Rattle.std.specs.declared.io.Error.{Error}
-use Rattle.std.specs.declared.io.ErrorKind.TheVariants.{Interrupted, WouldBlock}
 use Rattle.std.specs.List.{All, flat_map}
 use Rattle.roam_acts.specs.declared.acts.Act.{Act}
 use Rattle.roam_typing.specs.Keys.{lines_of, IsLineOf, AreLinesOf}
@@ -102,15 +100,6 @@ refused_at stream [] = spoiled_at stream
 refused_at stream (act ∷ acts) = None
 
 -- ---- what is read of it
-
--- a read that failed so may bring something later
-abbrev pub ForNow : Error → Type 0
-ForNow error = (error_kind error ≡ WouldBlock) ⊎ (error_kind error ≡ Interrupted)
-
--- a stream whose read answers so is at its end: there is nothing more of it, or it has failed
-abbrev pub IsStreamEnd : Result ℕ Error → Type 0
-IsStreamEnd (Ok n) = n ≡ 0
-IsStreamEnd (Err error) = ForNow error → ⊥
 
 -- the most bytes that are read at once
 abbrev pub longest_piece : ℕ

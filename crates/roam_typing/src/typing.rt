@@ -5,14 +5,16 @@ ghost use Rattle.std.specs.Option.{option_copied};
 ghost use Rattle.std.specs.Io.KnownBytes.{Consumes};
 ghost use Rattle.roam_acts.specs.declared.acts.Act.{Act as ActOf};
 ghost use Rattle.roam_acts.specs.Acts.{IsInRange};
-ghost use Rattle.roam_typing.specs.Typing.{EndsLine, ForNow, GoesOn, IsStreamEnd, Reads, ReadsOn, Stands, bytes_given, last_of, longest_piece, refused_at};
+ghost use Rattle.roam_faults.specs.Streams.{IsStreamEnd};
+ghost use Rattle.roam_typing.specs.Typing.{EndsLine, GoesOn, Reads, ReadsOn, Stands, bytes_given, last_of, longest_piece, refused_at};
 
 use roam_acts::{Act, read_act};
 use roam_cells::Fault;
+use roam_faults::is_stream_end;
 use std::alloc::Global;
 use std::collections::VecDeque;
 use std::io;
-use std::io::{Empty, ErrorKind, Read};
+use std::io::{Empty, Read};
 
 /// How many bytes are read at once at most.
 const PIECE: usize = 1024;
@@ -64,13 +66,6 @@ fn push_act(waiting: &mut VecDeque<Act>, act: Act) -> Result<(), Fault>
 {
     waiting.push_back(act)?;
     Ok(())
-}
-
-// Whether a read that failed so may bring something later.
-fn is_for_now(error: &io::Error) -> bool
-    ensures for_now { IsTrue result ↔ ForNow error.now }
-{
-    matches!(error.kind(), ErrorKind::WouldBlock | ErrorKind::Interrupted)
 }
 
 impl ActLines {
@@ -177,15 +172,12 @@ impl ActLines {
         ensures in_range { OnOk result (All IsInRange self.old.waiting.items → All IsInRange self.new.waiting.items) }
         ensures fault { IsOkUnless result Fault.OutOfMemory }
     {
+        if is_stream_end(answer) {
+            return self.end();
+        }
         match answer {
-            Ok(0) => self.end(),
             Ok(count) => self.take_piece(&buf[..*count]),
-            Err(error) => {
-                if is_for_now(error) {
-                    return Ok(());
-                }
-                self.end()
-            }
+            Err(_) => Ok(()),
         }
     }
 }

@@ -1,16 +1,22 @@
 use Rattle.std.proofs.Common.{◌∷◌, subst, sym}
-use Rattle.std.specs.List.{All}
-use Rattle.roam_serving.proofs.Telling.{IsTold, told_first}
+use Rattle.std.specs.List.{AllZip}
+use Rattle.roam_serving.specs.Following.{IsTold}
+use Rattle.roam_serving.proofs.Asked.{asked_more}
+use Rattle.roam_serving.proofs.Telling.{told_by}
 use Rattle.roam_serving.proofs.following.+tell_each.Goals as goal
 
 pub returns-then-tell_each-clause-told : goal.returns-then-tell_each-clause-told
-returns-then-tell_each-clause-told t c =
-    subst (λ olds. All (IsTold c.args.now.now olds) (c.tell.new.self ∷ c.tell_each.new.all)) (sym c.in-Some.ensures.cases.0)
-    (told_first c.args.now.now c.in-Some.first.now c.take_lines-may_ask.new.self c.tell.new.self c.in-Some.others.now
-    c.tell_each.new.all c.take_lines-may_ask.ensures.replies c.tell.ensures.tells c.tell_each.ensures.told)
+returns-then-tell_each-clause-told g t c =
+    subst (λ olds. AllZip (IsTold g.S.Stream.contents c.args.now.now) olds (c.tell.new.self ∷ c.tell_each.new.all)) (sym c.in-Some.ensures.cases.0)
+    (told_by _ _ _ _ _ _ c.take_lines-may_ask.ensures.replies c.tell.ensures.tells, c.tell_each.ensures.told)
+
+pub returns-then-tell_each-clause-asked : goal.returns-then-tell_each-clause-asked
+returns-then-tell_each-clause-asked g t c = asked_more _ _ _ _ _ c.take_lines-may_ask.ensures.asked c.tell_each.ensures.asked
 
 pub returns-else-tell_each-clause-told : goal.returns-else-tell_each-clause-told
-returns-else-tell_each-clause-told t c =
-    subst (λ olds. All (IsTold c.args.now.now olds) (c.tell.new.self ∷ c.tell_each.new.all)) (sym c.in-Some.ensures.cases.0)
-    (told_first c.args.now.now c.in-Some.first.now c.take_lines-may_ask.new.self c.tell.new.self c.in-Some.others.now
-    c.tell_each.new.all c.take_lines-may_ask.ensures.replies c.tell.ensures.tells c.tell_each.ensures.told)
+returns-else-tell_each-clause-told g t c =
+    subst (λ olds. AllZip (IsTold g.S.Stream.contents c.args.now.now) olds (c.tell.new.self ∷ c.tell_each.new.all)) (sym c.in-Some.ensures.cases.0)
+    (told_by _ _ _ _ _ _ c.take_lines-may_ask.ensures.replies c.tell.ensures.tells, c.tell_each.ensures.told)
+
+pub returns-else-tell_each-clause-asked : goal.returns-else-tell_each-clause-asked
+returns-else-tell_each-clause-asked g t c = asked_more _ _ _ _ _ c.take_lines-may_ask.ensures.asked c.tell_each.ensures.asked

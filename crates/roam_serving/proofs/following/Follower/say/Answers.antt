@@ -3,10 +3,8 @@ use Rattle.std.specs.Prelude.{is_err}
 use Rattle.roam_serving.proofs.Telling.{grown, one_said}
 use Rattle.roam_serving.proofs.following.Follower.say.Goals as goal
 
-pub returns-else-is_err : goal.returns-else-is_err
-returns-else-is_err c =
+pub returns-else-is_err-clause-replies : goal.returns-else-is_err-clause-replies
+returns-else-is_err-clause-replies g c =
     let went : is_err c.extend_from_slice.result ≡ false = search rules in
-    record {
-      replies = one_said c.args.self.now _ c.args.line.now c.requires.reply refl
-          (grown c.extend_from_slice.result c.extend_from_slice.new.self.items _ _ c.extend_from_slice.ensures.items went);
-    }
+    one_said c.args.self.now _ c.args.text.now c.requires.reply refl
+    (grown c.extend_from_slice.result c.extend_from_slice.new.self.items _ _ c.extend_from_slice.ensures.items went)

@@ -1,5 +1,9 @@
+use Rattle.roam_serving.specs.Asking.{IsAsked}
 use Rattle.roam_serving.specs.Following.{Replies}
 use Rattle.roam_serving.proofs.following.Follower.take_lines.Given as goal
 
 abbrev pub invariant-loop : goal.invariant-loop
-invariant-loop l = Replies l.initial.self l.self
+invariant-loop g l = record {
+  asked : IsAsked l.now l.moment l.initial.closer l.closer;
+  replies : Replies l.initial.self l.self;
+}

@@ -1,0 +1,16 @@
+use Rattle.std.proofs.Common.{◌≡◌, ap, rules, subst, sym}
+use Rattle.roam_terminals.specs.Lines.{IsFirst}
+use Rattle.roam_serving.proofs.Asked.{taken}
+use Rattle.roam_serving.proofs.following.Follower.do_first.Goals as goal
+
+pub returns-clause-takes : goal.returns-clause-takes
+returns-clause-takes g c = λ h.
+    let lines : c.say.new.self.lines ≡ c.args.self.now.lines = ap (λ f. f.lines) c.say.ensures.others in
+    record {
+      line = c.in-Some.line.now;
+      first = taken c.args.self.now.lines.kept c.in-Some.line.now c.took.new.self.kept (search rules)
+          (λ l rest is. c.took.ensures.took l rest (subst (λ k. IsFirst k.kept l rest) (sym lines) is));
+      said = c.do_line-said.result.now;
+      does = c.do_line-said.ensures.does;
+      waits = c.say.ensures.said;
+    }

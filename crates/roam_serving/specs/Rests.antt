@@ -1,0 +1,40 @@
+-- What follows each turn of a server: who follows its panes is told, and it waits.
+use Rattle.std.specs.Prelude.{◌≡◌, ◌<◌, ◌==◌, ◌^◌, ◌-◌, ℕ, Bool, true, false, List, Option, Some, None, IfSome, MatchBool}
+use Rattle.mio.specs.declared.net.uds.stream.UnixStream.{UnixStream}
+use Rattle.roam_world.specs.Servers.{Server, moment}
+use Rattle.roam_hub.specs.Servers.{ServerView, Stands, is_server_due}
+use Rattle.roam_hub.specs.Waits.{IsQuiet, has_come}
+use Rattle.roam_pane_list.specs.declared.pane_list.PaneList.{PaneList}
+use Rattle.roam_sockets.specs.Lanes.{is_any_waiting}
+use Rattle.roam_sockets.specs.Waits.{wait_for}
+use Rattle.roam_sockets.specs.declared.udp.Udp.{Udp}
+use Rattle.roam_serving.specs.Following.{AreAllTold, ArePanesOf}
+use Rattle.roam_serving.specs.declared.following.Follower.{Follower}
+
+-- datagrams are kept back so that they go at a pace
+abbrev pub is_paced : Option Udp → Bool
+is_paced None = false
+is_paced (Some udp) = is_any_waiting udp.paced.lanes.items
+
+-- those that followed before and those that came were told the panes of a server
+pub record HasTold (contents : UnixStream → Option (List ℕ)) (server : ServerView) (followers : List (Follower UnixStream)) : Type 0 where
+  pub panes : PaneList
+  pub are : (s : Server) → Stands server s → ArePanesOf s panes
+  pub before : List (Follower UnixStream)
+  pub told : AreAllTold contents panes before followers
+
+-- a server next has something due at a moment, or never: before it a tick does nothing, and at it one does something
+pub record IsNextDue (server : ServerView) (due : Option ℕ) : Type 0 where
+  pub before : (s : Server) → Stands server s → (now : ℕ) → now < 2 ^ 64 → has_come due now ≡ false → IsQuiet s (moment s now)
+  pub at : (s : Server) → Stands server s → IfSome due (λ d. is_server_due s (moment s d) ≡ true)
+
+-- so many turns go on for good
+abbrev pub is_for_good : ℕ → Bool
+is_for_good turns = turns == 2 ^ 64 - 1
+
+-- Where it waited, it was until something is due, or only a millisecond where datagrams are kept back; where the turns are counted, for the
+-- shortest wait.
+pub record HasRested (turns : ℕ) (server : ServerView) (now : ℕ) (udp : Option Udp) (longest : Option ℕ) : Type 0 where
+  pub due : Option ℕ
+  pub is_due : MatchBool (is_for_good turns) (IsNextDue server due) (due ≡ Some 0)
+  pub waited : IfSome longest (λ long. long ≡ wait_for due now (is_paced udp))

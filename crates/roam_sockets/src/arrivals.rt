@@ -1,0 +1,54 @@
+//! What comes from two, each of which is asked first in its turn, so that neither keeps the other waiting.
+ghost use Rattle.std.specs.Prelude.{◌≡◌, ◌≤◌, List, Option, None, IfSome, length, not, true, false};
+ghost use Rattle.roam_sockets.specs.Arrivals.{Arrived, Gives, GivesFirst};
+
+use roam_hub::Addr;
+
+/// What datagrams come from.
+pub trait Arrivals {
+    // Those that came and weren't given yet, in order, where that is known.
+    ghost arrived: { Self → Option (List Arrived) } = { λ _. None };
+
+    /// The next that came: from where, and how many bytes of `buf` it fills from the front.
+    fn next_arrival(&mut self, buf: &mut [u8]) -> Option<(Addr, usize)>
+        ensures within { IfSome result (λ r. r.1 ≤ length buf.new) }
+        ensures gives { Gives (arrived self.old) (arrived self.new) buf.new result };
+}
+
+// What came to one, or else to the other.
+fn next_of<A: Arrivals, B: Arrivals>(
+    one: &mut A,
+    other: &mut B,
+    buf: &mut [u8],
+) -> Option<(Addr, usize)>
+    ensures within { IfSome result (λ r. r.1 ≤ length buf.new) }
+    ensures gives { GivesFirst (A.arrived one.old) (A.arrived one.new) (B.arrived other.old) (B.arrived other.new) buf.new result }
+{
+    if let Some(came) = one.next_arrival(buf) {
+        return Some(came);
+    }
+    other.next_arrival(buf)
+}
+
+/// A datagram that came to one of two, to the other where nothing came to the one that is asked first: which that is changes each time.
+pub fn next_by_turns<A: Arrivals, B: Arrivals>(
+    one: &mut A,
+    other: &mut B,
+    is_other_first: &mut bool,
+    buf: &mut [u8],
+) -> Option<(Addr, usize)>
+    ensures within { IfSome result (λ r. r.1 ≤ length buf.new) }
+    ensures turn { is_other_first.new ≡ not is_other_first.old }
+    ensures one_first { is_other_first.old ≡ false
+        → GivesFirst (A.arrived one.old) (A.arrived one.new) (B.arrived other.old) (B.arrived other.new) buf.new result }
+    ensures other_first { is_other_first.old ≡ true
+        → GivesFirst (B.arrived other.old) (B.arrived other.new) (A.arrived one.old) (A.arrived one.new) buf.new result }
+{
+    let is_other_asked = *is_other_first;
+    *is_other_first = !is_other_asked;
+    if is_other_asked {
+        next_of(other, one, buf)
+    } else {
+        next_of(one, other, buf)
+    }
+}
