@@ -6,101 +6,72 @@ use mio::net::{UnixListener, UnixStream};
 use roam_cells::Fault;
 use roam_faults::RunFault;
 use roam_hub::{Addr, Client};
-use roam_sockets::{SHORT_WAIT, listen, wait_until};
-use roam_terminals::{End, MOST_TERMINALS, Painter, SharedStart};
+use roam_sockets::{listen, wait_until};
+use roam_terminals::{Door, End, Listening, SharedStart, run_shared};
+use roam_turns::Ports;
 use std::alloc::Global;
 use std::fs::{Files, remove_file};
 use std::net::Net;
 use std::time::Clock;
 
-/// How many milliseconds a start goes on at most after a terminal asked for its end.
-const SECOND: u64 = 1000;
-
-/// So many rounds end with the machine.
-const FOR_GOOD: u64 = u64::MAX;
-
-// A client start with its outer terminals, and the socket at which they come.
+// The socket at which outer terminals come, and the way of their start to its server.
 #[derive(Drop)]
-struct Start<R> {
+struct Doorway<R> {
     listener: UnixListener,
-    shared: SharedStart<UnixStream>,
-    painter: Painter<Connection<R>>,
-    to: Addr,
-    // When a terminal asked for the end.
-    asked: Option<u64>,
+    connection: Connection<R>,
 }
 
-impl<R: Clock + Drop> Start<R> {
-    // Takes those that wait at the socket; those above sixteen are closed.
-    fn accept(&mut self, alloc: Global) {
-        for _ in 0..4 * MOST_TERMINALS {
-            let Ok((mut stream, _)) = self.listener.accept() else {
-                return;
-            };
-            self.painter.ports().report(&mut stream, true);
-            // One for which there is no room or memory may come again.
-            let _ = self.shared.add(alloc, stream);
-        }
-        self.painter.ports().stir();
+impl<R: Clock + Drop> Ports for Doorway<R> {
+    fn now(&mut self) -> u64 {
+        self.connection.now()
     }
 
-    // Whether the start is over, as one of the terminals asked: all acts that were typed are acknowledged, or a second passed.
-    fn is_over(&mut self) -> bool {
-        if !self.shared.is_ending() {
-            return false;
-        }
-        let silence = self.painter.silence();
-        let asked = self.asked.unwrap_or(silence.moment());
-        self.asked = Some(asked);
-        self.shared.client().is_settled() || silence.has_passed(asked, SECOND)
+    fn receive(&mut self, buf: &mut [u8]) -> Option<(Addr, usize)> {
+        self.connection.receive(buf)
     }
 
-    // How many milliseconds may be waited at most: a short while where the rounds are counted, so that they end by themselves.
-    fn longest(&self, wait: u64, rounds: u64) -> u64 {
-        if rounds == FOR_GOOD {
-            wait
-        } else {
-            wait.min(SHORT_WAIT)
-        }
+    fn send(&mut self, to: Addr, bytes: &[u8]) -> bool {
+        self.connection.send(to, bytes)
     }
 
-    // Waits until something comes or is due, so many milliseconds at most.
-    fn rest(&mut self, longest: u64) {
-        let silence = self.painter.silence();
-        let due = wait_until(self.shared.client().next_due(), silence.moment());
-        let told = if self.shared.len() > 0 {
-            silence.wait()
-        } else {
-            u64::MAX
+    fn pane_lives(&mut self, pane: u8, life: Option<u64>) {
+        self.connection.pane_lives(pane, life);
+    }
+
+    fn pane_in(&mut self, pane: u8, buf: &mut [u8]) -> Option<usize> {
+        self.connection.pane_in(pane, buf)
+    }
+
+    fn pane_out(&mut self, pane: u8, bytes: &[u8]) -> usize {
+        self.connection.pane_out(pane, bytes)
+    }
+
+    fn show(&mut self, bytes: &[u8]) -> bool {
+        self.connection.show(bytes)
+    }
+}
+
+impl<R: Clock + Drop> Door<UnixStream> for Doorway<R> {
+    // A socket reports once, so there is no wait where one came: others may be there.
+    fn next(&mut self) -> Option<UnixStream> {
+        let Ok((mut stream, _)) = self.listener.accept() else {
+            return None;
         };
-        let asked = if self.asked.is_some() {
-            SECOND
-        } else {
-            u64::MAX
-        };
+        self.connection.report(&mut stream, true);
+        self.connection.stir();
+        Some(stream)
+    }
+
+    fn has_ended(&mut self) -> bool {
+        self.connection.has_ended()
+    }
+
+    fn rest(&mut self, longest: u64, due: Option<u64>) {
         if longest == 0 {
-            self.painter.ports().stir();
+            self.connection.stir();
         }
-        self.painter
-            .ports()
-            .rest(longest.min(due).min(told).min(asked));
-    }
-
-    // Takes rounds, and waits where one brought nothing.
-    fn run(&mut self, alloc: Global, rounds: u64) -> End {
-        for _ in 0..rounds {
-            self.accept(alloc);
-            let wait = self.shared.round(alloc, &mut self.painter, self.to);
-            if self.painter.ports().has_ended() {
-                return End::Gone;
-            }
-            if self.is_over() {
-                break;
-            }
-            let longest = self.longest(wait, rounds);
-            self.rest(longest);
-        }
-        self.painter.silence().end()
+        let moment = self.connection.moment();
+        self.connection.rest(longest.min(wait_until(due, moment)));
     }
 }
 
@@ -120,14 +91,12 @@ pub(crate) fn host<R: Files + Net, C: Clock + Drop>(
         return Err(RunFault::Bind);
     };
     connection.report(&mut listener, false);
-    let mut start = Start {
+    let mut shared = SharedStart::new(alloc, client);
+    let mut door = Listening::new(Doorway {
         listener,
-        shared: SharedStart::new(alloc, client),
-        painter: Painter::new(alloc, connection),
-        to,
-        asked: None,
-    };
-    let end = start.run(alloc, rounds);
+        connection,
+    });
+    let end = run_shared(alloc, &mut shared, &mut door, to, rounds);
     // A file that somebody removed before is no matter.
     let _ = remove_file(rt, path);
     Ok(end)

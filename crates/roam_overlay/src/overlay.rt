@@ -68,13 +68,7 @@ fn last_number(first: u64, count: usize) -> u64
 }
 
 // Hands the acts of a line to guesses where a screen is shown; what was pasted, and more than eight acts, isn't guessed.
-fn type_line<S: Seen>(
-    guesses: &mut Guesses,
-    is_pasted: bool,
-    first: u64,
-    acts: &[Act],
-    shown: &S,
-)
+fn type_line<S: Seen>(guesses: &mut Guesses, is_pasted: bool, first: u64, acts: &[Act], shown: &S)
     ensures typed { guesses.new ≡ fold after guesses.old (line_steps is_pasted first acts.now (S.screen shown.now)) }
 {
     if is_pasted || acts.len() > MOST_GUESSED {
@@ -152,8 +146,10 @@ impl Overlay {
     /// last, or over the one that is shown where none was. What was pasted, and a line of more than eight acts, isn't guessed, and the
     /// epoch ends with it. It takes no memory.
     pub fn typed<S: Seen>(&mut self, is_pasted: bool, first: u64, acts: &[Act], shown: &S)
-        ensures typed { self.new ≡ record self.old { guesses =
-            fold after self.old.guesses (line_steps is_pasted first acts.now (screen_or self.old.seen (S.screen shown.now))) } }
+        ensures typed { self.new ≡ record self.old {
+          guesses =
+              fold after self.old.guesses (line_steps is_pasted first acts.now (screen_or self.old.seen (S.screen shown.now)));
+        } }
     {
         type_over(&mut self.guesses, &self.seen, is_pasted, first, acts, shown);
     }

@@ -1,5 +1,5 @@
 -- What lines come to, one after another, and what a close types.
-use Rattle.roam_terminals.specs.Lines.{IsFirst}
+use Rattle.roam_typing.specs.Lines.{IsFirst}
 use Rattle.std.proofs.Common.{◌≡◌, ℕ, ◌+◌, drop, length, List, [], ◌∷◌, ◌++◌, Option, Some, None, true, false, Bool, refl, sym, subst, ap, ◌∙◌, append_assoc, append-nil}
 use Rattle.std.specs.Prelude.{◌↔◌, IfOk, IfSome, IsSome, Result, Ok, Err, Vec}
 use Rattle.std.specs.declared.alloc.Global.{Global}

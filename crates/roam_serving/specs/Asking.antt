@@ -3,7 +3,7 @@ use Rattle.std.specs.Prelude.{◌≡◌, ◌⊎◌, ◌++◌, ℕ, true, false, 
 use Rattle.roam_pane_list.specs.Closes.{IsAlone, IsClose, IsPane, close_text, focus_after, is_making}
 use Rattle.roam_pane_list.specs.declared.closes.Close.{Close}
 use Rattle.roam_pane_list.specs.declared.pane_list.PaneList.{PaneList}
-use Rattle.roam_terminals.specs.Lines.{IsFirst}
+use Rattle.roam_typing.specs.Lines.{IsFirst}
 use Rattle.roam_serving.specs.Closing.{Closes, IsThere}
 use Rattle.roam_serving.specs.declared.closing.Closer.{Closer}
 use Rattle.roam_serving.specs.declared.following.Follower.{Follower}

@@ -10,7 +10,7 @@ use Rattle.roam_pane_list.specs.Known.{nothing, pane_at}
 use Rattle.roam_pane_list.specs.Lines.{lines_text, lines_between}
 use Rattle.roam_pane_list.specs.declared.pane_list.ListedPane.{ListedPane}
 use Rattle.roam_pane_list.specs.declared.pane_list.PaneList.{PaneList}
-use Rattle.roam_terminals.specs.Lines.{nothing_came}
+use Rattle.roam_typing.specs.Lines.{nothing_came}
 use Rattle.roam_serving.specs.Programs.{Wrote}
 use Rattle.roam_serving.specs.declared.following.Follower.{Follower}
 

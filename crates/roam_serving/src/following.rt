@@ -1,7 +1,7 @@
 //! The socket `panes`, where programs follow which panes there are, how large each is and which is in focus, and ask for one to be closed.
 ghost use Rattle.std.specs.Prelude.{◌≡◌, ◌≢◌, ◌⊎◌, ◌++◌, ◌∷◌, ◌≤◌, ◌<◌, ℕ, List, [], length, is_some, take, drop, true, false, string_bytes, None, IfOk, IfErr, OnOk, IfSome, IsOkUnless};
 ghost use Rattle.std.specs.List.{AllZip, filter};
-ghost use Rattle.roam_terminals.specs.Lines.{IsFirst};
+ghost use Rattle.roam_typing.specs.Lines.{IsFirst};
 ghost use Rattle.roam_serving.specs.Asking.{DoesLine, IsAsked, Settles, TakesLine};
 ghost use Rattle.roam_serving.specs.Following.{AreTold, HaveCome, IsFresh, IsReply, IsTold, Replies, Tells, is_there, most_followers, news, panes_path, room, turned};
 ghost use Rattle.roam_serving.specs.Programs.{Wrote};
@@ -17,7 +17,7 @@ use roam_faults::RunFault;
 use roam_frames::Stream;
 use roam_pane_list::{Closing, PaneList, acts_for, lines_between, read_close};
 use roam_sockets::listen;
-use roam_terminals::{Front, Lines};
+use roam_typing::{Front, Lines};
 use std::alloc::Global;
 use std::fs::{Files, remove_file};
 use std::net::Net;

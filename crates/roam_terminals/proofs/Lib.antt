@@ -1,5 +1,6 @@
 mod Behind
 mod Heard
+mod Joined
 mod Showing
 mod Taking
 mod Written

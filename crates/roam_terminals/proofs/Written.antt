@@ -97,6 +97,7 @@ settled_outer silence contents now old mid new tells flushes = by (told_outer te
     told_outer (over h is) = inr (ap (λ t. t.outer) is)
     told_outer (told seconds h due empty bare here is) = inr (ap (λ t. t.outer) is)
     told_outer (quiet h is) = inl (ap (λ t. t.outer) is)
+
     by : (mid.outer ≡ old.outer) ⊎ (mid.outer ≡ None) → (new.outer ≡ old.outer) ⊎ (new.outer ≡ None)
     by (inl same) = inl (ap (λ t. t.outer) flushes.others ∙ same)
     by (inr gone) = inr (ap (λ t. t.outer) flushes.others ∙ gone)

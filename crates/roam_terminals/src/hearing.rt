@@ -3,16 +3,18 @@ ghost use Rattle.std.specs.Prelude.{◌≡◌, ◌≢◌, ◌⊎◌, ◌++◌, �
 ghost use Rattle.std.specs.List.{All};
 ghost use Rattle.roam_acts.specs.Acts.{IsInRange};
 ghost use Rattle.roam_acts.specs.declared.acts.Act.{Act as ActOf};
+ghost use Rattle.roam_faults.specs.Streams.{IsStreamEnd};
 ghost use Rattle.roam_terminals.specs.Hearing.{HearsOne, IsRead, IsTaken};
 ghost use Rattle.roam_terminals.specs.Terminals.{Guesses, Holds, IsSet, MayGuess, Reads, Takes, Types, TypesLine, guesses_after, is_heard, is_read};
 ghost use Rattle.roam_typing.specs.Entries.{Says, acts_in};
 ghost use Rattle.roam_typing.specs.Lines.{IsFirst};
-ghost use Rattle.roam_typing.specs.Typing.{IsStreamEnd, bytes_given};
+ghost use Rattle.roam_typing.specs.Typing.{bytes_given};
 
-use crate::terminal::{State, Terminal, is_for_now};
+use crate::terminal::{State, Terminal};
 use roam_acts::Act;
 use roam_acts::limits::MOST_ACTS;
 use roam_cells::Fault;
+use roam_faults::is_for_now;
 use roam_hub::Client;
 use roam_overlay::Overlay;
 use roam_typing::{Entry, Front, Guessing, read_entry};

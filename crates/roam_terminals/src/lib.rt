@@ -6,12 +6,14 @@ mod hearing;
 pub mod laws;
 mod laying;
 mod listening;
+mod running;
 mod sharing;
 mod silence;
 mod terminal;
 mod writing;
 
 pub use listening::Listening;
+pub use running::{Door, run_shared};
 pub use sharing::{MOST_TERMINALS, SharedStart};
 pub use silence::{End, Silence, notice};
 pub use terminal::Terminal;

@@ -1,6 +1,7 @@
 //! Ports that know when something was heard last.
 ghost use Rattle.std.specs.Prelude.{◌≡◌, ◌≤◌, None, Some, IfSome, length};
 
+use crate::running::Door;
 use crate::silence::Silence;
 use roam_hub::Addr;
 use roam_turns::Ports;
@@ -35,6 +36,38 @@ impl<P: Ports + Drop> Listening<P> {
         ensures silence { result ≡ self.now.silence }
     {
         self.silence
+    }
+}
+
+impl<P: Ports + Drop> Listening<P> {
+    // The stream of a terminal that comes, where one does.
+    pub(crate) fn next<S>(&mut self) -> Option<S>
+    where
+        P: Door<S>,
+        ensures told { P.told self.new.ports ≡ P.told self.old.ports }
+        ensures others { self.new ≡ record self.old { ports = self.new.ports } }
+    {
+        self.ports.next()
+    }
+
+    // Whether the server is known to have ended.
+    pub(crate) fn has_ended<S>(&mut self) -> bool
+    where
+        P: Door<S>,
+        ensures told { P.told self.new.ports ≡ P.told self.old.ports }
+        ensures others { self.new ≡ record self.old { ports = self.new.ports } }
+    {
+        self.ports.has_ended()
+    }
+
+    // Waits until something comes or is due.
+    pub(crate) fn rest<S>(&mut self, longest: u64, due: Option<u64>)
+    where
+        P: Door<S>,
+        ensures told { P.told self.new.ports ≡ P.told self.old.ports }
+        ensures others { self.new ≡ record self.old { ports = self.new.ports } }
+    {
+        self.ports.rest(longest, due);
     }
 }
 

@@ -1,7 +1,8 @@
 //! A client start that stays while outer terminals come and go, one after the other.
-ghost use Rattle.std.specs.Prelude.{◌≡◌, ◌⊎◌, ◌<◌, ◌++◌, ◌∷◌, [], true, false, length, ℕ, List, None, OnOk, OnErr, IfErr};
+ghost use Rattle.std.specs.Prelude.{◌≡◌, ◌⊎◌, ◌<◌, ◌++◌, ◌∷◌, [], true, false, length, List, ℕ, None, OnOk, OnErr, IfErr};
 ghost use Rattle.roam_screens.specs.Screenshot.{Screenshot};
 ghost use Rattle.roam_terminals.specs.Painted.{MayPaint};
+ghost use Rattle.roam_terminals.specs.Running.{IsFresh};
 ghost use Rattle.roam_terminals.specs.Sharing.{AreEach, AreEachBehind, HearsAll, Rounds, Settles, most_terminals, turned_round, who_stay};
 ghost use Rattle.roam_terminals.specs.declared.terminal.Terminal.{Terminal as TerminalOf};
 ghost use Rattle.roam_turns.specs.Cores.{client_step};
@@ -39,6 +40,7 @@ pub struct SharedStart<S> {
 }
 
 impl<S> Model for SharedStart<S> {
+    ghost use Rattle.roam_terminals.specs.Running.{IsFresh};
     ghost use Rattle.roam_terminals.specs.Sharing.{AreEachBehind, Shared};
 
     ghost Value = { Shared S };
@@ -170,7 +172,7 @@ impl<S: Read + Write + Drop> SharedStart<S> {
 
     /// Adds a terminal at the other end of a stream. `Busy` where 16 are there, `OutOfMemory`; then the stream is closed.
     pub fn add(&mut self, alloc: Global, stream: S) -> Result<(), Fault>
-        ensures added { OnOk result ((terminal : TerminalOf S) × (terminal.stream ≡ stream) × (terminal.outer ≡ None)
+        ensures added { OnOk result ((terminal : TerminalOf S) × (terminal.stream ≡ stream) × IsFresh terminal
             × (self.new.all ≡ self.old.all ++ terminal ∷ [])) }
         ensures room { OnOk result (length self.old.all < most_terminals) }
         ensures err { OnErr result (self.new.all ≡ self.old.all) }

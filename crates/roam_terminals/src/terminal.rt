@@ -1,10 +1,9 @@
 //! An outer terminal: the stream at its other end, the lines that came, and what waits to be written.
-ghost use Rattle.std.specs.Prelude.{◌≡◌, ◌↔◌, ◌++◌, List, ℕ, [], true, false, not, None, IsTrue};
+ghost use Rattle.std.specs.Prelude.{◌≡◌, ◌++◌, List, ℕ, [], true, false, not, None};
 ghost use Rattle.roam_terminals.specs.Painted.{is_here};
 ghost use Rattle.roam_terminals.specs.Sharing.{is_gone};
 ghost use Rattle.roam_terminals.specs.Writing.{is_empty, once_written, unwritten};
 ghost use Rattle.roam_typing.specs.Lines.{nothing_came};
-ghost use Rattle.roam_typing.specs.Typing.{ForNow};
 
 use roam_cells::Fault;
 use roam_frames::Outbox;
@@ -13,8 +12,7 @@ use roam_screens::RowShot;
 use roam_turns::Outer;
 use roam_typing::{Front, Lines};
 use std::alloc::Global;
-use std::io;
-use std::io::{ErrorKind, Read, Write};
+use std::io::{Read, Write};
 
 /// How far a terminal came.
 #[derive(Clone, Copy, Debug, PartialEq, Eq)]
@@ -72,13 +70,6 @@ pub struct Terminal<S> {
     pub(crate) told: Option<u64>,
     pub(crate) stuck: Option<u64>,
     pub(crate) state: State,
-}
-
-// Whether a read or a write that failed so may go on later.
-pub(crate) fn is_for_now(error: &io::Error) -> bool
-    ensures for_now { IsTrue result ↔ ForNow error.now }
-{
-    matches!(error.kind(), ErrorKind::WouldBlock | ErrorKind::Interrupted)
 }
 
 impl<S: Read + Write + Drop> Terminal<S> {

@@ -1,14 +1,16 @@
 //! What waits for an outer terminal is written to it as it takes it, and silences are told.
-ghost use Rattle.std.specs.Prelude.{◌≡◌, ◌≢◌, ◌⊎◌, ◌++◌, [], true, false, None, Some};
+ghost use Rattle.std.specs.Prelude.{◌≡◌, ◌≢◌, ◌⊎◌, ◌++◌, [], true, false, None, Some, IfOk, OnErr, min, drop, length};
+ghost use Rattle.roam_faults.specs.Streams.{IsStreamEnd};
 ghost use Rattle.roam_frames.specs.Carriers.{Writes};
 ghost use Rattle.roam_terminals.specs.Sharing.{Settles};
 ghost use Rattle.roam_terminals.specs.Silence.{is_over, due_of, notice_of};
 ghost use Rattle.roam_terminals.specs.Writing.{Flushes, TellsSilence, is_empty, seen_by, state_after, stuck_after, stuck_since, unwritten};
-ghost use Rattle.roam_typing.specs.Typing.{ForNow};
 
 use crate::silence::{Silence, notice};
-use crate::terminal::{State, Terminal, is_for_now};
+use crate::terminal::{State, Terminal};
+use roam_faults::is_for_now;
 use std::alloc::Global;
+use std::io;
 use std::io::{Read, Write};
 
 /// How many pieces of what waits are written in a round at most.
@@ -58,6 +60,31 @@ impl<S: Read + Write + Drop> Terminal<S> {
         }
     }
 
+    // A write of what waits was answered so; tells how much was taken.
+    fn note_written(&mut self, answer: &io::Result<usize>) -> usize
+        ensures taken { IfOk answer.now (λ n. result ≡ min n (length self.old.waiting)) }
+        ensures none { OnErr answer.now (result ≡ 0) }
+        ensures left { self.new.waiting ≡ drop result self.old.waiting }
+        // Nothing more can be written where the stream is over, and nowhere else.
+        ensures fails { (self.new.state ≡ self.old.state)
+            ⊎ ((self.new.state ≡ unwritten self.old.state) × IsStreamEnd answer.now × (result ≡ 0)) }
+        ensures others { self.new ≡ record self.old { waiting = self.new.waiting; state = self.new.state } }
+    {
+        match answer {
+            Ok(count) => {
+                let count = (*count).min(self.waiting.len());
+                self.waiting.took(count);
+                count
+            }
+            Err(error) => {
+                if !is_for_now(error) {
+                    self.state = self.state.unwritten();
+                }
+                0
+            }
+        }
+    }
+
     // Writes a piece of what waits, and tells how much was taken.
     fn write_piece(&mut self) -> usize
         ensures writes { Writes (S.contents self.old.stream) (S.contents self.new.stream) self.old.waiting self.new.waiting }
@@ -70,19 +97,8 @@ impl<S: Read + Write + Drop> Terminal<S> {
         if piece.is_empty() {
             return 0;
         }
-        match self.stream.write(piece) {
-            Ok(count) => {
-                let count = count.min(piece.len());
-                self.waiting.took(count);
-                count
-            }
-            Err(error) => {
-                if !is_for_now(&error) {
-                    self.state = self.state.unwritten();
-                }
-                0
-            }
-        }
+        let answer = self.stream.write(piece);
+        self.note_written(&answer)
     }
 
     // Notes since when nothing of what waits is taken.

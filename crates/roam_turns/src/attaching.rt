@@ -105,12 +105,7 @@ fn tick_and_send<C: ClientCore, P: Ports>(
 
 /// One turn of a client start that shows nothing: the moment; at most 32 datagrams of up to 2,048 bytes, until one receive brings nothing;
 /// and a tick, whose datagrams are sent to `to`. What the start refuses is dropped, and a datagram that isn't sent is lost.
-pub fn quiet_turn<C: ClientCore, P: Ports>(
-    alloc: Global,
-    client: &mut C,
-    ports: &mut P,
-    to: Addr,
-)
+pub fn quiet_turn<C: ClientCore, P: Ports>(alloc: Global, client: &mut C, ports: &mut P, to: Addr)
     ensures turn { Makes C.step (QuietTurn to) (P.told ports.old) (P.told ports.new) (C.made client.old) (C.made client.new)
         client.old client.new }
     // What the start shows never falls, and under one number it is one screen.

@@ -3,7 +3,7 @@
 // README: begin
 use roam_cells::Fault;
 use roam_hub::{Addr, Client};
-use roam_terminals::{Painter, SharedStart};
+use roam_terminals::{Listening, SharedStart};
 use roam_turns::Ports;
 use std::alloc::Global;
 use std::io::{Read, Write};
@@ -18,11 +18,11 @@ pub fn share<S: Read + Write + Drop, P: Ports + Drop>(
     rounds: u64,
 ) -> Result<(), Fault> {
     let mut shared = SharedStart::new(alloc, client);
-    let mut painter = Painter::new(alloc, ports);
+    let mut listening = Listening::new(ports);
     shared.add(alloc, stream)?;
     for _ in 0..rounds {
         // Whoever has something better to do waits so long at most.
-        let _ = shared.round(alloc, &mut painter, server);
+        let _ = shared.round(alloc, &mut listening, server);
     }
     Ok(())
 }

@@ -6,7 +6,7 @@ use crate::programs::Programs;
 use mio::net::{UnixListener, UnixStream};
 use roam_hub::Client;
 use roam_sockets::{listen, loopback};
-use roam_terminals::{Painter, SharedStart};
+use roam_terminals::{Listening, SharedStart};
 use roam_turns::MemoryPorts;
 use std::alloc::Global;
 use std::fs::create_dir;
@@ -17,7 +17,7 @@ use std::test::*;
 struct Place {
     listener: UnixListener,
     shared: SharedStart<UnixStream>,
-    painter: Painter<MemoryPorts>,
+    ports: Listening<MemoryPorts>,
 }
 
 fn place_at(rt: &HostRuntime, path: &str) -> Result<Option<Place>, Fail> {
@@ -28,7 +28,7 @@ fn place_at(rt: &HostRuntime, path: &str) -> Result<Option<Place>, Fail> {
     Ok(Some(Place {
         listener,
         shared: SharedStart::new(rt.alloc(), client),
-        painter: Painter::new(rt.alloc(), MemoryPorts::new(rt.alloc())),
+        ports: Listening::new(MemoryPorts::new(rt.alloc())),
     }))
 }
 
@@ -40,7 +40,7 @@ impl Place {
                 let _ = self.shared.add(alloc, stream);
             }
         }
-        let _ = self.shared.round(alloc, &mut self.painter, loopback(5000));
+        let _ = self.shared.round(alloc, &mut self.ports, loopback(5000));
         true
     }
 

@@ -3,7 +3,7 @@
 // README: begin
 use roam_acts::Act;
 use roam_cells::Fault;
-use roam_guess::Guesses;
+use roam_guess::{Guesses, Moment};
 use roam_screens::RowShot;
 use std::alloc::Global;
 
@@ -11,7 +11,12 @@ use std::alloc::Global;
 pub fn shown_after(alloc: Global, act: &Act, screen: &RowShot) -> Result<RowShot, Fault> {
     let mut guesses = Guesses::new(alloc)?;
     guesses.typed(1, act, screen);
-    guesses.seen(1, 0, screen, screen, 0);
+    let moment = Moment {
+        at: 0,
+        acknowledged: 0,
+        delay: 0,
+    };
+    guesses.seen(moment, screen, screen);
     guesses.over(alloc, screen) // the screen itself: an epoch begins hidden
 }
 // README: end

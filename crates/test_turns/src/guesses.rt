@@ -1,10 +1,11 @@
 //! What is shown over the screen of a terminal while keys are typed, as text.
 //!
-//! A line begins with `feed`, what the program writes, which makes a number; `type`, an act; `ack`, how many acts are acknowledged; `at`, a
-//! moment in milliseconds; or `shows`, the text of the cursor's row and, behind `|`, the cursor's column.
+//! A line begins with `feed`, what the program writes; `type`, an act; `paste`, how many acts are typed that aren't to be guessed; `ack`, how
+//! many acts are acknowledged; `at`, a moment in milliseconds; `slow`, how many milliseconds what is typed takes to be shown; or `shows`, the
+//! text of the cursor's row and, behind `|`, the cursor's column.
 use roam_acts::read_act;
 use roam_cells::Fault;
-use roam_guess::Guesses;
+use roam_guess::{Guesses, Moment};
 use roam_screens::{RowShot, Seen};
 use roam_term::Term;
 use std::alloc::Global;
@@ -17,9 +18,9 @@ struct Stage {
     before: RowShot,
     shown: RowShot,
     guesses: Guesses,
-    number: u64,
     typed: u64,
     acknowledged: u64,
+    delay: u64,
     now: u64,
 }
 
@@ -30,21 +31,20 @@ impl Stage {
             before: RowShot::blank(alloc, 4, 20)?,
             shown: RowShot::blank(alloc, 4, 20)?,
             guesses: Guesses::new(alloc)?,
-            number: 0,
             typed: 0,
             acknowledged: 0,
+            delay: 0,
             now: 0,
         })
     }
 
     fn see(&mut self, alloc: Global) -> Result<(), Fault> {
-        self.guesses.seen(
-            self.number,
-            self.acknowledged,
-            &self.before,
-            &self.shown,
-            self.now,
-        );
+        let moment = Moment {
+            at: self.now,
+            acknowledged: self.acknowledged,
+            delay: self.delay,
+        };
+        self.guesses.seen(moment, &self.before, &self.shown);
         self.before = self.shown.copy(alloc)?;
         Ok(())
     }
@@ -53,7 +53,6 @@ impl Stage {
         self.term.feed(text.as_bytes())?;
         let shot = self.term.shot(alloc, 0)?;
         self.shown = RowShot::of(alloc, &shot)?;
-        self.number = self.number.saturating_add(1);
         self.see(alloc)?;
         Ok(true)
     }
@@ -83,6 +82,25 @@ impl Stage {
         Ok(true)
     }
 
+    // What is typed takes so long to be shown.
+    fn slow(&mut self, text: &str) -> bool {
+        let Ok(delay) = text.parse::<u64>() else {
+            return false;
+        };
+        self.delay = delay;
+        true
+    }
+
+    // So many acts are typed that aren't to be guessed.
+    fn paste(&mut self, text: &str) -> bool {
+        let Ok(count) = text.parse::<u64>() else {
+            return false;
+        };
+        self.typed = self.typed.saturating_add(count);
+        self.guesses.end_with(self.typed);
+        true
+    }
+
     fn shows(&self, alloc: Global, words: &str) -> Result<bool, Fault> {
         let Some((text, col)) = words.split_once('|') else {
             return Ok(false);
@@ -103,6 +121,8 @@ impl Stage {
             "type" => self.type_act(words),
             "ack" => self.acknowledge(alloc, words),
             "at" => self.wait(alloc, words),
+            "slow" => Ok(self.slow(words)),
+            "paste" => Ok(self.paste(words)),
             "shows" => self.shows(alloc, words),
             _ => Ok(false),
         }
@@ -170,6 +190,52 @@ type char 63
 shows $ a|4
 feed bc
 shows $ abc|6
+
+feed $\x20
+type char 6c
+feed l
+type char 73
+type char 74
+shows $ lst|6
+ack 3
+at 99
+shows $ lst|6
+at 100
+shows $ l|4
+type char 75
+ack 4
+type char 76
+shows $ l|4
+at 400
+type char 77
+shows $ l|4
+
+feed $\x20
+type char 61
+feed a
+type char 62
+slow 8000
+ack 2
+at 149
+shows $ ab|5
+at 150
+at 249
+shows $ ab|5
+at 250
+shows $ a|4
+
+feed $\x20
+type char 61
+feed a
+type char 62
+shows $ ab|5
+paste 3
+type char 66
+shows $ ab|5
+feed bcde
+ack 5
+type char 67
+shows $ abcde|8
 
 feed $\x20
 type char 61

@@ -1,5 +1,5 @@
 use Rattle.std.proofs.Common.{◌≡◌, ap, rules, subst, sym}
-use Rattle.roam_terminals.specs.Lines.{IsFirst}
+use Rattle.roam_typing.specs.Lines.{IsFirst}
 use Rattle.roam_serving.proofs.Asked.{taken}
 use Rattle.roam_serving.proofs.following.Follower.do_first.Goals as goal
 

@@ -1,0 +1,65 @@
+-- A run goes on, step after step.
+use Rattle.std.proofs.Common.{◌≡◌, ℕ, List, [], ◌∷◌, ◌++◌, Option, refl, sym, ap, ◌∙◌, subst}
+use Rattle.std.specs.Prelude.{Result, Ok, Err, OnOk, OnErr}
+use Rattle.roam_cells.specs.declared.faults.Fault.{Fault}
+use Rattle.roam_hub.specs.declared.addresses.Addr.{Addr}
+use Rattle.roam_turns.specs.Calls.{PortCall}
+use Rattle.roam_terminals.specs.Running.{Came, IsFresh, IsStep, RunStep, Runs, RunsBy, Took}
+use Rattle.roam_terminals.specs.Sharing.{Rounds, Shared}
+use Rattle.roam_terminals.specs.declared.silence.Silence.{Silence}
+use Rattle.roam_terminals.specs.declared.terminal.Terminal.{Terminal}
+
+module _ {S : Type 0} (remaining contents : S → Option (List ℕ)) (to : Addr) where
+  abbrev pub Calls : Type 0
+  Calls = Option (List PortCall)
+
+  runs_more : (steps : List RunStep) (step : RunStep) (calls between calls' : Calls) (old mid new : Shared S)
+      → RunsBy remaining contents to steps calls between old mid → IsStep remaining contents to step between calls' mid new
+      → RunsBy remaining contents to (steps ++ step ∷ []) calls calls' old new
+  runs_more [] step calls between calls' old mid new h k =
+      let first =
+      subst (λ c. IsStep remaining contents to step c calls' old new) h.0
+      (subst (λ s. IsStep remaining contents to step between calls' s new) h.1 k) in
+      (new, calls', first, (refl, refl))
+  runs_more (first ∷ steps) step calls between calls' old mid new h k =
+      (h.0, h.1, h.2, runs_more steps step h.1 between calls' h.0 mid new h.3 k)
+
+  pub runs_none : (calls : Calls) (s : Shared S) → Runs remaining contents to calls calls s s
+  runs_none calls s = ([], (refl, refl))
+
+  pub runs_still : (calls between calls' : Calls) (old new : Shared S) → calls' ≡ between
+      → Runs remaining contents to calls between old new → Runs remaining contents to calls calls' old new
+  runs_still calls between calls' old new same h = subst (λ c. Runs remaining contents to calls c old new) (sym same) h
+
+  runs_both : (steps later : List RunStep) (calls between calls' : Calls) (old mid new : Shared S)
+      → RunsBy remaining contents to steps calls between old mid → RunsBy remaining contents to later between calls' mid new
+      → RunsBy remaining contents to (steps ++ later) calls calls' old new
+  runs_both [] later calls between calls' old mid new h k =
+      subst (λ c. RunsBy remaining contents to later c calls' old new) h.0
+      (subst (λ s. RunsBy remaining contents to later between calls' s new) h.1 k)
+  runs_both (first ∷ steps) later calls between calls' old mid new h k =
+      (h.0, h.1, h.2, runs_both steps later h.1 between calls' h.0 mid new h.3 k)
+
+  pub runs_joined : (calls between calls' : Calls) (old mid new : Shared S) → Runs remaining contents to calls between old mid
+      → Runs remaining contents to between calls' mid new → Runs remaining contents to calls calls' old new
+  runs_joined calls between calls' old mid new h k = (h.0 ++ k.0, runs_both h.0 k.0 calls between calls' old mid new h.1 k.1)
+
+  pub runs_round : (silence : Silence) (calls between calls' : Calls) (old mid new : Shared S)
+      → Runs remaining contents to calls between old mid → Rounds remaining contents to silence between calls' mid new
+      → Runs remaining contents to calls calls' old new
+  runs_round silence calls between calls' old mid new h k =
+      (h.0 ++ Took silence ∷ [], runs_more h.0 (Took silence) calls between calls' old mid new h.1 k)
+
+  -- one came, or was let go
+  pub runs_came : (stream : S) (result : Result (Unit {0}) Fault) (calls between calls' : Calls) (old mid new : Shared S)
+      → Runs remaining contents to calls between old mid → calls' ≡ between
+      → OnOk result ((t : Terminal S) × (t.stream ≡ stream) × IsFresh t × (new.all ≡ mid.all ++ t ∷ []))
+      → OnErr result (new.all ≡ mid.all) → new ≡ record mid { all = new.all } → Runs remaining contents to calls calls' old new
+  runs_came stream (Ok u) calls between calls' old mid new h same added err others =
+      let is : new ≡ record mid { all = mid.all ++ added.0 ∷ [] } = others ∙ ap (λ l. record mid { all = l }) added.3 in (
+        h.0 ++ Came ∷ [],
+        runs_more h.0 Came calls between calls' old mid new h.1 (same, record { terminal = added.0; fresh = added.2; all = is }),
+      )
+  runs_came stream (Err fault) calls between calls' old mid new h same added err others =
+      let is : new ≡ mid = others ∙ ap (λ l. record mid { all = l }) err in
+      subst (λ s. Runs remaining contents to calls calls' old s) (sym is) (runs_still calls between calls' old mid same h)

@@ -1,0 +1,6 @@
+use Rattle.roam_terminals.specs.Running.{Runs}
+use Rattle.roam_terminals.proofs.running.run_shared.Given as goal
+
+abbrev pub invariant-loop : goal.invariant-loop
+invariant-loop g l = Runs g.S.Read.remaining g.S.Write.contents l.fn.to (g.D.Ports.told l.initial.door.ports) (g.D.Ports.told l.door.ports)
+    l.initial.shared l.shared
