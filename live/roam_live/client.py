@@ -152,7 +152,8 @@ class Client:
         """Waits until something can be done, and does it. What is at hand goes at once, where it is taken: a person waits for each key."""
         self.loop.turn()
         if self.bells.keypads or self.display.outer.is_application:
-            self.display.set_keypad(self.place.places().focus in self.bells.keypads)
+            places = self.place.places()
+            self.display.set_keypad(places is not None and places.focus in self.bells.keypads)
         if self.link.peer and self.link.waiting:
             self.send()
         if self.display.outer.waiting:
@@ -189,6 +190,7 @@ class Client:
     def run(self) -> int:
         """Follows the session until the person leaves or it ends, and tells the status."""
         try:
+            self.display.outer.enter()
             self.connect()
             if self.server is None:
                 self.loop.later("probe", PROBES, self.probe)

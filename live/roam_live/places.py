@@ -39,8 +39,8 @@ class Place(Kept, Protocol):
     def runs(self, role: str | None = None) -> bool:
         """Whether the process of a role is known to run; that of the role `served` where none is named."""
 
-    def places(self) -> Places:
-        """Where the panes are, as far as that is told: `NOTHING` has no pane, which no session has."""
+    def places(self) -> Places | None:
+        """Where the panes are; None where that isn't told."""
 
     def is_served(self) -> bool:
         """Whether somebody answers where its server is reached."""

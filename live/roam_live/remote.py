@@ -55,7 +55,7 @@ def near_session(asked: Asked, command: list[str]) -> NearSession:
 def is_first_start(session: NearSession) -> bool:
     """Whether a session, as far as is known, never had a client start before that of this machine."""
     places = session.places()
-    return bool(places.rects) and places.starts <= 1
+    return places is not None and places.starts <= 1
 
 
 def carry(name: str, started: Callable[[Session], bool]) -> int:

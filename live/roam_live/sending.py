@@ -29,8 +29,9 @@ TOLD_STEP = 0.05
 class Layout:
     """What is known of a session's panes after each of some acts."""
 
-    def __init__(self, places: Places) -> None:
-        self.places = places
+    def __init__(self, places: Places | None) -> None:
+        # Where nothing is told there is no pane here, and no act of one is refused.
+        self.places = places = places or Places({}, 0)
         # How many panes there are, and their numbers where these are known; and whether each has the place that was told.
         self.count, self.is_told = len(places.rects), True
         self.panes: set[int] | None = set(places.rects)
@@ -94,7 +95,7 @@ def wrong_size(rows: int, cols: int) -> str:
     return f"a session has {LEAST[0]} to {MOST[0]} rows and {LEAST[1]} to {MOST[1]} columns"
 
 
-def wrong_in(acts: list[str], places: Places) -> str:
+def wrong_in(acts: list[str], places: Places | None) -> str:
     """Which of the acts can't be done where panes are at these places, and why; nothing where all can, as far as is known."""
     layout = Layout(places)
     found = ((act, layout.wrong(act)) for act in acts)

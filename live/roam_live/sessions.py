@@ -15,7 +15,7 @@ from collections.abc import Iterable
 from roam_live.processes import Processes
 from roam_live.program import (TOOLS, Fault, begun, count_clients, end_words, is_listened, is_own_folder, note_end, program, replace_text,
                                say)
-from roam_live.rects import MOST_STARTS, NOTHING, Places, read_places
+from roam_live.rects import MOST_STARTS, Places, read_places
 
 NAME = re.compile(r"[A-Za-z0-9_-]{1,32}")
 
@@ -123,9 +123,9 @@ class Session(Processes):
         except OSError:
             return ""
 
-    def places(self) -> Places:
-        """Where its panes are, as far as that is told; in a folder that another user made in its place nothing is."""
-        return read_places(self.folder / "rects") if is_own_folder(self.folder) else NOTHING
+    def places(self) -> Places | None:
+        """Where its panes are; None where that isn't told, as in a folder that another user made in its place."""
+        return read_places(self.folder / "rects") if is_own_folder(self.folder) else None
 
     def is_served(self) -> bool:
         """Whether a server is there, or a relay to one."""
@@ -133,7 +133,8 @@ class Session(Processes):
 
     def is_full(self) -> bool | None:
         """Whether its server knows as many starts as it ever does; None where nothing is told of that."""
-        return self.places().is_full()
+        places = self.places()
+        return places.is_full() if places else None
 
     def busy(self) -> dict[int, str] | None:
         """The panes in which another program than a shell runs, and its name: in none where what is noted to have kept the shells has
@@ -312,10 +313,10 @@ class Session(Processes):
     def line(self) -> str:
         """What `mux ls` says of it."""
         places = self.places()
-        size = "{} by {}".format(*places.size()) if places.rects else "-"
+        size = "{} by {}".format(*places.size()) if places else "-"
         count = count_clients(self.folder)
-        panes = "1 pane" if len(places.rects) == 1 else f"{len(places.rects) or '?'} panes"
-        more = f", {places.starts} of {MOST_STARTS} starts" if places.starts > MANY_STARTS else ""
+        panes = "? panes" if not places else "1 pane" if len(places.rects) == 1 else f"{len(places.rects)} panes"
+        more = f", {places.starts} of {MOST_STARTS} starts" if places and places.starts > MANY_STARTS else ""
         return f"{self.name:12} {size:12} {panes:8} {count} client{'' if count == 1 else 's'}{more}"
 
 

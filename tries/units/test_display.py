@@ -14,7 +14,7 @@ from roam_live.commands import Commands
 from roam_live.display import Display, wrapped
 from roam_live.loops import Loop
 from roam_live.program import noted_client
-from roam_live.rects import NOTHING, Places, Rect
+from roam_live.rects import Places, Rect
 
 FITS = "C-b r fits this terminal, and cuts what is wider"
 
@@ -71,7 +71,7 @@ class Place:
 
     def __init__(self, folder=None):
         self.folder = folder
-        self.told = NOTHING
+        self.told = None
 
     def places(self):
         """Where the panes are."""
@@ -91,7 +91,7 @@ def painting(rows, cols, text="x"):
 class Person:
     """A person at a terminal, without the processes."""
 
-    def __init__(self, rows, cols, watches=False, is_new=False, told=NOTHING, folder=None):
+    def __init__(self, rows, cols, watches=False, is_new=False, told=None, folder=None):
         self.loop, self.link, self.place = Loop(), Link(watches), Place(folder)
         self.place.told = told
         self.left = None
@@ -169,7 +169,7 @@ class Sizes(unittest.TestCase):
         self.assertEqual((person.sizes(), person.commands.is_fitted), (["size 50 132"], True))
 
     def test_smaller_is_covered(self):
-        for told in (places(24, 100), NOTHING):
+        for told in (places(24, 100), None):
             person = Person(12, 40, told=told)
             person.display.painted(painting(24, 100, "secret"))
             person.commands.fit_first()
@@ -405,6 +405,7 @@ class Words(unittest.TestCase):
         os.dup2(slave, 0), os.dup2(slave, 1)
         try:
             outer = display.Outer()
+            outer.enter()
             outer.leave("[the relay has ended; \x1b[c/log tells why]")
         finally:
             os.dup2(ends[0], 0), os.dup2(ends[1], 1)

@@ -18,7 +18,7 @@ from roam_live.places import Kept, Place
 from roam_live.ports import PortSession
 from roam_live.program import TOOLS, Home
 from roam_live.programs import busy_panes
-from roam_live.rects import MOST_STARTS, NOTHING, Places, Rect
+from roam_live.rects import MOST_STARTS, Places, Rect
 from roam_live.sessions import NearSession, Session
 
 loader = importlib.machinery.SourceFileLoader("mux", str(TOOLS / "mux"))
@@ -124,7 +124,7 @@ class Known(Folder):
     def test_full(self):
         """Whether a server is full isn't known before something is told of it."""
         for session in self.sessions():
-            self.assertEqual((session.places(), session.is_full()), (NOTHING, None))
+            self.assertEqual((session.places(), session.is_full()), (None, None))
         for starts in (0, 63, 64):
             (self.folder / "rects").write_text(f"1 1 1 23 80\nstarts {starts}\nwatchers 0\nfocus 1\n", encoding="utf-8")
             self.assertEqual([session.is_full() for session in self.sessions()], [starts == MOST_STARTS] * 4)
@@ -184,7 +184,7 @@ class Close(Folder):
 
     def test_asked(self):
         """Where it isn't known what runs a person is asked, and y alone closes the pane."""
-        for places, named in ((TWO, "pane 1"), (NOTHING, "this pane")):
+        for places, named in ((TWO, "pane 1"), (None, "this pane")):
             for key, acts in ((b"y", ["close"]), (b"n", [])):
                 commands, link, shown = self.person(self.by_hand(), places)
                 self.assertEqual((link.acts, shown.told), ([], f"close whatever runs in {named}? y closes it"))

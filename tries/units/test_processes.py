@@ -15,7 +15,7 @@ from roam_live.parsing import Parser
 from roam_live.ports import PortSession
 from roam_live.processes import Processes, is_note
 from roam_live.program import Fault, Home, begun
-from roam_live.rects import NOTHING, Places, Rect, write_places
+from roam_live.rects import Places, Rect, write_places
 from roam_live.relayed import greeting, read_greeting
 from roam_live.sessions import VERSION, NearSession, Session
 
@@ -76,11 +76,11 @@ class Read(Based):
     def test_missing(self):
         """Each file that is missing, or no file, is nothing that is known."""
         session = self.session()
-        self.assertEqual((session.id(), session.places(), session.ended(), session.logged(), session.said(0)), ("", NOTHING, "", 0, ""))
+        self.assertEqual((session.id(), session.places(), session.ended(), session.logged(), session.said(0)), ("", None, "", 0, ""))
         for name in ("session", "rects", "ended", "state.json"):
             (self.folder / name).mkdir()
         session = self.session()
-        self.assertEqual((session.id(), session.places(), session.ended(), session.state), ("", NOTHING, "", None))
+        self.assertEqual((session.id(), session.places(), session.ended(), session.state), ("", None, "", None))
 
     def test_known(self):
         (self.folder / "session").write_text("5e55\n", encoding="utf-8")
@@ -419,7 +419,7 @@ class Ports(Case):
     def test_known(self):
         """Little is known of it, and where panes are only where a folder tells it."""
         self.session.read()
-        self.assertEqual((self.session.places(), self.session.busy(), self.session.is_full()), (NOTHING, None, None))
+        self.assertEqual((self.session.places(), self.session.busy(), self.session.is_full()), (None, None, None))
         self.assertEqual(str(self.session), "at port 9")
         self.assertEqual((self.session.process("server"), self.session.process("shells"), self.session.runs()), (None, None, False))
         self.assertEqual(self.session.ending(), ("[the session has ended]", 0))

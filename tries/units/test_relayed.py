@@ -101,11 +101,11 @@ class Places(unittest.TestCase):
             self.assertIsNone(found.neighbour(way))
         for line in (b"1 1 1 10000 80", b"1 -1 1 23 80", b"1 1 1 23 8_0", b"0 1 1 23 80", b"10 1 1 23 80", b"1 1 1 23 " + b"9" * 4000,
                      "1 1 1 23 \u0663".encode(), b"1 1 1 23 \xff"):
-            self.assertEqual(self.read(line + b"\nstarts 1\nwatchers 0\nfocus 1\n"), rects.NOTHING, line)
+            self.assertEqual(self.read(line + b"\nstarts 1\nwatchers 0\nfocus 1\n"), None, line)
 
     def test_long(self):
         """Of a long file little is read."""
-        self.assertEqual(self.read(b"1 1 1 23 80\n" + b"x\n" * 100_000 + b"focus 1\n"), rects.NOTHING)
+        self.assertEqual(self.read(b"1 1 1 23 80\n" + b"x\n" * 100_000 + b"focus 1\n"), None)
 
 
 if __name__ == "__main__":

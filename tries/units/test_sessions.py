@@ -250,7 +250,7 @@ class Starts(Sessions):
         with mock.patch("os.getuid", return_value=os.getuid() + 1):
             with self.assertRaisesRegex(Fault, "is no folder of yours"), Session.named("main").locked():
                 pass
-            self.assertEqual(Session.named("main").places().rects, {})
+            self.assertEqual(Session.named("main").places(), None)
         self.assertNotIn("lock", self.names())
 
 
