@@ -14,7 +14,7 @@ LIVE = pathlib.Path(__file__).resolve().parent.parent / "live"
 sys.path.insert(0, str(LIVE))
 
 from roam_live import terminal
-from roam_live.cells import Cells
+from roam_live.cells import PaintedCells
 from roam_live.program import TOOLS, program
 
 # So many seconds something has for coming.
@@ -102,7 +102,7 @@ class Outer:
     def cells(self):
         """The cells that are shown, with their styles, and the cursor; of a tool that paints as roam does."""
         begin = self.written.rfind(terminal.CLEARED)
-        shown = Cells()
+        shown = PaintedCells()
         shown.fed(bytes(self.written[max(0, begin) :]).decode("utf-8", "replace"))
         return shown
 

@@ -1,4 +1,4 @@
-"""What a person at a terminal types, and what comes of it: acts for the session, and what the client does itself."""
+"""What a person at a terminal types, and what comes of it: acts for the session, and what the front end does itself."""
 from __future__ import annotations
 
 import os
@@ -10,7 +10,7 @@ from roam_live import terminal
 from roam_live.bindings import NEWEST, Typing, help_with, spelled
 from roam_live.display import Display
 from roam_live.keys import Key, Keys
-from roam_live.links import Link
+from roam_live.links import StartLink
 from roam_live.loops import Loop
 from roam_live.program import has_others
 from roam_live.programs import told
@@ -18,7 +18,7 @@ from roam_live.rects import BESIDE, Places
 
 TYPE_CHECKING = False
 if TYPE_CHECKING:
-    from roam_live.places import Place
+    from roam_live.places import AnySession
 
 # An escape that nothing follows for so many seconds is the key.
 ESCAPE_WAIT = 0.025
@@ -39,7 +39,7 @@ NEW = 2.0
 class Commands:
     """The keys of one person, and what they ask for."""
 
-    def __init__(self, place: Place, link: Link, display: Display, loop: Loop, leave: Callable[[str | None], None],
+    def __init__(self, place: AnySession, link: StartLink, display: Display, loop: Loop, leave: Callable[[str | None], None],
                  is_new: Callable[[], bool] = lambda: False) -> None:
         self.place, self.link, self.display, self.loop, self.leave = place, link, display, loop, leave
         self.keys = Keys()
@@ -116,7 +116,7 @@ class Commands:
         self.act(*self.typing.left())
 
     def grant(self, wish: str, key: Key) -> None:
-        """Does what the client itself is asked for."""
+        """Does what the front end itself is asked for."""
         if wish == "detach":
             self.leave("[detached]")
         elif wish == "suspend":

@@ -23,7 +23,7 @@ TOLD = 1.0
 TOO_SMALL = "too small"
 
 
-class Outer:
+class OuterTerminal:
     """The terminal of a person: on its other screen from `enter` to `leave`."""
 
     def __init__(self) -> None:
@@ -81,9 +81,9 @@ class Display:
     """What is shown on a terminal. What has to be painted anew is asked for by a call, and what is painted before that comes is dropped."""
 
     def __init__(self, loop: Loop, repaint: Callable[[], None]) -> None:
-        self.outer, self.loop = Outer(), loop
+        self.outer, self.loop = OuterTerminal(), loop
         self.ask = repaint
-        self.extent = terminal.Extent()
+        self.extent = terminal.PaintedSize()
         self.held = b""
         self.is_stale = True
         self.cover = self.told = ""
@@ -95,7 +95,7 @@ class Display:
 
     def begin(self) -> None:
         """What is painted next is a start's first painting."""
-        self.extent = terminal.Extent()
+        self.extent = terminal.PaintedSize()
         self.is_stale, self.held = True, b""
 
     def painted(self, piece: bytes) -> None:

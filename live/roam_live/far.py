@@ -10,8 +10,8 @@ from roam_live.carriers import Carrier, is_datagram
 from roam_live.ends import FORGOTTEN_AFTER, PEER_LIMIT, Ended, Options, end_for, loopback_socket, received
 from roam_live.loops import Loop, is_taken
 from roam_live.program import Fault, connected_now, opened_process
-from roam_live.relayed import BELL, ENDED, KEYPAD, KILLED, PLACES_LIMIT, RECTS, Stream, Waiting
-from roam_live.sessions import Session
+from roam_live.relayed import BELL, ENDED, KEYPAD, KILLED, PLACES_LIMIT, RECTS, RelayStream, Waiting
+from roam_live.sessions import FolderSession
 from roam_live.watches import ShellsWatch
 
 # An end to which nothing is said for so many seconds ends.
@@ -28,7 +28,7 @@ class Far:
         if asked.server:
             self.loop.add(opened_process(asked.server), self.tell_end)
         # Nobody else may be there to see the shells' end.
-        self.place = Session(asked.dir, server=asked.server) if asked.server and asked.dir else None
+        self.place = FolderSession(asked.dir, server=asked.server) if asked.server and asked.dir else None
         self.shells = ShellsWatch(self.place, self.loop) if self.place else None
         self.bells = BellFollower(asked.dir, self.loop, lambda pane: self.stream.tell(0, BELL + bytes([pane])))
         self.waiting = Waiting()
@@ -39,7 +39,7 @@ class Far:
         self.keypads: set[int] = set()
         for end in (0, 1):
             os.set_blocking(end, False)
-        self.stream = Stream(0, 1, asked.session or "-")
+        self.stream = RelayStream(0, 1, asked.session or "-")
         if asked.greeted:
             self.stream.session = "-"
         self.loop.add(1, None, self.flush, has_more=lambda: self.stream.going)

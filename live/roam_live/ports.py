@@ -58,7 +58,7 @@ class PortSession:
         return None
 
     def revive_shells(self) -> bool:
-        """What keeps its shells isn't known here, and nothing is started."""
+        """What keeps its shells isn't known here, and nothing is spawned."""
         return False
 
     def revive(self) -> None:

@@ -8,7 +8,7 @@ import zlib
 
 from roam_live.program import TOOLS
 from roam_live.relayed import greeting, read_greeting
-from roam_live.sessions import NearSession, Session, base
+from roam_live.sessions import NearSession, FolderSession, base
 
 TYPE_CHECKING = False
 if TYPE_CHECKING:
@@ -58,15 +58,15 @@ def is_first_start(session: NearSession) -> bool:
     return places is not None and places.starts <= 1
 
 
-def carry(name: str, started: Callable[[Session], bool]) -> int:
-    """Carries a session's datagrams over standard input and output. One that the other end knew and that has ended isn't started anew;
+def carry(name: str, launched: Callable[[FolderSession], bool]) -> int:
+    """Carries a session's datagrams over standard input and output. One that the other end knew and that has ended isn't launched anew;
     whether another runs, or was begun halfway, a call tells under its lock."""
     wanted = read_greeting(0)
-    session = Session.named(name)
+    session = FolderSession.named(name)
     if wanted == "-":
         with session.locked():
-            if not started(session):
-                session.start()
+            if not launched(session):
+                session.launch()
     elif not session.find() or session.id() != wanted:
         os.write(1, greeting("0"))
         return 0

@@ -11,7 +11,7 @@ from roam_live import ends, far, near
 from roam_live.carriers import LONGEST, SHORTEST
 from roam_live.program import Fault
 from test_relayed import HOSTILE, ODD
-from roam_live.relayed import BELL, COUNT, ENDED, HAD, HEADER, KILLED, RECTS, WAITING_LIMIT, BadWords, Stream, Waiting, greeting
+from roam_live.relayed import BELL, COUNT, ENDED, HAD, HEADER, KILLED, RECTS, WAITING_LIMIT, BadWords, RelayStream, Waiting, greeting
 
 relay = loaded("relay")
 
@@ -51,7 +51,7 @@ class FakeLink:
     def __init__(self, case, session="-"):
         (self.source, self.said), (heard, self.target) = case.pipe(), case.pipe()
         self.other = Other(heard)
-        self.stream = Stream(self.source, self.target, session)
+        self.stream = RelayStream(self.source, self.target, session)
         self.errors = None
         self.since = case.now
         self.process = mock.Mock(poll=mock.Mock(return_value=None))
@@ -411,7 +411,7 @@ class Nears(Ends):
     def test_alone(self):
         """With --alone it ends when no client was noted for so many seconds; it looks each five."""
         self.near.asked.alone = 60.0
-        counts = self.patch_of(near, "count_clients", return_value=1)
+        counts = self.patch_of(near, "count_front_ends", return_value=1)
         self.now += 4.9
         self.near.look()
         counts.assert_not_called()
@@ -575,7 +575,7 @@ class Fars(Ends):
         self.listener = self.listening(self.folder / "clients")
         (self.source, self.said_end), (heard, self.target) = self.pipe(), self.pipe()
         self.other = Other(heard)
-        self.patch_of(far, "Stream", side_effect=lambda _, __, session: Stream(self.source, self.target, session))
+        self.patch_of(far, "RelayStream", side_effect=lambda _, __, session: RelayStream(self.source, self.target, session))
         self.patch_of(far.os, "set_blocking")
         self.far = self.far_end()
         self.said = self.heard()
@@ -782,7 +782,7 @@ class Streams(Ends):
     def setUp(self):
         super().setUp()
         self.there, self.back = self.pipe(), self.pipe()
-        self.sender, self.receiver = Stream(self.back[0], self.there[1], "5e55"), Stream(self.there[0], self.back[1], "-")
+        self.sender, self.receiver = RelayStream(self.back[0], self.there[1], "5e55"), RelayStream(self.there[0], self.back[1], "-")
         self.sender.session = "-"
 
     def received(self, text):
@@ -808,14 +808,14 @@ class Streams(Ends):
         """A short stream, cut at each place."""
         text = greeting("abc") + packed((1, datagram(1)), (0, b"z1"), (0, RECTS + b"p"), (9, datagram(2)))
         for cut in range(len(text) + 1):
-            self.receiver = Stream(self.there[0], self.back[1], "-")
+            self.receiver = RelayStream(self.there[0], self.back[1], "-")
             found = [frame for piece in (text[:cut], text[cut:]) if piece for frame in self.received(piece)]
             self.assertEqual(found, [(1, datagram(1)), (0, b"z1"), (0, RECTS + b"p"), (9, datagram(2))], cut)
 
     def test_versions(self):
         for line, told in ((b"roam-relay 1 5e55\n", "the other end is of an earlier roam: its relay has version 1, and this one version 2"),
                            (b"roam-relay 3 5e55\n", "the other end is of a later roam: its relay has version 3, and this one version 2")):
-            self.receiver = Stream(self.there[0], self.back[1], "-")
+            self.receiver = RelayStream(self.there[0], self.back[1], "-")
             with self.assertRaises(BadWords) as fault:
                 self.received(line)
             self.assertEqual(str(fault.exception), told)
@@ -946,7 +946,7 @@ class Words(Ends):
         for words, wrong in (
             (["--dir", folder, "-", "ssh"], ""), (["0", "ssh"], ""), (["65535", "ssh"], ""), (["65536", "ssh"], port), (["x", "ssh"], port),
             (["--far", "0"], port), (["--far", "1"], ""), (["-", "ssh"], "without a port the folder of --dir has the socket"),
-            (["--alone", "9", "0", "ssh"], "clients are noted in the folder of --dir"), (["0"], "the command is missing"),
+            (["--alone", "9", "0", "ssh"], "front ends are noted in the folder of --dir"), (["0"], "the command is missing"),
             (["--far", "1", "ssh"], "no command follows the port of --far"), (["--far", "--session", "5e55", "1"], ""),
             (["--far", "--session", "xyz", "1"], "a session's id is 1 to 16 hexadecimal digits"),
         ):
@@ -982,7 +982,7 @@ class Words(Ends):
         note.touch()
         end.turn.side_effect = [ends.Ended(0)]
         self.patch_of(far, "Far", return_value=end)
-        self.patch_of(relay, "noted_client", return_value=note)
+        self.patch_of(relay, "noted_front_end", return_value=note)
         self.words("relay", "--far", "1")
         with mock.patch("os.isatty", return_value=False):
             self.assertEqual(relay.main(), 0)

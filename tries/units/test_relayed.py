@@ -7,7 +7,7 @@ import zlib
 
 from roam_live import rects
 from roam_live.carriers import LONGEST, SHORTEST
-from roam_live.relayed import BELL, COUNT, ENDED, HAD, HEADER, MOST_TOLD, RECTS, BadWords, Stream, greeting
+from roam_live.relayed import BELL, COUNT, ENDED, HAD, HEADER, MOST_TOLD, RECTS, BadWords, RelayStream, greeting
 
 
 def frame(peer, text):
@@ -65,7 +65,7 @@ class Frames(unittest.TestCase):
         self.addCleanup(os.close, reader)
         os.write(writer, greeting("abc") + said)
         os.close(writer)
-        return Stream(reader, 1, "-")
+        return RelayStream(reader, 1, "-")
 
     def test_before_a_fault(self):
         """What comes before what can't be is taken."""

@@ -6,8 +6,8 @@ import termios
 from unittest import mock
 
 from aids import Case, StillLoop, closed, read_now
-from roam_live import client, display, terminal
-from roam_live.client import Client
+from roam_live import display, front_end, terminal
+from roam_live.front_end import FrontEnd
 from roam_live.program import Fault, begun
 from roam_live.rects import Places, Rect
 from test_display import Person, painting, places
@@ -15,7 +15,7 @@ from test_display import Person, painting, places
 PANES = Places({1: Rect(1, 1, 23, 39), 2: Rect(1, 41, 11, 40), 3: Rect(13, 41, 11, 40)}, 1, 1)
 
 
-class Place:
+class AnySession:
     """A session that is played."""
 
     served, name = "server", "main"
@@ -72,7 +72,7 @@ class Fronts(Case):
 
     def setUp(self):
         self.stop_clock()
-        self.place = Place(self.made_folder())
+        self.place = AnySession(self.made_folder())
         self.listener = self.listening(self.place.terminals)
         self.master, slave = pty.openpty()
         terminal.set_size(slave, 24, 80)
@@ -83,8 +83,8 @@ class Fronts(Case):
         self.addCleanup(self.give_back, kept, slave)
         os.set_blocking(self.master, False)
         self.wakeup, self.wakes = self.pipe()
-        self.patch_of(client, "woken", return_value=self.wakeup)
-        self.front = Client(self.place, False, "C-b", "adaptive", lambda: False, StillLoop())
+        self.patch_of(front_end, "woken", return_value=self.wakeup)
+        self.front = FrontEnd(self.place, False, "C-b", "adaptive", lambda: False, StillLoop())
         self.addCleanup(lambda: closed(self.front.display.outer.end))
         self.addCleanup(lambda: self.front.link.close())
 
@@ -296,13 +296,13 @@ class Loop(Fronts):
     def test_hung_up(self):
         """A terminal that is gone is left with status 1."""
         self.front.display.outer.enter()
-        with mock.patch.object(client, "read", side_effect=lambda end: b"" if end == 0 else None):
+        with mock.patch.object(front_end, "read", side_effect=lambda end: b"" if end == 0 else None):
             os.write(self.master, b"x")
             self.turn(1)
         self.assertEqual((self.front.left, self.front.status), ("", 1))
         self.front.left = None
         self.front.display.outer.waiting += b"x"
-        with mock.patch.object(client, "write", return_value=False):
+        with mock.patch.object(front_end, "write", return_value=False):
             self.turn(1)
         self.assertEqual(self.front.left, "")
 
@@ -335,7 +335,7 @@ class Loop(Fronts):
         start = self.connect()
         start.send(b"x")
         self.front.display.outer.waiting[:] = bytes(65536)
-        with mock.patch.object(client, "write", return_value=True):
+        with mock.patch.object(front_end, "write", return_value=True):
             with mock.patch.object(self.front.link, "painted") as paints:
                 self.turn(1)
                 paints.assert_not_called()
@@ -393,14 +393,14 @@ class Loop(Fronts):
     def test_no_terminal(self):
         with mock.patch("os.isatty", side_effect=[True, False]):
             with self.assertRaisesRegex(Fault, "standard input and output have to be a terminal"):
-                display.Outer()
+                display.OuterTerminal()
 
     def test_outer(self):
         """What is typed comes from standard input, whose modes and size are gone by, and standard output is written."""
         asks = self.patch("os.isatty", return_value=True)
         with mock.patch.object(terminal, "make_raw", return_value=[1]) as raws, mock.patch.object(terminal, "size_of") as sizes, \
                 mock.patch.object(terminal, "opened_for_writing", return_value=9) as opens:
-            outer = display.Outer()
+            outer = display.OuterTerminal()
             raws.assert_not_called()
             outer.enter()
         self.assertEqual([one.call_args[0] for one in (raws, sizes, opens)], [(0,), (0,), (1,)])
@@ -422,9 +422,9 @@ class Loop(Fronts):
             seen.append(note.read_text(encoding="utf-8"))
             return 5
 
-        with mock.patch.object(client, "Client") as made:
+        with mock.patch.object(front_end, "FrontEnd") as made:
             made.return_value.run = runs
-            self.assertEqual(client.follow(self.place, True, "C-a", "never"), 5)
+            self.assertEqual(front_end.follow(self.place, True, "C-a", "never"), 5)
             self.assertEqual(made.call_args[0][:4], (self.place, True, "C-a", "never"))
         self.assertEqual(seen, [f"{begun(os.getpid())} watches\n"])
         self.assertEqual((list((self.place.folder / "attached").iterdir()), self.place.is_closed), ([], True))
@@ -595,7 +595,7 @@ class Painted(Case):
             rest = written
             while b"\x1b7" in rest:
                 before, _, after = rest.partition(b"\x1b7")
-                extent = terminal.Extent()
+                extent = terminal.PaintedSize()
                 extent.fed(before)
                 self.assertTrue(extent.is_between(), cut)
                 rest = before + after.partition(b"\x1b8")[2]
