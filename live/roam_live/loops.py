@@ -33,7 +33,7 @@ def number_of(end: End) -> int:
 
 def ready(end: End, events: int, seconds: float) -> int:
     """Which of these events an end has within so many seconds."""
-    with selectors.PollSelector() as selector:
+    with selectors.SelectSelector() as selector:
         selector.register(number_of(end), events)
         return sum(found for _, found in selector.select(seconds))
 
@@ -73,8 +73,8 @@ class Loop:
 
     def __init__(self, clock: Callable[[], float] | None = None) -> None:
         self.clock = clock or time.monotonic
-        # It needs no descriptor of its own, and takes any file.
-        self.selector = selectors.PollSelector()
+        # It needs no descriptor of its own, takes any file, and as many as there are where the limit was lowered since.
+        self.selector = selectors.SelectSelector()
         self.sources: dict[int, LoopEnd] = {}
         self.heeded: dict[int, int] = {}
         self.due: dict[str, tuple[float, Does]] = {}
