@@ -44,7 +44,7 @@ bench: all
 
 try: all
 	tries/two_processes
-	tries/try_live
+	tries/run -j "$$(nproc)"
 	tries/try_faults
 
 PREFIX ?= /usr/local

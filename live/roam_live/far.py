@@ -17,6 +17,9 @@ from roam_live.watches import ShellsWatch
 # An end to which nothing is said for so many seconds ends.
 ALONE = 30.0
 
+# So many seconds after something was painted it is looked anew where the panes are.
+LOOK = 0.1
+
 
 class Far:
     """The end beside the server: a stream to its socket for each client, or a UDP socket."""
@@ -135,6 +138,8 @@ class Far:
             self.drop(peer)
         for datagram in datagrams or []:
             self.waiting.add(peer, datagram)
+        # What is painted now may stand in other places, which are noted a moment later.
+        self.loop.later("look", LOOK, lambda: None)
 
     def flush_server(self, peer: int, carrier: Carrier) -> None:
         """Writes what the server takes of a client's; one that it has left is forgotten."""

@@ -620,6 +620,7 @@ class Fars(Ends):
         servers[1].send(one + datagram(9))
         for _ in range(3):
             self.far.turn()
+        self.assertAlmostEqual(self.waited, 0.1)
         self.assertEqual([frame for frame in self.other.frames() if frame[0]], [(7, datagram(9))])
         servers[0].close()
         self.far.turn()
