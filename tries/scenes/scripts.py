@@ -26,3 +26,11 @@ def pages(folder):
     run = subprocess.run(script("try_pages", PROGRAM), stdout=subprocess.PIPE, stderr=subprocess.STDOUT, check=False)
     print(run.stdout.decode("utf-8", "replace"), end="", flush=True)
     check("each command of pages and helps does what they say", run.returncode == 0, run.returncode)
+
+
+@scene
+def traced(folder):
+    """What the page on the live session tells of files, sockets and processes."""
+    run = subprocess.run(script("try_traced", PROGRAM), stdout=subprocess.PIPE, stderr=subprocess.STDOUT, check=False)
+    print(run.stdout.decode("utf-8", "replace"), end="", flush=True)
+    check("each file, socket and process of an attach stands in docs/LIVE.md", run.returncode == 0, run.returncode)
