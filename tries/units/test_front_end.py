@@ -251,7 +251,7 @@ class Loop(Fronts):
         start = self.connect()
         start.send(painting(24, 80))
         self.turn()
-        self.front.place.processes["terminals"] = None
+        self.front.session.processes["terminals"] = None
         start.close()
         self.turn()
         self.assertEqual((self.front.link.peer, self.front.loop.due["connect"][0]), (None, 100.1))
