@@ -27,6 +27,9 @@ TYPED_LIMIT = 1 << 24
 # had got before a smaller followed it would be cut.
 SIZES = 0.3
 
+# So many seconds after something was painted it is looked anew where the focus is, for the keypad: what is noted of that comes later.
+LOOKS = (0.1, 0.5, 2.0)
+
 # How often it is looked whether the server is there, where no process is known.
 PROBES = 2.0
 
@@ -151,13 +154,17 @@ class FrontEnd:
     def turn(self) -> None:
         """Waits until something can be done, and does it. What is at hand goes at once, where it is taken: a person waits for each key."""
         self.loop.turn()
-        if self.bells.keypads or self.display.outer.is_application:
+        if self.has_keypads():
             places = self.session.places()
             self.display.set_keypad(places is not None and places.focus in self.bells.keypads)
         if self.link.peer and self.link.waiting:
             self.send()
         if self.display.outer.waiting:
             self.show()
+
+    def has_keypads(self) -> bool:
+        """Whether the keypad is an application's, in a pane or at the terminal."""
+        return bool(self.bells.keypads or self.display.outer.is_application)
 
     def typed(self) -> None:
         """Takes what was typed."""
@@ -173,6 +180,8 @@ class FrontEnd:
             self.lost()
         elif piece:
             self.display.painted(SILENCE.sub(rb"\1; %s d leaves\2" % self.commands.prefix.encode(), piece))
+            for seconds in LOOKS if self.has_keypads() else ():
+                self.loop.later(f"look after {seconds}", seconds, lambda: None)
             if not self.commands.is_fitted and "size" not in self.loop.due:
                 self.loop.later("size", SIZES, self.commands.fit_first)
 

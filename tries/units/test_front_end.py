@@ -330,6 +330,25 @@ class Loop(Fronts):
         self.turn()
         self.assertEqual((self.front.display.told, self.shown().count(b"\x07")), ("pane 3 isn't shown", 1))
 
+    def test_keypad(self):
+        """The keypad goes by the pane in focus, also where that is noted after it was painted; without an application's nothing is looked."""
+        bells = self.listening(self.place.folder / "bells")
+        start = self.connect()
+        start.send(painting(24, 80))
+        self.turn()
+        self.assertEqual([name for name in self.front.loop.due if name.startswith("look ")], [])
+        self.taken(bells).send(b"keypad 2 application\n")
+        self.place.told = Places({1: Rect(1, 1, 23, 39), 2: Rect(1, 41, 23, 40)}, 1)
+        self.turn()
+        start.send(b"\x1b[1;1Hx")
+        self.turn()
+        self.assertNotIn(b"\x1b=", self.shown())
+        self.assertEqual([moment for name, (moment, _) in self.front.loop.due.items() if name.startswith("look ")], [100.1, 100.5, 102.0])
+        self.place.told = self.place.told._replace(focus=2)
+        self.now += 0.1
+        self.turn()
+        self.assertIn(b"\x1b=", self.shown())
+
     def test_limits(self):
         """While 65,536 bytes wait for the terminal nothing more is read of the start."""
         start = self.connect()
