@@ -1,7 +1,7 @@
 """What the two ends of a relay tell each other over a stream: datagrams, each with the number of the peer that it is from or for.
 
 Each end begins with a greeting, a line that names the session where it is known. All behind it is compressed, by zlib, so that each frame
-can be read once its bytes are there: the length of what the frame carries, the number of the peer, and the datagram. SocketPeer 0 is the other
+can be read once its bytes are there: the length of what the frame carries, the number of the peer, and the datagram. Peer 0 is the other
 end itself: how many bytes it has had, that the session has ended, where panes are, that one rang, or how its keypad is. So many bytes at
 most are on their way; the rest waits here, where what has grown old can be dropped, and not in the stream.
 """

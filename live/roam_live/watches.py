@@ -72,4 +72,4 @@ class ShellsWatch:
             self.faults = 0
         pause = self.wait()
         if self.faults > 1:
-            self.tells(f"what keeps the shells ended again; it is started anew in {pause} s")
+            self.tells(f"what keeps the shells ended again; it is spawned anew in {pause} s")

@@ -331,7 +331,7 @@ class Loop(Fronts):
         self.assertEqual((self.front.display.told, self.shown().count(b"\x07")), ("pane 3 isn't shown", 1))
 
     def test_keypad(self):
-        """The keypad goes by the pane in focus, also where that is noted after it was painted; without an application's nothing is looked."""
+        """The keypad goes by the pane in focus, also where that is noted after it was painted; without an application's nobody looks."""
         bells = self.listening(self.place.folder / "bells")
         start = self.connect()
         start.send(painting(24, 80))
