@@ -1,4 +1,4 @@
-"""What a person's keys ask for: acts, and wishes that the client itself grants."""
+"""What a person's keys ask for: acts, and wishes that the front end itself grants."""
 from __future__ import annotations
 
 from roam_live.choices import PREFIX, PREFIXES
@@ -41,7 +41,7 @@ C-b and then:
            up); again within half a second without C-b
   [ PgUp   scroll: PgUp PgDn up down g G; q, Escape, C-c or Return ends it
   d        detach: the session goes on
-  C-z      suspend: the shell that started this is there again, until `fg`
+  C-z      suspend: the shell that this came from is there again, until `fg`
   r        size the session to this terminal, which cuts what is wider, and
            paint all anew
   ?        these keys, until the next key

@@ -8,7 +8,7 @@ import time
 from collections.abc import Callable
 
 from roam_live import terminal
-from roam_live.moments import Moments
+from roam_live.loops import Loop
 from roam_live.program import Fault, write
 from roam_live.words import printable
 
@@ -23,21 +23,26 @@ TOLD = 1.0
 TOO_SMALL = "too small"
 
 
-class Outer:
-    """The terminal of a person, on its other screen."""
+class OuterTerminal:
+    """The terminal of a person: on its other screen from `enter` to `leave`."""
 
     def __init__(self) -> None:
         if not (os.isatty(0) and os.isatty(1)):
             raise Fault("standard input and output have to be a terminal")
-        self.waiting = bytearray(terminal.ENTERED)
+        self.waiting = bytearray()
         # Whether its keypad sends the codes of applications.
         self.is_application = False
         self.end = terminal.opened_for_writing(1)
         self.known = terminal.size_of(0)
-        modes = terminal.make_raw(0)
-        if modes is None:
+        # Those that it had before.
+        self.modes: terminal.Modes | None = None
+
+    def enter(self) -> None:
+        """Takes the terminal."""
+        self.modes = terminal.make_raw(0)
+        if self.modes is None:
             raise Fault("the terminal can't be made raw")
-        self.modes = modes
+        self.waiting += terminal.ENTERED
 
     def size(self) -> terminal.Size:
         """Its rows and columns now; of one that has hung up those that it had."""
@@ -61,7 +66,9 @@ class Outer:
         signal.signal(signal.SIGTSTP, handled)
 
     def leave(self, line: str | None) -> None:
-        """Brings back what stood there, and says a line below it."""
+        """Brings back what stood there, where it was taken, and says a line below it."""
+        if self.modes is None:
+            return
         self.waiting.clear()
         os.set_blocking(self.end, True)
         self.waiting += terminal.LEFT + (f"{printable(line)}\r\n".encode() if line else b"")
@@ -73,10 +80,10 @@ class Outer:
 class Display:
     """What is shown on a terminal. What has to be painted anew is asked for by a call, and what is painted before that comes is dropped."""
 
-    def __init__(self, moments: Moments, repaint: Callable[[], None]) -> None:
-        self.outer, self.moments = Outer(), moments
+    def __init__(self, loop: Loop, repaint: Callable[[], None]) -> None:
+        self.outer, self.loop = OuterTerminal(), loop
         self.ask = repaint
-        self.extent = terminal.Extent()
+        self.extent = terminal.PaintedSize()
         self.held = b""
         self.is_stale = True
         self.cover = self.told = ""
@@ -88,16 +95,16 @@ class Display:
 
     def begin(self) -> None:
         """What is painted next is a start's first painting."""
-        self.extent = terminal.Extent()
+        self.extent = terminal.PaintedSize()
         self.is_stale, self.held = True, b""
 
     def painted(self, piece: bytes) -> None:
         """Takes what was painted."""
         if self.extent.fed(piece):
-            self.moments.drop("repaint")
+            self.loop.drop("repaint")
         text = self.fresh(piece)
         if self.extent.size == self.given:
-            self.moments.drop("refused")
+            self.loop.drop("refused")
         if not self.fits():
             self.hide()
         elif self.is_hidden and self.is_only_small():
@@ -136,7 +143,7 @@ class Display:
         """Shows the session again, where it fits."""
         self.cover, self.is_refused = "", False
         self.outer.waiting += terminal.CLEARED
-        self.moments.drop("hide")
+        self.loop.drop("hide")
         self.is_hidden = not self.fits()
         if self.is_hidden:
             self.tell_small()
@@ -158,7 +165,7 @@ class Display:
         self.is_hidden = True
         left = self.settled_at - time.monotonic()
         if left > 0 and terminal.is_large_enough(self.outer.size()):
-            self.moments.later("hide", left, self.tell_small)
+            self.loop.later("hide", left, self.tell_small)
         else:
             self.tell_small()
 
@@ -184,7 +191,7 @@ class Display:
     def size_asked(self, size: terminal.Size) -> None:
         """Waits for a size that the session was given."""
         self.given, self.settled_at, self.is_refused = size, time.monotonic() + SETTLES, False
-        self.moments.later("refused", SETTLES + REFUSES, self.refused)
+        self.loop.later("refused", SETTLES + REFUSES, self.refused)
 
     def refused(self) -> None:
         """Tells where the session hasn't got the size that it was given."""
@@ -194,14 +201,14 @@ class Display:
     def resized(self) -> None:
         """Goes by a new size of the terminal."""
         self.is_refused = False
-        self.moments.drop("refused")
+        self.loop.drop("refused")
         if not self.fits():
             self.hide()
         elif self.is_hidden and self.is_only_small():
             self.uncover()
         elif self.cover:
             self.show(self.cover)
-        self.moments.later("repaint", SETTLES, self.resettle)
+        self.loop.later("repaint", SETTLES, self.resettle)
 
     def resettle(self) -> None:
         """Paints all anew, where the session's new size hasn't had that done."""
@@ -226,9 +233,9 @@ class Display:
         self.told = text
         self.put_told()
         if seconds:
-            self.moments.later("told", seconds, self.end_told)
+            self.loop.later("told", seconds, self.end_told)
         else:
-            self.moments.drop("told")
+            self.loop.drop("told")
 
     def put_told(self) -> None:
         """Writes that line, where the terminal isn't in the middle of something."""
@@ -240,7 +247,7 @@ class Display:
 
     def end_told(self) -> None:
         """Shows the session's last row again."""
-        self.moments.drop("told")
+        self.loop.drop("told")
         if self.told:
             self.told = ""
             self.resettle()

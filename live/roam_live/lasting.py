@@ -76,7 +76,7 @@ class Lasting:
                 os.utime(path, follow_symlinks=False)
 
     def paths(self) -> Iterator[str]:
-        """The folder, what lies there, and the notes of clients."""
+        """The folder, what lies there, and the notes of front ends."""
         yield self.folder
         for folder in (self.folder, os.path.join(self.folder, "attached")):
             with contextlib.suppress(OSError):

@@ -2,17 +2,17 @@
 from __future__ import annotations
 
 import os
-import select
 import socket
 import time
 
+from roam_live.loops import READ, WRITE, comes, ready
 from roam_live.program import Fault, connected_now, read, reason
 
 TYPE_CHECKING = False
 if TYPE_CHECKING:
-    from roam_live.places import Place
+    from roam_live.any_session import AnySession
 
-# The pauses before a start is started anew; a connection that lasted so long had no fault at its start.
+# The pauses before a start is spawned anew; a connection that lasted so long had no fault at its start.
 PAUSES = (0.1, 1, 2, 4, 8, 15)
 SOUND = 5.0
 
@@ -33,7 +33,7 @@ NO_MORE = "no more terminals are taken: 16 are there"
 LET_GO = "this terminal was let go; what was typed last may be lost"
 
 
-class Link:
+class StartLink:
     """A terminal's connection to the start. Each line goes whole to one connection: what of a line came to one that is lost is nothing."""
 
     def __init__(self, path: str | os.PathLike[str], watches: bool, guessing: str = "never") -> None:
@@ -97,7 +97,7 @@ class Link:
 
     def comes(self, seconds: float) -> bool:
         """Whether something comes in so many seconds."""
-        return bool(select.select([self.end()], [], [], seconds)[0])
+        return comes(self.end(), seconds)
 
     def painted(self) -> bytes | None:
         """What was painted; None where nothing came, and nothing where the connection has ended."""
@@ -119,25 +119,25 @@ class Link:
             if not has_said and not self.waiting:
                 has_said = True
                 self.end().shutdown(socket.SHUT_WR)
-            readable, writable, _ = select.select([self.peer], [self.peer] if self.waiting else [], [], 0.1)
-            has_ended = bool(writable and not self.send() or readable and self.painted() == b"")
+            events = ready(self.end(), READ | WRITE if self.waiting else READ, 0.1)
+            has_ended = bool(events & WRITE and not self.send() or events & READ and self.painted() == b"")
         self.close()
         return has_ended and not self.waiting
 
 
 class Keeper:
-    """Has a link connected: to the start that is there, or to another, which is started after pauses that grow."""
+    """Has a link connected: to the start that is there, or to another, which is spawned after pauses that grow."""
 
-    def __init__(self, place: Place, link: Link) -> None:
-        self.place, self.link = place, link
+    def __init__(self, session: AnySession, link: StartLink) -> None:
+        self.session, self.link = session, link
         self.faults = 0
         self.begun_at = 0.0
         self.start: int | None = None
 
     def lost(self) -> str:
         """Takes note of a link that has ended, and tells why, as far as that is known yet."""
-        self.place.read()
-        is_there, was_painted = self.place.runs("terminals"), self.link.has_painted
+        self.session.read()
+        is_there, was_painted = self.session.runs("terminals"), self.link.has_painted
         self.faults = 1 if time.monotonic() - self.link.since > SOUND else self.faults + 1
         self.link.close()
         if not is_there:
@@ -151,8 +151,8 @@ class Keeper:
     def connected(self) -> str:
         """Takes note of a link that is there, and tells what was lost with the one before."""
         self.begun_at = 0.0
-        self.place.read()
-        before, self.start = self.start, self.place.process("terminals")
+        self.session.read()
+        before, self.start = self.start, self.session.process("terminals")
         return "" if before is None else LET_GO if before == self.start else LOST
 
     def connect(self) -> tuple[float, str] | None:
@@ -165,22 +165,22 @@ class Keeper:
         except OSError as fault:
             why = reason(fault)
         now = time.monotonic()
-        if self.begun_at and self.place.runs("terminals") and now < self.begun_at + READY_WAIT:
+        if self.begun_at and self.session.runs("terminals") and now < self.begun_at + READY_WAIT:
             return STEP, ""
         if self.begun_at:
             return self.failed(f"no client start is ready: {why}")
-        if not self.place.is_served():
-            return self.failed(f"no server is {self.place}")
-        if self.place.is_full():
+        if not self.session.is_served():
+            return self.failed(f"no server is {self.session}")
+        if self.session.is_full():
             return self.failed("the server has had the 64 client starts of its life, and hears no other")
         return self.begin(now)
 
     def begin(self, now: float) -> tuple[float, str]:
         """Starts a start, which has its socket soon."""
         try:
-            self.place.revive()
+            self.session.revive()
         except (Fault, OSError) as fault:
-            return self.failed(reason(fault).removeprefix(f"session {self.place.name}: "))
+            return self.failed(reason(fault).removeprefix(f"session {self.session.name}: "))
         self.begun_at = now
         return STEP, ""
 

@@ -4,10 +4,10 @@ import pathlib
 from unittest import mock
 
 from aids import Case, loaded
-from roam_live import captures, choices, client, far, sending, sessions
+from roam_live import captures, choices, front_end, remote, sending, sessions
 from roam_live.program import Fault
 from roam_live.relayed import greeting
-from roam_live.sessions import NearSession, Session
+from roam_live.sessions import NearSession, FolderSession
 
 mux = loaded("mux")
 PAGE = pathlib.Path(__file__).resolve().parents[2] / "docs/man/roam-mux.1"
@@ -19,20 +19,20 @@ class Mux(Case):
     def setUp(self):
         self.base = self.made_folder() / "roam"
         self.base.mkdir(mode=0o700)
-        for module in (sessions, far):
+        for module in (sessions, remote):
             self.patch_of(module, "base", lambda: self.base)
         self.environment(ROAM_PREFIX=None, ROAM_GUESS=None, ROAM_PANE=None, SHELL="/bin/sh")
         self.said, self.text = self.heard(), self.printed()
-        self.follows = self.patch_of(client, "follow", return_value=7)
+        self.follows = self.patch_of(front_end, "follow", return_value=7)
         self.is_terminal = True
         self.patch_of(mux.os, "isatty", lambda end: self.is_terminal)
         self.runs, self.done = set(), []
-        for name in ("start", "start_shells", "demand_terminals", "demand_shells", "note_found", "kill", "end_all", "tidy"):
-            self.patch_of(Session, name, self.does(name))
-        self.patch_of(Session, "find", lambda session: session.name in self.runs)
-        self.patch_of(Session, "runs", lambda session, role=None: session.name in self.runs)
-        self.patch_of(Session, "demand_age", self.does("demand_age"))
-        self.patch_of(Session, "busy", lambda session: {1: "vi"})
+        for name in ("launch", "spawn_shells", "demand_terminals", "demand_shells", "note_found", "kill", "end_all", "tidy"):
+            self.patch_of(FolderSession, name, self.does(name))
+        self.patch_of(FolderSession, "find", lambda session: session.name in self.runs)
+        self.patch_of(FolderSession, "runs", lambda session, role=None: session.name in self.runs)
+        self.patch_of(FolderSession, "demand_age", self.does("demand_age"))
+        self.patch_of(FolderSession, "busy", lambda session: {1: "vi"})
 
     def does(self, name):
         """What notes that a part of a session was called."""
@@ -62,7 +62,7 @@ class Attaches(Mux):
         for words, name in (((), "main"), (("work",), "work"), (("--", "send"), "send")):
             self.done.clear()
             self.assertEqual(self.mux(*words), 7)
-            self.assertEqual(self.done, [("kill", name), ("start", name, ()), ("demand_terminals", name)])
+            self.assertEqual(self.done, [("kill", name), ("launch", name, ()), ("demand_terminals", name)])
             session, is_watching, prefix, guessing, is_new = self.follows.call_args[0]
             self.assertEqual((session.name, is_watching, prefix, guessing, is_new()), (name, False, "C-b", "adaptive", True))
 
@@ -116,7 +116,7 @@ class Attaches(Mux):
         self.mux()
         self.assertEqual(self.follows.call_args[0][2:4], ("C-a", "always"))
         self.assertEqual((choices.chosen_guessing("never"), choices.chosen_guessing()), ("never", "always"))
-        self.refuses("C-a d, typed in the client, detaches it; the session goes on", "detach")
+        self.refuses("C-a d, typed in the front end, detaches it; the session goes on", "detach")
 
 
 class Starts(Mux):
@@ -125,7 +125,7 @@ class Starts(Mux):
     def test_new(self):
         """It starts a session with a command in place of the shell; with -d without a client."""
         self.assertEqual(self.mux("new", "-d", "work", "sh", "-c", "x"), 0)
-        self.assertEqual(self.done[1], ("start", "work", ["sh", "-c", "x"]))
+        self.assertEqual(self.done[1], ("launch", "work", ["sh", "-c", "x"]))
         self.follows.assert_not_called()
         self.assertEqual(self.mux("new", "--guess", "always", "work"), 7)
         session, is_watching, prefix, guessing, is_new = self.follows.call_args[0]
@@ -152,7 +152,7 @@ class Starts(Mux):
 
     def test_not_ended(self):
         self.runs.add("main")
-        with mock.patch.object(Session, "end_all"):
+        with mock.patch.object(FolderSession, "end_all"):
             self.refuses("session main doesn't end", "kill", "-f", "main")
 
     def test_ready(self):
@@ -169,10 +169,10 @@ class Starts(Mux):
 
     def test_started(self):
         """Whether it ran before is told; what is left of one that doesn't run goes."""
-        session = Session.named("main")
-        self.assertEqual((mux.started(session), self.done), (False, [("kill", "main")]))
+        session = FolderSession.named("main")
+        self.assertEqual((mux.launched(session), self.done), (False, [("kill", "main")]))
         self.runs.add("main")
-        self.assertTrue(mux.started(session))
+        self.assertTrue(mux.launched(session))
 
 
 class Listed(Mux):
@@ -188,7 +188,7 @@ class Listed(Mux):
                 raise lines[session.name]
             return lines[session.name]
 
-        with mock.patch.object(Session, "listed", listed):
+        with mock.patch.object(FolderSession, "listed", listed):
             self.assertEqual(self.mux("ls"), 1)
             self.assertEqual(self.text.getvalue(), "a 24 by 80?[c\n")
             self.assertIn("session ssh:there:main: somebody listens\n", self.said.getvalue())
@@ -201,13 +201,13 @@ class Far(Mux):
 
     def test_ssh(self):
         """A relay is started where none runs, and its status is that of one that didn't answer."""
-        starts = self.patch_of(NearSession, "start_relay", return_value=0)
+        starts = self.patch_of(NearSession, "launch_relay", return_value=0)
         self.assertEqual(self.mux("ssh", "-p", "22", "me@there", "work"), 7)
         starts.assert_called_once_with(["ssh", "-p", "22", "me@there", "roam-mux far work"])
         session = self.follows.call_args[0][0]
         self.assertEqual(session.folder.name.rpartition(":")[0], "ssh:me@there:work")
         self.assertEqual(self.done, [("kill", "work"), ("demand_terminals", "work")])
-        with mock.patch.object(far, "is_first_start", side_effect=[True, False]):
+        with mock.patch.object(remote, "is_first_start", side_effect=[True, False]):
             self.assertEqual([self.follows.call_args[0][4]() for _ in range(2)], [True, False])
         starts.return_value = 255
         self.assertEqual(self.mux("ssh", "--guess", "never", "there"), 255)
@@ -225,59 +225,59 @@ class Far(Mux):
             ("-p", "", "-p"), ("--ssh", "--ssh", ""), ("-o A=b -J jump me@there w", "me@there w", "-o A=b -J jump"),
             ("--ssh=x there", "--ssh=x there", ""), ("", "", ""), ("-tt -L1:b:2 there", "there", "-tt -L1:b:2"),
         ):
-            self.assertEqual(far.parted_options(words.split()), (own.split(), options.split()), words)
+            self.assertEqual(remote.parted_options(words.split()), (own.split(), options.split()), words)
 
     def test_pairs(self):
         """The letters that have a word behind them are those of ssh(1)."""
-        self.assertEqual(sorted(far.SSH_PAIRS), sorted("BbcDEeFIiJLlmOopQRSWw" + "P"))
+        self.assertEqual(sorted(remote.SSH_PAIRS), sorted("BbcDEeFIiJLlmOopQRSWw" + "P"))
 
     def test_near(self):
         """One folder a host, a session and a way to get there; a host's odd letters don't leave the folder."""
         asked = argparse.Namespace(ssh="ssh", far="roam-mux", options=[], host="there", name="main")
-        names = [far.near_session(asked, far.command_of(asked)).folder.name]
+        names = [remote.near_session(asked, remote.command_of(asked)).folder.name]
         asked.options = ["-p", "22"]
-        names.append(far.near_session(asked, far.command_of(asked)).folder.name)
+        names.append(remote.near_session(asked, remote.command_of(asked)).folder.name)
         asked.options, asked.ssh = [], "ssh -p 23"
-        self.assertEqual(far.command_of(asked), ["ssh", "-p", "23", "there", "roam-mux far main"])
-        names.append(far.near_session(asked, far.command_of(asked)).folder.name)
+        self.assertEqual(remote.command_of(asked), ["ssh", "-p", "23", "there", "roam-mux far main"])
+        names.append(remote.near_session(asked, remote.command_of(asked)).folder.name)
         self.assertEqual((names[0], len(set(names))), ("ssh:there:main", 3))
         for name in names[1:]:
             self.assertRegex(name, "^ssh:there:main:[0-9a-f]{8}$")
         asked.host = "../a b"
-        self.assertTrue(far.near_session(asked, ["x"]).folder.name.startswith("ssh:.._a_b:main:"))
-        self.assertEqual(far.near_session(asked, ["x"]).name, "main")
+        self.assertTrue(remote.near_session(asked, ["x"]).folder.name.startswith("ssh:.._a_b:main:"))
+        self.assertEqual(remote.near_session(asked, ["x"]).name, "main")
 
     def test_first_start(self):
         """A session is new here where its server has had one start at most, as far as is known."""
         (self.base / "main").mkdir()
-        session = Session.named("main")
+        session = FolderSession.named("main")
         for text, is_first in ((None, False), ("1 1 1 2 3\nstarts 1\nfocus 1\n", True), ("1 1 1 2 3\nstarts 2\nfocus 1\n", False)):
             if text:
                 (self.base / "main/rects").write_text(text, encoding="utf-8")
-            self.assertEqual(far.is_first_start(session), is_first)
+            self.assertEqual(remote.is_first_start(session), is_first)
 
     def test_carry(self):
         """What `mux ssh` runs there starts the session where the other end knows none, and becomes a relay."""
-        becomes, writes = self.patch_of(far.os, "execv"), self.patch_of(far.os, "write")
-        greets = self.patch_of(far, "read_greeting", return_value="-")
-        self.refuses("standard input is a terminal; `mux ssh` on another machine starts this end", "far", "main")
+        becomes, writes = self.patch_of(remote.os, "execv"), self.patch_of(remote.os, "write")
+        greets = self.patch_of(remote, "read_greeting", return_value="-")
+        self.refuses("standard input is a terminal; `mux ssh` on another machine spawns this end", "far", "main")
         self.is_terminal = False
-        self.patch_of(Session, "process", return_value=17)
+        self.patch_of(FolderSession, "process", return_value=17)
         self.mux("far", "main")
-        self.assertEqual(self.done, [("kill", "main"), ("start", "main")])
-        words = [str(far.TOOLS / "relay"), "--far", "--greeted", "--server", "17", "--dir", str(self.base / "main"), "-"]
+        self.assertEqual(self.done, [("kill", "main"), ("launch", "main")])
+        words = [str(remote.TOOLS / "relay"), "--far", "--greeted", "--server", "17", "--dir", str(self.base / "main"), "-"]
         becomes.assert_called_once_with(words[0], words)
         self.assertEqual(greets.call_args[0], (0,))
         self.done.clear()
         self.runs.add("main")
         self.mux("far", "main")
-        self.assertNotIn("start", [one[0] for one in self.done])
+        self.assertNotIn("launch", [one[0] for one in self.done])
         writes.assert_not_called()
 
     def test_carry_known(self):
         """One that the other end knew and that has ended isn't started anew."""
-        becomes, writes = self.patch_of(far.os, "execv"), self.patch_of(far.os, "write")
-        self.patch_of(far, "read_greeting", return_value="5e55")
+        becomes, writes = self.patch_of(remote.os, "execv"), self.patch_of(remote.os, "write")
+        self.patch_of(remote, "read_greeting", return_value="5e55")
         self.is_terminal = False
         (self.base / "main").mkdir()
         for runs, name in ((False, "5e55"), (True, "another")):

@@ -4,7 +4,7 @@ import unittest
 import xml.etree.ElementTree
 
 from aids import Case, loaded
-from roam_live.cells import Cells, Style, cells_of_rows, styled, width_of
+from roam_live.cells import PaintedCells, Style, cells_of_rows, styled, width_of
 
 picture = loaded("picture")
 PLACE = "{http://www.w3.org/2000/svg}"
@@ -12,7 +12,7 @@ PLACE = "{http://www.w3.org/2000/svg}"
 
 def cells_of(text):
     """The cells that a text shows."""
-    cells = Cells()
+    cells = PaintedCells()
     cells.fed(text)
     return cells
 
@@ -208,15 +208,13 @@ class Tool(Case):
         self.addCleanup(process.stdout.close)
         asked = []
 
-        def waits(sources, *_):
-            asked.append(_[2])
-            if len(asked) == 1 or not cells:
-                return [sources[0]], [], []
-            return [], [], []
+        def waits(source, seconds):
+            asked.append(seconds)
+            return len(asked) == 1 or not cells
 
         cells = []
         self.patch_of(picture, "read", side_effect=lambda source: cells.append(1) or b"\x1b[1;1Hab")
-        self.patch_of(picture.select, "select", side_effect=waits)
+        self.patch_of(picture, "comes", side_effect=waits)
         popen = self.patch_of(picture.subprocess, "Popen", return_value=process)
         home = picture.Home(folder="/x")
         self.patch_of(home, "attach_words", side_effect=lambda more: ["roam", *more])

@@ -5,12 +5,11 @@ import signal
 import socket
 from unittest import mock
 
-from aids import Case, loaded, read_now
-from roam_live import carriers, choices, following, lasting, links, logs, program, programs, relayed, sessions, watches, words
-from roam_live.moments import Moments
+from aids import Case, read_now
+from roam_live import (carriers, choices, ends, far, following, lasting, links, logs, loops, near, program, programs, relayed,
+                       sessions, watches, words)
+from roam_live.loops import Loop
 from roam_live.program import Fault, Home
-
-RELAY = loaded("relay")
 
 
 class Programs(Case):
@@ -150,9 +149,9 @@ class Begun(Case):
         process = self.process("cat", stdin=-1)
         end = program.opened_process(process.pid)
         self.addCleanup(os.close, end)
-        self.assertEqual(program.select.select([end], [], [], 0)[0], [])
+        self.assertEqual(loops.comes(end, 0), False)
         process.stdin.close()
-        self.assertEqual(program.select.select([end], [], [], 10)[0], [end])
+        self.assertEqual(loops.comes(end, 10), True)
         process.wait()
         with self.assertRaisesRegex(Fault, "^the session has ended$"):
             program.opened_process(process.pid)
@@ -182,26 +181,26 @@ class Notes(Case):
 
     def test_noted(self):
         """Its file is named by the process, and has its begin and what it does; who was killed isn't counted."""
-        note = program.noted_client(self.folder)
+        note = program.noted_front_end(self.folder)
         self.assertEqual((note.name, note.read_text(encoding="utf-8")), (str(os.getpid()), f"{program.begun(os.getpid())} edits\n"))
-        self.assertEqual((program.count_clients(self.folder), program.has_others(self.folder)), (1, False))
+        self.assertEqual((program.count_front_ends(self.folder), program.has_others(self.folder)), (1, False))
         watcher = self.other("watches")
-        self.assertEqual((program.count_clients(self.folder), program.has_others(self.folder)), (2, False))
+        self.assertEqual((program.count_front_ends(self.folder), program.has_others(self.folder)), (2, False))
         self.other("edits")
-        self.assertEqual((program.count_clients(self.folder), program.has_others(self.folder)), (3, True))
+        self.assertEqual((program.count_front_ends(self.folder), program.has_others(self.folder)), (3, True))
         watcher.write_text("1 watches\n", encoding="utf-8")
         for name, text in (("1073741824", "5 edits\n"), ("1073741825", ""), ("x", "1 edits\n"), ("1073741826", "x")):
             (self.folder / "attached" / name).write_text(text, encoding="utf-8")
-        self.assertEqual(program.count_clients(self.folder), 2)
+        self.assertEqual(program.count_front_ends(self.folder), 2)
         self.assertEqual(len(list((self.folder / "attached").iterdir())), 2)
 
     def test_none(self):
-        self.assertEqual((program.noted_client(None), program.has_others(None), program.count_clients(self.folder)), (None, False, 0))
+        self.assertEqual((program.noted_front_end(None), program.has_others(None), program.count_front_ends(self.folder)), (None, False, 0))
         with self.assertRaisesRegex(Fault, "/none is no folder$"):
-            program.noted_client(self.folder / "none")
+            program.noted_front_end(self.folder / "none")
         (self.folder / "attached").touch()
-        self.assertIsNone(program.noted_client(self.folder))
-        self.assertIn("this client isn't counted: ", self.said.getvalue())
+        self.assertIsNone(program.noted_front_end(self.folder))
+        self.assertIn("this front end isn't counted: ", self.said.getvalue())
         self.assertEqual(program.kind_of(self.folder / "no"), "")
 
     def test_replaced(self):
@@ -347,7 +346,7 @@ class Due(Case):
 
     def test_due(self):
         """What is due is done once, in any order; what a later one made needless, or put off, isn't."""
-        moments, done = Moments(), []
+        moments, done = Loop(), []
         self.assertIsNone(moments.wait_time())
         moments.later("a", 2.0, lambda: done.append("a"))
         moments.later("b", 1.0, lambda: (done.append("b"), moments.drop("c"), moments.later("d", 1.0, lambda: done.append("late"))))
@@ -367,7 +366,7 @@ class Due(Case):
         moments.drop("none")
 
     def test_replaced(self):
-        moments, done = Moments(), []
+        moments, done = Loop(), []
         moments.later("a", 1.0, lambda: done.append(1))
         moments.later("a", 3.0, lambda: done.append(2))
         self.now += 1.0
@@ -438,7 +437,7 @@ class Numbers(Case):
     def test_relay(self):
         """A relay is alone for an hour, its far end half a minute; seven seconds are silence; `ls` tells of more than 32 starts."""
         self.assertEqual((sessions.ALONE, sessions.MANY_STARTS), (3600, 32))
-        self.assertEqual((RELAY.SILENT, RELAY.ALONE, RELAY.PEER_LIMIT, relayed.HEARTBEAT), (7.0, 30.0, 256, 3.0))
+        self.assertEqual((near.SILENT, far.ALONE, ends.PEER_LIMIT, relayed.HEARTBEAT), (7.0, 30.0, 256, 3.0))
         self.assertEqual((relayed.VERSION, relayed.NOISE_LIMIT, relayed.PLACES_LIMIT, relayed.WAITING_LIMIT), (2, 65536, 4096, 4 << 20))
 
     def test_wide(self):

@@ -6,11 +6,12 @@ import socket
 import zlib
 from unittest import mock
 
-from aids import Case, closed, loaded, read_now
+from aids import Case, StillLoop, closed, loaded, read_now
+from roam_live import ends, far, near
 from roam_live.carriers import LONGEST, SHORTEST
 from roam_live.program import Fault
 from test_relayed import HOSTILE, ODD
-from roam_live.relayed import BELL, COUNT, ENDED, HAD, HEADER, KILLED, RECTS, WAITING_LIMIT, BadWords, Stream, Waiting, greeting
+from roam_live.relayed import BELL, COUNT, ENDED, HAD, HEADER, KILLED, RECTS, WAITING_LIMIT, BadWords, RelayStream, Waiting, greeting
 
 relay = loaded("relay")
 
@@ -50,7 +51,7 @@ class FakeLink:
     def __init__(self, case, session="-"):
         (self.source, self.said), (heard, self.target) = case.pipe(), case.pipe()
         self.other = Other(heard)
-        self.stream = Stream(self.source, self.target, session)
+        self.stream = RelayStream(self.source, self.target, session)
         self.errors = None
         self.since = case.now
         self.process = mock.Mock(poll=mock.Mock(return_value=None))
@@ -60,9 +61,17 @@ class FakeLink:
         """Has the other end say something."""
         os.write(self.said, text)
 
+    def join(self, loop, hears):
+        """Has a loop carry what goes, and call where something came."""
+        self.loop = loop
+        loop.add(self.target, None, self.stream.flush, has_more=lambda: self.stream.going)
+        loop.add(self.source, hears)
+
     def end(self):
         """Ends it."""
         self.has_ended = True
+        self.loop.remove(self.target)
+        self.loop.remove(self.source)
         closed(self.source)
         closed(self.target)
 
@@ -95,22 +104,22 @@ class Nears(Ends):
     def setUp(self):
         super().setUp()
         self.links = []
-        self.made = self.patch_of(relay, "Link", side_effect=self.new_link)
+        self.made = self.patch_of(near, "RunningCommand", side_effect=self.new_link)
         self.printed_text = self.printed()
         self.said = self.heard()
         self.near = self.near_end()
 
     def near_end(self, **more):
         """A near end."""
-        near = relay.Near(self.asked(**more), self.wakeup)
-        self.addCleanup(lambda: near.is_closed or self.close(near))
-        near.is_closed = False
-        return near
+        one = near.Near(self.asked(**more), self.wakeup, StillLoop())
+        self.addCleanup(lambda: one.is_closed or self.close(one))
+        one.is_closed = False
+        return one
 
-    def close(self, near):
+    def close(self, one):
         """Ends it."""
-        near.is_closed = True
-        near.close()
+        one.is_closed = True
+        one.close()
 
     def new_link(self, command, session, may_ask):
         """A command that is started."""
@@ -121,9 +130,8 @@ class Nears(Ends):
 
     def turn(self, count=1):
         """So many turns, each of which waits for nothing."""
-        with mock.patch.object(self.near, "wait_time", lambda: 0):
-            for _ in range(count):
-                self.near.turn()
+        for _ in range(count):
+            self.near.turn()
 
     def answer(self, session="abc"):
         """Has the first command's other end answer."""
@@ -193,7 +201,7 @@ class Nears(Ends):
             with self.subTest(noted):
                 self.answer()
                 self.links[-1].say(packed((0, text)))
-                with self.assertRaises(relay.Ended) as way:
+                with self.assertRaises(ends.Ended) as way:
                     self.turn()
                 self.assertEqual(way.exception.args, (0,))
                 self.close(self.near)
@@ -203,16 +211,16 @@ class Nears(Ends):
                 self.near = self.near_end()
 
     def test_hostile(self):
-        """A far end that says what can't be is ended, which is told, and another is started; the next greets with the session."""
+        """A far end that says what can't be is ended, which is told, and another is spawned; the next greets with the session."""
         self.answer()
         for text in (packed((0, b"")), packed((0, BELL + b"\0")), packed((0, BELL + b"\x0a")), packed((0, BELL)), packed((0, ENDED + b"x")),
                      packed((0, HAD + b"1")), packed((0, COUNT.pack(HAD, 1))), packed((1, datagram(1)[:-1])),
                      packed((1, datagram(1, length=LONGEST + 1))), b"\xff" * 9, zlib.compress(b"") + b"x"):
             link = self.near.link
             link.say(text)
-            before = self.said.getvalue().count("; another is started\n")
+            before = self.said.getvalue().count("; another is spawned\n")
             self.turn()
-            self.assertEqual(self.said.getvalue().count("; another is started\n"), before + 1, text)
+            self.assertEqual(self.said.getvalue().count("; another is spawned\n"), before + 1, text)
             self.assertTrue(link.has_ended and self.near.link is None)
             self.now += 30
             self.turn()
@@ -295,12 +303,12 @@ class Nears(Ends):
         self.now += 30
         self.turn()
         self.links[-1].say(greeting("def"))
-        with self.assertRaises(relay.Ended) as way:
+        with self.assertRaises(ends.Ended) as way:
             self.turn()
         self.assertEqual((way.exception.args, self.near.is_over), ((0,), True))
 
     def test_silent(self):
-        """After seven seconds of silence another command is started beside the silent one, and the first that answers is the link."""
+        """After seven seconds of silence another command is spawned beside the silent one, and the first that answers is the link."""
         self.answer()
         self.now += 7.0
         self.turn()
@@ -347,7 +355,7 @@ class Nears(Ends):
         self.assertTrue(self.links[1].has_ended)
         self.assertLessEqual(len(self.near.tries), 5)
         self.assertEqual(self.said.getvalue().count("the other end has ended"), 1)
-        self.assertEqual((relay.PATIENCE, relay.SILENT, relay.PAUSES), (20.0, 7.0, (0.2, 1, 2, 5)))
+        self.assertEqual((near.PATIENCE, near.SILENT, near.PAUSES), (20.0, 7.0, (0.2, 1, 2, 5)))
 
     def test_patience(self):
         """The first, which may be waiting for a person's answer, is given as long as it takes."""
@@ -379,7 +387,6 @@ class Nears(Ends):
         self.close(self.near)
         for more, ends in (({"alone": 9.0}, True), ({}, False)):
             self.near = self.near_end(**more)
-            self.near.owner = None
             self.turn()
             os.close(self.links[-1].said)
             line = "ssh there ended with status 7, and hadn't answered"
@@ -404,7 +411,7 @@ class Nears(Ends):
     def test_alone(self):
         """With --alone it ends when no client was noted for so many seconds; it looks each five."""
         self.near.asked.alone = 60.0
-        counts = self.patch_of(relay, "count_clients", return_value=1)
+        counts = self.patch_of(near, "count_front_ends", return_value=1)
         self.now += 4.9
         self.near.look()
         counts.assert_not_called()
@@ -417,7 +424,7 @@ class Nears(Ends):
             self.now += 5
             self.near.look()
         self.now += 5
-        with self.assertRaises(relay.Ended) as way:
+        with self.assertRaises(ends.Ended) as way:
             self.near.look()
         self.assertEqual(way.exception.args, (0,))
 
@@ -426,39 +433,45 @@ class Nears(Ends):
         process = self.process("true")
         process.wait()
         reader, writer = self.pipe()
-        self.patch_of(relay, "opened_process", side_effect=[reader])
+        self.patch_of(near, "opened_process", side_effect=[reader])
         self.close(self.near)
         self.near = self.near_end(owner=process.pid)
         self.turn()
         os.close(writer)
-        with self.assertRaises(relay.Ended) as way:
+        with self.assertRaises(ends.Ended) as way:
             self.turn()
         self.assertEqual(way.exception.args, (0,))
-        self.near.owner = None
+        self.near.loop.remove(reader)
         os.write(self.wakes, bytes([signal.SIGCHLD, signal.SIGTERM]))
-        with self.assertRaises(relay.Ended) as way:
+        with self.assertRaises(ends.Ended) as way:
             self.turn()
         self.assertEqual(way.exception.args, (143,))
-        relay.end_for(self.wakeup, [self.wakeup])
+        ends.end_for(self.wakeup)
 
     def test_clients(self):
         """256 clients are taken; another waits, and so does one for whom no descriptor is left, a second long."""
+        listener = self.near.listener
         self.near.carriers = [None] * 255
-        self.assertTrue(self.near.takes_clients())
+        self.assertTrue(listener.hears())
         self.near.carriers = [None] * 256
-        self.assertFalse(self.near.takes_clients())
+        self.assertFalse(listener.hears())
         self.near.carriers = []
-        self.near.take_client(mock.Mock(accept=mock.Mock(side_effect=OSError(24, "Too many open files"))))
-        self.assertEqual((self.near.takes_clients(), "a client waits: Too many open files" in self.said.getvalue()), (False, True))
+        end = listener.end
+        listener.end = mock.Mock(accept=mock.Mock(side_effect=OSError(24, "Too many open files")))
+        listener.take()
+        self.assertEqual((listener.hears(), "a client waits: Too many open files" in self.said.getvalue()), (False, True))
         self.now += 1.0
-        self.assertTrue(self.near.takes_clients())
-        self.near.take_client(mock.Mock(accept=mock.Mock(side_effect=BlockingIOError(11, "none"))))
-        self.assertTrue(self.near.takes_clients())
+        self.turn()
+        self.assertTrue(listener.hears())
+        listener.end = mock.Mock(accept=mock.Mock(side_effect=BlockingIOError(11, "none")))
+        listener.take()
+        self.assertTrue(listener.hears())
+        listener.end = end
         with mock.patch("os.getuid", return_value=os.getuid() + 1):
             one = socket.socket(socket.AF_UNIX, socket.SOCK_STREAM)
             self.addCleanup(one.close)
             one.connect(str(self.folder / "clients"))
-            self.near.take_client(self.near.listener)
+            listener.take()
         self.assertEqual((self.near.carriers, one.recv(1)), ([], b""))
 
     def test_lies(self):
@@ -468,32 +481,35 @@ class Nears(Ends):
         self.turn()
         self.assertEqual((self.near.carriers, client.recv(1)), ([], b""))
 
+    def wait_time(self):
+        """How long it would wait."""
+        return self.near.loop.wait_time()
+
     def test_wait_time(self):
         """It waits until the next command, look, heartbeat or silence is due."""
-        self.assertEqual(self.near.wait_time(), 0.001)
-        self.turn()
-        self.assertIsNone(self.near.wait_time())
+        self.assertIsNone(self.wait_time())
+        self.assertEqual(len(self.links), 1)
         self.near.asked.alone = 60.0
-        self.assertAlmostEqual(self.near.wait_time(), 5.001)
-        self.near.deaf_until = self.now + 1
-        self.assertAlmostEqual(self.near.wait_time(), 1.001)
+        self.assertAlmostEqual(self.wait_time(), 5.0)
+        self.near.loop.later("x", 1, lambda: None)
+        self.assertAlmostEqual(self.wait_time(), 1.0)
         self.now += 1
         self.links[0].say(greeting("abc"))
         self.turn()
         self.near.asked.alone = None
-        self.assertAlmostEqual(self.near.wait_time(), self.near.link.stream.due_at() - self.now + 0.001)
+        self.assertAlmostEqual(self.wait_time(), self.near.link.stream.due_at() - self.now)
         self.now += 6.9
         self.near.link.stream.spoke = self.now
-        self.assertAlmostEqual(self.near.wait_time(), 0.101)
+        self.assertAlmostEqual(self.wait_time(), 0.1)
 
     def test_log(self):
         """Later lines go to the log that --log names."""
         log = self.folder / "log"
         dup = self.patch("os.dup2")
         self.near.asked.log = str(log)
-        self.patch_of(relay, "logs", [])
+        self.patch_of(near, "logs", [])
         self.answer()
-        self.assertEqual((dup.call_args[0][1], relay.logs, log.exists()), (2, [log], True))
+        self.assertEqual((dup.call_args[0][1], near.logs, log.exists()), (2, [log], True))
 
     def test_port(self):
         """A port of loopback is another way in: each address has a number of its own."""
@@ -502,7 +518,7 @@ class Nears(Ends):
         port = self.near.port.getsockname()[1]
         self.answer()
         self.assertEqual(self.printed_text.getvalue(), f"port {port} session abc\n")
-        one = relay.loopback_socket()
+        one = ends.loopback_socket()
         self.addCleanup(one.close)
         one.sendto(datagram(1), ("127.0.0.1", port))
         one.sendto(b"no datagram", ("127.0.0.1", port))
@@ -512,8 +528,8 @@ class Nears(Ends):
         self.turn(2)
         self.assertEqual(one.recv(2000), datagram(2))
         with self.assertRaisesRegex(Fault, f"^port {port}: Address already in use$"):
-            relay.bound_port(port)
-        self.assertIsNone(relay.bound_port(None))
+            near.bound_port(port)
+        self.assertIsNone(near.bound_port(None))
 
 
 class Numbers(Ends):
@@ -522,7 +538,7 @@ class Numbers(Ends):
     def test_numbers(self):
         """A number isn't given again before all others were, and 256 are known at once."""
         gone = []
-        peers = relay.Peers(gone.append)
+        peers = near.Peers(gone.append)
         self.assertEqual([peers.number(name) for name in "abab"], [1, 2, 1, 2])
         peers.drop(1)
         self.assertEqual((peers.number("a"), gone), (3, [1]))
@@ -533,7 +549,7 @@ class Numbers(Ends):
     def test_many(self):
         """The longest silent of too many is forgotten, and who said nothing for three minutes."""
         gone = []
-        peers = relay.Peers(gone.append)
+        peers = near.Peers(gone.append)
         peers.numbers = {number: number + 1 for number in range(256)}
         peers.addresses = {number + 1: number for number in range(256)}
         peers.moments = {number + 1: 101.0 + number for number in range(256)}
@@ -559,27 +575,25 @@ class Fars(Ends):
         self.listener = self.listening(self.folder / "clients")
         (self.source, self.said_end), (heard, self.target) = self.pipe(), self.pipe()
         self.other = Other(heard)
-        self.patch_of(relay, "Stream", side_effect=lambda _, __, session: Stream(self.source, self.target, session))
-        self.patch_of(relay.os, "set_blocking")
-        self.select = relay.select.select
-        self.patch_of(relay.select, "select", side_effect=self.waits)
+        self.patch_of(far, "RelayStream", side_effect=lambda _, __, session: RelayStream(self.source, self.target, session))
+        self.patch_of(far.os, "set_blocking")
         self.far = self.far_end()
         self.said = self.heard()
 
     def far_end(self, **more):
-        """A far end."""
-        far = relay.Far(self.asked(far=True, command=[], **more), self.wakeup)
-        self.addCleanup(far.close)
-        return far
+        """A far end; standard input and output are the pipes here."""
+        one = far.Far(self.asked(far=True, command=[], **more), self.wakeup, StillLoop())
+        self.addCleanup(one.close)
+        for number, end in ((0, self.source), (1, self.target)):
+            known = one.loop.sources[number]
+            one.loop.remove(number)
+            one.loop.add(end, known.reads, known.writes, hears=known.hears, has_more=known.has_more)
+        return one
 
-    def waits(self, sources, targets, _, seconds):
-        """Standard input and output are the pipes here, and nothing waits."""
-        self.waited = seconds
-        ends = {0: self.source, 1: self.target}
-        sources, targets = ([ends.get(end, end) for end in given] for given in (sources, targets))
-        found = self.select(sources, targets, [], 0)
-        back = {end: number for number, end in ends.items()}
-        return [back.get(end, end) for end in found[0]], [back.get(end, end) for end in found[1]], []
+    @property
+    def waited(self):
+        """How long it would have waited."""
+        return self.far.loop.waited
 
     def say(self, text):
         """Has the other end say something."""
@@ -590,9 +604,9 @@ class Fars(Ends):
         """It greets with the session, where that is known, else with none."""
         self.far.turn()
         self.assertEqual(read_now(self.other.end), b"roam-relay 2 -\n")
-        far = self.far_end(session="5e55")
-        self.assertEqual(far.stream.going, b"roam-relay 2 5e55\n")
-        self.assertEqual((far.stream.session, self.far_end(greeted=True).stream.session), (None, "-"))
+        one = self.far_end(session="5e55")
+        self.assertEqual(one.stream.going, b"roam-relay 2 5e55\n")
+        self.assertEqual((one.stream.session, self.far_end(greeted=True).stream.session), (None, "-"))
 
     def test_carries(self):
         """Each client has a stream of its own to the server."""
@@ -606,6 +620,7 @@ class Fars(Ends):
         servers[1].send(one + datagram(9))
         for _ in range(3):
             self.far.turn()
+        self.assertAlmostEqual(self.waited, 0.1)
         self.assertEqual([frame for frame in self.other.frames() if frame[0]], [(7, datagram(9))])
         servers[0].close()
         self.far.turn()
@@ -655,7 +670,7 @@ class Fars(Ends):
     def test_silence(self):
         """One that has heard nothing for 30 s ends; what it has to say it says each 3 s."""
         self.far.turn()
-        self.assertAlmostEqual(self.waited, 3.001)
+        self.assertAlmostEqual(self.waited, 3.0)
         self.now += 3
         self.far.turn()
         self.far.turn()
@@ -670,14 +685,14 @@ class Fars(Ends):
     def test_left(self):
         """The other end's end is its own, with status 0; so is one that takes nothing more, and a signal."""
         os.close(self.said_end)
-        with self.assertRaises(relay.Ended) as way:
+        with self.assertRaises(ends.Ended) as way:
             self.far.turn()
         self.assertEqual(way.exception.args, (0,))
         os.write(self.wakes, bytes([signal.SIGHUP]))
-        with self.assertRaises(relay.Ended) as way:
+        with self.assertRaises(ends.Ended) as way:
             self.far.turn()
         self.assertEqual(way.exception.args, (129,))
-        with mock.patch.object(self.far.stream, "flush", return_value=False), self.assertRaises(relay.Ended):
+        with mock.patch.object(self.far.stream, "flush", return_value=False), self.assertRaises(ends.Ended):
             self.far.stream.going += b"x"
             self.far.turn()
 
@@ -685,26 +700,24 @@ class Fars(Ends):
         """The server's end is told: as the session's where it was ended on purpose."""
         for status, told in ((0, ENDED), (1, KILLED)):
             reader, writer = self.pipe()
-            self.far.server, self.far.place = reader, mock.Mock(ending=mock.Mock(return_value=("", status)))
+            self.far.place = mock.Mock(ending=mock.Mock(return_value=("", status)))
+            self.far.loop.add(reader, self.far.tell_end)
             os.close(writer)
-            with self.assertRaises(relay.Ended) as way:
+            with self.assertRaises(ends.Ended) as way:
                 self.far.turn()
             self.assertEqual((way.exception.args, self.other.frames()[-1]), ((0,), (0, told)))
 
     def test_shells(self):
         """Where it knows the server it sees the end of what keeps the shells."""
-        self.patch_of(relay, "opened_process", return_value=self.pipe()[0])
-        watch = self.patch_of(relay, "ShellsWatch").return_value
-        watch.sources.return_value, watch.due = [], 100.5
+        self.patch_of(far, "opened_process", return_value=self.pipe()[0])
+        watch = self.patch_of(far, "ShellsWatch")
         self.far = self.far_end(server=os.getpid())
         self.assertEqual(self.far.place.folder, self.folder)
-        self.far.turn()
-        watch.turn.assert_called_once_with([])
-        self.assertAlmostEqual(self.waited, 0.501)
+        watch.assert_called_once_with(self.far.place, self.far.loop)
 
     def test_port(self):
         """A server that has a port is reached there."""
-        server = relay.loopback_socket()
+        server = ends.loopback_socket()
         self.addCleanup(server.close)
         server.bind(("127.0.0.1", 0))
         self.far.asked.port = server.getsockname()[1]
@@ -770,7 +783,7 @@ class Streams(Ends):
     def setUp(self):
         super().setUp()
         self.there, self.back = self.pipe(), self.pipe()
-        self.sender, self.receiver = Stream(self.back[0], self.there[1], "5e55"), Stream(self.there[0], self.back[1], "-")
+        self.sender, self.receiver = RelayStream(self.back[0], self.there[1], "5e55"), RelayStream(self.there[0], self.back[1], "-")
         self.sender.session = "-"
 
     def received(self, text):
@@ -796,14 +809,14 @@ class Streams(Ends):
         """A short stream, cut at each place."""
         text = greeting("abc") + packed((1, datagram(1)), (0, b"z1"), (0, RECTS + b"p"), (9, datagram(2)))
         for cut in range(len(text) + 1):
-            self.receiver = Stream(self.there[0], self.back[1], "-")
+            self.receiver = RelayStream(self.there[0], self.back[1], "-")
             found = [frame for piece in (text[:cut], text[cut:]) if piece for frame in self.received(piece)]
             self.assertEqual(found, [(1, datagram(1)), (0, b"z1"), (0, RECTS + b"p"), (9, datagram(2))], cut)
 
     def test_versions(self):
         for line, told in ((b"roam-relay 1 5e55\n", "the other end is of an earlier roam: its relay has version 1, and this one version 2"),
                            (b"roam-relay 3 5e55\n", "the other end is of a later roam: its relay has version 3, and this one version 2")):
-            self.receiver = Stream(self.there[0], self.back[1], "-")
+            self.receiver = RelayStream(self.there[0], self.back[1], "-")
             with self.assertRaises(BadWords) as fault:
                 self.received(line)
             self.assertEqual(str(fault.exception), told)
@@ -885,8 +898,8 @@ class Commands(Case):
     def test_runs(self):
         """Its standard error is passed on as printable lines, and its end has a status."""
         said = self.patch("os.write")
-        reads = self.patch_of(relay, "read", side_effect=[b"no \x1b[c\n", b""])
-        link = relay.Link(["sh", "-c", "exec cat"], "-", False)
+        reads = self.patch_of(near, "read", side_effect=[b"no \x1b[c\n", b""])
+        link = near.RunningCommand(["sh", "-c", "exec cat"], "-", False)
         self.addCleanup(link.process.wait)
         self.assertEqual(os.getsid(link.process.pid), link.process.pid)
         for end in (link.process.stdin, link.process.stdout, link.process.stderr):
@@ -901,10 +914,10 @@ class Commands(Case):
 
     def test_sayings(self):
         """What a command says is little and printable, and the logs that are known have room for it."""
-        link = relay.Link(["sleep", "60"], "-", False)
+        link = near.RunningCommand(["sleep", "60"], "-", False)
         self.addCleanup(lambda: (link.end(), link.status()))
-        rooms, writes = self.patch_of(relay, "make_room_in_logs"), self.patch("os.write")
-        self.patch_of(relay, "read", return_value=b"the far host\x1b[c says so\n" * 2000)
+        rooms, writes = self.patch_of(near, "make_room_in_logs"), self.patch("os.write")
+        self.patch_of(near, "read", return_value=b"the far host\x1b[c says so\n" * 2000)
         for _ in range(20):
             link.pass_errors()
         said = b"".join(call[0][1] for call in writes.call_args_list).decode()
@@ -914,10 +927,10 @@ class Commands(Case):
 
     def test_killed(self):
         """One that doesn't end in a second is ended by force."""
-        link = relay.Link(["sleep", "60"], "-", True)
+        link = near.RunningCommand(["sleep", "60"], "-", True)
         self.assertEqual(os.getsid(link.process.pid), os.getsid(0))
         waits = link.process.wait
-        with mock.patch.object(link.process, "wait", side_effect=[relay.subprocess.TimeoutExpired("x", 1), -9]) as asked:
+        with mock.patch.object(link.process, "wait", side_effect=[near.subprocess.TimeoutExpired("x", 1), -9]) as asked:
             self.assertEqual(link.status(), -9)
             self.assertEqual(asked.call_args_list, [mock.call(1.0), mock.call()])
         self.assertEqual(waits(), -9)
@@ -934,7 +947,7 @@ class Words(Ends):
         for words, wrong in (
             (["--dir", folder, "-", "ssh"], ""), (["0", "ssh"], ""), (["65535", "ssh"], ""), (["65536", "ssh"], port), (["x", "ssh"], port),
             (["--far", "0"], port), (["--far", "1"], ""), (["-", "ssh"], "without a port the folder of --dir has the socket"),
-            (["--alone", "9", "0", "ssh"], "clients are noted in the folder of --dir"), (["0"], "the command is missing"),
+            (["--alone", "9", "0", "ssh"], "front ends are noted in the folder of --dir"), (["0"], "the command is missing"),
             (["--far", "1", "ssh"], "no command follows the port of --far"), (["--far", "--session", "5e55", "1"], ""),
             (["--far", "--session", "xyz", "1"], "a session's id is 1 to 16 hexadecimal digits"),
         ):
@@ -960,17 +973,17 @@ class Words(Ends):
 
     def test_main(self):
         """It turns until its end, whose status it has, and leaves nothing."""
-        end = mock.Mock(turn=mock.Mock(side_effect=[None, relay.Ended(129)]))
-        near = self.patch_of(relay, "Near", return_value=end)
+        end = mock.Mock(turn=mock.Mock(side_effect=[None, ends.Ended(129)]))
+        made = self.patch_of(near, "Near", return_value=end)
         self.patch_of(relay, "woken", return_value=5)
         self.words("relay", "0", "ssh")
         self.assertEqual(relay.main(), 129)
-        self.assertEqual((near.call_args[0][1], end.turn.call_count, end.close.call_count), (5, 2, 1))
+        self.assertEqual((made.call_args[0][1], end.turn.call_count, end.close.call_count), (5, 2, 1))
         note = self.folder / "note"
         note.touch()
-        end.turn.side_effect = [relay.Ended(0)]
-        self.patch_of(relay, "Far", return_value=end)
-        self.patch_of(relay, "noted_client", return_value=note)
+        end.turn.side_effect = [ends.Ended(0)]
+        self.patch_of(far, "Far", return_value=end)
+        self.patch_of(relay, "noted_front_end", return_value=note)
         self.words("relay", "--far", "1")
         with mock.patch("os.isatty", return_value=False):
             self.assertEqual(relay.main(), 0)

@@ -7,7 +7,7 @@ import zlib
 
 from roam_live import rects
 from roam_live.carriers import LONGEST, SHORTEST
-from roam_live.relayed import BELL, COUNT, ENDED, HAD, HEADER, MOST_TOLD, RECTS, BadWords, Stream, greeting
+from roam_live.relayed import BELL, COUNT, ENDED, HAD, HEADER, MOST_TOLD, RECTS, BadWords, RelayStream, greeting
 
 
 def frame(peer, text):
@@ -65,7 +65,7 @@ class Frames(unittest.TestCase):
         self.addCleanup(os.close, reader)
         os.write(writer, greeting("abc") + said)
         os.close(writer)
-        return Stream(reader, 1, "-")
+        return RelayStream(reader, 1, "-")
 
     def test_before_a_fault(self):
         """What comes before what can't be is taken."""
@@ -101,11 +101,11 @@ class Places(unittest.TestCase):
             self.assertIsNone(found.neighbour(way))
         for line in (b"1 1 1 10000 80", b"1 -1 1 23 80", b"1 1 1 23 8_0", b"0 1 1 23 80", b"10 1 1 23 80", b"1 1 1 23 " + b"9" * 4000,
                      "1 1 1 23 \u0663".encode(), b"1 1 1 23 \xff"):
-            self.assertEqual(self.read(line + b"\nstarts 1\nwatchers 0\nfocus 1\n"), rects.NOTHING, line)
+            self.assertEqual(self.read(line + b"\nstarts 1\nwatchers 0\nfocus 1\n"), None, line)
 
     def test_long(self):
         """Of a long file little is read."""
-        self.assertEqual(self.read(b"1 1 1 23 80\n" + b"x\n" * 100_000 + b"focus 1\n"), rects.NOTHING)
+        self.assertEqual(self.read(b"1 1 1 23 80\n" + b"x\n" * 100_000 + b"focus 1\n"), None)
 
 
 if __name__ == "__main__":

@@ -1,13 +1,14 @@
-"""What sees the end of what keeps a session's shells: it is started anew, after pauses that grow where it ends at once."""
+"""What sees the end of what keeps a session's shells: it is spawned anew, after pauses that grow where it ends at once."""
 import os
 import unittest
 from unittest import mock
 
+from aids import StillLoop
 from roam_live.program import Fault
 from roam_live.watches import PAUSES, SOUND, ShellsWatch
 
 
-class Place:
+class AnySession:
     """A session whose shells are revived, or can't be."""
 
     name = "main"
@@ -37,8 +38,9 @@ class Watches(unittest.TestCase):
         for patched in (mock.patch("time.monotonic", lambda: self.now), mock.patch("roam_live.watches.opened_process", self.opened)):
             patched.start()
             self.addCleanup(patched.stop)
-        self.place = Place()
-        self.watch = ShellsWatch(self.place)
+        self.place = AnySession()
+        self.loop, self.said = StillLoop(), []
+        self.watch = ShellsWatch(self.place, self.loop, self.said.append)
         self.addCleanup(lambda: self.watch.file and os.close(self.watch.file))
 
     def opened(self, process):
@@ -49,26 +51,34 @@ class Watches(unittest.TestCase):
 
     def end(self):
         """Has the process end; what is said."""
-        return self.watch.turn(self.watch.sources())
+        self.loop.turn()
+        return self.told()
+
+    def told(self):
+        """What was said since."""
+        said = "".join(self.said)
+        self.said.clear()
+        return said
 
     def pass_time(self):
         """Waits until something is due, and does it; how long, and what is said."""
-        wait = self.watch.wait_time()
+        wait = self.loop.wait_time()
         self.now += wait
-        return round(wait, 3), self.watch.turn([])
+        self.loop.do_due()
+        return round(wait, 3), self.told()
 
     def test_once(self):
         """The end of one that ran for long is made good soon, and told once it is."""
         self.now += SOUND + 1
         self.assertEqual(self.end(), "")
-        self.assertEqual(self.watch.turn([]), "")
+        self.assertEqual(self.end(), "")
         wait, said = self.pass_time()
         self.assertEqual(wait, PAUSES[0])
         self.assertTrue(said.startswith("the shells had ended: new ones are there"))
-        self.assertIsNone(self.watch.wait_time())
+        self.assertIsNone(self.loop.wait_time())
 
     def test_again(self):
-        """One that ends at once each time is started anew after pauses that grow, and that is told."""
+        """One that ends at once each time is spawned anew after pauses that grow, and that is told."""
         self.now += SOUND + 1
         waits, said = [], []
         for _ in range(8):
@@ -76,14 +86,14 @@ class Watches(unittest.TestCase):
             waits.append(self.pass_time()[0])
         self.assertEqual(waits, [*PAUSES, PAUSES[-1], PAUSES[-1]])
         self.assertEqual(said[0], "")
-        wanted = [f"what keeps the shells ended again; it is started anew in {wait} s" for wait in (*PAUSES[1:], PAUSES[-1], PAUSES[-1])]
+        wanted = [f"what keeps the shells ended again; it is spawned anew in {wait} s" for wait in (*PAUSES[1:], PAUSES[-1], PAUSES[-1])]
         self.assertEqual(said[1:], wanted)
         self.now += SOUND + 1
         self.assertEqual(self.end(), "")
         self.assertEqual(self.pass_time()[0], PAUSES[0])
 
     def test_refused(self):
-        """What can't be started is told with the reason, and tried again after pauses that grow."""
+        """What can't be spawned is told with the reason, and tried again after pauses that grow."""
         self.place.fault = Fault("session main: no room")
         self.now += SOUND + 1
         self.end()

@@ -5,17 +5,17 @@ import signal
 import termios
 from unittest import mock
 
-from aids import Case, closed, read_now
-from roam_live import client, display, terminal
-from roam_live.client import Client
+from aids import Case, StillLoop, closed, read_now
+from roam_live import display, front_end, terminal
+from roam_live.front_end import FrontEnd
 from roam_live.program import Fault, begun
-from roam_live.rects import NOTHING, Places, Rect
+from roam_live.rects import Places, Rect
 from test_display import Person, painting, places
 
 PANES = Places({1: Rect(1, 1, 23, 39), 2: Rect(1, 41, 11, 40), 3: Rect(13, 41, 11, 40)}, 1, 1)
 
 
-class Place:
+class AnySession:
     """A session that is played."""
 
     served, name = "server", "main"
@@ -72,7 +72,7 @@ class Fronts(Case):
 
     def setUp(self):
         self.stop_clock()
-        self.place = Place(self.made_folder())
+        self.place = AnySession(self.made_folder())
         self.listener = self.listening(self.place.terminals)
         self.master, slave = pty.openpty()
         terminal.set_size(slave, 24, 80)
@@ -83,8 +83,8 @@ class Fronts(Case):
         self.addCleanup(self.give_back, kept, slave)
         os.set_blocking(self.master, False)
         self.wakeup, self.wakes = self.pipe()
-        self.patch_of(client, "woken", return_value=self.wakeup)
-        self.front = Client(self.place, False, "C-b", "adaptive", lambda: False)
+        self.patch_of(front_end, "woken", return_value=self.wakeup)
+        self.front = FrontEnd(self.place, False, "C-b", "adaptive", lambda: False, StillLoop())
         self.addCleanup(lambda: closed(self.front.display.outer.end))
         self.addCleanup(lambda: self.front.link.close())
 
@@ -98,13 +98,12 @@ class Fronts(Case):
 
     def turn(self, count=2):
         """So many turns that wait for nothing."""
-        select = client.select.select
-        with mock.patch.object(client.select, "select", lambda *words: select(*words[:3], 0)):
-            for _ in range(count):
-                self.front.turn()
+        for _ in range(count):
+            self.front.turn()
 
     def connect(self):
-        """Connects; the start's end."""
+        """Takes the terminal and connects; the start's end."""
+        self.front.display.outer.enter()
         self.front.connect()
         self.start = self.taken(self.listener)
         self.turn()
@@ -166,7 +165,8 @@ class Loop(Fronts):
         self.connect()
         self.type(b"\x02d")
         self.assertEqual((self.front.left, self.front.status), ("[detached]", 0))
-        with mock.patch.object(self.front, "connect"), mock.patch.object(self.front.link, "part") as parts:
+        with mock.patch.object(self.front, "connect"), mock.patch.object(self.front.link, "part") as parts, \
+                mock.patch.object(self.front.display.outer, "enter"):
             self.assertEqual(self.front.run(), 0)
         parts.assert_called_once_with()
         self.assertTrue(self.shown().endswith(terminal.LEFT + b"[detached]\r\n"))
@@ -175,14 +175,23 @@ class Loop(Fronts):
         self.assertEqual((self.front.left, self.front.status), ("[detached]", 0))
 
     def test_fault(self):
-        """What nobody foresaw brings the terminal back too."""
-        with mock.patch.object(self.front, "turn", side_effect=RuntimeError), mock.patch.object(self.front.link, "part") as parts:
-            with self.assertRaises(RuntimeError):
-                self.front.run()
-        parts.assert_not_called()
-        self.assertTrue(self.shown().endswith(terminal.LEFT))
-        self.assertEqual(termios.tcgetattr(self.slave), self.before)
-        self.assertIsNone(self.front.link.peer)
+        """What nobody foresaw brings the terminal back too, from the moment on at which it is taken: that is none before it runs."""
+        self.assertEqual((termios.tcgetattr(self.slave), self.shown()), (self.before, b""))
+        for name in ("connect", "turn"):
+            with self.subTest(name), mock.patch.object(self.front, name, side_effect=RuntimeError), \
+                    mock.patch.object(self.front.link, "part") as parts:
+                with self.assertRaises(RuntimeError):
+                    self.front.run()
+                parts.assert_not_called()
+                self.assertTrue(self.shown().endswith(terminal.LEFT))
+                self.assertEqual(termios.tcgetattr(self.slave), self.before)
+                self.assertIsNone(self.front.link.peer)
+
+    def test_not_taken(self):
+        """A terminal that can't be taken is left alone."""
+        with mock.patch.object(terminal, "make_raw", return_value=None), self.assertRaisesRegex(Fault, "^the terminal can't be made raw$"):
+            self.front.run()
+        self.assertEqual((termios.tcgetattr(self.slave), self.shown()), (self.before, b""))
 
     def test_signals(self):
         """SIGTERM, SIGHUP and SIGINT leave, with 128 and their number; a new size is gone by."""
@@ -192,10 +201,10 @@ class Loop(Fronts):
             self.turn(1)
             self.assertEqual((self.front.left, self.front.status), ("[terminated]", status))
         self.front.left = None
-        self.front.moments.due.clear()
+        self.front.loop.due.clear()
         os.write(self.wakes, bytes([signal.SIGWINCH]))
         self.turn(1)
-        self.assertEqual(self.front.moments.due["size"][0], 100.3)
+        self.assertEqual(self.front.loop.due["size"][0], 100.3)
         os.write(self.wakes, bytes([signal.SIGCONT]))
         with mock.patch.object(self.front.display, "enter_again") as enters:
             self.turn(1)
@@ -220,11 +229,16 @@ class Loop(Fronts):
     def test_stops(self):
         """It stops its group by the signal's own action, and handles it again then."""
         outer = self.front.display.outer
+        outer.enter()
         handled = []
-        with mock.patch("os.kill", lambda *words: handled.append((words, signal.getsignal(signal.SIGTSTP)))):
+
+        def stop(*words):
+            handled.append((words, signal.getsignal(signal.SIGTSTP), termios.tcgetattr(self.slave) == self.before))
+
+        with mock.patch("os.kill", stop):
             before = signal.getsignal(signal.SIGTSTP)
             outer.suspend()
-        self.assertEqual(handled, [((0, signal.SIGTSTP), signal.SIG_DFL)])
+        self.assertEqual(handled, [((0, signal.SIGTSTP), signal.SIG_DFL, True)])
         self.assertEqual(signal.getsignal(signal.SIGTSTP), before)
         self.assertFalse(os.get_blocking(outer.end))
         self.shown()
@@ -237,10 +251,10 @@ class Loop(Fronts):
         start = self.connect()
         start.send(painting(24, 80))
         self.turn()
-        self.front.place.processes["terminals"] = None
+        self.front.session.processes["terminals"] = None
         start.close()
         self.turn()
-        self.assertEqual((self.front.link.peer, self.front.moments.due["connect"][0]), (None, 100.1))
+        self.assertEqual((self.front.link.peer, self.front.loop.due["connect"][0]), (None, 100.1))
         self.listener.close()
         self.now += 0.1
         self.turn()
@@ -263,7 +277,7 @@ class Loop(Fronts):
         self.turn()
         start = self.taken(self.listener)
         self.assertEqual(self.front.display.told, "the client start has ended; what was typed last may be lost")
-        self.assertEqual(self.front.moments.due["told"][0], self.now + 3.0)
+        self.assertEqual(self.front.loop.due["told"][0], self.now + 3.0)
         self.shown()
         start.send(b"old" + painting(24, 80, "new"))
         self.turn()
@@ -274,19 +288,21 @@ class Loop(Fronts):
         """The end of the server's process is the session's."""
         reader, writer = self.pipe()
         self.front.server = reader
+        self.front.join()
         os.close(writer)
         self.turn(1)
         self.assertEqual((self.front.left, self.front.status), ("[the session has ended]", 0))
 
     def test_hung_up(self):
         """A terminal that is gone is left with status 1."""
-        with mock.patch.object(client, "read", side_effect=lambda end: b"" if end == 0 else None):
+        self.front.display.outer.enter()
+        with mock.patch.object(front_end, "read", side_effect=lambda end: b"" if end == 0 else None):
             os.write(self.master, b"x")
             self.turn(1)
         self.assertEqual((self.front.left, self.front.status), ("", 1))
         self.front.left = None
         self.front.display.outer.waiting += b"x"
-        with mock.patch.object(client, "write", return_value=False):
+        with mock.patch.object(front_end, "write", return_value=False):
             self.turn(1)
         self.assertEqual(self.front.left, "")
 
@@ -294,31 +310,51 @@ class Loop(Fronts):
         """Where no process of the server is known it is looked for each two seconds."""
         def leave():
             self.now += 2.0
-            self.front.moments.do_due()
+            self.front.loop.do_due()
             self.front.left = ""
 
         with mock.patch.object(self.front, "turn", leave), mock.patch.object(self.front.link, "part"):
             self.front.run()
-        self.assertEqual((self.place.looks, self.front.moments.due["probe"][0]), (1, self.now + 2.0))
+        self.assertEqual((self.place.looks, self.front.loop.due["probe"][0]), (1, self.now + 2.0))
 
     def test_shells(self):
         """What is told of the shells stands three seconds, and bells ring, with what is said beside them."""
+        bells = self.listening(self.place.folder / "bells")
         self.connect()
-        with mock.patch.object(self.front.shells, "turn", return_value="the shells had ended"):
-            self.turn(1)
-        self.assertEqual((self.front.display.told, self.front.moments.due["told"][0]), ("the shells had ended", 103.0))
-        with mock.patch.object(self.front.bells, "rung", return_value=[2]), mock.patch.object(self.front.commands, "ring") as rings:
-            with mock.patch.object(self.front.bells, "said", return_value=["pane 3 isn't shown"]):
-                self.turn(1)
-        rings.assert_called_once_with(2)
-        self.assertEqual(self.front.display.told, "pane 3 isn't shown")
+        with mock.patch.object(self.place, "revive_shells", return_value=True, create=True):
+            self.front.shells.revive()
+        said = "the shells had ended: new ones are there, and what was typed meanwhile is dropped"
+        self.assertEqual((self.front.display.told, self.front.loop.due["told"][0]), (said, 103.0))
+        self.shown()
+        self.taken(bells).send(b"bell 2\nsay pane 3 isn't shown\n")
+        self.turn()
+        self.assertEqual((self.front.display.told, self.shown().count(b"\x07")), ("pane 3 isn't shown", 1))
+
+    def test_keypad(self):
+        """The keypad goes by the pane in focus, also where that is noted after it was painted; without an application's nobody looks."""
+        bells = self.listening(self.place.folder / "bells")
+        start = self.connect()
+        start.send(painting(24, 80))
+        self.turn()
+        self.assertEqual([name for name in self.front.loop.due if name.startswith("look ")], [])
+        self.taken(bells).send(b"keypad 2 application\n")
+        self.place.told = Places({1: Rect(1, 1, 23, 39), 2: Rect(1, 41, 23, 40)}, 1)
+        self.turn()
+        start.send(b"\x1b[1;1Hx")
+        self.turn()
+        self.assertNotIn(b"\x1b=", self.shown())
+        self.assertEqual([moment for name, (moment, _) in self.front.loop.due.items() if name.startswith("look ")], [100.1, 100.5, 102.0])
+        self.place.told = self.place.told._replace(focus=2)
+        self.now += 0.1
+        self.turn()
+        self.assertIn(b"\x1b=", self.shown())
 
     def test_limits(self):
         """While 65,536 bytes wait for the terminal nothing more is read of the start."""
         start = self.connect()
         start.send(b"x")
         self.front.display.outer.waiting[:] = bytes(65536)
-        with mock.patch.object(client, "write", return_value=True):
+        with mock.patch.object(front_end, "write", return_value=True):
             with mock.patch.object(self.front.link, "painted") as paints:
                 self.turn(1)
                 paints.assert_not_called()
@@ -358,7 +394,7 @@ class Loop(Fronts):
 
     def test_unknown_size(self):
         """A session of which nothing is known is fitted once something was painted, 0.3 s later."""
-        self.place.told = NOTHING
+        self.place.told = None
         start = self.connect()
         start.send(painting(20, 70))
         self.turn()
@@ -374,18 +410,18 @@ class Loop(Fronts):
             self.assertEqual(outer.size(), (24, 80))
 
     def test_no_terminal(self):
-        none = mock.patch("os.isatty", side_effect=[True, False])
-        for name, patched, told in (("isatty", none, "standard input and output have to be a terminal"),
-                                    ("raw", mock.patch.object(terminal, "make_raw", return_value=None), "the terminal can't be made raw")):
-            with self.subTest(name), patched, self.assertRaisesRegex(Fault, told):
-                display.Outer()
+        with mock.patch("os.isatty", side_effect=[True, False]):
+            with self.assertRaisesRegex(Fault, "standard input and output have to be a terminal"):
+                display.OuterTerminal()
 
     def test_outer(self):
         """What is typed comes from standard input, whose modes and size are gone by, and standard output is written."""
         asks = self.patch("os.isatty", return_value=True)
         with mock.patch.object(terminal, "make_raw", return_value=[1]) as raws, mock.patch.object(terminal, "size_of") as sizes, \
                 mock.patch.object(terminal, "opened_for_writing", return_value=9) as opens:
-            outer = display.Outer()
+            outer = display.OuterTerminal()
+            raws.assert_not_called()
+            outer.enter()
         self.assertEqual([one.call_args[0] for one in (raws, sizes, opens)], [(0,), (0,), (1,)])
         self.assertEqual((asks.call_args_list, outer.modes, outer.end), ([mock.call(0), mock.call(1)], [1], 9))
         with mock.patch.object(terminal, "make_raw") as raws:
@@ -405,9 +441,9 @@ class Loop(Fronts):
             seen.append(note.read_text(encoding="utf-8"))
             return 5
 
-        with mock.patch.object(client, "Client") as made:
+        with mock.patch.object(front_end, "FrontEnd") as made:
             made.return_value.run = runs
-            self.assertEqual(client.follow(self.place, True, "C-a", "never"), 5)
+            self.assertEqual(front_end.follow(self.place, True, "C-a", "never"), 5)
             self.assertEqual(made.call_args[0][:4], (self.place, True, "C-a", "never"))
         self.assertEqual(seen, [f"{begun(os.getpid())} watches\n"])
         self.assertEqual((list((self.place.folder / "attached").iterdir()), self.place.is_closed), ([], True))
@@ -431,7 +467,7 @@ class Wishes(Case):
         """An arrow goes to the pane there; nowhere where none is, and to the next where nothing is known."""
         for key, acts in ((b"C", ["focus 2"]), (b"D", []), (b"A", [])):
             self.assertEqual(self.person().types(b"\x02\x1b[" + key), acts)
-        self.assertEqual(self.person(NOTHING).types(b"\x02\x1b[C"), ["next"])
+        self.assertEqual(self.person(None).types(b"\x02\x1b[C"), ["next"])
 
     def test_moved(self):
         """What is asked soon after goes by where this person put the focus, though that isn't told yet."""
@@ -466,7 +502,7 @@ class Wishes(Case):
         person = self.person()
         person.busy = {1: "vi", 2: "less"}
         self.assertEqual((person.types(b"\x02x"), person.display.told), ([], "close vi in pane 1? y closes it"))
-        self.assertNotIn("told", person.moments.due)
+        self.assertNotIn("told", person.loop.due)
         self.assertEqual((person.types(b"y"), person.display.told), (["close"], ""))
         person = self.person()
         person.busy = {1: "vi"}
@@ -480,7 +516,7 @@ class Wishes(Case):
         person = self.person()
         person.busy = None
         self.assertEqual((person.types(b"\x02x"), person.display.told), ([], "close whatever runs in pane 1? y closes it"))
-        person = self.person(NOTHING)
+        person = self.person(None)
         person.busy = None
         self.assertEqual((person.types(b"\x02x"), person.display.told), ([], "close whatever runs in this pane? y closes it"))
 
@@ -494,7 +530,7 @@ class Wishes(Case):
         person = self.person()
         self.assertEqual(person.types(b"\x02[kk"), ["view 1", "view 1"])
         self.assertEqual(person.display.told, "2 rows back: PgUp PgDn up down g G scroll, q ends it")
-        self.assertNotIn("told", person.moments.due)
+        self.assertNotIn("told", person.loop.due)
         self.assertEqual((person.types(b"q"), person.display.told), (["view -500"], ""))
         person.types(b"\x02[")
         person.commands.left()
@@ -503,7 +539,7 @@ class Wishes(Case):
     def test_unknown(self):
         person = self.person()
         person.types(b"\x02Z")
-        self.assertEqual((person.display.told, person.moments.due["told"][0]), ("C-b Z means nothing; C-b ? shows the keys", 101.0))
+        self.assertEqual((person.display.told, person.loop.due["told"][0]), ("C-b Z means nothing; C-b ? shows the keys", 101.0))
 
     def test_watches(self):
         """Who only watches types nothing, and may leave, repaint and have the help."""
@@ -578,7 +614,7 @@ class Painted(Case):
             rest = written
             while b"\x1b7" in rest:
                 before, _, after = rest.partition(b"\x1b7")
-                extent = terminal.Extent()
+                extent = terminal.PaintedSize()
                 extent.fed(before)
                 self.assertTrue(extent.is_between(), cut)
                 rest = before + after.partition(b"\x1b8")[2]
@@ -599,9 +635,9 @@ class Painted(Case):
         person = self.person()
         person.display.painted(painting(5, 20))
         person.display.tell("one")
-        self.assertEqual(person.moments.due["told"][0], 101.0)
+        self.assertEqual(person.loop.due["told"][0], 101.0)
         person.display.tell("two", None)
-        self.assertNotIn("told", person.moments.due)
+        self.assertNotIn("told", person.loop.due)
         person.display.end_told()
         person.display.end_told()
         self.assertEqual((person.display.told, person.link.lines), ("", ["repaint"]))
@@ -631,10 +667,10 @@ class Painted(Case):
         person.display.outer.waiting.clear()
         person.display.resized()
         self.assertIn(b"help", person.display.outer.waiting)
-        self.assertEqual(person.moments.due["repaint"][0], 100.5)
+        self.assertEqual(person.loop.due["repaint"][0], 100.5)
         person.display.cover = ""
         self.now += 0.5
-        person.moments.do_due()
+        person.loop.do_due()
         self.assertEqual((person.link.lines, person.display.is_stale), (["repaint"], True))
 
     def test_repainted(self):
@@ -642,7 +678,7 @@ class Painted(Case):
         person = self.person()
         person.display.resized()
         person.display.painted(painting(5, 20))
-        self.assertNotIn("repaint", person.moments.due)
+        self.assertNotIn("repaint", person.loop.due)
 
     def test_entered_again(self):
         """After another had the terminal all is painted anew."""
@@ -657,14 +693,14 @@ class Painted(Case):
         """A session has half a second for a size, and two more until it is told that its panes have no room."""
         person = self.person()
         person.display.size_asked((5, 20))
-        self.assertEqual((person.display.settled_at, person.moments.due["refused"][0]), (100.5, 102.5))
+        self.assertEqual((person.display.settled_at, person.loop.due["refused"][0]), (100.5, 102.5))
         person.display.painted(painting(6, 20))
-        self.assertEqual((person.display.cover, person.moments.due["hide"][0]), ("", 100.5))
+        self.assertEqual((person.display.cover, person.loop.due["hide"][0]), ("", 100.5))
         self.now = 100.5
-        person.moments.do_due()
+        person.loop.do_due()
         self.assertTrue(person.display.cover.startswith("too small: 5 by 20 of 6 by 20"))
         self.now = 102.5
-        person.moments.do_due()
+        person.loop.do_due()
         self.assertIn("its panes have no room here", person.display.cover)
         person.display.resized()
         self.assertFalse(person.display.is_refused)

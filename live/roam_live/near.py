@@ -1,0 +1,413 @@
+"""The end of a relay beside the clients, which stands for a server of another machine."""
+from __future__ import annotations
+
+import contextlib
+import itertools
+import os
+import pathlib
+import shlex
+import socket
+import subprocess
+import time
+from collections.abc import Callable, Iterator
+
+from roam_live.bells import BellSource
+from roam_live.carriers import Carrier, is_datagram
+from roam_live.ends import FORGOTTEN_AFTER, PEER_LIMIT, Ended, Options, end_for, loopback_socket, received
+from roam_live.lasting import Lasting
+from roam_live.listeners import Listener
+from roam_live.loops import Loop
+from roam_live.program import Fault, count_front_ends, logs, make_room_in_logs, opened_process, read, reason, replace_text, say
+from roam_live.relayed import BELL, ENDED, KEYPAD, KILLED, RECTS, BadWords, RelayStream, Waiting
+from roam_live.words import Said
+
+TYPE_CHECKING = False
+if TYPE_CHECKING:
+    from typing import IO
+
+    from roam_live.ends import Address
+
+# After so many seconds of silence another command is spawned.
+SILENT = 7.0
+
+# The seconds from the start of one command to that of the next, where none answers, and how long each is given.
+PAUSES = (0.2, 1, 2, 5)
+PATIENCE = 20.0
+
+# So many seconds a command has for its end.
+END_WAIT = 1.0
+
+# A link that was there for so long was sound: what breaks it is no fault of the command.
+SOUND = 5.0
+
+# So often it is looked whether a front end is noted.
+LOOKS = 5.0
+
+
+class Peers:
+    """The addresses of clients and their numbers. A number isn't given again before all others were."""
+
+    def __init__(self, forget: Callable[[int], None]) -> None:
+        self.numbers: dict[Address | Carrier, int] = {}
+        self.addresses: dict[int, Address | Carrier] = {}
+        self.moments: dict[int, float] = {}
+        self.last = 0
+        self.forget = forget
+
+    def number(self, address: Address | Carrier) -> int:
+        """The number of an address, from 1."""
+        if address not in self.numbers:
+            while len(self.numbers) >= PEER_LIMIT:
+                self.drop(min(self.moments, key=self.moments.__getitem__))
+            self.last = next(self.free())
+            self.numbers[address], self.addresses[self.last] = self.last, address
+        number = self.numbers[address]
+        self.moments[number] = time.monotonic()
+        return number
+
+    def free(self) -> Iterator[int]:
+        """The numbers that are free, from the one behind the last on."""
+        return (number for number in itertools.chain(range(self.last + 1, 65536), range(1, self.last + 1)) if number not in self.addresses)
+
+    def drop(self, number: int) -> None:
+        """Forgets a peer."""
+        del self.numbers[self.addresses.pop(number)], self.moments[number]
+        self.forget(number)
+
+    def drop_silent(self) -> None:
+        """Forgets the peers that have said nothing for long."""
+        for number in [number for number, moment in self.moments.items() if moment + FORGOTTEN_AFTER < time.monotonic()]:
+            self.drop(number)
+
+
+class RunningCommand:
+    """A command that runs, and the stream over its standard input and output."""
+
+    def __init__(self, command: list[str], session: str, may_ask: bool) -> None:
+        pipe = subprocess.PIPE
+        self.process = subprocess.Popen(command, stdin=pipe, stdout=pipe, stderr=pipe, start_new_session=not may_ask)
+        self.ends: list[IO[bytes]] = [end for end in (self.process.stdin, self.process.stdout, self.process.stderr) if end]
+        target, source, errors = (end.fileno() for end in self.ends)
+        self.errors: int | None = errors
+        self.said = Said()
+        self.loop: Loop | None = None
+        for end in (target, source, errors):
+            os.set_blocking(end, False)
+        self.stream = RelayStream(source, target, session)
+        self.since = time.monotonic()
+
+    def join(self, loop: Loop, hears: Callable[[], object]) -> None:
+        """Has a loop carry what goes to the command, pass on what it says, and call where something came."""
+        self.loop = loop
+        if self.errors is not None:
+            loop.add(self.errors, self.pass_errors, hears=lambda: self.errors is not None)
+        loop.add(self.stream.target, None, self.stream.flush, has_more=lambda: self.stream.going)
+        # Its end is seen where it is read: it may have said something.
+        loop.add(self.stream.source, hears)
+
+    def pass_errors(self) -> None:
+        """Says what the command said on its standard error, as far as that isn't too much: at the terminal at first, and in the log later,
+        as this tool does."""
+        piece = read(self.errors) if self.errors else None
+        if piece == b"":
+            self.errors = None
+        text = self.said.fed(piece or b"")
+        if text:
+            make_room_in_logs(len(text.encode()))
+            with contextlib.suppress(OSError):
+                os.write(2, text.encode())
+
+    def end(self) -> None:
+        """Has the command end."""
+        self.process.terminate()
+        self.pass_errors()
+        # What is left in Python's own buffers is nothing: the descriptors alone were used.
+        for end in self.ends:
+            if self.loop:
+                self.loop.remove(end)
+            end.close()
+        self.errors = None
+
+    def status(self) -> int:
+        """Waits for its end, which comes in time, and tells the status."""
+        try:
+            return self.process.wait(END_WAIT)
+        except subprocess.TimeoutExpired:
+            self.process.kill()
+            return self.process.wait()
+
+
+def bound_port(port: int | None) -> socket.socket | None:
+    """A port of loopback, where one is asked for."""
+    if port is None:
+        return None
+    one = loopback_socket()
+    try:
+        one.bind(("127.0.0.1", port))
+    except OSError as fault:
+        raise Fault(f"port {port}: {fault.strerror}") from fault
+    return one
+
+
+class Near:
+    """The end beside the clients: the socket at which they connect, or a port of loopback, and the command, which is spawned as often as
+    needed."""
+
+    def __init__(self, asked: Options, wakeup: int, loop: Loop | None = None) -> None:
+        self.asked, self.loop = asked, loop or Loop()
+        self.loop.each(self.prepare)
+        self.loop.add(wakeup, lambda: end_for(wakeup))
+        if asked.owner:
+            self.loop.add(opened_process(asked.owner), self.left)
+        self.port = bound_port(asked.port)
+        if self.port:
+            self.loop.add(self.port, self.hear_port)
+        self.listener = self.listening(asked.dir) if asked.dir else None
+        self.bells = BellSource(asked.dir, self.loop) if asked.dir else None
+        self.lasting = Lasting(asked.dir) if asked.dir else None
+        self.carriers: list[Carrier] = []
+        self.waiting = Waiting()
+        self.peers = Peers(self.waiting.forget)
+        self.session = "-"
+        self.link: RunningCommand | None = None
+        self.tries: list[RunningCommand] = []
+        self.ending: list[RunningCommand] = []
+        self.has_answered = self.is_told = False
+        self.next_try = 0.0
+        self.try_count = 0
+        self.looked_at = self.used_at = time.monotonic()
+        self.is_over = False
+        # What is noted of the session's end.
+        self.ended = ""
+
+    def left(self) -> None:
+        """Ends, since the process of --with has."""
+        raise Ended(0)
+
+    def is_silent(self) -> bool:
+        """Whether there is no link that is known to carry anything."""
+        return self.link is None or self.link.stream.is_silent(SILENT)
+
+    def tend(self) -> None:
+        """Spawns a command where one is due, and ends those that are late."""
+        now = time.monotonic()
+        self.ending = [link for link in self.ending if link.process.poll() is None]
+        if self.link and not self.is_silent():
+            self.drop_tries()
+            self.try_count = 0 if self.link.since + SOUND < now else self.try_count
+            return
+        # The first one may be waiting for a person's answer.
+        if self.has_answered:
+            for link in [link for link in self.tries if link.since + PATIENCE < now]:
+                self.drop(link)
+        if self.has_answered and not self.is_told:
+            self.is_told = True
+            say("the other end is silent" if self.link else "the other end has ended")
+        if now >= self.next_try and (self.has_answered or not self.tries):
+            self.spawn(now)
+
+    def spawn(self, now: float) -> None:
+        """Spawns a command; where the system refuses one later it is told of, and tried again."""
+        try:
+            link = RunningCommand(self.asked.command, self.session, not self.has_answered)
+            link.join(self.loop, lambda: self.hear(link))
+            self.tries.append(link)
+        except OSError as fault:
+            line = f"{self.asked.command[0]}: {fault.strerror}"
+            if not self.has_answered:
+                raise Fault(line) from fault
+            say(line)
+        self.next_try = now + PAUSES[min(self.try_count, len(PAUSES) - 1)]
+        self.try_count += 1
+
+    def drop(self, link: RunningCommand) -> None:
+        """Has a command end."""
+        link.end()
+        self.ending.append(link)
+        self.tries = [other for other in self.tries if other is not link]
+        self.link = None if self.link is link else self.link
+
+    def drop_tries(self) -> None:
+        """Has the commands end that aren't needed any more."""
+        for link in list(self.tries):
+            self.drop(link)
+        if self.is_told:
+            self.is_told = False
+            say("the link is back")
+
+    def lost(self, link: RunningCommand) -> None:
+        """Goes on without a command that has ended."""
+        is_first = not self.has_answered
+        self.drop(link)
+        if is_first:
+            line = f"{shlex.join(self.asked.command)} ended with status {link.status()}, and hadn't answered"
+            if self.asked.owner or self.asked.alone is not None:
+                raise Fault(line)
+            say(line)
+
+    def refuse(self, link: RunningCommand, fault: BadWords) -> None:
+        """Goes on without a command whose other end said what can't be; a first one that did is told of, and ends this."""
+        if not self.has_answered:
+            raise fault
+        say(f"{fault}; another is spawned")
+        self.drop(link)
+
+    def look(self) -> None:
+        """Ends where no front end has been noted for so long."""
+        now = time.monotonic()
+        if self.asked.alone is None or now < self.looked_at + LOOKS:
+            return
+        self.looked_at = now
+        if self.asked.dir and count_front_ends(self.asked.dir):
+            self.used_at = now
+        elif now > self.used_at + self.asked.alone:
+            raise Ended(0)
+
+    def answered(self, link: RunningCommand, session: str) -> None:
+        """Takes a command as the link, now that its other end has answered for a session."""
+        if self.session not in ("-", session):
+            self.is_over = True
+            raise Ended(0)
+        self.tries.remove(link)
+        for old in [*self.tries, *([self.link] if self.link else [])]:
+            self.drop(old)
+        self.link, self.session = link, session
+        if self.has_answered:
+            return
+        self.has_answered = True
+        if self.asked.dir:
+            replace_text(os.path.join(self.asked.dir, "session"), f"{self.session}\n")
+        print(f"port {self.port.getsockname()[1] if self.port else '-'} session {self.session}", flush=True)
+        if self.asked.log:
+            logs[:] = [pathlib.Path(self.asked.log)]
+            with open(self.asked.log, "ab") as log:
+                os.dup2(log.fileno(), 2)
+
+    def hear(self, link: RunningCommand) -> None:
+        """Takes what came over a command. Whatever the other end says, this one goes on, once it has answered."""
+        try:
+            frames = link.stream.received()
+            if frames is None:
+                self.lost(link)
+                return
+            if link.stream.session and link is not self.link:
+                self.answered(link, link.stream.session)
+            for peer, text in frames:
+                self.take(peer, text)
+        except BadWords as fault:
+            self.refuse(link, fault)
+
+    def take(self, peer: int, text: bytes) -> None:
+        """Takes a frame."""
+        if peer:
+            # What can't be a datagram is dropped.
+            if is_datagram(text):
+                self.deliver(peer, text)
+        elif text in (ENDED, KILLED):
+            self.is_over, self.ended = True, "killed" if text == KILLED else ""
+            raise Ended(0)
+        elif text[:1] == RECTS and self.asked.dir:
+            self.note_places(self.asked.dir, text[1:].decode("utf-8", "replace"))
+        elif text[:1] == BELL and self.bells:
+            self.bells.tell(text[1])
+        elif text[:1] == KEYPAD and self.bells:
+            self.bells.tell_keypad(text[1], text[2] == 1)
+
+    def note_places(self, folder: str, places: str) -> None:
+        """Notes where the panes are; where that can't be written it is told of, and the next is tried."""
+        try:
+            replace_text(os.path.join(folder, "rects"), places)
+        except OSError as fault:
+            say(f"rects: {reason(fault)}")
+
+    def deliver(self, peer: int, datagram: bytes) -> None:
+        """Hands a client its datagram, where it is still known."""
+        address = self.peers.addresses.get(peer)
+        if isinstance(address, Carrier):
+            address.send(datagram)
+        elif address and self.port:
+            try:
+                self.port.sendto(datagram, address)
+            except OSError:
+                pass
+
+    def listening(self, folder: str) -> Listener:
+        """The socket at which clients connect; as many as peers are known, and another waits until one has left."""
+        return Listener(self.loop, os.path.join(folder, "clients"), self.take_client, lambda: len(self.carriers) < PEER_LIMIT,
+                        lambda fault: say(f"a client waits: {reason(fault)}"))
+
+    def take_client(self, peer: socket.socket) -> None:
+        """Takes a client that came."""
+        carrier = Carrier(peer)
+        self.carriers.append(carrier)
+        self.loop.add(carrier, lambda: self.hear_client(carrier), lambda: self.flush_client(carrier), has_more=lambda: carrier.going)
+
+    def flush_client(self, carrier: Carrier) -> None:
+        """Writes what a client takes; one that has left is let go."""
+        if not carrier.flush():
+            self.part(carrier)
+
+    def hear_client(self, carrier: Carrier) -> None:
+        """Takes what came from a client; one that has left, or says what is no datagram, is let go."""
+        datagrams = carrier.received()
+        if datagrams is None:
+            self.part(carrier)
+        for datagram in datagrams or []:
+            self.waiting.add(self.peers.number(carrier), datagram)
+
+    def hear_port(self) -> None:
+        """Takes what came at the port."""
+        for datagram, address in received(self.port) if self.port else []:
+            self.waiting.add(self.peers.number(address), datagram)
+        self.peers.drop_silent()
+
+    def part(self, carrier: Carrier) -> None:
+        """Lets a client go."""
+        self.loop.remove(carrier)
+        carrier.close()
+        self.carriers.remove(carrier)
+        if carrier in self.peers.numbers:
+            self.peers.drop(self.peers.numbers[carrier])
+
+    def prepare(self) -> float | None:
+        """Does what is due before a wait, and tells by when something is due again."""
+        self.tend()
+        self.look()
+        if self.lasting:
+            self.lasting.turn()
+        if self.link:
+            self.link.stream.fill(self.waiting)
+        return min(self.moments(), default=None)
+
+    def moments(self) -> list[float]:
+        """When something is due."""
+        found = [self.next_try] if self.is_silent() and (self.has_answered or not self.tries) else []
+        found += [] if self.asked.alone is None else [self.looked_at + LOOKS]
+        if self.link:
+            found += [self.link.stream.due_at(), *([] if self.is_silent() else [self.link.stream.silent_at(SILENT)])]
+        return found
+
+    def turn(self) -> None:
+        """Waits until something can be done, and does it."""
+        self.loop.turn()
+
+    def close(self) -> None:
+        """Ends all commands."""
+        for link in [*self.tries, *([self.link] if self.link else [])]:
+            self.drop(link)
+        for link in self.ending:
+            link.status()
+        for carrier in list(self.carriers):
+            self.part(carrier)
+        for source in (self.listener, self.bells):
+            if source:
+                source.close()
+        if self.asked.dir:
+            self.leave(self.asked.dir)
+
+    def leave(self, folder: str) -> None:
+        """Notes in the folder what has ended, and removes what lies there of this end."""
+        if self.is_over:
+            replace_text(os.path.join(folder, "ended"), self.ended)
+        for name in ("session", "rects"):
+            pathlib.Path(folder, name).unlink(missing_ok=True)
