@@ -116,6 +116,7 @@ impl<R: Clock + Drop, W: Write + Drop> ClientPorts<R, W> {
     /// Sends what waits to go, and waits until something comes, ten milliseconds at most, where nothing came since the last call.
     pub fn rest(&mut self)
         ensures quiet { self.new.connection.waits.quiet ≡ true }
+        ensures waited { IfSome self.new.connection.waits.longest (λ long. (self.old.connection.waits.quiet ≡ true) × (long ≡ SHORT_WAIT)) }
         ensures others { self.new ≡ record self.old { connection = self.new.connection } }
         ensures connection { self.new.connection
             ≡ record self.old.connection { waits = self.new.connection.waits; way = self.new.connection.way } }

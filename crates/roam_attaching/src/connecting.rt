@@ -1,6 +1,6 @@
 //! The way of a client start to its server, the clock and the wait. What they carried isn't told.
 ghost use Rattle.std.specs.Prelude.{◌≡◌, ◌⊎◌, ◌≤◌, ℕ, true, false, length, None, Some, IfOk, IfSome, IfErr};
-ghost use Rattle.roam_attaching.specs.Ways.{has_ended};
+ghost use Rattle.roam_attaching.specs.Ways.{IsFrom, has_ended};
 
 use mio::event::Source;
 use mio::net::UnixStream;
@@ -32,6 +32,7 @@ impl Way {
     // A datagram that came: from where, and how many bytes of `buf` it fills from the front.
     fn receive(&mut self, buf: &mut [u8]) -> Option<(Addr, usize)>
         ensures within { IfSome result (λ r. r.1 ≤ length buf.new) }
+        ensures from { IfSome result (λ r. IsFrom self.old r.0) }
     {
         match self {
             Way::Udp(udp) => udp.receive(buf),
@@ -178,6 +179,7 @@ impl<R: Clock + Drop> Connection<R> {
     /// Sends what waits to go, and waits until something comes, so many milliseconds at most, where nothing came since the last call.
     pub fn rest(&mut self, longest: u64)
         ensures quiet { self.new.waits.quiet ≡ true }
+        ensures waited { IfSome self.new.waits.longest (λ long. (self.old.waits.quiet ≡ true) × (long ≡ longest)) }
         ensures others { self.new ≡ record self.old { waits = self.new.waits; way = self.new.way } }
     {
         if !self.way.flush(self.moment) {
@@ -206,6 +208,7 @@ impl<R: Clock + Drop> Ports for Connection<R> {
 
     fn receive(&mut self, buf: &mut [u8]) -> Option<(Addr, usize)>
         ensures within { IfSome result (λ r. r.1 ≤ length buf.new) }
+        ensures from { IfSome result (λ r. IsFrom self.old.way r.0) }
         ensures stirs { IfSome result (λ _. self.new.waits.quiet ≡ false) }
     {
         let came = self.way.receive(buf)?;

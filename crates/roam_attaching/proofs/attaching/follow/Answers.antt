@@ -1,4 +1,4 @@
-use Rattle.std.proofs.Common.{◌≡◌, ◌+◌, ◌⊎◌, ℕ, None, Option, inr, refl, rules, sym, ◌∙◌}
+use Rattle.std.proofs.Common.{◌≡◌, ◌+◌, ◌⊎◌, ℕ, None, Option, inr, refl, sym, ◌∙◌}
 use Rattle.roam_cells.specs.declared.faults.Fault.TheVariants.{OutOfMemory}
 use Rattle.roam_faults.specs.declared.faults.RunFault.TheVariants as run
 use Rattle.roam_turns.specs.declared.outer.Noted.{Noted}

@@ -1,7 +1,7 @@
 use Rattle.std.proofs.Common.{ap, inr, refl, sym, subst, ◌∙◌, All, false, true}
 use Rattle.std.proofs.lemmas.List.Elements.{All-drop}
 use Rattle.roam_acts.specs.Acts.{IsInRange}
-use Rattle.roam_attaching.specs.Runs.{TakesTurn, Tells, painted_by}
+use Rattle.roam_attaching.specs.Runs.{Tells, painted_by}
 use Rattle.roam_attaching.proofs.Running.{handed_still, handed_taken, turn_of, turn_taken, runs_both, runs_reading, takes_first, takes_nothing}
 use Rattle.roam_attaching.proofs.attaching.type_turn.Goals as goal
 
