@@ -12,6 +12,7 @@ pub mod grid;
 pub mod history;
 pub mod keys;
 pub mod numbers;
+pub mod overlay;
 pub mod paint;
 pub mod pane_list;
 pub mod play;

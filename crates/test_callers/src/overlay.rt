@@ -1,0 +1,22 @@
+//! A caller of `roam_overlay`, as its README shows it (`tools/worked_callers`).
+
+// README: begin
+use roam_acts::Act;
+use roam_cells::Fault;
+use roam_overlay::Overlay;
+use roam_screens::RowShot;
+use std::alloc::Global;
+
+/// What stands over a screen that is noted under a number once acts are typed there, the first under number 1; none is acknowledged.
+pub fn laid_after(
+    alloc: Global,
+    number: u64,
+    acts: &[Act],
+    screen: &RowShot,
+) -> Result<Option<RowShot>, Fault> {
+    let mut overlay = Overlay::new(alloc, false)?;
+    overlay.typed(false, 1, acts, screen);
+    overlay.judge(alloc, number, screen, 0, 0);
+    Ok(overlay.over(alloc, screen, 0)) // none: an epoch begins hidden
+}
+// README: end
