@@ -155,8 +155,9 @@ fn id_for(chance: &impl RandomSource, attach: &Attach<'_>) -> Result<u64, RunFau
     }
 }
 
-// The start of a client that is asked for.
-fn client_for<R: Files + RandomSource + AllocGlobal>(
+/// A client start as it is asked for: of its session and id, where these are given, else of the session of the folder and an id by chance;
+/// of its version; one that only watches where that is asked for in version 2. `Read` where the session's file has no id, `OutOfMemory`.
+pub fn client_for<R: Files + RandomSource + AllocGlobal>(
     rt: &R,
     attach: &Attach<'_>,
 ) -> Result<Client, RunFault>
