@@ -78,6 +78,7 @@ class Commands:
 
     def take(self, key: Key) -> None:
         """Takes a key. Under a cover nothing is typed; the prefix means there what it always does."""
+        is_pasted = self.typing.mode == self.typing.pasting
         acts, wish = self.typing.asked(key, time.monotonic(), self.display.outer.size()[0])
         if self.paused:
             is_pasted = self.typing.mode == self.typing.pasting
@@ -86,14 +87,14 @@ class Commands:
         if self.display.cover:
             acts = [act for act in acts if act == NEWEST]
             wish = "no" if wish == "yes" else wish if wish in UNDER_COVER else ""
-        self.act(*acts)
+        self.act(*acts, is_pasted=is_pasted)
         self.grant(wish, key)
 
-    def act(self, *acts: str) -> None:
-        """Has acts typed, by who doesn't only watch."""
+    def act(self, *acts: str, is_pasted: bool = False) -> None:
+        """Has acts typed, by who doesn't only watch; what was pasted is never guessed."""
         if self.link.watches:
             return
-        self.link.type(*acts)
+        self.link.type(*acts, is_pasted=is_pasted)
         for act in acts:
             word, _, pane = act.partition(" ")
             if word in ("focus", "next", "split", "close"):

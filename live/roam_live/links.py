@@ -6,7 +6,7 @@ import socket
 import time
 
 from roam_live.loops import READ, WRITE, comes, ready
-from roam_live.program import Fault, connected_now, read, reason
+from roam_live.program import Fault, connected_now, read, reason, runs_program
 
 TYPE_CHECKING = False
 if TYPE_CHECKING:
@@ -42,8 +42,10 @@ class StartLink:
         self.peer: socket.socket | None = None
         self.waiting = bytearray()
         self.given = 0
-        # How many acts the last line has, where more may join them.
+        # How many acts the last line has, where more may join them, and whether they were pasted.
         self.acts = 0
+        self.is_pasted = False
+        self.knows_pastes = False
         self.since = 0.0
         self.has_painted = False
 
@@ -60,6 +62,7 @@ class StartLink:
     def connect(self) -> None:
         """Connects to the start."""
         self.peer = connected_now(self.path)
+        self.knows_pastes = runs_program(self.peer)
         self.since, self.given, self.has_painted = time.monotonic(), 0, False
         self.acts = 0
         if self.watches:
@@ -72,14 +75,17 @@ class StartLink:
         self.waiting += f"{line}\n".encode()
         self.acts = 0
 
-    def type(self, *acts: str) -> None:
-        """Adds acts at the end."""
+    def type(self, *acts: str, is_pasted: bool = False) -> None:
+        """Adds acts at the end; those that were pasted have lines of their own, which say so where the start knows the word."""
         for act in acts:
-            if 0 < self.acts < MOST_ACTS:
+            if 0 < self.acts < MOST_ACTS and is_pasted == self.is_pasted:
                 self.waiting[-1:] = f" ; {act}\n".encode()
+                self.acts += 1
             else:
-                self.waiting += f"{act}\n".encode()
-            self.acts = self.acts % MOST_ACTS + 1
+                lead = "paste ; " if is_pasted and self.knows_pastes else ""
+                self.waiting += f"{lead}{act}\n".encode()
+                self.acts = 1
+            self.is_pasted = is_pasted
 
     def send(self) -> bool:
         """Sends what the start takes now; tells whether it is still there."""

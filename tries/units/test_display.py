@@ -57,7 +57,7 @@ class StartLink:
         self.watches = watches
         self.acts, self.lines = [], []
 
-    def type(self, *acts):
+    def type(self, *acts, is_pasted=False):
         """Keeps acts."""
         self.acts += acts
 

@@ -90,6 +90,24 @@ class Lines(Linked):
         self.assertEqual(text, ["key down", "repaint", "key left ; key right"])
         self.assertEqual(MOST_ACTS, 32)
 
+    def test_pasted(self):
+        """What was pasted has lines of its own, which say so to a start that runs the program of these tools, and to no other."""
+        for knows, lead in ((True, "paste ; "), (False, "")):
+            link, other = self.link(False)
+            self.assertFalse(link.knows_pastes)
+            link.knows_pastes = knows
+            link.type("char 61")
+            link.type("char 62", "char 63", is_pasted=True)
+            link.type("char 64", is_pasted=True)
+            link.type("char 65")
+            link.type(*["char 66"] * 33, is_pasted=True)
+            link.send()
+            lines = read_now(other).decode().splitlines()
+            self.assertEqual(lines[:3], ["char 61", f"{lead}char 62 ; char 63 ; char 64", "char 65"])
+            self.assertEqual([line.count("char 66") for line in lines[3:]], [32, 1])
+            self.assertTrue(all(line.startswith(lead + "char 66") for line in lines[3:]))
+            link.close()
+
     def test_cut(self):
         """A line that went in part goes whole to the next connection."""
         link, other = self.link(False)

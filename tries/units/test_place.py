@@ -150,7 +150,7 @@ class StartLink:
     def __init__(self):
         self.acts = []
 
-    def type(self, *acts):
+    def type(self, *acts, is_pasted=False):
         """Keeps acts."""
         self.acts += acts
 
