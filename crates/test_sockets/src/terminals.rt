@@ -168,10 +168,57 @@ round
 ends
 acts 9";
 
+/// What was pasted is typed as other acts are, and a line that says so of none is refused. A line of 64 acts is typed where none is
+/// unacknowledged, and the next one waits.
+const MANY: &str = "\
+first connects many/terminals
+second connects many/terminals
+round
+first types char 61 ; char 61 ; char 61 ; char 61 ; char 61 ; char 61 ; char 61 ; char 61 ; \
+char 61 ; char 61 ; char 61 ; char 61 ; char 61 ; char 61 ; char 61 ; char 61 ; \
+char 61 ; char 61 ; char 61 ; char 61 ; char 61 ; char 61 ; char 61 ; char 61 ; \
+char 61 ; char 61 ; char 61 ; char 61 ; char 61 ; char 61 ; char 61 ; char 61 ; \
+char 61 ; char 61 ; char 61 ; char 61 ; char 61 ; char 61 ; char 61 ; char 61 ; \
+char 61 ; char 61 ; char 61 ; char 61 ; char 61 ; char 61 ; char 61 ; char 61 ; \
+char 61 ; char 61 ; char 61 ; char 61 ; char 61 ; char 61 ; char 61 ; char 61 ; \
+char 61 ; char 61 ; char 61 ; char 61 ; char 61 ; char 61 ; char 61 ; char 61/
+round
+acts 64
+second types paste ; char 62/
+round
+acts 64
+second types char 63/
+round
+acts 64
+terminals 2";
+
+/// The same where it comes first.
+const PASTED: &str = "\
+first connects pasted/terminals
+second connects pasted/terminals
+round
+first types paste ; char 61 ; char 62/
+round
+acts 2
+second types paste ; /
+round
+acts 2
+first types char 63/
+round
+acts 3
+terminals 1";
+
 #[test]
 fn terminals_share_a_start(rt: HostRuntime) -> Result<(), Fail> {
-    create_dir(&rt, "shared")?;
-    let wrong = first_wrong(&rt, "shared/terminals", LINES)?;
-    assert!(rt; wrong.is_none(), "{wrong:?}");
+    let stories = [
+        ("shared", "shared/terminals", LINES),
+        ("many", "many/terminals", MANY),
+        ("pasted", "pasted/terminals", PASTED),
+    ];
+    for (folder, path, lines) in stories {
+        create_dir(&rt, folder)?;
+        let wrong = first_wrong(&rt, path, lines)?;
+        assert!(rt; wrong.is_none(), "{wrong:?}");
+    }
     Ok(())
 }
