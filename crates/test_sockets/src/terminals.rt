@@ -175,12 +175,18 @@ first connects many/terminals
 second connects many/terminals
 round
 first types char 61 ; char 61 ; char 61 ; char 61 ; char 61 ; char 61 ; char 61 ; char 61 ; \
-char 61 ; char 61 ; char 61 ; char 61 ; char 61 ; char 61 ; char 61 ; char 61 ; \
-char 61 ; char 61 ; char 61 ; char 61 ; char 61 ; char 61 ; char 61 ; char 61 ; \
-char 61 ; char 61 ; char 61 ; char 61 ; char 61 ; char 61 ; char 61 ; char 61 ; \
-char 61 ; char 61 ; char 61 ; char 61 ; char 61 ; char 61 ; char 61 ; char 61 ; \
-char 61 ; char 61 ; char 61 ; char 61 ; char 61 ; char 61 ; char 61 ; char 61 ; \
-char 61 ; char 61 ; char 61 ; char 61 ; char 61 ; char 61 ; char 61 ; char 61 ; \
+char 61 ; char 61 ; char 61 ; char 61 ; char 61 ; char 61 ; char 61 ; char 61 ;\x20
+round
+acts 0
+first types char 61 ; char 61 ; char 61 ; char 61 ; char 61 ; char 61 ; char 61 ; char 61 ; \
+char 61 ; char 61 ; char 61 ; char 61 ; char 61 ; char 61 ; char 61 ; char 61 ;\x20
+round
+acts 0
+first types char 61 ; char 61 ; char 61 ; char 61 ; char 61 ; char 61 ; char 61 ; char 61 ; \
+char 61 ; char 61 ; char 61 ; char 61 ; char 61 ; char 61 ; char 61 ; char 61 ;\x20
+round
+acts 0
+first types char 61 ; char 61 ; char 61 ; char 61 ; char 61 ; char 61 ; char 61 ; char 61 ; \
 char 61 ; char 61 ; char 61 ; char 61 ; char 61 ; char 61 ; char 61 ; char 61/
 round
 acts 64
