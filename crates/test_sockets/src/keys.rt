@@ -1,8 +1,8 @@
-//! Files of acts.
+//! Files and streams of acts.
 use roam_acts::Act;
 use roam_cells::Fault;
 use roam_faults::RunFault;
-use roam_typing::acts_of;
+use roam_typing::{Typist, acts_of};
 use std::alloc::Global;
 use std::test::*;
 
@@ -32,5 +32,37 @@ fn texts_of_acts(rt: HostRuntime) {
     ];
     for (text, wanted) in rows {
         assert!(rt; is_read(rt.alloc(), text, wanted), "{text:?}");
+    }
+}
+
+/// How many acts come over a stream, or which line is refused, with the acts before it taken one by one.
+fn is_typed(alloc: Global, text: &str, wanted: Result<u64, u64>) -> bool {
+    let mut typist = Typist::of(alloc, text.as_bytes());
+    for count in 0..100u64 {
+        if typist.read_more().is_err() {
+            return false;
+        }
+        if let Some(number) = typist.refused() {
+            return wanted == Err(number);
+        }
+        if typist.next().is_none() {
+            return typist.has_ended() && wanted == Ok(count);
+        }
+        typist.took();
+    }
+    false
+}
+
+/// Whole lines come with the first read, so that an act is there after it; the end of the stream comes with the next.
+#[test]
+fn streams_of_acts(rt: HostRuntime) {
+    let rows = [
+        ("char 61\nkey up\nsplit right\nview -1", Ok(4)),
+        ("char 61\nkey up\n\n", Err(3)),
+        ("char 61\nchar\nfocus 9\n", Err(2)),
+        ("next\nclose\nfocus 10", Err(3)),
+    ];
+    for (text, wanted) in rows {
+        assert!(rt; is_typed(rt.alloc(), text, wanted), "{text:?}");
     }
 }

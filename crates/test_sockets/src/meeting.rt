@@ -2,8 +2,9 @@
 //!
 //! What happens is text: `first` or `second`, a pane's program, and what it does; `turns MOMENT`, one turn of each end; `types MOMENT ACT,
 //! ACT`: both are typed, and the server takes them in one turn; `pane N`, which is there; `meets`: within a thousand turns the start shows
-//! the `a` that the first program wrote, and that one reads a typed `b`.
-ghost use Rattle.std.specs.Prelude.{IfOk, IfSome};
+//! the `a` that the first program wrote, and that one reads a typed `b`; `closes`: thirty times a second pane is split off, and closed for
+//! the first program, which follows the panes.
+ghost use Rattle.std.specs.Prelude.{◌<◌, IfOk, IfSome};
 ghost use Rattle.roam_acts.specs.Acts.{IsInRange};
 ghost use Rattle.roam_turns.specs.Painting.{IsBehind};
 
@@ -11,6 +12,7 @@ use crate::programs::Programs;
 use roam_acts::{Act, Key, read_act};
 use roam_attaching::{ClientPorts, Connection};
 use roam_hub::{Addr, Client, Server};
+use roam_pane_list::{ListedPane, PaneList};
 use roam_screens::Seen;
 use roam_serving::{OwnStart, ServerPorts};
 use roam_sockets::{Moments, loopback};
@@ -50,12 +52,42 @@ fn shows(client: &Client, c: char) -> bool {
     }
 }
 
+/// The first program asks for pane 2 of a life to be closed.
+fn asks(alloc: Global, programs: &mut Programs, life: u64) -> bool {
+    match format!(in alloc; "close 2 {life}\n") {
+        Ok(line) => programs.first_writes(line.as_str()),
+        Err(_) => false,
+    }
+}
+
 impl<'a> ServerEnd<'a> {
     // One turn of the server at a moment.
     fn serves(&mut self, alloc: Global, moment: u64) {
         self.ports.set_moment(moment);
         serve_turn(alloc, &mut self.server, &mut self.ports);
         self.ports.rest(Some(0));
+    }
+
+    // A pane that is there.
+    fn listed(&self, pane: u8) -> Option<ListedPane> {
+        let rect = self.server.rect(pane)?;
+        Some(ListedPane {
+            life: self.server.life(pane)?,
+            row: rect.row,
+            col: rect.col,
+            rows: rect.rows,
+            cols: rect.cols,
+        })
+    }
+
+    // Who follows the panes is told those that are there, and does what it asks for.
+    fn tells(&mut self) {
+        let mut panes = PaneList::unknown();
+        for pane in 1..10u8 {
+            panes.set(pane, self.listed(pane));
+        }
+        panes.set_focus(self.server.focus());
+        self.ports.tell_panes(&panes);
     }
 }
 
@@ -130,6 +162,43 @@ impl<'a> Meeting<'a> {
         false
     }
 
+    // Pane 2 is split off, and closed for the first program, which follows the panes.
+    fn closes_one(&mut self, alloc: Global, programs: &mut Programs, moment: u64) -> bool
+        requires early { moment < 10000 }
+        requires behind { IsBehind self.old.start.outer self.old.start.client.kept.receiver.newest.number
+            self.old.start.client.kept.receiver.newest.state }
+        ensures behind { IsBehind self.new.start.outer self.new.start.client.kept.receiver.newest.number
+            self.new.start.client.kept.receiver.newest.state }
+    {
+        let (Ok(next), Ok(split)) = (read_act(b"next"), read_act(b"split right")) else {
+            return false;
+        };
+        let is_typed = self.types(alloc, moment, &next, &split);
+        self.turns(alloc, moment + 10, None);
+        let Some(life) = self.home.server.life(2) else {
+            return false;
+        };
+        self.home.tells();
+        let is_asked = asks(alloc, programs, life);
+        self.home.tells();
+        self.turns(alloc, moment + 20, None);
+        is_typed && is_asked && self.home.server.life(2).is_none()
+    }
+
+    fn closes(&mut self, alloc: Global, programs: &mut Programs) -> bool
+        requires behind { IsBehind self.old.start.outer self.old.start.client.kept.receiver.newest.number
+            self.old.start.client.kept.receiver.newest.state }
+        ensures behind { IsBehind self.new.start.outer self.new.start.client.kept.receiver.newest.number
+            self.new.start.client.kept.receiver.newest.state }
+    {
+        for turn in 0..30u64 {
+            if !self.closes_one(alloc, programs, turn * 40) {
+                return false;
+            }
+        }
+        true
+    }
+
     fn types_both(&mut self, alloc: Global, words: &str) -> bool
         requires behind { IsBehind self.old.start.outer self.old.start.client.kept.receiver.newest.number
             self.old.start.client.kept.receiver.newest.state }
@@ -181,6 +250,7 @@ impl<'a> Meeting<'a> {
             "types" => Ok(self.types_both(rt.alloc(), rest)),
             "pane" => Ok(self.has_pane(rest)),
             "meets" => Ok(self.meets(rt.alloc(), programs)),
+            "closes" => Ok(self.closes(rt.alloc(), programs)),
             _ => programs.does(rt, verb, rest),
         }
     }
@@ -224,7 +294,7 @@ fn client_ports<'a>(
 /// A server whose panes are in a folder.
 fn server_end<'a>(rt: &'a HostRuntime, folder: &str) -> Result<ServerEnd<'a>, Fail> {
     let own = OwnStart {
-        session: 1,
+        session: 0x5E55,
         id: 0xFF,
     };
     let ports = ServerPorts::bind(rt, rt.alloc(), folder, Some(0), Moments::Set(0), own)?;
@@ -308,10 +378,16 @@ second writes c
 turns 40
 second waits";
 
+/// As many closes as a program asks for, one after another: each answer is heard, so that none stands before the next.
+const CLOSES: &str = "\
+first connects closes/panes
+closes";
+
 #[test]
 fn two_ends_meet(rt: HostRuntime) -> Result<(), Fail> {
     assert_eq!(rt; first_wrong(&rt, "udp", false, BY_UDP)?, None);
     assert_eq!(rt; first_wrong(&rt, "stream", true, OVER_A_STREAM)?, None);
     assert_eq!(rt; first_wrong(&rt, "anew", false, ANEW)?, None);
+    assert_eq!(rt; first_wrong(&rt, "closes", true, CLOSES)?, None);
     Ok(())
 }

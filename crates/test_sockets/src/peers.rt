@@ -3,8 +3,9 @@
 //! A line begins with `first` or `second`, one of the programs, with what it does; with `files`, with what is seen of them; with `pane` and
 //! its number: `lives N` or `goes`, `gives TEXT` or `gives nothing`, `takes TEXT` or `takes nothing of TEXT`; with `told`, panes 1 and 2,
 //! each with its life, its first row and its rows or `none`, of which a program that follows them is told (pane 2 is in focus where it is
-//! there), and how many client starts edit and watch, where that is known. `files are removed` by the ports. `start asks` or `is quiet`: a
-//! datagram of the server's own start comes, or none.
+//! there), and how many client starts edit and watch, where that is known. `files are removed` by the ports. `start asks ACT, ACT` or `is
+//! quiet`: a datagram of the server's own start comes, with these acts, or none.
+use crate::acts::has;
 use crate::files::{first_untrue, is_so, ports_in};
 use crate::programs::Programs;
 use roam_pane_list::{ListedPane, PaneList};
@@ -118,12 +119,21 @@ fn is_told(alloc: Global, ports: &mut ServerPorts<&HostRuntime>, words: &str) ->
     }
 }
 
-// Whether a datagram of the server's own start is the first that comes.
-fn asks(ports: &mut ServerPorts<&HostRuntime>) -> bool {
+// Whether a datagram of the server's own start is the first that comes, with these acts.
+fn asks(alloc: Global, ports: &mut ServerPorts<&HostRuntime>, acts: &str) -> bool {
     let mut buf = [0u8; 2048];
     match ports.receive(&mut buf) {
-        Some((from, len)) => from.host == [0, 0, 0, 0] && from.port == 0 && len > 60,
+        Some((from, len)) => {
+            from.host == [0, 0, 0, 0] && from.port == 0 && has(alloc, &buf[..len], acts)
+        }
         None => false,
+    }
+}
+
+fn is_start(alloc: Global, ports: &mut ServerPorts<&HostRuntime>, words: &str) -> bool {
+    match words.strip_prefix("asks ") {
+        Some(acts) => asks(alloc, ports, acts),
+        None => words == "is quiet" && ports.receive(&mut [0u8; 2048]).is_none(),
     }
 }
 
@@ -152,7 +162,7 @@ fn is_done(
         "pane" => Ok(is_numbered(ports, words)),
         "told" => Ok(is_told(rt.alloc(), ports, words)),
         "files" => are_files(rt, ports, words),
-        "start" => Ok(asks(ports) == (words == "asks")),
+        "start" => Ok(is_start(rt.alloc(), ports, words)),
         _ => programs.does(rt, who, words),
     }
 }
@@ -211,7 +221,7 @@ fn first_wrong_of<'a>(rt: &HostRuntime, stories: &'a str) -> Result<Option<&'a s
 ///
 /// Programs follow and close. Two are told each what is new for it; a line that asks for no close, for one of a pane that is gone, or of
 /// the last pane; of two closes the second waits until a turn was taken with the first, and a pane that is still there then may be closed
-/// again.
+/// again. What a start asks for stands behind what wasn't acknowledged, and a start that was let go takes that with it.
 const STORIES: &str = "\
 refused -
 
@@ -315,7 +325,7 @@ second types close 2 1 1/close 1 1/close 2 1/
 first types close 2 1/
 start is quiet
 told 1 1 11, 1 13 11
-start asks
+start asks focus 2, close
 start is quiet
 told 1 1 23, none
 start is quiet
@@ -325,11 +335,11 @@ first leaves
 told 1 1 11, 2 13 11
 second types close 1 1/
 told 1 1 11, 2 13 11
-start asks
+start asks focus 2, close, focus 1, close, focus 2
 told 1 1 11, 2 13 11
 second types close 1 1/
 told 1 1 11, 2 13 11
-start asks";
+start asks focus 1, close, focus 2";
 
 #[test]
 fn what_becomes_of_sockets(rt: HostRuntime) -> Result<(), Fail> {

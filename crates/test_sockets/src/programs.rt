@@ -123,6 +123,14 @@ impl Programs {
         }
     }
 
+    /// Whether the first program writes this.
+    pub fn first_writes(&mut self, text: &str) -> bool {
+        match &mut self.first {
+            Some(program) => writes(program, text),
+            None => false,
+        }
+    }
+
     /// Whether the first program reads this byte alone.
     pub fn first_reads(&mut self, byte: u8) -> bool {
         let mut buf = [0u8; 16];
