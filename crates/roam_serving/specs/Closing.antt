@@ -8,6 +8,7 @@ use Rattle.roam_acts.specs.declared.acts.Act.TheVariants.{Focus, Close}
 use Rattle.roam_wire.specs.declared.versions.Version.TheVariants.{Two}
 use Rattle.roam_world.specs.Clients.{new_client}
 use Rattle.roam_hub.specs.Clients.{ClientView, Hears, Sends, Stands, TypesAll}
+use Rattle.roam_frames.specs.Frames.{IsFilled}
 use Rattle.roam_hub.specs.declared.addresses.Addr.{Addr}
 use Rattle.roam_hub.specs.declared.clients.Heard.{Heard}
 use Rattle.roam_pane_list.specs.Known.{pane_at}
@@ -23,6 +24,11 @@ closing_acts pane (Some after) = Focus pane ∷ Close ∷ Focus after ∷ []
 -- where the server's own start is
 abbrev pub own_address : Addr
 own_address = record { host = 0 ∷ 0 ∷ 0 ∷ 0 ∷ []; port = 0 }
+
+-- its datagram is given, as much of it as fits
+abbrev pub GivesOwn : List ℕ → List ℕ → Option (Addr × ℕ) → Type 0
+GivesOwn datagram buf None = ⊥
+GivesOwn datagram buf (Some came) = (came.0 ≡ own_address) × IsFilled datagram came.1 buf
 
 -- this making of a pane is there
 abbrev pub IsThere : PaneList → ℕ → ℕ → Type 0
@@ -59,4 +65,5 @@ abbrev pub HearsAnswer : Option ClientView → Closer → Closer → List ℕ �
 HearsAnswer None old new bytes now = new ≡ old
 HearsAnswer (Some client) old new bytes now =
     ((client.kept.acts.acts ≡ []) × (new ≡ old))
-    ⊎ ((heard : Result Heard Fault) × (after : ClientView) × Hears client bytes now heard after × (new ≡ record old { client = Some after }))
+    ⊎ ((heard : Result Heard Fault) × (after : ClientView) × Hears client bytes now heard after
+    × (new ≡ record old { client = Some after }))

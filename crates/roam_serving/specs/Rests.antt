@@ -5,7 +5,8 @@ use Rattle.roam_world.specs.Servers.{Server, moment}
 use Rattle.roam_hub.specs.Servers.{ServerView, Stands, is_server_due}
 use Rattle.roam_hub.specs.Waits.{IsQuiet, has_come}
 use Rattle.roam_pane_list.specs.declared.pane_list.PaneList.{PaneList}
-use Rattle.roam_sockets.specs.Lanes.{is_any_waiting}
+use Rattle.roam_hub.specs.declared.addresses.Addr.{Addr}
+use Rattle.roam_sockets.specs.Lanes.{SendsTo, is_any_waiting}
 use Rattle.roam_sockets.specs.Waits.{wait_for}
 use Rattle.roam_sockets.specs.declared.udp.Udp.{Udp}
 use Rattle.roam_serving.specs.Following.{AreAllTold, ArePanesOf}
@@ -15,6 +16,12 @@ use Rattle.roam_serving.specs.declared.following.Follower.{Follower}
 abbrev pub is_paced : Option Udp → Bool
 is_paced None = false
 is_paced (Some udp) = is_any_waiting udp.paced.lanes.items
+
+-- a datagram was sent by UDP, at a pace, where there is a port for it
+abbrev pub SendsBy : ℕ → Addr → Option Udp → Option Udp → List ℕ → Bool → Type 0
+SendsBy now to None new datagram result = (new ≡ None) × (result ≡ false)
+SendsBy now to (Some old) None datagram result = ⊥
+SendsBy now to (Some old) (Some new) datagram result = SendsTo now to old.paced.lanes.items new.paced.lanes.items datagram result None None
 
 -- those that followed before and those that came were told the panes of a server
 pub record HasTold (contents : UnixStream → Option (List ℕ)) (server : ServerView) (followers : List (Follower UnixStream)) : Type 0 where

@@ -142,6 +142,7 @@ impl Closer {
     pub(crate) fn receive(&mut self, buf: &mut [u8]) -> Option<usize>
         ensures within { IfSome result (λ n. n ≤ length buf.new) }
         ensures none { result ≡ None → self.old.datagram ≡ None }
+        ensures some { self.old.datagram ≡ None → result ≡ None }
         ensures given { IfSome result (λ n. IfSome self.old.datagram (λ datagram. IsFilled datagram.items n buf.new)) }
         ensures once { self.new ≡ record self.old { datagram = None } }
     {

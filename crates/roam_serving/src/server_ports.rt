@@ -2,13 +2,14 @@
 ghost use Rattle.std.specs.Prelude.{◌≡◌, ◌≢◌, ◌⊎◌, ◌<◌, ◌≤◌, [], ℕ, true, false, not, length, map, string_bytes, is_some, nat_lt, None, IfOk, IfSome, IfErr};
 ghost use Rattle.std.specs.List.{All};
 ghost use Rattle.std.specs.Option.{option_map};
-ghost use Rattle.roam_sockets.specs.Clients.{Accepts};
+ghost use Rattle.roam_sockets.specs.Addresses.{number_of};
+ghost use Rattle.roam_sockets.specs.Clients.{Accepts, IsOf, IsQueuedFor};
 ghost use Rattle.roam_sockets.specs.declared.udp.Udp.{Udp as UdpOf};
 ghost use Rattle.roam_sockets.specs.Waits.{wait_for};
 ghost use Rattle.roam_serving.specs.Asking.{IsAsked, Settles};
-ghost use Rattle.roam_serving.specs.Closing.{HearsAnswer, own_address};
+ghost use Rattle.roam_serving.specs.Closing.{GivesOwn, HearsAnswer, own_address};
 ghost use Rattle.roam_serving.specs.Following.{AreAllTold, HaveCome, most_followers, panes_path};
-ghost use Rattle.roam_serving.specs.Rests.{is_paced};
+ghost use Rattle.roam_serving.specs.Rests.{SendsBy, is_paced};
 ghost use Rattle.roam_serving.specs.declared.closing.Closer.{Closer as CloserOf};
 ghost use Rattle.roam_serving.specs.Panes.{IsPortOf, clients_path, paths_of};
 ghost use Rattle.roam_serving.specs.Peers.{Asks, Changes, Lives};
@@ -103,7 +104,9 @@ fn bind_udp(
 }
 
 // Sends a datagram by UDP, where there is a port for it.
-fn send_udp(udp: &mut Option<Udp>, to: Addr, bytes: &[u8], now: u64) -> bool {
+fn send_udp(udp: &mut Option<Udp>, to: Addr, bytes: &[u8], now: u64) -> bool
+    ensures sends { SendsBy now to udp.old udp.new bytes.now result }
+{
     match udp {
         None => false,
         Some(udp) => udp.send(to, bytes, now),
@@ -128,6 +131,7 @@ fn next_arrival(
     buf: &mut [u8],
 ) -> Option<(Addr, usize)>
     ensures within { IfSome result (λ r. r.1 ≤ length buf.new) }
+    ensures from { IfSome result (λ r. IsOf clients.old r.0 ⊎ (number_of r.0 ≡ None)) }
     ensures turn { is_udp_next.new ≡ not is_udp_next.old }
 {
     match udp {
@@ -287,6 +291,9 @@ impl<R: Clock + Drop> Ports for ServerPorts<R> {
     // That of the server's own start comes first; then streams and the port bring one each in their turn.
     fn receive(&mut self, buf: &mut [u8]) -> Option<(Addr, usize)>
         ensures within { IfSome result (λ r. r.1 ≤ length buf.new) }
+        ensures own { IfSome self.old.closer.datagram (λ datagram. GivesOwn datagram.items buf.new result) }
+        ensures others { self.old.closer.datagram ≡ None → IfSome result (λ r. IsOf self.old.clients r.0 ⊎ (number_of r.0 ≡ None)) }
+        ensures closer { self.new.closer ≡ record self.old.closer { datagram = None } }
         ensures stirs { IfSome result (λ _. self.new.waits.quiet ≡ false) }
         ensures panes { self.new.panes ≡ self.old.panes }
     {
@@ -302,6 +309,9 @@ impl<R: Clock + Drop> Ports for ServerPorts<R> {
     fn send(&mut self, to: Addr, bytes: &[u8]) -> bool
         ensures own { to ≡ own_address → HearsAnswer self.old.closer.client self.old.closer self.new.closer bytes.now self.old.moment }
         ensures others { to ≢ own_address → self.new.closer ≡ self.old.closer }
+        ensures near { to ≢ own_address → result ≡ true → IfSome (number_of to) (λ _.
+            IsQueuedFor self.old.clients.all.items self.new.clients.all.items (number_of to) bytes.now) }
+        ensures far { number_of to ≡ None → SendsBy self.old.moment to self.old.udp self.new.udp bytes.now result }
     {
         if to == OWN {
             self.closer.hear(self.alloc, bytes, self.moment);

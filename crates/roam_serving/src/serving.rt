@@ -77,8 +77,8 @@ fn panes_of(server: &Server) -> PaneList
     panes
 }
 
-// After a turn tells who follows the panes, and waits where it brought nothing: until something is due where the turns go on for good, else a
-// short while, so that they end by themselves.
+// After a turn tells who follows the panes, and waits where it brought nothing: until something is due where the turns go on for good,
+// else a short while, so that they end by themselves.
 fn tell_and_rest<C: Clock + Drop>(turns: u64, server: &Server, ports: &mut ServerPorts<C>)
     ensures told { HasTold ⟦<UnixStream as Stream>⟧.contents server.now ports.new.followers.all.items }
     ensures rested { HasRested turns server.now ports.new.moment ports.new.udp ports.new.waits.longest }

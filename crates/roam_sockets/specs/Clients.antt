@@ -10,6 +10,10 @@ use Rattle.roam_sockets.specs.Addresses.{address_of}
 use Rattle.roam_sockets.specs.declared.clients.ClientPeer.{ClientPeer}
 use Rattle.roam_sockets.specs.declared.clients.Clients.{Clients}
 
+-- how many may be there at once
+abbrev pub most_peers : ℕ
+most_peers = 96
+
 -- the numbers of those that are there
 abbrev pub numbers_of : {S : Type 0} → List (ClientPeer S) → List ℕ
 numbers_of peers = map (λ peer. peer.number) peers

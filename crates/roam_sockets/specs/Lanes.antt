@@ -114,8 +114,8 @@ AreReady to olds lanes =
     (lanes ≡ olds) ⊎ (All (λ (lane : Lane). lane.to ≢ to) olds × ((lane : Lane) × IsFresh to lane × (lanes ≡ olds ++ lane ∷ [])))
 
 -- A datagram was taken by a lane of its address, and no other lane changed.
-pub record TakesAt (now : ℕ) (to : Addr) (olds news : List Lane) (datagram : List ℕ) (is_queued : Bool) (before after : Option (List Handed)) :
-    Type 0 where
+pub record TakesAt (now : ℕ) (to : Addr) (olds news : List Lane) (datagram : List ℕ) (is_queued : Bool)
+    (before after : Option (List Handed)) : Type 0 where
   pub lanes : List Lane
   pub ready : AreReady to olds lanes
   pub at : ℕ

@@ -1,5 +1,6 @@
 //! What comes from two, each of which is asked first in its turn, so that neither keeps the other waiting.
-ghost use Rattle.std.specs.Prelude.{◌≡◌, ◌≤◌, List, Option, None, IfSome, length, not, true, false};
+ghost use Rattle.std.specs.Prelude.{◌≡◌, ◌⊎◌, ◌≤◌, List, Option, None, IfSome, length, not, true, false};
+ghost use Rattle.roam_hub.specs.declared.addresses.Addr.{Addr as AddrOf};
 ghost use Rattle.roam_sockets.specs.Arrivals.{Arrived, Gives, GivesFirst};
 
 use roam_hub::Addr;
@@ -9,9 +10,13 @@ pub trait Arrivals {
     // Those that came and weren't given yet, in order, where that is known.
     ghost arrived: { Self → Option (List Arrived) } = { λ _. None };
 
+    // Where they may come from.
+    ghost comes_from: { Self → AddrOf → Type 0 } = { λ _ _. Unit {0} };
+
     /// The next that came: from where, and how many bytes of `buf` it fills from the front.
     fn next_arrival(&mut self, buf: &mut [u8]) -> Option<(Addr, usize)>
         ensures within { IfSome result (λ r. r.1 ≤ length buf.new) }
+        ensures from { IfSome result (λ r. comes_from self.old r.0) }
         ensures gives { Gives (arrived self.old) (arrived self.new) buf.new result };
 }
 
@@ -22,6 +27,7 @@ fn next_of<A: Arrivals, B: Arrivals>(
     buf: &mut [u8],
 ) -> Option<(Addr, usize)>
     ensures within { IfSome result (λ r. r.1 ≤ length buf.new) }
+    ensures from { IfSome result (λ r. A.comes_from one.old r.0 ⊎ B.comes_from other.old r.0) }
     ensures gives { GivesFirst (A.arrived one.old) (A.arrived one.new) (B.arrived other.old) (B.arrived other.new) buf.new result }
 {
     if let Some(came) = one.next_arrival(buf) {
@@ -38,6 +44,7 @@ pub fn next_by_turns<A: Arrivals, B: Arrivals>(
     buf: &mut [u8],
 ) -> Option<(Addr, usize)>
     ensures within { IfSome result (λ r. r.1 ≤ length buf.new) }
+    ensures from { IfSome result (λ r. A.comes_from one.old r.0 ⊎ B.comes_from other.old r.0) }
     ensures turn { is_other_first.new ≡ not is_other_first.old }
     ensures one_first { is_other_first.old ≡ false
         → GivesFirst (A.arrived one.old) (A.arrived one.new) (B.arrived other.old) (B.arrived other.new) buf.new result }

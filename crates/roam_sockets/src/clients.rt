@@ -2,7 +2,7 @@
 ghost use Rattle.std.specs.Prelude.{◌≡◌, ◌≢◌, ◌⊎◌, ◌++◌, ◌+◌, ◌<◌, ◌≤◌, ◌^◌, ℕ, [], ◌∷◌, length, slice_get, true, None, IfErr, IfOk, IfSome, OnErr, OnOk, IsOkUnless, string_bytes};
 ghost use Rattle.std.specs.List.{AllZip, Contains};
 ghost use Rattle.roam_sockets.specs.Addresses.{address_of, number_of};
-ghost use Rattle.roam_sockets.specs.Clients.{Accepts, AcceptsOne, HasNoneAt, IsDone, IsFlushed, IsInTurn, IsNext, IsOf, IsPlaceOf, IsQueuedAt, IsQueuedFor, KeepsOpen, Stays, numbers_of, place_behind};
+ghost use Rattle.roam_sockets.specs.Clients.{Accepts, AcceptsOne, HasNoneAt, IsDone, IsFlushed, IsInTurn, IsNext, IsOf, IsPlaceOf, IsQueuedAt, IsQueuedFor, KeepsOpen, Stays, most_peers, numbers_of, place_behind};
 
 use crate::arrivals::Arrivals;
 use crate::files::listen;
@@ -150,6 +150,8 @@ fn place_of(all: &[ClientPeer<UnixStream>], number: u64) -> Option<usize>
 }
 
 impl Arrivals for Clients {
+    ghost comes_from = { λ clients from. IsOf clients from };
+
     fn next_arrival(&mut self, buf: &mut [u8]) -> Option<(Addr, usize)>
         ensures within { IfSome result (λ r. r.1 ≤ length buf.new) }
         ensures from { IfSome result (λ r. IsOf self.old r.0) }
@@ -190,7 +192,8 @@ impl Clients {
         requires numbers { self.old.last < 2 ^ 40 }
         ensures added { OnOk result ((self.new.last ≡ self.old.last + 1)
             × (numbers_of self.new.all.items ≡ numbers_of self.old.all.items ++ (self.old.last + 1) ∷ [])) }
-        ensures err { OnErr result (Stays self.old self.new) }
+        ensures more { OnOk result (length self.new.all.items ≡ length self.old.all.items + 1) }
+        ensures err { OnErr result (Stays self.old self.new × (length self.new.all.items ≡ length self.old.all.items)) }
         ensures fault { IsOkUnless result Fault.OutOfMemory }
     {
         let number = self.last + 1;
@@ -203,6 +206,7 @@ impl Clients {
     // Takes one that came; where 96 are there, or 2^40 numbers were given, or memory is wanting, it is closed.
     fn take(&mut self, alloc: Global, waits: &Waits, mut stream: UnixStream)
         ensures one { AcceptsOne self.old self.new }
+        ensures few { length self.old.all.items ≤ most_peers → length self.new.all.items ≤ most_peers }
     {
         if self.all.len() >= MOST_PEERS || self.last >= NUMBERS_END - 1 {
             return;
@@ -215,6 +219,7 @@ impl Clients {
     /// Takes those that wait at the socket; where 96 are there, or 2^40 numbers were given, or memory is wanting, they are closed.
     pub fn accept(&mut self, alloc: Global, waits: &Waits)
         ensures accepts { Accepts self.old self.new }
+        ensures few { length self.old.all.items ≤ most_peers → length self.new.all.items ≤ most_peers }
     {
         for _ in 0..MOST_PEERS {
             let Ok((stream, _)) = self.listener.accept() else {

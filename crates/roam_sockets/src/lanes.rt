@@ -171,7 +171,8 @@ impl<D: DatagramSocket> Paced<D> {
     /// Sends what waits, as much as may go at this moment, and tells whether that was all. An address to which nothing waits, and nothing
     /// went at this moment, is forgotten.
     pub(crate) fn flush(&mut self, now: u64) -> bool
-        ensures flushes { Flushes now self.old.lanes.items self.new.lanes.items (D.handed self.old.socket) (D.handed self.new.socket) result }
+        ensures flushes { Flushes now self.old.lanes.items self.new.lanes.items
+            (D.handed self.old.socket) (D.handed self.new.socket) result }
         ensures all { result ≡ not (is_any_waiting self.new.lanes.items) }
     {
         let are_all = send_each(&mut self.lanes, &mut self.socket, now);

@@ -45,6 +45,8 @@ impl DatagramSocket for UdpSocket {
 }
 
 impl Arrivals for Udp {
+    ghost comes_from = { λ _ from. number_of from ≡ None };
+
     fn next_arrival(&mut self, buf: &mut [u8]) -> Option<(Addr, usize)>
         ensures within { IfSome result (λ r. r.1 ≤ length buf.new) }
         ensures far { IfSome result (λ r. number_of r.0 ≡ None) }

@@ -2,7 +2,10 @@ use Rattle.roam_sockets.proofs.Counting.{accepts_none, accepts_one}
 use Rattle.roam_sockets.proofs.clients.Clients.accept.Goals as goal
 
 pub loop-init : goal.loop-init
-loop-init c = accepts_none c.args.self.now
+loop-init c = record { accepts = accepts_none c.args.self.now; few = λ h. h }
 
 pub loop-preserved : goal.loop-preserved
-loop-preserved c = accepts_one _ _ _ c.loop.invariant c.take.ensures.one
+loop-preserved c = record {
+  accepts = accepts_one _ _ _ c.loop.invariant.accepts c.take.ensures.one;
+  few = λ h. c.take.ensures.few (c.loop.invariant.few h);
+}
