@@ -1,7 +1,7 @@
 """Sealed packets: what two ends that share a key send each other by UDP, so that nobody else can read, make, change or repeat it.
 
-A packet begins with its counter, 8 bytes, whose highest bit tells the way; the rest is sealed by ChaCha20 and Poly1305 under the key and that
-counter. A counter is used once: who makes a key gives it to one other process, and neither of the two is ever copied.
+A packet begins with its counter, 8 bytes, whose highest bit tells the way; the rest is sealed by ChaCha20 and Poly1305 under the key and
+that counter. A counter is used once: who makes a key gives it to one other process, and neither of the two is ever copied.
 """
 from __future__ import annotations
 

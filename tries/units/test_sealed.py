@@ -62,7 +62,8 @@ class Seals(Case):
         """An end takes nothing that goes its own way, too short or too long, or has no counter."""
         packet = self.near.sealed(b"text")
         self.assertEqual(self.near.counter_of(packet), 0)
-        for wrong in (b"", packet[:23], packet + bytes(LONGEST_PACKET), bytes(8) + packet[8:], MOST_PACKETS.to_bytes(8, "big") + packet[8:]):
+        counters = (0).to_bytes(8, "big"), MOST_PACKETS.to_bytes(8, "big")
+        for wrong in (b"", packet[:23], packet + bytes(LONGEST_PACKET), *(counter + packet[8:] for counter in counters)):
             self.assertEqual(self.far.counter_of(wrong), 0, wrong)
 
     def test_forged(self):
