@@ -4,7 +4,7 @@ import pathlib
 from unittest import mock
 
 from aids import Case, loaded
-from roam_live import captures, choices, client, far, sending, sessions
+from roam_live import captures, choices, client, remote, sending, sessions
 from roam_live.program import Fault
 from roam_live.relayed import greeting
 from roam_live.sessions import NearSession, Session
@@ -19,7 +19,7 @@ class Mux(Case):
     def setUp(self):
         self.base = self.made_folder() / "roam"
         self.base.mkdir(mode=0o700)
-        for module in (sessions, far):
+        for module in (sessions, remote):
             self.patch_of(module, "base", lambda: self.base)
         self.environment(ROAM_PREFIX=None, ROAM_GUESS=None, ROAM_PANE=None, SHELL="/bin/sh")
         self.said, self.text = self.heard(), self.printed()
@@ -207,7 +207,7 @@ class Far(Mux):
         session = self.follows.call_args[0][0]
         self.assertEqual(session.folder.name.rpartition(":")[0], "ssh:me@there:work")
         self.assertEqual(self.done, [("kill", "work"), ("demand_terminals", "work")])
-        with mock.patch.object(far, "is_first_start", side_effect=[True, False]):
+        with mock.patch.object(remote, "is_first_start", side_effect=[True, False]):
             self.assertEqual([self.follows.call_args[0][4]() for _ in range(2)], [True, False])
         starts.return_value = 255
         self.assertEqual(self.mux("ssh", "--guess", "never", "there"), 255)
@@ -225,27 +225,27 @@ class Far(Mux):
             ("-p", "", "-p"), ("--ssh", "--ssh", ""), ("-o A=b -J jump me@there w", "me@there w", "-o A=b -J jump"),
             ("--ssh=x there", "--ssh=x there", ""), ("", "", ""), ("-tt -L1:b:2 there", "there", "-tt -L1:b:2"),
         ):
-            self.assertEqual(far.parted_options(words.split()), (own.split(), options.split()), words)
+            self.assertEqual(remote.parted_options(words.split()), (own.split(), options.split()), words)
 
     def test_pairs(self):
         """The letters that have a word behind them are those of ssh(1)."""
-        self.assertEqual(sorted(far.SSH_PAIRS), sorted("BbcDEeFIiJLlmOopQRSWw" + "P"))
+        self.assertEqual(sorted(remote.SSH_PAIRS), sorted("BbcDEeFIiJLlmOopQRSWw" + "P"))
 
     def test_near(self):
         """One folder a host, a session and a way to get there; a host's odd letters don't leave the folder."""
         asked = argparse.Namespace(ssh="ssh", far="roam-mux", options=[], host="there", name="main")
-        names = [far.near_session(asked, far.command_of(asked)).folder.name]
+        names = [remote.near_session(asked, remote.command_of(asked)).folder.name]
         asked.options = ["-p", "22"]
-        names.append(far.near_session(asked, far.command_of(asked)).folder.name)
+        names.append(remote.near_session(asked, remote.command_of(asked)).folder.name)
         asked.options, asked.ssh = [], "ssh -p 23"
-        self.assertEqual(far.command_of(asked), ["ssh", "-p", "23", "there", "roam-mux far main"])
-        names.append(far.near_session(asked, far.command_of(asked)).folder.name)
+        self.assertEqual(remote.command_of(asked), ["ssh", "-p", "23", "there", "roam-mux far main"])
+        names.append(remote.near_session(asked, remote.command_of(asked)).folder.name)
         self.assertEqual((names[0], len(set(names))), ("ssh:there:main", 3))
         for name in names[1:]:
             self.assertRegex(name, "^ssh:there:main:[0-9a-f]{8}$")
         asked.host = "../a b"
-        self.assertTrue(far.near_session(asked, ["x"]).folder.name.startswith("ssh:.._a_b:main:"))
-        self.assertEqual(far.near_session(asked, ["x"]).name, "main")
+        self.assertTrue(remote.near_session(asked, ["x"]).folder.name.startswith("ssh:.._a_b:main:"))
+        self.assertEqual(remote.near_session(asked, ["x"]).name, "main")
 
     def test_first_start(self):
         """A session is new here where its server has had one start at most, as far as is known."""
@@ -254,18 +254,18 @@ class Far(Mux):
         for text, is_first in ((None, False), ("1 1 1 2 3\nstarts 1\nfocus 1\n", True), ("1 1 1 2 3\nstarts 2\nfocus 1\n", False)):
             if text:
                 (self.base / "main/rects").write_text(text, encoding="utf-8")
-            self.assertEqual(far.is_first_start(session), is_first)
+            self.assertEqual(remote.is_first_start(session), is_first)
 
     def test_carry(self):
         """What `mux ssh` runs there starts the session where the other end knows none, and becomes a relay."""
-        becomes, writes = self.patch_of(far.os, "execv"), self.patch_of(far.os, "write")
-        greets = self.patch_of(far, "read_greeting", return_value="-")
+        becomes, writes = self.patch_of(remote.os, "execv"), self.patch_of(remote.os, "write")
+        greets = self.patch_of(remote, "read_greeting", return_value="-")
         self.refuses("standard input is a terminal; `mux ssh` on another machine starts this end", "far", "main")
         self.is_terminal = False
         self.patch_of(Session, "process", return_value=17)
         self.mux("far", "main")
         self.assertEqual(self.done, [("kill", "main"), ("start", "main")])
-        words = [str(far.TOOLS / "relay"), "--far", "--greeted", "--server", "17", "--dir", str(self.base / "main"), "-"]
+        words = [str(remote.TOOLS / "relay"), "--far", "--greeted", "--server", "17", "--dir", str(self.base / "main"), "-"]
         becomes.assert_called_once_with(words[0], words)
         self.assertEqual(greets.call_args[0], (0,))
         self.done.clear()
@@ -276,8 +276,8 @@ class Far(Mux):
 
     def test_carry_known(self):
         """One that the other end knew and that has ended isn't started anew."""
-        becomes, writes = self.patch_of(far.os, "execv"), self.patch_of(far.os, "write")
-        self.patch_of(far, "read_greeting", return_value="5e55")
+        becomes, writes = self.patch_of(remote.os, "execv"), self.patch_of(remote.os, "write")
+        self.patch_of(remote, "read_greeting", return_value="5e55")
         self.is_terminal = False
         (self.base / "main").mkdir()
         for runs, name in ((False, "5e55"), (True, "another")):

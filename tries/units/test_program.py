@@ -5,12 +5,11 @@ import signal
 import socket
 from unittest import mock
 
-from aids import Case, loaded, read_now
-from roam_live import carriers, choices, following, lasting, links, logs, program, programs, relayed, sessions, watches, words
+from aids import Case, read_now
+from roam_live import (carriers, choices, ends, far, following, lasting, links, logs, near, program, programs, relayed, sessions, watches,
+                       words)
 from roam_live.moments import Moments
 from roam_live.program import Fault, Home
-
-RELAY = loaded("relay")
 
 
 class Programs(Case):
@@ -438,7 +437,7 @@ class Numbers(Case):
     def test_relay(self):
         """A relay is alone for an hour, its far end half a minute; seven seconds are silence; `ls` tells of more than 32 starts."""
         self.assertEqual((sessions.ALONE, sessions.MANY_STARTS), (3600, 32))
-        self.assertEqual((RELAY.SILENT, RELAY.ALONE, RELAY.PEER_LIMIT, relayed.HEARTBEAT), (7.0, 30.0, 256, 3.0))
+        self.assertEqual((near.SILENT, far.ALONE, ends.PEER_LIMIT, relayed.HEARTBEAT), (7.0, 30.0, 256, 3.0))
         self.assertEqual((relayed.VERSION, relayed.NOISE_LIMIT, relayed.PLACES_LIMIT, relayed.WAITING_LIMIT), (2, 65536, 4096, 4 << 20))
 
     def test_wide(self):

@@ -7,6 +7,7 @@ import zlib
 from unittest import mock
 
 from aids import Case, closed, loaded, read_now
+from roam_live import ends, far, near
 from roam_live.carriers import LONGEST, SHORTEST
 from roam_live.program import Fault
 from test_relayed import HOSTILE, ODD
@@ -95,22 +96,22 @@ class Nears(Ends):
     def setUp(self):
         super().setUp()
         self.links = []
-        self.made = self.patch_of(relay, "Link", side_effect=self.new_link)
+        self.made = self.patch_of(near, "RunningCommand", side_effect=self.new_link)
         self.printed_text = self.printed()
         self.said = self.heard()
         self.near = self.near_end()
 
     def near_end(self, **more):
         """A near end."""
-        near = relay.Near(self.asked(**more), self.wakeup)
-        self.addCleanup(lambda: near.is_closed or self.close(near))
-        near.is_closed = False
-        return near
+        one = near.Near(self.asked(**more), self.wakeup)
+        self.addCleanup(lambda: one.is_closed or self.close(one))
+        one.is_closed = False
+        return one
 
-    def close(self, near):
+    def close(self, one):
         """Ends it."""
-        near.is_closed = True
-        near.close()
+        one.is_closed = True
+        one.close()
 
     def new_link(self, command, session, may_ask):
         """A command that is started."""
@@ -193,7 +194,7 @@ class Nears(Ends):
             with self.subTest(noted):
                 self.answer()
                 self.links[-1].say(packed((0, text)))
-                with self.assertRaises(relay.Ended) as way:
+                with self.assertRaises(ends.Ended) as way:
                     self.turn()
                 self.assertEqual(way.exception.args, (0,))
                 self.close(self.near)
@@ -295,7 +296,7 @@ class Nears(Ends):
         self.now += 30
         self.turn()
         self.links[-1].say(greeting("def"))
-        with self.assertRaises(relay.Ended) as way:
+        with self.assertRaises(ends.Ended) as way:
             self.turn()
         self.assertEqual((way.exception.args, self.near.is_over), ((0,), True))
 
@@ -347,7 +348,7 @@ class Nears(Ends):
         self.assertTrue(self.links[1].has_ended)
         self.assertLessEqual(len(self.near.tries), 5)
         self.assertEqual(self.said.getvalue().count("the other end has ended"), 1)
-        self.assertEqual((relay.PATIENCE, relay.SILENT, relay.PAUSES), (20.0, 7.0, (0.2, 1, 2, 5)))
+        self.assertEqual((near.PATIENCE, near.SILENT, near.PAUSES), (20.0, 7.0, (0.2, 1, 2, 5)))
 
     def test_patience(self):
         """The first, which may be waiting for a person's answer, is given as long as it takes."""
@@ -404,7 +405,7 @@ class Nears(Ends):
     def test_alone(self):
         """With --alone it ends when no client was noted for so many seconds; it looks each five."""
         self.near.asked.alone = 60.0
-        counts = self.patch_of(relay, "count_clients", return_value=1)
+        counts = self.patch_of(near, "count_clients", return_value=1)
         self.now += 4.9
         self.near.look()
         counts.assert_not_called()
@@ -417,7 +418,7 @@ class Nears(Ends):
             self.now += 5
             self.near.look()
         self.now += 5
-        with self.assertRaises(relay.Ended) as way:
+        with self.assertRaises(ends.Ended) as way:
             self.near.look()
         self.assertEqual(way.exception.args, (0,))
 
@@ -426,20 +427,20 @@ class Nears(Ends):
         process = self.process("true")
         process.wait()
         reader, writer = self.pipe()
-        self.patch_of(relay, "opened_process", side_effect=[reader])
+        self.patch_of(near, "opened_process", side_effect=[reader])
         self.close(self.near)
         self.near = self.near_end(owner=process.pid)
         self.turn()
         os.close(writer)
-        with self.assertRaises(relay.Ended) as way:
+        with self.assertRaises(ends.Ended) as way:
             self.turn()
         self.assertEqual(way.exception.args, (0,))
         self.near.owner = None
         os.write(self.wakes, bytes([signal.SIGCHLD, signal.SIGTERM]))
-        with self.assertRaises(relay.Ended) as way:
+        with self.assertRaises(ends.Ended) as way:
             self.turn()
         self.assertEqual(way.exception.args, (143,))
-        relay.end_for(self.wakeup, [self.wakeup])
+        ends.end_for(self.wakeup, [self.wakeup])
 
     def test_clients(self):
         """256 clients are taken; another waits, and so does one for whom no descriptor is left, a second long."""
@@ -491,9 +492,9 @@ class Nears(Ends):
         log = self.folder / "log"
         dup = self.patch("os.dup2")
         self.near.asked.log = str(log)
-        self.patch_of(relay, "logs", [])
+        self.patch_of(near, "logs", [])
         self.answer()
-        self.assertEqual((dup.call_args[0][1], relay.logs, log.exists()), (2, [log], True))
+        self.assertEqual((dup.call_args[0][1], near.logs, log.exists()), (2, [log], True))
 
     def test_port(self):
         """A port of loopback is another way in: each address has a number of its own."""
@@ -502,7 +503,7 @@ class Nears(Ends):
         port = self.near.port.getsockname()[1]
         self.answer()
         self.assertEqual(self.printed_text.getvalue(), f"port {port} session abc\n")
-        one = relay.loopback_socket()
+        one = ends.loopback_socket()
         self.addCleanup(one.close)
         one.sendto(datagram(1), ("127.0.0.1", port))
         one.sendto(b"no datagram", ("127.0.0.1", port))
@@ -512,8 +513,8 @@ class Nears(Ends):
         self.turn(2)
         self.assertEqual(one.recv(2000), datagram(2))
         with self.assertRaisesRegex(Fault, f"^port {port}: Address already in use$"):
-            relay.bound_port(port)
-        self.assertIsNone(relay.bound_port(None))
+            near.bound_port(port)
+        self.assertIsNone(near.bound_port(None))
 
 
 class Numbers(Ends):
@@ -522,7 +523,7 @@ class Numbers(Ends):
     def test_numbers(self):
         """A number isn't given again before all others were, and 256 are known at once."""
         gone = []
-        peers = relay.Peers(gone.append)
+        peers = near.Peers(gone.append)
         self.assertEqual([peers.number(name) for name in "abab"], [1, 2, 1, 2])
         peers.drop(1)
         self.assertEqual((peers.number("a"), gone), (3, [1]))
@@ -533,7 +534,7 @@ class Numbers(Ends):
     def test_many(self):
         """The longest silent of too many is forgotten, and who said nothing for three minutes."""
         gone = []
-        peers = relay.Peers(gone.append)
+        peers = near.Peers(gone.append)
         peers.numbers = {number: number + 1 for number in range(256)}
         peers.addresses = {number + 1: number for number in range(256)}
         peers.moments = {number + 1: 101.0 + number for number in range(256)}
@@ -559,18 +560,18 @@ class Fars(Ends):
         self.listener = self.listening(self.folder / "clients")
         (self.source, self.said_end), (heard, self.target) = self.pipe(), self.pipe()
         self.other = Other(heard)
-        self.patch_of(relay, "Stream", side_effect=lambda _, __, session: Stream(self.source, self.target, session))
-        self.patch_of(relay.os, "set_blocking")
-        self.select = relay.select.select
-        self.patch_of(relay.select, "select", side_effect=self.waits)
+        self.patch_of(far, "Stream", side_effect=lambda _, __, session: Stream(self.source, self.target, session))
+        self.patch_of(far.os, "set_blocking")
+        self.select = far.select.select
+        self.patch_of(far.select, "select", side_effect=self.waits)
         self.far = self.far_end()
         self.said = self.heard()
 
     def far_end(self, **more):
         """A far end."""
-        far = relay.Far(self.asked(far=True, command=[], **more), self.wakeup)
-        self.addCleanup(far.close)
-        return far
+        one = far.Far(self.asked(far=True, command=[], **more), self.wakeup)
+        self.addCleanup(one.close)
+        return one
 
     def waits(self, sources, targets, _, seconds):
         """Standard input and output are the pipes here, and nothing waits."""
@@ -590,9 +591,9 @@ class Fars(Ends):
         """It greets with the session, where that is known, else with none."""
         self.far.turn()
         self.assertEqual(read_now(self.other.end), b"roam-relay 2 -\n")
-        far = self.far_end(session="5e55")
-        self.assertEqual(far.stream.going, b"roam-relay 2 5e55\n")
-        self.assertEqual((far.stream.session, self.far_end(greeted=True).stream.session), (None, "-"))
+        one = self.far_end(session="5e55")
+        self.assertEqual(one.stream.going, b"roam-relay 2 5e55\n")
+        self.assertEqual((one.stream.session, self.far_end(greeted=True).stream.session), (None, "-"))
 
     def test_carries(self):
         """Each client has a stream of its own to the server."""
@@ -670,14 +671,14 @@ class Fars(Ends):
     def test_left(self):
         """The other end's end is its own, with status 0; so is one that takes nothing more, and a signal."""
         os.close(self.said_end)
-        with self.assertRaises(relay.Ended) as way:
+        with self.assertRaises(ends.Ended) as way:
             self.far.turn()
         self.assertEqual(way.exception.args, (0,))
         os.write(self.wakes, bytes([signal.SIGHUP]))
-        with self.assertRaises(relay.Ended) as way:
+        with self.assertRaises(ends.Ended) as way:
             self.far.turn()
         self.assertEqual(way.exception.args, (129,))
-        with mock.patch.object(self.far.stream, "flush", return_value=False), self.assertRaises(relay.Ended):
+        with mock.patch.object(self.far.stream, "flush", return_value=False), self.assertRaises(ends.Ended):
             self.far.stream.going += b"x"
             self.far.turn()
 
@@ -687,14 +688,14 @@ class Fars(Ends):
             reader, writer = self.pipe()
             self.far.server, self.far.place = reader, mock.Mock(ending=mock.Mock(return_value=("", status)))
             os.close(writer)
-            with self.assertRaises(relay.Ended) as way:
+            with self.assertRaises(ends.Ended) as way:
                 self.far.turn()
             self.assertEqual((way.exception.args, self.other.frames()[-1]), ((0,), (0, told)))
 
     def test_shells(self):
         """Where it knows the server it sees the end of what keeps the shells."""
-        self.patch_of(relay, "opened_process", return_value=self.pipe()[0])
-        watch = self.patch_of(relay, "ShellsWatch").return_value
+        self.patch_of(far, "opened_process", return_value=self.pipe()[0])
+        watch = self.patch_of(far, "ShellsWatch").return_value
         watch.sources.return_value, watch.due = [], 100.5
         self.far = self.far_end(server=os.getpid())
         self.assertEqual(self.far.place.folder, self.folder)
@@ -704,7 +705,7 @@ class Fars(Ends):
 
     def test_port(self):
         """A server that has a port is reached there."""
-        server = relay.loopback_socket()
+        server = ends.loopback_socket()
         self.addCleanup(server.close)
         server.bind(("127.0.0.1", 0))
         self.far.asked.port = server.getsockname()[1]
@@ -885,8 +886,8 @@ class Commands(Case):
     def test_runs(self):
         """Its standard error is passed on as printable lines, and its end has a status."""
         said = self.patch("os.write")
-        reads = self.patch_of(relay, "read", side_effect=[b"no \x1b[c\n", b""])
-        link = relay.Link(["sh", "-c", "exec cat"], "-", False)
+        reads = self.patch_of(near, "read", side_effect=[b"no \x1b[c\n", b""])
+        link = near.RunningCommand(["sh", "-c", "exec cat"], "-", False)
         self.addCleanup(link.process.wait)
         self.assertEqual(os.getsid(link.process.pid), link.process.pid)
         for end in (link.process.stdin, link.process.stdout, link.process.stderr):
@@ -901,10 +902,10 @@ class Commands(Case):
 
     def test_sayings(self):
         """What a command says is little and printable, and the logs that are known have room for it."""
-        link = relay.Link(["sleep", "60"], "-", False)
+        link = near.RunningCommand(["sleep", "60"], "-", False)
         self.addCleanup(lambda: (link.end(), link.status()))
-        rooms, writes = self.patch_of(relay, "make_room_in_logs"), self.patch("os.write")
-        self.patch_of(relay, "read", return_value=b"the far host\x1b[c says so\n" * 2000)
+        rooms, writes = self.patch_of(near, "make_room_in_logs"), self.patch("os.write")
+        self.patch_of(near, "read", return_value=b"the far host\x1b[c says so\n" * 2000)
         for _ in range(20):
             link.pass_errors()
         said = b"".join(call[0][1] for call in writes.call_args_list).decode()
@@ -914,10 +915,10 @@ class Commands(Case):
 
     def test_killed(self):
         """One that doesn't end in a second is ended by force."""
-        link = relay.Link(["sleep", "60"], "-", True)
+        link = near.RunningCommand(["sleep", "60"], "-", True)
         self.assertEqual(os.getsid(link.process.pid), os.getsid(0))
         waits = link.process.wait
-        with mock.patch.object(link.process, "wait", side_effect=[relay.subprocess.TimeoutExpired("x", 1), -9]) as asked:
+        with mock.patch.object(link.process, "wait", side_effect=[near.subprocess.TimeoutExpired("x", 1), -9]) as asked:
             self.assertEqual(link.status(), -9)
             self.assertEqual(asked.call_args_list, [mock.call(1.0), mock.call()])
         self.assertEqual(waits(), -9)
@@ -960,16 +961,16 @@ class Words(Ends):
 
     def test_main(self):
         """It turns until its end, whose status it has, and leaves nothing."""
-        end = mock.Mock(turn=mock.Mock(side_effect=[None, relay.Ended(129)]))
-        near = self.patch_of(relay, "Near", return_value=end)
+        end = mock.Mock(turn=mock.Mock(side_effect=[None, ends.Ended(129)]))
+        made = self.patch_of(near, "Near", return_value=end)
         self.patch_of(relay, "woken", return_value=5)
         self.words("relay", "0", "ssh")
         self.assertEqual(relay.main(), 129)
-        self.assertEqual((near.call_args[0][1], end.turn.call_count, end.close.call_count), (5, 2, 1))
+        self.assertEqual((made.call_args[0][1], end.turn.call_count, end.close.call_count), (5, 2, 1))
         note = self.folder / "note"
         note.touch()
-        end.turn.side_effect = [relay.Ended(0)]
-        self.patch_of(relay, "Far", return_value=end)
+        end.turn.side_effect = [ends.Ended(0)]
+        self.patch_of(far, "Far", return_value=end)
         self.patch_of(relay, "noted_client", return_value=note)
         self.words("relay", "--far", "1")
         with mock.patch("os.isatty", return_value=False):

@@ -1,0 +1,421 @@
+"""The end of a relay beside the clients, which stands for a server of another machine."""
+from __future__ import annotations
+
+import contextlib
+import itertools
+import os
+import pathlib
+import select
+import shlex
+import socket
+import subprocess
+import time
+from collections.abc import Callable, Container, Iterator
+
+from roam_live.bells import BellSource
+from roam_live.carriers import Carrier, is_datagram, listening
+from roam_live.ends import FORGOTTEN_AFTER, PEER_LIMIT, Ended, Options, end_for, loopback_socket, received
+from roam_live.lasting import Lasting
+from roam_live.program import Fault, count_clients, is_own_peer, logs, make_room_in_logs, opened_process, read, reason, replace_text, say
+from roam_live.relayed import BELL, ENDED, KEYPAD, KILLED, RECTS, BadWords, Stream, Waiting
+from roam_live.words import Said
+
+TYPE_CHECKING = False
+if TYPE_CHECKING:
+    from typing import IO
+
+    from roam_live.ends import Address
+
+# After so many seconds of silence another command is started.
+SILENT = 7.0
+
+# The seconds from the start of one command to that of the next, where none answers, and how long each is given.
+PAUSES = (0.2, 1, 2, 5)
+PATIENCE = 20.0
+
+# So many seconds a command has for its end.
+END_WAIT = 1.0
+
+# A link that was there for so long was sound: what breaks it is no fault of the command.
+SOUND = 5.0
+
+# As many clients are connected at once as peers are known; another waits until one has left, and so many seconds where the system has no
+# descriptor for it.
+DEAF = 1.0
+
+# So often it is looked whether a client is noted.
+LOOKS = 5.0
+
+
+class Peers:
+    """The addresses of clients and their numbers. A number isn't given again before all others were."""
+
+    def __init__(self, forget: Callable[[int], None]) -> None:
+        self.numbers: dict[Address | Carrier, int] = {}
+        self.addresses: dict[int, Address | Carrier] = {}
+        self.moments: dict[int, float] = {}
+        self.last = 0
+        self.forget = forget
+
+    def number(self, address: Address | Carrier) -> int:
+        """The number of an address, from 1."""
+        if address not in self.numbers:
+            while len(self.numbers) >= PEER_LIMIT:
+                self.drop(min(self.moments, key=self.moments.__getitem__))
+            self.last = next(self.free())
+            self.numbers[address], self.addresses[self.last] = self.last, address
+        number = self.numbers[address]
+        self.moments[number] = time.monotonic()
+        return number
+
+    def free(self) -> Iterator[int]:
+        """The numbers that are free, from the one behind the last on."""
+        return (number for number in itertools.chain(range(self.last + 1, 65536), range(1, self.last + 1)) if number not in self.addresses)
+
+    def drop(self, number: int) -> None:
+        """Forgets a peer."""
+        del self.numbers[self.addresses.pop(number)], self.moments[number]
+        self.forget(number)
+
+    def drop_silent(self) -> None:
+        """Forgets the peers that have said nothing for long."""
+        for number in [number for number, moment in self.moments.items() if moment + FORGOTTEN_AFTER < time.monotonic()]:
+            self.drop(number)
+
+
+class RunningCommand:
+    """A command that runs, and the stream over its standard input and output."""
+
+    def __init__(self, command: list[str], session: str, may_ask: bool) -> None:
+        pipe = subprocess.PIPE
+        self.process = subprocess.Popen(command, stdin=pipe, stdout=pipe, stderr=pipe, start_new_session=not may_ask)
+        self.ends: list[IO[bytes]] = [end for end in (self.process.stdin, self.process.stdout, self.process.stderr) if end]
+        target, source, errors = (end.fileno() for end in self.ends)
+        self.errors: int | None = errors
+        self.said = Said()
+        for end in (target, source, errors):
+            os.set_blocking(end, False)
+        self.stream = Stream(source, target, session)
+        self.since = time.monotonic()
+
+    def pass_errors(self) -> None:
+        """Says what the command said on its standard error, as far as that isn't too much: at the terminal at first, and in the log later,
+        as this tool does."""
+        piece = read(self.errors) if self.errors else None
+        if piece == b"":
+            self.errors = None
+        text = self.said.fed(piece or b"")
+        if text:
+            make_room_in_logs(len(text.encode()))
+            with contextlib.suppress(OSError):
+                os.write(2, text.encode())
+
+    def end(self) -> None:
+        """Has the command end."""
+        self.process.terminate()
+        self.pass_errors()
+        # What is left in Python's own buffers is nothing: the descriptors alone were used.
+        for end in self.ends:
+            end.close()
+        self.errors = None
+
+    def status(self) -> int:
+        """Waits for its end, which comes in time, and tells the status."""
+        try:
+            return self.process.wait(END_WAIT)
+        except subprocess.TimeoutExpired:
+            self.process.kill()
+            return self.process.wait()
+
+
+def bound_port(port: int | None) -> socket.socket | None:
+    """A port of loopback, where one is asked for."""
+    if port is None:
+        return None
+    one = loopback_socket()
+    try:
+        one.bind(("127.0.0.1", port))
+    except OSError as fault:
+        raise Fault(f"port {port}: {fault.strerror}") from fault
+    return one
+
+
+class Near:
+    """The end beside the clients: the socket at which they connect, or a port of loopback, and the command, which is started as often as
+    needed."""
+
+    def __init__(self, asked: Options, wakeup: int) -> None:
+        self.asked, self.wakeup = asked, wakeup
+        self.port = bound_port(asked.port)
+        self.listener = listening(os.path.join(asked.dir, "clients")) if asked.dir else None
+        self.bells = BellSource(asked.dir) if asked.dir else None
+        self.lasting = Lasting(asked.dir) if asked.dir else None
+        self.carriers: list[Carrier] = []
+        self.deaf_until = 0.0
+        self.owner = opened_process(asked.owner) if asked.owner else None
+        self.waiting = Waiting()
+        self.peers = Peers(self.waiting.forget)
+        self.session = "-"
+        self.link: RunningCommand | None = None
+        self.tries: list[RunningCommand] = []
+        self.ending: list[RunningCommand] = []
+        self.has_answered = self.is_told = False
+        self.next_try = 0.0
+        self.try_count = 0
+        self.looked_at = self.used_at = time.monotonic()
+        self.is_over = False
+        # What is noted of the session's end.
+        self.ended = ""
+
+    def is_silent(self) -> bool:
+        """Whether there is no link that is known to carry anything."""
+        return self.link is None or self.link.stream.is_silent(SILENT)
+
+    def tend(self) -> None:
+        """Starts a command where one is due, and ends those that are late."""
+        now = time.monotonic()
+        self.ending = [link for link in self.ending if link.process.poll() is None]
+        if self.link and not self.is_silent():
+            self.drop_tries()
+            self.try_count = 0 if self.link.since + SOUND < now else self.try_count
+            return
+        # The first one may be waiting for a person's answer.
+        if self.has_answered:
+            for link in [link for link in self.tries if link.since + PATIENCE < now]:
+                self.drop(link)
+        if self.has_answered and not self.is_told:
+            self.is_told = True
+            say("the other end is silent" if self.link else "the other end has ended")
+        if now >= self.next_try and (self.has_answered or not self.tries):
+            self.start(now)
+
+    def start(self, now: float) -> None:
+        """Starts a command; where the system refuses one later it is told of, and tried again."""
+        try:
+            self.tries.append(RunningCommand(self.asked.command, self.session, not self.has_answered))
+        except OSError as fault:
+            line = f"{self.asked.command[0]}: {fault.strerror}"
+            if not self.has_answered:
+                raise Fault(line) from fault
+            say(line)
+        self.next_try = now + PAUSES[min(self.try_count, len(PAUSES) - 1)]
+        self.try_count += 1
+
+    def drop(self, link: RunningCommand) -> None:
+        """Has a command end."""
+        link.end()
+        self.ending.append(link)
+        self.tries = [other for other in self.tries if other is not link]
+        self.link = None if self.link is link else self.link
+
+    def drop_tries(self) -> None:
+        """Has the commands end that aren't needed any more."""
+        for link in list(self.tries):
+            self.drop(link)
+        if self.is_told:
+            self.is_told = False
+            say("the link is back")
+
+    def lost(self, link: RunningCommand) -> None:
+        """Goes on without a command that has ended."""
+        is_first = not self.has_answered
+        self.drop(link)
+        if is_first:
+            line = f"{shlex.join(self.asked.command)} ended with status {link.status()}, and hadn't answered"
+            if self.owner or self.asked.alone is not None:
+                raise Fault(line)
+            say(line)
+
+    def refuse(self, link: RunningCommand, fault: BadWords) -> None:
+        """Goes on without a command whose other end said what can't be; a first one that did is told of, and ends this."""
+        if not self.has_answered:
+            raise fault
+        say(f"{fault}; another is started")
+        self.drop(link)
+
+    def look(self) -> None:
+        """Ends where no client has been noted for so long."""
+        now = time.monotonic()
+        if self.asked.alone is None or now < self.looked_at + LOOKS:
+            return
+        self.looked_at = now
+        if self.asked.dir and count_clients(self.asked.dir):
+            self.used_at = now
+        elif now > self.used_at + self.asked.alone:
+            raise Ended(0)
+
+    def answered(self, link: RunningCommand, session: str) -> None:
+        """Takes a command as the link, now that its other end has answered for a session."""
+        if self.session not in ("-", session):
+            self.is_over = True
+            raise Ended(0)
+        self.tries.remove(link)
+        for old in [*self.tries, *([self.link] if self.link else [])]:
+            self.drop(old)
+        self.link, self.session = link, session
+        if self.has_answered:
+            return
+        self.has_answered = True
+        if self.asked.dir:
+            replace_text(os.path.join(self.asked.dir, "session"), f"{self.session}\n")
+        print(f"port {self.port.getsockname()[1] if self.port else '-'} session {self.session}", flush=True)
+        if self.asked.log:
+            logs[:] = [pathlib.Path(self.asked.log)]
+            with open(self.asked.log, "ab") as log:
+                os.dup2(log.fileno(), 2)
+
+    def hear(self, link: RunningCommand) -> None:
+        """Takes what came over a command. Whatever the other end says, this one goes on, once it has answered."""
+        try:
+            frames = link.stream.received()
+            if frames is None:
+                self.lost(link)
+                return
+            if link.stream.session and link is not self.link:
+                self.answered(link, link.stream.session)
+            for peer, text in frames:
+                self.take(peer, text)
+        except BadWords as fault:
+            self.refuse(link, fault)
+
+    def take(self, peer: int, text: bytes) -> None:
+        """Takes a frame."""
+        if peer:
+            # What can't be a datagram is dropped.
+            if is_datagram(text):
+                self.deliver(peer, text)
+        elif text in (ENDED, KILLED):
+            self.is_over, self.ended = True, "killed" if text == KILLED else ""
+            raise Ended(0)
+        elif text[:1] == RECTS and self.asked.dir:
+            self.note_places(self.asked.dir, text[1:].decode("utf-8", "replace"))
+        elif text[:1] == BELL and self.bells:
+            self.bells.tell(text[1])
+        elif text[:1] == KEYPAD and self.bells:
+            self.bells.tell_keypad(text[1], text[2] == 1)
+
+    def note_places(self, folder: str, places: str) -> None:
+        """Notes where the panes are; where that can't be written it is told of, and the next is tried."""
+        try:
+            replace_text(os.path.join(folder, "rects"), places)
+        except OSError as fault:
+            say(f"rects: {reason(fault)}")
+
+    def deliver(self, peer: int, datagram: bytes) -> None:
+        """Hands a client its datagram, where it is still known."""
+        address = self.peers.addresses.get(peer)
+        if isinstance(address, Carrier):
+            address.send(datagram)
+        elif address and self.port:
+            try:
+                self.port.sendto(datagram, address)
+            except OSError:
+                pass
+
+    def hear_clients(self, readable: Container[object], writable: Container[object]) -> None:
+        """Takes what came from clients, those that came, and what they take."""
+        if self.port and self.port in readable:
+            for datagram, address in received(self.port):
+                self.waiting.add(self.peers.number(address), datagram)
+            self.peers.drop_silent()
+        if self.listener and self.listener in readable:
+            self.take_client(self.listener)
+        for carrier in list(self.carriers):
+            datagrams = carrier.received() if carrier in readable else []
+            if datagrams is None or carrier in writable and not carrier.flush():
+                self.part(carrier)
+                continue
+            for datagram in datagrams:
+                self.waiting.add(self.peers.number(carrier), datagram)
+
+    def take_client(self, listener: socket.socket) -> None:
+        """Takes a client that came and is this user's, as far as the system has a descriptor for it."""
+        try:
+            peer = listener.accept()[0]
+            if is_own_peer(peer):
+                self.carriers.append(Carrier(peer))
+            else:
+                peer.close()
+        except BlockingIOError:
+            # It has left.
+            pass
+        except OSError as fault:
+            self.deaf_until = time.monotonic() + DEAF
+            say(f"a client waits: {reason(fault)}")
+
+    def takes_clients(self) -> bool:
+        """Whether another client is taken now."""
+        return self.listener is not None and len(self.carriers) < PEER_LIMIT and time.monotonic() >= self.deaf_until
+
+    def part(self, carrier: Carrier) -> None:
+        """Lets a client go."""
+        carrier.close()
+        self.carriers.remove(carrier)
+        if carrier in self.peers.numbers:
+            self.peers.drop(self.peers.numbers[carrier])
+
+    def wait_time(self) -> float | None:
+        """How long nothing is due."""
+        now = time.monotonic()
+        moments = [self.next_try] if self.is_silent() and (self.has_answered or not self.tries) else []
+        moments += [] if self.asked.alone is None else [self.looked_at + LOOKS]
+        moments += [self.deaf_until] if self.deaf_until > now else []
+        if self.link:
+            moments += [self.link.stream.due_at(), *([] if self.is_silent() else [self.link.stream.silent_at(SILENT)])]
+        return max(0.0, min(moments) - now) + 0.001 if moments else None
+
+    def turn(self) -> None:
+        """Waits until something can be done, and does it."""
+        self.tend()
+        self.look()
+        if self.lasting:
+            self.lasting.turn()
+        if self.link:
+            self.link.stream.fill(self.waiting)
+        links = [*self.tries, *([self.link] if self.link else [])]
+        ends = [end for end in (self.port, self.owner, *self.carriers) if end is not None]
+        ends += [self.listener] if self.listener and self.takes_clients() else []
+        sources: list[int | socket.socket | Carrier] = [self.wakeup, *ends, *(link.stream.source for link in links)]
+        sources += [link.errors for link in links if link.errors]
+        sources += self.bells.sources() if self.bells else []
+        targets: list[int | Carrier] = [link.stream.target for link in links if link.stream.going]
+        targets += [carrier for carrier in self.carriers if carrier.going]
+        readable, writable, _ = select.select(sources, targets, [], self.wait_time())
+        end_for(self.wakeup, readable)
+        if self.owner in readable:
+            raise Ended(0)
+        self.hear_clients(readable, writable)
+        if self.bells:
+            self.bells.turn(readable)
+        for link in links:
+            if link.errors in readable:
+                link.pass_errors()
+            # What another has taken the place of is closed. The end of a command is seen where it is read: it may have said something.
+            if link.stream.target in writable and self.has(link):
+                link.stream.flush()
+            if link.stream.source in readable and self.has(link):
+                self.hear(link)
+
+    def has(self, link: RunningCommand) -> bool:
+        """Whether a command is still wanted."""
+        return link is self.link or link in self.tries
+
+    def close(self) -> None:
+        """Ends all commands."""
+        for link in [*self.tries, *([self.link] if self.link else [])]:
+            self.drop(link)
+        for link in self.ending:
+            link.status()
+        for carrier in list(self.carriers):
+            self.part(carrier)
+        if self.bells:
+            self.bells.close()
+        if self.asked.dir:
+            self.leave(self.asked.dir)
+
+    def leave(self, folder: str) -> None:
+        """Notes in the folder what has ended, and removes what lies there of this end."""
+        if self.is_over:
+            replace_text(os.path.join(folder, "ended"), self.ended)
+        for name in ("clients", "session", "rects"):
+            pathlib.Path(folder, name).unlink(missing_ok=True)

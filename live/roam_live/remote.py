@@ -1,0 +1,74 @@
+"""Sessions of other machines: `mux ssh` here, and what it runs there."""
+from __future__ import annotations
+
+import os
+import re
+import shlex
+import zlib
+
+from roam_live.program import TOOLS
+from roam_live.relayed import greeting, read_greeting
+from roam_live.sessions import NearSession, Session, base
+
+TYPE_CHECKING = False
+if TYPE_CHECKING:
+    from collections.abc import Callable
+
+    from roam_live.parsing import Asked
+
+# The options of ssh that have a word behind them, and those of `mux ssh` itself.
+SSH_PAIRS = "BbcDEeFIiJLlmOoPpQRSWw"
+OWN_PAIRS = ("--ssh", "--far", "--guess")
+
+
+def parted_options(words: list[str]) -> tuple[list[str], list[str]]:
+    """The words of `mux ssh` without the options that are for ssh, which stand before the host, and these."""
+    own: list[str] = []
+    options: list[str] = []
+    rest = list(words)
+    while rest and rest[0].startswith("-"):
+        word = rest.pop(0)
+        is_own = word.startswith("--") or word == "-h"
+        # A letter that has a word behind it may have it at once, as -p22, and may stand behind others.
+        first = next((place for place, letter in enumerate(word) if letter in SSH_PAIRS), len(word))
+        is_pair = word in OWN_PAIRS if is_own else first == len(word) - 1
+        found = own if is_own else options
+        found += [word, *rest[:1]] if is_pair else [word]
+        del rest[: int(is_pair)]
+    return own + rest, options
+
+
+def command_of(asked: Asked) -> list[str]:
+    """The command over which a session is carried, as the words of `mux ssh` say."""
+    return [*shlex.split(asked.ssh), *asked.options, asked.host, f"{asked.far} far {asked.name}"]
+
+
+def near_session(asked: Asked, command: list[str]) -> NearSession:
+    """What stands here for a session of another machine: one a host, a session, and a way to get there."""
+    place = f"ssh:{re.sub('[^A-Za-z0-9_.@-]', '_', asked.host)}:{asked.name}"
+    plain = ["ssh", asked.host, f"roam-mux far {asked.name}"]
+    if command != plain:
+        place += f":{zlib.crc32(os.fsencode(chr(0).join(command))):08x}"
+    return NearSession(base() / place, asked.name)
+
+
+def is_first_start(session: NearSession) -> bool:
+    """Whether a session, as far as is known, never had a client start before that of this machine."""
+    places = session.places()
+    return bool(places.rects) and places.starts <= 1
+
+
+def carry(name: str, started: Callable[[Session], bool]) -> int:
+    """Carries a session's datagrams over standard input and output. One that the other end knew and that has ended isn't started anew;
+    whether another runs, or was begun halfway, a call tells under its lock."""
+    wanted = read_greeting(0)
+    session = Session.named(name)
+    if wanted == "-":
+        with session.locked():
+            if not started(session):
+                session.start()
+    elif not session.find() or session.id() != wanted:
+        os.write(1, greeting("0"))
+        return 0
+    words = [str(TOOLS / "relay"), "--far", "--greeted", "--server", str(session.process("server")), "--dir", str(session.folder), "-"]
+    return os.execv(words[0], words)
