@@ -34,6 +34,10 @@ MOST_TOLD = 1 + PLACES_LIMIT
 # An end by which the server was killed; an earlier end of a relay knows it as nothing.
 KILLED = ENDED + b"k"
 
+# Those of a sealed path beside the stream, which an earlier end knows as nothing: the near end wants one, and tells its name; the far end
+# tells its port, the key and its address. By the path alone: the near end leaves.
+WANTS, SEALED, LEAVES = b"w", b"s", b"l"
+
 # So many bytes at most are on their way, and what came is told after so many.
 WINDOW = 1 << 17
 TOLD_AFTER = 1 << 14
@@ -52,8 +56,9 @@ NOISE_LIMIT = 1 << 16
 # So many seconds an end says nothing at most.
 HEARTBEAT = 3.0
 
-# A datagram names its instruction in these bytes.
+# A datagram names its instruction in these bytes; behind them stand its place in it and how many there are.
 INSTRUCTION = slice(28, 36)
+PLACE = struct.Struct(">36xHH")
 
 
 class BadWords(Fault):
@@ -108,6 +113,12 @@ def instruction_of(datagram: bytes) -> bytes:
     return bytes(datagram[INSTRUCTION]) if datagram[:2] == LETTERS else b""
 
 
+def is_last(datagram: bytes) -> bool:
+    """Whether a datagram is the last of its instruction."""
+    index, count = PLACE.unpack_from(datagram)
+    return bool(index + 1 == count)
+
+
 def cost(datagram: bytes) -> int:
     """What a datagram that waits counts."""
     return len(datagram) + OVERHEAD
@@ -143,6 +154,28 @@ class Waiting:
         self.size -= cost(datagram)
         self.begun[peer] = instruction_of(datagram)
         return peer, datagram
+
+    def take_whole(self, may_take: Callable[[int, int], bool]) -> tuple[int, list[bytes]]:
+        """The oldest instruction of which all is there, or nothing more will come, and whose peer and size this holds for: its peer and its
+        datagrams, none where there is none."""
+        for peer, ours in self._instructions().items():
+            first = next(iter(ours))
+            found = ours[first]
+            if (len(ours) > 1 or is_last(found[-1])) and may_take(peer, sum(map(len, found))):
+                self._drop(peer, first)
+                return peer, found
+        return 0, []
+
+    def _drop(self, peer: int, instruction: bytes) -> None:
+        """Drops an instruction of a peer."""
+        self._keep(lambda other, one: other != peer or instruction_of(one) != instruction)
+
+    def _instructions(self) -> dict[int, dict[bytes, list[bytes]]]:
+        """What waits, by peers and instructions."""
+        found: dict[int, dict[bytes, list[bytes]]] = {}
+        for peer, datagram in self.datagrams:
+            found.setdefault(peer, {}).setdefault(instruction_of(datagram), []).append(datagram)
+        return found
 
     def forget(self, peer: int) -> None:
         """Drops what waits for a peer."""

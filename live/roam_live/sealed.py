@@ -69,6 +69,7 @@ class Seal:
 
     def __init__(self, sealing: Cipher, is_near: bool) -> None:
         self.cipher = sealing
+        self.is_near = is_near
         self.way, self.other_way = (0, TO_NEAR) if is_near else (TO_NEAR, 0)
         self.counter = 0
 
