@@ -15,6 +15,7 @@ import threading
 import time
 from collections.abc import Iterable
 
+from roam_live.bundles import has_lzma
 from roam_live.paths import Path
 from roam_live.program import begun, is_running, reason, replace_text, say
 from roam_live.relayed import SEALED, WANTS
@@ -38,7 +39,7 @@ MOST_PLACES = 16
 
 def is_wanted() -> bool:
     """Whether a sealed path is wanted, and can be had here."""
-    return os.environ.get("ROAM_UDP") != "never" and cipher() is not None
+    return os.environ.get("ROAM_UDP") != "never" and has_lzma() and cipher() is not None
 
 
 def hide_memory() -> None:

@@ -8,7 +8,7 @@ Bundles of peer 0 are of the relays themselves: each carries the whole state of 
 from __future__ import annotations
 
 import hashlib
-import lzma
+import importlib.util
 import struct
 import zlib
 from collections import namedtuple
@@ -44,7 +44,8 @@ LONGEST_STATE = 1 << 14
 # quarter of the time for it, and two thirds of the bytes.
 DICTIONARY = 1 << 15
 LARGE = 4096
-FILTERS: list[dict[str, Any]] = [{"id": lzma.FILTER_LZMA2, "preset": 0}]
+LZMA2 = 0x21
+FILTERS: list[dict[str, Any]] = [{"id": LZMA2, "preset": 0}]
 
 # A base is so many bundles behind at most. What may become one is kept, so many texts and bytes of each peer: at the end that says which
 # base it takes fewer.
@@ -125,21 +126,30 @@ def parted(text: bytes) -> list[bytes] | None:
     return found
 
 
+def has_lzma() -> bool:
+    """Whether this Python was built with LZMA."""
+    return importlib.util.find_spec("_lzma") is not None
+
+
 def pack_large(text: bytes) -> bytes:
     """A large text, compressed."""
+    import lzma
+
     return lzma.compress(text, lzma.FORMAT_RAW, filters=FILTERS)
 
 
 def unpack_large(packed: bytes, longest: int = LONGEST_TEXT) -> bytes | None:
     """A large text; None where it can't be read, or is too long."""
-    return unpacked_by(lzma.LZMADecompressor(lzma.FORMAT_RAW, filters=FILTERS), packed, longest)
+    import lzma
+
+    return unpacked_by(lzma.LZMADecompressor(lzma.FORMAT_RAW, filters=FILTERS), packed, longest, (lzma.LZMAError, EOFError))
 
 
-def unpacked_by(unpacker: Any, packed: bytes, longest: int) -> bytes | None:
+def unpacked_by(unpacker: Any, packed: bytes, longest: int, faults: tuple[type[Exception], ...]) -> bytes | None:
     """What an unpacker makes of what was packed; None where it can't be read, doesn't end, or is too long."""
     try:
         found: bytes = unpacker.decompress(packed, longest)
-    except (zlib.error, lzma.LZMAError, EOFError):
+    except faults:
         return None
     return found if unpacker.eof else None
 
@@ -161,7 +171,8 @@ def unpacked_bundle(packed: bytes, texts: dict[int, bytes], longest: int) -> byt
         return unpack_large(packed[BASE.size :], longest)
     if number and number not in texts:
         return None
-    return unpacked_by(zlib.decompressobj(-zlib.MAX_WBITS, *([texts[number]] if number else [])), packed[BASE.size :], longest)
+    unpacker = zlib.decompressobj(-zlib.MAX_WBITS, *([texts[number]] if number else []))
+    return unpacked_by(unpacker, packed[BASE.size :], longest, (zlib.error,))
 
 
 def kept_texts(texts: dict[int, bytes], most: int, size: int) -> dict[int, bytes]:

@@ -11,7 +11,8 @@ from roam_live import ends, far, near
 from roam_live.carriers import LONGEST, SHORTEST
 from roam_live.program import Fault
 from test_relayed import HOSTILE, ODD
-from roam_live.relayed import BELL, COUNT, ENDED, HAD, HEADER, KILLED, RECTS, WAITING_LIMIT, BadWords, Stream, Waiting, greeting
+from roam_live.relayed import (BELL, COUNT, ENDED, HAD, HEADER, KILLED, RECTS, UNPACKS, WAITING_LIMIT, BadWords, Stream, Waiting,
+                               greeting)
 
 relay = loaded("relay")
 
@@ -42,7 +43,7 @@ class Other:
             length, peer = HEADER.unpack(text[: HEADER.size])
             found.append((peer, text[HEADER.size : HEADER.size + length]))
             text = text[HEADER.size + length :]
-        return found
+        return [frame for frame in found if frame != (0, UNPACKS)]
 
 
 class FakeLink:
