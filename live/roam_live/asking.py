@@ -16,6 +16,7 @@ import time
 from collections.abc import Iterable
 
 from roam_live.bundles import has_lzma
+from roam_live.choices import wants_udp
 from roam_live.paths import Path
 from roam_live.program import begun, is_running, reason, replace_text, say
 from roam_live.relayed import SEALED, WANTS
@@ -39,7 +40,7 @@ MOST_PLACES = 16
 
 def is_wanted() -> bool:
     """Whether a sealed path is wanted, and can be had here."""
-    return os.environ.get("ROAM_UDP") != "never" and has_lzma() and cipher() is not None
+    return wants_udp() and has_lzma() and cipher() is not None
 
 
 def hide_memory() -> None:
