@@ -2,15 +2,15 @@
 them."""
 from __future__ import annotations
 
-import contextlib
 import os
 import re
 import socket
 import time
-from collections.abc import Container
+from collections.abc import Callable
 
-from roam_live.carriers import listening
-from roam_live.program import Fault, Lines, connected_now, is_own_peer, read, reason, say
+from roam_live.listeners import Listener
+from roam_live.loops import Loop
+from roam_live.program import Fault, Lines, connected_now, read, reason, say
 
 # An escape with one of these begins a control string, in which a bell doesn't ring. A bell ends one, and so do these and any escape.
 BEGINS = b"]PX^_"
@@ -63,50 +63,35 @@ class Bells:
 class BellSource:
     """The socket at which bells are told, in lines `bell P`. Where it can't be had that is told, and nobody follows."""
 
-    def __init__(self, folder: str | os.PathLike[str]) -> None:
-        self.path = os.path.join(folder, "bells")
-        self.listener: socket.socket | None = None
-        self.made: os.stat_result | None = None
-        try:
-            self.listener = listening(self.path)
-            self.made = os.lstat(self.path)
-        except (Fault, OSError) as fault:
-            say(f"no bells are told: {reason(fault)}")
+    def __init__(self, folder: str | os.PathLike[str], loop: Loop) -> None:
+        self.loop = loop
+        self.listener: Listener | None = None
         self.followers: list[socket.socket] = []
         self.rung_at: dict[int, float] = {}
-        self.deaf_until = 0.0
         # What each who comes is told in words, and of which panes the keypad is an application's.
         self.standing = ""
         self.keypads: set[int] = set()
-
-    def sources(self) -> list[socket.socket]:
-        """What is to be read: those that come, and the ends of those that are there. Where as many follow as may, who comes waits."""
-        is_open = len(self.followers) < MOST_FOLLOWERS and time.monotonic() >= self.deaf_until
-        return ([self.listener] if self.listener and is_open else []) + self.followers
-
-    def turn(self, readable: Container[object]) -> None:
-        """Takes who comes, and lets go who has left."""
-        if self.listener and self.listener in readable:
-            self.accept(self.listener)
-        for peer in [peer for peer in self.followers if peer in readable and read(peer.fileno()) == b""]:
-            self.drop(peer)
-
-    def accept(self, listener: socket.socket) -> None:
-        """Takes who comes, where it is of this user."""
         try:
-            peer = listener.accept()[0]
-        except OSError:
-            # Where no descriptor is left who comes waits.
-            self.deaf_until = time.monotonic() + APART
-            return
-        if is_own_peer(peer):
-            peer.setblocking(False)
-            self.followers.append(peer)
-            lines = [f"keypad {pane} application" for pane in sorted(self.keypads)] + [f"say {self.standing}"] * bool(self.standing)
-            if lines:
-                self.send("\n".join(lines), [peer])
-        else:
-            peer.close()
+            self.listener = Listener(loop, os.path.join(folder, "bells"), self.take, self.has_room, lambda fault: None)
+        except (Fault, OSError) as fault:
+            say(f"no bells are told: {reason(fault)}")
+
+    def has_room(self) -> bool:
+        """Whether another may follow."""
+        return len(self.followers) < MOST_FOLLOWERS
+
+    def take(self, peer: socket.socket) -> None:
+        """Takes one who follows."""
+        self.followers.append(peer)
+        self.loop.add(peer, lambda: self.hear(peer))
+        lines = [f"keypad {pane} application" for pane in sorted(self.keypads)] + [f"say {self.standing}"] * bool(self.standing)
+        if lines:
+            self.send("\n".join(lines), [peer])
+
+    def hear(self, peer: socket.socket) -> None:
+        """Lets one go who has left; what it says is nothing."""
+        if read(peer.fileno()) == b"":
+            self.drop(peer)
 
     def tell(self, pane: int) -> None:
         """Tells of a bell; one that follows another too soon isn't told."""
@@ -136,72 +121,69 @@ class BellSource:
 
     def drop(self, peer: socket.socket) -> None:
         """Lets one go who follows."""
+        self.loop.remove(peer)
         peer.close()
         self.followers.remove(peer)
 
     def close(self) -> None:
         """Closes the socket, and removes it."""
-        for peer in self.followers:
-            peer.close()
+        for peer in list(self.followers):
+            self.drop(peer)
         if self.listener:
             self.listener.close()
-            with contextlib.suppress(OSError):
-                # Another session's may be there by now.
-                if self.made and os.path.samestat(self.made, os.lstat(self.path)):
-                    os.unlink(self.path)
 
 
 class BellFollower:
-    """Follows the bells of a session's folder, where somebody tells them."""
+    """Follows the bells of a session's folder, where somebody tells them: a call for each pane that rang, and for what is said in words."""
 
-    def __init__(self, folder: str | os.PathLike[str] | None) -> None:
+    def __init__(self, folder: str | os.PathLike[str] | None, loop: Loop, rings: Callable[[int], object],
+                 says: Callable[[str], object] = lambda words: None) -> None:
         self.path = os.path.join(folder, "bells") if folder else ""
+        self.loop, self.rings, self.says = loop, rings, says
         self.peer: socket.socket | None = None
         self.lines = Lines()
         # When the socket may be connected to again.
         self.again_at = 0.0
-        # What was said in words, and not taken yet; and of which panes the keypad is an application's.
-        self.words: list[str] = []
+        # Of which panes the keypad is an application's.
         self.keypads: set[int] = set()
+        loop.each(self.connect)
 
-    def connect(self) -> None:
-        """Connects where somebody of this user tells bells: not again within a second of an end, so that one who ends each connection at
-        once takes no processor."""
-        if self.peer or not self.path or time.monotonic() < self.again_at:
-            return
+    def connect(self) -> float | None:
+        """Connects where somebody of this user tells bells, who may come, and come again, at any time; tells when that is due. It isn't
+        within a second of an end, so that one who ends each connection at once takes no processor."""
+        if self.peer or not self.path:
+            return None
+        if time.monotonic() < self.again_at:
+            return self.again_at
         self.again_at = 0.0
         try:
             self.peer, self.lines = connected_now(self.path), Lines()
         except PermissionError:
             self.again_at = time.monotonic() + AGAIN
+            return self.again_at
         except OSError:
-            pass
+            return None
+        self.loop.add(self.peer, self.hear)
+        return None
 
-    def wait_time(self) -> float | None:
-        """How long until it is connected to again; None where that waits for no moment."""
-        return max(0.0, self.again_at - time.monotonic()) if self.again_at and not self.peer else None
-
-    def sources(self) -> list[socket.socket]:
-        """What is to be read. Who tells bells may come, and come again, at any time."""
-        self.connect()
-        return [self.peer] if self.peer else []
-
-    def rung(self, readable: Container[object]) -> list[int]:
-        """The panes that rang."""
-        if not self.peer or self.peer not in readable:
-            return []
-        piece = read(self.peer.fileno())
+    def hear(self) -> None:
+        """Takes what was told."""
+        piece = read(self.peer.fileno()) if self.peer else None
         if piece == b"":
-            self.peer.close()
-            self.peer, self.again_at = None, time.monotonic() + AGAIN
-            self.keypads.clear()
+            self.lost()
         lines = self.lines.fed(piece or b"")
-        self.words += [found[1] for found in map(SAID.fullmatch, lines) if found][-1:]
         for found in filter(None, map(KEYPAD.fullmatch, lines)):
             (self.keypads.add if found[2] == "application" else self.keypads.discard)(int(found[1]))
-        return [int(found[1]) for found in map(TOLD.fullmatch, lines) if found]
+        for found in filter(None, map(TOLD.fullmatch, lines)):
+            self.rings(int(found[1]))
+        # Of several the last one is said.
+        for words in [found[1] for found in map(SAID.fullmatch, lines) if found][-1:]:
+            self.says(words)
 
-    def said(self) -> list[str]:
-        """What was said in words since this was asked last."""
-        words, self.words = self.words, []
-        return words
+    def lost(self) -> None:
+        """Takes note of an end."""
+        if self.peer:
+            self.loop.remove(self.peer)
+            self.peer.close()
+        self.peer, self.again_at = None, time.monotonic() + AGAIN
+        self.keypads.clear()

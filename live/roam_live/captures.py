@@ -1,13 +1,13 @@
 """The rows that a session shows, as a terminal is shown them that only watches."""
 from __future__ import annotations
 
-import select
 import subprocess
 import sys
 import time
 
 from roam_live.cells import Cells, width_of
 from roam_live.links import NO_MORE, Link
+from roam_live.loops import comes
 from roam_live.program import TOOLS, Fault, read
 
 TYPE_CHECKING = False
@@ -36,7 +36,7 @@ def paints(source: int) -> bytes:
     end = time.monotonic() + FIRST_WAIT
     while time.monotonic() < end:
         left = max(0.0, end - time.monotonic())
-        if not select.select([source], [], [], min(left, QUIET) if has_screen else left)[0]:
+        if not comes(source, min(left, QUIET) if has_screen else left):
             return text
         piece = read(source)
         if not piece:

@@ -1,10 +1,9 @@
 """Datagrams over a Unix stream, as a server's socket for clients carries them: each behind its length, in two bytes."""
 from __future__ import annotations
 
-import os
 import socket
 
-from roam_live.program import Fault, is_listened, read, write
+from roam_live.program import read, write
 
 # A datagram has a header of 42 bytes, which begins with these letters, and 1 to 1,200 behind it.
 LETTERS = b"RM"
@@ -67,18 +66,3 @@ class Carrier:
     def close(self) -> None:
         """Closes the stream."""
         self.peer.close()
-
-
-def listening(path: str | os.PathLike[str]) -> socket.socket:
-    """A socket at which clients of a session are waited for; one that is left there is removed, but where somebody listens."""
-    if is_listened(path):
-        raise Fault(f"somebody listens at {path} already")
-    try:
-        os.unlink(path)
-    except FileNotFoundError:
-        pass
-    one = socket.socket(socket.AF_UNIX, socket.SOCK_STREAM)
-    one.bind(str(path))
-    one.listen(16)
-    one.setblocking(False)
-    return one

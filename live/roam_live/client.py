@@ -3,17 +3,15 @@ from __future__ import annotations
 
 import contextlib
 import re
-import select
 import signal
-import socket
-from collections.abc import Callable, Container
+from collections.abc import Callable
 
 from roam_live.bells import BellFollower
 from roam_live.bindings import NEWEST
 from roam_live.commands import Commands
 from roam_live.display import Display
 from roam_live.links import Keeper, Link
-from roam_live.moments import Moments
+from roam_live.loops import Loop
 from roam_live.program import noted_client, opened_process, read, woken, write
 from roam_live.watches import ShellsWatch
 
@@ -45,26 +43,37 @@ SILENCE = re.compile(rb"(\x1b7\x1b\[\?7l\x1b\[999;1H\x1b\[0;7mroam: no answer fo
 class Client:
     """A person at a terminal, and the session there."""
 
-    def __init__(self, place: Place, watches: bool, prefix: str, guessing: str, is_new: Callable[[], bool]) -> None:
-        self.place = place
+    def __init__(self, place: Place, watches: bool, prefix: str, guessing: str, is_new: Callable[[], bool],
+                 loop: Loop | None = None) -> None:
+        self.place, self.loop = place, loop or Loop()
+        self.left: str | None = None
+        self.status = 0
         self.wakeup = woken(signal.SIGWINCH, signal.SIGCONT, signal.SIGTSTP, *LEAVING)
         served = place.process(place.served)
         self.server = opened_process(served) if served else None
-        self.shells = ShellsWatch(place)
-        self.bells = BellFollower(place.folder)
+        self.shells = ShellsWatch(place, self.loop, lambda line: self.display.tell(line, LOSS_TOLD))
         self.link = Link(place.terminals, watches, guessing)
         self.keeper = Keeper(place, self.link)
-        self.moments = Moments()
-        self.display = Display(self.moments, lambda: self.link.say("repaint"))
-        self.commands = Commands(place, self.link, self.display, self.moments, self.leave, is_new)
+        self.display = Display(self.loop, lambda: self.link.say("repaint"))
+        self.commands = Commands(place, self.link, self.display, self.loop, self.leave, is_new)
         self.commands.choose(prefix)
-        self.left: str | None = None
-        self.status = 0
+        self.bells = BellFollower(place.folder, self.loop, self.commands.ring, lambda words: self.display.tell(words, LOSS_TOLD))
+        self.join()
+
+    def join(self) -> None:
+        """Has the loop see the session's end, signals, what is typed, and what the terminal takes."""
+        outer, link = self.display.outer, self.link
+        if self.server is not None:
+            self.loop.add(self.server, lambda: self.leave(*self.place.ending()))
+        self.loop.add(self.wakeup, self.signalled)
+        self.loop.add(0, self.typed, hears=lambda: len(link.waiting) < TYPED_LIMIT)
+        self.loop.add(outer.end, None, self.show, has_more=lambda: outer.waiting)
 
     def leave(self, line: str | None, status: int = 0) -> None:
         """Ends the client with a line; None goes on."""
         if line is not None and self.left is None:
             self.left, self.status = line, status
+            self.shells.stop()
 
     # ---- the connection
 
@@ -73,10 +82,12 @@ class Client:
         failed = self.keeper.connect()
         if failed:
             wait, said = failed
-            self.moments.later("connect", wait, self.connect)
+            self.loop.later("connect", wait, self.connect)
             if said:
                 self.pause(said, wait)
             return
+        self.loop.add(self.link, self.paint, self.send, hears=lambda: len(self.display.outer.waiting) < PAINTED_LIMIT,
+                      has_more=lambda: self.link.waiting)
         loss = self.keeper.connected()
         self.commands.paused = False
         self.display.cover = ""
@@ -93,14 +104,15 @@ class Client:
 
     def lost(self) -> None:
         """Goes on without the connection, which is had again: at once for the first time, else after a pause that grows."""
+        self.loop.remove(self.link)
         said, wait = self.keeper.lost(), self.keeper.pause()
-        self.moments.later("connect", wait, self.connect)
+        self.loop.later("connect", wait, self.connect)
         if self.keeper.faults > 1:
             self.pause(said, wait)
 
     def probe(self) -> None:
         """Looks whether the server is there; a start whose server isn't ends."""
-        self.moments.later("probe", PROBES, self.probe)
+        self.loop.later("probe", PROBES, self.probe)
         self.place.is_served()
 
     # ---- the terminal
@@ -108,7 +120,7 @@ class Client:
     def resized(self) -> None:
         """Goes by a new size of the terminal."""
         self.display.resized()
-        self.moments.later("size", 0.0 if self.commands.is_fresh() else SIZES, self.commands.fit)
+        self.loop.later("size", 0.0 if self.commands.is_fresh() else SIZES, self.commands.fit)
 
     def continued(self) -> None:
         """Takes the terminal again, which another may have had."""
@@ -136,65 +148,50 @@ class Client:
 
     # ---- the loop
 
-    def ready(self) -> list[int | socket.socket | Link]:
-        """Waits until something can be read or written, or something is due, and tells what can be read."""
-        outer, link = self.display.outer, self.link
-        sources: list[int | socket.socket | Link] = [self.wakeup, *([self.server] if self.server else []), *self.shells.sources()]
-        sources += self.bells.sources()
-        targets: list[int | Link] = [outer.end] if outer.waiting else []
-        if len(link.waiting) < TYPED_LIMIT:
-            sources.append(0)
-        if link.peer:
-            sources += [link] if len(outer.waiting) < PAINTED_LIMIT else []
-            targets += [link] if link.waiting else []
-        waits = [wait for wait in (self.moments.wait_time(), self.shells.wait_time(), self.bells.wait_time()) if wait is not None]
-        return select.select(sources, targets, [], min(waits, default=None))[0]
-
     def turn(self) -> None:
-        """Does what can be done now."""
-        readable = self.ready()
-        outer = self.display.outer
-        if self.server in readable:
-            self.leave(*self.place.ending())
-        if self.wakeup in readable:
-            self.signalled()
-        if 0 in readable:
-            piece = read(0)
-            if piece == b"":
-                self.leave("", 1)
-            self.commands.fed(piece or b"")
-        self.carry(readable)
-        said = self.shells.turn(readable) if self.left is None else ""
-        if said:
-            self.display.tell(said, LOSS_TOLD)
-        for pane in self.bells.rung(readable):
-            self.commands.ring(pane)
-        for words in self.bells.said():
-            self.display.tell(words, LOSS_TOLD)
+        """Waits until something can be done, and does it. What is at hand goes at once, where it is taken: a person waits for each key."""
+        self.loop.turn()
         if self.bells.keypads or self.display.outer.is_application:
             self.display.set_keypad(self.place.places().focus in self.bells.keypads)
-        # What is at hand goes at once, where it is taken: a person waits for each key.
-        if outer.waiting and not write(outer.end, outer.waiting):
-            self.leave("", 1)
-        self.moments.do_due()
+        if self.link.peer and self.link.waiting:
+            self.send()
+        if self.display.outer.waiting:
+            self.show()
 
-    def carry(self, readable: Container[object]) -> None:
-        """Carries what goes between the start and the terminal."""
-        link = self.link
-        piece = link.painted() if link in readable else None
-        if piece:
-            self.display.painted(SILENCE.sub(rb"\1; %s d leaves\2" % self.commands.prefix.encode(), piece))
-            if not self.commands.is_fitted and "size" not in self.moments.due:
-                self.moments.later("size", SIZES, self.commands.fit_first)
-        if piece == b"" or link.peer and link.waiting and not link.send():
+    def typed(self) -> None:
+        """Takes what was typed."""
+        piece = read(0)
+        if piece == b"":
+            self.leave("", 1)
+        self.commands.fed(piece or b"")
+
+    def paint(self) -> None:
+        """Takes what the start painted."""
+        piece = self.link.painted()
+        if piece == b"":
             self.lost()
+        elif piece:
+            self.display.painted(SILENCE.sub(rb"\1; %s d leaves\2" % self.commands.prefix.encode(), piece))
+            if not self.commands.is_fitted and "size" not in self.loop.due:
+                self.loop.later("size", SIZES, self.commands.fit_first)
+
+    def send(self) -> None:
+        """Sends what the start takes."""
+        if not self.link.send():
+            self.lost()
+
+    def show(self) -> None:
+        """Writes what the terminal takes; where it is gone this ends."""
+        outer = self.display.outer
+        if not write(outer.end, outer.waiting):
+            self.leave("", 1)
 
     def run(self) -> int:
         """Follows the session until the person leaves or it ends, and tells the status."""
         try:
             self.connect()
-            if not self.server:
-                self.moments.later("probe", PROBES, self.probe)
+            if self.server is None:
+                self.loop.later("probe", PROBES, self.probe)
             while self.left is None:
                 self.turn()
         finally:

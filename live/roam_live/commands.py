@@ -11,7 +11,7 @@ from roam_live.bindings import NEWEST, Typing, help_with, spelled
 from roam_live.display import Display
 from roam_live.keys import Key, Keys
 from roam_live.links import Link
-from roam_live.moments import Moments
+from roam_live.loops import Loop
 from roam_live.program import has_others
 from roam_live.programs import told
 from roam_live.rects import BESIDE, Places
@@ -39,9 +39,9 @@ NEW = 2.0
 class Commands:
     """The keys of one person, and what they ask for."""
 
-    def __init__(self, place: Place, link: Link, display: Display, moments: Moments, leave: Callable[[str | None], None],
+    def __init__(self, place: Place, link: Link, display: Display, loop: Loop, leave: Callable[[str | None], None],
                  is_new: Callable[[], bool] = lambda: False) -> None:
-        self.place, self.link, self.display, self.moments, self.leave = place, link, display, moments, leave
+        self.place, self.link, self.display, self.loop, self.leave = place, link, display, loop, leave
         self.keys = Keys()
         self.prefix = "C-b"
         self.typing = Typing()
@@ -62,9 +62,9 @@ class Commands:
     def fed(self, piece: bytes) -> None:
         """Takes bytes that were typed."""
         self.typed(self.keys.fed(piece))
-        self.moments.drop("escape")
+        self.loop.drop("escape")
         if self.keys.waits():
-            self.moments.later("escape", ESCAPE_WAIT, lambda: self.typed(self.keys.ended()))
+            self.loop.later("escape", ESCAPE_WAIT, lambda: self.typed(self.keys.ended()))
 
     def typed(self, keys: list[Key]) -> None:
         """Takes keys."""

@@ -8,7 +8,7 @@ import time
 from collections.abc import Callable
 
 from roam_live import terminal
-from roam_live.moments import Moments
+from roam_live.loops import Loop
 from roam_live.program import Fault, write
 from roam_live.words import printable
 
@@ -73,8 +73,8 @@ class Outer:
 class Display:
     """What is shown on a terminal. What has to be painted anew is asked for by a call, and what is painted before that comes is dropped."""
 
-    def __init__(self, moments: Moments, repaint: Callable[[], None]) -> None:
-        self.outer, self.moments = Outer(), moments
+    def __init__(self, loop: Loop, repaint: Callable[[], None]) -> None:
+        self.outer, self.loop = Outer(), loop
         self.ask = repaint
         self.extent = terminal.Extent()
         self.held = b""
@@ -94,10 +94,10 @@ class Display:
     def painted(self, piece: bytes) -> None:
         """Takes what was painted."""
         if self.extent.fed(piece):
-            self.moments.drop("repaint")
+            self.loop.drop("repaint")
         text = self.fresh(piece)
         if self.extent.size == self.given:
-            self.moments.drop("refused")
+            self.loop.drop("refused")
         if not self.fits():
             self.hide()
         elif self.is_hidden and self.is_only_small():
@@ -136,7 +136,7 @@ class Display:
         """Shows the session again, where it fits."""
         self.cover, self.is_refused = "", False
         self.outer.waiting += terminal.CLEARED
-        self.moments.drop("hide")
+        self.loop.drop("hide")
         self.is_hidden = not self.fits()
         if self.is_hidden:
             self.tell_small()
@@ -158,7 +158,7 @@ class Display:
         self.is_hidden = True
         left = self.settled_at - time.monotonic()
         if left > 0 and terminal.is_large_enough(self.outer.size()):
-            self.moments.later("hide", left, self.tell_small)
+            self.loop.later("hide", left, self.tell_small)
         else:
             self.tell_small()
 
@@ -184,7 +184,7 @@ class Display:
     def size_asked(self, size: terminal.Size) -> None:
         """Waits for a size that the session was given."""
         self.given, self.settled_at, self.is_refused = size, time.monotonic() + SETTLES, False
-        self.moments.later("refused", SETTLES + REFUSES, self.refused)
+        self.loop.later("refused", SETTLES + REFUSES, self.refused)
 
     def refused(self) -> None:
         """Tells where the session hasn't got the size that it was given."""
@@ -194,14 +194,14 @@ class Display:
     def resized(self) -> None:
         """Goes by a new size of the terminal."""
         self.is_refused = False
-        self.moments.drop("refused")
+        self.loop.drop("refused")
         if not self.fits():
             self.hide()
         elif self.is_hidden and self.is_only_small():
             self.uncover()
         elif self.cover:
             self.show(self.cover)
-        self.moments.later("repaint", SETTLES, self.resettle)
+        self.loop.later("repaint", SETTLES, self.resettle)
 
     def resettle(self) -> None:
         """Paints all anew, where the session's new size hasn't had that done."""
@@ -226,9 +226,9 @@ class Display:
         self.told = text
         self.put_told()
         if seconds:
-            self.moments.later("told", seconds, self.end_told)
+            self.loop.later("told", seconds, self.end_told)
         else:
-            self.moments.drop("told")
+            self.loop.drop("told")
 
     def put_told(self) -> None:
         """Writes that line, where the terminal isn't in the middle of something."""
@@ -240,7 +240,7 @@ class Display:
 
     def end_told(self) -> None:
         """Shows the session's last row again."""
-        self.moments.drop("told")
+        self.loop.drop("told")
         if self.told:
             self.told = ""
             self.resettle()

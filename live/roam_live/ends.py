@@ -3,7 +3,6 @@ from __future__ import annotations
 
 import signal
 import socket
-from collections.abc import Container
 
 from roam_live.carriers import is_datagram
 from roam_live.program import read
@@ -43,9 +42,9 @@ class Options:
         self.far, self.greeted, self.server, self.session = far, greeted, server, session
 
 
-def end_for(wakeup: int, readable: Container[object]) -> None:
+def end_for(wakeup: int) -> None:
     """Ends for a signal that came."""
-    for number in (read(wakeup) or b"") if wakeup in readable else b"":
+    for number in read(wakeup) or b"":
         if number in SIGNALS:
             raise Ended(128 + number)
 

@@ -2,13 +2,13 @@
 from __future__ import annotations
 
 import os
-import select
 import socket
 import time
 
 from roam_live.bells import BellFollower
 from roam_live.carriers import Carrier, is_datagram
 from roam_live.ends import FORGOTTEN_AFTER, PEER_LIMIT, Ended, Options, end_for, loopback_socket, received
+from roam_live.loops import Loop, is_taken
 from roam_live.program import Fault, connected_now, opened_process
 from roam_live.relayed import BELL, ENDED, KEYPAD, KILLED, PLACES_LIMIT, RECTS, Stream, Waiting
 from roam_live.sessions import Session
@@ -21,13 +21,16 @@ ALONE = 30.0
 class Far:
     """The end beside the server: a stream to its socket for each client, or a UDP socket."""
 
-    def __init__(self, asked: Options, wakeup: int) -> None:
-        self.asked, self.wakeup = asked, wakeup
-        self.server = opened_process(asked.server) if asked.server else None
+    def __init__(self, asked: Options, wakeup: int, loop: Loop | None = None) -> None:
+        self.asked, self.loop = asked, loop or Loop()
+        self.loop.each(self.prepare)
+        self.loop.add(wakeup, lambda: end_for(wakeup))
+        if asked.server:
+            self.loop.add(opened_process(asked.server), self.tell_end)
         # Nobody else may be there to see the shells' end.
         self.place = Session(asked.dir, server=asked.server) if asked.server and asked.dir else None
-        self.shells = ShellsWatch(self.place) if self.place else None
-        self.bells = BellFollower(asked.dir)
+        self.shells = ShellsWatch(self.place, self.loop) if self.place else None
+        self.bells = BellFollower(asked.dir, self.loop, lambda pane: self.stream.tell(0, BELL + bytes([pane])))
         self.waiting = Waiting()
         self.sockets: dict[int, socket.socket | Carrier] = {}
         self.moments: dict[int, float] = {}
@@ -39,6 +42,8 @@ class Far:
         self.stream = Stream(0, 1, asked.session or "-")
         if asked.greeted:
             self.stream.session = "-"
+        self.loop.add(1, None, self.flush, has_more=lambda: self.stream.going)
+        self.loop.add(0, self.hear)
 
     def send(self, peer: int, datagram: bytes) -> None:
         """Sends a client's datagram to the server."""
@@ -47,6 +52,7 @@ class Far:
                 while len(self.sockets) >= PEER_LIMIT:
                     self.drop(min(self.moments, key=self.moments.__getitem__))
                 self.sockets[peer] = self.opened()
+                self.join(peer, self.sockets[peer])
             self.moments[peer] = time.monotonic()
             self.sockets[peer].send(datagram)
         except OSError:
@@ -63,7 +69,9 @@ class Far:
 
     def drop(self, peer: int) -> None:
         """Forgets a client."""
-        self.sockets.pop(peer).close()
+        end = self.sockets.pop(peer)
+        self.loop.remove(end)
+        end.close()
         del self.moments[peer]
         self.waiting.forget(peer)
 
@@ -92,9 +100,14 @@ class Far:
     def tell_end(self) -> None:
         """Tells that the session has ended, or that its server was killed, and ends."""
         self.stream.tell(0, KILLED if self.place and self.place.ending()[1] else ENDED)
-        while self.stream.going and select.select([], [1], [], ALONE)[1] and self.stream.flush():
+        while self.stream.going and is_taken(1, ALONE) and self.stream.flush():
             pass
         raise Ended(0)
+
+    def flush(self) -> None:
+        """Writes what the other end takes; where it is gone this ends."""
+        if not self.stream.flush():
+            raise Ended(0)
 
     def hear(self) -> None:
         """Takes what came from the other end."""
@@ -104,49 +117,43 @@ class Far:
         for peer, text in frames:
             if peer and is_datagram(text):
                 self.send(peer, text)
+        self.drop_silent()
 
-    def hear_server(self, end: socket.socket | Carrier, peer: int, has_come: bool, takes: bool) -> None:
-        """Takes what came for a client, and hands the server what it takes."""
-        if not isinstance(end, Carrier):
-            came: list[bytes] | None = [datagram for datagram, _ in received(end)] if has_come else []
+    def join(self, peer: int, end: socket.socket | Carrier) -> None:
+        """Has what comes from the server for a client carried, and what goes to it."""
+        if isinstance(end, Carrier):
+            carrier = end
+            self.loop.add(carrier, lambda: self.hear_server(peer, carrier.received()), lambda: self.flush_server(peer, carrier),
+                          has_more=lambda: carrier.going)
         else:
-            came = end.received() if has_come else []
-            if came is None or takes and not end.flush():
-                self.drop(peer)
-                return
-        for datagram in came or []:
+            port = end
+            self.loop.add(port, lambda: self.hear_server(peer, [datagram for datagram, _ in received(port)]))
+
+    def hear_server(self, peer: int, datagrams: list[bytes] | None) -> None:
+        """Takes what came for a client; None where the server has left it."""
+        if datagrams is None:
+            self.drop(peer)
+        for datagram in datagrams or []:
             self.waiting.add(peer, datagram)
+
+    def flush_server(self, peer: int, carrier: Carrier) -> None:
+        """Writes what the server takes of a client's; one that it has left is forgotten."""
+        if not carrier.flush():
+            self.drop(peer)
+
+    def prepare(self) -> float:
+        """Tells what is new, and by when something is due."""
+        if self.asked.dir:
+            self.tell_rects(self.asked.dir)
+        self.tell_keypads()
+        self.stream.fill(self.waiting)
+        if time.monotonic() > self.stream.heard + ALONE:
+            raise Fault(f"the other end has said nothing for {ALONE:.0f} s")
+        return min(self.stream.due_at(), self.stream.heard + ALONE)
 
     def turn(self) -> None:
         """Waits until something can be done, and does it."""
-        if self.asked.dir:
-            self.tell_rects(self.asked.dir)
-        self.stream.fill(self.waiting)
-        now = time.monotonic()
-        if now > self.stream.heard + ALONE:
-            raise Fault(f"the other end has said nothing for {ALONE:.0f} s")
-        peers = {end: peer for peer, end in self.sockets.items()}
-        sources: list[int | socket.socket | Carrier] = [self.wakeup, 0, *([self.server] if self.server else [])]
-        sources += [*(self.shells.sources() if self.shells else []), *self.bells.sources(), *peers]
-        targets: list[int | Carrier] = [1] if self.stream.going else []
-        targets += [end for end in peers if isinstance(end, Carrier) and end.going]
-        until = min(self.stream.due_at(), self.stream.heard + ALONE, *([self.shells.due] if self.shells and self.shells.due else []))
-        readable, writable, _ = select.select(sources, targets, [], max(0.0, until - now) + 0.001)
-        end_for(self.wakeup, readable)
-        if self.server in readable:
-            self.tell_end()
-        if self.shells:
-            self.shells.turn(readable)
-        for pane in self.bells.rung(readable):
-            self.stream.tell(0, BELL + bytes([pane]))
-        self.tell_keypads()
-        for end in peers:
-            self.hear_server(end, peers[end], end in readable, end in writable)
-        if 1 in writable and not self.stream.flush():
-            raise Ended(0)
-        if 0 in readable:
-            self.hear()
-            self.drop_silent()
+        self.loop.turn()
 
     def close(self) -> None:
         """Closes the sockets."""

@@ -2,10 +2,10 @@
 from __future__ import annotations
 
 import os
-import select
 import socket
 import time
 
+from roam_live.loops import READ, WRITE, comes, ready
 from roam_live.program import Fault, connected_now, read, reason
 
 TYPE_CHECKING = False
@@ -97,7 +97,7 @@ class Link:
 
     def comes(self, seconds: float) -> bool:
         """Whether something comes in so many seconds."""
-        return bool(select.select([self.end()], [], [], seconds)[0])
+        return comes(self.end(), seconds)
 
     def painted(self) -> bytes | None:
         """What was painted; None where nothing came, and nothing where the connection has ended."""
@@ -119,8 +119,8 @@ class Link:
             if not has_said and not self.waiting:
                 has_said = True
                 self.end().shutdown(socket.SHUT_WR)
-            readable, writable, _ = select.select([self.peer], [self.peer] if self.waiting else [], [], 0.1)
-            has_ended = bool(writable and not self.send() or readable and self.painted() == b"")
+            events = ready(self.end(), READ | WRITE if self.waiting else READ, 0.1)
+            has_ended = bool(events & WRITE and not self.send() or events & READ and self.painted() == b"")
         self.close()
         return has_ended and not self.waiting
 

@@ -5,18 +5,19 @@ import contextlib
 import itertools
 import os
 import pathlib
-import select
 import shlex
 import socket
 import subprocess
 import time
-from collections.abc import Callable, Container, Iterator
+from collections.abc import Callable, Iterator
 
 from roam_live.bells import BellSource
-from roam_live.carriers import Carrier, is_datagram, listening
+from roam_live.carriers import Carrier, is_datagram
 from roam_live.ends import FORGOTTEN_AFTER, PEER_LIMIT, Ended, Options, end_for, loopback_socket, received
 from roam_live.lasting import Lasting
-from roam_live.program import Fault, count_clients, is_own_peer, logs, make_room_in_logs, opened_process, read, reason, replace_text, say
+from roam_live.listeners import Listener
+from roam_live.loops import Loop
+from roam_live.program import Fault, count_clients, logs, make_room_in_logs, opened_process, read, reason, replace_text, say
 from roam_live.relayed import BELL, ENDED, KEYPAD, KILLED, RECTS, BadWords, Stream, Waiting
 from roam_live.words import Said
 
@@ -38,10 +39,6 @@ END_WAIT = 1.0
 
 # A link that was there for so long was sound: what breaks it is no fault of the command.
 SOUND = 5.0
-
-# As many clients are connected at once as peers are known; another waits until one has left, and so many seconds where the system has no
-# descriptor for it.
-DEAF = 1.0
 
 # So often it is looked whether a client is noted.
 LOOKS = 5.0
@@ -93,10 +90,20 @@ class RunningCommand:
         target, source, errors = (end.fileno() for end in self.ends)
         self.errors: int | None = errors
         self.said = Said()
+        self.loop: Loop | None = None
         for end in (target, source, errors):
             os.set_blocking(end, False)
         self.stream = Stream(source, target, session)
         self.since = time.monotonic()
+
+    def join(self, loop: Loop, hears: Callable[[], object]) -> None:
+        """Has a loop carry what goes to the command, pass on what it says, and call where something came."""
+        self.loop = loop
+        if self.errors is not None:
+            loop.add(self.errors, self.pass_errors, hears=lambda: self.errors is not None)
+        loop.add(self.stream.target, None, self.stream.flush, has_more=lambda: self.stream.going)
+        # Its end is seen where it is read: it may have said something.
+        loop.add(self.stream.source, hears)
 
     def pass_errors(self) -> None:
         """Says what the command said on its standard error, as far as that isn't too much: at the terminal at first, and in the log later,
@@ -116,6 +123,8 @@ class RunningCommand:
         self.pass_errors()
         # What is left in Python's own buffers is nothing: the descriptors alone were used.
         for end in self.ends:
+            if self.loop:
+                self.loop.remove(end)
             end.close()
         self.errors = None
 
@@ -144,15 +153,19 @@ class Near:
     """The end beside the clients: the socket at which they connect, or a port of loopback, and the command, which is started as often as
     needed."""
 
-    def __init__(self, asked: Options, wakeup: int) -> None:
-        self.asked, self.wakeup = asked, wakeup
+    def __init__(self, asked: Options, wakeup: int, loop: Loop | None = None) -> None:
+        self.asked, self.loop = asked, loop or Loop()
+        self.loop.each(self.prepare)
+        self.loop.add(wakeup, lambda: end_for(wakeup))
+        if asked.owner:
+            self.loop.add(opened_process(asked.owner), self.left)
         self.port = bound_port(asked.port)
-        self.listener = listening(os.path.join(asked.dir, "clients")) if asked.dir else None
-        self.bells = BellSource(asked.dir) if asked.dir else None
+        if self.port:
+            self.loop.add(self.port, self.hear_port)
+        self.listener = self.listening(asked.dir) if asked.dir else None
+        self.bells = BellSource(asked.dir, self.loop) if asked.dir else None
         self.lasting = Lasting(asked.dir) if asked.dir else None
         self.carriers: list[Carrier] = []
-        self.deaf_until = 0.0
-        self.owner = opened_process(asked.owner) if asked.owner else None
         self.waiting = Waiting()
         self.peers = Peers(self.waiting.forget)
         self.session = "-"
@@ -166,6 +179,10 @@ class Near:
         self.is_over = False
         # What is noted of the session's end.
         self.ended = ""
+
+    def left(self) -> None:
+        """Ends, since the process of --with has."""
+        raise Ended(0)
 
     def is_silent(self) -> bool:
         """Whether there is no link that is known to carry anything."""
@@ -192,7 +209,9 @@ class Near:
     def start(self, now: float) -> None:
         """Starts a command; where the system refuses one later it is told of, and tried again."""
         try:
-            self.tries.append(RunningCommand(self.asked.command, self.session, not self.has_answered))
+            link = RunningCommand(self.asked.command, self.session, not self.has_answered)
+            link.join(self.loop, lambda: self.hear(link))
+            self.tries.append(link)
         except OSError as fault:
             line = f"{self.asked.command[0]}: {fault.strerror}"
             if not self.has_answered:
@@ -222,7 +241,7 @@ class Near:
         self.drop(link)
         if is_first:
             line = f"{shlex.join(self.asked.command)} ended with status {link.status()}, and hadn't answered"
-            if self.owner or self.asked.alone is not None:
+            if self.asked.owner or self.asked.alone is not None:
                 raise Fault(line)
             say(line)
 
@@ -312,93 +331,65 @@ class Near:
             except OSError:
                 pass
 
-    def hear_clients(self, readable: Container[object], writable: Container[object]) -> None:
-        """Takes what came from clients, those that came, and what they take."""
-        if self.port and self.port in readable:
-            for datagram, address in received(self.port):
-                self.waiting.add(self.peers.number(address), datagram)
-            self.peers.drop_silent()
-        if self.listener and self.listener in readable:
-            self.take_client(self.listener)
-        for carrier in list(self.carriers):
-            datagrams = carrier.received() if carrier in readable else []
-            if datagrams is None or carrier in writable and not carrier.flush():
-                self.part(carrier)
-                continue
-            for datagram in datagrams:
-                self.waiting.add(self.peers.number(carrier), datagram)
+    def listening(self, folder: str) -> Listener:
+        """The socket at which clients connect; as many as peers are known, and another waits until one has left."""
+        return Listener(self.loop, os.path.join(folder, "clients"), self.take_client, lambda: len(self.carriers) < PEER_LIMIT,
+                        lambda fault: say(f"a client waits: {reason(fault)}"))
 
-    def take_client(self, listener: socket.socket) -> None:
-        """Takes a client that came and is this user's, as far as the system has a descriptor for it."""
-        try:
-            peer = listener.accept()[0]
-            if is_own_peer(peer):
-                self.carriers.append(Carrier(peer))
-            else:
-                peer.close()
-        except BlockingIOError:
-            # It has left.
-            pass
-        except OSError as fault:
-            self.deaf_until = time.monotonic() + DEAF
-            say(f"a client waits: {reason(fault)}")
+    def take_client(self, peer: socket.socket) -> None:
+        """Takes a client that came."""
+        carrier = Carrier(peer)
+        self.carriers.append(carrier)
+        self.loop.add(carrier, lambda: self.hear_client(carrier), lambda: self.flush_client(carrier), has_more=lambda: carrier.going)
 
-    def takes_clients(self) -> bool:
-        """Whether another client is taken now."""
-        return self.listener is not None and len(self.carriers) < PEER_LIMIT and time.monotonic() >= self.deaf_until
+    def flush_client(self, carrier: Carrier) -> None:
+        """Writes what a client takes; one that has left is let go."""
+        if not carrier.flush():
+            self.part(carrier)
+
+    def hear_client(self, carrier: Carrier) -> None:
+        """Takes what came from a client; one that has left, or says what is no datagram, is let go."""
+        datagrams = carrier.received()
+        if datagrams is None:
+            self.part(carrier)
+        for datagram in datagrams or []:
+            self.waiting.add(self.peers.number(carrier), datagram)
+
+    def hear_port(self) -> None:
+        """Takes what came at the port."""
+        for datagram, address in received(self.port) if self.port else []:
+            self.waiting.add(self.peers.number(address), datagram)
+        self.peers.drop_silent()
 
     def part(self, carrier: Carrier) -> None:
         """Lets a client go."""
+        self.loop.remove(carrier)
         carrier.close()
         self.carriers.remove(carrier)
         if carrier in self.peers.numbers:
             self.peers.drop(self.peers.numbers[carrier])
 
-    def wait_time(self) -> float | None:
-        """How long nothing is due."""
-        now = time.monotonic()
-        moments = [self.next_try] if self.is_silent() and (self.has_answered or not self.tries) else []
-        moments += [] if self.asked.alone is None else [self.looked_at + LOOKS]
-        moments += [self.deaf_until] if self.deaf_until > now else []
-        if self.link:
-            moments += [self.link.stream.due_at(), *([] if self.is_silent() else [self.link.stream.silent_at(SILENT)])]
-        return max(0.0, min(moments) - now) + 0.001 if moments else None
-
-    def turn(self) -> None:
-        """Waits until something can be done, and does it."""
+    def prepare(self) -> float | None:
+        """Does what is due before a wait, and tells by when something is due again."""
         self.tend()
         self.look()
         if self.lasting:
             self.lasting.turn()
         if self.link:
             self.link.stream.fill(self.waiting)
-        links = [*self.tries, *([self.link] if self.link else [])]
-        ends = [end for end in (self.port, self.owner, *self.carriers) if end is not None]
-        ends += [self.listener] if self.listener and self.takes_clients() else []
-        sources: list[int | socket.socket | Carrier] = [self.wakeup, *ends, *(link.stream.source for link in links)]
-        sources += [link.errors for link in links if link.errors]
-        sources += self.bells.sources() if self.bells else []
-        targets: list[int | Carrier] = [link.stream.target for link in links if link.stream.going]
-        targets += [carrier for carrier in self.carriers if carrier.going]
-        readable, writable, _ = select.select(sources, targets, [], self.wait_time())
-        end_for(self.wakeup, readable)
-        if self.owner in readable:
-            raise Ended(0)
-        self.hear_clients(readable, writable)
-        if self.bells:
-            self.bells.turn(readable)
-        for link in links:
-            if link.errors in readable:
-                link.pass_errors()
-            # What another has taken the place of is closed. The end of a command is seen where it is read: it may have said something.
-            if link.stream.target in writable and self.has(link):
-                link.stream.flush()
-            if link.stream.source in readable and self.has(link):
-                self.hear(link)
+        return min(self.moments(), default=None)
 
-    def has(self, link: RunningCommand) -> bool:
-        """Whether a command is still wanted."""
-        return link is self.link or link in self.tries
+    def moments(self) -> list[float]:
+        """When something is due."""
+        found = [self.next_try] if self.is_silent() and (self.has_answered or not self.tries) else []
+        found += [] if self.asked.alone is None else [self.looked_at + LOOKS]
+        if self.link:
+            found += [self.link.stream.due_at(), *([] if self.is_silent() else [self.link.stream.silent_at(SILENT)])]
+        return found
+
+    def turn(self) -> None:
+        """Waits until something can be done, and does it."""
+        self.loop.turn()
 
     def close(self) -> None:
         """Ends all commands."""
@@ -408,8 +399,9 @@ class Near:
             link.status()
         for carrier in list(self.carriers):
             self.part(carrier)
-        if self.bells:
-            self.bells.close()
+        for source in (self.listener, self.bells):
+            if source:
+                source.close()
         if self.asked.dir:
             self.leave(self.asked.dir)
 
@@ -417,5 +409,5 @@ class Near:
         """Notes in the folder what has ended, and removes what lies there of this end."""
         if self.is_over:
             replace_text(os.path.join(folder, "ended"), self.ended)
-        for name in ("clients", "session", "rects"):
+        for name in ("session", "rects"):
             pathlib.Path(folder, name).unlink(missing_ok=True)

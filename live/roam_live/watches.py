@@ -3,8 +3,9 @@ from __future__ import annotations
 
 import os
 import time
-from collections.abc import Container
+from collections.abc import Callable
 
+from roam_live.loops import Loop
 from roam_live.program import Fault, opened_process, reason
 
 TYPE_CHECKING = False
@@ -18,12 +19,11 @@ SOUND = 5.0
 
 
 class ShellsWatch:
-    """What keeps the shells of a session, where that is known."""
+    """What keeps the shells of a session, where that is known: a call for each line that a person is to know."""
 
-    def __init__(self, place: Kept) -> None:
-        self.place = place
+    def __init__(self, place: Kept, loop: Loop, tells: Callable[[str], object] = lambda line: None) -> None:
+        self.place, self.loop, self.tells = place, loop, tells
         self.file: int | None = None
-        self.due: float | None = None
         # How often in a row it ended soon, or couldn't be started, and since when it runs.
         self.faults = 0
         self.since = 0.0
@@ -32,47 +32,44 @@ class ShellsWatch:
     def follow(self) -> None:
         """Follows the process that runs now."""
         process = self.place.process("shells")
-        self.file = opened_process(process) if process else None
+        if process:
+            self.file = opened_process(process)
+            self.loop.add(self.file, self.ended)
         self.since = time.monotonic()
-
-    def sources(self) -> list[int]:
-        """What can be read at its end."""
-        return [] if self.file is None else [self.file]
-
-    def wait_time(self) -> float | None:
-        """How long nothing is due; None where nothing is."""
-        return max(0.0, self.due - time.monotonic()) if self.due else None
 
     def wait(self) -> float:
         """Has it tried after a pause, which grows with each fault, and tells that pause."""
         pause = PAUSES[min(self.faults, len(PAUSES) - 1)]
         self.faults += 1
-        self.due = time.monotonic() + pause
+        self.loop.later("shells", pause, self.revive)
         return pause
 
-    def turn(self, readable: Container[object]) -> str:
-        """Does what is due, and tells of it in a line; nothing where there is nothing to tell."""
-        if self.file is not None and self.file in readable:
-            return self.ended(self.file)
-        if not self.due or time.monotonic() < self.due:
-            return ""
-        self.due = None
+    def stop(self) -> None:
+        """Starts nothing any more."""
+        self.loop.drop("shells")
+
+    def revive(self) -> None:
+        """Has the shells started anew."""
         try:
             if self.place.revive_shells():
                 self.follow()
-                return "the shells had ended: new ones are there, and what was typed meanwhile is dropped"
+                self.tells("the shells had ended: new ones are there, and what was typed meanwhile is dropped")
+                return
         except (Fault, OSError) as fault:
             why = reason(fault).removeprefix(f"session {self.place.name}: ")
-            return f"the shells have ended: {why}; tried again in {self.wait()} s"
+            self.tells(f"the shells have ended: {why}; tried again in {self.wait()} s")
+            return
         # Another starts them just now, or the session has ended.
-        self.due = time.monotonic() + PAUSES[1]
-        return ""
+        self.loop.later("shells", PAUSES[1], self.revive)
 
-    def ended(self, file: int) -> str:
+    def ended(self) -> None:
         """Takes note of an end, and tells of one that came soon after the start."""
-        os.close(file)
-        self.file = None
+        if self.file is not None:
+            self.loop.remove(self.file)
+            os.close(self.file)
+            self.file = None
         if time.monotonic() > self.since + SOUND:
             self.faults = 0
         pause = self.wait()
-        return f"what keeps the shells ended again; it is started anew in {pause} s" if self.faults > 1 else ""
+        if self.faults > 1:
+            self.tells(f"what keeps the shells ended again; it is started anew in {pause} s")

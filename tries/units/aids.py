@@ -14,6 +14,7 @@ import types
 import unittest
 from unittest import mock
 
+from roam_live.loops import Loop
 from roam_live.program import TOOLS
 
 
@@ -26,6 +27,25 @@ def loaded(name: str) -> types.ModuleType:
     module = importlib.util.module_from_spec(spec)
     loader.exec_module(module)
     return module
+
+
+class StillLoop(Loop):
+    """A loop that doesn't wait: how long it would have is told, and how many ends had something."""
+
+    waited: "float | None" = None
+    found = 0
+
+    def ready(self, seconds: "float | None") -> "dict[int, int]":
+        """What can be done now."""
+        self.waited = seconds
+        ready = super().ready(0)
+        self.found += len(ready)
+        return ready
+
+    def turns(self, count: int = 1) -> None:
+        """Takes so many turns."""
+        for _ in range(count):
+            self.turn()
 
 
 class Case(unittest.TestCase):

@@ -3,12 +3,12 @@ import contextlib
 import io
 import os
 import pathlib
-import select
 import socket
 import tempfile
 import unittest
 from unittest import mock
 
+from aids import StillLoop
 from roam_live.bells import AGAIN, APART, MOST_FOLLOWERS, BellFollower, Bells as Finder, BellSource
 
 # What a program writes, and whether a bell rings in it.
@@ -31,28 +31,37 @@ class Bells(unittest.TestCase):
             patched = mock.patch(name, lambda: self.now)
             patched.start()
             self.addCleanup(patched.stop)
-        self.source = BellSource(self.folder)
+        self.loop = StillLoop()
+        self.source = BellSource(self.folder, self.loop)
         self.addCleanup(self.source.close)
 
     def turns(self, count=1):
-        """So many turns of the source, and how many of them had something to do."""
-        busy = 0
-        for _ in range(count):
-            readable = select.select(self.source.sources(), [], [], 0)[0]
-            busy += bool(readable)
-            self.source.turn(readable)
-        return busy
+        """So many turns of the source, and how many ends of it had something."""
+        before = self.loop.found
+        self.loop.turns(count)
+        return self.loop.found - before
 
-    def follower(self):
-        """One who follows."""
-        one = BellFollower(self.folder)
-        one.sources()
+    def follower(self, folder=None):
+        """One who follows, with a loop of its own."""
+        rung, words = [], []
+        one = BellFollower(folder or self.folder, StillLoop(), rung.append, words.append)
+        one.rung, one.words = rung, words
+        one.connect()
         self.addCleanup(lambda: one.peer and one.peer.close())
         return one
 
     def heard(self, one):
-        """What one is told now."""
-        return one.rung(select.select(one.sources(), [], [], 0)[0])
+        """The panes of which one is told now."""
+        one.loop.turn()
+        rung = list(one.rung)
+        one.rung.clear()
+        return rung
+
+    def said(self, one):
+        """What one was told in words."""
+        words = list(one.words)
+        one.words.clear()
+        return words
 
     def test_seventeenth(self):
         """Sixteen are told; one more waits, which costs nobody anything, and is told once another has left."""
@@ -62,6 +71,7 @@ class Bells(unittest.TestCase):
         self.assertEqual([self.heard(one) for one in there], [[3]] * MOST_FOLLOWERS + [[]])
         self.assertIsNotNone(there[-1].peer)
         self.assertEqual(self.turns(5), 0)
+        there[0].loop.remove(there[0].peer)
         there[0].peer.close()
         there[0].peer = None
         self.turns(3)
@@ -80,7 +90,7 @@ class Bells(unittest.TestCase):
             self.heard(one)
             self.now += AGAIN / 10
             before = one.peer
-            one.sources()
+            one.connect()
             made += before is None and one.peer is not None
             self.turns(2)
         self.assertLessEqual(made, 2)
@@ -89,23 +99,24 @@ class Bells(unittest.TestCase):
     def test_wait_time(self):
         """The moment at which it is connected to again is one to wake for; without an end there is none."""
         one = self.follower()
-        self.assertIsNone(one.wait_time())
+        self.assertIsNone(one.loop.wait_time())
         self.turns()
         self.source.drop(self.source.followers[0])
         self.heard(one)
-        self.assertEqual(one.wait_time(), AGAIN)
-        self.now += AGAIN
-        self.assertEqual(one.wait_time(), 0)
-        one.sources()
-        self.assertIsNone(one.wait_time())
-        self.assertEqual(BellFollower(os.path.join(self.folder, "none")).wait_time(), None)
+        self.assertEqual(one.loop.wait_time(), AGAIN)
+        self.now += AGAIN / 2
+        self.assertEqual(one.loop.wait_time(), AGAIN / 2)
+        self.now += AGAIN / 2
+        self.assertIsNone(one.loop.wait_time())
+        self.assertIsNotNone(one.peer)
+        self.assertIsNone(self.follower(os.path.join(self.folder, "none")).loop.wait_time())
 
     def test_another_user(self):
         """Neither end takes one of another user."""
         with mock.patch("os.getuid", return_value=os.getuid() + 1):
             one = self.follower()
             self.assertIsNone(one.peer)
-            self.assertEqual(one.wait_time(), AGAIN)
+            self.assertEqual(one.loop.wait_time(), AGAIN)
         there = socket.socket(socket.AF_UNIX, socket.SOCK_STREAM)
         self.addCleanup(there.close)
         there.settimeout(5)
@@ -131,25 +142,24 @@ class Bells(unittest.TestCase):
         self.turns()
         self.source.say("pane 3 isn't sh\u00f6wn")
         self.assertEqual(self.heard(one), [])
-        self.assertEqual((one.said(), one.said()), (["pane 3 isn't sh?wn"], []))
+        self.assertEqual((self.said(one), self.said(one)), (["pane 3 isn't sh?wn"], []))
         self.source.standing = "one for who comes"
         late = self.follower()
         self.turns()
         self.heard(late)
         self.heard(one)
-        self.assertEqual((one.said(), late.said()), ([], ["one for who comes"]))
+        self.assertEqual((self.said(one), self.said(late)), ([], ["one for who comes"]))
         self.source.followers[0].send(b"say one\nsay \x1b]0;x\x07\nsay " + b"x" * 300 + b"\nsay two\n")
         self.heard(one)
-        self.assertEqual(one.said(), ["two"])
+        self.assertEqual(self.said(one), ["two"])
 
     def test_taken(self):
         """Where another listens there the socket is left to it, and who would tell bells goes on without."""
         said = io.StringIO()
         with contextlib.redirect_stderr(said):
-            other = BellSource(self.folder)
+            other = BellSource(self.folder, StillLoop())
         self.assertIn("no bells are told: somebody listens at ", said.getvalue())
-        self.assertEqual(other.sources(), [])
-        other.turn([])
+        self.assertEqual(other.loop.sources, {})
         other.tell(1)
         other.close()
         self.assertIsNotNone(self.follower().peer)
@@ -158,7 +168,7 @@ class Bells(unittest.TestCase):
         """Its own socket's file is removed at the end, and none that took its place."""
         path = pathlib.Path(self.folder, "bells")
         path.rename(path.with_name("kept"))
-        other = BellSource(self.folder)
+        other = BellSource(self.folder, StillLoop())
         self.source.close()
         self.assertTrue(path.exists())
         other.close()

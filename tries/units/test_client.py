@@ -5,7 +5,7 @@ import signal
 import termios
 from unittest import mock
 
-from aids import Case, closed, read_now
+from aids import Case, StillLoop, closed, read_now
 from roam_live import client, display, terminal
 from roam_live.client import Client
 from roam_live.program import Fault, begun
@@ -84,7 +84,7 @@ class Fronts(Case):
         os.set_blocking(self.master, False)
         self.wakeup, self.wakes = self.pipe()
         self.patch_of(client, "woken", return_value=self.wakeup)
-        self.front = Client(self.place, False, "C-b", "adaptive", lambda: False)
+        self.front = Client(self.place, False, "C-b", "adaptive", lambda: False, StillLoop())
         self.addCleanup(lambda: closed(self.front.display.outer.end))
         self.addCleanup(lambda: self.front.link.close())
 
@@ -98,10 +98,8 @@ class Fronts(Case):
 
     def turn(self, count=2):
         """So many turns that wait for nothing."""
-        select = client.select.select
-        with mock.patch.object(client.select, "select", lambda *words: select(*words[:3], 0)):
-            for _ in range(count):
-                self.front.turn()
+        for _ in range(count):
+            self.front.turn()
 
     def connect(self):
         """Connects; the start's end."""
@@ -192,10 +190,10 @@ class Loop(Fronts):
             self.turn(1)
             self.assertEqual((self.front.left, self.front.status), ("[terminated]", status))
         self.front.left = None
-        self.front.moments.due.clear()
+        self.front.loop.due.clear()
         os.write(self.wakes, bytes([signal.SIGWINCH]))
         self.turn(1)
-        self.assertEqual(self.front.moments.due["size"][0], 100.3)
+        self.assertEqual(self.front.loop.due["size"][0], 100.3)
         os.write(self.wakes, bytes([signal.SIGCONT]))
         with mock.patch.object(self.front.display, "enter_again") as enters:
             self.turn(1)
@@ -240,7 +238,7 @@ class Loop(Fronts):
         self.front.place.processes["terminals"] = None
         start.close()
         self.turn()
-        self.assertEqual((self.front.link.peer, self.front.moments.due["connect"][0]), (None, 100.1))
+        self.assertEqual((self.front.link.peer, self.front.loop.due["connect"][0]), (None, 100.1))
         self.listener.close()
         self.now += 0.1
         self.turn()
@@ -263,7 +261,7 @@ class Loop(Fronts):
         self.turn()
         start = self.taken(self.listener)
         self.assertEqual(self.front.display.told, "the client start has ended; what was typed last may be lost")
-        self.assertEqual(self.front.moments.due["told"][0], self.now + 3.0)
+        self.assertEqual(self.front.loop.due["told"][0], self.now + 3.0)
         self.shown()
         start.send(b"old" + painting(24, 80, "new"))
         self.turn()
@@ -274,6 +272,7 @@ class Loop(Fronts):
         """The end of the server's process is the session's."""
         reader, writer = self.pipe()
         self.front.server = reader
+        self.front.join()
         os.close(writer)
         self.turn(1)
         self.assertEqual((self.front.left, self.front.status), ("[the session has ended]", 0))
@@ -294,24 +293,25 @@ class Loop(Fronts):
         """Where no process of the server is known it is looked for each two seconds."""
         def leave():
             self.now += 2.0
-            self.front.moments.do_due()
+            self.front.loop.do_due()
             self.front.left = ""
 
         with mock.patch.object(self.front, "turn", leave), mock.patch.object(self.front.link, "part"):
             self.front.run()
-        self.assertEqual((self.place.looks, self.front.moments.due["probe"][0]), (1, self.now + 2.0))
+        self.assertEqual((self.place.looks, self.front.loop.due["probe"][0]), (1, self.now + 2.0))
 
     def test_shells(self):
         """What is told of the shells stands three seconds, and bells ring, with what is said beside them."""
+        bells = self.listening(self.place.folder / "bells")
         self.connect()
-        with mock.patch.object(self.front.shells, "turn", return_value="the shells had ended"):
-            self.turn(1)
-        self.assertEqual((self.front.display.told, self.front.moments.due["told"][0]), ("the shells had ended", 103.0))
-        with mock.patch.object(self.front.bells, "rung", return_value=[2]), mock.patch.object(self.front.commands, "ring") as rings:
-            with mock.patch.object(self.front.bells, "said", return_value=["pane 3 isn't shown"]):
-                self.turn(1)
-        rings.assert_called_once_with(2)
-        self.assertEqual(self.front.display.told, "pane 3 isn't shown")
+        with mock.patch.object(self.place, "revive_shells", return_value=True, create=True):
+            self.front.shells.revive()
+        said = "the shells had ended: new ones are there, and what was typed meanwhile is dropped"
+        self.assertEqual((self.front.display.told, self.front.loop.due["told"][0]), (said, 103.0))
+        self.shown()
+        self.taken(bells).send(b"bell 2\nsay pane 3 isn't shown\n")
+        self.turn()
+        self.assertEqual((self.front.display.told, self.shown().count(b"\x07")), ("pane 3 isn't shown", 1))
 
     def test_limits(self):
         """While 65,536 bytes wait for the terminal nothing more is read of the start."""
@@ -466,7 +466,7 @@ class Wishes(Case):
         person = self.person()
         person.busy = {1: "vi", 2: "less"}
         self.assertEqual((person.types(b"\x02x"), person.display.told), ([], "close vi in pane 1? y closes it"))
-        self.assertNotIn("told", person.moments.due)
+        self.assertNotIn("told", person.loop.due)
         self.assertEqual((person.types(b"y"), person.display.told), (["close"], ""))
         person = self.person()
         person.busy = {1: "vi"}
@@ -494,7 +494,7 @@ class Wishes(Case):
         person = self.person()
         self.assertEqual(person.types(b"\x02[kk"), ["view 1", "view 1"])
         self.assertEqual(person.display.told, "2 rows back: PgUp PgDn up down g G scroll, q ends it")
-        self.assertNotIn("told", person.moments.due)
+        self.assertNotIn("told", person.loop.due)
         self.assertEqual((person.types(b"q"), person.display.told), (["view -500"], ""))
         person.types(b"\x02[")
         person.commands.left()
@@ -503,7 +503,7 @@ class Wishes(Case):
     def test_unknown(self):
         person = self.person()
         person.types(b"\x02Z")
-        self.assertEqual((person.display.told, person.moments.due["told"][0]), ("C-b Z means nothing; C-b ? shows the keys", 101.0))
+        self.assertEqual((person.display.told, person.loop.due["told"][0]), ("C-b Z means nothing; C-b ? shows the keys", 101.0))
 
     def test_watches(self):
         """Who only watches types nothing, and may leave, repaint and have the help."""
@@ -599,9 +599,9 @@ class Painted(Case):
         person = self.person()
         person.display.painted(painting(5, 20))
         person.display.tell("one")
-        self.assertEqual(person.moments.due["told"][0], 101.0)
+        self.assertEqual(person.loop.due["told"][0], 101.0)
         person.display.tell("two", None)
-        self.assertNotIn("told", person.moments.due)
+        self.assertNotIn("told", person.loop.due)
         person.display.end_told()
         person.display.end_told()
         self.assertEqual((person.display.told, person.link.lines), ("", ["repaint"]))
@@ -631,10 +631,10 @@ class Painted(Case):
         person.display.outer.waiting.clear()
         person.display.resized()
         self.assertIn(b"help", person.display.outer.waiting)
-        self.assertEqual(person.moments.due["repaint"][0], 100.5)
+        self.assertEqual(person.loop.due["repaint"][0], 100.5)
         person.display.cover = ""
         self.now += 0.5
-        person.moments.do_due()
+        person.loop.do_due()
         self.assertEqual((person.link.lines, person.display.is_stale), (["repaint"], True))
 
     def test_repainted(self):
@@ -642,7 +642,7 @@ class Painted(Case):
         person = self.person()
         person.display.resized()
         person.display.painted(painting(5, 20))
-        self.assertNotIn("repaint", person.moments.due)
+        self.assertNotIn("repaint", person.loop.due)
 
     def test_entered_again(self):
         """After another had the terminal all is painted anew."""
@@ -657,14 +657,14 @@ class Painted(Case):
         """A session has half a second for a size, and two more until it is told that its panes have no room."""
         person = self.person()
         person.display.size_asked((5, 20))
-        self.assertEqual((person.display.settled_at, person.moments.due["refused"][0]), (100.5, 102.5))
+        self.assertEqual((person.display.settled_at, person.loop.due["refused"][0]), (100.5, 102.5))
         person.display.painted(painting(6, 20))
-        self.assertEqual((person.display.cover, person.moments.due["hide"][0]), ("", 100.5))
+        self.assertEqual((person.display.cover, person.loop.due["hide"][0]), ("", 100.5))
         self.now = 100.5
-        person.moments.do_due()
+        person.loop.do_due()
         self.assertTrue(person.display.cover.startswith("too small: 5 by 20 of 6 by 20"))
         self.now = 102.5
-        person.moments.do_due()
+        person.loop.do_due()
         self.assertIn("its panes have no room here", person.display.cover)
         person.display.resized()
         self.assertFalse(person.display.is_refused)

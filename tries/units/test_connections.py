@@ -10,7 +10,7 @@ import unittest
 from unittest import mock
 
 from roam_live import program
-from roam_live.carriers import listening
+from roam_live.listeners import listening
 
 
 class Connections(unittest.TestCase):

@@ -12,7 +12,7 @@ from roam_live.cells import Cells
 from roam_live.choices import PREFIXES
 from roam_live.commands import Commands
 from roam_live.display import Display, wrapped
-from roam_live.moments import Moments
+from roam_live.loops import Loop
 from roam_live.program import noted_client
 from roam_live.rects import NOTHING, Places, Rect
 
@@ -92,12 +92,12 @@ class Person:
     """A person at a terminal, without the processes."""
 
     def __init__(self, rows, cols, watches=False, is_new=False, told=NOTHING, folder=None):
-        self.moments, self.link, self.place = Moments(), Link(watches), Place(folder)
+        self.loop, self.link, self.place = Loop(), Link(watches), Place(folder)
         self.place.told = told
         self.left = None
         with mock.patch.object(display, "Outer", lambda: Outer(rows, cols)):
-            self.display = Display(self.moments, lambda: self.link.say("repaint"))
-        self.commands = Commands(self.place, self.link, self.display, self.moments, self.leave, lambda: is_new)
+            self.display = Display(self.loop, lambda: self.link.say("repaint"))
+        self.commands = Commands(self.place, self.link, self.display, self.loop, self.leave, lambda: is_new)
         self.commands.choose("C-b")
         self.display.begin()
         self.commands.fit_first()
@@ -250,9 +250,9 @@ class Sizes(unittest.TestCase):
     def test_given_and_had(self):
         """A size that was had isn't told as refused, when another makes the session larger later."""
         person = Person(24, 100, is_new=True)
-        self.assertIn("refused", person.moments.due)
+        self.assertIn("refused", person.loop.due)
         person.display.painted(painting(24, 100))
-        self.assertNotIn("refused", person.moments.due)
+        self.assertNotIn("refused", person.loop.due)
         person.passes()
         person.display.painted(painting(40, 120))
         self.assertEqual(person.display.cover, f"too small: 24 by 100 of 40 by 120\n{FITS}\nC-b d leaves")

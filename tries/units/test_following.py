@@ -2,12 +2,12 @@
 import contextlib
 import io
 import pathlib
-import select
 import socket
 import tempfile
 import unittest
 from unittest import mock
 
+from aids import StillLoop
 from roam_live.following import LET_GO, PAUSES, QUIET, TELLS_NOTHING, Following
 
 
@@ -24,7 +24,8 @@ class Follows(unittest.TestCase):
         for patched in (mock.patch("time.monotonic", lambda: self.now), contextlib.redirect_stderr(self.said)):
             patched.__enter__()
             self.addCleanup(patched.__exit__, None, None, None)
-        self.following = Following(str(self.path))
+        self.loop, self.heard, self.losses = StillLoop(), [], 0
+        self.following = Following(str(self.path), self.loop, self.heard.extend, self.lose)
         self.addCleanup(lambda: self.following.peer and self.following.peer.close())
         self.server = self.taken()
 
@@ -43,9 +44,21 @@ class Follows(unittest.TestCase):
         self.addCleanup(one.close)
         return one
 
+    def lose(self):
+        """Takes note that the connection is lost."""
+        self.losses += 1
+
     def turn(self):
         """The lines of a turn."""
-        return self.following.turn(*select.select(self.following.ends(), self.following.takers(), [], 0)[:2])
+        self.heard.clear()
+        self.loop.turn()
+        return list(self.heard)
+
+    def wait_again(self):
+        """Waits until it is connected to again; how long."""
+        wait = self.loop.due["follow panes"][0] - self.now
+        self.now = self.loop.due["follow panes"][0]
+        return round(wait, 3)
 
     def test_lines(self):
         """Lines come in any pieces, and what is asked goes."""
@@ -55,16 +68,16 @@ class Follows(unittest.TestCase):
         self.following.ask("close 1 1")
         self.assertEqual(self.turn(), ["focus 1"])
         self.assertEqual(self.server.recv(64), b"close 1 1\n")
-        self.assertEqual(self.following.moments(), [])
+        self.assertEqual(self.loop.due, {})
 
     def test_quiet(self):
         """A server that takes the connection and tells nothing is told of once, and that it is over."""
-        self.assertEqual(self.following.moments(), [self.now + QUIET])
+        self.assertEqual([moment for moment, _ in self.loop.due.values()], [self.now + QUIET])
         self.now += QUIET
         for _ in range(3):
             self.assertEqual(self.turn(), [])
         self.assertEqual(self.said.getvalue().count(f"the panes can't be followed: {TELLS_NOTHING}\n"), 1)
-        self.assertEqual(self.following.moments(), [])
+        self.assertEqual(self.loop.due, {})
         self.server.send(b"focus 1\n")
         self.turn()
         self.assertEqual((self.following.told, self.said.getvalue().count("the panes are followed again\n")), ("", 1))
@@ -77,12 +90,12 @@ class Follows(unittest.TestCase):
             self.assertEqual(self.turn(), [])
             self.assertEqual(LET_GO in self.said.getvalue(), number > 0)
             self.assertIsNone(self.following.peer)
-            tried.append(round(self.following.again_at - self.now, 3))
             self.assertEqual(self.turn(), [])
             self.assertIsNone(self.following.peer)
-            self.now = self.following.again_at
+            tried.append(self.wait_again())
             self.turn()
             self.server = self.taken()
+        self.assertEqual(self.losses, 9)
         self.assertEqual(tried, [*PAUSES, *[PAUSES[-1]] * 3])
         self.assertFalse(self.following.is_gone)
         self.assertEqual(self.said.getvalue().count(f"the panes can't be followed: {LET_GO}\n"), 1)
@@ -97,7 +110,7 @@ class Follows(unittest.TestCase):
         self.turn()
         self.server.close()
         self.turn()
-        self.now = self.following.again_at
+        self.wait_again()
         self.turn()
         self.taken().send(b"focus 2\n")
         self.assertEqual(self.turn(), ["focus 2"])
@@ -108,7 +121,7 @@ class Follows(unittest.TestCase):
         self.server.close()
         self.turn()
         for fault, is_gone in ((BlockingIOError(11, "full"), False), (OSError(24, "Too many open files"), False), (None, True)):
-            self.now = self.following.again_at
+            self.wait_again()
             with contextlib.ExitStack() as held:
                 if fault:
                     held.enter_context(mock.patch("roam_live.following.connected_now", side_effect=fault))
@@ -116,11 +129,11 @@ class Follows(unittest.TestCase):
                     self.listener.close()
                 self.turn()
             self.assertEqual(self.following.is_gone, is_gone)
-        self.now = self.following.again_at
+        self.wait_again()
         self.path.unlink()
         self.turn()
         self.assertTrue(self.following.is_gone)
         self.listener = self.listens()
-        self.now = self.following.again_at
+        self.wait_again()
         self.turn()
         self.assertFalse(self.following.is_gone)

@@ -6,8 +6,9 @@ import signal
 import struct
 from unittest import mock
 
-from aids import Case, loaded, read_now
+from aids import Case, StillLoop, loaded, read_now
 from roam_live import rects
+from roam_live.loops import READ, WRITE
 from roam_live.program import Fault, begun
 from roam_live.rects import Rect
 
@@ -34,7 +35,7 @@ class Keeper(Case):
     def kept(self, **more):
         """A keeper."""
         known = {"close": False, "server": None, "again": False, "dir": str(self.folder), "command": ["sh"], "instead": None}
-        keeper = shells.Shells(argparse.Namespace(**{**known, **more}), self.wakeup)
+        keeper = shells.Shells(argparse.Namespace(**{**known, **more}), self.wakeup, StillLoop())
         self.addCleanup(self.leave, keeper)
         return keeper
 
@@ -56,9 +57,8 @@ class Keeper(Case):
 
     def turn(self, count=3):
         """So many turns that don't wait."""
-        with mock.patch.object(self.keeper, "wait_time", return_value=0):
-            for _ in range(count):
-                self.keeper.turn()
+        for _ in range(count):
+            self.keeper.turn()
 
     def tell(self, *lines):
         """Has the server tell of its panes."""
@@ -129,16 +129,17 @@ class Panes(Keeper):
     def test_limits(self):
         """A pane that takes nothing has 16,384 bytes wait, and then its program does; one that reads nothing 65,536."""
         pane = self.keeper.panes.get(1) or (self.begin(), self.keeper.panes[1])[1]
+        peer, terminal = (self.keeper.loop.sources[end] for end in (pane.peer.fileno(), pane.terminal))
         pane.to_pane += bytes(16383)
-        self.assertEqual(len(pane.sources()), 2)
+        self.assertEqual((peer.events(), terminal.events()), (READ | WRITE, READ))
         pane.to_pane += b"x"
-        self.assertEqual(pane.sources(), [pane.peer.fileno()])
+        self.assertEqual((peer.events(), terminal.events()), (READ | WRITE, 0))
         pane.to_pane.clear()
-        self.assertEqual(pane.targets(), [])
+        self.assertEqual((peer.events(), terminal.events()), (READ, READ))
         pane.to_terminal += b"x"
-        self.assertEqual(pane.targets(), [pane.terminal])
+        self.assertEqual((peer.events(), terminal.events()), (READ, READ | WRITE))
         pane.to_pane += b"x"
-        self.assertEqual(pane.targets(), [pane.peer.fileno(), pane.terminal])
+        self.assertEqual((peer.events(), terminal.events()), (READ | WRITE, READ | WRITE))
         pane.is_dropping = True
         self.turn(1)
         self.assertEqual((pane.to_terminal, pane.is_dropping, pane.written), (b"", False, 1))
@@ -240,7 +241,7 @@ class Refused(Keeper):
             says = self.patch_of(shells, "say_in")
             self.tell("1 1 1 23 80 4", "focus 1")
             says.assert_called_once_with(f"{self.folder}/p1", "[not started: Too many open files; tried again]\r\n")
-            self.assertEqual(self.keeper.again_at, 100.25)
+            self.assertEqual(self.keeper.loop.due["again"][0], 100.25)
             self.now += 0.24
             self.turn()
             self.assertEqual(connects.call_count, 1)
@@ -252,7 +253,7 @@ class Refused(Keeper):
         self.assertEqual(self.said.getvalue().count("pane 1: Too many open files; tried again\n"), 1)
         self.now += 0.25
         self.turn()
-        self.assertEqual((self.keeper.again_at, self.keeper.refused, self.keeper.panes[1].process), (None, set(), 71))
+        self.assertEqual(("again" in self.keeper.loop.due, self.keeper.refused, self.keeper.panes[1].process), (False, set(), 71))
 
     def test_not_there(self):
         """A pane whose socket isn't there is no place to say so."""
@@ -402,7 +403,7 @@ class Ended(Keeper):
         for _ in range(3):
             self.server.close()
             self.turn(2)
-            self.now = self.keeper.following.again_at or self.now
+            self.now = self.keeper.loop.due["follow panes"][0]
             self.turn(1)
             self.server = self.taken(self.listeners["panes"])
         self.assertEqual(says.call_count, 1)
@@ -436,23 +437,30 @@ class Again(Keeper):
 class Waits(Keeper):
     """How long nothing is due."""
 
+    def wait_time(self):
+        """How long it would wait."""
+        self.turn(1)
+        return self.keeper.loop.waited
+
     def test_moments(self):
-        self.keeper.lasting.due = 160.0
         self.begin()
         self.keeper.lasting.due = 160.0
-        self.assertAlmostEqual(self.keeper.wait_time(), 3.0)
-        for pane in self.keeper.panes.values():
-            pane.look_at = None
-        self.assertAlmostEqual(self.keeper.wait_time(), 60.0)
-        self.keeper.again_at = 100.25
-        self.assertAlmostEqual(self.keeper.wait_time(), 0.25)
-        self.now = 101.0
-        self.assertEqual(self.keeper.wait_time(), 0.0)
-        self.keeper.again_at, self.keeper.asked.close = None, True
-        self.keeper.panes[1].has_ended, self.keeper.panes[1].asked_until = True, 103.0
-        self.assertAlmostEqual(self.keeper.wait_time(), 2.0)
-        self.keeper.untold.add(1)
-        self.assertAlmostEqual(self.keeper.wait_time(), 59.0)
+        self.assertAlmostEqual(self.wait_time(), 3.0)
+        self.now += 3.0
+        self.assertEqual(self.wait_time(), 0.0)
+        self.assertAlmostEqual(self.wait_time(), 57.0)
+        self.keeper.refuse("x", OSError(24, "Too many open files"))
+        self.assertAlmostEqual(self.wait_time(), 0.25)
+        self.now += 0.25
+        self.turn()
+        self.keeper.asked.close = True
+        self.keeper.panes[1].has_ended = True
+        self.turn()
+        self.now += 1.0
+        self.assertAlmostEqual(self.wait_time(), 2.0)
+        self.now += 2.0
+        self.turn()
+        self.assertEqual(read_now(self.server), b"close 1 4\n" * 2)
 
     def test_daily(self):
         """The note of the places is written again where a cleaner took it."""
@@ -498,7 +506,7 @@ class Words(Case):
 
     def test_child(self):
         """What is forked becomes the command, of the pane's size and in its folder, and ends where it can't."""
-        pane = shells.Pane(argparse.Namespace(dir="/d", command=["vi"], instead="/bin/sh"), 3, 1, (5, 40), False, "/tmp")
+        pane = shells.Pane(argparse.Namespace(dir="/d", command=["vi"], instead="/bin/sh"), StillLoop(), 3, 1, (5, 40), False, "/tmp")
         with mock.patch.object(shells.os, "forkpty", return_value=(0, 9)), mock.patch.object(shells.terminal, "become") as becomes, \
                 mock.patch.object(shells.os, "_exit", side_effect=InterruptedError) as exits, \
                 mock.patch.object(shells.os, "chdir") as enters:

@@ -4,6 +4,7 @@ import pathlib
 import tempfile
 import unittest
 
+from aids import StillLoop
 from roam_live.bells import BellFollower, BellSource
 from roam_live.keypads import Keypad
 
@@ -43,16 +44,19 @@ class Told(unittest.TestCase):
     def setUp(self):
         made = tempfile.TemporaryDirectory()
         self.addCleanup(made.cleanup)
-        self.source = BellSource(made.name)
+        self.loop = StillLoop()
+        self.source = BellSource(made.name, self.loop)
         self.addCleanup(self.source.close)
         self.folder = pathlib.Path(made.name)
 
     def follower(self):
         """One who follows, and was taken."""
-        follower = BellFollower(os.fspath(self.folder))
+        rung = []
+        follower = BellFollower(os.fspath(self.folder), StillLoop(), rung.append)
+        follower.rung = rung
         follower.connect()
         self.addCleanup(lambda: follower.peer and follower.peer.close())
-        self.source.turn([self.source.listener])
+        self.loop.turn()
         return follower
 
     def test_changes(self):
@@ -61,20 +65,21 @@ class Told(unittest.TestCase):
         self.source.tell_keypad(2, True)
         self.source.tell_keypad(2, True)
         self.source.tell_keypad(3, False)
-        self.assertEqual((first.rung([first.peer]), first.keypads), ([], {2}))
+        first.loop.turn()
+        self.assertEqual((first.rung, first.keypads), ([], {2}))
         later = self.follower()
-        later.rung([later.peer])
+        later.loop.turn()
         self.assertEqual(later.keypads, {2})
         self.source.tell_keypad(2, False)
         for one in (first, later):
-            one.rung([one.peer])
+            one.loop.turn()
             self.assertEqual(one.keypads, set())
 
     def test_end(self):
         """Nothing is known of keypads once who told of them has left."""
         first = self.follower()
         self.source.tell_keypad(1, True)
-        first.rung([first.peer])
+        first.loop.turn()
         self.source.drop(self.source.followers[0])
-        first.rung([first.peer])
+        first.loop.turn()
         self.assertEqual(first.keypads, set())

@@ -5,6 +5,7 @@ from unittest import mock
 
 from aids import Case, read_now
 from roam_live.links import LET_GO, LOST, MOST_ACTS, NO_MORE, PAUSES, Keeper, Link
+from roam_live.loops import READ, WRITE
 from roam_live.program import Fault
 
 
@@ -135,18 +136,18 @@ class Lines(Linked):
         """Who leaves gives what was typed, and says that no more comes; that the start has taken it is known by its end."""
         link, other = self.link(False)
         link.type("char 61")
-        answers = iter([([], [link.peer], []), ([], [], []), ([link.peer], [], [])])
+        answers = iter([WRITE, 0, READ])
 
-        def waits(readable, writable, odd, seconds):
-            self.assertEqual((readable, writable, odd, seconds), ([link.peer], [link.peer] if link.waiting else [], [], 0.1))
-            ready = next(answers)
-            if ready[0]:
+        def waits(end, events, seconds):
+            self.assertEqual((end, events, seconds), (link.peer, READ | WRITE if link.waiting else READ, 0.1))
+            found = next(answers)
+            if found == READ:
                 self.assertEqual(other.recv(64), b"char 61\n")
                 self.assertEqual(other.recv(64), b"")
                 other.close()
-            return ready
+            return found
 
-        with mock.patch("select.select", waits):
+        with mock.patch("roam_live.links.ready", waits):
             self.assertTrue(link.part())
         self.assertIsNone(link.peer)
         self.assertTrue(link.part())
@@ -155,7 +156,7 @@ class Lines(Linked):
         """A start that doesn't take it in time is left, and that is told."""
         link, _ = self.link(False)
         link.type("char 61")
-        with mock.patch("select.select", lambda *_: self.pass_time(0.5) or ([], [], [])):
+        with mock.patch("roam_live.links.ready", lambda *_: self.pass_time(0.5) or 0):
             self.assertFalse(link.part())
         self.assertEqual(self.now, 101.5)
         self.assertIsNone(link.peer)

@@ -208,15 +208,13 @@ class Tool(Case):
         self.addCleanup(process.stdout.close)
         asked = []
 
-        def waits(sources, *_):
-            asked.append(_[2])
-            if len(asked) == 1 or not cells:
-                return [sources[0]], [], []
-            return [], [], []
+        def waits(source, seconds):
+            asked.append(seconds)
+            return len(asked) == 1 or not cells
 
         cells = []
         self.patch_of(picture, "read", side_effect=lambda source: cells.append(1) or b"\x1b[1;1Hab")
-        self.patch_of(picture.select, "select", side_effect=waits)
+        self.patch_of(picture, "comes", side_effect=waits)
         popen = self.patch_of(picture.subprocess, "Popen", return_value=process)
         home = picture.Home(folder="/x")
         self.patch_of(home, "attach_words", side_effect=lambda more: ["roam", *more])

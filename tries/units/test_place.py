@@ -13,7 +13,7 @@ from unittest import mock
 from roam_live import display
 from roam_live.commands import Commands
 from roam_live.display import Display
-from roam_live.moments import Moments
+from roam_live.loops import Loop
 from roam_live.places import Kept, Place
 from roam_live.ports import PortSession
 from roam_live.program import TOOLS, Home
@@ -174,11 +174,11 @@ class Close(Folder):
 
     def person(self, session, places):
         """The keys of the person, what they ask for, and what is shown."""
-        link, moments = Link(), Moments()
+        link, loop = Link(), Loop()
         with mock.patch.object(display, "Outer", Outer):
-            shown = Display(moments, lambda: None)
+            shown = Display(loop, lambda: None)
         with mock.patch.object(session, "places", lambda: places):
-            commands = Commands(session, link, shown, moments, lambda line: None)
+            commands = Commands(session, link, shown, loop, lambda line: None)
             commands.fed(b"\x02x")
         return commands, link, shown
 

@@ -519,12 +519,12 @@ class Captures(Based):
         self.stop_clock()
         asked, pieces = [], [b"\x1bc", self.PAINT, None]
 
-        def waits(sources, *_):
-            asked.append(round(_[2], 3))
+        def waits(source, seconds):
+            asked.append(round(seconds, 3))
             self.now += 1 if len(asked) < 3 else 0.2
-            return [sources[0]] if pieces[0] else [], [], []
+            return bool(pieces[0])
 
-        with mock.patch.object(captures.select, "select", waits), mock.patch.object(captures, "read", lambda _: pieces.pop(0)):
+        with mock.patch.object(captures, "comes", waits), mock.patch.object(captures, "read", lambda _: pieces.pop(0)):
             self.assertEqual(captures.paints(5), b"\x1bc" + self.PAINT)
         self.assertEqual(asked, [5.0, 4.0, 0.2])
 
@@ -532,17 +532,17 @@ class Captures(Based):
         """Of one that paints without an end what is whole is taken after a second."""
         self.stop_clock()
 
-        def waits(sources, *_):
+        def waits(source, seconds):
             self.now += 0.15
-            return [5], [], []
+            return True
 
-        with mock.patch.object(captures.select, "select", waits), mock.patch.object(captures, "read", lambda _: self.PAINT):
+        with mock.patch.object(captures, "comes", waits), mock.patch.object(captures, "read", lambda _: self.PAINT):
             text = captures.paints(5)
         self.assertTrue(self.PAINT * 5 == text[: len(self.PAINT) * 5] and len(text) % len(self.PAINT) == 0)
         self.assertTrue(101.0 <= self.now < 101.31)
 
     def test_ended(self):
-        self.patch_of(captures.select, "select", return_value=([5], [], []))
+        self.patch_of(captures, "comes", return_value=True)
         with mock.patch.object(captures, "read", return_value=b""):
             self.assertEqual(captures.paints(5), b"")
 

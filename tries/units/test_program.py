@@ -6,9 +6,9 @@ import socket
 from unittest import mock
 
 from aids import Case, read_now
-from roam_live import (carriers, choices, ends, far, following, lasting, links, logs, near, program, programs, relayed, sessions, watches,
-                       words)
-from roam_live.moments import Moments
+from roam_live import (carriers, choices, ends, far, following, lasting, links, logs, loops, near, program, programs, relayed,
+                       sessions, watches, words)
+from roam_live.loops import Loop
 from roam_live.program import Fault, Home
 
 
@@ -149,9 +149,9 @@ class Begun(Case):
         process = self.process("cat", stdin=-1)
         end = program.opened_process(process.pid)
         self.addCleanup(os.close, end)
-        self.assertEqual(program.select.select([end], [], [], 0)[0], [])
+        self.assertEqual(loops.comes(end, 0), False)
         process.stdin.close()
-        self.assertEqual(program.select.select([end], [], [], 10)[0], [end])
+        self.assertEqual(loops.comes(end, 10), True)
         process.wait()
         with self.assertRaisesRegex(Fault, "^the session has ended$"):
             program.opened_process(process.pid)
@@ -346,7 +346,7 @@ class Due(Case):
 
     def test_due(self):
         """What is due is done once, in any order; what a later one made needless, or put off, isn't."""
-        moments, done = Moments(), []
+        moments, done = Loop(), []
         self.assertIsNone(moments.wait_time())
         moments.later("a", 2.0, lambda: done.append("a"))
         moments.later("b", 1.0, lambda: (done.append("b"), moments.drop("c"), moments.later("d", 1.0, lambda: done.append("late"))))
@@ -366,7 +366,7 @@ class Due(Case):
         moments.drop("none")
 
     def test_replaced(self):
-        moments, done = Moments(), []
+        moments, done = Loop(), []
         moments.later("a", 1.0, lambda: done.append(1))
         moments.later("a", 3.0, lambda: done.append(2))
         self.now += 1.0

@@ -6,7 +6,7 @@ import socket
 import zlib
 from unittest import mock
 
-from aids import Case, closed, loaded, read_now
+from aids import Case, StillLoop, closed, loaded, read_now
 from roam_live import ends, far, near
 from roam_live.carriers import LONGEST, SHORTEST
 from roam_live.program import Fault
@@ -62,9 +62,17 @@ class FakeLink:
         """Has the other end say something."""
         os.write(self.said, text)
 
+    def join(self, loop, hears):
+        """Has a loop carry what goes, and call where something came."""
+        self.loop = loop
+        loop.add(self.target, None, self.stream.flush, has_more=lambda: self.stream.going)
+        loop.add(self.source, hears)
+
     def end(self):
         """Ends it."""
         self.has_ended = True
+        self.loop.remove(self.target)
+        self.loop.remove(self.source)
         closed(self.source)
         closed(self.target)
 
@@ -104,7 +112,7 @@ class Nears(Ends):
 
     def near_end(self, **more):
         """A near end."""
-        one = near.Near(self.asked(**more), self.wakeup)
+        one = near.Near(self.asked(**more), self.wakeup, StillLoop())
         self.addCleanup(lambda: one.is_closed or self.close(one))
         one.is_closed = False
         return one
@@ -123,9 +131,8 @@ class Nears(Ends):
 
     def turn(self, count=1):
         """So many turns, each of which waits for nothing."""
-        with mock.patch.object(self.near, "wait_time", lambda: 0):
-            for _ in range(count):
-                self.near.turn()
+        for _ in range(count):
+            self.near.turn()
 
     def answer(self, session="abc"):
         """Has the first command's other end answer."""
@@ -381,7 +388,6 @@ class Nears(Ends):
         self.close(self.near)
         for more, ends in (({"alone": 9.0}, True), ({}, False)):
             self.near = self.near_end(**more)
-            self.near.owner = None
             self.turn()
             os.close(self.links[-1].said)
             line = "ssh there ended with status 7, and hadn't answered"
@@ -436,31 +442,37 @@ class Nears(Ends):
         with self.assertRaises(ends.Ended) as way:
             self.turn()
         self.assertEqual(way.exception.args, (0,))
-        self.near.owner = None
+        self.near.loop.remove(reader)
         os.write(self.wakes, bytes([signal.SIGCHLD, signal.SIGTERM]))
         with self.assertRaises(ends.Ended) as way:
             self.turn()
         self.assertEqual(way.exception.args, (143,))
-        ends.end_for(self.wakeup, [self.wakeup])
+        ends.end_for(self.wakeup)
 
     def test_clients(self):
         """256 clients are taken; another waits, and so does one for whom no descriptor is left, a second long."""
+        listener = self.near.listener
         self.near.carriers = [None] * 255
-        self.assertTrue(self.near.takes_clients())
+        self.assertTrue(listener.hears())
         self.near.carriers = [None] * 256
-        self.assertFalse(self.near.takes_clients())
+        self.assertFalse(listener.hears())
         self.near.carriers = []
-        self.near.take_client(mock.Mock(accept=mock.Mock(side_effect=OSError(24, "Too many open files"))))
-        self.assertEqual((self.near.takes_clients(), "a client waits: Too many open files" in self.said.getvalue()), (False, True))
+        end = listener.end
+        listener.end = mock.Mock(accept=mock.Mock(side_effect=OSError(24, "Too many open files")))
+        listener.take()
+        self.assertEqual((listener.hears(), "a client waits: Too many open files" in self.said.getvalue()), (False, True))
         self.now += 1.0
-        self.assertTrue(self.near.takes_clients())
-        self.near.take_client(mock.Mock(accept=mock.Mock(side_effect=BlockingIOError(11, "none"))))
-        self.assertTrue(self.near.takes_clients())
+        self.turn()
+        self.assertTrue(listener.hears())
+        listener.end = mock.Mock(accept=mock.Mock(side_effect=BlockingIOError(11, "none")))
+        listener.take()
+        self.assertTrue(listener.hears())
+        listener.end = end
         with mock.patch("os.getuid", return_value=os.getuid() + 1):
             one = socket.socket(socket.AF_UNIX, socket.SOCK_STREAM)
             self.addCleanup(one.close)
             one.connect(str(self.folder / "clients"))
-            self.near.take_client(self.near.listener)
+            listener.take()
         self.assertEqual((self.near.carriers, one.recv(1)), ([], b""))
 
     def test_lies(self):
@@ -470,23 +482,26 @@ class Nears(Ends):
         self.turn()
         self.assertEqual((self.near.carriers, client.recv(1)), ([], b""))
 
+    def wait_time(self):
+        """How long it would wait."""
+        return self.near.loop.wait_time()
+
     def test_wait_time(self):
         """It waits until the next command, look, heartbeat or silence is due."""
-        self.assertEqual(self.near.wait_time(), 0.001)
-        self.turn()
-        self.assertIsNone(self.near.wait_time())
+        self.assertIsNone(self.wait_time())
+        self.assertEqual(len(self.links), 1)
         self.near.asked.alone = 60.0
-        self.assertAlmostEqual(self.near.wait_time(), 5.001)
-        self.near.deaf_until = self.now + 1
-        self.assertAlmostEqual(self.near.wait_time(), 1.001)
+        self.assertAlmostEqual(self.wait_time(), 5.0)
+        self.near.loop.later("x", 1, lambda: None)
+        self.assertAlmostEqual(self.wait_time(), 1.0)
         self.now += 1
         self.links[0].say(greeting("abc"))
         self.turn()
         self.near.asked.alone = None
-        self.assertAlmostEqual(self.near.wait_time(), self.near.link.stream.due_at() - self.now + 0.001)
+        self.assertAlmostEqual(self.wait_time(), self.near.link.stream.due_at() - self.now)
         self.now += 6.9
         self.near.link.stream.spoke = self.now
-        self.assertAlmostEqual(self.near.wait_time(), 0.101)
+        self.assertAlmostEqual(self.wait_time(), 0.1)
 
     def test_log(self):
         """Later lines go to the log that --log names."""
@@ -563,25 +578,23 @@ class Fars(Ends):
         self.other = Other(heard)
         self.patch_of(far, "Stream", side_effect=lambda _, __, session: Stream(self.source, self.target, session))
         self.patch_of(far.os, "set_blocking")
-        self.select = far.select.select
-        self.patch_of(far.select, "select", side_effect=self.waits)
         self.far = self.far_end()
         self.said = self.heard()
 
     def far_end(self, **more):
-        """A far end."""
-        one = far.Far(self.asked(far=True, command=[], **more), self.wakeup)
+        """A far end; standard input and output are the pipes here."""
+        one = far.Far(self.asked(far=True, command=[], **more), self.wakeup, StillLoop())
         self.addCleanup(one.close)
+        for number, end in ((0, self.source), (1, self.target)):
+            known = one.loop.sources[number]
+            one.loop.remove(number)
+            one.loop.add(end, known.reads, known.writes, hears=known.hears, has_more=known.has_more)
         return one
 
-    def waits(self, sources, targets, _, seconds):
-        """Standard input and output are the pipes here, and nothing waits."""
-        self.waited = seconds
-        ends = {0: self.source, 1: self.target}
-        sources, targets = ([ends.get(end, end) for end in given] for given in (sources, targets))
-        found = self.select(sources, targets, [], 0)
-        back = {end: number for number, end in ends.items()}
-        return [back.get(end, end) for end in found[0]], [back.get(end, end) for end in found[1]], []
+    @property
+    def waited(self):
+        """How long it would have waited."""
+        return self.far.loop.waited
 
     def say(self, text):
         """Has the other end say something."""
@@ -657,7 +670,7 @@ class Fars(Ends):
     def test_silence(self):
         """One that has heard nothing for 30 s ends; what it has to say it says each 3 s."""
         self.far.turn()
-        self.assertAlmostEqual(self.waited, 3.001)
+        self.assertAlmostEqual(self.waited, 3.0)
         self.now += 3
         self.far.turn()
         self.far.turn()
@@ -687,7 +700,8 @@ class Fars(Ends):
         """The server's end is told: as the session's where it was ended on purpose."""
         for status, told in ((0, ENDED), (1, KILLED)):
             reader, writer = self.pipe()
-            self.far.server, self.far.place = reader, mock.Mock(ending=mock.Mock(return_value=("", status)))
+            self.far.place = mock.Mock(ending=mock.Mock(return_value=("", status)))
+            self.far.loop.add(reader, self.far.tell_end)
             os.close(writer)
             with self.assertRaises(ends.Ended) as way:
                 self.far.turn()
@@ -696,13 +710,10 @@ class Fars(Ends):
     def test_shells(self):
         """Where it knows the server it sees the end of what keeps the shells."""
         self.patch_of(far, "opened_process", return_value=self.pipe()[0])
-        watch = self.patch_of(far, "ShellsWatch").return_value
-        watch.sources.return_value, watch.due = [], 100.5
+        watch = self.patch_of(far, "ShellsWatch")
         self.far = self.far_end(server=os.getpid())
         self.assertEqual(self.far.place.folder, self.folder)
-        self.far.turn()
-        watch.turn.assert_called_once_with([])
-        self.assertAlmostEqual(self.waited, 0.501)
+        watch.assert_called_once_with(self.far.place, self.far.loop)
 
     def test_port(self):
         """A server that has a port is reached there."""

@@ -13,7 +13,7 @@ import time
 import unittest
 import unittest.mock
 
-from aids import loaded
+from aids import StillLoop, loaded
 from roam_live.program import TOOLS
 from roam_live.programs import group_in_front, working_folder
 
@@ -93,7 +93,7 @@ class Typed(unittest.TestCase):
 
     def test_dropped(self):
         """65,536 bytes wait; what is above is dropped, which is told once until all was read."""
-        pane = shells.Pane(argparse.Namespace(dir="/no"), 4, 1, (23, 80), False)
+        pane = shells.Pane(argparse.Namespace(dir="/no"), StillLoop(), 4, 1, (23, 80), False)
         said = io.StringIO()
         with contextlib.redirect_stderr(said):
             for _ in range(3):

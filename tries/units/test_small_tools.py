@@ -3,7 +3,8 @@ import os
 import socket
 from unittest import mock
 
-from aids import Case, loaded, read_now
+from aids import Case, StillLoop, loaded, read_now
+from roam_live.loops import READ
 from roam_live.ports import PortSession
 from roam_live.program import Fault
 from roam_live.sessions import Session
@@ -19,64 +20,62 @@ class Shell(Case):
         self.pane, self.server = self.pair()
         self.master, self.command = self.pair()
 
-    def ends(self, *answers):
-        """Whether the command's end came first, where these are ready, turn by turn."""
-        ready = list(answers)
-        with mock.patch.object(shell.select, "select", lambda sources, targets, _: self.asked.append((sources, targets)) or ready.pop(0)):
-            self.asked = []
-            return shell.has_ended(self.master.fileno(), self.pane.fileno())
+    def joined(self):
+        """A command's terminal and a pane, joined."""
+        return shell.JoinedCommand(self.master.fileno(), self.pane.fileno(), StillLoop())
 
     def test_carried(self):
         """Bytes go both ways until the command's end, whose last words are written."""
-        pane, master = self.pane.fileno(), self.master.fileno()
         self.command.send(b"out")
         self.server.send(b"in")
-        self.master_end()
-        self.assertTrue(self.ends(([pane, master], [], []), ([], [pane, master], []), ([master], [], [])))
-        self.assertEqual((read_now(self.server), self.got), (b"out", b"in"))
-        self.assertEqual([targets for _, targets in self.asked], [[], [pane, master], []])
-        self.assertEqual(self.asked[0][0], [pane, master])
-
-    def master_end(self):
-        """Has the command read once, and end then."""
-        self.got = b""
-        reads = shell.read
-
-        def read(end):
-            if end == self.master.fileno() and not self.got and len(self.asked) == 3:
-                self.got = read_now(self.command)
-                self.command.close()
-            return reads(end)
-
-        self.patch_of(shell, "read", read)
+        joined = self.joined()
+        joined.loop.turns(2)
+        self.assertEqual((read_now(self.server), read_now(self.command)), (b"out", b"in"))
+        self.command.send(b"last")
+        self.command.close()
+        self.assertTrue(joined.run())
+        self.assertEqual(read_now(self.server), b"last")
 
     def test_pane_first(self):
         """A pane that ends first hangs the command up, also where it takes nothing more."""
         self.server.close()
-        self.assertFalse(self.ends(([self.pane.fileno()], [], [])))
+        self.assertFalse(self.joined().run())
         self.command.send(b"x")
-        pane, self.pane = self.pane, self.pair()[0]
+        self.pane, self.server = self.pair()
         with mock.patch.object(shell, "write", return_value=False):
-            self.assertFalse(self.ends(([self.master.fileno()], [], []), ([], [self.pane.fileno()], [])))
+            self.assertFalse(self.joined().run())
+
+    def test_first_end(self):
+        """Where both have ended the command's status counts."""
+        for end in (self.server, self.command):
+            end.close()
+        self.assertTrue(self.joined().run())
 
     def test_limits(self):
         """Nothing is read of a command while 65,536 bytes wait for the pane; what is typed above as many is dropped, which is told once."""
-        pane, master = self.pane.fileno(), self.master.fileno()
-        pieces = {master: b"x" * 65536, pane: b"y" * 40000}
-        answers = [([master], [], []), ([pane], [], []), ([pane], [], []), ([pane], [], []), ([pane], [], [])]
-        with mock.patch.object(shell, "read", lambda end: b"" if len(self.asked) == 5 else pieces[end]):
-            self.assertFalse(self.ends(*answers))
-        self.assertEqual([sources for sources, _ in self.asked], [[pane, master]] + [[pane]] * 4)
+        joined = self.joined()
+        command = joined.loop.sources[self.master.fileno()]
+        joined.to_pane += bytes(65535)
+        self.assertEqual(command.events(), READ)
+        joined.to_pane += b"x"
+        self.assertEqual(command.events(), 0)
+        joined.to_terminal += bytes(65530)
+        for _ in range(2):
+            self.server.send(b"0123456789")
+            joined.hear_pane()
+        self.assertEqual(joined.to_terminal, bytes(65530) + b"012345")
         self.assertEqual(self.said.getvalue().count("what is typed isn't read; above 65536 bytes it is dropped\n"), 1)
 
     def test_words(self):
         """Its size and command are as asked, and its status is the command's; 0 where the pane ended first."""
         self.environment(SHELL="/bin/zsh")
         self.patch_of(shell, "connected", return_value=self.pane)
-        starts, ends = self.patch_of(shell, "started", return_value=(7, 8)), self.patch_of(shell, "has_ended", return_value=True)
+        starts, joins = self.patch_of(shell, "started", return_value=(7, 8)), self.patch_of(shell, "JoinedCommand")
+        ends = joins.return_value.run
+        ends.return_value = True
         waits = self.patch_of(shell.os, "waitpid", return_value=(7, 3 << 8))
         self.words("pane_shell", "--rows", "9", "--cols", "9999", "p1", "vi", "-R")
-        self.assertEqual((shell.main(), starts.call_args[0], ends.call_args[0]), (3, (["vi", "-R"], (9, 9999)), (8, self.pane.fileno())))
+        self.assertEqual((shell.main(), starts.call_args[0], joins.call_args[0]), (3, (["vi", "-R"], (9, 9999)), (8, self.pane.fileno())))
         waits.assert_called_once_with(7, 0)
         waits.return_value = (7, 9)
         self.words("pane_shell", "p1")

@@ -3,6 +3,7 @@ import os
 import unittest
 from unittest import mock
 
+from aids import StillLoop
 from roam_live.program import Fault
 from roam_live.watches import PAUSES, SOUND, ShellsWatch
 
@@ -38,7 +39,8 @@ class Watches(unittest.TestCase):
             patched.start()
             self.addCleanup(patched.stop)
         self.place = Place()
-        self.watch = ShellsWatch(self.place)
+        self.loop, self.said = StillLoop(), []
+        self.watch = ShellsWatch(self.place, self.loop, self.said.append)
         self.addCleanup(lambda: self.watch.file and os.close(self.watch.file))
 
     def opened(self, process):
@@ -49,23 +51,31 @@ class Watches(unittest.TestCase):
 
     def end(self):
         """Has the process end; what is said."""
-        return self.watch.turn(self.watch.sources())
+        self.loop.turn()
+        return self.told()
+
+    def told(self):
+        """What was said since."""
+        said = "".join(self.said)
+        self.said.clear()
+        return said
 
     def pass_time(self):
         """Waits until something is due, and does it; how long, and what is said."""
-        wait = self.watch.wait_time()
+        wait = self.loop.wait_time()
         self.now += wait
-        return round(wait, 3), self.watch.turn([])
+        self.loop.do_due()
+        return round(wait, 3), self.told()
 
     def test_once(self):
         """The end of one that ran for long is made good soon, and told once it is."""
         self.now += SOUND + 1
         self.assertEqual(self.end(), "")
-        self.assertEqual(self.watch.turn([]), "")
+        self.assertEqual(self.end(), "")
         wait, said = self.pass_time()
         self.assertEqual(wait, PAUSES[0])
         self.assertTrue(said.startswith("the shells had ended: new ones are there"))
-        self.assertIsNone(self.watch.wait_time())
+        self.assertIsNone(self.loop.wait_time())
 
     def test_again(self):
         """One that ends at once each time is started anew after pauses that grow, and that is told."""

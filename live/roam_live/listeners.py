@@ -1,0 +1,76 @@
+"""A socket of a session's folder at which others connect, for want of descriptors too."""
+from __future__ import annotations
+
+import contextlib
+import os
+import socket
+from collections.abc import Callable
+
+from roam_live.loops import Loop
+from roam_live.program import Fault, is_listened, is_own_peer
+
+# So many seconds who comes waits, where the system has no descriptor for it.
+DEAF = 1.0
+
+
+def listening(path: str | os.PathLike[str]) -> socket.socket:
+    """A socket at which those who come are waited for; one that is left there is removed, but where somebody listens."""
+    if is_listened(path):
+        raise Fault(f"somebody listens at {path} already")
+    try:
+        os.unlink(path)
+    except FileNotFoundError:
+        pass
+    one = socket.socket(socket.AF_UNIX, socket.SOCK_STREAM)
+    one.bind(str(path))
+    one.listen(16)
+    one.setblocking(False)
+    return one
+
+
+class Listener:
+    """Takes who connects and is of this user, while there is room for another; who comes waits else."""
+
+    def __init__(self, loop: Loop, path: str | os.PathLike[str], takes: Callable[[socket.socket], object], has_room: Callable[[], bool],
+                 refused: Callable[[OSError], object]) -> None:
+        self.loop, self.path, self.takes, self.has_room, self.refused = loop, path, takes, has_room, refused
+        self.end = listening(path)
+        self.made = os.lstat(path)
+        self.is_deaf = False
+        loop.add(self.end, self.take, hears=self.hears)
+
+    def hears(self) -> bool:
+        """Whether another is taken now."""
+        return not self.is_deaf and self.has_room()
+
+    def take(self) -> None:
+        """Takes one who came."""
+        try:
+            peer = self.end.accept()[0]
+        except BlockingIOError:
+            # It has left.
+            return
+        except OSError as fault:
+            self.is_deaf = True
+            self.loop.later(f"hear {self.path}", DEAF, self.hear_again)
+            self.refused(fault)
+            return
+        if is_own_peer(peer):
+            peer.setblocking(False)
+            self.takes(peer)
+        else:
+            peer.close()
+
+    def hear_again(self) -> None:
+        """Takes others again, after it had no descriptor for one."""
+        self.is_deaf = False
+
+    def close(self) -> None:
+        """Closes the socket, and removes it."""
+        self.loop.remove(self.end)
+        self.loop.drop(f"hear {self.path}")
+        self.end.close()
+        with contextlib.suppress(OSError):
+            # Another session's may be there by now.
+            if os.path.samestat(self.made, os.lstat(self.path)):
+                os.unlink(self.path)

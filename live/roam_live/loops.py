@@ -1,0 +1,157 @@
+"""What a process waits for: ends that come and go, with what is done there, and moments."""
+from __future__ import annotations
+
+import selectors
+import time
+from collections.abc import Callable
+
+TYPE_CHECKING = False
+if TYPE_CHECKING:
+    from typing import Protocol, Union
+
+    class HasEnd(Protocol):
+        """What has a descriptor."""
+
+        def fileno(self) -> int:
+            """Its descriptor."""
+
+    End = Union[int, HasEnd]
+    Does = Callable[[], object]
+
+READ, WRITE = selectors.EVENT_READ, selectors.EVENT_WRITE
+
+
+def always() -> bool:
+    """What holds at any time."""
+    return True
+
+
+def number_of(end: End) -> int:
+    """The descriptor of an end."""
+    return end if isinstance(end, int) else end.fileno()
+
+
+def ready(end: End, events: int, seconds: float) -> int:
+    """Which of these events an end has within so many seconds."""
+    with selectors.PollSelector() as selector:
+        selector.register(number_of(end), events)
+        return sum(found for _, found in selector.select(seconds))
+
+
+def comes(end: End, seconds: float) -> bool:
+    """Whether something can be read at an end within so many seconds."""
+    return bool(ready(end, READ, seconds))
+
+
+def is_taken(end: End, seconds: float) -> bool:
+    """Whether an end takes something within so many seconds."""
+    return bool(ready(end, WRITE, seconds))
+
+
+class Source:
+    """What is done where something comes at an end, and where the end takes something, each while it is wanted."""
+
+    def __init__(self, reads: Does | None, writes: Does | None, hears: Callable[[], object], has_more: Callable[[], object]) -> None:
+        self.reads, self.writes, self.hears, self.has_more = reads, writes, hears, has_more
+
+    def events(self) -> int:
+        """What is waited for now."""
+        return (READ if self.reads and self.hears() else 0) | (WRITE if self.writes and self.has_more() else 0)
+
+    def do(self, events: int) -> bool:
+        """Does what can be done for the first of these events, and tells whether others are left."""
+        if events & READ and self.reads:
+            self.reads()
+            return bool(events & WRITE)
+        if self.writes:
+            self.writes()
+        return False
+
+
+class Loop:
+    """Waits until something can be done, and does it."""
+
+    def __init__(self, clock: Callable[[], float] | None = None) -> None:
+        self.clock = clock or time.monotonic
+        # It needs no descriptor of its own, and takes any file.
+        self.selector = selectors.PollSelector()
+        self.sources: dict[int, Source] = {}
+        self.heeded: dict[int, int] = {}
+        self.due: dict[str, tuple[float, Does]] = {}
+        self.before: list[Callable[[], float | None]] = []
+
+    # ---- ends
+
+    def add(self, end: End, reads: Does | None = None, writes: Does | None = None, *, hears: Callable[[], object] = always,
+            has_more: Callable[[], object] = always) -> None:
+        """Has an end read where something came and `hears` holds, and written where it takes something and `has_more` holds."""
+        self.sources[number_of(end)] = Source(reads, writes, hears, has_more)
+
+    def remove(self, end: End) -> None:
+        """Lets an end go, before it is closed."""
+        number = number_of(end)
+        self.sources.pop(number, None)
+        self.heed(number, 0)
+
+    def heed(self, number: int, events: int) -> None:
+        """Has the system tell these events of an end, and no others."""
+        known = self.heeded.get(number, 0)
+        if events == known:
+            return
+        if not known:
+            self.selector.register(number, events)
+        elif not events:
+            self.selector.unregister(number)
+        else:
+            self.selector.modify(number, events)
+        self.heeded[number] = events
+
+    # ---- moments
+
+    def at(self, name: str, moment: float, does: Does) -> None:
+        """Has something done at a moment; what has a name that is there takes its place."""
+        self.due[name] = moment, does
+
+    def later(self, name: str, seconds: float, does: Does) -> None:
+        """Has something done so many seconds from now."""
+        self.at(name, self.clock() + seconds, does)
+
+    def drop(self, name: str) -> None:
+        """What is needless isn't done."""
+        self.due.pop(name, None)
+
+    def each(self, does: Callable[[], float | None]) -> None:
+        """Has something done before each wait; it tells the moment by which it has to be done again, or None."""
+        self.before.append(does)
+
+    def do_due(self) -> None:
+        """Does what is due."""
+        now = self.clock()
+        for name in [name for name, (moment, _) in self.due.items() if moment <= now]:
+            # What was done before may have made it needless, or later.
+            if name in self.due and self.due[name][0] <= now:
+                self.due.pop(name)[1]()
+
+    # ---- turns
+
+    def ready(self, seconds: float | None) -> dict[int, int]:
+        """Waits until something can be done at an end, so many seconds at most, and tells the events by their ends."""
+        for number, source in self.sources.items():
+            self.heed(number, source.events())
+        return {key.fd: events for key, events in self.selector.select(seconds)}
+
+    def wait_time(self) -> float | None:
+        """Does what is done before each wait, and tells how long nothing is due then; None where nothing ever is."""
+        told = [does() for does in self.before]
+        moments = [moment for moment in told if moment is not None] + [moment for moment, _ in self.due.values()]
+        return max(0.0, min(moments) - self.clock()) if moments else None
+
+    def turn(self) -> None:
+        """Waits until something can be done, and does it: what has come before what is due."""
+        ready = self.ready(self.wait_time())
+        for number, source in list(self.sources.items()):
+            events = ready.get(number, 0)
+            # What was done before may have let it go, or closed it and opened another.
+            while events and self.sources.get(number) is source:
+                events = WRITE if source.do(events) else 0
+        self.do_due()

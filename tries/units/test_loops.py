@@ -1,0 +1,284 @@
+"""The loop of the tools: ends that come and go, moments by a clock that is handed in, and who connects at a socket."""
+import errno
+import os
+import socket
+import tempfile
+from unittest import mock
+
+from aids import Case, StillLoop, read_now
+from roam_live.listeners import DEAF, Listener
+from roam_live.loops import READ, WRITE, Loop, comes, is_taken, ready
+
+
+class Ends(Case):
+    """Ends of which something can be read, or that take something."""
+
+    def setUp(self):
+        self.loop, self.done = StillLoop(), []
+
+    def named(self, name):
+        """A call that tells its name."""
+        return lambda: self.done.append(name)
+
+    def turn(self):
+        """What is done in a turn."""
+        self.loop.turn()
+        done = list(self.done)
+        self.done.clear()
+        return done
+
+    def test_read(self):
+        """An end is read while something is there and is wanted, in the order in which the ends came."""
+        (one, other), (two, there) = self.pair(), self.pair()
+        wanted = []
+        self.loop.add(two, self.named("two"), hears=lambda: wanted)
+        self.loop.add(one, self.named("one"))
+        self.assertEqual(self.turn(), [])
+        for end in (other, there):
+            end.send(b"x")
+        self.assertEqual(self.turn(), ["one"])
+        wanted.append(True)
+        self.assertEqual(self.turn(), ["two", "one"])
+        read_now(two)
+        self.assertEqual(self.turn(), ["one"])
+        self.loop.remove(one)
+        self.assertEqual(self.turn(), [])
+
+    def test_written(self):
+        """An end is written while there is more, and read before."""
+        one, other = self.pair()
+        waiting = bytearray()
+        self.loop.add(one, self.named("read"), self.named("written"), has_more=lambda: waiting)
+        self.assertEqual(self.turn(), [])
+        waiting += b"x"
+        self.assertEqual(self.turn(), ["written"])
+        other.send(b"x")
+        self.assertEqual(self.turn(), ["read", "written"])
+        waiting.clear()
+        self.assertEqual(self.turn(), ["read"])
+
+    def test_gone(self):
+        """What is done at one end may let another go, and itself; nothing more is done there then."""
+        (one, other), (two, there) = self.pair(), self.pair()
+        for end in (other, there):
+            end.send(b"x")
+
+        def let_go():
+            self.done.append("one")
+            for end in (one, two):
+                self.loop.remove(end)
+                end.close()
+
+        self.loop.add(one, let_go, self.named("written"))
+        self.loop.add(two, self.named("two"))
+        self.assertEqual(self.turn(), ["one"])
+        self.assertEqual((self.turn(), self.loop.sources), ([], {}))
+        self.loop.remove(5)
+
+    def test_another(self):
+        """An end that has the number of one that was let go in this turn is another."""
+        (one, other), (two, there) = self.pair(), self.pair()
+        for end in (other, there):
+            end.send(b"x")
+
+        def change():
+            number = two.fileno()
+            self.loop.remove(two)
+            two.close()
+            made = os.dup(other.fileno())
+            self.addCleanup(os.close, made)
+            self.assertEqual(made, number)
+            self.loop.add(made, self.named("another"))
+
+        self.loop.add(one, change)
+        self.loop.add(two, self.named("two"))
+        self.assertEqual(self.turn(), [])
+        self.loop.remove(one)
+        one.send(b"y")
+        self.assertEqual(self.turn(), ["another"])
+
+    def test_ended(self):
+        """An end whose other end is gone can be read, and so can one that was closed without a word."""
+        one, other = self.pair()
+        self.loop.add(one, self.named("one"))
+        self.assertEqual(self.turn(), [])
+        other.close()
+        self.assertEqual(self.turn(), ["one"])
+        reader, writer = os.pipe()
+        os.close(writer)
+        self.loop.add(reader, self.named("pipe"))
+        self.assertEqual(self.turn(), ["one", "pipe"])
+        os.close(reader)
+        self.assertEqual(self.turn(), ["one", "pipe"])
+
+    def test_files(self):
+        """Any file can be waited for: one that is no stream is always ready."""
+        with tempfile.TemporaryFile() as file, open(os.devnull, "rb") as nothing:
+            self.loop.add(file, self.named("file"))
+            self.loop.add(nothing.fileno(), self.named("nothing"))
+            self.assertEqual(self.turn(), ["file", "nothing"])
+
+    def test_moments_between(self):
+        """What has come is taken before what is due."""
+        one, other = self.pair()
+        self.loop.add(one, self.named("one"))
+        self.loop.later("moment", 0, self.named("moment"))
+        other.send(b"x")
+        self.assertEqual(self.turn(), ["one", "moment"])
+
+    def test_waits(self):
+        """It waits as long as nothing is due, and in truth no longer than until something comes."""
+        one, other = self.pair()
+        loop = Loop()
+        loop.add(one, self.named("one"))
+        loop.later("moment", 0.02, self.named("moment"))
+        loop.turn()
+        self.assertEqual(self.done, ["moment"])
+        other.send(b"x")
+        loop.later("moment", 60, self.named("moment"))
+        loop.turn()
+        self.assertEqual(self.done, ["moment", "one"])
+
+    def test_once(self):
+        """Whether one end can be read or takes something, within some seconds."""
+        one, other = self.pair()
+        self.assertEqual((comes(one, 0), comes(one.fileno(), -1), is_taken(one, 0)), (False, False, True))
+        self.assertEqual(ready(one, READ | WRITE, 0), WRITE)
+        other.send(b"x")
+        self.assertEqual((comes(one, 60), ready(one, READ, 60), ready(one, READ | WRITE, 60)), (True, READ, READ | WRITE))
+        while ready(other, WRITE, 0):
+            other.send(bytes(65536))
+        self.assertFalse(is_taken(other, 0.01))
+
+
+class Moments(Case):
+    """What is due, by a clock that is handed in."""
+
+    def setUp(self):
+        self.now, self.done = 100.0, []
+        self.loop = StillLoop(lambda: self.now)
+
+    def test_clock(self):
+        """Moments go by the clock of the loop, whatever that of the system is."""
+        self.loop.later("a", 5.0, lambda: self.done.append("a"))
+        self.loop.at("b", 103.0, lambda: self.done.append("b"))
+        self.loop.turn()
+        self.assertEqual((self.loop.waited, self.done), (3.0, []))
+        self.now = 104.0
+        self.loop.turn()
+        self.assertEqual((self.loop.waited, self.done), (0.0, ["b"]))
+        self.loop.turn()
+        self.assertEqual(self.loop.waited, 1.0)
+        self.loop.drop("a")
+        self.loop.turn()
+        self.assertIsNone(self.loop.waited)
+
+    def test_each(self):
+        """What is done before each wait tells by when it has to be done again."""
+        asked = []
+        for told in (107.5, None, 99.0):
+            self.loop.each(lambda told=told: asked.append(told) or told)
+        self.loop.turn()
+        self.assertEqual((self.loop.waited, asked), (0.0, [107.5, None, 99.0]))
+        del self.loop.before[2]
+        self.loop.turn()
+        self.assertEqual(self.loop.waited, 7.5)
+        self.loop.later("soon", 1.0, lambda: None)
+        self.loop.turn()
+        self.assertEqual(self.loop.waited, 1.0)
+
+
+class Listeners(Case):
+    """Who connects at a socket."""
+
+    def setUp(self):
+        self.stop_clock()
+        self.loop, self.path = StillLoop(), self.made_folder() / "here"
+        self.taken_peers, self.refused, self.room = [], [], 2
+        self.listener = Listener(self.loop, self.path, self.taken_peers.append, lambda: len(self.taken_peers) < self.room,
+                                 self.refused.append)
+        self.addCleanup(lambda: [peer.close() for peer in self.taken_peers])
+        self.addCleanup(self.listener.close)
+
+    def connect(self):
+        """One who connects."""
+        one = socket.socket(socket.AF_UNIX, socket.SOCK_STREAM)
+        self.addCleanup(one.close)
+        one.settimeout(5)
+        one.connect(str(self.path))
+        return one
+
+    def test_room(self):
+        """As many are taken as there is room for; another waits, which costs nothing, and is taken once there is."""
+        for _ in range(3):
+            self.connect()
+        self.loop.turns(4)
+        self.assertEqual((len(self.taken_peers), self.taken_peers[0].getblocking()), (2, False))
+        found = self.loop.found
+        self.loop.turns(5)
+        self.assertEqual(self.loop.found, found)
+        self.room = 3
+        self.loop.turn()
+        self.assertEqual(len(self.taken_peers), 3)
+
+    def test_descriptors(self):
+        """Without a descriptor for one it goes on, and listens again after a second."""
+        self.connect()
+        end, self.listener.end = self.listener.end, mock.Mock()
+        self.listener.end.accept.side_effect = OSError(errno.EMFILE, "Too many open files")
+        self.loop.turns(5)
+        self.assertEqual(([fault.errno for fault in self.refused], self.loop.found, self.loop.waited), ([errno.EMFILE], 1, DEAF))
+        self.listener.end = end
+        self.now += DEAF
+        self.loop.turns(2)
+        self.assertEqual((len(self.taken_peers), len(self.refused)), (1, 1))
+
+    def test_real(self):
+        """So it is where the system has none in truth."""
+        import resource
+
+        client = self.connect()
+        before = resource.getrlimit(resource.RLIMIT_NOFILE)
+        highest = max(map(int, os.listdir("/proc/self/fd")))
+        held = []
+        try:
+            resource.setrlimit(resource.RLIMIT_NOFILE, (highest + 1, before[1]))
+            while True:
+                try:
+                    held.append(os.dup(0))
+                except OSError:
+                    break
+            self.loop.turns(3)
+        finally:
+            for end in held:
+                os.close(end)
+            resource.setrlimit(resource.RLIMIT_NOFILE, before)
+        self.assertEqual(([fault.errno for fault in self.refused], self.taken_peers), ([errno.EMFILE], []))
+        self.now += DEAF
+        self.loop.turns(2)
+        self.assertEqual(len(self.taken_peers), 1)
+        self.assertIsNotNone(client)
+
+    def test_another(self):
+        """One of another user is let go at once, and one who has left is nobody."""
+        client = self.connect()
+        with mock.patch("os.getuid", return_value=os.getuid() + 1):
+            self.loop.turn()
+        self.assertEqual((self.taken_peers, client.recv(1)), ([], b""))
+        self.listener.end, end = mock.Mock(), self.listener.end
+        self.listener.end.accept.side_effect = BlockingIOError(errno.EAGAIN, "none")
+        self.listener.take()
+        self.listener.end = end
+        self.assertEqual((self.refused, self.listener.hears()), ([], True))
+
+    def test_closed(self):
+        """Its file goes with it, and none that took its place."""
+        self.listener.close()
+        self.assertEqual((self.path.exists(), self.loop.sources), (False, {}))
+        with self.subTest("another"):
+            one = Listener(self.loop, self.path, self.taken_peers.append, lambda: True, self.refused.append)
+            self.path.unlink()
+            other = Listener(self.loop, self.path, self.taken_peers.append, lambda: True, self.refused.append)
+            one.close()
+            self.assertTrue(self.path.exists())
+            other.close()
