@@ -11,7 +11,7 @@ import socket
 import struct
 import time
 from collections import deque, namedtuple
-from collections.abc import Iterable, Iterator, Sequence
+from collections.abc import Callable, Iterable, Iterator, Sequence
 
 from roam_live.bundles import LARGE, NOW, ONCE_KIND, PIECE, PIECE_KIND, SOON, WHOLE, WHOLE_KIND, Bundles, Piece
 from roam_live.relayed import BELL, ENDED, KEYPAD, LEAVES, RECTS, BadWords, Waiting, demand_length, demand_told
@@ -19,6 +19,7 @@ from roam_live.sealed import LONGEST_PACKET, LONGEST_TEXT, Seal, Window, came_to
 
 TYPE_CHECKING = False
 if TYPE_CHECKING:
+    from roam_live.loops import Loop
     from roam_live.sealed import Beside, Place
 
 # The newest counter that came, its lowest 32 bits; the milliseconds since then; and how many bytes of a mask follow.
@@ -339,6 +340,8 @@ class Path:
 
     def __init__(self, seal: Seal, end: socket.socket, places: Iterable[Place] = ()) -> None:
         self.seal, self.end = seal, end
+        # What calls where something came.
+        self.joined: tuple[Loop, Callable[[], object]] | None = None
         self.arrivals, self.bundles, self.pace, self.trips, self.states = Arrivals(), Bundles(), Pace(), Trips(), States()
         # Where the other end may be, where it is, and the address of this end to which it sent.
         self.places = list(places)
@@ -367,8 +370,15 @@ class Path:
         """The descriptor of its socket."""
         return self.end.fileno()
 
+    def join(self, loop: Loop, hears: Callable[[], object]) -> None:
+        """Has a loop call where something came."""
+        self.joined = loop, hears
+        loop.add(self.end, hears)
+
     def close(self) -> None:
         """Closes it."""
+        if self.joined:
+            self.joined[0].remove(self.end)
         self.end.close()
 
     # ---- what is known of it
@@ -522,8 +532,10 @@ class Path:
         self.hopped_at = now
         other = udp_end()
         if other:
-            self.end.close()
+            self.close()
             self.end = other
+            if self.joined:
+                self.join(*self.joined)
 
     def send_packet(self, now: float, pieces: Sequence[Piece] = (), asks: bytes = b"") -> None:
         """Sends a packet. What goes anyway asks for the answer that would have to be asked for soon."""

@@ -250,6 +250,10 @@ class Stream:
         self.going += self.packer.compress(HEADER.pack(len(text), peer) + text) + self.packer.flush(zlib.Z_SYNC_FLUSH)
         self.spoke = time.monotonic()
 
+    def is_owed(self) -> bool:
+        """Whether the other end has to be told that something came."""
+        return self.had > self.told
+
     def resume(self) -> None:
         """Says at once that this end is there, and hears the other anew, behind a time in which nothing went."""
         self.heard = self.moved = time.monotonic()
