@@ -150,15 +150,14 @@ class Far:
 
     def tell_end(self) -> None:
         """Tells that the session has ended, or that its server was killed, and ends."""
-        text, way = KILLED if self.place and self.place.ending()[1] else ENDED, self.way()
-        if self.has_command():
+        text, path = KILLED if self.place and self.place.ending()[1] else ENDED, self.ways.path
+        if path and self.way() is path:
+            path.tell(0, text)
+            finish(path, ALONE)
+        if self.has_command() and not (path and path.is_sound() and path.is_said()):
             self.stream.tell(0, text)
-            self.stream.flush()
-        if self.ways.path and way is self.ways.path:
-            self.ways.path.tell(0, text)
-            finish(self.ways.path, ALONE)
-        while way is self.stream and self.stream.going and is_taken(1, ALONE) and self.stream.flush():
-            pass
+            while self.stream.going and is_taken(1, ALONE) and self.stream.flush():
+                pass
         raise Ended(0)
 
     # ---- what comes from it

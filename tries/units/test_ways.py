@@ -485,7 +485,7 @@ class Far(Both):
             self.far.turn()
 
     def test_session_ends(self):
-        """The session's end is told by the path until it is acknowledged, 30 s at most, and by the command too."""
+        """The session's end is told by the path alone, until it is acknowledged, 30 s at most."""
         self.sound()
         self.patch_of(ways, "comes", lambda end, seconds: self.pass_time(seconds) or self.came.extend(drained(self.near))
                       or self.near.fill(self.waiting))
@@ -493,8 +493,17 @@ class Far(Both):
         with self.assertRaises(Ended):
             self.far.tell_end()
         self.assertIn((0, ENDED), self.came)
-        self.assertIn((0, ENDED), self.frames())
+        self.assertNotIn((0, ENDED), self.frames())
         self.assertLess(self.now - begun, 1)
+
+    def test_session_ends_unheard_by_the_path(self):
+        """Where nobody hears by the path it is told by the command."""
+        self.sound()
+        self.patch_of(ways, "comes", lambda end, seconds: self.pass_time(seconds))
+        self.patch_of(far, "is_taken", return_value=True)
+        with self.assertRaises(Ended):
+            self.far.tell_end()
+        self.assertIn((0, ENDED), self.frames())
 
     def test_session_ends_unheard(self):
         """The same where nobody hears."""
