@@ -1,7 +1,7 @@
 # `make` proves what the program stands on and builds it; `make show` builds the program that has `roam show` alone; `make test` is the
-# whole gate; `make bench` runs the benchmarks; `make try` holds the pages against the tree and tries the built program as processes and as
-# a person would, and `make install PREFIX=/usr/local` puts it, its tools and their pages there. All need the kit's `rt` on the PATH; the
-# benchmarks a C compiler and Python too.
+# whole gate; `make bench` runs the benchmarks; `make try` tries the built program as processes and as a person would, and `make install
+# PREFIX=/usr/local` puts it, its tools and their pages there. All need the kit's `rt` on the PATH; the benchmarks a C compiler and Python
+# too.
 # What one goal stands on, or all: a word a crate, those below it first, NAME:DEP:DEP.
 goal := $(patsubst crates/%/out/built,%,$(filter crates/%/out/built,$(MAKECMDGOALS)))
 crates := $(shell tools/crates_below $(if $(word 2,$(MAKECMDGOALS)),,$(goal)) | tr ' ' ':')
@@ -29,10 +29,10 @@ crates/$(call name,$(1))/out/built: crates.txt $(call sources,$(call name,$(1)))
 endef
 $(foreach line,$(crates),$(eval $(call crate,$(line))))
 
-# Every proof from nothing, the must-fail edits, the tests and the programs: one job a processor, and one processor a job, since a proof
-# that is shared out costs half as much again. More than four don't fit into the memory of such a machine.
+# The gate: the unit tests of the tools and what holds the pages; then every proof from nothing, the must-fail edits, the tests and the
+# programs.
 test:
-	RT_JOBS=$$(nproc | awk '{ print ($$1 < 4 ? $$1 : 4) }') rt ci
+	@.ci/run
 
 bench: all
 	bench/grid.sh
@@ -43,12 +43,8 @@ bench: all
 	bench/latency.sh
 
 try: all
-	tools/worked_callers
-	tools/clauses
-	tools/names
-	tries/unit
 	tries/two_processes
-	tries/try_live
+	tries/run -j "$$(nproc)"
 	tries/try_faults
 
 PREFIX ?= /usr/local

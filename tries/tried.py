@@ -1,5 +1,6 @@
-"""What the scripts that try roam share: checks that print a line each, and a pseudo-terminal with a tool on it."""
+"""What the scripts that try roam share: checks that print a line each, scenes by name, and a pseudo-terminal with a tool on it."""
 import fcntl
+import json
 import os
 import pathlib
 import pty
@@ -13,14 +14,27 @@ import time
 LIVE = pathlib.Path(__file__).resolve().parent.parent / "live"
 sys.path.insert(0, str(LIVE))
 
+from emulated import Emulated
 from roam_live import terminal
-from roam_live.cells import Cells
 from roam_live.program import TOOLS, program
 
 # So many seconds something has for coming.
 WAIT = 15.0
 
+# The session of a scene, and the program of this process.
+SESSION = "tried"
+PROGRAM = os.environ.get("ROAM", "")
+
 failed = []
+
+# What is tried, by name: a function of a folder of its own.
+SCENES = {}
+
+
+def scene(does):
+    """Has a function be a scene."""
+    SCENES[does.__name__] = does
+    return does
 
 
 def check(name, holds, seen=""):
@@ -57,8 +71,27 @@ def children(process):
     return [int(word) for word in pathlib.Path(f"/proc/{process}/task/{process}/children").read_text(encoding="utf-8").split()]
 
 
+def listed():
+    """What `mux ls` says."""
+    return subprocess.run(tool("mux", "ls"), stdout=subprocess.PIPE, check=True).stdout.decode().split()
+
+
+def noted(name):
+    """What mux noted of a session."""
+    return json.loads(pathlib.Path(os.environ["XDG_RUNTIME_DIR"], "roam", name, "state.json").read_text(encoding="utf-8"))
+
+
+def said(*words):
+    """The status of `mux` with these words, and what it says, on standard output and then on standard error."""
+    run = subprocess.run(tool("mux", *words), stdin=subprocess.DEVNULL, stdout=subprocess.PIPE, stderr=subprocess.PIPE, check=False)
+    return run.returncode, run.stdout.decode(), run.stderr.decode()
+
+
 class Outer:
     """A terminal with a tool on it. What stood there before is a line, `before`."""
+
+    # All that were made.
+    made = []
 
     def __init__(self, words, size=(24, 80), environment=None):
         self.size = size
@@ -66,6 +99,8 @@ class Outer:
         terminal.set_size(self.slave, *size)
         self.modes = termios.tcgetattr(self.slave)
         self.written = bytearray(b"before\r\n")
+        self.emulated, self.read_to, self.is_resized = Emulated(*size), 0, False
+        self.made.append(self)
         # When so many bytes had been written.
         self.moments = []
         ends = {"stdin": self.slave, "stdout": self.slave, "stderr": self.slave}
@@ -89,22 +124,30 @@ class Outer:
         while view:
             view = view[os.write(self.master, view[:4096]) :]
 
-    def screen(self):
-        """The rows that `roam show` prints of what was written, the cursor and the answers."""
-        words = [program(), "show", "--rows", str(self.size[0]), "--cols", str(self.size[1])]
-        shown = subprocess.run(words, input=bytes(self.written), stdout=subprocess.PIPE, check=True)
-        return shown.stdout.decode().splitlines()
+    def emulation(self):
+        """The terminal as it is shown, with all that was written so far."""
+        end = len(self.written)
+        if end > self.read_to:
+            self.emulated.fed(bytes(self.written[self.read_to : end]))
+            self.read_to = end
+        return self.emulated
 
     def rows(self):
-        """The rows alone, without their frame."""
-        return [line[1:-1] for line in self.screen()[: self.size[0]]]
+        """The rows that are shown."""
+        return self.emulation().lines()
 
     def cells(self):
-        """The cells that are shown, with their styles, and the cursor; of a tool that paints as roam does."""
-        begin = self.written.rfind(terminal.CLEARED)
-        shown = Cells()
-        shown.fed(bytes(self.written[max(0, begin) :]).decode("utf-8", "replace"))
-        return shown
+        """The cells that are shown, with their styles, and the cursor."""
+        return self.emulation().painted()
+
+    def is_as_shown(self):
+        """Whether `roam show` shows the same of all that was written: not where the size was another meanwhile."""
+        seen = self.emulation()
+        words = [program(), "show", "--rows", str(self.size[0]), "--cols", str(self.size[1])]
+        run = subprocess.run(words, input=bytes(self.written[: self.read_to]), stdout=subprocess.PIPE, check=True)
+        shown = run.stdout.decode().splitlines()
+        cursor = f"cursor {seen.row + 1} {seen.col + 1} {'shown' if seen.has_cursor else 'hidden'}"
+        return self.is_resized or [f"|{line}|" for line in seen.lines()] + [cursor] == shown[: self.size[0] + 1]
 
     def shows(self, text, seconds=WAIT):
         """Whether a text comes to stand somewhere."""
@@ -116,7 +159,8 @@ class Outer:
 
     def resize(self, rows, cols):
         """Gives the terminal another size, as a person does."""
-        self.size = (rows, cols)
+        self.emulation().resize(rows, cols)
+        self.size, self.is_resized = (rows, cols), True
         terminal.set_size(self.slave, rows, cols)
 
     def ends(self):
@@ -132,3 +176,12 @@ class Outer:
 def own_terminal():
     """Makes standard input the terminal that hangs up and interrupts this process."""
     fcntl.ioctl(0, termios.TIOCSCTTY, 0)
+
+
+def three_panes(name=SESSION):
+    """A terminal on a session of three panes, the first beside two others and in focus."""
+    outer = Outer(tool("mux", name))
+    for keys, label in ((b"", "[1]"), (b"\x02%", " 1 [2]"), (b'\x02"', " 1  2 [3]"), (b"\x021", "[1] 2  3")):
+        outer.type(keys)
+        outer.status(label)
+    return outer

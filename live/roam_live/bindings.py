@@ -1,4 +1,4 @@
-"""What a person's keys ask for: acts, and wishes that the client itself grants."""
+"""What a person's keys ask for: acts, and wishes that the front end itself grants."""
 from __future__ import annotations
 
 from roam_live.choices import PREFIX, PREFIXES

@@ -5,14 +5,14 @@ import subprocess
 import sys
 import time
 
-from roam_live.cells import Cells, width_of
-from roam_live.links import NO_MORE, Link
+from roam_live.cells import PaintedCells, width_of
+from roam_live.links import NO_MORE, StartLink
 from roam_live.loops import comes
 from roam_live.program import TOOLS, Fault, read
 
 TYPE_CHECKING = False
 if TYPE_CHECKING:
-    from roam_live.sessions import Session
+    from roam_live.sessions import FolderSession
 
 # How long a screen is waited for, and once it is there: how long nothing may come until it is taken, and how long at most.
 FIRST_WAIT = 5.0
@@ -23,9 +23,9 @@ LONGEST = 1.0
 PAINT = b"\x1b[?25l"
 
 
-def shown_by(text: bytes) -> Cells:
+def shown_by(text: bytes) -> PaintedCells:
     """The cells that a painter's text shows."""
-    cells = Cells()
+    cells = PaintedCells()
     cells.fed(text.decode("utf-8", "replace"))
     return cells
 
@@ -47,7 +47,7 @@ def paints(source: int) -> bytes:
     return text[: text.rfind(PAINT)]
 
 
-def rows_of(cells: Cells) -> list[str]:
+def rows_of(cells: PaintedCells) -> list[str]:
     """The rows that cells show, without the spaces at their ends."""
     rows = [""] * max(row for row, _ in cells.cells)
     ends = [1] * len(rows)
@@ -57,9 +57,9 @@ def rows_of(cells: Cells) -> list[str]:
     return [row.rstrip(" ") for row in rows]
 
 
-def capture(session: Session, is_drawn: bool) -> int:
+def capture(session: FolderSession, is_drawn: bool) -> int:
     """Prints what a session shows, or a picture of it, and tells the status."""
-    link = Link(session.terminals, True)
+    link = StartLink(session.terminals, True)
     link.connect()
     link.send()
     text = paints(link.fileno())

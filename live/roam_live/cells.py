@@ -32,7 +32,7 @@ class Style(NamedTuple):
     background: Colour = None
 
 
-class Cells:
+class PaintedCells:
     """What a painter's text shows: cells by row and column from 1, each a character and a style, and the cursor."""
 
     def __init__(self) -> None:
@@ -73,9 +73,9 @@ class Cells:
         self.col += width
 
 
-def cells_of_rows(rows: Iterable[str]) -> Cells:
+def cells_of_rows(rows: Iterable[str]) -> PaintedCells:
     """The cells of rows as tmux captures them, a style of which goes on into the next."""
-    shown = Cells()
+    shown = PaintedCells()
     for row, text in enumerate(rows, 1):
         shown.row, shown.col = row, 1
         shown.fed(text)

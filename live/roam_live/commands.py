@@ -1,4 +1,4 @@
-"""What a person at a terminal types, and what comes of it: acts for the session, and what the client does itself."""
+"""What a person at a terminal types, and what comes of it: acts for the session, and what the front end does itself."""
 from __future__ import annotations
 
 import os
@@ -10,7 +10,7 @@ from roam_live import terminal
 from roam_live.bindings import NEWEST, Typing, help_with, spelled
 from roam_live.display import Display
 from roam_live.keys import Key, Keys
-from roam_live.links import Link
+from roam_live.links import StartLink
 from roam_live.loops import Loop
 from roam_live.program import has_others
 from roam_live.programs import told
@@ -18,7 +18,7 @@ from roam_live.rects import BESIDE, Places
 
 TYPE_CHECKING = False
 if TYPE_CHECKING:
-    from roam_live.places import Place
+    from roam_live.places import AnySession
 
 # An escape that nothing follows for so many seconds is the key.
 ESCAPE_WAIT = 0.025
@@ -39,7 +39,7 @@ NEW = 2.0
 class Commands:
     """The keys of one person, and what they ask for."""
 
-    def __init__(self, place: Place, link: Link, display: Display, loop: Loop, leave: Callable[[str | None], None],
+    def __init__(self, place: AnySession, link: StartLink, display: Display, loop: Loop, leave: Callable[[str | None], None],
                  is_new: Callable[[], bool] = lambda: False) -> None:
         self.place, self.link, self.display, self.loop, self.leave = place, link, display, loop, leave
         self.keys = Keys()
@@ -97,12 +97,15 @@ class Commands:
         for act in acts:
             word, _, pane = act.partition(" ")
             if word in ("focus", "next", "split", "close"):
-                self.moved_from = self.place.places().focus
+                places = self.place.places()
+                self.moved_from = places.focus if places else 0
                 self.moved_at, self.moved_to = time.monotonic(), int(pane) if word == "focus" else None
 
-    def places(self) -> Places:
+    def places(self) -> Places | None:
         """Where the panes are, with the focus where this person put it: 0 where that may not be told yet."""
         places = self.place.places()
+        if places is None:
+            return None
         is_told = places.focus == self.moved_to if self.moved_to else places.focus != self.moved_from
         if is_told or time.monotonic() > self.moved_at + UNTOLD:
             return places
@@ -113,7 +116,7 @@ class Commands:
         self.act(*self.typing.left())
 
     def grant(self, wish: str, key: Key) -> None:
-        """Does what the client itself is asked for."""
+        """Does what the front end itself is asked for."""
         if wish == "detach":
             self.leave("[detached]")
         elif wish == "suspend":
@@ -154,7 +157,8 @@ class Commands:
 
     def session_size(self) -> tuple[int, int]:
         """The rows and columns that the session has at most, by what was painted and what is told; 0 where nothing is known."""
-        told, painted = self.place.places().size(), self.display.extent.size
+        places, painted = self.place.places(), self.display.extent.size
+        told = places.size() if places else (0, 0)
         return max(told[0], painted[0]), max(told[1], painted[1])
 
     def fit_first(self) -> None:
@@ -187,12 +191,14 @@ class Commands:
     def ring(self, pane: int) -> None:
         """Rings, and tells of a pane that isn't in focus."""
         self.display.ring()
-        if self.places().focus != pane and not self.display.told:
+        places = self.places()
+        if not (places and places.focus == pane) and not self.display.told:
             self.display.tell(f"bell in pane {pane}")
 
     def split(self, wish: str) -> None:
         """Splits the pane in focus, or tells why that can't be done."""
-        why = self.places().unsplit(wish.split()[1])
+        places = self.places()
+        why = places.unsplit(wish.split()[1]) if places else ""
         if why:
             self.display.tell(why)
         else:
@@ -201,12 +207,12 @@ class Commands:
     def close(self) -> None:
         """Closes the pane in focus: where something else than a shell may run there, only once that is confirmed."""
         places, busy = self.places(), self.place.busy()
-        if places.focus and len(places.rects) == 1:
+        pane = places.focus if places else 0
+        if places and pane and len(places.rects) == 1:
             self.display.tell("the last pane goes with its shell, and the session with it")
-        elif busy == {} or busy and places.focus and places.focus not in busy:
+        elif busy == {} or busy and pane and pane not in busy:
             self.act("close")
         else:
-            pane = places.focus
             runs = told({pane: busy[pane]}) if busy and pane else f"whatever runs in {f'pane {pane}' if pane else 'this pane'}"
             self.display.tell(f"close {runs}? y closes it", None)
             self.typing.ask()
@@ -214,8 +220,8 @@ class Commands:
     def go(self, way: str) -> None:
         """Puts the pane on a side in focus; the next one where no rectangle is known."""
         places = self.places()
-        if not places.focus:
+        if places and not places.focus:
             places = self.place.places()
-        pane = places.neighbour(way) if places.rects else None
-        if pane or not places.rects:
+        pane = places.neighbour(way) if places else None
+        if pane or not places:
             self.act(f"focus {pane}" if pane else "next")

@@ -23,21 +23,26 @@ TOLD = 1.0
 TOO_SMALL = "too small"
 
 
-class Outer:
-    """The terminal of a person, on its other screen."""
+class OuterTerminal:
+    """The terminal of a person: on its other screen from `enter` to `leave`."""
 
     def __init__(self) -> None:
         if not (os.isatty(0) and os.isatty(1)):
             raise Fault("standard input and output have to be a terminal")
-        self.waiting = bytearray(terminal.ENTERED)
+        self.waiting = bytearray()
         # Whether its keypad sends the codes of applications.
         self.is_application = False
         self.end = terminal.opened_for_writing(1)
         self.known = terminal.size_of(0)
-        modes = terminal.make_raw(0)
-        if modes is None:
+        # Those that it had before.
+        self.modes: terminal.Modes | None = None
+
+    def enter(self) -> None:
+        """Takes the terminal."""
+        self.modes = terminal.make_raw(0)
+        if self.modes is None:
             raise Fault("the terminal can't be made raw")
-        self.modes = modes
+        self.waiting += terminal.ENTERED
 
     def size(self) -> terminal.Size:
         """Its rows and columns now; of one that has hung up those that it had."""
@@ -61,7 +66,9 @@ class Outer:
         signal.signal(signal.SIGTSTP, handled)
 
     def leave(self, line: str | None) -> None:
-        """Brings back what stood there, and says a line below it."""
+        """Brings back what stood there, where it was taken, and says a line below it."""
+        if self.modes is None:
+            return
         self.waiting.clear()
         os.set_blocking(self.end, True)
         self.waiting += terminal.LEFT + (f"{printable(line)}\r\n".encode() if line else b"")
@@ -74,9 +81,9 @@ class Display:
     """What is shown on a terminal. What has to be painted anew is asked for by a call, and what is painted before that comes is dropped."""
 
     def __init__(self, loop: Loop, repaint: Callable[[], None]) -> None:
-        self.outer, self.loop = Outer(), loop
+        self.outer, self.loop = OuterTerminal(), loop
         self.ask = repaint
-        self.extent = terminal.Extent()
+        self.extent = terminal.PaintedSize()
         self.held = b""
         self.is_stale = True
         self.cover = self.told = ""
@@ -88,7 +95,7 @@ class Display:
 
     def begin(self) -> None:
         """What is painted next is a start's first painting."""
-        self.extent = terminal.Extent()
+        self.extent = terminal.PaintedSize()
         self.is_stale, self.held = True, b""
 
     def painted(self, piece: bytes) -> None:

@@ -14,10 +14,10 @@ from roam_live.bells import BellFollower
 from roam_live.carriers import Carrier, is_datagram
 from roam_live.ends import FORGOTTEN_AFTER, PEER_LIMIT, SIGNALS, Ended, Options, end_for, loopback_socket, received
 from roam_live.loops import Loop, is_taken
-from roam_live.program import Fault, connected_now, noted_client, opened_process
-from roam_live.relayed import BELL, ENDED, KEYPAD, KILLED, LEAVES, PLACES_LIMIT, RECTS, WANTS, Stream, Waiting
+from roam_live.program import Fault, connected_now, noted_front_end, opened_process
+from roam_live.relayed import BELL, ENDED, KEYPAD, KILLED, LEAVES, PLACES_LIMIT, RECTS, WANTS, RelayStream, Waiting
 from roam_live.sealed import PORTS, udp_end
-from roam_live.sessions import Session
+from roam_live.sessions import FolderSession
 from roam_live.watches import ShellsWatch
 from roam_live.ways import Ways, finish
 
@@ -30,6 +30,9 @@ if TYPE_CHECKING:
 ALONE = 30.0
 FAR_WAIT = 7 * 24 * 3600.0
 
+# So many seconds after something was painted it is looked anew where the panes are.
+LOOK = 0.1
+
 
 class Far:
     """The end beside the server: a stream to its socket for each client, or a UDP socket."""
@@ -41,7 +44,7 @@ class Far:
         if asked.server:
             self.loop.add(opened_process(asked.server), self.tell_end)
         # Nobody else may be there to see the shells' end.
-        self.place = Session(asked.dir, server=asked.server) if asked.server and asked.dir else None
+        self.place = FolderSession(asked.dir, server=asked.server) if asked.server and asked.dir else None
         self.shells = ShellsWatch(self.place, self.loop) if self.place else None
         self.bells = BellFollower(asked.dir, self.loop, lambda pane: self.tell(BELL + bytes([pane])))
         self.waiting = Waiting()
@@ -51,7 +54,7 @@ class Far:
         self.rects: bytes | None = None
         self.keypads: set[int] = set()
         self.known_keypads: set[int] = set()
-        self.told_by: Path | Stream | None = None
+        self.told_by: Path | RelayStream | None = None
         # What holds the command while this goes on in another process; the near end's name, and the note by which the next far end of it
         # ends this one.
         self.held: int | None = None
@@ -60,7 +63,7 @@ class Far:
         self.let_go_at = -math.inf
         for end in (0, 1):
             os.set_blocking(end, False)
-        self.stream = Stream(0, 1, asked.session or "-")
+        self.stream = RelayStream(0, 1, asked.session or "-")
         if asked.greeted:
             self.stream.session = "-"
         self.ways = Ways(self.loop)
@@ -112,7 +115,7 @@ class Far:
         """Whether the command is still there."""
         return self.ways.stream is not None
 
-    def way(self) -> Path | Stream | None:
+    def way(self) -> Path | RelayStream | None:
         """What carries what waits."""
         return self.ways.chosen(self.has_command())
 
@@ -261,7 +264,7 @@ class Far:
             return
         self.is_counted = is_there
         if is_there:
-            self.client = noted_client(self.asked.dir)
+            self.client = noted_front_end(self.asked.dir)
         elif self.client:
             with contextlib.suppress(OSError):
                 self.client.unlink()
@@ -284,6 +287,8 @@ class Far:
             self.drop(peer)
         for datagram in datagrams or []:
             self.waiting.add(peer, datagram)
+        # What is painted now may stand in other places, which are noted a moment later.
+        self.loop.later("look", LOOK, lambda: None)
 
     def flush_server(self, peer: int, carrier: Carrier) -> None:
         """Writes what the server takes of a client's; one that it has left is forgotten."""

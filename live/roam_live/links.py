@@ -10,9 +10,9 @@ from roam_live.program import Fault, connected_now, read, reason
 
 TYPE_CHECKING = False
 if TYPE_CHECKING:
-    from roam_live.places import Place
+    from roam_live.places import AnySession
 
-# The pauses before a start is started anew; a connection that lasted so long had no fault at its start.
+# The pauses before a start is spawned anew; a connection that lasted so long had no fault at its start.
 PAUSES = (0.1, 1, 2, 4, 8, 15)
 SOUND = 5.0
 
@@ -33,7 +33,7 @@ NO_MORE = "no more terminals are taken: 16 are there"
 LET_GO = "this terminal was let go; what was typed last may be lost"
 
 
-class Link:
+class StartLink:
     """A terminal's connection to the start. Each line goes whole to one connection: what of a line came to one that is lost is nothing."""
 
     def __init__(self, path: str | os.PathLike[str], watches: bool, guessing: str = "never") -> None:
@@ -126,9 +126,9 @@ class Link:
 
 
 class Keeper:
-    """Has a link connected: to the start that is there, or to another, which is started after pauses that grow."""
+    """Has a link connected: to the start that is there, or to another, which is spawned after pauses that grow."""
 
-    def __init__(self, place: Place, link: Link) -> None:
+    def __init__(self, place: AnySession, link: StartLink) -> None:
         self.place, self.link = place, link
         self.faults = 0
         self.begun_at = 0.0

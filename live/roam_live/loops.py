@@ -33,7 +33,7 @@ def number_of(end: End) -> int:
 
 def ready(end: End, events: int, seconds: float) -> int:
     """Which of these events an end has within so many seconds."""
-    with selectors.PollSelector() as selector:
+    with selectors.SelectSelector() as selector:
         selector.register(number_of(end), events)
         return sum(found for _, found in selector.select(seconds))
 
@@ -48,7 +48,7 @@ def is_taken(end: End, seconds: float) -> bool:
     return bool(ready(end, WRITE, seconds))
 
 
-class Source:
+class LoopEnd:
     """What is done where something comes at an end, and where the end takes something, each while it is wanted."""
 
     def __init__(self, reads: Does | None, writes: Does | None, hears: Callable[[], object], has_more: Callable[[], object]) -> None:
@@ -73,9 +73,9 @@ class Loop:
 
     def __init__(self, clock: Callable[[], float] | None = None) -> None:
         self.clock = clock or time.monotonic
-        # It needs no descriptor of its own, and takes any file.
-        self.selector = selectors.PollSelector()
-        self.sources: dict[int, Source] = {}
+        # It needs no descriptor of its own, takes any file, and as many as there are where the limit was lowered since.
+        self.selector = selectors.SelectSelector()
+        self.sources: dict[int, LoopEnd] = {}
         self.heeded: dict[int, int] = {}
         self.due: dict[str, tuple[float, Does]] = {}
         self.before: list[Callable[[], float | None]] = []
@@ -85,7 +85,7 @@ class Loop:
     def add(self, end: End, reads: Does | None = None, writes: Does | None = None, *, hears: Callable[[], object] = always,
             has_more: Callable[[], object] = always) -> None:
         """Has an end read where something came and `hears` holds, and written where it takes something and `has_more` holds."""
-        self.sources[number_of(end)] = Source(reads, writes, hears, has_more)
+        self.sources[number_of(end)] = LoopEnd(reads, writes, hears, has_more)
 
     def remove(self, end: End) -> None:
         """Lets an end go, before it is closed."""

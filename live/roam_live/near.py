@@ -18,8 +18,8 @@ from roam_live.ends import FORGOTTEN_AFTER, PEER_LIMIT, Ended, Options, end_for,
 from roam_live.lasting import Lasting
 from roam_live.listeners import Listener
 from roam_live.loops import Loop
-from roam_live.program import Fault, count_clients, logs, make_room_in_logs, opened_process, read, reason, replace_text, say
-from roam_live.relayed import BELL, ENDED, KEYPAD, KILLED, LEAVES, RECTS, SEALED, BadWords, Stream, Waiting
+from roam_live.program import Fault, count_front_ends, logs, make_room_in_logs, opened_process, read, reason, replace_text, say
+from roam_live.relayed import BELL, ENDED, KEYPAD, KILLED, LEAVES, RECTS, SEALED, BadWords, RelayStream, Waiting
 from roam_live.ways import SOUND, Ways, finish
 from roam_live.words import Said
 
@@ -30,7 +30,7 @@ if TYPE_CHECKING:
     from roam_live.ends import Address
     from roam_live.paths import Path
 
-# After so many seconds of silence another command is started.
+# After so many seconds of silence another command is spawned.
 SILENT = 7.0
 
 # The seconds from the start of one command to that of the next, where none answers, and how long each is given.
@@ -42,7 +42,7 @@ PATIENCE = 20.0
 END_WAIT = 1.0
 LAST_PACKETS = 3
 
-# So often it is looked whether a client is noted.
+# So often it is looked whether a front end is noted.
 LOOKS = 5.0
 
 
@@ -95,7 +95,7 @@ class RunningCommand:
         self.loop: Loop | None = None
         for end in (target, source, errors):
             os.set_blocking(end, False)
-        self.stream = Stream(source, target, session)
+        self.stream = RelayStream(source, target, session)
         self.since = time.monotonic()
 
     def join(self, loop: Loop, hears: Callable[[], object]) -> None:
@@ -152,7 +152,7 @@ def bound_port(port: int | None) -> socket.socket | None:
 
 
 class Near:
-    """The end beside the clients: the socket at which they connect, or a port of loopback, and the command, which is started as often as
+    """The end beside the clients: the socket at which they connect, or a port of loopback, and the command, which is spawned as often as
     needed."""
 
     def __init__(self, asked: Options, wakeup: int, loop: Loop | None = None) -> None:
@@ -196,12 +196,12 @@ class Near:
         """Whether there is neither a path nor a link that is known to carry anything."""
         return not self.ways.is_sound() and not self.has_live_link()
 
-    def way(self) -> Path | Stream | None:
+    def way(self) -> Path | RelayStream | None:
         """What carries what waits."""
         return self.ways.chosen(self.has_live_link())
 
     def tend(self) -> None:
-        """Starts a command where one is due, and ends those that are late."""
+        """Spawns a command where one is due, and ends those that are late."""
         now = time.monotonic()
         self.ending = [link for link in self.ending if link.process.poll() is None]
         self.ways.rest()
@@ -218,10 +218,10 @@ class Near:
             self.is_told = True
             say("the other end is silent" if self.link or self.ways.path else "the other end has ended")
         if now >= self.next_try and (self.has_answered or not self.tries):
-            self.start(now)
+            self.spawn(now)
 
-    def start(self, now: float) -> None:
-        """Starts a command; where the system refuses one later it is told of, and tried again."""
+    def spawn(self, now: float) -> None:
+        """Spawns a command; where the system refuses one later it is told of, and tried again."""
         try:
             link = RunningCommand(self.asked.command, self.session, not self.has_answered)
             link.join(self.loop, lambda: self.hear(link))
@@ -268,12 +268,12 @@ class Near:
         self.drop(link)
 
     def look(self) -> None:
-        """Ends where no client has been noted for so long."""
+        """Ends where no front end has been noted for so long."""
         now = time.monotonic()
         if self.asked.alone is None or now < self.looked_at + LOOKS:
             return
         self.looked_at = now
-        if self.asked.dir and count_clients(self.asked.dir):
+        if self.asked.dir and count_front_ends(self.asked.dir):
             self.used_at = now
         elif now > self.used_at + self.asked.alone:
             raise Ended(0)

@@ -14,7 +14,7 @@ if TYPE_CHECKING:
     Asked = Union[argparse.Namespace, SimpleNamespace]
 
 
-class Parser(argparse.ArgumentParser):
+class WordParser(argparse.ArgumentParser):
     """A parser whose refusals are printable, whatever the words are: names of files may have any bytes."""
 
     def error(self, message: str) -> NoReturn:

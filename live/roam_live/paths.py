@@ -86,7 +86,7 @@ TURN = 0.05
 MOST_GONE = 512
 
 
-class Sent(namedtuple("Sent", "moment size pieces arrived held")):
+class SentPacket(namedtuple("SentPacket", "moment size pieces arrived held")):
     """A packet that is on its way: when it went, its bytes, its pieces, how much had arrived then, and how long it may be held."""
 
     moment: float
@@ -121,7 +121,7 @@ class Best:
         return max(self.old, self.new)
 
 
-class Pace:
+class PathPace:
     """How much may go: what arrived in the last seconds tells how much goes through.
 
     What was told of while a packet was on its way, over the time that this took, is a rate that the path has had. At most twice what that
@@ -135,7 +135,7 @@ class Pace:
         self.tokens, self.filled_at = float(FIRST), time.monotonic()
         self.rises, self.compared, self.compared_at, self.flat = True, 0.0, 0.0, 0
 
-    def note(self, sent: Sent, now: float, is_full: bool) -> None:
+    def note(self, sent: SentPacket, now: float, is_full: bool) -> None:
         """Notes that a packet has arrived, where there was more to send or not."""
         self.arrived += sent.size
         if not is_full:
@@ -342,7 +342,7 @@ class Path:
         self.seal, self.end = seal, end
         # What calls where something came.
         self.joined: tuple[Loop, Callable[[], object]] | None = None
-        self.arrivals, self.bundles, self.pace, self.trips, self.states = Arrivals(), Bundles(), Pace(), Trips(), States()
+        self.arrivals, self.bundles, self.pace, self.trips, self.states = Arrivals(), Bundles(), PathPace(), Trips(), States()
         # Where the other end may be, where it is, and the address of this end to which it sent.
         self.places = list(places)
         self.place: Place | None = None
@@ -357,8 +357,8 @@ class Path:
         # Whether a packet of the largest size has come, and whether one was asked for.
         self.is_wide = self.has_asked_wide = False
         # What is on its way, by counters, and the newest of them that arrived; what was taken for lost: told of after all, it took long.
-        self.sent: dict[int, Sent] = {}
-        self.gone: dict[int, Sent] = {}
+        self.sent: dict[int, SentPacket] = {}
+        self.gone: dict[int, SentPacket] = {}
         self.arrived = self.size = 0
         # What goes: what was lost, what is new, what goes once more, and what waits for something newer.
         self.repairs: deque[Piece] = deque()
@@ -409,7 +409,7 @@ class Path:
         """Whether it may carry what waits: all, or, where it is silent, one packet at a time that looks whether it still is."""
         return bool(self.place or self.seal.is_near) and (self.is_sound() or not self.sent)
 
-    def late_at(self, counter: int, sent: Sent) -> float:
+    def late_at(self, counter: int, sent: SentPacket) -> float:
         """When a packet is taken for lost."""
         moment: float = sent.moment
         return moment + self.trips.patience(sent.held, counter < self.arrived)
@@ -552,7 +552,7 @@ class Path:
         kept = tuple(piece for piece in pieces if self.bundles.went(piece))
         self.pace.went(len(packet))
         if kept or asks:
-            self.sent[self.seal.counter] = Sent(now, len(packet), kept, self.pace.arrived, held)
+            self.sent[self.seal.counter] = SentPacket(now, len(packet), kept, self.pace.arrived, held)
             self.size += len(packet)
             self.asked_at = now if self.asked_at is None else self.asked_at
         self.spoke_at = now

@@ -1,4 +1,4 @@
-"""What the tools need of a session, however it is reached: one of this machine, one of another, one that was started by hand, or one at a
+"""What the tools need of a session, however it is reached: one of this machine, one of another, one that was spawned by hand, or one at a
 port. What isn't known of it is None, and never an empty answer. Nothing of this module is loaded while a tool runs: it is for who checks
 types, and for who makes a session of another kind."""
 from __future__ import annotations
@@ -18,10 +18,10 @@ class Kept(Protocol):
         """The process of a role, as `server`, `shells` or `terminals`; None where none runs, or none is known."""
 
     def revive_shells(self) -> bool:
-        """Starts the shells anew where what kept them has ended, and this process may; tells whether they run."""
+        """Spawns the shells anew where what kept them has ended, and this process may; tells whether they run."""
 
 
-class Place(Kept, Protocol):
+class AnySession(Kept, Protocol):
     """A session, as a front end needs it. Its words name where it is, as in `no server is {place}`."""
 
     # The role of the process whose end is the session's.
@@ -39,8 +39,8 @@ class Place(Kept, Protocol):
     def runs(self, role: str | None = None) -> bool:
         """Whether the process of a role is known to run; that of the role `served` where none is named."""
 
-    def places(self) -> Places:
-        """Where the panes are, as far as that is told: `NOTHING` has no pane, which no session has."""
+    def places(self) -> Places | None:
+        """Where the panes are; None where that isn't told."""
 
     def is_served(self) -> bool:
         """Whether somebody answers where its server is reached."""
@@ -52,10 +52,10 @@ class Place(Kept, Protocol):
         """The panes in which another program than a shell runs, and its name; None where that isn't known, of one pane or of all."""
 
     def revive(self) -> None:
-        """Starts the client start, where none is there; Fault or OSError tells why that can't be."""
+        """Spawns the client start, where none is there; Fault or OSError tells why that can't be."""
 
     def ending(self) -> tuple[str, int]:
         """What a person is told once it has ended, and the status of the front end."""
 
     def close(self) -> None:
-        """Lets it go: what was started for this front end alone ends."""
+        """Lets it go: what was spawned for this front end alone ends."""

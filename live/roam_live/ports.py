@@ -7,7 +7,7 @@ import subprocess
 import tempfile
 
 from roam_live.program import Home
-from roam_live.rects import NOTHING, Places, read_places
+from roam_live.rects import Places, read_places
 
 
 class PortSession:
@@ -37,9 +37,9 @@ class PortSession:
         """Whether the process of a role runs."""
         return self.process(role or self.served) is not None
 
-    def places(self) -> Places:
-        """Where the panes are, as far as that is told."""
-        return read_places(self.folder / "rects") if self.folder else NOTHING
+    def places(self) -> Places | None:
+        """Where the panes are; None where that isn't told."""
+        return read_places(self.folder / "rects") if self.folder else None
 
     def is_served(self) -> bool:
         """Whether somebody has the port. Where nobody has, the start isn't needed any more: it can't know by itself."""
@@ -50,14 +50,15 @@ class PortSession:
 
     def is_full(self) -> bool | None:
         """Whether the server knows as many starts as it ever does; None where nothing is told of that."""
-        return self.places().is_full()
+        places = self.places()
+        return places.is_full() if places else None
 
     def busy(self) -> dict[int, str] | None:
         """What runs in its panes isn't known here."""
         return None
 
     def revive_shells(self) -> bool:
-        """What keeps its shells isn't known here, and nothing is started."""
+        """What keeps its shells isn't known here, and nothing is spawned."""
         return False
 
     def revive(self) -> None:

@@ -11,7 +11,7 @@ import time
 from collections.abc import Callable, Iterator
 
 from roam_live.logs import make_room
-from roam_live.program import SAID_AFTER, Fault, Peer, begun, connected_in, is_own_folder, is_running, reason, replace_text, say
+from roam_live.program import SAID_AFTER, Fault, SocketPeer, begun, connected_in, is_own_folder, is_running, reason, replace_text, say
 
 TYPE_CHECKING = False
 if TYPE_CHECKING:
@@ -31,7 +31,7 @@ ASK_WAIT = 0.5
 # The roles of processes, in words.
 ROLES = {"server": "the server", "relay": "the relay", "shells": "what keeps the shells", "terminals": "the client start"}
 
-# So much of what a process said that didn't start is told at most.
+# So much of what a process said that wasn't there in time is told at most.
 SAID_MOST = 500
 
 
@@ -54,11 +54,11 @@ class Processes:
 
     def __init__(self, folder: str | os.PathLike[str], server: int | None = None) -> None:
         self.folder = pathlib.Path(folder)
-        # A server that was started by hand, where it is known.
+        # A server that was spawned by hand, where it is known.
         self.by_hand = server
         self.note = self.folder / "state.json"
         self.log = self.folder / "log"
-        # The processes that this one started, which it takes note of once they have ended.
+        # The processes that this one spawned, which it takes note of once they have ended.
         self.own: dict[str, subprocess.Popen[bytes]] = {}
         # The process that serves, and when it began, as it ran when it was last looked at.
         self.met: tuple[int, int | None] | None = (server, begun(server)) if server else None
@@ -98,7 +98,7 @@ class Processes:
         path = self.folder / name
         try:
             with connected_in(path, ASK_WAIT) as end:
-                process = Peer.of(end).process
+                process = SocketPeer.of(end).process
         except BlockingIOError as fault:
             raise Fault(f"somebody listens at {path} and takes no connection; nothing is done there") from fault
         except OSError:
@@ -150,7 +150,7 @@ class Processes:
             return False
 
     def wait_for_lock(self, lock: int, may_wait: bool) -> None:
-        """Waits until nobody else starts what belongs to it; what takes long, as an ssh that asks for a password, is told of."""
+        """Waits until nobody else spawns what belongs to it; what takes long, as an ssh that asks for a password, is told of."""
         end = time.monotonic() + SAID_AFTER
         while True:
             try:
@@ -165,7 +165,7 @@ class Processes:
         say(f"waiting for another that starts what belongs to {self.folder}")
         fcntl.flock(lock, fcntl.LOCK_EX)
 
-    # ---- starts
+    # ---- what is spawned
 
     def spawned(self, role: str, words: list[str], parts: Callable[[], None] = os.setsid,
                 is_heard: bool = False) -> subprocess.Popen[bytes]:
@@ -222,7 +222,7 @@ class Processes:
         return self.log.stat().st_size if self.log.exists() else 0
 
     def wait_for(self, role: str, before: int, test: Callable[[], bool]) -> None:
-        """Waits until what a process that was started brings is there; one that doesn't bring it is ended."""
+        """Waits until what a process that was spawned brings is there; one that doesn't bring it is ended."""
         process = self.own[role]
         end = time.monotonic() + START_WAIT
         while time.monotonic() < end:
@@ -251,7 +251,7 @@ class Processes:
 
     @contextlib.contextmanager
     def whole(self) -> Iterator[None]:
-        """Ends what is started inside, where not all of it could be; what it left goes, and the folder where its log tells nothing."""
+        """Ends what is spawned inside, where not all of it could be; what it left goes, and the folder where its log tells nothing."""
         try:
             yield
         except BaseException:

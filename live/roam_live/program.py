@@ -43,7 +43,7 @@ class Fault(Exception):
 
 
 def tool_name() -> str:
-    """The name under which this tool was started."""
+    """The name under which this tool was spawned."""
     return pathlib.Path(sys.argv[0]).name
 
 
@@ -141,14 +141,14 @@ def is_id(word: str) -> bool:
 CREDENTIALS = struct.Struct("3i")
 
 
-class Peer(namedtuple("Peer", "process user")):
+class SocketPeer(namedtuple("SocketPeer", "process user")):
     """Who is at the other end of a Unix socket."""
 
     process: int
     user: int
 
     @classmethod
-    def of(cls, end: socket.socket) -> Peer:
+    def of(cls, end: socket.socket) -> SocketPeer:
         """That of a socket: who connected, or who began to listen where this end connected."""
         return cls(*CREDENTIALS.unpack(end.getsockopt(socket.SOL_SOCKET, socket.SO_PEERCRED, CREDENTIALS.size))[:2])
 
@@ -160,7 +160,7 @@ class Peer(namedtuple("Peer", "process user")):
 def is_own_peer(end: socket.socket) -> bool:
     """Whether who is at the other end of a Unix socket is of this user."""
     try:
-        return Peer.of(end).is_own()
+        return SocketPeer.of(end).is_own()
     except OSError:
         return False
 
@@ -173,7 +173,7 @@ def connected_now(path: str | os.PathLike[str]) -> socket.socket:
         peer.setblocking(False)
         peer.connect(str(path))
         if not is_own_peer(peer):
-            raise PermissionError(errno.EPERM, f"user {Peer.of(peer).user} listens there, and not you", str(path))
+            raise PermissionError(errno.EPERM, f"user {SocketPeer.of(peer).user} listens there, and not you", str(path))
     except OSError:
         peer.close()
         raise
@@ -304,30 +304,30 @@ def is_own_folder(path: str | os.PathLike[str]) -> bool:
         return False
 
 
-def noted_client(folder: str | os.PathLike[str] | None, kind: str = "edits") -> pathlib.Path | None:
-    """The file by which `live/mux ls` counts this process as a client; None where no folder is named, and where none can be written."""
+def noted_front_end(folder: str | os.PathLike[str] | None, kind: str = "edits") -> pathlib.Path | None:
+    """The file by which `live/mux ls` counts this process as a front end; None where no folder is named, and where none can be written."""
     if not folder:
         return None
     if not os.path.isdir(folder):
         raise Fault(f"{folder} is no folder")
     if not is_own_folder(folder):
-        say(f"this client isn't counted: {folder} is no folder of yours")
+        say(f"this front end isn't counted: {folder} is no folder of yours")
         return None
     log_to(folder)
-    clients = pathlib.Path(folder) / "attached"
-    path = clients / str(os.getpid())
+    notes = pathlib.Path(folder) / "attached"
+    path = notes / str(os.getpid())
     try:
-        clients.mkdir(exist_ok=True)
+        notes.mkdir(exist_ok=True)
         # Each name in the folder is a process, so what isn't whole stands beside it.
-        replace_text(path, f"{begun(os.getpid())} {kind}\n", f"{clients}.{os.getpid()}")
+        replace_text(path, f"{begun(os.getpid())} {kind}\n", f"{notes}.{os.getpid()}")
     except OSError as fault:
-        say(f"this client isn't counted: {path}: {reason(fault)}")
+        say(f"this front end isn't counted: {path}: {reason(fault)}")
         return None
     return path
 
 
-def count_clients(folder: str | os.PathLike[str]) -> int:
-    """How many clients are noted in a session's folder; what one that was killed left is removed."""
+def count_front_ends(folder: str | os.PathLike[str]) -> int:
+    """How many front ends are noted in a session's folder; what one that was killed left is removed."""
     attached = pathlib.Path(folder, "attached")
     notes = list(attached.iterdir()) if attached.is_dir() else []
     gone = [note for note in notes if not is_attached(note)]
@@ -337,20 +337,20 @@ def count_clients(folder: str | os.PathLike[str]) -> int:
 
 
 def has_others(folder: str | os.PathLike[str] | None) -> bool:
-    """Whether another client that types is noted in a session's folder."""
+    """Whether another front end that types is noted in a session's folder."""
     notes = pathlib.Path(folder, "attached").glob("[0-9]*") if folder else ()
     return any(note.name != str(os.getpid()) and is_attached(note) and kind_of(note) == "edits" for note in notes)
 
 
 def kind_of(note: pathlib.Path) -> str:
-    """What the client that a file notes does: it edits, or it watches."""
+    """What the front end that a file notes does: it edits, or it watches."""
     with contextlib.suppress(OSError, ValueError):
         return note.read_text(encoding="utf-8").split()[-1]
     return ""
 
 
 def is_attached(note: pathlib.Path) -> bool:
-    """Whether the client that a file notes runs; who ends removes it, maybe at this moment."""
+    """Whether the front end that a file notes runs; who ends removes it, maybe at this moment."""
     try:
         return is_running(int(note.name), int(note.read_text(encoding="utf-8").split()[0]))
     except (OSError, ValueError, IndexError):

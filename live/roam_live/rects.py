@@ -38,13 +38,13 @@ class Places(namedtuple("Places", "rects focus starts watchers", defaults=(0, 0,
     watchers: int
 
     def size(self) -> tuple[int, int]:
-        """The session's rows and columns; none where no pane is known."""
-        rows = max((rect.row + rect.rows for rect in self.rects.values()), default=0)
-        return rows, max((rect.col + rect.cols - 1 for rect in self.rects.values()), default=0)
+        """The session's rows and columns."""
+        rects = self.rects.values()
+        return max(rect.row + rect.rows for rect in rects), max(rect.col + rect.cols - 1 for rect in rects)
 
-    def is_full(self) -> bool | None:
-        """Whether the server knows as many starts as it ever does; None where nothing is told."""
-        return self.starts >= MOST_STARTS if self.rects else None
+    def is_full(self) -> bool:
+        """Whether the server knows as many starts as it ever does."""
+        return self.starts >= MOST_STARTS
 
     def neighbour(self, way: str) -> int | None:
         """The pane that touches the one in focus on that side, nearest to its middle; None where none does."""
@@ -58,16 +58,13 @@ class Places(namedtuple("Places", "rects focus starts watchers", defaults=(0, 0,
         return min(found)[1] if found else None
 
     def unsplit(self, way: str) -> str:
-        """Why the pane in focus can't be split that way; nothing where it can, or nothing is known."""
+        """Why the pane in focus can't be split that way; nothing where it can, or that isn't known."""
         here = self.rects.get(self.focus)
         if len(self.rects) >= MOST_PANES:
             return f"there are {MOST_PANES} panes, and no more"
         if here and (here.rows < ROOM[way][0] or here.cols < ROOM[way][1]):
             return f"pane {self.focus} is too small to be split: {here.rows} by {here.cols}"
         return ""
-
-
-NOTHING = Places({})
 
 
 def covers(rect: Rect, row: float, col: float, is_beside: bool) -> bool:
@@ -104,8 +101,8 @@ def pane_of(word: str) -> int:
     return pane
 
 
-def read_places(path: str | os.PathLike[str]) -> Places:
-    """What is told in a file; nothing where it isn't there, not whole, or nothing that a session can have."""
+def read_places(path: str | os.PathLike[str]) -> Places | None:
+    """What is told in a file; None where it isn't there, not whole, or nothing that a session can have."""
     try:
         with open(path, encoding="utf-8") as text:
             lines = [line.split() for line in text.read(PLACES_READ).splitlines()]
@@ -113,5 +110,5 @@ def read_places(path: str | os.PathLike[str]) -> Places:
         known = {words[0]: number_of(words[1]) for words in lines if len(words) == 2}
         focus = known["focus"]
     except (OSError, ValueError, KeyError):
-        return NOTHING
-    return Places(rects, focus, known.get("starts", 0), known.get("watchers", 0)) if focus in rects else NOTHING
+        return None
+    return Places(rects, focus, known.get("starts", 0), known.get("watchers", 0)) if focus in rects else None

@@ -217,7 +217,7 @@ class Waiting:
         self.size = sum(cost(datagram) for _, datagram in self.datagrams)
 
 
-class Stream:
+class RelayStream:
     """One end of a stream: what came over it, and what goes."""
 
     def __init__(self, source: int, target: int, session: str) -> None:

@@ -11,7 +11,7 @@ import zlib
 from roam_live.choices import wants_udp
 from roam_live.program import TOOLS
 from roam_live.relayed import greeting, read_greeting
-from roam_live.sessions import NearSession, Session, base
+from roam_live.sessions import NearSession, FolderSession, base
 
 TYPE_CHECKING = False
 if TYPE_CHECKING:
@@ -76,18 +76,18 @@ def near_session(asked: Asked, command: list[str]) -> NearSession:
 def is_first_start(session: NearSession) -> bool:
     """Whether a session, as far as is known, never had a client start before that of this machine."""
     places = session.places()
-    return bool(places.rects) and places.starts <= 1
+    return places is not None and places.starts <= 1
 
 
-def carry(name: str, started: Callable[[Session], bool]) -> int:
-    """Carries a session's datagrams over standard input and output. One that the other end knew and that has ended isn't started anew;
+def carry(name: str, launched: Callable[[FolderSession], bool]) -> int:
+    """Carries a session's datagrams over standard input and output. One that the other end knew and that has ended isn't launched anew;
     whether another runs, or was begun halfway, a call tells under its lock."""
     wanted = read_greeting(0)
-    session = Session.named(name)
+    session = FolderSession.named(name)
     if wanted == "-":
         with session.locked():
-            if not started(session):
-                session.start()
+            if not launched(session):
+                session.launch()
     elif not session.find() or session.id() != wanted:
         os.write(1, greeting("0"))
         return 0

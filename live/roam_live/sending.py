@@ -6,7 +6,7 @@ import re
 import subprocess
 import time
 
-from roam_live.links import NO_MORE, Link
+from roam_live.links import NO_MORE, StartLink
 from roam_live.program import Fault, Home
 from roam_live.rects import MOST_PANES, Places
 from roam_live.terminal import LEAST, MOST
@@ -15,7 +15,7 @@ TYPE_CHECKING = False
 if TYPE_CHECKING:
     from collections.abc import Callable
 
-    from roam_live.sessions import Session
+    from roam_live.sessions import FolderSession
 
 # How long a session's client start has for the acts that it is given, and for its first painting.
 SEND_WAIT = 10.0
@@ -26,11 +26,12 @@ TOLD_WAIT = 1.0
 TOLD_STEP = 0.05
 
 
-class Layout:
+class KnownPanes:
     """What is known of a session's panes after each of some acts."""
 
-    def __init__(self, places: Places) -> None:
-        self.places = places
+    def __init__(self, places: Places | None) -> None:
+        # Where nothing is told there is no pane here, and no act of one is refused.
+        self.places = places = places or Places({}, 0)
         # How many panes there are, and their numbers where these are known; and whether each has the place that was told.
         self.count, self.is_told = len(places.rects), True
         self.panes: set[int] | None = set(places.rects)
@@ -94,14 +95,14 @@ def wrong_size(rows: int, cols: int) -> str:
     return f"a session has {LEAST[0]} to {MOST[0]} rows and {LEAST[1]} to {MOST[1]} columns"
 
 
-def wrong_in(acts: list[str], places: Places) -> str:
+def wrong_in(acts: list[str], places: Places | None) -> str:
     """Which of the acts can't be done where panes are at these places, and why; nothing where all can, as far as is known."""
-    layout = Layout(places)
+    layout = KnownPanes(places)
     found = ((act, layout.wrong(act)) for act in acts)
     return next((f"{act!r} can't be done: {why}" for act, why in found if why), "")
 
 
-def demand_acts(session: Session, acts: list[str]) -> None:
+def demand_acts(session: FolderSession, acts: list[str]) -> None:
     """Refuses what is no act, by a client start that takes no turn: the session never knows it."""
     lines = "".join(f"{act}\n" for act in acts)
     words = Home(folder=str(session.folder)).attach_words(["--keys", "/dev/stdin", "--turns", "0"])
@@ -112,7 +113,7 @@ def demand_acts(session: Session, acts: list[str]) -> None:
         raise Fault(f"{acts[int(line[1]) - 1]!r} is no act; the page roam(1) lists them. None was typed" if line else said)
 
 
-def demand_doable(session: Session, acts: list[str]) -> None:
+def demand_doable(session: FolderSession, acts: list[str]) -> None:
     """Refuses acts of which one can't be done."""
     end = time.monotonic() + TOLD_WAIT
     while True:
@@ -124,12 +125,12 @@ def demand_doable(session: Session, acts: list[str]) -> None:
         time.sleep(TOLD_STEP)
 
 
-def send(session: Session, acts: list[str]) -> int:
+def send(session: FolderSession, acts: list[str]) -> int:
     """Types acts into a session, and ends once all were given to its client start."""
     acts = [act.replace("\n", "\\n") for act in acts]
     demand_acts(session, acts)
     demand_doable(session, acts)
-    link = Link(session.terminals, False)
+    link = StartLink(session.terminals, False)
     link.connect()
     if link.comes(FIRST_WAIT) and link.painted() == b"":
         raise Fault(NO_MORE)

@@ -13,9 +13,9 @@ import stat
 from collections.abc import Iterable
 
 from roam_live.processes import Processes
-from roam_live.program import (TOOLS, Fault, begun, count_clients, end_words, is_listened, is_own_folder, note_end, program, replace_text,
+from roam_live.program import (TOOLS, Fault, begun, count_front_ends, end_words, is_listened, is_own_folder, note_end, program, replace_text,
                                say)
-from roam_live.rects import MOST_STARTS, NOTHING, Places, read_places
+from roam_live.rects import MOST_STARTS, Places, read_places
 
 NAME = re.compile(r"[A-Za-z0-9_-]{1,32}")
 
@@ -63,20 +63,20 @@ def base() -> pathlib.Path:
     return path
 
 
-def session_named(name: str) -> Session:
+def session_named(name: str) -> FolderSession:
     """The session of a name: one of this machine, or what stands here for one of another."""
     if not NEAR_NAME.fullmatch(name):
-        return Session.named(name)
+        return FolderSession.named(name)
     session = NearSession(base() / name, name)
     if not session.folder.is_dir():
         raise Fault(f"no session {name} is here")
     return session
 
 
-def sessions_here() -> list[Session]:
+def sessions_here() -> list[FolderSession]:
     """The sessions of which there are folders, by name: those of other machines behind those of this one."""
     folders = sorted(path for path in base().iterdir() if path.is_dir() and len(str(path / "terminals")) <= LONGEST_PATH)
-    own = [Session(path) for path in folders if NAME.fullmatch(path.name)]
+    own = [FolderSession(path) for path in folders if NAME.fullmatch(path.name)]
     return own + [NearSession(path) for path in folders if NEAR_NAME.fullmatch(path.name)]
 
 
@@ -86,10 +86,10 @@ def check_name(name: str) -> None:
         raise Fault(f"{name!r} is no name: letters, digits, - and _, 32 at most")
 
 
-class Session(Processes):
+class FolderSession(Processes):
     """A session: its folder, and what was noted of it.
 
-    One that was noted by `mux` has a process whose end is the session's; of one whose server was started by hand the folder is all that is
+    One that was noted by `mux` has a process whose end is the session's; of one whose server was spawned by hand the folder is all that is
     known.
     """
 
@@ -106,7 +106,7 @@ class Session(Processes):
             raise Fault(f"{self.folder} is too long for a socket's path")
 
     @classmethod
-    def named(cls, name: str) -> Session:
+    def named(cls, name: str) -> FolderSession:
         """That of a name."""
         check_name(name)
         return cls(base() / name)
@@ -123,9 +123,9 @@ class Session(Processes):
         except OSError:
             return ""
 
-    def places(self) -> Places:
-        """Where its panes are, as far as that is told; in a folder that another user made in its place nothing is."""
-        return read_places(self.folder / "rects") if is_own_folder(self.folder) else NOTHING
+    def places(self) -> Places | None:
+        """Where its panes are; None where that isn't told, as in a folder that another user made in its place."""
+        return read_places(self.folder / "rects") if is_own_folder(self.folder) else None
 
     def is_served(self) -> bool:
         """Whether a server is there, or a relay to one."""
@@ -133,11 +133,12 @@ class Session(Processes):
 
     def is_full(self) -> bool | None:
         """Whether its server knows as many starts as it ever does; None where nothing is told of that."""
-        return self.places().is_full()
+        places = self.places()
+        return places.is_full() if places else None
 
     def busy(self) -> dict[int, str] | None:
         """The panes in which another program than a shell runs, and its name: in none where what is noted to have kept the shells has
-        ended, or was never begun, as where a start was killed half-way. None where that isn't known: shells that were started by hand are
+        ended, or was never begun, as where a start was killed half-way. None where that isn't known: shells that were spawned by hand are
         noted nowhere, and found by their socket alone."""
         from roam_live.programs import busy_panes
 
@@ -208,18 +209,18 @@ class Session(Processes):
 
     # ---- what belongs to it
 
-    def start(self, command: Iterable[str] = ()) -> None:
-        """Starts the server and its shells, or a command in place of each shell; all or nothing."""
+    def launch(self, command: Iterable[str] = ()) -> None:
+        """Launches the server and its shells, or a command in place of each shell; all or nothing."""
         self.clean()
         self.state = {"version": VERSION, "command": list(command)}
         before = self.logged()
         with self.whole():
             self.spawned("server", [program(), "serve", "--dir", str(self.folder)])
             self.wait_for("server", before, lambda: (self.folder / "session").exists() and self.is_served())
-            self.start_shells()
+            self.spawn_shells()
 
-    def start_shells(self, more: Iterable[str] = ()) -> None:
-        """Starts what keeps a shell in each pane."""
+    def spawn_shells(self, more: Iterable[str] = ()) -> None:
+        """Spawns what keeps a shell in each pane."""
         state = self.state or {}
         words = [str(TOOLS / "pane_shells"), "--close", "--server", str(state["server"][0]), *more]
         self.spawned("shells", [*words, str(self.folder), *state.get("command", ())])
@@ -227,10 +228,10 @@ class Session(Processes):
     def demand_shells(self) -> None:
         """Sees that what keeps its shells runs."""
         if not self.runs("shells"):
-            self.start_shells(["--again"])
+            self.spawn_shells(["--again"])
 
-    def start_terminals(self) -> None:
-        """Starts the client start of this machine's terminals."""
+    def spawn_terminals(self) -> None:
+        """Spawns the client start of this machine's terminals."""
         self.demand_room()
         self.terminals.unlink(missing_ok=True)
         self.state = self.state or {"version": VERSION}
@@ -246,7 +247,7 @@ class Session(Processes):
         """Sees that the start of this machine's terminals runs, and is ready."""
         before = self.logged()
         if not self.has_terminals():
-            self.start_terminals()
+            self.spawn_terminals()
             self.wait_for("terminals", before, lambda: is_listened(self.terminals))
 
     def has_terminals(self) -> bool:
@@ -257,10 +258,10 @@ class Session(Processes):
         """Starts the start of the terminals anew, where it has ended and nobody else does."""
         with contextlib.suppress(BlockingIOError), self.locked(may_wait=False):
             if not self.has_terminals():
-                self.start_terminals()
+                self.spawn_terminals()
 
     def revive_shells(self) -> bool:
-        """Starts the shells anew where what kept them has ended; tells whether they run."""
+        """Spawns the shells anew where what kept them has ended; tells whether they run."""
         with contextlib.suppress(BlockingIOError), self.locked(may_wait=False):
             if self.find():
                 self.demand_shells()
@@ -290,7 +291,7 @@ class Session(Processes):
         self.clean()
 
     def tidy(self) -> None:
-        """Removes what is left of a session that has ended; its lock is held, since one that is being started looks like that too."""
+        """Removes what is left of a session that has ended; its lock is held, since one that is being spawned looks like that too."""
         if not self.find():
             self.kill()
 
@@ -300,7 +301,7 @@ class Session(Processes):
     # ---- what `mux ls` says
 
     def listed(self) -> str:
-        """What `mux ls` says of it: nothing of one that has ended, which is cleaned up where nobody starts it anew."""
+        """What `mux ls` says of it: nothing of one that has ended, which is cleaned up where nobody launches it anew."""
         if self.find():
             return self.line()
         if self.state:
@@ -312,27 +313,27 @@ class Session(Processes):
     def line(self) -> str:
         """What `mux ls` says of it."""
         places = self.places()
-        size = "{} by {}".format(*places.size()) if places.rects else "-"
-        count = count_clients(self.folder)
-        panes = "1 pane" if len(places.rects) == 1 else f"{len(places.rects) or '?'} panes"
-        more = f", {places.starts} of {MOST_STARTS} starts" if places.starts > MANY_STARTS else ""
-        return f"{self.name:12} {size:12} {panes:8} {count} client{'' if count == 1 else 's'}{more}"
+        size = "{} by {}".format(*places.size()) if places else "-"
+        count = count_front_ends(self.folder)
+        panes = "? panes" if not places else "1 pane" if len(places.rects) == 1 else f"{len(places.rects)} panes"
+        more = f", {places.starts} of {MOST_STARTS} starts" if places and places.starts > MANY_STARTS else ""
+        return f"{self.name:12} {size:12} {panes:8} {count} terminal{'' if count == 1 else 's'}{more}"
 
 
-class NearSession(Session):
+class NearSession(FolderSession):
     """A session of another machine: a relay stands here for its server."""
 
     served = "relay"
     sockets = {"relay": "clients", "terminals": "terminals"}
 
-    def start(self, command: Iterable[str] = ()) -> None:
+    def launch(self, command: Iterable[str] = ()) -> None:
         """Refuses: how ssh is called isn't known."""
         raise Fault(f"no relay to {self.name} is running; `mux ssh` starts one")
 
     def demand_shells(self) -> None:
         """Leaves the shells to the other machine."""
 
-    def start_relay(self, command: list[str], host: str = "") -> int:
+    def launch_relay(self, command: list[str], host: str = "") -> int:
         """Starts a relay over a command, which may ask at this terminal until it has answered, and by UDP to a host, where one is named;
         tells the status of one that didn't answer, and leaves no folder then."""
         self.clean()

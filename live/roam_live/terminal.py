@@ -169,7 +169,7 @@ def opened_for_writing(terminal: int) -> int:
         return os.dup(terminal)
 
 
-class Extent:
+class PaintedSize:
     """How many rows and columns the painter has reached since all was erased.
 
     The last row of a session is painted over all of its columns in printable ASCII, so this is the session's size. Of the rows above it

@@ -1,4 +1,4 @@
-"""Sees the end of what keeps a session's shells, and has it started anew."""
+"""Sees the end of what keeps a session's shells, and has it spawned anew."""
 from __future__ import annotations
 
 import os
@@ -12,7 +12,7 @@ TYPE_CHECKING = False
 if TYPE_CHECKING:
     from roam_live.places import Kept
 
-# So many seconds after its end what kept the shells is started anew: by the first it is known whether that is the session's end. One that
+# So many seconds after its end what kept the shells is spawned anew: by the first it is known whether that is the session's end. One that
 # lasted so long had no fault at its start.
 PAUSES = (0.3, 1, 2, 4, 8, 15)
 SOUND = 5.0
@@ -24,7 +24,7 @@ class ShellsWatch:
     def __init__(self, place: Kept, loop: Loop, tells: Callable[[str], object] = lambda line: None) -> None:
         self.place, self.loop, self.tells = place, loop, tells
         self.file: int | None = None
-        # How often in a row it ended soon, or couldn't be started, and since when it runs.
+        # How often in a row it ended soon, or couldn't be spawned, and since when it runs.
         self.faults = 0
         self.since = 0.0
         self.follow()
@@ -45,11 +45,11 @@ class ShellsWatch:
         return pause
 
     def stop(self) -> None:
-        """Starts nothing any more."""
+        """Spawns nothing any more."""
         self.loop.drop("shells")
 
     def revive(self) -> None:
-        """Has the shells started anew."""
+        """Has the shells spawned anew."""
         try:
             if self.place.revive_shells():
                 self.follow()
@@ -59,7 +59,7 @@ class ShellsWatch:
             why = reason(fault).removeprefix(f"session {self.place.name}: ")
             self.tells(f"the shells have ended: {why}; tried again in {self.wait()} s")
             return
-        # Another starts them just now, or the session has ended.
+        # Another spawns them just now, or the session has ended.
         self.loop.later("shells", PAUSES[1], self.revive)
 
     def ended(self) -> None:

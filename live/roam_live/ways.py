@@ -7,7 +7,7 @@ from collections.abc import Callable
 
 from roam_live.loops import Loop, comes
 from roam_live.paths import Path
-from roam_live.relayed import Stream, Waiting
+from roam_live.relayed import RelayStream, Waiting
 
 # A way that was there for so many seconds is sound: then nothing goes over the command any more beside a path, and what breaks a command is
 # no fault of its own.
@@ -23,7 +23,7 @@ class Ways:
     def __init__(self, loop: Loop) -> None:
         self.loop = loop
         self.path: Path | None = None
-        self.stream: Stream | None = None
+        self.stream: RelayStream | None = None
         # Whether nothing goes over the stream, since the path is sound.
         self.rests = False
 
@@ -52,7 +52,7 @@ class Ways:
         """Whether it does, and has for some time."""
         return self.path is not None and self.path.is_sound() and self.path.sound_since + SOUND <= time.monotonic()
 
-    def chosen(self, is_stream_there: bool) -> Path | Stream | None:
+    def chosen(self, is_stream_there: bool) -> Path | RelayStream | None:
         """What carries what waits: the path where it is sound, or nothing else is there; and else the stream."""
         return self.path if self.path and (self.path.is_sound() or not is_stream_there) else self.stream
 

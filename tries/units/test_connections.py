@@ -35,10 +35,10 @@ class Connections(unittest.TestCase):
         """Who listens is known: this process, of this user."""
         self.listener.listen()
         with program.connected_now(self.path) as end:
-            self.assertEqual(program.Peer.of(end), (os.getpid(), os.getuid()))
+            self.assertEqual(program.SocketPeer.of(end), (os.getpid(), os.getuid()))
             with self.listener.accept()[0] as taken:
                 self.assertTrue(program.is_own_peer(taken))
-                self.assertEqual(program.Peer.of(taken).process, os.getpid())
+                self.assertEqual(program.SocketPeer.of(taken).process, os.getpid())
 
     def test_another_user(self):
         """Another's socket isn't taken, and the refusal names the user: also for the superuser, and where it is the superuser's."""
@@ -140,6 +140,6 @@ class Folders(unittest.TestCase):
                 self.assertFalse(program.is_own_folder(made))
                 said = io.StringIO()
                 with contextlib.redirect_stderr(said):
-                    self.assertIsNone(program.noted_client(made))
-                self.assertIn("this client isn't counted: ", said.getvalue())
+                    self.assertIsNone(program.noted_front_end(made))
+                self.assertIn("this front end isn't counted: ", said.getvalue())
                 self.assertEqual(sorted(path.name for path in pathlib.Path(made).iterdir()), ["file", "link"])

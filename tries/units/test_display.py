@@ -6,20 +6,20 @@ import tempfile
 import unittest
 from unittest import mock
 
-from roam_live import client, display, terminal
+from roam_live import display, front_end, terminal
 from roam_live.bindings import HELP, help_with
-from roam_live.cells import Cells
+from roam_live.cells import PaintedCells
 from roam_live.choices import PREFIXES
 from roam_live.commands import Commands
 from roam_live.display import Display, wrapped
 from roam_live.loops import Loop
-from roam_live.program import noted_client
-from roam_live.rects import NOTHING, Places, Rect
+from roam_live.program import noted_front_end
+from roam_live.rects import Places, Rect
 
 FITS = "C-b r fits this terminal, and cuts what is wider"
 
 
-class Outer:
+class OuterTerminal:
     """A terminal of a size, and what was written there."""
 
     def __init__(self, rows, cols):
@@ -33,11 +33,11 @@ class Outer:
     def shown(self):
         """The rows that it shows, by what was written since all was erased."""
         text = bytes(self.waiting)
-        cells = Cells()
+        cells = PaintedCells()
         begin = text.rfind(b"\x1b[2J\x1b[H")
         lines = text[begin:].decode() if begin >= 0 else ""
         row, col = 1, 1
-        for letter in terminal.Extent.ESCAPES.sub(b"", lines.encode()).decode():
+        for letter in terminal.PaintedSize.ESCAPES.sub(b"", lines.encode()).decode():
             if letter == "\n":
                 row += 1
             elif letter == "\r":
@@ -50,7 +50,7 @@ class Outer:
         return ["".join(cells.cells.get((row, col), " ")[0] for col in range(1, width + 1)).rstrip() for row in range(1, last + 1)]
 
 
-class Link:
+class StartLink:
     """What is said and typed."""
 
     def __init__(self, watches=False):
@@ -66,12 +66,12 @@ class Link:
         self.lines.append(line)
 
 
-class Place:
+class AnySession:
     """A session's places and folder."""
 
     def __init__(self, folder=None):
         self.folder = folder
-        self.told = NOTHING
+        self.told = None
 
     def places(self):
         """Where the panes are."""
@@ -91,11 +91,11 @@ def painting(rows, cols, text="x"):
 class Person:
     """A person at a terminal, without the processes."""
 
-    def __init__(self, rows, cols, watches=False, is_new=False, told=NOTHING, folder=None):
-        self.loop, self.link, self.place = Loop(), Link(watches), Place(folder)
+    def __init__(self, rows, cols, watches=False, is_new=False, told=None, folder=None):
+        self.loop, self.link, self.place = Loop(), StartLink(watches), AnySession(folder)
         self.place.told = told
         self.left = None
-        with mock.patch.object(display, "Outer", lambda: Outer(rows, cols)):
+        with mock.patch.object(display, "OuterTerminal", lambda: OuterTerminal(rows, cols)):
             self.display = Display(self.loop, lambda: self.link.say("repaint"))
         self.commands = Commands(self.place, self.link, self.display, self.loop, self.leave, lambda: is_new)
         self.commands.choose("C-b")
@@ -169,7 +169,7 @@ class Sizes(unittest.TestCase):
         self.assertEqual((person.sizes(), person.commands.is_fitted), (["size 50 132"], True))
 
     def test_smaller_is_covered(self):
-        for told in (places(24, 100), NOTHING):
+        for told in (places(24, 100), None):
             person = Person(12, 40, told=told)
             person.display.painted(painting(24, 100, "secret"))
             person.commands.fit_first()
@@ -203,7 +203,7 @@ class Sizes(unittest.TestCase):
         with tempfile.TemporaryDirectory() as folder:
             other = os.fork()
             if other == 0:
-                noted_client(folder)
+                noted_front_end(folder)
                 signal_pause()
             try:
                 note = pathlib.Path(folder, "attached", str(other))
@@ -404,7 +404,8 @@ class Words(unittest.TestCase):
         ends = os.dup(0), os.dup(1)
         os.dup2(slave, 0), os.dup2(slave, 1)
         try:
-            outer = display.Outer()
+            outer = display.OuterTerminal()
+            outer.enter()
             outer.leave("[the relay has ended; \x1b[c/log tells why]")
         finally:
             os.dup2(ends[0], 0), os.dup2(ends[1], 1)
@@ -419,7 +420,7 @@ class Silence(unittest.TestCase):
 
     def changed(self, text):
         """The text with the key that leaves."""
-        return client.SILENCE.sub(rb"\1; %s d leaves\2" % b"C-b", text)
+        return front_end.SILENCE.sub(rb"\1; %s d leaves\2" % b"C-b", text)
 
     def test_notice(self):
         self.assertEqual(self.changed(self.NOTICE), self.NOTICE.replace(b"10 s", b"10 s; C-b d leaves"))

@@ -506,7 +506,7 @@ class Words(Case):
 
     def test_child(self):
         """What is forked becomes the command, of the pane's size and in its folder, and ends where it can't."""
-        pane = shells.Pane(argparse.Namespace(dir="/d", command=["vi"], instead="/bin/sh"), StillLoop(), 3, 1, (5, 40), False, "/tmp")
+        pane = shells.PaneCommand(argparse.Namespace(dir="/d", command=["vi"], instead="/bin/sh"), StillLoop(), 3, 1, (5, 40), False, "/tmp")
         with mock.patch.object(shells.os, "forkpty", return_value=(0, 9)), mock.patch.object(shells.terminal, "become") as becomes, \
                 mock.patch.object(shells.os, "_exit", side_effect=InterruptedError) as exits, \
                 mock.patch.object(shells.os, "chdir") as enters:

@@ -4,12 +4,12 @@ import os
 from unittest import mock
 
 from aids import Case, read_now
-from roam_live.links import LET_GO, LOST, MOST_ACTS, NO_MORE, PAUSES, Keeper, Link
+from roam_live.links import LET_GO, LOST, MOST_ACTS, NO_MORE, PAUSES, Keeper, StartLink
 from roam_live.loops import READ, WRITE
 from roam_live.program import Fault
 
 
-class Peer:
+class SocketPeer:
     """The start's end, which takes so many bytes each time, or refuses with an error's number, below 0."""
 
     def __init__(self, *answers):
@@ -34,7 +34,7 @@ class Linked(Case):
 
     def link(self, *words):
         """A link that is connected, and its other end."""
-        link = Link(self.path, *words)
+        link = StartLink(self.path, *words)
         link.connect()
         self.addCleanup(link.close)
         return link, self.taken(self.listener)
@@ -58,7 +58,7 @@ class Lines(Linked):
 
     def test_kept(self):
         """What wasn't sent goes to the next connection, behind one greeting; a watcher's doesn't."""
-        link = Link(self.path, False, "always")
+        link = StartLink(self.path, False, "always")
         link.type("char 61")
         for _ in range(2):
             link.connect()
@@ -66,7 +66,7 @@ class Lines(Linked):
             other = self.taken(self.listener)
         link.send()
         self.assertEqual(read_now(other), b"guess always\nchar 61\n")
-        watcher = Link(self.path, True)
+        watcher = StartLink(self.path, True)
         watcher.say("repaint")
         watcher.connect()
         self.assertEqual(watcher.waiting, b"watch\n")
@@ -98,7 +98,7 @@ class Lines(Linked):
         whole = bytes(link.waiting)
         for cut in range(1, len(whole)):
             link.waiting[:], link.given = whole, 0
-            with mock.patch.object(link, "peer", Peer(cut)):
+            with mock.patch.object(link, "peer", SocketPeer(cut)):
                 self.assertTrue(link.send())
             rest = whole[whole.rfind(b"\n", 0, cut) + 1 :]
             self.assertEqual((bytes(link.waiting), link.given), (rest, cut - (len(whole) - len(rest))), cut)
@@ -110,7 +110,7 @@ class Lines(Linked):
         """What isn't taken waits, in pieces of 65,536 bytes; where the other end has gone that is told."""
         link, other = self.link(False)
         link.waiting += b"x" * 100_000 + b"\n"
-        peer = Peer(65536, -errno.EAGAIN, 34465, -errno.EPIPE)
+        peer = SocketPeer(65536, -errno.EAGAIN, 34465, -errno.EPIPE)
         with mock.patch.object(link, "peer", peer):
             self.assertTrue(link.send())
             self.assertEqual((link.given, peer.taken), (65536, [65536]))
@@ -163,7 +163,7 @@ class Lines(Linked):
         self.assertFalse(link.part())
 
 
-class Place:
+class AnySession:
     """A session with a start, as it is told."""
 
     name = "main"
@@ -211,8 +211,8 @@ class Kept(Linked):
 
     def setUp(self):
         super().setUp()
-        self.place = Place()
-        self.link = Link(self.path, False)
+        self.place = AnySession()
+        self.link = StartLink(self.path, False)
         self.keeper = Keeper(self.place, self.link)
         self.addCleanup(self.link.close)
 

@@ -98,7 +98,7 @@ class Ends(Case):
         self.assertEqual(self.turn(), ["another"])
 
     def test_ended(self):
-        """An end whose other end is gone can be read, and so can one that was closed without a word."""
+        """An end whose other end is gone can be read."""
         one, other = self.pair()
         self.loop.add(one, self.named("one"))
         self.assertEqual(self.turn(), [])
@@ -108,8 +108,24 @@ class Ends(Case):
         os.close(writer)
         self.loop.add(reader, self.named("pipe"))
         self.assertEqual(self.turn(), ["one", "pipe"])
+        self.loop.remove(reader)
         os.close(reader)
-        self.assertEqual(self.turn(), ["one", "pipe"])
+        self.assertEqual(self.turn(), ["one"])
+
+    def test_lowered(self):
+        """It goes on where the limit of descriptors was lowered below those that are there."""
+        import resource
+
+        one, other = self.pair()
+        before = resource.getrlimit(resource.RLIMIT_NOFILE)
+        self.loop.add(one, self.named("one"))
+        self.loop.add(other, self.named("other"))
+        other.send(b"x")
+        resource.setrlimit(resource.RLIMIT_NOFILE, (1, before[1]))
+        try:
+            self.assertEqual(self.turn(), ["one"])
+        finally:
+            resource.setrlimit(resource.RLIMIT_NOFILE, before)
 
     def test_files(self):
         """Any file can be waited for: one that is no stream is always ready."""

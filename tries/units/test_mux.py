@@ -6,10 +6,10 @@ import types
 from unittest import mock
 
 from aids import Case, loaded
-from roam_live import captures, choices, client, remote, sending, sessions
+from roam_live import captures, choices, front_end, remote, sending, sessions
 from roam_live.program import Fault
 from roam_live.relayed import greeting
-from roam_live.sessions import NearSession, Session
+from roam_live.sessions import NearSession, FolderSession
 
 mux = loaded("mux")
 PAGE = pathlib.Path(__file__).resolve().parents[2] / "docs/man/roam-mux.1"
@@ -25,16 +25,16 @@ class Mux(Case):
             self.patch_of(module, "base", lambda: self.base)
         self.environment(ROAM_PREFIX=None, ROAM_GUESS=None, ROAM_PANE=None, SHELL="/bin/sh")
         self.said, self.text = self.heard(), self.printed()
-        self.follows = self.patch_of(client, "follow", return_value=7)
+        self.follows = self.patch_of(front_end, "follow", return_value=7)
         self.is_terminal = True
         self.patch_of(mux.os, "isatty", lambda end: self.is_terminal)
         self.runs, self.done = set(), []
-        for name in ("start", "start_shells", "demand_terminals", "demand_shells", "note_found", "kill", "end_all", "tidy"):
-            self.patch_of(Session, name, self.does(name))
-        self.patch_of(Session, "find", lambda session: session.name in self.runs)
-        self.patch_of(Session, "runs", lambda session, role=None: session.name in self.runs)
-        self.patch_of(Session, "demand_age", self.does("demand_age"))
-        self.patch_of(Session, "busy", lambda session: {1: "vi"})
+        for name in ("launch", "spawn_shells", "demand_terminals", "demand_shells", "note_found", "kill", "end_all", "tidy"):
+            self.patch_of(FolderSession, name, self.does(name))
+        self.patch_of(FolderSession, "find", lambda session: session.name in self.runs)
+        self.patch_of(FolderSession, "runs", lambda session, role=None: session.name in self.runs)
+        self.patch_of(FolderSession, "demand_age", self.does("demand_age"))
+        self.patch_of(FolderSession, "busy", lambda session: {1: "vi"})
 
     def does(self, name):
         """What notes that a part of a session was called."""
@@ -64,7 +64,7 @@ class Attaches(Mux):
         for words, name in (((), "main"), (("work",), "work"), (("--", "send"), "send")):
             self.done.clear()
             self.assertEqual(self.mux(*words), 7)
-            self.assertEqual(self.done, [("kill", name), ("start", name, ()), ("demand_terminals", name)])
+            self.assertEqual(self.done, [("kill", name), ("launch", name, ()), ("demand_terminals", name)])
             session, is_watching, prefix, guessing, is_new = self.follows.call_args[0]
             self.assertEqual((session.name, is_watching, prefix, guessing, is_new()), (name, False, "C-b", "adaptive", True))
 
@@ -118,7 +118,7 @@ class Attaches(Mux):
         self.mux()
         self.assertEqual(self.follows.call_args[0][2:4], ("C-a", "always"))
         self.assertEqual((choices.chosen_guessing("never"), choices.chosen_guessing()), ("never", "always"))
-        self.refuses("C-a d, typed in the client, detaches it; the session goes on", "detach")
+        self.refuses("C-a d, typed in the front end, detaches it; the session goes on", "detach")
 
 
 class Starts(Mux):
@@ -127,7 +127,7 @@ class Starts(Mux):
     def test_new(self):
         """It starts a session with a command in place of the shell; with -d without a client."""
         self.assertEqual(self.mux("new", "-d", "work", "sh", "-c", "x"), 0)
-        self.assertEqual(self.done[1], ("start", "work", ["sh", "-c", "x"]))
+        self.assertEqual(self.done[1], ("launch", "work", ["sh", "-c", "x"]))
         self.follows.assert_not_called()
         self.assertEqual(self.mux("new", "--guess", "always", "work"), 7)
         session, is_watching, prefix, guessing, is_new = self.follows.call_args[0]
@@ -154,7 +154,7 @@ class Starts(Mux):
 
     def test_not_ended(self):
         self.runs.add("main")
-        with mock.patch.object(Session, "end_all"):
+        with mock.patch.object(FolderSession, "end_all"):
             self.refuses("session main doesn't end", "kill", "-f", "main")
 
     def test_ready(self):
@@ -171,10 +171,10 @@ class Starts(Mux):
 
     def test_started(self):
         """Whether it ran before is told; what is left of one that doesn't run goes."""
-        session = Session.named("main")
-        self.assertEqual((mux.started(session), self.done), (False, [("kill", "main")]))
+        session = FolderSession.named("main")
+        self.assertEqual((mux.launched(session), self.done), (False, [("kill", "main")]))
         self.runs.add("main")
-        self.assertTrue(mux.started(session))
+        self.assertTrue(mux.launched(session))
 
 
 class Listed(Mux):
@@ -190,7 +190,7 @@ class Listed(Mux):
                 raise lines[session.name]
             return lines[session.name]
 
-        with mock.patch.object(Session, "listed", listed):
+        with mock.patch.object(FolderSession, "listed", listed):
             self.assertEqual(self.mux("ls"), 1)
             self.assertEqual(self.text.getvalue(), "a 24 by 80?[c\n")
             self.assertIn("session ssh:there:main: somebody listens\n", self.said.getvalue())
@@ -203,7 +203,7 @@ class Far(Mux):
 
     def test_ssh(self):
         """A relay is started where none runs, and its status is that of one that didn't answer."""
-        starts = self.patch_of(NearSession, "start_relay", return_value=0)
+        starts = self.patch_of(NearSession, "launch_relay", return_value=0)
         self.patch_of(remote, "host_of", side_effect=lambda asked: f"host of {asked.host}")
         self.assertEqual(self.mux("ssh", "-p", "22", "me@there", "work"), 7)
         starts.assert_called_once_with(["ssh", "-p", "22", "me@there", "roam-mux far work"], "host of me@there")
@@ -276,7 +276,7 @@ class Far(Mux):
     def test_first_start(self):
         """A session is new here where its server has had one start at most, as far as is known."""
         (self.base / "main").mkdir()
-        session = Session.named("main")
+        session = FolderSession.named("main")
         for text, is_first in ((None, False), ("1 1 1 2 3\nstarts 1\nfocus 1\n", True), ("1 1 1 2 3\nstarts 2\nfocus 1\n", False)):
             if text:
                 (self.base / "main/rects").write_text(text, encoding="utf-8")
@@ -288,16 +288,16 @@ class Far(Mux):
         greets = self.patch_of(remote, "read_greeting", return_value="-")
         self.refuses("standard input is a terminal; `mux ssh` on another machine starts this end", "far", "main")
         self.is_terminal = False
-        self.patch_of(Session, "process", return_value=17)
+        self.patch_of(FolderSession, "process", return_value=17)
         self.mux("far", "main")
-        self.assertEqual(self.done, [("kill", "main"), ("start", "main")])
+        self.assertEqual(self.done, [("kill", "main"), ("launch", "main")])
         words = [str(remote.TOOLS / "relay"), "--far", "--greeted", "--server", "17", "--dir", str(self.base / "main"), "-"]
         becomes.assert_called_once_with(words[0], words)
         self.assertEqual(greets.call_args[0], (0,))
         self.done.clear()
         self.runs.add("main")
         self.mux("far", "main")
-        self.assertNotIn("start", [one[0] for one in self.done])
+        self.assertNotIn("launch", [one[0] for one in self.done])
         writes.assert_not_called()
 
     def test_carry_known(self):

@@ -7,7 +7,7 @@ from unittest import mock
 from aids import Case
 from roam_live import paths
 from roam_live.bundles import MOST_BUNDLES, PIECE
-from roam_live.paths import ASKS, ASKS_LARGE, FIRST, HEAD, HELD, LEAST, MOMENT, Arrivals, Best, Pace, Path, Sent, States, Trips, frames_in
+from roam_live.paths import ASKS, ASKS_LARGE, FIRST, HEAD, HELD, LEAST, MOMENT, Arrivals, Best, PathPace, Path, SentPacket, States, Trips, frames_in
 from roam_live.relayed import BELL, ENDED, KEYPAD, KILLED, LEAVES, RECTS, Waiting
 from roam_live.sealed import LONGEST_PACKET, LONGEST_TEXT, MOST_PACKETS, Seal
 from test_bundles import datagrams, noise, shown, typed
@@ -578,7 +578,7 @@ class Parts(Case):
 
     def test_pace(self):
         """Twelve packets go where nothing is known, and then one at a time; nothing is found out where nothing more waits."""
-        pace = Pace()
+        pace = PathPace()
         went = 0
         while pace.lets(1200, self.now):
             pace.went(1200)
@@ -587,15 +587,15 @@ class Parts(Case):
         self.assertAlmostEqual(pace.wait_time(1200), 1200 / (LEAST / paths.ROUND))
         self.now += pace.wait_time(1200)
         self.assertTrue(pace.lets(1200, self.now))
-        pace.note(Sent(self.now - 0.1, 1200, (), 0, 0.0), self.now, False)
+        pace.note(SentPacket(self.now - 0.1, 1200, (), 0, 0.0), self.now, False)
         self.assertEqual((pace.arrived, pace.rate.value()), (1200, 0))
 
     def test_pace_rises_and_stays(self):
         """The rate is what went through while a packet was on its way; after three rounds without a rise it goes a quarter above."""
-        pace = Pace()
+        pace = PathPace()
         pace.note_round(0.1)
         for _ in range(12):
-            sent = Sent(self.now, 1200, (), pace.arrived, 0.0)
+            sent = SentPacket(self.now, 1200, (), pace.arrived, 0.0)
             pace.arrived += 10_800
             self.now += 0.13
             pace.note(sent, self.now, True)
@@ -613,7 +613,7 @@ class Parts(Case):
 
     def test_pace_at_least(self):
         """Four packets may always be on their way."""
-        pace = Pace()
+        pace = PathPace()
         pace.rises = False
         self.assertEqual(pace.window(), LEAST)
 

@@ -4,7 +4,7 @@ import unittest
 import xml.etree.ElementTree
 
 from aids import Case, loaded
-from roam_live.cells import Cells, Style, cells_of_rows, styled, width_of
+from roam_live.cells import PaintedCells, Style, cells_of_rows, styled, width_of
 
 picture = loaded("picture")
 PLACE = "{http://www.w3.org/2000/svg}"
@@ -12,7 +12,7 @@ PLACE = "{http://www.w3.org/2000/svg}"
 
 def cells_of(text):
     """The cells that a text shows."""
-    cells = Cells()
+    cells = PaintedCells()
     cells.fed(text)
     return cells
 

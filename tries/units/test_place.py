@@ -14,12 +14,12 @@ from roam_live import display
 from roam_live.commands import Commands
 from roam_live.display import Display
 from roam_live.loops import Loop
-from roam_live.places import Kept, Place
+from roam_live.places import Kept, AnySession
 from roam_live.ports import PortSession
 from roam_live.program import TOOLS, Home
 from roam_live.programs import busy_panes
-from roam_live.rects import MOST_STARTS, NOTHING, Places, Rect
-from roam_live.sessions import NearSession, Session
+from roam_live.rects import MOST_STARTS, Places, Rect
+from roam_live.sessions import NearSession, FolderSession
 
 loader = importlib.machinery.SourceFileLoader("mux", str(TOOLS / "mux"))
 mux = importlib.util.module_from_spec(importlib.util.spec_from_loader("mux", loader))
@@ -43,7 +43,7 @@ class Folder(unittest.TestCase):
         """The session, where some processes are noted."""
         if noted:
             (self.folder / "state.json").write_text(json.dumps({"version": 3, **noted}), encoding="utf-8")
-        return Session(self.folder, server=os.getpid())
+        return FolderSession(self.folder, server=os.getpid())
 
     def keep_shells(self):
         """Has this process listen where bells are told, as what keeps shells does."""
@@ -65,7 +65,7 @@ class Busy(Folder):
 
     def test_nothing_noted(self):
         self.assertIsNone(self.by_hand().busy())
-        self.assertIsNone(Session(self.folder).busy())
+        self.assertIsNone(FolderSession(self.folder).busy())
 
     def test_start_noted(self):
         """The client start alone is noted by a front end that was started by hand, which tells nothing of shells."""
@@ -112,11 +112,11 @@ class Known(Folder):
         """One of each kind."""
         at_port = PortSession(Home(port=1, session="1"), str(self.folder))
         self.addCleanup(at_port.close)
-        return Session(self.folder), NearSession(self.folder, "main"), self.by_hand(), at_port
+        return FolderSession(self.folder), NearSession(self.folder, "main"), self.by_hand(), at_port
 
     def test_all_there(self):
         """Each has all that a front end needs."""
-        needed = {name for kind in (Kept, Place) for name in (*vars(kind), *kind.__annotations__) if not name.startswith("_")}
+        needed = {name for kind in (Kept, AnySession) for name in (*vars(kind), *kind.__annotations__) if not name.startswith("_")}
         self.assertGreaterEqual(len(needed), 14)
         for session in self.sessions():
             self.assertEqual({name for name in needed if not hasattr(session, name)}, set(), type(session))
@@ -124,7 +124,7 @@ class Known(Folder):
     def test_full(self):
         """Whether a server is full isn't known before something is told of it."""
         for session in self.sessions():
-            self.assertEqual((session.places(), session.is_full()), (NOTHING, None))
+            self.assertEqual((session.places(), session.is_full()), (None, None))
         for starts in (0, 63, 64):
             (self.folder / "rects").write_text(f"1 1 1 23 80\nstarts {starts}\nwatchers 0\nfocus 1\n", encoding="utf-8")
             self.assertEqual([session.is_full() for session in self.sessions()], [starts == MOST_STARTS] * 4)
@@ -142,7 +142,7 @@ class Kill(Folder):
         self.assertEqual(mux.lost_with(NearSession(self.folder, "main")), "")
 
 
-class Link:
+class StartLink:
     """What is typed."""
 
     watches = False
@@ -158,7 +158,7 @@ class Link:
         """Nothing is shown here."""
 
 
-class Outer:
+class OuterTerminal:
     """A terminal of 24 rows and 80 columns."""
 
     def __init__(self):
@@ -174,8 +174,8 @@ class Close(Folder):
 
     def person(self, session, places):
         """The keys of the person, what they ask for, and what is shown."""
-        link, loop = Link(), Loop()
-        with mock.patch.object(display, "Outer", Outer):
+        link, loop = StartLink(), Loop()
+        with mock.patch.object(display, "OuterTerminal", OuterTerminal):
             shown = Display(loop, lambda: None)
         with mock.patch.object(session, "places", lambda: places):
             commands = Commands(session, link, shown, loop, lambda line: None)
@@ -184,7 +184,7 @@ class Close(Folder):
 
     def test_asked(self):
         """Where it isn't known what runs a person is asked, and y alone closes the pane."""
-        for places, named in ((TWO, "pane 1"), (NOTHING, "this pane")):
+        for places, named in ((TWO, "pane 1"), (None, "this pane")):
             for key, acts in ((b"y", ["close"]), (b"n", [])):
                 commands, link, shown = self.person(self.by_hand(), places)
                 self.assertEqual((link.acts, shown.told), ([], f"close whatever runs in {named}? y closes it"))

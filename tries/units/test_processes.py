@@ -10,14 +10,14 @@ from unittest import mock
 from aids import Case
 from roam_live import captures, carriers, ports, processes, sending, sessions
 from roam_live.carriers import LONGEST, SHORTEST, Carrier
-from roam_live.cells import Cells
-from roam_live.parsing import Parser
+from roam_live.cells import PaintedCells
+from roam_live.parsing import WordParser
 from roam_live.ports import PortSession
 from roam_live.processes import Processes, is_note
 from roam_live.program import Fault, Home, begun
-from roam_live.rects import NOTHING, Places, Rect, write_places
+from roam_live.rects import Places, Rect, write_places
 from roam_live.relayed import greeting, read_greeting
-from roam_live.sessions import VERSION, NearSession, Session
+from roam_live.sessions import VERSION, NearSession, FolderSession
 
 OWN = [os.getpid(), begun(os.getpid())]
 
@@ -39,7 +39,7 @@ class Based(Case):
 
     def session(self):
         """The session."""
-        return Session.named("main")
+        return FolderSession.named("main")
 
 
 class Read(Based):
@@ -76,11 +76,11 @@ class Read(Based):
     def test_missing(self):
         """Each file that is missing, or no file, is nothing that is known."""
         session = self.session()
-        self.assertEqual((session.id(), session.places(), session.ended(), session.logged(), session.said(0)), ("", NOTHING, "", 0, ""))
+        self.assertEqual((session.id(), session.places(), session.ended(), session.logged(), session.said(0)), ("", None, "", 0, ""))
         for name in ("session", "rects", "ended", "state.json"):
             (self.folder / name).mkdir()
         session = self.session()
-        self.assertEqual((session.id(), session.places(), session.ended(), session.state), ("", NOTHING, "", None))
+        self.assertEqual((session.id(), session.places(), session.ended(), session.state), ("", None, "", None))
 
     def test_known(self):
         (self.folder / "session").write_text("5e55\n", encoding="utf-8")
@@ -102,7 +102,7 @@ class Read(Based):
 
     def test_busy_unknown(self):
         """Where nobody is known who keeps the shells it isn't known either."""
-        self.assertIsNone(Session(self.folder, server=os.getpid()).busy())
+        self.assertIsNone(FolderSession(self.folder, server=os.getpid()).busy())
 
     def test_busy_half(self):
         """Of a start that was killed before its shells were begun nothing runs."""
@@ -110,22 +110,22 @@ class Read(Based):
         self.assertEqual(self.session().busy(), {})
 
     def test_line(self):
-        """A line of `ls`: name, rows and columns, panes, clients, and the starts from 33 on."""
+        """A line of `ls`: name, rows and columns, panes, terminals, and the starts from 33 on."""
         session = self.session()
-        self.assertEqual(session.line().split(), ["main", "-", "?", "panes", "0", "clients"])
+        self.assertEqual(session.line().split(), ["main", "-", "?", "panes", "0", "terminals"])
         one, two = Places({1: Rect(1, 1, 23, 80)}, 1, 32), Places({1: Rect(1, 1, 23, 39), 2: Rect(1, 41, 23, 40)}, 1, 33)
-        for places, told in ((one, "main         24 by 80     1 pane   0 clients"),
-                             (two, "main         24 by 80     2 panes  0 clients, 33 of 64 starts")):
+        for places, told in ((one, "main         24 by 80     1 pane   0 terminals"),
+                             (two, "main         24 by 80     2 panes  0 terminals, 33 of 64 starts")):
             write_places(self.folder / "rects", places)
             self.assertEqual(session.line(), told)
         (self.folder / "attached").mkdir()
         (self.folder / "attached" / str(OWN[0])).write_text(f"{OWN[1]} edits\n", encoding="utf-8")
-        self.assertIn(" 1 client,", session.line())
+        self.assertIn(" 1 terminal,", session.line())
 
     def test_command_found(self):
         """One whose note is lost is found by its sockets, and its command by what keeps the shells."""
         session = self.session()
-        self.patch_of(Session, "listener", lambda _, name: {"clients": OWN[0], "bells": OWN[0]}.get(name))
+        self.patch_of(FolderSession, "listener", lambda _, name: {"clients": OWN[0], "bells": OWN[0]}.get(name))
         with mock.patch.object(sessions, "command_of", return_value=["vi"]) as asks:
             self.assertTrue(session.find())
         asks.assert_called_once_with(OWN[0], self.folder)
@@ -142,8 +142,8 @@ class Read(Based):
                 with self.assertRaisesRegex(Fault, "is no name: letters, digits, - and _, 32 at most$"):
                     sessions.check_name(name)
         with self.assertRaisesRegex(Fault, "is too long for a socket's path$"):
-            Session(self.base / ("x" * (108 - len(str(self.base)) - len("//terminals"))))
-        Session(self.base / ("x" * (107 - len(str(self.base)) - len("//terminals"))))
+            FolderSession(self.base / ("x" * (108 - len(str(self.base)) - len("//terminals"))))
+        FolderSession(self.base / ("x" * (107 - len(str(self.base)) - len("//terminals"))))
 
 
 class Bases(Case):
@@ -197,8 +197,8 @@ class Starts(Based):
     def setUp(self):
         super().setUp()
         self.patch_of(sessions, "program", return_value="/roam")
-        self.patch_of(Session, "spawned", lambda session, role, words, *_, **__: self.spawn(session, role, words))
-        self.patch_of(Session, "wait_for", lambda session, role, before, test: self.waits.append((role, before, test)))
+        self.patch_of(FolderSession, "spawned", lambda session, role, words, *_, **__: self.spawn(session, role, words))
+        self.patch_of(FolderSession, "wait_for", lambda session, role, before, test: self.waits.append((role, before, test)))
         self.words, self.waits = [], []
 
     def spawn(self, session, role, words):
@@ -211,7 +211,7 @@ class Starts(Based):
         """A server, and then a shell in each pane, or a command in its place."""
         (self.folder / "log").write_bytes(b"said before\n")
         session = self.session()
-        session.start(["vi", "x"])
+        session.launch(["vi", "x"])
         tools = str(sessions.TOOLS / "pane_shells")
         self.assertEqual(self.words, [("server", ["/roam", "serve", "--dir", str(self.folder)]),
                                       ("shells", [tools, "--close", "--server", str(OWN[0]), str(self.folder), "vi", "x"])])
@@ -222,7 +222,7 @@ class Starts(Based):
         self.listening(self.folder / "clients")
         self.assertTrue(test())
         self.assertEqual(session.state, {"version": VERSION, "command": ["vi", "x"], "server": OWN, "shells": OWN})
-        with mock.patch.object(Session, "runs", side_effect=[True, False]):
+        with mock.patch.object(FolderSession, "runs", side_effect=[True, False]):
             session.demand_shells()
             self.assertEqual(len(self.words), 2)
             session.demand_shells()
@@ -263,7 +263,7 @@ class Starts(Based):
         session.revive()
         self.assertEqual([role for role, _ in self.words], ["terminals"])
         self.note(server=OWN)
-        with mock.patch.object(Session, "demand_shells", lambda session: session.state.update(shells=OWN)):
+        with mock.patch.object(FolderSession, "demand_shells", lambda session: session.state.update(shells=OWN)):
             self.assertTrue(session.revive_shells())
 
     def test_age(self):
@@ -281,7 +281,7 @@ class Starts(Based):
         """How ssh is called isn't known of what stands for another machine's session; its shells are left to that machine."""
         near = NearSession(self.base / "ssh:a:main", "main")
         with self.assertRaisesRegex(Fault, "^no relay to main is running; `mux ssh` starts one$"):
-            near.start()
+            near.launch()
         near.demand_shells()
         near.close()
         self.assertEqual(self.words, [])
@@ -402,7 +402,7 @@ class Spawned(Based):
         (near.folder / "ended").touch()
         with mock.patch.object(sessions, "take_front") as takes, mock.patch.object(NearSession, "spawned") as spawns:
             spawns.return_value.stdout.readline.return_value = b"port - session abc\n"
-            self.assertEqual(near.start_relay(["ssh", "there"]), 0)
+            self.assertEqual(near.launch_relay(["ssh", "there"]), 0)
         words = [str(sessions.TOOLS / "relay"), "--alone", "3600", "--log", str(near.log), "--dir", str(near.folder), "-", "ssh", "there"]
         self.assertEqual(spawns.call_args, mock.call("relay", words, sessions.in_front, is_heard=True))
         takes.assert_called_once_with(os.getpgrp())
@@ -419,7 +419,7 @@ class Ports(Case):
     def test_known(self):
         """Little is known of it, and where panes are only where a folder tells it."""
         self.session.read()
-        self.assertEqual((self.session.places(), self.session.busy(), self.session.is_full()), (NOTHING, None, None))
+        self.assertEqual((self.session.places(), self.session.busy(), self.session.is_full()), (None, None, None))
         self.assertEqual(str(self.session), "at port 9")
         self.assertEqual((self.session.process("server"), self.session.process("shells"), self.session.runs()), (None, None, False))
         self.assertEqual(self.session.ending(), ("[the session has ended]", 0))
@@ -457,7 +457,7 @@ class Sends(Based):
     def setUp(self):
         super().setUp()
         self.stop_clock()
-        self.link = self.patch_of(sending, "Link").return_value
+        self.link = self.patch_of(sending, "StartLink").return_value
         self.link.comes.return_value, self.link.part.return_value = True, True
         self.link.painted.return_value = b"x"
         self.runs = self.patch_of(sending.subprocess, "run", return_value=mock.Mock(returncode=0))
@@ -468,7 +468,7 @@ class Sends(Based):
         self.assertEqual(sending.send(self.session(), ["char 61", "key up"]), 0)
         words = ["/roam", "attach", "--dir", str(self.folder), "--keys", "/dev/stdin", "--turns", "0"]
         self.assertEqual((self.runs.call_args[0][0], self.runs.call_args[1]["input"]), (words, b"char 61\nkey up\n"))
-        self.assertEqual(sending.Link.call_args[0], (self.folder / "terminals", False))
+        self.assertEqual(sending.StartLink.call_args[0], (self.folder / "terminals", False))
         self.link.comes.assert_called_once_with(5.0)
         self.link.type.assert_called_once_with("char 61", "key up")
         self.link.part.assert_called_once_with(10.0)
@@ -510,7 +510,7 @@ class Captures(Based):
     def test_rows(self):
         """Without the spaces at their ends, and wide characters in their columns."""
         self.assertEqual(captures.rows_of(captures.shown_by(self.PAINT)), ["ab  c", "", " \u4e2dx"])
-        cells = Cells()
+        cells = PaintedCells()
         cells.fed("\x1b[2;3H\u4e2d\x1b[2;6Hb")
         self.assertEqual(captures.rows_of(cells), ["", "  \u4e2d b"])
 
@@ -548,7 +548,7 @@ class Captures(Based):
 
     def capture(self, text, is_drawn=False):
         """What capture does with a painting."""
-        with mock.patch.object(captures, "Link") as link, mock.patch.object(captures, "paints", return_value=text):
+        with mock.patch.object(captures, "StartLink") as link, mock.patch.object(captures, "paints", return_value=text):
             status = captures.capture(self.session(), is_drawn)
         self.assertEqual((link.call_args[0], link.return_value.close.call_count), ((self.folder / "terminals", True), 1))
         return status
@@ -564,7 +564,7 @@ class Captures(Based):
     def test_nothing(self):
         for text, told in ((b"", "^no more terminals are taken: 16 are there$"), (b"\x1bc", "^session main showed nothing: it is busy$")):
             painted = mock.patch.object(captures, "paints", return_value=text)
-            with mock.patch.object(captures, "Link"), painted, self.assertRaisesRegex(Fault, told):
+            with mock.patch.object(captures, "StartLink"), painted, self.assertRaisesRegex(Fault, told):
                 captures.capture(self.session(), False)
 
 
@@ -653,5 +653,5 @@ class Carried(Case):
         """Refusals of a command line are printable."""
         said = self.heard()
         with self.assertRaises(SystemExit):
-            Parser(prog="x").parse_args(["\x1b[c"])
+            WordParser(prog="x").parse_args(["\x1b[c"])
         self.assertIn("unrecognized arguments: ?[c\n", said.getvalue())

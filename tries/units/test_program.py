@@ -181,26 +181,26 @@ class Notes(Case):
 
     def test_noted(self):
         """Its file is named by the process, and has its begin and what it does; who was killed isn't counted."""
-        note = program.noted_client(self.folder)
+        note = program.noted_front_end(self.folder)
         self.assertEqual((note.name, note.read_text(encoding="utf-8")), (str(os.getpid()), f"{program.begun(os.getpid())} edits\n"))
-        self.assertEqual((program.count_clients(self.folder), program.has_others(self.folder)), (1, False))
+        self.assertEqual((program.count_front_ends(self.folder), program.has_others(self.folder)), (1, False))
         watcher = self.other("watches")
-        self.assertEqual((program.count_clients(self.folder), program.has_others(self.folder)), (2, False))
+        self.assertEqual((program.count_front_ends(self.folder), program.has_others(self.folder)), (2, False))
         self.other("edits")
-        self.assertEqual((program.count_clients(self.folder), program.has_others(self.folder)), (3, True))
+        self.assertEqual((program.count_front_ends(self.folder), program.has_others(self.folder)), (3, True))
         watcher.write_text("1 watches\n", encoding="utf-8")
         for name, text in (("1073741824", "5 edits\n"), ("1073741825", ""), ("x", "1 edits\n"), ("1073741826", "x")):
             (self.folder / "attached" / name).write_text(text, encoding="utf-8")
-        self.assertEqual(program.count_clients(self.folder), 2)
+        self.assertEqual(program.count_front_ends(self.folder), 2)
         self.assertEqual(len(list((self.folder / "attached").iterdir())), 2)
 
     def test_none(self):
-        self.assertEqual((program.noted_client(None), program.has_others(None), program.count_clients(self.folder)), (None, False, 0))
+        self.assertEqual((program.noted_front_end(None), program.has_others(None), program.count_front_ends(self.folder)), (None, False, 0))
         with self.assertRaisesRegex(Fault, "/none is no folder$"):
-            program.noted_client(self.folder / "none")
+            program.noted_front_end(self.folder / "none")
         (self.folder / "attached").touch()
-        self.assertIsNone(program.noted_client(self.folder))
-        self.assertIn("this client isn't counted: ", self.said.getvalue())
+        self.assertIsNone(program.noted_front_end(self.folder))
+        self.assertIn("this front end isn't counted: ", self.said.getvalue())
         self.assertEqual(program.kind_of(self.folder / "no"), "")
 
     def test_replaced(self):

@@ -3,7 +3,7 @@ import unittest
 
 from aids import Case
 from roam_live import rects
-from roam_live.rects import NOTHING, Places, Rect
+from roam_live.rects import Places, Rect
 
 # A pane to the left over all rows, and two beside it, one above the other; their borders lie between.
 THREE = {1: Rect(1, 1, 23, 39), 2: Rect(1, 41, 11, 40), 3: Rect(13, 41, 11, 40)}
@@ -45,7 +45,7 @@ class Sides(Case):
 
     def test_size(self):
         """The status row is the session's last."""
-        self.assertEqual((Places(THREE, 1).size(), Places(FOUR, 1).size(), NOTHING.size()), ((24, 80), (24, 80), (0, 0)))
+        self.assertEqual((Places(THREE, 1).size(), Places(FOUR, 1).size()), ((24, 80), (24, 80)))
 
 
 class Splits(Case):
@@ -60,7 +60,7 @@ class Splits(Case):
         nine = {pane: Rect(1, 1, 99, 99) for pane in range(1, 10)}
         self.assertEqual(Places(nine, 1).unsplit("down"), "there are 9 panes, and no more")
         self.assertEqual(Places({pane: nine[pane] for pane in range(1, 9)}, 1).unsplit("down"), "")
-        self.assertEqual((NOTHING.unsplit("down"), Places(THREE, 0).unsplit("right")), ("", ""))
+        self.assertEqual(Places(THREE, 0).unsplit("right"), "")
 
 
 class Notes(Case):
@@ -76,16 +76,16 @@ class Notes(Case):
         self.assertEqual(rects.read_places(there), known)
         for cut in range(len(whole) - 1):
             there.write_bytes(whole[:cut])
-            self.assertEqual(rects.read_places(there), NOTHING, cut)
+            self.assertEqual(rects.read_places(there), None, cut)
         there.unlink()
-        self.assertEqual(rects.read_places(there), NOTHING)
+        self.assertEqual(rects.read_places(there), None)
 
     def test_less(self):
         """What an earlier roam doesn't tell is none, and a focus that no pane has is nothing."""
         there = self.made_folder() / "rects"
-        for text, wanted in (("1 1 1 23 80\nfocus 1\n", Places({1: Rect(1, 1, 23, 80)}, 1, 0, 0)), ("1 1 1 23 80\nfocus 2\n", NOTHING),
-                             ("1 1 1 23 80\n", NOTHING), ("1 2 3\n1 1 1 23 80\nfocus 1\n", Places({1: Rect(1, 1, 23, 80)}, 1)),
-                             ("focus 1\n", NOTHING)):
+        for text, wanted in (("1 1 1 23 80\nfocus 1\n", Places({1: Rect(1, 1, 23, 80)}, 1, 0, 0)), ("1 1 1 23 80\nfocus 2\n", None),
+                             ("1 1 1 23 80\n", None), ("1 2 3\n1 1 1 23 80\nfocus 1\n", Places({1: Rect(1, 1, 23, 80)}, 1)),
+                             ("focus 1\n", None)):
             there.write_text(text, encoding="utf-8")
             self.assertEqual(rects.read_places(there), wanted, text)
 
@@ -95,7 +95,7 @@ class Notes(Case):
         line, end = "1 1 1 23 80\n", "focus 1\n"
         for more, is_read in ((0, True), (2, False)):
             there.write_text(line + "x" * (8192 - len(line) - len(end) - 1 + more) + "\n" + end, encoding="utf-8")
-            self.assertEqual(rects.read_places(there) != NOTHING, is_read)
+            self.assertEqual(rects.read_places(there) != None, is_read)
 
     def test_limits(self):
         """A server knows 64 starts that edit, and a session has nine panes."""

@@ -11,7 +11,7 @@ from roam_live import ends, far, near
 from roam_live.carriers import LONGEST, SHORTEST
 from roam_live.program import Fault
 from test_relayed import HOSTILE, ODD
-from roam_live.relayed import (BELL, COUNT, ENDED, HAD, HEADER, KILLED, RECTS, UNPACKS, WAITING_LIMIT, BadWords, Stream, Waiting,
+from roam_live.relayed import (BELL, COUNT, ENDED, HAD, HEADER, KILLED, RECTS, UNPACKS, WAITING_LIMIT, BadWords, RelayStream, Waiting,
                                greeting)
 
 relay = loaded("relay")
@@ -52,7 +52,7 @@ class FakeLink:
     def __init__(self, case, session="-"):
         (self.source, self.said), (heard, self.target) = case.pipe(), case.pipe()
         self.other, self.packer = Other(heard), zlib.compressobj()
-        self.stream = Stream(self.source, self.target, session)
+        self.stream = RelayStream(self.source, self.target, session)
         self.errors = None
         self.since = case.now
         self.process = mock.Mock(poll=mock.Mock(return_value=None))
@@ -422,7 +422,7 @@ class Nears(Ends):
     def test_alone(self):
         """With --alone it ends when no client was noted for so many seconds; it looks each five."""
         self.near.asked.alone = 60.0
-        counts = self.patch_of(near, "count_clients", return_value=1)
+        counts = self.patch_of(near, "count_front_ends", return_value=1)
         self.now += 4.9
         self.near.look()
         counts.assert_not_called()
@@ -586,7 +586,7 @@ class Fars(Ends):
         self.listener = self.listening(self.folder / "clients")
         (self.source, self.said_end), (heard, self.target) = self.pipe(), self.pipe()
         self.other = Other(heard)
-        self.patch_of(far, "Stream", side_effect=lambda _, __, session: Stream(self.source, self.target, session))
+        self.patch_of(far, "RelayStream", side_effect=lambda _, __, session: RelayStream(self.source, self.target, session))
         self.patch_of(far.os, "set_blocking")
         self.far = self.far_end()
         self.said = self.heard()
@@ -631,6 +631,7 @@ class Fars(Ends):
         servers[1].send(one + datagram(9))
         for _ in range(3):
             self.far.turn()
+        self.assertAlmostEqual(self.waited, 0.1)
         self.assertEqual([frame for frame in self.other.frames() if frame[0]], [(7, datagram(9))])
         servers[0].close()
         self.far.turn()
@@ -793,7 +794,7 @@ class Streams(Ends):
     def setUp(self):
         super().setUp()
         self.there, self.back = self.pipe(), self.pipe()
-        self.sender, self.receiver = Stream(self.back[0], self.there[1], "5e55"), Stream(self.there[0], self.back[1], "-")
+        self.sender, self.receiver = RelayStream(self.back[0], self.there[1], "5e55"), RelayStream(self.there[0], self.back[1], "-")
         self.sender.session = "-"
 
     def received(self, text):
@@ -819,14 +820,14 @@ class Streams(Ends):
         """A short stream, cut at each place."""
         text = greeting("abc") + packed((1, datagram(1)), (0, b"z1"), (0, RECTS + b"p"), (9, datagram(2)))
         for cut in range(len(text) + 1):
-            self.receiver = Stream(self.there[0], self.back[1], "-")
+            self.receiver = RelayStream(self.there[0], self.back[1], "-")
             found = [frame for piece in (text[:cut], text[cut:]) if piece for frame in self.received(piece)]
             self.assertEqual(found, [(1, datagram(1)), (0, b"z1"), (0, RECTS + b"p"), (9, datagram(2))], cut)
 
     def test_versions(self):
         for line, told in ((b"roam-relay 1 5e55\n", "the other end is of an earlier roam: its relay has version 1, and this one version 2"),
                            (b"roam-relay 3 5e55\n", "the other end is of a later roam: its relay has version 3, and this one version 2")):
-            self.receiver = Stream(self.there[0], self.back[1], "-")
+            self.receiver = RelayStream(self.there[0], self.back[1], "-")
             with self.assertRaises(BadWords) as fault:
                 self.received(line)
             self.assertEqual(str(fault.exception), told)
@@ -957,7 +958,7 @@ class Words(Ends):
         for words, wrong in (
             (["--dir", folder, "-", "ssh"], ""), (["0", "ssh"], ""), (["65535", "ssh"], ""), (["65536", "ssh"], port), (["x", "ssh"], port),
             (["--far", "0"], port), (["--far", "1"], ""), (["-", "ssh"], "without a port the folder of --dir has the socket"),
-            (["--alone", "9", "0", "ssh"], "clients are noted in the folder of --dir"), (["0"], "the command is missing"),
+            (["--alone", "9", "0", "ssh"], "front ends are noted in the folder of --dir"), (["0"], "the command is missing"),
             (["--far", "1", "ssh"], "no command follows the port of --far"), (["--far", "--session", "5e55", "1"], ""),
             (["--far", "--session", "xyz", "1"], "a session's id is 1 to 16 hexadecimal digits"),
         ):

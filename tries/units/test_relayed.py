@@ -11,7 +11,7 @@ from aids import Case
 from roam_live import rects
 from roam_live.bundles import LONGEST_TEXT, joined, pack_large
 from roam_live.carriers import LONGEST, SHORTEST
-from roam_live.relayed import (BELL, COUNT, ENDED, HAD, HEADER, MOST_TOLD, PACKED, PACKED_HEAD, RECTS, UNPACKS, BadWords, Stream, Waiting,
+from roam_live.relayed import (BELL, COUNT, ENDED, HAD, HEADER, MOST_TOLD, PACKED, PACKED_HEAD, RECTS, UNPACKS, BadWords, RelayStream, Waiting,
                                greeting)
 
 
@@ -81,7 +81,7 @@ class Frames(unittest.TestCase):
         self.addCleanup(os.close, reader)
         os.write(writer, greeting("abc") + said)
         os.close(writer)
-        return Stream(reader, 1, "-")
+        return RelayStream(reader, 1, "-")
 
     def test_before_a_fault(self):
         """What comes before what can't be is taken."""
@@ -113,7 +113,7 @@ class Goes(Case):
         self.stop_clock()
         (source, self.said), (heard, target), (_, nowhere) = self.pipe(), self.pipe(), self.pipe()
         self.other = zlib.compressobj()
-        self.near, self.far = Stream(source, target, "abc"), Stream(heard, nowhere, "abc")
+        self.near, self.far = RelayStream(source, target, "abc"), RelayStream(heard, nowhere, "abc")
         self.near.session = self.far.session = "abc"
         self.near.going.clear()
         self.waiting = Waiting()
@@ -140,7 +140,7 @@ class Goes(Case):
         self.assertTrue(self.far.packs)
         self.assertLess(self.carried()[1], 10)
         with mock.patch("roam_live.relayed.has_lzma", return_value=False):
-            one = Stream(0, 1, "abc")
+            one = RelayStream(0, 1, "abc")
             one.session = "abc"
             one.fill(Waiting())
             self.assertEqual(bytes(one.going), greeting("abc"))
@@ -152,7 +152,7 @@ class Goes(Case):
         large, small = instruction(1, bytes(range(256)) * 800), instruction(1, b"small")
         self.add(7, large)
         self.add(9, small)
-        without = Stream(0, 1, "abc")
+        without = RelayStream(0, 1, "abc")
         for text in large:
             without.tell(7, text)
         self.near.packs = True
@@ -277,11 +277,11 @@ class Places(unittest.TestCase):
             self.assertIsNone(found.neighbour(way))
         for line in (b"1 1 1 10000 80", b"1 -1 1 23 80", b"1 1 1 23 8_0", b"0 1 1 23 80", b"10 1 1 23 80", b"1 1 1 23 " + b"9" * 4000,
                      "1 1 1 23 \u0663".encode(), b"1 1 1 23 \xff"):
-            self.assertEqual(self.read(line + b"\nstarts 1\nwatchers 0\nfocus 1\n"), rects.NOTHING, line)
+            self.assertEqual(self.read(line + b"\nstarts 1\nwatchers 0\nfocus 1\n"), None, line)
 
     def test_long(self):
         """Of a long file little is read."""
-        self.assertEqual(self.read(b"1 1 1 23 80\n" + b"x\n" * 100_000 + b"focus 1\n"), rects.NOTHING)
+        self.assertEqual(self.read(b"1 1 1 23 80\n" + b"x\n" * 100_000 + b"focus 1\n"), None)
 
 
 if __name__ == "__main__":

@@ -1,7 +1,7 @@
 """Which acts can't be done, where it is known where the panes are."""
 import unittest
 
-from roam_live.rects import NOTHING, Places, Rect
+from roam_live.rects import Places, Rect
 from roam_live.sending import wrong_in
 
 ONE = Places({1: Rect(1, 1, 23, 80)}, 1)
@@ -13,13 +13,13 @@ SMALL = Places({1: Rect(1, 1, 4, 8)}, 1)
 DONE = (
     (ONE, ["char 61", "key return", "split right", "focus 2", "size 24 80", "close"]), (ONE, ["size 4 8"]), (ONE, ["size 200 500"]),
     (ONE, ["view -500", "next"]), (TWO, ["focus 1", "grow 5", "close"]), (ONE, ["split right", "split down", "focus 3", "focus 1"]),
-    (TWO, ["close", "split down", "focus 2"]), (NOTHING, ["focus 7", "close", "split right"]), (TWO, ["next", "close"]),
+    (TWO, ["close", "split down", "focus 2"]), (None, ["focus 7", "close", "split right"]), (TWO, ["next", "close"]),
     (NINE, ["close", "split right"]), (TWO, ["next", "close", "focus 1"]), (TWO, ["next", "close", "focus 2", "split right", "focus 9"]),
 )
 NOT_DONE = (
     (ONE, ["size 1 1"], "'size 1 1' can't be done: a session has 4 to 200 rows and 8 to 500 columns"),
     (ONE, ["size 201 80"], "'size 201 80' can't be done: a session has 4 to 200 rows and 8 to 500 columns"),
-    (NOTHING, ["size 24 7"], "'size 24 7' can't be done: a session has 4 to 200 rows and 8 to 500 columns"),
+    (None, ["size 24 7"], "'size 24 7' can't be done: a session has 4 to 200 rows and 8 to 500 columns"),
     (ONE, ["char 61", "focus 7"], "'focus 7' can't be done: there is no pane 7"),
     (ONE, ["split right", "focus 3"], "'focus 3' can't be done: there is no pane 3"),
     (ONE, ["close"], "'close' can't be done: the last pane goes with its shell"),

@@ -13,7 +13,7 @@ from unittest import mock
 
 from roam_live import sessions
 from roam_live.program import Fault, begun, note_end
-from roam_live.sessions import VERSION, NearSession, Session
+from roam_live.sessions import VERSION, NearSession, FolderSession
 
 # A process that ended: no process has begun at this moment.
 ENDED = [1, 1]
@@ -74,12 +74,12 @@ class Listed(Sessions):
 
     def test_ended(self):
         """One that has ended isn't told, and what it left goes, but for its log."""
-        self.assertEqual(Session.named("main").listed(), "")
+        self.assertEqual(FolderSession.named("main").listed(), "")
         self.assertEqual(self.names(), ["lock", "log"])
 
     def test_begun_anew(self):
         """One that is begun anew after its old note was read is told, and nothing of it is removed."""
-        session = Session.named("main")
+        session = FolderSession.named("main")
         own = [os.getpid(), begun(os.getpid())]
         self.note(server=own)
         before = self.names()
@@ -92,7 +92,7 @@ class Listed(Sessions):
         before = self.names()
         with open(self.folder / "lock", "wb") as lock:
             fcntl.flock(lock, fcntl.LOCK_EX)
-            self.assertEqual(Session.named("main").listed(), "")
+            self.assertEqual(FolderSession.named("main").listed(), "")
         self.assertEqual(self.names(), sorted([*before, "lock"]))
 
     def test_other_machines(self):
@@ -121,14 +121,14 @@ class Found(Sessions):
             (self.folder / "state.json").unlink(missing_ok=True)
             if text is not None:
                 (self.folder / "state.json").write_text(text, encoding="latin-1")
-            session = Session.named("main")
+            session = FolderSession.named("main")
             self.assertTrue(session.find(), text)
             found = [session.process(role) for role in ("server", "shells", "terminals")]
             self.assertEqual(found, [server.pid, shells.pid, None])
         with session.locked():
             self.assertTrue(session.find())
             session.note_found()
-        self.assertEqual(Session.named("main").process("server"), server.pid)
+        self.assertEqual(FolderSession.named("main").process("server"), server.pid)
 
     def test_command(self):
         """The command of a keeper of shells stands behind the folder in its words."""
@@ -149,7 +149,7 @@ class Found(Sessions):
             if not note:
                 (self.folder / "state.json").unlink()
             before = self.names()
-            session = Session.named("main")
+            session = FolderSession.named("main")
             self.assertTrue(session.listed().startswith("main "))
             with self.assertRaisesRegex(Fault, "somebody answers at"):
                 session.clean()
@@ -164,7 +164,7 @@ class Found(Sessions):
             listener.listen(0)
             held.enter_context(socket.socket(socket.AF_UNIX, socket.SOCK_STREAM)).connect(str(self.folder / "clients"))
             before = self.names()
-            for does in (lambda: Session.named("main").listed(), lambda: Session.named("main").demand(), Session.named("main").clean):
+            for does in (lambda: FolderSession.named("main").listed(), lambda: FolderSession.named("main").demand(), FolderSession.named("main").clean):
                 with self.assertRaisesRegex(Fault, "takes no connection|somebody answers at"):
                     does()
             self.assertEqual(self.names(), before)
@@ -173,7 +173,7 @@ class Found(Sessions):
         """It is ended as any other."""
         server = self.listening("clients")
         (self.folder / "state.json").unlink()
-        session = Session.named("main")
+        session = FolderSession.named("main")
         session.demand()
         session.end_all()
         self.assertEqual(server.wait(10), -15)
@@ -187,7 +187,7 @@ class Starts(Sessions):
 
     def setUp(self):
         super().setUp()
-        self.session = Session(self.base / "new", "new")
+        self.session = FolderSession(self.base / "new", "new")
 
     def test_half_way(self):
         """What was started ends again where the rest can't be, and no folder stays where nothing was logged."""
@@ -232,25 +232,25 @@ class Starts(Sessions):
                 relay = self.base / "relay"
                 relay.write_text(f"#!/bin/sh\n{'echo said >> $4' if logged else ''}\nexit 3\n", encoding="utf-8")
                 relay.chmod(0o700)
-                self.assertEqual(near.start_relay(["ssh", "there"]), 3)
+                self.assertEqual(near.launch_relay(["ssh", "there"]), 3)
             self.assertEqual(near.folder.exists() and self.names(near.folder), logged and ["lock", "log"])
 
     def test_lock(self):
         """A lock whose file was removed, with the folder, isn't taken for the one that others find."""
         with self.session.locked():
-            other = Session(self.session.folder)
+            other = FolderSession(self.session.folder)
             self.session.forget()
             with other.locked(may_wait=False):
                 self.assertTrue((other.folder / "lock").exists())
-                with self.assertRaises(BlockingIOError), Session(other.folder).locked(may_wait=False):
+                with self.assertRaises(BlockingIOError), FolderSession(other.folder).locked(may_wait=False):
                     pass
 
     def test_folder_of_another(self):
         """Nothing is made in a folder of another user."""
         with mock.patch("os.getuid", return_value=os.getuid() + 1):
-            with self.assertRaisesRegex(Fault, "is no folder of yours"), Session.named("main").locked():
+            with self.assertRaisesRegex(Fault, "is no folder of yours"), FolderSession.named("main").locked():
                 pass
-            self.assertEqual(Session.named("main").places().rects, {})
+            self.assertEqual(FolderSession.named("main").places(), None)
         self.assertNotIn("lock", self.names())
 
 
@@ -263,7 +263,7 @@ class Ends(Sessions):
         self.addCleanup(process.wait)
         moment = begun(process.pid)
         self.note(**{"relay" if near else "server": [process.pid, moment]})
-        session = (NearSession if near else Session)(self.folder)
+        session = (NearSession if near else FolderSession)(self.folder)
         self.assertTrue(session.runs())
         return session, process
 
@@ -289,12 +289,12 @@ class Ends(Sessions):
         """So it is with a server that was started by hand."""
         process = subprocess.Popen(["sleep", "60"])
         self.addCleanup(process.wait)
-        session = Session(self.folder, server=process.pid)
+        session = FolderSession(self.folder, server=process.pid)
         self.assertEqual(session.process("server"), process.pid)
         note_end(self.folder, process.pid, begun(process.pid))
         process.kill()
         self.assertEqual(session.ending(), ("[the session has ended]", 0))
-        self.assertEqual(Session(self.folder, server=os.getpid()).ending()[1], 1)
+        self.assertEqual(FolderSession(self.folder, server=os.getpid()).ending()[1], 1)
 
     def test_relay(self):
         """A relay that was ended leaves the session; one that was told of the end tells it; else its log tells why it ended."""

@@ -93,7 +93,7 @@ class Typed(unittest.TestCase):
 
     def test_dropped(self):
         """65,536 bytes wait; what is above is dropped, which is told once until all was read."""
-        pane = shells.Pane(argparse.Namespace(dir="/no"), StillLoop(), 4, 1, (23, 80), False)
+        pane = shells.PaneCommand(argparse.Namespace(dir="/no"), StillLoop(), 4, 1, (23, 80), False)
         said = io.StringIO()
         with contextlib.redirect_stderr(said):
             for _ in range(3):

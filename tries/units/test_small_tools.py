@@ -7,7 +7,7 @@ from aids import Case, StillLoop, loaded, read_now
 from roam_live.loops import READ
 from roam_live.ports import PortSession
 from roam_live.program import Fault
-from roam_live.sessions import Session
+from roam_live.sessions import FolderSession
 
 shell, attach = loaded("pane_shell"), loaded("attach")
 
@@ -70,7 +70,7 @@ class Shell(Case):
         """Its size and command are as asked, and its status is the command's; 0 where the pane ended first."""
         self.environment(SHELL="/bin/zsh")
         self.patch_of(shell, "connected", return_value=self.pane)
-        starts, joins = self.patch_of(shell, "started", return_value=(7, 8)), self.patch_of(shell, "JoinedCommand")
+        starts, joins = self.patch_of(shell, "spawned", return_value=(7, 8)), self.patch_of(shell, "JoinedCommand")
         ends = joins.return_value.run
         ends.return_value = True
         waits = self.patch_of(shell.os, "waitpid", return_value=(7, 3 << 8))
@@ -98,14 +98,14 @@ class Shell(Case):
         with mock.patch.object(shell.pty, "fork", return_value=(0, 9)), mock.patch.object(shell.terminal, "become") as becomes, \
                 mock.patch.object(shell.os, "_exit", side_effect=InterruptedError) as exits:
             with self.assertRaises(InterruptedError):
-                shell.started(["vi"], (5, 40))
+                shell.spawned(["vi"], (5, 40))
         exits.assert_called_once_with(127)
         command, size, environment = becomes.call_args[0]
         self.assertEqual((command, size, environment["TERM"], environment["KEPT"]), (["vi"], (5, 40), "vt220", "one"))
         self.assertFalse({"LINES", "COLORTERM", "ROAM_WHY"} & environment.keys())
         with mock.patch.object(shell.pty, "fork", return_value=(7, self.master.fileno())):
             self.master.setblocking(True)
-            self.assertEqual(shell.started(["vi"], (5, 40)), (7, self.master.fileno()))
+            self.assertEqual(shell.spawned(["vi"], (5, 40)), (7, self.master.fileno()))
         self.assertFalse(os.get_blocking(self.master.fileno()))
 
     def test_rest(self):
@@ -136,7 +136,7 @@ class Attach(Case):
         self.listening(self.folder / "clients")
         self.assertEqual(self.attach(str(self.folder)), 5)
         place, watches, prefix, guessing = self.follows.call_args[0]
-        self.assertEqual((type(place), place.folder, place.by_hand), (Session, self.folder, None))
+        self.assertEqual((type(place), place.folder, place.by_hand), (FolderSession, self.folder, None))
         self.assertEqual((watches, prefix, guessing), (False, "C-b", "adaptive"))
         self.assertEqual(self.attach("--watch", "--guess", "never", "--server", "7", str(self.folder)), 5)
         place, watches, _, guessing = self.follows.call_args[0]

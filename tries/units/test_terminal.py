@@ -49,10 +49,10 @@ class Sizes(Case):
         """It is known wherever the painting is cut, and what tells of a silent server changes nothing."""
         text = SCREEN + NOTICE
         for cut in range(len(text) + 1):
-            extent = terminal.Extent()
+            extent = terminal.PaintedSize()
             erased = [extent.fed(text[:cut]), extent.fed(text[cut:])]
             self.assertEqual((extent.size, any(erased)), ((24, 80), True), cut)
-        extent = terminal.Extent()
+        extent = terminal.PaintedSize()
         for byte in text:
             extent.fed(bytes([byte]))
         self.assertEqual(extent.size, (24, 80))
@@ -62,14 +62,14 @@ class Sizes(Case):
         for text, is_between in ((b"", True), (b"ab", True), (b"\x1b", False), (b"\x1b[", False), (b"\x1b[1", False), (b"\x1b[1m", True),
                                  (b"\xc3", False), (b"\xc3\xa9", True), (b"\xe2\x82", False), (b"\xe2\x82\xac", True), (b"\x1b8", True),
                                  (b"\xf0\x9f\x98", False), (b"xx\xf0\x9f\x98\x80", True)):
-            extent = terminal.Extent()
+            extent = terminal.PaintedSize()
             extent.fed(text)
             self.assertEqual(extent.is_between(), is_between, text)
 
     def test_erased(self):
         """What is erased is known anew, by either function."""
         for erases in (b"\x1bc", b"\x1b[2J"):
-            extent = terminal.Extent()
+            extent = terminal.PaintedSize()
             extent.fed(SCREEN)
             self.assertTrue(extent.fed(erases))
             self.assertEqual(extent.size, (0, 0))
@@ -78,7 +78,7 @@ class Sizes(Case):
 
     def test_lowest(self):
         """It is the lowest row that counts, from the column at which something is written."""
-        extent = terminal.Extent()
+        extent = terminal.PaintedSize()
         extent.fed(b"\x1b[2J\x1b[5;1Hxxxx\x1b[4;1H" + b"y" * 70 + b"\x1b[5;30Hzz")
         self.assertEqual(extent.size, (5, 31))
         extent.fed(b"\x1b[200;1Hab")
@@ -88,14 +88,14 @@ class Sizes(Case):
 
     def test_wide(self):
         """Behind other characters than ASCII the column isn't known, until the cursor is placed anew."""
-        extent = terminal.Extent()
+        extent = terminal.PaintedSize()
         extent.fed("\x1b[2J\x1b[3;1H\u4e2d\u4e2dxx".encode())
         self.assertEqual(extent.size, (3, 0))
         extent.fed(b"more\x1b[3;9Hend")
         self.assertEqual(extent.size, (3, 11))
 
     def test_fits(self):
-        extent = terminal.Extent()
+        extent = terminal.PaintedSize()
         extent.fed(SCREEN)
         found = [extent.fits(size) for size in ((24, 80), (25, 81), (23, 80), (24, 79), (200, 500))]
         self.assertEqual(found, [True, True, False, False, True])

@@ -8,7 +8,7 @@ from roam_live.program import Fault
 from roam_live.watches import PAUSES, SOUND, ShellsWatch
 
 
-class Place:
+class AnySession:
     """A session whose shells are revived, or can't be."""
 
     name = "main"
@@ -38,7 +38,7 @@ class Watches(unittest.TestCase):
         for patched in (mock.patch("time.monotonic", lambda: self.now), mock.patch("roam_live.watches.opened_process", self.opened)):
             patched.start()
             self.addCleanup(patched.stop)
-        self.place = Place()
+        self.place = AnySession()
         self.loop, self.said = StillLoop(), []
         self.watch = ShellsWatch(self.place, self.loop, self.said.append)
         self.addCleanup(lambda: self.watch.file and os.close(self.watch.file))

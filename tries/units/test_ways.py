@@ -10,8 +10,8 @@ from roam_live.asking import SEALED_HEAD, wish
 from roam_live.bundles import MOST_BUNDLES
 from roam_live.ends import Ended
 from roam_live.paths import Path
-from roam_live.program import Fault, count_clients
-from roam_live.relayed import BELL, ENDED, HAD, KEYPAD, KILLED, LEAVES, RECTS, Stream, Waiting, greeting
+from roam_live.program import Fault, count_front_ends
+from roam_live.relayed import BELL, ENDED, HAD, KEYPAD, KILLED, LEAVES, RECTS, RelayStream, Waiting, greeting
 from roam_live.sealed import Seal, udp_end
 from test_bundles import shown, typed
 from test_relay import FakeLink, Other, packed
@@ -300,7 +300,7 @@ class Far(Both):
         super().setUp()
         (self.source, self.said_end), (heard, self.target) = self.pipe(), self.pipe()
         self.other = Other(heard)
-        self.patch_of(far, "Stream", side_effect=lambda _, __, session: Stream(self.source, self.target, session))
+        self.patch_of(far, "RelayStream", side_effect=lambda _, __, session: RelayStream(self.source, self.target, session))
         self.patch_of(far.os, "set_blocking")
         self.closes = self.patch_of(far, "close_standard")
         self.parts = self.patch_of(far, "part_from_command", side_effect=self.part)
@@ -361,10 +361,10 @@ class Far(Both):
         self.assertIn(port, range(60000, 61001))
         self.assertEqual(self.parts.call_count, 1)
         self.assertTrue((self.folder / "relays" / b"12345678".hex()).exists())
-        self.assertEqual(count_clients(self.folder), 1)
+        self.assertEqual(count_front_ends(self.folder), 1)
         self.far.close()
         self.assertFalse(list((self.folder / "relays").iterdir()))
-        self.assertEqual(count_clients(self.folder), 0)
+        self.assertEqual(count_front_ends(self.folder), 0)
 
     def test_makes_none(self):
         """Without the wish, the library, a port, a process, or a version that it knows, there is none, and the command is all."""
@@ -416,7 +416,7 @@ class Far(Both):
         self.assertEqual((os.read(self.letting_go, 1), self.closes.call_count, self.far.has_command()), (b"", 1, False))
         self.run_for(30)
         self.assertTrue(self.near.is_sound())
-        self.assertEqual(count_clients(self.folder), 1)
+        self.assertEqual(count_front_ends(self.folder), 1)
 
     def test_command_ends_without_a_path(self):
         """Without a path the command's end is its own; so it is where what holds it can't be let go."""
@@ -475,11 +475,11 @@ class Far(Both):
         self.run_for(1)
         heard, self.is_open = self.far.ways.path.heard_at, False
         self.run_for(70)
-        self.assertEqual((count_clients(self.folder), self.far.prepare()), (0, heard + far.FAR_WAIT))
+        self.assertEqual((count_front_ends(self.folder), self.far.prepare()), (0, heard + far.FAR_WAIT))
         self.now = heard + far.FAR_WAIT - 60
         self.is_open = True
         self.run_for(6)
-        self.assertEqual((count_clients(self.folder), self.near.is_sound()), (1, True))
+        self.assertEqual((count_front_ends(self.folder), self.near.is_sound()), (1, True))
         self.now += far.FAR_WAIT + 1
         with self.assertRaises(Ended):
             self.far.turn()

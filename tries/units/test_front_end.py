@@ -6,16 +6,16 @@ import termios
 from unittest import mock
 
 from aids import Case, StillLoop, closed, read_now
-from roam_live import client, display, terminal
-from roam_live.client import Client
+from roam_live import display, front_end, terminal
+from roam_live.front_end import FrontEnd
 from roam_live.program import Fault, begun
-from roam_live.rects import NOTHING, Places, Rect
+from roam_live.rects import Places, Rect
 from test_display import Person, painting, places
 
 PANES = Places({1: Rect(1, 1, 23, 39), 2: Rect(1, 41, 11, 40), 3: Rect(13, 41, 11, 40)}, 1, 1)
 
 
-class Place:
+class AnySession:
     """A session that is played."""
 
     served, name = "server", "main"
@@ -72,7 +72,7 @@ class Fronts(Case):
 
     def setUp(self):
         self.stop_clock()
-        self.place = Place(self.made_folder())
+        self.place = AnySession(self.made_folder())
         self.listener = self.listening(self.place.terminals)
         self.master, slave = pty.openpty()
         terminal.set_size(slave, 24, 80)
@@ -83,8 +83,8 @@ class Fronts(Case):
         self.addCleanup(self.give_back, kept, slave)
         os.set_blocking(self.master, False)
         self.wakeup, self.wakes = self.pipe()
-        self.patch_of(client, "woken", return_value=self.wakeup)
-        self.front = Client(self.place, False, "C-b", "adaptive", lambda: False, StillLoop())
+        self.patch_of(front_end, "woken", return_value=self.wakeup)
+        self.front = FrontEnd(self.place, False, "C-b", "adaptive", lambda: False, StillLoop())
         self.addCleanup(lambda: closed(self.front.display.outer.end))
         self.addCleanup(lambda: self.front.link.close())
 
@@ -102,7 +102,8 @@ class Fronts(Case):
             self.front.turn()
 
     def connect(self):
-        """Connects; the start's end."""
+        """Takes the terminal and connects; the start's end."""
+        self.front.display.outer.enter()
         self.front.connect()
         self.start = self.taken(self.listener)
         self.turn()
@@ -164,7 +165,8 @@ class Loop(Fronts):
         self.connect()
         self.type(b"\x02d")
         self.assertEqual((self.front.left, self.front.status), ("[detached]", 0))
-        with mock.patch.object(self.front, "connect"), mock.patch.object(self.front.link, "part") as parts:
+        with mock.patch.object(self.front, "connect"), mock.patch.object(self.front.link, "part") as parts, \
+                mock.patch.object(self.front.display.outer, "enter"):
             self.assertEqual(self.front.run(), 0)
         parts.assert_called_once_with()
         self.assertTrue(self.shown().endswith(terminal.LEFT + b"[detached]\r\n"))
@@ -173,14 +175,23 @@ class Loop(Fronts):
         self.assertEqual((self.front.left, self.front.status), ("[detached]", 0))
 
     def test_fault(self):
-        """What nobody foresaw brings the terminal back too."""
-        with mock.patch.object(self.front, "turn", side_effect=RuntimeError), mock.patch.object(self.front.link, "part") as parts:
-            with self.assertRaises(RuntimeError):
-                self.front.run()
-        parts.assert_not_called()
-        self.assertTrue(self.shown().endswith(terminal.LEFT))
-        self.assertEqual(termios.tcgetattr(self.slave), self.before)
-        self.assertIsNone(self.front.link.peer)
+        """What nobody foresaw brings the terminal back too, from the moment on at which it is taken: that is none before it runs."""
+        self.assertEqual((termios.tcgetattr(self.slave), self.shown()), (self.before, b""))
+        for name in ("connect", "turn"):
+            with self.subTest(name), mock.patch.object(self.front, name, side_effect=RuntimeError), \
+                    mock.patch.object(self.front.link, "part") as parts:
+                with self.assertRaises(RuntimeError):
+                    self.front.run()
+                parts.assert_not_called()
+                self.assertTrue(self.shown().endswith(terminal.LEFT))
+                self.assertEqual(termios.tcgetattr(self.slave), self.before)
+                self.assertIsNone(self.front.link.peer)
+
+    def test_not_taken(self):
+        """A terminal that can't be taken is left alone."""
+        with mock.patch.object(terminal, "make_raw", return_value=None), self.assertRaisesRegex(Fault, "^the terminal can't be made raw$"):
+            self.front.run()
+        self.assertEqual((termios.tcgetattr(self.slave), self.shown()), (self.before, b""))
 
     def test_signals(self):
         """SIGTERM, SIGHUP and SIGINT leave, with 128 and their number; a new size is gone by."""
@@ -218,11 +229,16 @@ class Loop(Fronts):
     def test_stops(self):
         """It stops its group by the signal's own action, and handles it again then."""
         outer = self.front.display.outer
+        outer.enter()
         handled = []
-        with mock.patch("os.kill", lambda *words: handled.append((words, signal.getsignal(signal.SIGTSTP)))):
+
+        def stop(*words):
+            handled.append((words, signal.getsignal(signal.SIGTSTP), termios.tcgetattr(self.slave) == self.before))
+
+        with mock.patch("os.kill", stop):
             before = signal.getsignal(signal.SIGTSTP)
             outer.suspend()
-        self.assertEqual(handled, [((0, signal.SIGTSTP), signal.SIG_DFL)])
+        self.assertEqual(handled, [((0, signal.SIGTSTP), signal.SIG_DFL, True)])
         self.assertEqual(signal.getsignal(signal.SIGTSTP), before)
         self.assertFalse(os.get_blocking(outer.end))
         self.shown()
@@ -279,13 +295,14 @@ class Loop(Fronts):
 
     def test_hung_up(self):
         """A terminal that is gone is left with status 1."""
-        with mock.patch.object(client, "read", side_effect=lambda end: b"" if end == 0 else None):
+        self.front.display.outer.enter()
+        with mock.patch.object(front_end, "read", side_effect=lambda end: b"" if end == 0 else None):
             os.write(self.master, b"x")
             self.turn(1)
         self.assertEqual((self.front.left, self.front.status), ("", 1))
         self.front.left = None
         self.front.display.outer.waiting += b"x"
-        with mock.patch.object(client, "write", return_value=False):
+        with mock.patch.object(front_end, "write", return_value=False):
             self.turn(1)
         self.assertEqual(self.front.left, "")
 
@@ -318,7 +335,7 @@ class Loop(Fronts):
         start = self.connect()
         start.send(b"x")
         self.front.display.outer.waiting[:] = bytes(65536)
-        with mock.patch.object(client, "write", return_value=True):
+        with mock.patch.object(front_end, "write", return_value=True):
             with mock.patch.object(self.front.link, "painted") as paints:
                 self.turn(1)
                 paints.assert_not_called()
@@ -358,7 +375,7 @@ class Loop(Fronts):
 
     def test_unknown_size(self):
         """A session of which nothing is known is fitted once something was painted, 0.3 s later."""
-        self.place.told = NOTHING
+        self.place.told = None
         start = self.connect()
         start.send(painting(20, 70))
         self.turn()
@@ -374,18 +391,18 @@ class Loop(Fronts):
             self.assertEqual(outer.size(), (24, 80))
 
     def test_no_terminal(self):
-        none = mock.patch("os.isatty", side_effect=[True, False])
-        for name, patched, told in (("isatty", none, "standard input and output have to be a terminal"),
-                                    ("raw", mock.patch.object(terminal, "make_raw", return_value=None), "the terminal can't be made raw")):
-            with self.subTest(name), patched, self.assertRaisesRegex(Fault, told):
-                display.Outer()
+        with mock.patch("os.isatty", side_effect=[True, False]):
+            with self.assertRaisesRegex(Fault, "standard input and output have to be a terminal"):
+                display.OuterTerminal()
 
     def test_outer(self):
         """What is typed comes from standard input, whose modes and size are gone by, and standard output is written."""
         asks = self.patch("os.isatty", return_value=True)
         with mock.patch.object(terminal, "make_raw", return_value=[1]) as raws, mock.patch.object(terminal, "size_of") as sizes, \
                 mock.patch.object(terminal, "opened_for_writing", return_value=9) as opens:
-            outer = display.Outer()
+            outer = display.OuterTerminal()
+            raws.assert_not_called()
+            outer.enter()
         self.assertEqual([one.call_args[0] for one in (raws, sizes, opens)], [(0,), (0,), (1,)])
         self.assertEqual((asks.call_args_list, outer.modes, outer.end), ([mock.call(0), mock.call(1)], [1], 9))
         with mock.patch.object(terminal, "make_raw") as raws:
@@ -405,9 +422,9 @@ class Loop(Fronts):
             seen.append(note.read_text(encoding="utf-8"))
             return 5
 
-        with mock.patch.object(client, "Client") as made:
+        with mock.patch.object(front_end, "FrontEnd") as made:
             made.return_value.run = runs
-            self.assertEqual(client.follow(self.place, True, "C-a", "never"), 5)
+            self.assertEqual(front_end.follow(self.place, True, "C-a", "never"), 5)
             self.assertEqual(made.call_args[0][:4], (self.place, True, "C-a", "never"))
         self.assertEqual(seen, [f"{begun(os.getpid())} watches\n"])
         self.assertEqual((list((self.place.folder / "attached").iterdir()), self.place.is_closed), ([], True))
@@ -431,7 +448,7 @@ class Wishes(Case):
         """An arrow goes to the pane there; nowhere where none is, and to the next where nothing is known."""
         for key, acts in ((b"C", ["focus 2"]), (b"D", []), (b"A", [])):
             self.assertEqual(self.person().types(b"\x02\x1b[" + key), acts)
-        self.assertEqual(self.person(NOTHING).types(b"\x02\x1b[C"), ["next"])
+        self.assertEqual(self.person(None).types(b"\x02\x1b[C"), ["next"])
 
     def test_moved(self):
         """What is asked soon after goes by where this person put the focus, though that isn't told yet."""
@@ -480,7 +497,7 @@ class Wishes(Case):
         person = self.person()
         person.busy = None
         self.assertEqual((person.types(b"\x02x"), person.display.told), ([], "close whatever runs in pane 1? y closes it"))
-        person = self.person(NOTHING)
+        person = self.person(None)
         person.busy = None
         self.assertEqual((person.types(b"\x02x"), person.display.told), ([], "close whatever runs in this pane? y closes it"))
 
@@ -578,7 +595,7 @@ class Painted(Case):
             rest = written
             while b"\x1b7" in rest:
                 before, _, after = rest.partition(b"\x1b7")
-                extent = terminal.Extent()
+                extent = terminal.PaintedSize()
                 extent.fed(before)
                 self.assertTrue(extent.is_between(), cut)
                 rest = before + after.partition(b"\x1b8")[2]

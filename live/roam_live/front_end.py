@@ -1,4 +1,4 @@
-"""A person's client of a session: a terminal connected to the session's client start, until the person leaves or the session ends."""
+"""A person's front end of a session: a terminal connected to the session's client start, until the person leaves or the session ends."""
 from __future__ import annotations
 
 import contextlib
@@ -10,14 +10,14 @@ from roam_live.bells import BellFollower
 from roam_live.bindings import NEWEST
 from roam_live.commands import Commands
 from roam_live.display import Display
-from roam_live.links import Keeper, Link
+from roam_live.links import Keeper, StartLink
 from roam_live.loops import Loop
-from roam_live.program import noted_client, opened_process, read, woken, write
+from roam_live.program import noted_front_end, opened_process, read, woken, write
 from roam_live.watches import ShellsWatch
 
 TYPE_CHECKING = False
 if TYPE_CHECKING:
-    from roam_live.places import Place
+    from roam_live.places import AnySession
 
 # So many bytes may wait for the terminal, and so many for the session, before what brings more is left alone.
 PAINTED_LIMIT = 1 << 16
@@ -40,10 +40,10 @@ LEAVING = (signal.SIGTERM, signal.SIGHUP, signal.SIGINT)
 SILENCE = re.compile(rb"(\x1b7\x1b\[\?7l\x1b\[999;1H\x1b\[0;7mroam: no answer for \d+ s)(\x1b\[0m)")
 
 
-class Client:
+class FrontEnd:
     """A person at a terminal, and the session there."""
 
-    def __init__(self, place: Place, watches: bool, prefix: str, guessing: str, is_new: Callable[[], bool],
+    def __init__(self, place: AnySession, watches: bool, prefix: str, guessing: str, is_new: Callable[[], bool],
                  loop: Loop | None = None) -> None:
         self.place, self.loop = place, loop or Loop()
         self.left: str | None = None
@@ -52,7 +52,7 @@ class Client:
         served = place.process(place.served)
         self.server = opened_process(served) if served else None
         self.shells = ShellsWatch(place, self.loop, lambda line: self.display.tell(line, LOSS_TOLD))
-        self.link = Link(place.terminals, watches, guessing)
+        self.link = StartLink(place.terminals, watches, guessing)
         self.keeper = Keeper(place, self.link)
         self.display = Display(self.loop, lambda: self.link.say("repaint"))
         self.commands = Commands(place, self.link, self.display, self.loop, self.leave, is_new)
@@ -70,7 +70,7 @@ class Client:
         self.loop.add(outer.end, None, self.show, has_more=lambda: outer.waiting)
 
     def leave(self, line: str | None, status: int = 0) -> None:
-        """Ends the client with a line; None goes on."""
+        """Ends with a line; None goes on."""
         if line is not None and self.left is None:
             self.left, self.status = line, status
             self.shells.stop()
@@ -152,7 +152,8 @@ class Client:
         """Waits until something can be done, and does it. What is at hand goes at once, where it is taken: a person waits for each key."""
         self.loop.turn()
         if self.bells.keypads or self.display.outer.is_application:
-            self.display.set_keypad(self.place.places().focus in self.bells.keypads)
+            places = self.place.places()
+            self.display.set_keypad(places is not None and places.focus in self.bells.keypads)
         if self.link.peer and self.link.waiting:
             self.send()
         if self.display.outer.waiting:
@@ -189,6 +190,7 @@ class Client:
     def run(self) -> int:
         """Follows the session until the person leaves or it ends, and tells the status."""
         try:
+            self.display.outer.enter()
             self.connect()
             if self.server is None:
                 self.loop.later("probe", PROBES, self.probe)
@@ -203,13 +205,13 @@ class Client:
         return self.status
 
 
-def follow(place: Place, watches: bool, prefix: str, guessing: str, is_new: Callable[[], bool] = lambda: False) -> int:
+def follow(place: AnySession, watches: bool, prefix: str, guessing: str, is_new: Callable[[], bool] = lambda: False) -> int:
     """Has a person follow a session at this terminal, and tells the status; guesses are shown always, where that helps, or never. Where the
     session is new, which may be known a moment later, it gets this terminal's size, whatever that is."""
     note = None
     try:
-        note = noted_client(place.folder, "watches" if watches else "edits")
-        return Client(place, watches, prefix, guessing, is_new).run()
+        note = noted_front_end(place.folder, "watches" if watches else "edits")
+        return FrontEnd(place, watches, prefix, guessing, is_new).run()
     finally:
         place.close()
         if note:

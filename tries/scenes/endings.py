@@ -1,0 +1,305 @@
+"""What ends, is killed, is stopped or can't be had: shells, starts, sessions, descriptors."""
+import contextlib
+import json
+import os
+import pathlib
+import pty
+import resource
+import shutil
+import signal
+import subprocess
+import time
+
+from tried import Outer, PROGRAM, check, children, comes, listed, noted, own_terminal, said, scene, tool
+from roam_live import terminal
+from roam_live.program import TOOLS
+
+LISTED = 50
+
+HANG_UPS = 20
+
+KILLED_STARTS = 40
+
+IDLE = 12.0
+
+
+@scene
+def killed(folder):
+    """`mux kill` ends a session, its programs, and its clients."""
+    outer = Outer(tool("mux", "other"))
+    outer.shows("$ ")
+    outer.type(f"echo $$ > {folder}/shell; echo no''ted\r".encode())
+    outer.shows("noted")
+    shell = int((folder / "shell").read_text(encoding="utf-8"))
+    subprocess.run(tool("mux", "kill", "other"), check=True)
+    check("mux kill ends a client", outer.ends() and outer.is_restored(), outer.rows)
+    check("and the shell", comes(lambda: not pathlib.Path(f"/proc/{shell}").exists()), shell)
+    check("no session is left then", listed() == [], listed())
+    run = subprocess.run(tool("mux", "kill", "other"), stderr=subprocess.PIPE, check=False)
+    check("what isn't there is said in one line", (run.returncode, run.stderr) == (1, b"mux: no session other is running\n"), run)
+
+
+@scene
+def silent(folder):
+    """A server that doesn't answer is told of, the person can leave, and what was typed comes once it answers."""
+    outer = Outer(tool("mux", "other"))
+    outer.shows("$ ")
+    server = noted("other")["server"][0]
+    os.kill(server, signal.SIGSTOP)
+    outer.type(b"echo wai''ted\r")
+    check("a silent server is told of in the last row", outer.status("roam: no answer for 1"), outer.rows)
+    check("and which key leaves", comes(lambda: "s; C-b d leaves" in outer.rows()[-1]), outer.rows)
+    os.kill(server, signal.SIGCONT)
+    check("what was typed meanwhile comes", outer.shows("waited") and outer.status("[1]"), outer.rows)
+    os.kill(server, signal.SIGSTOP)
+    outer.type(b"\x02d")
+    check("C-b d leaves while it is silent", outer.ends() and outer.is_restored(), outer.rows)
+    os.kill(server, signal.SIGCONT)
+    subprocess.run(tool("mux", "kill", "other"), check=True)
+
+
+def family(process):
+    """A process and all that it and those have started."""
+    return {process}.union(*(family(child) for child in children(process)))
+
+
+def processor_time(processes):
+    """The seconds of processor that processes have used."""
+    texts = [pathlib.Path(f"/proc/{process}/stat").read_text(encoding="utf-8").rpartition(")")[2].split() for process in processes]
+    return sum(int(text[11]) + int(text[12]) for text in texts) / os.sysconf("SC_CLK_TCK")
+
+
+def wakeups(processes):
+    """How often processes have slept and been woken."""
+    texts = [pathlib.Path(f"/proc/{process}/status").read_text(encoding="utf-8") for process in processes]
+    return sum(int(line.split()[1]) for text in texts for line in text.splitlines() if line.startswith("voluntary_ctxt_switches"))
+
+
+@scene
+def idle(folder):
+    """Nine panes in which nothing happens take next to nothing."""
+    outer = Outer(tool("mux", "other"))
+    outer.status("[1]")
+    for pane, way in zip(range(2, 10), '%""%""%""'):
+        outer.type(b"\x02" + way.encode() + (b"\x021" if pane in (4, 7) else b""))
+        outer.shows(f"{pane}")
+    check("nine panes are there", comes(lambda: listed()[4:6] == ["9", "panes"]), (listed(), outer.rows()))
+    own = [noted("other")[role][0] for role in ("server", "shells", "terminals")] + [outer.process.pid]
+    processes = set().union(*map(family, own))
+    before, woken = processor_time(processes), wakeups(processes)
+    time.sleep(IDLE)
+    used = (processor_time(processes) - before) * 60 / IDLE
+    often = (wakeups(processes) - woken) / IDLE
+    print(f"        nine idle panes and a client take {used:.2f} s of processor a minute, and wake {often:.1f} times a second", flush=True)
+    if b"__asan_init" in pathlib.Path(PROGRAM).read_bytes():
+        print("skipped that it is below half a second: the program is built with checks of its memory", flush=True)
+    else:
+        check("which is below half a second", used < 0.5, f"{used:.2f} s")
+    subprocess.run(tool("mux", "kill", "other"), check=True)
+
+
+@contextlib.contextmanager
+def limited(process, kind, most):
+    """Keeps a process to so much of a resource."""
+    before = resource.prlimit(process, kind)
+    resource.prlimit(process, kind, (most, before[1]))
+    try:
+        yield
+    finally:
+        resource.prlimit(process, kind, before)
+
+
+def first_free(process):
+    """The first descriptor that a process hasn't open: with no more than these it has none but those that it closes itself."""
+    taken = {int(path.name) for path in pathlib.Path(f"/proc/{process}/fd").iterdir()}
+    return next(number for number in range(len(taken) + 1) if number not in taken)
+
+
+@scene
+def refused(folder):
+    """What the system refuses costs a pane its shell, or the list of panes some time, and the other panes nothing."""
+    outer = Outer(tool("mux", "other"))
+    outer.shows("$ ")
+    shells = noted("other")["shells"][0]
+    with limited(shells, resource.RLIMIT_NOFILE, 3):
+        outer.type(b"\x02%")
+        outer.status(" 1 [2]")
+        outer.type(b"\x021echo st''ays\r")
+        check("where no descriptor is left the panes go on", outer.shows("stays"), outer.rows)
+    check("a pane that came then has its shell later", comes(lambda: outer.rows()[0][40:].startswith("$ ")), outer.rows)
+    outer.type(b"\x022")
+    outer.status(" 1 [2]")
+    not_started(outer, shells)
+    with limited(shells, resource.RLIMIT_FSIZE, 0):
+        outer.type(b"\x02%")
+        outer.status(" 1  2  3 [4]")
+        comes(lambda: len(children(shells)) == 4)
+        outer.type(b"echo fu''ll\r")
+        check("where no file can be written the panes go on", outer.shows("full"), outer.rows)
+    check("and where they are is written later", comes(lambda: listed()[4:6] == ["4", "panes"]), listed)
+    subprocess.run(tool("mux", "kill", "other"), check=True)
+
+
+def not_started(outer, shells):
+    """A pane whose shell can't be started says so; it can be closed, and tries again at a key."""
+    for keys in (b"\x02x", b"x"):
+        with limited(shells, resource.RLIMIT_NOFILE, first_free(shells)):
+            outer.type(b'\x02"')
+            check("a pane whose shell can't be started says so", outer.shows("[not started: "), outer.rows)
+        outer.type(keys)
+        # So soon there is a descriptor again by which a pane says what it hasn't.
+        time.sleep(1)
+        if keys == b"x":
+            check("and a key there tries again", comes(lambda: any(row[40:].startswith("$ ") for row in outer.rows()[12:])), outer.rows)
+        else:
+            check("and can be closed", outer.status(" 1 [2]  "), outer.rows)
+    held = [os.readlink(path) for shell in children(shells) for path in pathlib.Path(f"/proc/{shell}/fd").iterdir()]
+    check("no shell has the other end of a pane's terminal", not any(path.endswith("ptmx") for path in held), held)
+
+
+@scene
+def bad_shell(folder):
+    """A SHELL that isn't there is told of in the pane, and /bin/sh is there instead."""
+    outer = Outer(tool("mux", "other"), environment={"SHELL": "/nonexistent"})
+    check("a bad SHELL is told of", outer.shows("/nonexistent: No such file or directory; this is /bin/sh"), outer.rows)
+    outer.type(b"echo =$SHELL=\r")
+    check("and /bin/sh is there", outer.shows("=/bin/sh="), outer.rows)
+    subprocess.run(tool("mux", "kill", "other"), check=True)
+
+
+@scene
+def shells(folder):
+    """What kept the shells is started again, and no new shell runs what was typed meanwhile."""
+    outer = Outer(tool("mux", "other"))
+    outer.shows("$ ")
+    shells = noted("other")["shells"][0]
+    os.kill(shells, signal.SIGKILL)
+    outer.type(b"echo los''t\r")
+    check("the end of what keeps the shells is told", outer.status("the shells had ended"), outer.rows)
+    outer.type(b"echo al''so\r")
+    check("another is started", comes(lambda: noted("other")["shells"][0] != shells) and outer.shows("[a new shell; "), outer.rows)
+    check("with a shell", outer.shows("$ "), outer.rows)
+    outer.type(b"echo th''en\r")
+    check("which runs what is typed then", outer.shows("then") and outer.status("[1]"), outer.rows)
+    check("and nothing that was typed before", not outer.shows("lost", 0.1) and not outer.shows("also", 0.1), outer.rows)
+    subprocess.run(tool("mux", "kill", "other"), check=True)
+
+
+@scene
+def kill(folder):
+    """`mux kill` asks where something else than a shell runs."""
+    outer = Outer(tool("mux", "other"))
+    outer.shows("$ ")
+    outer.type(b"sleep 100\r")
+    told = "mux: session other runs sleep in pane 1; `mux kill -f other` ends it\n"
+    check("mux kill tells what runs", comes(lambda: said("kill", "other") == (1, "", told)), said("ls"))
+    asked = Outer(tool("mux", "kill", "other"))
+    check("at a terminal it asks", asked.shows("session other runs sleep in pane 1; end it? [y/N]"), asked.rows)
+    asked.type(b"n\n")
+    check("and goes by the answer", asked.ends() and asked.process.returncode == 1 and listed()[0] == "other", listed())
+    check("-f doesn't ask", said("kill", "-f", "other") == (0, "", "") and outer.ends(), listed())
+
+
+@scene
+def earlier(folder):
+    """A session that an earlier roam began is told of, and can be ended."""
+    subprocess.run(tool("mux", "new", "-d", "other"), check=True)
+    path = pathlib.Path(os.environ["XDG_RUNTIME_DIR"], "roam", "other", "state.json")
+    state = noted("other")
+    path.write_text(json.dumps({role: state[role] for role in ("server", "shells", "command")}), encoding="utf-8")
+    for word in (["capture"], ["send"]):
+        told = said(*word, "other", *(["char 61"] if word == ["send"] else []))
+        check(f"mux {word[0]} tells of a session of an earlier roam", told[0] == 1 and "was begun by an earlier roam" in told[2], told)
+    outer = Outer(tool("mux", "other"))
+    check("so does mux", outer.shows("was begun by an earlier roam") and outer.ends(), outer.rows)
+    os.kill(state["terminals"][0], signal.SIGTERM)
+    check("mux kill ends it", said("kill", "other") == (0, "", "") and "other" not in listed(), listed())
+
+
+@scene
+def many(folder):
+    """Many `mux ls` beside clients that come and go, and terminals that hang up at any moment: nothing comes that nobody foresaw."""
+    first = Outer(tool("mux", "other"))
+    first.shows("$ ")
+    runs, clients = [], []
+    for number in range(LISTED):
+        if number % 3 == 0:
+            clients.append(Outer(tool("mux", "watch", "other")))
+        elif number % 3 == 1 and len(clients) > 2:
+            clients[-3].process.send_signal((signal.SIGTERM, signal.SIGKILL, signal.SIGHUP)[len(clients) % 3])
+        runs.append(subprocess.run(tool("mux", "ls"), stdout=subprocess.DEVNULL, stderr=subprocess.PIPE, check=False))
+    for client in clients:
+        client.process.terminate()
+    found = unforeseen([run.stderr for run in runs] + [bytes(client.written) for client in clients])
+    check(f"{LISTED} times ls beside clients that come and go: all ends as it should", not found, found)
+    print(f"        {sum(run.returncode != 0 for run in runs)} of them ended with another status than 0", flush=True)
+    stopped()
+    found = unforeseen([hung_up(folder / "said")])
+    check(f"{HANG_UPS} terminals that hang up at any moment: all ends as it should", not found, found)
+    subprocess.run(tool("mux", "kill", "other"), check=True)
+
+
+def unforeseen(texts):
+    """Those of the texts that tools wrote in which something is told that nobody foresaw."""
+    return [text for text in texts if b"Traceback" in text or b" failed: " in text]
+
+
+def hung_up(path):
+    """What clients say whose terminals hang up, each a bit later than the one before."""
+    with open(path, "ab") as said:
+        for number in range(HANG_UPS):
+            master, slave = pty.openpty()
+            terminal.set_size(slave, 24, 80)
+            ends = {"stdin": slave, "stdout": slave, "stderr": said}
+            own = own_terminal if number % 3 else None
+            process = subprocess.Popen(tool("mux", "other"), **ends, start_new_session=True, preexec_fn=own)
+            os.close(slave)
+            time.sleep(number * 0.02)
+            os.close(master)
+            process.wait(20)
+    return path.read_bytes()
+
+
+def stopped():
+    """A client that is stopped and continued from elsewhere, behind a shell, is there again with fg."""
+    if not shutil.which("bash"):
+        return
+    outer = Outer(["bash", "--norc", "--noprofile", "-i"])
+    outer.shows("$ ")
+    outer.type(f"{TOOLS / 'mux'} other\r".encode())
+    outer.status("[1]")
+    client = children(outer.process.pid)[0]
+    os.kill(client, signal.SIGSTOP)
+    outer.shows("Stopped")
+    os.kill(client, signal.SIGCONT)
+    time.sleep(0.3)
+    outer.type(b"fg\r")
+    check("stopped, continued and brought to the fore it is there again", outer.status("[1]"), outer.rows)
+    outer.type(b"\x02d")
+    check("and leaves", outer.shows("[detached]"), outer.rows)
+    outer.process.kill()
+
+
+def processes_of(path):
+    """The processes whose words name a folder."""
+    found = []
+    for process in pathlib.Path("/proc").glob("[0-9]*"):
+        with contextlib.suppress(OSError):
+            words = (process / "cmdline").read_bytes().split(b"\0")
+            found += [process.name] if os.fsencode(path) in words else []
+    return found
+
+
+@scene
+def killed_starts(folder):
+    """A start that is killed at any moment: what it began is found, and ended."""
+    served = os.path.join(os.environ["XDG_RUNTIME_DIR"], "roam", "other")
+    left = []
+    for number in range(KILLED_STARTS):
+        process = subprocess.Popen(tool("mux", "new", "-d", "other"), stdout=subprocess.DEVNULL, stderr=subprocess.DEVNULL)
+        time.sleep(number * 0.01)
+        process.kill()
+        process.wait()
+        if not comes(lambda: said("kill", "other") and not processes_of(served), 5):
+            left.append((number, processes_of(served)))
+    check(f"{KILLED_STARTS} starts that are killed at any moment leave nothing that kill doesn't find", not left, left)

@@ -1,0 +1,163 @@
+"""Sessions of other machines, by relays and by a command that stands for ssh; and one that `mux` doesn't keep."""
+import json
+import os
+import pathlib
+import signal
+import subprocess
+import time
+import xml.etree.ElementTree
+
+from tried import Outer, PROGRAM, check, children, comes, listed, noted, scene, tool
+from roam_live.program import TOOLS
+
+
+@scene
+def relay(folder):
+    """Clients go on through a relay whose far end is killed or says nothing, and it ends as it is told."""
+    outer = Outer(tool("mux", "other"))
+    outer.shows("$ ")
+    served = pathlib.Path(os.environ["XDG_RUNTIME_DIR"], "roam", "other")
+    session = (served / "session").read_text(encoding="utf-8").strip()
+    far = tool("relay", "--far", "--session", session, "--server", str(noted("other")["server"][0]), "--dir", str(served), "-")
+    near = folder / "near"
+    near.mkdir(mode=0o700)
+    process = subprocess.Popen(tool("relay", "--dir", str(near), "-", *far), stdout=subprocess.PIPE, stderr=subprocess.DEVNULL)
+    told = process.stdout.readline().decode().split()
+    check("relay tells the session", told == ["port", "-", "session", session], told)
+    clients = [Outer(tool("attach", *more, str(near))) for more in ([], ["--watch"])]
+    outer.type(b"clear; echo thr''ough\r")
+    check("two clients are shown the session through it", all(client.shows("through") for client in clients), clients[1].rows)
+    outer.type(b"printf '\\a'\r")
+    check("and hear its bells", all(comes(lambda client=client: b"\x07" in client.written) for client in clients), clients[1].rows)
+    outer.type(b"printf '\\033='\r")
+    check("and how its keypad is", all(comes(lambda client=client: b"\x1b=" in client.written) for client in clients), clients[1].rows)
+    outer.type(b"printf '\\033>'\r")
+    os.kill(children(process.pid)[0], signal.SIGKILL)
+    clients[0].type(b"echo kil''led\r")
+    check("a far end that is killed is followed by another", all(client.shows("killed") for client in clients), clients[1].rows)
+    stopped = children(process.pid)[-1]
+    os.kill(stopped, signal.SIGSTOP)
+    clients[0].type(b"echo sil''ent\r")
+    check("so is one that is silent", all(client.shows("silent") for client in clients), clients[1].rows)
+    os.kill(stopped, signal.SIGCONT)
+    check("which ends then", comes(lambda: len(children(process.pid)) == 1), children(process.pid))
+    relay_ends(clients, process, near, far)
+
+
+def relay_ends(clients, relay, near, far):
+    """Clients leave a relay, and it ends for a signal, alone, and with the session."""
+    for client in clients:
+        client.type(b"\x02d")
+        check("a client leaves", client.ends() and client.is_restored(), client.rows)
+    relay.terminate()
+    check("SIGTERM ends relay with status 143", comes(lambda: relay.poll() == 143), relay.returncode)
+    check("and leaves no socket", not (near / "clients").exists() and not (near / "session").exists(), list(near.iterdir()))
+    alone = subprocess.Popen(tool("relay", "--alone", "1", "--dir", str(near), "-", *far), stdout=subprocess.PIPE)
+    alone.stdout.readline()
+    client = Outer(tool("attach", str(near)))
+    client.shows("silent")
+    time.sleep(7)
+    check("a relay that is to end alone stays while a client is there", alone.poll() is None, alone.returncode)
+    client.type(b"\x02d")
+    check("and ends with status 0 after the last has left", client.ends() and comes(lambda: alone.poll() == 0), alone.returncode)
+    again = subprocess.Popen(tool("relay", "--dir", str(near), "-", *far), stdout=subprocess.PIPE)
+    again.stdout.readline()
+    subprocess.run(tool("mux", "kill", "other"), check=True)
+    check("the session's end ends it with status 0", comes(lambda: again.poll() == 0), again.returncode)
+
+
+@scene
+def by_hand(folder):
+    """`attach` without mux: a server that is killed is told of, and what comes at its port again is shown."""
+    own = folder / "own"
+    own.mkdir()
+    words = [PROGRAM, "serve", "--dir", str(own), "--session", "5e55", "--port"]
+    first = subprocess.Popen([*words, "0"], stderr=subprocess.PIPE)
+    port = first.stderr.readline().split()[-1].decode()
+    shells = subprocess.Popen(tool("pane_shells", str(own)))
+    outer = Outer(tool("attach", "--dir", str(own), port, "5e55"))
+    check("attach shows what pane_shells runs", outer.shows("$ "), outer.rows)
+    outer.type("clear; printf '\\033[1;31mr\u00e9d\\033[0m'\r".encode())
+    outer.shows("r\u00e9d$")
+    drawn = subprocess.run(tool("picture", port, "5e55"), stdout=subprocess.PIPE, check=True).stdout.decode()
+    svg = xml.etree.ElementTree.fromstring(drawn)
+    found = [(text.text, text.get("fill")) for text in svg.iter("{http://www.w3.org/2000/svg}text")]
+    check("picture draws what is shown, in its colours", ("r\u00e9d", "#cd3131") in found, found)
+    outer.type(b"exit\r")
+    check("without --close an ended shell stays, and is told", outer.shows("[ended]"), outer.rows)
+    first.kill()
+    first.wait()
+    check("the shells end with the server", comes(lambda: shells.poll() == 0), shells.returncode)
+    check("a server that is gone is told in a line", outer.shows(f"no server is at port {port}"), outer.rows)
+    second = subprocess.Popen([*words, port], stderr=subprocess.PIPE)
+    check("one that comes there is shown", outer.status("[1]", 30), outer.rows)
+    second.kill()
+    second.wait()
+    outer.shows("no server is at port")
+    outer.type(b"\x03")
+    check("C-c leaves in a pause", outer.ends() and outer.is_restored(), outer.rows)
+
+
+def ssh_words(folder, far, asked):
+    """The words of a `mux ssh` to a session of another folder, by a command that stands for ssh and notes what it is asked."""
+    stand_in = folder / "ssh"
+    says = 'if [ "$1" = -G ]; then echo hostname 127.0.0.1; exit; fi'
+    stand_in.write_text(f'#!/bin/sh\necho "$*" >> {asked}\n{says}\nshift 3\nexec sh -c "$*"\n', encoding="utf-8")
+    stand_in.chmod(0o755)
+    far.mkdir(mode=0o700)
+    own = ["--ssh", str(stand_in), "--far", f"env XDG_RUNTIME_DIR={far} {TOOLS / 'mux'}"]
+    return tool("mux", "ssh", *own, "-p", "2222", "there", "other")
+
+
+@scene
+def far(folder):
+    """`mux ssh` shows a session of another folder; what it started stays, and is found again."""
+    far, asked = folder / "far", folder / "asked"
+    words = ssh_words(folder, far, asked)
+    outer = Outer(words)
+    check("mux ssh starts a session there", outer.shows("$ "), outer.rows)
+    outer.type(b"echo fa''r\r")
+    check("and types there", outer.shows("far"), outer.rows)
+    outer.type(b"\x02%")
+    outer.status(" 1 [2]")
+    check("where its panes are is known here", comes(lambda: listed()[4:6] == ["2", "panes"]), listed)
+    outer.type(b"\x02\x1b[D")
+    check("arrows go by where the panes are there", outer.status("[1] 2"), outer.rows)
+    outer.type(b"\x022\x02x")
+    check("C-b x asks, since what runs there isn't known here", outer.status("close whatever runs in pane 2? y closes it"), outer.rows)
+    outer.type(b"y")
+    check("and closes it", outer.status("[1]  "), outer.rows)
+    outer.type(b"\x02d")
+    check("C-b d leaves it", outer.ends() and outer.is_restored(), outer.rows)
+    again, beside = Outer(words), Outer(words)
+    check("mux ssh comes back to it", again.shows("far") and beside.shows("far"), again.rows)
+    os.kill(json.loads((far / "roam/other/state.json").read_text(encoding="utf-8"))["shells"][0], signal.SIGKILL)
+    check("shells that have ended there are started anew", again.shows("[a new shell; ") and again.shows("$ "), again.rows)
+    lines = asked.read_text(encoding="utf-8").splitlines()
+    is_told = len(lines) == 2 and lines[0] == "-G -p 2222 there" and lines[1].startswith("-p 2222 there ")
+    check("over the ssh that is there, which was asked for the host and told its own options", is_told, lines)
+    again.type(b"exit\r")
+    for one in (again, beside):
+        check("its end is told", one.shows("[the session has ended]") and one.ends(), one.rows)
+
+
+@scene
+def far_sizes(folder):
+    """A session of another machine that was just started has this terminal's size; later none is made smaller."""
+    folder = folder / "sizes"
+    folder.mkdir()
+    words = ssh_words(folder, folder / "far", folder / "asked")
+    first = Outer(words, size=(12, 40))
+    is_new = first.shows("$ ") and first.status("[1]") and not first.shows("too small", 0.1)
+    check("a new session there has this terminal's size", is_new, first.rows)
+    first.type(b"stty size\r")
+    check("and its shell knows it", first.shows("11 40"), first.rows)
+    first.type(b"\x02d")
+    first.ends()
+    alone = Outer(words)
+    check("it grows for a larger terminal alone", alone.shows("11 40") and alone.status("[1]".ljust(80)), alone.rows)
+    small = Outer(words, size=(12, 40))
+    check("and isn't made smaller again", small.shows("too small: 12 by 40 of 24 by 80") and small.shows("C-b r fits"), small.rows)
+    alone.type(b"exit\r")
+    for one in (alone, small):
+        check("its end is told at each", one.shows("[the session has ended]") and one.ends(), one.rows)

@@ -1,0 +1,384 @@
+"""What a person sees and does in a session: panes, sizes, pasting, and what is told."""
+import json
+import os
+import pathlib
+import signal
+import statistics
+import subprocess
+import termios
+import time
+
+from tried import SESSION, Outer, check, comes, listed, noted, said, scene, three_panes, tool
+from roam_live import terminal
+from roam_live.commands import NEW
+from roam_live.links import StartLink
+from roam_live.programs import busy_panes
+
+PASTED = 100_000
+
+# What a terminal is told that is smaller than the session.
+FITS = "C-b r fits this terminal, and cuts what is wider"
+
+# A program that gives itself the name that it is handed in hexadecimal digits, and waits.
+NAMED = "import ctypes, sys, time; ctypes.CDLL(None).prctl(15, bytes.fromhex(sys.argv[1]), 0, 0, 0); time.sleep(100)"
+
+# Names of programs that ask a terminal something or tell it something, and how they are told.
+ODD_NAMES = (
+    (b"\x1b[c", "?[c"), (b"\x1b]0;pwned\x07", "?]0;pwned?"), (b"\x1bc", "?c"), (b"\x1b[?1003h", "?[?1003h"), (b"\xc2\x9b6n", "?6n"),
+    (b"\x1b[?1049l", "?[?1049l"), (b"\n\n\n", "???"), ("\u202eevil".encode(), "?evil"),
+)
+
+
+def started():
+    """A terminal on a session that is begun there, with a shell of its pane's size."""
+    outer = Outer(tool("mux", SESSION))
+    check("mux starts a session with a shell", outer.shows("$ ") and outer.status("[1]"), outer.rows)
+    outer.type(b"echo o''ne; stty size; echo $TERM\r")
+    check("what is typed is run", outer.shows("one"), outer.rows)
+    check("the shell has the pane's size", outer.shows("23 80"), outer.rows)
+    check("TERM has no bce", outer.shows("tmux-256color", 1) or outer.shows("screen-256color", 1) or outer.shows("vt220", 1), outer.rows)
+    return outer
+
+
+@scene
+def panes(folder):
+    """Splits, focus by place, growth."""
+    outer = started()
+    outer.type(b"\x02%")
+    check("C-b % splits to the right", outer.status(" 1 [2]") and outer.rows()[5][39] == "\u2502", outer.rows)
+    outer.type(b'\x02"')
+    check('C-b " splits down', outer.status(" 1  2 [3]") and "\u2500" * 40 in outer.rows()[11], outer.rows)
+    outer.type(b"stty size\r")
+    check("the new shell has its pane's size", outer.shows("11 40"), outer.rows)
+    for way, label in (("D", "[1] 2  3 "), ("C", " 1 [2] 3 "), ("B", " 1  2 [3]"), ("A", " 1 [2] 3 ")):
+        keys = f"\x02\x1b[{way}".encode()
+        outer.type(keys)
+        check(f"{keys!r} goes to the pane there", outer.status(label), outer.rows)
+    outer.type(b"\x02\x1b[1;5B\x1b[1;5B")
+    comes(lambda: "\u2500" * 40 in outer.rows()[13])
+    # What is typed goes to the shell past the tool that tells it the size.
+    time.sleep(0.5)
+    outer.type(b"clear; stty size\r")
+    check("C-arrows grow the pane, and its programs are told", outer.shows("13 40"), outer.rows)
+    outer.type(b"\x02\x1b[1;5A\x1b[1;5A\x02o")
+    check("C-b o goes to the next pane", outer.status(" 1  2 [3]"), outer.rows)
+
+
+@scene
+def leaving(folder):
+    """Detaching leaves the session, and the terminal as it was; a client that is killed is followed by another."""
+    outer = three_panes()
+    outer.type(b"clear; echo la''st\r")
+    outer.shows("last")
+    time.sleep(0.3)
+    before = outer.rows()
+    outer.type(b"\x02d")
+    check("C-b d ends the client with status 0", outer.ends() and outer.process.returncode == 0, outer.process.returncode)
+    check("the terminal is as it was", outer.is_restored(), bytes(outer.written[-200:]))
+    check("it says so", outer.shows("[detached]"), outer.rows)
+    check("the session goes on", listed()[:7] == [SESSION, "24", "by", "80", "3", "panes", "0"], listed())
+    again = Outer(tool("mux", SESSION))
+    check("mux attaches again, and shows the same", comes(lambda: again.rows() == before), lambda: (again.rows(), before))
+    before_it = again.written.count(terminal.CLEARED)
+    os.kill(noted(SESSION)["terminals"][0], signal.SIGKILL)
+    check("a killed client start is followed by another", comes(lambda: again.written.count(terminal.CLEARED) > before_it), again.rows)
+    check("which is told", again.status("the client start has ended; what was typed last may be lost"), again.rows)
+    check("which shows the same", comes(lambda: again.rows() == before), again.rows)
+    again.type(b"echo aft''er\r")
+    check("and types", again.shows("after"), again.rows)
+    again.process.kill()
+    last = Outer(tool("mux", SESSION))
+    check("after a killed tool mux attaches again", last.status("[1] 2  3"), last.rows)
+
+
+@scene
+def sizes(folder):
+    """A new size of the terminal reaches the programs; a small one shows a line."""
+    outer = three_panes()
+    # A session that was just begun goes by its terminal's size, whatever that is.
+    time.sleep(NEW + 0.5)
+    outer.resize(40, 120)
+    check("a larger terminal is filled", outer.status("[1] 2  3") and outer.rows()[3][59] == "\u2502", outer.rows)
+    outer.type(b"\x021clear; stty size\r")
+    check("the programs are told", outer.shows("39 59"), outer.rows)
+    outer.resize(3, 30)
+    check("a small one shows a line", comes(lambda: outer.rows()[0].startswith("too small: 3 by 30 of 4 by 8")), outer.rows)
+    outer.resize(40, 120)
+    check("then all is as it was", outer.status("[1] 2  3") and outer.rows()[3][59] == "\u2502", outer.rows)
+    outer.resize(24, 80)
+    check("one that is drawn smaller is told the key", outer.shows(FITS) and listed()[1:4] == ["40", "by", "120"], outer.rows)
+    outer.type(b"echo un''seen\r\x02r")
+    check("which fits the session to it", outer.status("[1] 2  3") and outer.rows()[5][39] == "\u2502", outer.rows)
+    check("and what was typed before that wasn't typed", not outer.shows("seen", 0.5), outer.rows)
+    for rows in range(60, 24, -1):
+        outer.resize(rows, 3 * rows)
+        time.sleep(0.003)
+    outer.resize(24, 80)
+    check("of many sizes the last is had", outer.status("[1] 2  3", 5) and outer.rows()[5][39] == "\u2502", outer.rows)
+    check("and none before it", listed()[1:4] == ["24", "by", "80"], listed)
+    outer.process.send_signal(signal.SIGSTOP)
+    termios.tcsetattr(outer.slave, termios.TCSANOW, outer.modes)
+    outer.process.send_signal(signal.SIGCONT)
+    check("stopped and continued, it takes the terminal again", comes(lambda: termios.tcgetattr(outer.slave) != outer.modes), outer.rows)
+    covered(outer)
+
+
+def covered(outer):
+    """What stands in place of the session, and what is scrolled back, and the way out of both."""
+    outer.type(b"clear\r\x02?")
+    check("C-b ? shows the keys", outer.shows("C-b itself"), outer.rows)
+    outer.type(b"x")
+    check("a key ends that", outer.status("[1] 2  3"), outer.rows)
+    outer.type(b"for k in 1 2 3 4 5 6; do echo $k$k$k; done; seq 100; echo en''d\r")
+    check("a long text runs through", outer.shows("end"), outer.rows)
+    outer.type(b"\x02[g")
+    check("C-b [ g scrolls to the oldest row", outer.shows("333"), outer.rows)
+    outer.type(b"q")
+    check("q goes back", comes(lambda: not outer.shows("333", 0.01)) and outer.shows("100"), outer.rows)
+
+
+@scene
+def three_terminals(folder):
+    """Two who type and one who watches see one screen."""
+    outer = three_panes()
+    other, watcher = Outer(tool("mux", SESSION)), Outer(tool("mux", "watch", SESSION))
+    outer.type(b"clear; echo se''en\r")
+    for one in (outer, other, watcher):
+        check("each of three clients shows what one typed", one.shows("seen"), one.rows)
+    watcher.type(b"echo nev''er\r")
+    other.type(b"echo al''so\r")
+    check("what the second types comes", watcher.shows("also"), watcher.rows)
+    check("what the watcher types doesn't", not outer.shows("never", 0.3), outer.rows)
+    check("ls counts them", listed()[-2:] == ["3", "terminals"], listed())
+    same = comes(lambda: outer.rows() == other.rows() == watcher.rows())
+    check("they show the same", same, watcher.rows)
+    watcher.type(b"\x02d")
+    check("the watcher detaches", watcher.ends() and watcher.is_restored(), watcher.rows)
+    for number in (signal.SIGTERM, signal.SIGHUP):
+        other.process.send_signal(number)
+        check(f"{number.name} ends a client and brings the terminal back", other.ends() and other.is_restored(), other.rows)
+        other = Outer(tool("mux", SESSION))
+        other.status("[1]")
+    other.process.terminate()
+
+
+@scene
+def paste(folder):
+    """What is pasted arrives whole."""
+    outer = three_panes()
+    path = folder / "pasted"
+    text = "".join(chr(ord(" ") + 7 * k % 95) for k in range(PASTED)).encode()
+    outer.type(f"clear; stty raw -echo; echo re''ady; head -c {PASTED} > {path}; stty sane; echo do''ne\r".encode())
+    outer.shows("ready")
+    begun = time.monotonic()
+    outer.type(b"\x1b[200~" + text + b"\x1b[201~")
+    comes(lambda: path.exists() and path.stat().st_size >= PASTED, 90)
+    check(f"a paste of {PASTED} characters arrives whole", path.read_bytes() == text, path.stat().st_size)
+    print(f"        in {time.monotonic() - begun:.1f} s", flush=True)
+    check("and the shell goes on", outer.shows("done"), outer.rows)
+
+
+@scene
+def busy(folder):
+    """A pane that writes without end leaves the others usable."""
+    outer = three_panes()
+    outer.type(b"\x022yes\r")
+    check("yes fills its pane", comes(lambda: sum(row[40:].startswith("y ") for row in outer.rows()) > 5), outer.rows)
+    outer.type(b"\x021clear; echo us''able\r")
+    check("the pane beside it is usable", outer.shows("usable", 5), outer.rows)
+    delays = [delay(outer, letter) for letter in "abcdefghij"]
+    print(f"        a key's echo beside it: {statistics.median(delays) * 1000:.1f} ms in the median of {len(delays)}", flush=True)
+    outer.type(b"\x15\x022\x03clear\r")
+    check("C-c ends yes", comes(lambda: not any(row[40:].startswith("y ") for row in outer.rows())), outer.rows)
+    outer.type(b"\x021")
+    outer.status("[1]")
+    delays = [delay(outer, "abcdefghij"[k % 10]) for k in range(100)]
+    ordered = sorted(delays)
+    print(f"        a key's echo: {ordered[50] * 1000:.1f} ms in the median, {ordered[98] * 1000:.1f} at the 99th of 100", flush=True)
+    outer.type(b"\x15")
+
+
+def delay(outer, letter):
+    """How long a typed letter takes until it is painted."""
+    time.sleep(0.03)
+    before = len(outer.written)
+    begun = time.monotonic()
+    outer.type(letter.encode())
+    while letter.encode() not in outer.written[before:] and time.monotonic() - begun < 2:
+        time.sleep(0.0002)
+    return time.monotonic() - begun
+
+
+@scene
+def closed(folder):
+    """A pane that is closed hangs up its programs, whatever they do."""
+    outer = three_panes()
+    outer.type(b'\x021\x02"')
+    outer.status(" 1 [4]")
+    outer.type(f"echo $$ > {folder}/closed; echo no''ted; yes > /dev/null\r".encode())
+    outer.shows("noted")
+    comes(lambda: busy_panes(noted(SESSION)["shells"][0]) == {4: "yes"})
+    shell = (folder / "closed").read_text(encoding="utf-8").strip()
+    outer.type(b"\x02x")
+    check("C-b x asks where something else than a shell runs", outer.status("close yes in pane 4? y closes it"), outer.rows)
+    outer.type(b"n")
+    check("another key than y keeps it", outer.status(" 1 [4]"), outer.rows)
+    outer.type(b"\x021")
+    outer.status("[1] 4 ")
+    outer.type(b"\x024\x02x")
+    check("also right after the focus went there", outer.status("close yes in pane 4? y closes it"), outer.rows)
+    outer.type(b"y")
+    check("y closes the pane", outer.status("[1] 2  3 "), outer.rows)
+    check("and its programs end", comes(lambda: not pathlib.Path(f"/proc/{shell}").exists()), shell)
+
+
+@scene
+def ends(folder):
+    """A shell that ends closes its pane, and the last the session."""
+    outer = three_panes()
+    for keys, label in ((b"\x023", " 1  2 [3]"), (b"\x021", "[1] 2  3")):
+        outer.type(keys)
+        outer.status(label)
+    outer.type(b"exit\r")
+    check("a shell's end closes its pane, and the focus goes back", outer.status(" 2 [3]"), outer.rows)
+    outer.type(b"\x022sleep 0.5; exit\r\x023")
+    check("also where another has the focus", outer.status("[3]") and not outer.rows()[-1].startswith(" 2"), outer.rows)
+    outer.type(b"exit\r")
+    check("the last one's ends the session", outer.ends() and outer.process.returncode == 0, outer.process.returncode)
+    check("the terminal is as it was, and it is said", outer.is_restored() and outer.shows("[the session has ended]"), outer.rows)
+    check("no session is left", comes(lambda: listed() == []), listed())
+
+
+@scene
+def told(folder):
+    """What a person asks for that can't be had is told for a second, in the status row's place."""
+    outer = Outer(tool("mux", "other"))
+    outer.shows("$ ")
+    means = "means nothing; C-b ? shows the keys"
+    last = "the last pane goes with its shell, and the session with it"
+    for keys, text in ((b"\x02x", last), (b"\x02Z", f"C-b Z {means}"), (b"\x02\x01", f"C-b C-a {means}")):
+        outer.type(keys)
+        check(f"{keys!r} is told of", outer.status(text), outer.rows)
+        check("and the status comes back", outer.status("[1]", 5), outer.rows)
+    outer.resize(5, 80)
+    outer.shows(FITS)
+    outer.type(b"\x02r")
+    outer.shows("$ ")
+    comes(lambda: listed()[1:4] == ["5", "by", "80"])
+    outer.type(b'\x02"')
+    check("a split that is too small is told of", outer.status("pane 1 is too small to be split: 4 by 80"), outer.rows)
+    outer.resize(24, 80)
+    comes(lambda: listed()[1:4] == ["24", "by", "80"])
+    outer.type(b"seq 100\r\x02[\x1b[5~")
+    check("the status of the scroll mode tells how far back", outer.status("12 rows back: "), outer.rows)
+    outer.type(b"\x02%")
+    check("a command ends it first", outer.status(" 1 [2]") and outer.rows()[21].startswith("100"), outer.rows)
+    outer.type(b"\x021sleep 1; printf '\\033]0;title\\007'; sleep 1; printf '\\a'\r\x022")
+    outer.status(" 1 [2]")
+    before = len(outer.written)
+    check("a bell in another pane rings, and is told", outer.status("bell in pane 1"), outer.rows)
+    check("once, and a title's end doesn't", outer.written[before:].count(b"\x07") == 1, bytes(outer.written[before:]))
+    keypad(outer)
+    outer.type(b"\x02[\x1b[5~\x02d")
+    check("so does leaving", outer.ends() and outer.is_restored(), outer.rows)
+    subprocess.run(tool("mux", "kill", "other"), check=True)
+
+
+def keypad(outer):
+    """The keypad sends the codes of applications while the pane in focus asks for them."""
+
+    def becomes(mode, since):
+        return comes(lambda: (outer.written[since:].rfind(b"\x1b="), outer.written[since:].rfind(b"\x1b>"))[mode] >= 0)
+
+    before = len(outer.written)
+    outer.type(b"printf '\\033='\r")
+    check("a pane's keypad is the terminal's", becomes(0, before), bytes(outer.written[before:]))
+    before = len(outer.written)
+    outer.type(b"\x02o")
+    check("while that pane is in focus", becomes(1, before), bytes(outer.written[before:]))
+    before = len(outer.written)
+    outer.type(b"\x02o")
+    check("and again", becomes(0, before), bytes(outer.written[before:]))
+
+
+@scene
+def names(folder):
+    """What a program calls itself reaches no terminal raw."""
+    path = folder / "named.py"
+    path.write_text(NAMED, encoding="utf-8")
+    outer = Outer(tool("mux", "other"))
+    outer.shows("$ ")
+    outer.type(b"\x02%")
+    outer.status(" 1 [2]")
+    for name, told in ODD_NAMES:
+        outer.type(f"clear; python3 {path} {name.hex()}\r".encode())
+        comes(lambda told=told: busy_panes(noted("other")["shells"][0]).get(2) == told)
+        before = len(outer.written)
+        outer.type(b"\x02x")
+        check(f"a program that calls itself {name!r} is told of", outer.status(f"close {told} in pane 2? y closes it"), outer.rows)
+        check("and not raw", name not in outer.written[before:], bytes(outer.written[before:]))
+        outer.type(b"n")
+        wanted = f"mux: session other runs {told} in pane 2; `mux kill -f other` ends it\n"
+        check("neither by mux kill", said("kill", "other") == (1, "", wanted), said("kill", "other"))
+        outer.type(b"\x03")
+        comes(lambda: not busy_panes(noted("other")["shells"][0]))
+    outer.type(b"clear; printf '\\033[7mroam: no answer for 12 s\\033[0mthe rest|\\n'\r")
+    words = "roam: no answer for 12 sthe rest|"
+    check("what a pane shows of a silence comes as it is", outer.shows(words) and not outer.shows("leaves", 0.3), outer.rows)
+    subprocess.run(tool("mux", "kill", "-f", "other"), check=True)
+
+
+@scene
+def smaller(folder):
+    """A terminal that comes makes no session smaller, and covers nobody's."""
+    outer = Outer(tool("mux", "other"), size=(24, 100))
+    outer.shows("$ ")
+    check("a session that is started has its terminal's size", comes(lambda: listed()[1:4] == ["24", "by", "100"]), listed)
+    outer.type(b"clear; for i in 1 2 3 4 5 6 7 8 9; do printf '%060d %s\\n' $i ri''ght-$i; done\r")
+    outer.shows("right-9")
+    before = outer.rows()
+    small = Outer(tool("mux", "attach", "other"), size=(12, 40))
+    wanted = ["too small: 12 by 40 of 24 by 100", "C-b r fits this terminal, and cuts what", "is wider", "C-b d leaves"]
+    check("a smaller one is told the key", comes(lambda: [row.rstrip() for row in small.rows()[:4]] == wanted), small.rows)
+    small.type(b"echo un''seen\r\x1b[200~echo pas''ted\r\x1b[201~")
+    check("what is typed there comes nowhere", not outer.shows("unseen", 0.5) and not outer.shows("pasted", 0.2), outer.rows)
+    small.type(b"\x02d")
+    check("it leaves", small.ends() and small.is_restored() and small.shows("[detached]"), small.rows)
+    check("and nothing is cut", listed()[1:4] == ["24", "by", "100"] and outer.rows() == before, outer.rows)
+    large = Outer(tool("mux", "attach", "other"), size=(40, 120))
+    is_told = comes(lambda: large.rows()[23].startswith("24 by 100, as another terminal has it; C-b r fits this one"))
+    check("a larger one beside it shows the session as it is, and is told the key", is_told and large.shows("right-9"), large.rows)
+    check("which disturbs nobody", outer.rows() == before, outer.rows)
+    large.type(b"\x02r")
+    check("C-b r has the session be as large", large.status("[1]") and comes(lambda: listed()[1:4] == ["40", "by", "120"]), large.rows)
+    check("and the other is covered", outer.shows("too small: 24 by 100 of 40 by 120") and outer.shows(FITS), outer.rows)
+    large.type(b"\x02d")
+    outer.type(b"\x02r")
+    check("until the key is typed there", large.ends() and outer.shows("right-9") and outer.status("[1]"), outer.rows)
+    outer.type(b"\x02?")
+    is_narrow = outer.shows("these keys, until the next key") and not any(row[80:].strip() for row in outer.rows())
+    check("the keys fit 80 columns", is_narrow, outer.rows)
+    subprocess.run(tool("mux", "kill", "other"), check=True)
+
+
+@scene
+def full(folder):
+    """Sixteen terminals are taken: another is told so, and comes in once one has left."""
+    outer = Outer(tool("mux", "other"))
+    outer.shows("$ ")
+    links = [StartLink(os.path.join(os.environ["XDG_RUNTIME_DIR"], "roam", "other", "terminals"), False) for _ in range(15)]
+    for link in links:
+        link.connect()
+    check("fifteen more are taken", all(link.comes(5) for link in links), listed())
+    late = Outer(tool("mux", "other"))
+    full = "no more terminals are taken: 16 are there"
+    check("a seventeenth is told so", late.shows(f"{full}; tried anew in 1 s; C-c or q leaves"), late.rows)
+    check("so is a send", said("send", "other", "char 61") == (1, "", f"mux: {full}\n"), said("send", "other", "char 61"))
+    check("and a capture", said("capture", "other") == (1, "", f"mux: {full}\n"), said("capture", "other"))
+    links[0].close()
+    check("it comes in once one has left", late.shows("$ ") and late.status("[1]"), late.rows)
+    for link in links:
+        link.close()
+    late.type(b"\x02d")
+    check("and leaves", late.ends() and late.is_restored(), late.rows)
+    subprocess.run(tool("mux", "kill", "other"), check=True)

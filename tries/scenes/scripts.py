@@ -1,0 +1,36 @@
+"""Other scripts that try roam, each as a scene."""
+import subprocess
+
+from tried import PROGRAM, check, scene, script
+
+
+@scene
+def shared(folder):
+    """The short form of what is tried of terminals that come and go."""
+    run = subprocess.run(script("try_starts", "20", PROGRAM), stdout=subprocess.PIPE, stderr=subprocess.STDOUT, check=False)
+    print(run.stdout.decode("utf-8", "replace"), end="", flush=True)
+    check("all of them share a client start", run.returncode == 0, run.returncode)
+
+
+@scene
+def guesses(folder):
+    """What is tried of guesses."""
+    run = subprocess.run(script("try_guesses", PROGRAM), stdout=subprocess.PIPE, stderr=subprocess.STDOUT, check=False)
+    print(run.stdout.decode("utf-8", "replace"), end="", flush=True)
+    check("what keys are guessed to show leaves no trace", run.returncode == 0, run.returncode)
+
+
+@scene
+def pages(folder):
+    """What is tried of the commands that pages and helps name."""
+    run = subprocess.run(script("try_pages", PROGRAM), stdout=subprocess.PIPE, stderr=subprocess.STDOUT, check=False)
+    print(run.stdout.decode("utf-8", "replace"), end="", flush=True)
+    check("each command of pages and helps does what they say", run.returncode == 0, run.returncode)
+
+
+@scene
+def traced(folder):
+    """What the page on the live session tells of files, sockets and processes."""
+    run = subprocess.run(script("try_traced", PROGRAM), stdout=subprocess.PIPE, stderr=subprocess.STDOUT, check=False)
+    print(run.stdout.decode("utf-8", "replace"), end="", flush=True)
+    check("each file, socket and process of an attach stands in docs/LIVE.md", run.returncode == 0, run.returncode)

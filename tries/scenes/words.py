@@ -1,0 +1,113 @@
+"""The words of `mux` that a script uses, what they refuse, and the prefix."""
+import os
+import signal
+import subprocess
+import xml.etree.ElementTree
+
+from tried import Outer, PROGRAM, check, comes, failed, listed, noted, said, scene, tool
+from roam_live.bindings import Typing, help_with
+from roam_live.choices import PREFIXES
+from roam_live.keys import Keys
+from roam_live.program import TOOLS
+
+
+@scene
+def words(folder):
+    """The words of `mux` that a script uses, and what they refuse."""
+    check("mux --version tells the program's", said("--version")[:2] == (0, "roam 0.1.0\n"), said("--version"))
+    helps = {word: said(word, "--help") for word in "attach new detach ls list watch kill send capture ssh far help".split()}
+    odd = {word: told for word, told in helps.items() if told[0] != 0 or not told[1].startswith(f"usage: mux {word} ")}
+    check("each word of mux has a help", not odd, odd)
+    check("detach tells what leaves", said("detach", "other")[0] == 1 and "C-b d" in said("detach")[2], said("detach"))
+    for word in ("attach", "send", "capture", "watch"):
+        told = said(word, "other", *(["char 61"] if word == "send" else []))
+        check(f"mux {word} refuses a session that isn't there", told == (1, "", "mux: no session other is running\n"), told)
+    check("mux new refuses what is no command", said("new", "-d", "other", "/no/command")[0] == 1, said("ls"))
+    check("mux new -d starts a session", said("new", "-d", "other", "/bin/sh", "-c", "echo st''arted; exec cat") == (0, "", ""), said("ls"))
+    check("and refuses one that is there", said("new", "-d", "other")[0] == 1, said("ls"))
+    check("mux list is ls", said("list") == said("ls") and "other" in said("ls")[1], said("list"))
+    check("mux send ends once all acts were taken", said("send", "other", "char 65", "char e9", "split right") == (0, "", ""), listed())
+    rows = []
+    is_shown = comes(lambda: rows.append(said("capture", "other")[1].split("\n")) or "\u2502started" in rows[-1][0], 2)
+    check("mux capture shows the rows", is_shown and rows[-1][0].startswith("started ") and rows[-1][1].startswith("e\u00e9 "), rows[-1:])
+    check("a row for each, without spaces at the ends", len(rows[-1]) == 25 and rows[-1][23:] == [" 1 [2]", ""], rows[-1])
+    told = said("capture", "--svg", "other")
+    check("mux capture --svg draws them", told[0] == 0 and "started" in told[1] and xml.etree.ElementTree.fromstring(told[1]), told)
+    for act, why in (("size 1 1", "a session has 4 to 200 rows and 8 to 500 columns"), ("focus 7", "there is no pane 7")):
+        told = said("send", "other", "char 61", act)
+        check(f"mux send refuses {act}", told == (1, "", f"mux: {act!r} can't be done: {why}. None was typed\n"), told)
+    is_known = said("send", "other", "split down") == said("send", "other", "focus 3", "close") == (0, "", "")
+    check("what was asked for just before is known", is_known, listed())
+    slips()
+    told = said("send", "other", "char 61", "split up")
+    check("mux send refuses what is no act", told[0] == 1 and told[2].startswith("mux: 'split up' is no act"), told)
+    check("and types none of the others", "a" not in said("capture", "other")[1].replace("started", ""), said("ls"))
+    all_starts()
+    subprocess.run(tool("mux", "kill", "-f", "other"), check=True)
+
+
+def slips():
+    """What is nearly a word of mux starts no session, and what is quit behind a pipe says nothing."""
+    for name, word in (("lst", "ls"), ("a", "attach"), ("list-sessions", "ls"), ("new-session", "new"), ("kill-session", "kill")):
+        wanted = f"mux: {name!r} is no word of mux; {word} is, and `mux -- {name}` takes it as a session's name\n"
+        check(f"mux {name} is refused with the word that is meant", said(name) == (2, "", wanted), said(name))
+    check("and starts nothing", "lst" not in listed() and "a" not in listed(), listed())
+    run = subprocess.run(f"{TOOLS / 'mux'} help | head -1", shell=True, stdout=subprocess.PIPE, stderr=subprocess.PIPE, check=False)
+    check("mux help | head -1 is a line", run.stdout.count(b"\n") == 1 and run.stderr == b"" and run.stdout.startswith(b"mux "), run)
+    for called, wanted in (("roam mux", "roam mux"), ("./roam mux", "./roam mux"), ("", "mux")):
+        run = subprocess.run(tool("mux", "help"), stdout=subprocess.PIPE, env={**os.environ, "ROAM_CALLED": called}, check=True)
+        check(f"mux help names {wanted}", run.stdout.decode().startswith(f"{wanted} [NAME] | WORD"), run.stdout[:80])
+
+
+def all_starts():
+    """A session that has had all client starts of its life says so; the one that is there goes on."""
+    served = os.path.join(os.environ["XDG_RUNTIME_DIR"], "roam", "other")
+    for _ in range(64):
+        words = [PROGRAM, "attach", "--dir", served, "--turns", "3"]
+        subprocess.run(words, stdout=subprocess.DEVNULL, stderr=subprocess.DEVNULL, check=False)
+    check("ls tells how many starts there were, where they are many", comes(lambda: "64 of 64 starts" in " ".join(listed())), listed())
+    check("the start that is there goes on", said("send", "other", "char 61") == (0, "", ""), said("ls"))
+    os.kill(noted("other")["terminals"][0], signal.SIGKILL)
+    for word in (["capture", "other"], ["send", "other", "char 61"]):
+        told = said(*word)
+        check(f"mux {word[0]} tells that the session hears no more starts", told[0] == 1 and "has had the 64" in told[2], told)
+
+
+def asked_of(typing, text):
+    """What the last key of a text asks for."""
+    keys, found = Keys(), ([], "")
+    for key in keys.fed(text) + keys.ended():
+        found = typing.asked(key, 1.0, 24)
+    return found
+
+
+@scene
+def prefix(folder):
+    """Another key as the prefix."""
+    before = len(failed)
+    for name, letter in PREFIXES.items():
+        text = letter.encode()
+        found = asked_of(Typing(name), text + b"d"), asked_of(Typing(name), text * 2), asked_of(Typing(name), text * 3 + b"x")
+        own = ["key return"] if letter == "\r" else [f"char {ord(letter):x}"]
+        is_told = f"{name} itself" in help_with(name) and (name == "C-b" or "C-b" not in help_with(name))
+        if found != (([], "detach"), (own, ""), ([], "close")) or not is_told:
+            check(f"{name} as the prefix", False, found)
+    check(f"{len(PREFIXES)} keys may be the prefix", len(PREFIXES) == 30 and len(failed) == before, PREFIXES)
+    for name in ("C-B", "C-[", "C-1", "a", "C-", "\x01"):
+        told = subprocess.run(tool("mux", "detach"), stderr=subprocess.PIPE, env={**os.environ, "ROAM_PREFIX": name}, check=False).stderr
+        check(f"ROAM_PREFIX={name!r} is refused by name", told.startswith(f"mux: ROAM_PREFIX is {name!r}, ".encode()), told)
+    outer = Outer(tool("mux", "other"), environment={"ROAM_PREFIX": "M-a"})
+    check("and before a session is started", outer.shows("mux: ROAM_PREFIX is 'M-a'") and outer.ends() and not listed(), outer.rows)
+    outer = Outer(tool("mux", "other"), environment={"ROAM_PREFIX": "C-a"})
+    outer.shows("$ ")
+    outer.type(b"\x01%")
+    check("ROAM_PREFIX=C-a makes C-a the prefix", outer.status(" 1 [2]"), outer.rows)
+    outer.type(b"\x01?")
+    check("the help names it", outer.shows("C-a      C-a itself") and not outer.shows("C-b", 0.1), outer.rows)
+    outer.type(b"q")
+    outer.status(" 1 [2]")
+    outer.type(b"cat -v\r\x01\x01\x02d\r")
+    check("typed twice it sends itself, and C-b is a key as any", outer.shows("^A^Bd"), outer.rows)
+    outer.type(b"\x01d")
+    check("C-a d detaches", outer.ends() and outer.is_restored() and outer.shows("[detached]"), outer.rows)
+    subprocess.run(tool("mux", "kill", "-f", "other"), check=True)
