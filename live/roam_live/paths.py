@@ -41,10 +41,10 @@ MOST_UNTOLD = 32
 TOLD_FOR = 1.0
 MOST_TOLD = 4096
 
-# An end says something each so many seconds, and asks for an answer where none has come for so many, or for some less where something goes
-# anyway; where for so many nothing that it sent has arrived the path is silent, and sooner where an answer is owed. An end that nobody
-# calls says nothing after so many.
-HEARTBEAT, UNANSWERED, UNASKED = 3.0, 4.0, 2.5
+# An end says something each so many seconds, a little later than the cores do, each 3 s: what they say tells as much. What goes anyway asks
+# for an answer where none has come for so long, and after so many seconds it is asked for alone; where for so many nothing that was sent has
+# arrived the path is silent, and sooner where an answer is owed. An end that nobody calls says nothing after so many.
+HEARTBEAT, UNANSWERED = 3.2, 4.0
 SILENT, SILENT_ASKED = 7.0, 4.0
 ASLEEP = 60.0
 
@@ -542,7 +542,7 @@ class Path:
         if self.seal.is_spent():
             return
         bundles = [self.bundles.bundle(piece) for piece in pieces]
-        if bundles and all(bundle and bundle.is_once for bundle in bundles) and now > (self.answered_at or now) + UNASKED:
+        if bundles and all(bundle and bundle.is_once for bundle in bundles) and now > (self.answered_at or now) + HEARTBEAT:
             asks = asks or ASKS
         packet = self.seal.sealed(self.text(now, pieces, asks))
         own = [self.place] if self.place else []

@@ -144,7 +144,7 @@ class Lives(Net):
         self.assertIn(self.count[self.near] - calls, (59, 60, 61))
 
     def test_idle(self):
-        """Each end says something each 3 s, and asks where nothing was acknowledged for 4 s, so that it stays sound."""
+        """Each end says something each 3.2 s, and asks where nothing was acknowledged for 4 s, so that it stays sound."""
         self.begin()
         count = sum(self.count.values())
         for _ in range(60):
@@ -153,23 +153,25 @@ class Lives(Net):
         self.assertLess(sum(self.count.values()) - count, 800)
 
     def test_idle_session(self):
-        """A session in which nothing happens costs 80 packets a minute, both ways: those of the cores, each of which asks, and answers."""
+        """A session in which nothing happens costs the packets of its cores, each 3 s both ways, and no more: each acknowledges the other."""
         self.send(self.near, 1, typed(1))
         self.send(self.far, 1, shown(1))
         self.begin()
-        count, size, said = sum(self.count.values()), sum(self.bytes.values()), [self.now]
+        count, size = sum(self.count.values()), sum(self.bytes.values())
+        said = {self.near: self.now, self.far: self.now + 1}
+        texts = {self.near: typed(2, count=0), self.far: shown(1)}
 
         def speak():
-            if self.now >= said[-1] + 3:
-                said.append(self.now)
-                self.send(self.near, 1, typed(2, count=0))
-                self.send(self.far, 1, shown(1))
+            for path, text in texts.items():
+                if self.now >= said[path] + 3.005:
+                    said[path] = self.now
+                    self.send(path, 1, text)
 
-        for _ in range(600):
-            self.run_for(1, speak)
+        for _ in range(6000):
+            self.run_for(0.1, speak)
             self.assertTrue(self.near.is_sound() and self.far.is_sound())
-        self.assertLess(sum(self.count.values()) - count, 830)
-        self.assertLess((sum(self.bytes.values()) - size) / 10 + 83 * 28, 7000)
+        self.assertLess(sum(self.count.values()) - count, 410)
+        self.assertLess((sum(self.bytes.values()) - size) / 10 + 41 * 28, 4300)
 
     def test_silent(self):
         """It is silent 4 s after what nobody answers, and 7 s after the last answer at most, and sound again with the first that passes."""
