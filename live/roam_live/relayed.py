@@ -61,12 +61,15 @@ UNPACKED = 1 << 16
 # Before its greeting the other end may say so much else: what a shell prints at its start.
 NOISE_LIMIT = 1 << 16
 
-# So many seconds an end says nothing at most.
+# So many seconds an end says nothing at most; and so many the rest of a large instruction has for coming, so that it is packed whole.
 HEARTBEAT = 3.0
+REST = 0.1
 
-# A datagram names its instruction in these bytes; behind them stand its place in it and how many there are.
+# A datagram names its instruction in these bytes; behind them stand its place in it and how many there are. Each but the last carries so
+# many bytes of it.
 INSTRUCTION = slice(28, 36)
 PLACE = struct.Struct(">36xHH")
+FRAGMENT = 1200
 
 
 class BadWords(Fault):
@@ -177,6 +180,17 @@ class Waiting:
         found = [one for other, one in self.datagrams if other == peer and instruction_of(one) == first]
         return (peer, found) if is_last(found[-1]) else (0, [])
 
+    def first_begun(self) -> tuple[int, bytes] | None:
+        """The oldest datagram's peer and instruction, where it is the first of a large one of which more may come; else None."""
+        if not self.datagrams:
+            return None
+        peer, datagram = self.datagrams[0]
+        first = instruction_of(datagram)
+        if not first or self.newest.get(peer) != first:
+            return None
+        index, count = PLACE.unpack_from(datagram)
+        return (peer, first) if index == 0 and (count - 1) * FRAGMENT > LARGE else None
+
     def drop_first(self) -> None:
         """Drops the oldest datagram's instruction."""
         peer, datagram = self.take()
@@ -232,6 +246,9 @@ class RelayStream:
         self.packs, self.has_begun = False, not has_lzma()
         self.packed = bytearray()
         self.said: dict[int, tuple[bytes, int]] = {}
+        # The large instruction whose rest is waited for, and until when.
+        self.awaited: tuple[int, bytes] | None = None
+        self.awaited_until = 0.0
 
     def is_silent(self, seconds: float) -> bool:
         """Whether for so long nothing has come, or nothing of what was sent has arrived: a stream may be stuck in one direction alone."""
@@ -242,7 +259,12 @@ class RelayStream:
         return seconds + (min(self.heard, self.moved) if self.sent > self.acknowledged else self.heard)
 
     def due_at(self) -> float:
-        """The moment at which this end has to say something: that it is there, or that what came has come."""
+        """The moment at which this end has to say something: that it is there, that what came has come, or what waited for its rest."""
+        is_awaited = self.awaited is not None and time.monotonic() < self.awaited_until
+        return min(self.awaited_until, self._heartbeat_at()) if is_awaited else self._heartbeat_at()
+
+    def _heartbeat_at(self) -> float:
+        """The moment at which this end has to say that it is there, or that what came has come."""
         return HEARTBEAT + (min(self.spoke, self.told_at) if self.had > self.told else self.spoke)
 
     def tell(self, peer: int, text: bytes) -> None:
@@ -264,11 +286,13 @@ class RelayStream:
         if self.session and not self.has_begun:
             self.has_begun = True
             self.tell(0, UNPACKS)
-        if self.had - self.told >= TOLD_AFTER or time.monotonic() >= self.due_at():
+        if self.had - self.told >= TOLD_AFTER or time.monotonic() >= self._heartbeat_at():
             self.told, self.told_at = self.had, time.monotonic()
             self.tell(0, COUNT.pack(HAD, self.had))
         while waiting.datagrams and self.session and len(self.going) < TOLD_AFTER and self.sent - self.acknowledged < WINDOW:
             peer, texts = waiting.first_whole()
+            if not texts and self._awaits(waiting):
+                break
             if texts and self._is_repeat(peer, texts):
                 waiting.drop_first()
             elif self.packs and sum(map(len, texts)) > LARGE:
@@ -276,6 +300,13 @@ class RelayStream:
                 self._tell_packed(peer, texts)
             else:
                 self._tell_counted(*waiting.take())
+
+    def _awaits(self, waiting: Waiting) -> bool:
+        """Whether the rest of the oldest instruction is waited for, which is packed once it is whole."""
+        begun = waiting.first_begun() if self.packs else None
+        if begun != self.awaited:
+            self.awaited, self.awaited_until = begun, time.monotonic() + REST
+        return begun is not None and time.monotonic() < self.awaited_until
 
     def _is_repeat(self, peer: int, texts: list[bytes]) -> bool:
         """Whether an instruction says word for word what is on its way to its peer; what is said is noted."""

@@ -170,6 +170,25 @@ class Goes(Case):
         self.assertEqual(self.carried()[0], [(7, text) for text in large])
         self.assertEqual((self.near.sent, self.far.packed), (self.far.had, b""))
 
+    def test_waits_for_the_rest(self):
+        """A large instruction that comes in parts is packed once it is whole; what doesn't come in 0.1 s isn't waited for."""
+        large = instruction(1, bytes(range(256)) * 800)
+        self.near.packs = True
+        self.carried()
+        self.add(7, large[:50])
+        self.assertEqual((self.carried()[0], self.near.due_at()), ([], self.now + 0.1))
+        self.now += 0.09
+        self.add(7, large[50:])
+        self.assertEqual(self.carried()[0], [(7, text) for text in large])
+        self.assertLess(self.near.sent, sum(map(len, large)) // 10)
+        self.add(7, instruction(2, bytes(9000))[:-1])
+        self.assertEqual(self.carried()[0], [])
+        self.now += 0.1
+        self.assertEqual(self.carried()[0], [(7, text) for text in instruction(2, bytes(9000))[:-1]])
+        self.add(7, instruction(3, bytes(9000))[:2])
+        self.add(7, instruction(4, b"newer"))
+        self.assertEqual(self.carried()[0], [(7, text) for text in instruction(4, b"newer")])
+
     def test_unpacked(self):
         """To an end that hasn't said so it goes as ever, as does what isn't whole yet."""
         large = instruction(1, bytes(9000))
