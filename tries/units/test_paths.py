@@ -7,7 +7,8 @@ from unittest import mock
 from aids import Case
 from roam_live import paths
 from roam_live.bundles import MOST_BUNDLES, PIECE
-from roam_live.paths import ASKS, ASKS_LARGE, FIRST, HEAD, HELD, LEAST, MOMENT, Arrivals, Best, PathPace, Path, SentPacket, States, Trips, frames_in
+from roam_live.paths import (ASKS, ASKS_LARGE, FIRST, HEAD, HELD, LEAST, MOMENT, Arrivals, Best, Path, PathPace, SentPacket, States,
+                             Trips, frames_in)
 from roam_live.relayed import BELL, ENDED, KEYPAD, KILLED, LEAVES, RECTS, Waiting
 from roam_live.sealed import LONGEST_PACKET, LONGEST_TEXT, MOST_PACKETS, Seal
 from test_bundles import datagrams, noise, shown, typed
@@ -153,7 +154,7 @@ class Lives(Net):
         self.assertLess(sum(self.count.values()) - count, 800)
 
     def test_idle_session(self):
-        """A session in which nothing happens costs the packets of its cores, each 3 s both ways, and no more: each acknowledges the other."""
+        """A session in which nothing happens costs the packets of its cores, each 3 s both ways, and no more: each tells of the other."""
         self.send(self.near, 1, typed(1))
         self.send(self.far, 1, shown(1))
         self.begin()

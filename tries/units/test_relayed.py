@@ -11,8 +11,8 @@ from aids import Case
 from roam_live import rects
 from roam_live.bundles import LONGEST_TEXT, joined, pack_large
 from roam_live.carriers import LONGEST, SHORTEST
-from roam_live.relayed import (BELL, COUNT, ENDED, HAD, HEADER, MOST_TOLD, PACKED, PACKED_HEAD, RECTS, UNPACKS, BadWords, RelayStream, Waiting,
-                               greeting)
+from roam_live.relayed import (BELL, COUNT, ENDED, HAD, HEADER, MOST_TOLD, PACKED, PACKED_HEAD, RECTS, UNPACKS, BadWords, RelayStream,
+                               Waiting, greeting)
 
 
 def frame(peer, text):
