@@ -8,6 +8,7 @@ import ipaddress
 import math
 import os
 import pathlib
+import resource
 import signal
 import socket
 import struct
@@ -44,11 +45,32 @@ def is_wanted() -> bool:
 
 
 def hide_memory() -> None:
-    """Keeps the system from writing down this process's memory where it fails, and this user's other programs from reading it."""
+    """Keeps the system from writing down this process's memory where it fails, and this user's other programs from reading it.
+
+    Where /proc hides what a user may not read, such a process would be hidden from its own user, who finds its relays there: then core files
+    alone are kept from it.
+    """
+    if hides_processes():
+        limit_core()
+        return
     with contextlib.suppress(ImportError, OSError, AttributeError):
         import ctypes
 
         ctypes.CDLL(None).prctl(PR_SET_DUMPABLE, 0, 0, 0, 0)
+
+
+def hides_processes(mounts: str = "/proc/self/mountinfo") -> bool:
+    """Whether /proc is mounted so that processes are hidden from who may not read them."""
+    with contextlib.suppress(OSError), open(mounts, encoding="utf-8", errors="replace") as lines:
+        words = [line.split() for line in lines if " /proc " in line]
+        return any("hidepid=" in found[-1] and "hidepid=0" not in found[-1] and "hidepid=off" not in found[-1] for found in words)
+    return False
+
+
+def limit_core() -> None:
+    """Has the system write no core file of this process, or of those that it spawns and that don't ask for one."""
+    with contextlib.suppress(OSError, ValueError):
+        resource.setrlimit(resource.RLIMIT_CORE, (0, resource.getrlimit(resource.RLIMIT_CORE)[1]))
 
 
 def seal_of(key: bytes, is_near: bool) -> Seal | None:

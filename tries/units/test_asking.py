@@ -202,6 +202,23 @@ class Parted(Case):
         with mock.patch.dict(sys.modules, {"ctypes": None}):
             asking.hide_memory()
 
+    def test_hidden_where_processes_are(self):
+        """Where /proc hides what a user may not read core files alone are kept from it: its user has to find it there."""
+        mounts = self.made_folder() / "mountinfo"
+        for options, hides in (("rw", False), ("rw,hidepid=0", False), ("rw,hidepid=off", False), ("rw,gid=9,hidepid=2", True),
+                               ("rw,hidepid=invisible", True)):
+            mounts.write_text(f"21 1 0:20 / /sys rw - sysfs sysfs rw,hidepid=2\n22 1 0:21 / /proc rw,nosuid shared:5 - proc proc {options}\n",
+                              encoding="utf-8")
+            self.assertEqual(asking.hides_processes(str(mounts)), hides, options)
+        self.assertFalse(asking.hides_processes(str(mounts.parent / "none")))
+        limits = self.patch_of(asking.resource, "setrlimit")
+        library = self.patch("ctypes.CDLL")
+        with mock.patch.object(asking, "hides_processes", return_value=True):
+            asking.hide_memory()
+        self.assertEqual((limits.call_args[0][1][0], library.call_count), (0, 0))
+        limits.side_effect = ValueError("no")
+        asking.limit_core()
+
 
 class Finds(Case):
     """Where the other end is looked for."""
