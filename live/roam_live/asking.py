@@ -33,6 +33,9 @@ SEALED_HEAD = struct.Struct(f">cBH{KEY_LENGTH}s")
 # The call by which a process says whether its memory may be written down.
 PR_SET_DUMPABLE = 4
 
+# How /proc is told to hide nothing.
+SHOWN = ("hidepid=0", "hidepid=off")
+
 # So often it is asked anew where the other end of a path may be while it isn't heard, and for another path; so many places are called.
 ASKS_AGAIN = 30.0
 ASKS_FOR_ANOTHER = 1.0
@@ -47,8 +50,8 @@ def is_wanted() -> bool:
 def hide_memory() -> None:
     """Keeps the system from writing down this process's memory where it fails, and this user's other programs from reading it.
 
-    Where /proc hides what a user may not read, such a process would be hidden from its own user, who finds its relays there: then core files
-    alone are kept from it.
+    Where /proc hides what a user may not read, such a process would be hidden from its own user, who finds its relays there: then it is
+    core files alone that aren't written.
     """
     if hides_processes():
         limit_core()
@@ -62,8 +65,8 @@ def hide_memory() -> None:
 def hides_processes(mounts: str = "/proc/self/mountinfo") -> bool:
     """Whether /proc is mounted so that processes are hidden from who may not read them."""
     with contextlib.suppress(OSError), open(mounts, encoding="utf-8", errors="replace") as lines:
-        words = [line.split() for line in lines if " /proc " in line]
-        return any("hidepid=" in found[-1] and "hidepid=0" not in found[-1] and "hidepid=off" not in found[-1] for found in words)
+        options = [option for line in lines if " /proc " in line for option in line.split()[-1].split(",")]
+        return any(option.startswith("hidepid=") and option not in SHOWN for option in options)
     return False
 
 

@@ -207,8 +207,8 @@ class Parted(Case):
         mounts = self.made_folder() / "mountinfo"
         for options, hides in (("rw", False), ("rw,hidepid=0", False), ("rw,hidepid=off", False), ("rw,gid=9,hidepid=2", True),
                                ("rw,hidepid=invisible", True)):
-            mounts.write_text(f"21 1 0:20 / /sys rw - sysfs sysfs rw,hidepid=2\n22 1 0:21 / /proc rw,nosuid shared:5 - proc proc {options}\n",
-                              encoding="utf-8")
+            lines = ["21 1 0:20 / /sys rw - sysfs sysfs rw,hidepid=2", f"22 1 0:21 / /proc rw,nosuid shared:5 - proc proc {options}"]
+            mounts.write_text("\n".join(lines), encoding="utf-8")
             self.assertEqual(asking.hides_processes(str(mounts)), hides, options)
         self.assertFalse(asking.hides_processes(str(mounts.parent / "none")))
         limits = self.patch_of(asking.resource, "setrlimit")
