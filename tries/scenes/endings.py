@@ -25,14 +25,14 @@ IDLE = 12.0
 
 @scene
 def killed(folder):
-    """`mux kill` ends a session, its programs, and its clients."""
+    """`mux kill` ends a session, its programs, and its front ends."""
     outer = Outer(tool("mux", "other"))
     outer.shows("$ ")
     outer.type(f"echo $$ > {folder}/shell; echo no''ted\r".encode())
     outer.shows("noted")
     shell = int((folder / "shell").read_text(encoding="utf-8"))
     subprocess.run(tool("mux", "kill", "other"), check=True)
-    check("mux kill ends a client", outer.ends() and outer.is_restored(), outer.rows)
+    check("mux kill ends a front end", outer.ends() and outer.is_restored(), outer.rows)
     check("and the shell", comes(lambda: not pathlib.Path(f"/proc/{shell}").exists()), shell)
     check("no session is left then", listed() == [], listed())
     run = subprocess.run(tool("mux", "kill", "other"), stderr=subprocess.PIPE, check=False)
@@ -90,7 +90,8 @@ def idle(folder):
     time.sleep(IDLE)
     used = (processor_time(processes) - before) * 60 / IDLE
     often = (wakeups(processes) - woken) / IDLE
-    print(f"        nine idle panes and a client take {used:.2f} s of processor a minute, and wake {often:.1f} times a second", flush=True)
+    told = f"{used:.2f} s of processor a minute, and wake {often:.1f} times a second"
+    print(f"        nine idle panes and a front end take {told}", flush=True)
     if b"__asan_init" in pathlib.Path(PROGRAM).read_bytes():
         print("skipped that it is below half a second: the program is built with checks of its memory", flush=True)
     else:
@@ -218,20 +219,20 @@ def earlier(folder):
 
 @scene
 def many(folder):
-    """Many `mux ls` beside clients that come and go, and terminals that hang up at any moment: nothing comes that nobody foresaw."""
+    """Many `mux ls` beside front ends that come and go, and terminals that hang up at any moment: nothing comes that nobody foresaw."""
     first = Outer(tool("mux", "other"))
     first.shows("$ ")
-    runs, clients = [], []
+    runs, front_ends = [], []
     for number in range(LISTED):
         if number % 3 == 0:
-            clients.append(Outer(tool("mux", "watch", "other")))
-        elif number % 3 == 1 and len(clients) > 2:
-            clients[-3].process.send_signal((signal.SIGTERM, signal.SIGKILL, signal.SIGHUP)[len(clients) % 3])
+            front_ends.append(Outer(tool("mux", "watch", "other")))
+        elif number % 3 == 1 and len(front_ends) > 2:
+            front_ends[-3].process.send_signal((signal.SIGTERM, signal.SIGKILL, signal.SIGHUP)[len(front_ends) % 3])
         runs.append(subprocess.run(tool("mux", "ls"), stdout=subprocess.DEVNULL, stderr=subprocess.PIPE, check=False))
-    for client in clients:
-        client.process.terminate()
-    found = unforeseen([run.stderr for run in runs] + [bytes(client.written) for client in clients])
-    check(f"{LISTED} times ls beside clients that come and go: all ends as it should", not found, found)
+    for front_end in front_ends:
+        front_end.process.terminate()
+    found = unforeseen([run.stderr for run in runs] + [bytes(front_end.written) for front_end in front_ends])
+    check(f"{LISTED} times ls beside front ends that come and go: all ends as it should", not found, found)
     print(f"        {sum(run.returncode != 0 for run in runs)} of them ended with another status than 0", flush=True)
     stopped()
     found = unforeseen([hung_up(folder / "said")])
@@ -245,7 +246,7 @@ def unforeseen(texts):
 
 
 def hung_up(path):
-    """What clients say whose terminals hang up, each a bit later than the one before."""
+    """What front ends say whose terminals hang up, each a bit later than the one before."""
     with open(path, "ab") as said:
         for number in range(HANG_UPS):
             master, slave = pty.openpty()
@@ -261,17 +262,17 @@ def hung_up(path):
 
 
 def stopped():
-    """A client that is stopped and continued from elsewhere, behind a shell, is there again with fg."""
+    """A front end that is stopped and continued from elsewhere, behind a shell, is there again with fg."""
     if not shutil.which("bash"):
         return
     outer = Outer(["bash", "--norc", "--noprofile", "-i"])
     outer.shows("$ ")
     outer.type(f"{TOOLS / 'mux'} other\r".encode())
     outer.status("[1]")
-    client = children(outer.process.pid)[0]
-    os.kill(client, signal.SIGSTOP)
+    front_end = children(outer.process.pid)[0]
+    os.kill(front_end, signal.SIGSTOP)
     outer.shows("Stopped")
-    os.kill(client, signal.SIGCONT)
+    os.kill(front_end, signal.SIGCONT)
     time.sleep(0.3)
     outer.type(b"fg\r")
     check("stopped, continued and brought to the fore it is there again", outer.status("[1]"), outer.rows)

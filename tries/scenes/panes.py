@@ -66,14 +66,14 @@ def panes(folder):
 
 @scene
 def leaving(folder):
-    """Detaching leaves the session, and the terminal as it was; a client that is killed is followed by another."""
+    """Detaching leaves the session, and the terminal as it was; a front end that is killed is followed by another."""
     outer = three_panes()
     outer.type(b"clear; echo la''st\r")
     outer.shows("last")
     time.sleep(0.3)
     before = outer.rows()
     outer.type(b"\x02d")
-    check("C-b d ends the client with status 0", outer.ends() and outer.process.returncode == 0, outer.process.returncode)
+    check("C-b d ends the front end with status 0", outer.ends() and outer.process.returncode == 0, outer.process.returncode)
     check("the terminal is as it was", outer.is_restored(), bytes(outer.written[-200:]))
     check("it says so", outer.shows("[detached]"), outer.rows)
     check("the session goes on", listed()[:7] == [SESSION, "24", "by", "80", "3", "panes", "0"], listed())
@@ -144,7 +144,7 @@ def three_terminals(folder):
     other, watcher = Outer(tool("mux", SESSION)), Outer(tool("mux", "watch", SESSION))
     outer.type(b"clear; echo se''en\r")
     for one in (outer, other, watcher):
-        check("each of three clients shows what one typed", one.shows("seen"), one.rows)
+        check("each of three front ends shows what one typed", one.shows("seen"), one.rows)
     watcher.type(b"echo nev''er\r")
     other.type(b"echo al''so\r")
     check("what the second types comes", watcher.shows("also"), watcher.rows)
@@ -156,7 +156,7 @@ def three_terminals(folder):
     check("the watcher detaches", watcher.ends() and watcher.is_restored(), watcher.rows)
     for number in (signal.SIGTERM, signal.SIGHUP):
         other.process.send_signal(number)
-        check(f"{number.name} ends a client and brings the terminal back", other.ends() and other.is_restored(), other.rows)
+        check(f"{number.name} ends a front end and brings the terminal back", other.ends() and other.is_restored(), other.rows)
         other = Outer(tool("mux", SESSION))
         other.status("[1]")
     other.process.terminate()

@@ -173,13 +173,13 @@ def tmux(folder):
 
 @scene
 def in_tmux(folder):
-    """Where tmux is the outer terminal a client shows the same, and leaves what stood there."""
+    """Where tmux is the outer terminal a front end shows the same, and leaves what stood there."""
     if not shutil.which("tmux"):
         return
     outer = three_panes()
     tmux = Tmux(f"echo kept; {TOOLS / 'mux'} {SESSION}; echo status $?", *outer.size)
     is_same = comes(lambda: tmux.rows() == [row.rstrip() for row in outer.rows()])
-    check("a client in tmux shows what the first does", is_same, lambda: list(zip(tmux.rows(), outer.rows())))
+    check("a front end in tmux shows what the first does", is_same, lambda: list(zip(tmux.rows(), outer.rows())))
     tmux.type("C-b", "d")
     check("and leaves there what stood before", comes(lambda: tmux.rows()[:3] == ["kept", "[detached]", "status 0"]), tmux.rows)
     tmux.stop()
