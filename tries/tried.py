@@ -184,6 +184,8 @@ def own_terminal():
 def three_panes(name=SESSION):
     """A terminal on a session of three panes, the first beside two others and in focus."""
     outer = Outer(tool("mux", name))
+    # What keeps the shells follows the panes from here on, and knows where the focus was.
+    outer.shows("$ ")
     for keys, label in ((b"", "[1]"), (b"\x02%", " 1 [2]"), (b'\x02"', " 1  2 [3]"), (b"\x021", "[1] 2  3")):
         outer.type(keys)
         outer.status(label)

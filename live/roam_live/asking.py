@@ -195,7 +195,7 @@ def part_from_command(signals: Iterable[int]) -> int | None:
 
 
 def hold_command(reader: int, signals: Iterable[int]) -> None:
-    """Holds nothing but what tells that the other process lets the command go, and ends then: what started this one takes its end for the
+    """Holds nothing but what tells that the other process lets the command go, and ends then: what spawned this one takes its end for the
     command's, and drops what comes for it."""
     signal.set_wakeup_fd(-1)
     for number in signals:

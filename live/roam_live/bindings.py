@@ -41,7 +41,7 @@ C-b and then:
            up); again within half a second without C-b
   [ PgUp   scroll: PgUp PgDn up down g G; q, Escape, C-c or Return ends it
   d        detach: the session goes on
-  C-z      suspend: the shell that started this is there again, until `fg`
+  C-z      suspend: the shell that this came from is there again, until `fg`
   r        size the session to this terminal, which cuts what is wider, and
            paint all anew
   ?        these keys, until the next key

@@ -18,7 +18,7 @@ from roam_live.rects import BESIDE, Places
 
 TYPE_CHECKING = False
 if TYPE_CHECKING:
-    from roam_live.places import AnySession
+    from roam_live.any_session import AnySession
 
 # An escape that nothing follows for so many seconds is the key.
 ESCAPE_WAIT = 0.025
@@ -39,9 +39,9 @@ NEW = 2.0
 class Commands:
     """The keys of one person, and what they ask for."""
 
-    def __init__(self, place: AnySession, link: StartLink, display: Display, loop: Loop, leave: Callable[[str | None], None],
+    def __init__(self, session: AnySession, link: StartLink, display: Display, loop: Loop, leave: Callable[[str | None], None],
                  is_new: Callable[[], bool] = lambda: False) -> None:
-        self.place, self.link, self.display, self.loop, self.leave = place, link, display, loop, leave
+        self.session, self.link, self.display, self.loop, self.leave = session, link, display, loop, leave
         self.keys = Keys()
         self.prefix = "C-b"
         self.typing = Typing()
@@ -97,13 +97,13 @@ class Commands:
         for act in acts:
             word, _, pane = act.partition(" ")
             if word in ("focus", "next", "split", "close"):
-                places = self.place.places()
+                places = self.session.places()
                 self.moved_from = places.focus if places else 0
                 self.moved_at, self.moved_to = time.monotonic(), int(pane) if word == "focus" else None
 
     def places(self) -> Places | None:
         """Where the panes are, with the focus where this person put it: 0 where that may not be told yet."""
-        places = self.place.places()
+        places = self.session.places()
         if places is None:
             return None
         is_told = places.focus == self.moved_to if self.moved_to else places.focus != self.moved_from
@@ -157,7 +157,7 @@ class Commands:
 
     def session_size(self) -> tuple[int, int]:
         """The rows and columns that the session has at most, by what was painted and what is told; 0 where nothing is known."""
-        places, painted = self.place.places(), self.display.extent.size
+        places, painted = self.session.places(), self.display.extent.size
         told = places.size() if places else (0, 0)
         return max(told[0], painted[0]), max(told[1], painted[1])
 
@@ -183,7 +183,7 @@ class Commands:
             self.display.hide()
         elif self.link.watches or size == (0, 0) or own == size or own[0] < size[0] or own[1] < size[1]:
             return
-        elif has_others(self.place.folder):
+        elif has_others(self.session.folder):
             self.display.tell(f"{size[0]} by {size[1]}, as another terminal has it; {self.prefix} r fits this one", FITS_TOLD)
         else:
             self.ask_size()
@@ -206,7 +206,7 @@ class Commands:
 
     def close(self) -> None:
         """Closes the pane in focus: where something else than a shell may run there, only once that is confirmed."""
-        places, busy = self.places(), self.place.busy()
+        places, busy = self.places(), self.session.busy()
         pane = places.focus if places else 0
         if places and pane and len(places.rects) == 1:
             self.display.tell("the last pane goes with its shell, and the session with it")
@@ -221,7 +221,7 @@ class Commands:
         """Puts the pane on a side in focus; the next one where no rectangle is known."""
         places = self.places()
         if places and not places.focus:
-            places = self.place.places()
+            places = self.session.places()
         pane = places.neighbour(way) if places else None
         if pane or not places:
             self.act(f"focus {pane}" if pane else "next")

@@ -17,7 +17,7 @@ from roam_live.watches import ShellsWatch
 
 TYPE_CHECKING = False
 if TYPE_CHECKING:
-    from roam_live.places import AnySession
+    from roam_live.any_session import AnySession
 
 # So many bytes may wait for the terminal, and so many for the session, before what brings more is left alone.
 PAINTED_LIMIT = 1 << 16
@@ -26,6 +26,9 @@ TYPED_LIMIT = 1 << 24
 # While a terminal is drawn larger by hand it has hundreds of sizes: the session gets one that has stood for so many seconds. Of one that it
 # had got before a smaller followed it would be cut.
 SIZES = 0.3
+
+# So many seconds after something was painted it is looked anew where the focus is, for the keypad: what is noted of that comes later.
+LOOKS = (0.1, 0.5, 2.0)
 
 # How often it is looked whether the server is there, where no process is known.
 PROBES = 2.0
@@ -43,28 +46,28 @@ SILENCE = re.compile(rb"(\x1b7\x1b\[\?7l\x1b\[999;1H\x1b\[0;7mroam: no answer fo
 class FrontEnd:
     """A person at a terminal, and the session there."""
 
-    def __init__(self, place: AnySession, watches: bool, prefix: str, guessing: str, is_new: Callable[[], bool],
+    def __init__(self, session: AnySession, watches: bool, prefix: str, guessing: str, is_new: Callable[[], bool],
                  loop: Loop | None = None) -> None:
-        self.place, self.loop = place, loop or Loop()
+        self.session, self.loop = session, loop or Loop()
         self.left: str | None = None
         self.status = 0
         self.wakeup = woken(signal.SIGWINCH, signal.SIGCONT, signal.SIGTSTP, *LEAVING)
-        served = place.process(place.served)
+        served = session.process(session.served)
         self.server = opened_process(served) if served else None
-        self.shells = ShellsWatch(place, self.loop, lambda line: self.display.tell(line, LOSS_TOLD))
-        self.link = StartLink(place.terminals, watches, guessing)
-        self.keeper = Keeper(place, self.link)
+        self.shells = ShellsWatch(session, self.loop, lambda line: self.display.tell(line, LOSS_TOLD))
+        self.link = StartLink(session.terminals, watches, guessing)
+        self.keeper = Keeper(session, self.link)
         self.display = Display(self.loop, lambda: self.link.say("repaint"))
-        self.commands = Commands(place, self.link, self.display, self.loop, self.leave, is_new)
+        self.commands = Commands(session, self.link, self.display, self.loop, self.leave, is_new)
         self.commands.choose(prefix)
-        self.bells = BellFollower(place.folder, self.loop, self.commands.ring, lambda words: self.display.tell(words, LOSS_TOLD))
+        self.bells = BellFollower(session.folder, self.loop, self.commands.ring, lambda words: self.display.tell(words, LOSS_TOLD))
         self.join()
 
     def join(self) -> None:
         """Has the loop see the session's end, signals, what is typed, and what the terminal takes."""
         outer, link = self.display.outer, self.link
         if self.server is not None:
-            self.loop.add(self.server, lambda: self.leave(*self.place.ending()))
+            self.loop.add(self.server, lambda: self.leave(*self.session.ending()))
         self.loop.add(self.wakeup, self.signalled)
         self.loop.add(0, self.typed, hears=lambda: len(link.waiting) < TYPED_LIMIT)
         self.loop.add(outer.end, None, self.show, has_more=lambda: outer.waiting)
@@ -113,7 +116,7 @@ class FrontEnd:
     def probe(self) -> None:
         """Looks whether the server is there; a start whose server isn't ends."""
         self.loop.later("probe", PROBES, self.probe)
-        self.place.is_served()
+        self.session.is_served()
 
     # ---- the terminal
 
@@ -151,13 +154,17 @@ class FrontEnd:
     def turn(self) -> None:
         """Waits until something can be done, and does it. What is at hand goes at once, where it is taken: a person waits for each key."""
         self.loop.turn()
-        if self.bells.keypads or self.display.outer.is_application:
-            places = self.place.places()
+        if self.has_keypads():
+            places = self.session.places()
             self.display.set_keypad(places is not None and places.focus in self.bells.keypads)
         if self.link.peer and self.link.waiting:
             self.send()
         if self.display.outer.waiting:
             self.show()
+
+    def has_keypads(self) -> bool:
+        """Whether the keypad is an application's, in a pane or at the terminal."""
+        return bool(self.bells.keypads or self.display.outer.is_application)
 
     def typed(self) -> None:
         """Takes what was typed."""
@@ -173,6 +180,8 @@ class FrontEnd:
             self.lost()
         elif piece:
             self.display.painted(SILENCE.sub(rb"\1; %s d leaves\2" % self.commands.prefix.encode(), piece))
+            for seconds in LOOKS if self.has_keypads() else ():
+                self.loop.later(f"look after {seconds}", seconds, lambda: None)
             if not self.commands.is_fitted and "size" not in self.loop.due:
                 self.loop.later("size", SIZES, self.commands.fit_first)
 
@@ -205,15 +214,15 @@ class FrontEnd:
         return self.status
 
 
-def follow(place: AnySession, watches: bool, prefix: str, guessing: str, is_new: Callable[[], bool] = lambda: False) -> int:
+def follow(session: AnySession, watches: bool, prefix: str, guessing: str, is_new: Callable[[], bool] = lambda: False) -> int:
     """Has a person follow a session at this terminal, and tells the status; guesses are shown always, where that helps, or never. Where the
     session is new, which may be known a moment later, it gets this terminal's size, whatever that is."""
     note = None
     try:
-        note = noted_front_end(place.folder, "watches" if watches else "edits")
-        return FrontEnd(place, watches, prefix, guessing, is_new).run()
+        note = noted_front_end(session.folder, "watches" if watches else "edits")
+        return FrontEnd(session, watches, prefix, guessing, is_new).run()
     finally:
-        place.close()
+        session.close()
         if note:
             with contextlib.suppress(OSError):
                 note.unlink()

@@ -10,7 +10,7 @@ from roam_live.program import Fault, connected_now, read, reason
 
 TYPE_CHECKING = False
 if TYPE_CHECKING:
-    from roam_live.places import AnySession
+    from roam_live.any_session import AnySession
 
 # The pauses before a start is spawned anew; a connection that lasted so long had no fault at its start.
 PAUSES = (0.1, 1, 2, 4, 8, 15)
@@ -128,16 +128,16 @@ class StartLink:
 class Keeper:
     """Has a link connected: to the start that is there, or to another, which is spawned after pauses that grow."""
 
-    def __init__(self, place: AnySession, link: StartLink) -> None:
-        self.place, self.link = place, link
+    def __init__(self, session: AnySession, link: StartLink) -> None:
+        self.session, self.link = session, link
         self.faults = 0
         self.begun_at = 0.0
         self.start: int | None = None
 
     def lost(self) -> str:
         """Takes note of a link that has ended, and tells why, as far as that is known yet."""
-        self.place.read()
-        is_there, was_painted = self.place.runs("terminals"), self.link.has_painted
+        self.session.read()
+        is_there, was_painted = self.session.runs("terminals"), self.link.has_painted
         self.faults = 1 if time.monotonic() - self.link.since > SOUND else self.faults + 1
         self.link.close()
         if not is_there:
@@ -151,8 +151,8 @@ class Keeper:
     def connected(self) -> str:
         """Takes note of a link that is there, and tells what was lost with the one before."""
         self.begun_at = 0.0
-        self.place.read()
-        before, self.start = self.start, self.place.process("terminals")
+        self.session.read()
+        before, self.start = self.start, self.session.process("terminals")
         return "" if before is None else LET_GO if before == self.start else LOST
 
     def connect(self) -> tuple[float, str] | None:
@@ -165,22 +165,22 @@ class Keeper:
         except OSError as fault:
             why = reason(fault)
         now = time.monotonic()
-        if self.begun_at and self.place.runs("terminals") and now < self.begun_at + READY_WAIT:
+        if self.begun_at and self.session.runs("terminals") and now < self.begun_at + READY_WAIT:
             return STEP, ""
         if self.begun_at:
             return self.failed(f"no client start is ready: {why}")
-        if not self.place.is_served():
-            return self.failed(f"no server is {self.place}")
-        if self.place.is_full():
+        if not self.session.is_served():
+            return self.failed(f"no server is {self.session}")
+        if self.session.is_full():
             return self.failed("the server has had the 64 client starts of its life, and hears no other")
         return self.begin(now)
 
     def begin(self, now: float) -> tuple[float, str]:
         """Starts a start, which has its socket soon."""
         try:
-            self.place.revive()
+            self.session.revive()
         except (Fault, OSError) as fault:
-            return self.failed(reason(fault).removeprefix(f"session {self.place.name}: "))
+            return self.failed(reason(fault).removeprefix(f"session {self.session.name}: "))
         self.begun_at = now
         return STEP, ""
 

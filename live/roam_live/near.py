@@ -264,7 +264,7 @@ class Near:
         """Goes on without a command whose other end said what can't be; a first one that did is told of, and ends this."""
         if not self.has_answered:
             raise fault
-        say(f"{fault}; another is started")
+        say(f"{fault}; another is spawned")
         self.drop(link)
 
     def look(self) -> None:

@@ -162,7 +162,7 @@ class Processes:
             if time.monotonic() > end:
                 break
             time.sleep(0.02)
-        say(f"waiting for another that starts what belongs to {self.folder}")
+        say(f"waiting for another that launches what belongs to {self.folder}")
         fcntl.flock(lock, fcntl.LOCK_EX)
 
     # ---- what is spawned
@@ -187,9 +187,9 @@ class Processes:
                 process = subprocess.Popen(words, stdin=subprocess.DEVNULL, stdout=output, stderr=errors, preexec_fn=begin)
         except OSError as fault:
             where = f"{fault.filename}: " if fault.filename else ""
-            raise Fault(f"session {self.name}: {ROLES[role]} can't be started: {where}{reason(fault)}") from fault
+            raise Fault(f"session {self.name}: {ROLES[role]} can't be spawned: {where}{reason(fault)}") from fault
         except subprocess.SubprocessError as fault:
-            raise Fault(f"session {self.name}: {ROLES[role]} can't be started: it can't be noted in {self.note}{self.unnoted()}") from fault
+            raise Fault(f"session {self.name}: {ROLES[role]} can't be spawned: it can't be noted in {self.note}{self.unnoted()}") from fault
         self.state = {**(self.state or {}), role: [process.pid, begun(process.pid)]}
         self.own[role] = process
         return process
@@ -233,7 +233,7 @@ class Processes:
             time.sleep(0.005)
         process.kill()
         process.wait()
-        raise Fault(f"session {self.name}: {ROLES[role]} didn't start: {self.said(before) or f'nothing is said; see {self.log}'}")
+        raise Fault(f"session {self.name}: {ROLES[role]} didn't come up: {self.said(before) or f'nothing is said; see {self.log}'}")
 
     # ---- ends
 

@@ -13,8 +13,8 @@ import stat
 from collections.abc import Iterable
 
 from roam_live.processes import Processes
-from roam_live.program import (TOOLS, Fault, begun, count_front_ends, end_words, is_listened, is_own_folder, note_end, program, replace_text,
-                               say)
+from roam_live.program import (TOOLS, Fault, begun, count_front_ends, end_words, is_listened, is_own_folder, note_end, program,
+                               replace_text, say)
 from roam_live.rects import MOST_STARTS, Places, read_places
 
 NAME = re.compile(r"[A-Za-z0-9_-]{1,32}")
@@ -328,7 +328,7 @@ class NearSession(FolderSession):
 
     def launch(self, command: Iterable[str] = ()) -> None:
         """Refuses: how ssh is called isn't known."""
-        raise Fault(f"no relay to {self.name} is running; `mux ssh` starts one")
+        raise Fault(f"no relay to {self.name} is running; `mux ssh` launches one")
 
     def demand_shells(self) -> None:
         """Leaves the shells to the other machine."""

@@ -10,7 +10,7 @@ from roam_live.program import Fault, opened_process, reason
 
 TYPE_CHECKING = False
 if TYPE_CHECKING:
-    from roam_live.places import Kept
+    from roam_live.any_session import Kept
 
 # So many seconds after its end what kept the shells is spawned anew: by the first it is known whether that is the session's end. One that
 # lasted so long had no fault at its start.
@@ -21,8 +21,8 @@ SOUND = 5.0
 class ShellsWatch:
     """What keeps the shells of a session, where that is known: a call for each line that a person is to know."""
 
-    def __init__(self, place: Kept, loop: Loop, tells: Callable[[str], object] = lambda line: None) -> None:
-        self.place, self.loop, self.tells = place, loop, tells
+    def __init__(self, session: Kept, loop: Loop, tells: Callable[[str], object] = lambda line: None) -> None:
+        self.session, self.loop, self.tells = session, loop, tells
         self.file: int | None = None
         # How often in a row it ended soon, or couldn't be spawned, and since when it runs.
         self.faults = 0
@@ -31,7 +31,7 @@ class ShellsWatch:
 
     def follow(self) -> None:
         """Follows the process that runs now."""
-        process = self.place.process("shells")
+        process = self.session.process("shells")
         if process:
             self.file = opened_process(process)
             self.loop.add(self.file, self.ended)
@@ -51,12 +51,12 @@ class ShellsWatch:
     def revive(self) -> None:
         """Has the shells spawned anew."""
         try:
-            if self.place.revive_shells():
+            if self.session.revive_shells():
                 self.follow()
                 self.tells("the shells had ended: new ones are there, and what was typed meanwhile is dropped")
                 return
         except (Fault, OSError) as fault:
-            why = reason(fault).removeprefix(f"session {self.place.name}: ")
+            why = reason(fault).removeprefix(f"session {self.session.name}: ")
             self.tells(f"the shells have ended: {why}; tried again in {self.wait()} s")
             return
         # Another spawns them just now, or the session has ended.
@@ -72,4 +72,4 @@ class ShellsWatch:
             self.faults = 0
         pause = self.wait()
         if self.faults > 1:
-            self.tells(f"what keeps the shells ended again; it is started anew in {pause} s")
+            self.tells(f"what keeps the shells ended again; it is spawned anew in {pause} s")

@@ -142,11 +142,11 @@ def refused(folder):
 
 
 def not_started(outer, shells):
-    """A pane whose shell can't be started says so; it can be closed, and tries again at a key."""
+    """A pane whose shell can't be spawned says so; it can be closed, and tries again at a key."""
     for keys in (b"\x02x", b"x"):
         with limited(shells, resource.RLIMIT_NOFILE, first_free(shells)):
             outer.type(b'\x02"')
-            check("a pane whose shell can't be started says so", outer.shows("[not started: "), outer.rows)
+            check("a pane whose shell can't be spawned says so", outer.shows("[not run: "), outer.rows)
         outer.type(keys)
         # So soon there is a descriptor again by which a pane says what it hasn't.
         time.sleep(1)
@@ -170,7 +170,7 @@ def bad_shell(folder):
 
 @scene
 def shells(folder):
-    """What kept the shells is started again, and no new shell runs what was typed meanwhile."""
+    """What kept the shells is spawned again, and no new shell runs what was typed meanwhile."""
     outer = Outer(tool("mux", "other"))
     outer.shows("$ ")
     shells = noted("other")["shells"][0]
@@ -178,7 +178,7 @@ def shells(folder):
     outer.type(b"echo los''t\r")
     check("the end of what keeps the shells is told", outer.status("the shells had ended"), outer.rows)
     outer.type(b"echo al''so\r")
-    check("another is started", comes(lambda: noted("other")["shells"][0] != shells) and outer.shows("[a new shell; "), outer.rows)
+    check("another is spawned", comes(lambda: noted("other")["shells"][0] != shells) and outer.shows("[a new shell; "), outer.rows)
     check("with a shell", outer.shows("$ "), outer.rows)
     outer.type(b"echo th''en\r")
     check("which runs what is typed then", outer.shows("then") and outer.status("[1]"), outer.rows)

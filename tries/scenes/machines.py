@@ -115,7 +115,7 @@ def far(folder):
     far, asked = folder / "far", folder / "asked"
     words = ssh_words(folder, far, asked)
     outer = Outer(words)
-    check("mux ssh starts a session there", outer.shows("$ "), outer.rows)
+    check("mux ssh launches a session there", outer.shows("$ "), outer.rows)
     outer.type(b"echo fa''r\r")
     check("and types there", outer.shows("far"), outer.rows)
     outer.type(b"\x02%")

@@ -32,7 +32,7 @@ ODD_NAMES = (
 def started():
     """A terminal on a session that is begun there, with a shell of its pane's size."""
     outer = Outer(tool("mux", SESSION))
-    check("mux starts a session with a shell", outer.shows("$ ") and outer.status("[1]"), outer.rows)
+    check("mux launches a session with a shell", outer.shows("$ ") and outer.status("[1]"), outer.rows)
     outer.type(b"echo o''ne; stty size; echo $TERM\r")
     check("what is typed is run", outer.shows("one"), outer.rows)
     check("the shell has the pane's size", outer.shows("23 80"), outer.rows)
@@ -333,7 +333,7 @@ def smaller(folder):
     """A terminal that comes makes no session smaller, and covers nobody's."""
     outer = Outer(tool("mux", "other"), size=(24, 100))
     outer.shows("$ ")
-    check("a session that is started has its terminal's size", comes(lambda: listed()[1:4] == ["24", "by", "100"]), listed)
+    check("a session that is launched has its terminal's size", comes(lambda: listed()[1:4] == ["24", "by", "100"]), listed)
     outer.type(b"clear; for i in 1 2 3 4 5 6 7 8 9; do printf '%060d %s\\n' $i ri''ght-$i; done\r")
     outer.shows("right-9")
     before = outer.rows()

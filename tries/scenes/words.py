@@ -23,7 +23,8 @@ def words(folder):
         told = said(word, "other", *(["char 61"] if word == "send" else []))
         check(f"mux {word} refuses a session that isn't there", told == (1, "", "mux: no session other is running\n"), told)
     check("mux new refuses what is no command", said("new", "-d", "other", "/no/command")[0] == 1, said("ls"))
-    check("mux new -d starts a session", said("new", "-d", "other", "/bin/sh", "-c", "echo st''arted; exec cat") == (0, "", ""), said("ls"))
+    told = said("new", "-d", "other", "/bin/sh", "-c", "echo st''arted; exec cat")
+    check("mux new -d launches a session", told == (0, "", ""), told)
     check("and refuses one that is there", said("new", "-d", "other")[0] == 1, said("ls"))
     check("mux list is ls", said("list") == said("ls") and "other" in said("ls")[1], said("list"))
     check("mux send ends once all acts were taken", said("send", "other", "char 65", "char e9", "split right") == (0, "", ""), listed())
@@ -97,7 +98,7 @@ def prefix(folder):
         told = subprocess.run(tool("mux", "detach"), stderr=subprocess.PIPE, env={**os.environ, "ROAM_PREFIX": name}, check=False).stderr
         check(f"ROAM_PREFIX={name!r} is refused by name", told.startswith(f"mux: ROAM_PREFIX is {name!r}, ".encode()), told)
     outer = Outer(tool("mux", "other"), environment={"ROAM_PREFIX": "M-a"})
-    check("and before a session is started", outer.shows("mux: ROAM_PREFIX is 'M-a'") and outer.ends() and not listed(), outer.rows)
+    check("and before a session is launched", outer.shows("mux: ROAM_PREFIX is 'M-a'") and outer.ends() and not listed(), outer.rows)
     outer = Outer(tool("mux", "other"), environment={"ROAM_PREFIX": "C-a"})
     outer.shows("$ ")
     outer.type(b"\x01%")

@@ -251,7 +251,7 @@ class Loop(Fronts):
         start = self.connect()
         start.send(painting(24, 80))
         self.turn()
-        self.front.place.processes["terminals"] = None
+        self.front.session.processes["terminals"] = None
         start.close()
         self.turn()
         self.assertEqual((self.front.link.peer, self.front.loop.due["connect"][0]), (None, 100.1))
@@ -329,6 +329,25 @@ class Loop(Fronts):
         self.taken(bells).send(b"bell 2\nsay pane 3 isn't shown\n")
         self.turn()
         self.assertEqual((self.front.display.told, self.shown().count(b"\x07")), ("pane 3 isn't shown", 1))
+
+    def test_keypad(self):
+        """The keypad goes by the pane in focus, also where that is noted after it was painted; without an application's nobody looks."""
+        bells = self.listening(self.place.folder / "bells")
+        start = self.connect()
+        start.send(painting(24, 80))
+        self.turn()
+        self.assertEqual([name for name in self.front.loop.due if name.startswith("look ")], [])
+        self.taken(bells).send(b"keypad 2 application\n")
+        self.place.told = Places({1: Rect(1, 1, 23, 39), 2: Rect(1, 41, 23, 40)}, 1)
+        self.turn()
+        start.send(b"\x1b[1;1Hx")
+        self.turn()
+        self.assertNotIn(b"\x1b=", self.shown())
+        self.assertEqual([moment for name, (moment, _) in self.front.loop.due.items() if name.startswith("look ")], [100.1, 100.5, 102.0])
+        self.place.told = self.place.told._replace(focus=2)
+        self.now += 0.1
+        self.turn()
+        self.assertIn(b"\x1b=", self.shown())
 
     def test_limits(self):
         """While 65,536 bytes wait for the terminal nothing more is read of the start."""

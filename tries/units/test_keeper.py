@@ -225,11 +225,11 @@ class Refused(Keeper):
     """What the system refuses is told of, and tried again."""
 
     def test_command(self):
-        """A command that can't be started is told of in its pane, where a key tries again."""
+        """A command that can't be spawned is told of in its pane, where a key tries again."""
         self.patch_of(shells.os, "forkpty", side_effect=OSError(11, "Resource temporarily unavailable"))
         panes = self.begin()
         self.turn()
-        self.assertEqual(read_now(panes[0]), b"[not started: Resource temporarily unavailable; a key tries again]\r\n")
+        self.assertEqual(read_now(panes[0]), b"[not run: Resource temporarily unavailable; a key tries again]\r\n")
         self.patch_of(shells.os, "forkpty", side_effect=self.forked)
         panes[0].send(b"x")
         self.turn()
@@ -240,7 +240,7 @@ class Refused(Keeper):
         with mock.patch.object(shells, "connected_now", side_effect=OSError(24, "Too many open files")) as connects:
             says = self.patch_of(shells, "say_in")
             self.tell("1 1 1 23 80 4", "focus 1")
-            says.assert_called_once_with(f"{self.folder}/p1", "[not started: Too many open files; tried again]\r\n")
+            says.assert_called_once_with(f"{self.folder}/p1", "[not run: Too many open files; tried again]\r\n")
             self.assertEqual(self.keeper.loop.due["again"][0], 100.25)
             self.now += 0.24
             self.turn()
@@ -506,7 +506,8 @@ class Words(Case):
 
     def test_child(self):
         """What is forked becomes the command, of the pane's size and in its folder, and ends where it can't."""
-        pane = shells.PaneCommand(argparse.Namespace(dir="/d", command=["vi"], instead="/bin/sh"), StillLoop(), 3, 1, (5, 40), False, "/tmp")
+        asked = argparse.Namespace(dir="/d", command=["vi"], instead="/bin/sh")
+        pane = shells.PaneCommand(asked, StillLoop(), 3, 1, (5, 40), False, "/tmp")
         with mock.patch.object(shells.os, "forkpty", return_value=(0, 9)), mock.patch.object(shells.terminal, "become") as becomes, \
                 mock.patch.object(shells.os, "_exit", side_effect=InterruptedError) as exits, \
                 mock.patch.object(shells.os, "chdir") as enters:

@@ -286,7 +286,7 @@ class Far(Mux):
         """What `mux ssh` runs there starts the session where the other end knows none, and becomes a relay."""
         becomes, writes = self.patch_of(remote.os, "execv"), self.patch_of(remote.os, "write")
         greets = self.patch_of(remote, "read_greeting", return_value="-")
-        self.refuses("standard input is a terminal; `mux ssh` on another machine starts this end", "far", "main")
+        self.refuses("standard input is a terminal; `mux ssh` on another machine spawns this end", "far", "main")
         self.is_terminal = False
         self.patch_of(FolderSession, "process", return_value=17)
         self.mux("far", "main")

@@ -14,7 +14,7 @@ from roam_live import display
 from roam_live.commands import Commands
 from roam_live.display import Display
 from roam_live.loops import Loop
-from roam_live.places import Kept, AnySession
+from roam_live.any_session import Kept, AnySession
 from roam_live.ports import PortSession
 from roam_live.program import TOOLS, Home
 from roam_live.programs import busy_panes

@@ -280,7 +280,7 @@ class Starts(Based):
     def test_near(self):
         """How ssh is called isn't known of what stands for another machine's session; its shells are left to that machine."""
         near = NearSession(self.base / "ssh:a:main", "main")
-        with self.assertRaisesRegex(Fault, "^no relay to main is running; `mux ssh` starts one$"):
+        with self.assertRaisesRegex(Fault, "^no relay to main is running; `mux ssh` launches one$"):
             near.launch()
         near.demand_shells()
         near.close()
@@ -312,7 +312,7 @@ class Spawned(Based):
         process = self.session_here.spawned("server", ["sleep", "60"])
         self.stop_clock()
         self.session_here.wait_for("server", 0, lambda: True)
-        with self.assertRaisesRegex(Fault, "^session main: the server didn't start: nothing is said; see .*/main/log$"):
+        with self.assertRaisesRegex(Fault, "^session main: the server didn't come up: nothing is said; see .*/main/log$"):
             self.session_here.wait_for("server", 0, lambda: False)
         self.assertTrue(110.0 <= self.now < 110.1)
         self.assertEqual(process.returncode, -9)
@@ -344,7 +344,7 @@ class Spawned(Based):
         locks = self.patch_of(processes.fcntl, "flock", side_effect=self.lock_taken)
         lock = self.session_here.taken_lock(True)
         self.addCleanup(os.close, lock)
-        self.assertIn(f"waiting for another that starts what belongs to {self.folder}\n", self.said.getvalue())
+        self.assertIn(f"waiting for another that launches what belongs to {self.folder}\n", self.said.getvalue())
         self.assertTrue(100.5 < self.now < 100.6)
         self.assertEqual(locks.call_args_list[0][0][1], processes.fcntl.LOCK_EX | processes.fcntl.LOCK_NB)
         self.assertEqual(locks.call_args[0], (lock, processes.fcntl.LOCK_EX))

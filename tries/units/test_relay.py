@@ -222,16 +222,16 @@ class Nears(Ends):
                 self.near = self.near_end()
 
     def test_hostile(self):
-        """A far end that says what can't be is ended, which is told, and another is started; the next greets with the session."""
+        """A far end that says what can't be is ended, which is told, and another is spawned; the next greets with the session."""
         self.answer()
         for text in (packed((0, b"")), packed((0, BELL + b"\0")), packed((0, BELL + b"\x0a")), packed((0, BELL)), packed((0, ENDED + b"x")),
                      packed((0, HAD + b"1")), packed((0, COUNT.pack(HAD, 1))), packed((1, datagram(1)[:-1])),
                      packed((1, datagram(1, length=LONGEST + 1))), b"\xff" * 9, zlib.compress(b"") + b"x"):
             link = self.near.link
             link.say(text)
-            before = self.said.getvalue().count("; another is started\n")
+            before = self.said.getvalue().count("; another is spawned\n")
             self.turn()
-            self.assertEqual(self.said.getvalue().count("; another is started\n"), before + 1, text)
+            self.assertEqual(self.said.getvalue().count("; another is spawned\n"), before + 1, text)
             self.assertTrue(link.has_ended and self.near.link is None)
             self.now += 30
             self.turn()
@@ -319,7 +319,7 @@ class Nears(Ends):
         self.assertEqual((way.exception.args, self.near.is_over), ((0,), True))
 
     def test_silent(self):
-        """After seven seconds of silence another command is started beside the silent one, and the first that answers is the link."""
+        """After seven seconds of silence another command is spawned beside the silent one, and the first that answers is the link."""
         self.answer()
         self.now += 7.0
         self.turn()

@@ -164,7 +164,8 @@ class Found(Sessions):
             listener.listen(0)
             held.enter_context(socket.socket(socket.AF_UNIX, socket.SOCK_STREAM)).connect(str(self.folder / "clients"))
             before = self.names()
-            for does in (lambda: FolderSession.named("main").listed(), lambda: FolderSession.named("main").demand(), FolderSession.named("main").clean):
+            named = FolderSession.named
+            for does in (lambda: named("main").listed(), lambda: named("main").demand(), named("main").clean):
                 with self.assertRaisesRegex(Fault, "takes no connection|somebody answers at"):
                     does()
             self.assertEqual(self.names(), before)
@@ -193,7 +194,7 @@ class Starts(Sessions):
         """What was started ends again where the rest can't be, and no folder stays where nothing was logged."""
         with self.session.locked():
             self.session.state = {"version": VERSION}
-            with self.assertRaisesRegex(Fault, "^session new: what keeps the shells can't be started: /no/such: No such file"):
+            with self.assertRaisesRegex(Fault, "^session new: what keeps the shells can't be spawned: /no/such: No such file"):
                 with self.session.whole():
                     server = self.session.spawned("server", ["sleep", "60"])
                     self.session.spawned("shells", ["/no/such"])
@@ -204,7 +205,7 @@ class Starts(Sessions):
         """Where something was logged the folder stays with its log alone, and the fault has what was said in one line."""
         with self.session.locked():
             self.session.state = {"version": VERSION}
-            with self.assertRaisesRegex(Fault, "^session new: the client start didn't start: one; two$"):
+            with self.assertRaisesRegex(Fault, "^session new: the client start didn't come up: one; two$"):
                 with self.session.whole():
                     self.session.spawned("terminals", ["sh", "-c", "echo one >&2; echo; echo two >&2"])
                     self.session.wait_for("terminals", 0, lambda: False)
@@ -215,13 +216,13 @@ class Starts(Sessions):
         with self.session.locked():
             self.session.state = {"version": VERSION}
             with mock.patch.object(self.session, "note_own", side_effect=OSError(28, "No space left on device")):
-                with self.assertRaisesRegex(Fault, "^session new: the server can't be started: it can't be noted in "):
+                with self.assertRaisesRegex(Fault, "^session new: the server can't be spawned: it can't be noted in "):
                     self.session.spawned("server", ["sleep", "60"])
             with mock.patch("roam_live.processes.replace_text", side_effect=OSError(28, "No space left on device")):
-                with self.assertRaisesRegex(Fault, "^session new: the server can't be started: No space left on device"):
+                with self.assertRaisesRegex(Fault, "^session new: the server can't be spawned: No space left on device"):
                     self.session.spawned("server", ["sleep", "60"])
             with mock.patch("subprocess.Popen", side_effect=BlockingIOError(11, "Resource temporarily unavailable")):
-                with self.assertRaisesRegex(Fault, "^session new: the relay can't be started: Resource temporarily unavailable"):
+                with self.assertRaisesRegex(Fault, "^session new: the relay can't be spawned: Resource temporarily unavailable"):
                     self.session.spawned("relay", ["sleep", "60"])
 
     def test_relay(self):

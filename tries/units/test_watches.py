@@ -1,4 +1,4 @@
-"""What sees the end of what keeps a session's shells: it is started anew, after pauses that grow where it ends at once."""
+"""What sees the end of what keeps a session's shells: it is spawned anew, after pauses that grow where it ends at once."""
 import os
 import unittest
 from unittest import mock
@@ -78,7 +78,7 @@ class Watches(unittest.TestCase):
         self.assertIsNone(self.loop.wait_time())
 
     def test_again(self):
-        """One that ends at once each time is started anew after pauses that grow, and that is told."""
+        """One that ends at once each time is spawned anew after pauses that grow, and that is told."""
         self.now += SOUND + 1
         waits, said = [], []
         for _ in range(8):
@@ -86,14 +86,14 @@ class Watches(unittest.TestCase):
             waits.append(self.pass_time()[0])
         self.assertEqual(waits, [*PAUSES, PAUSES[-1], PAUSES[-1]])
         self.assertEqual(said[0], "")
-        wanted = [f"what keeps the shells ended again; it is started anew in {wait} s" for wait in (*PAUSES[1:], PAUSES[-1], PAUSES[-1])]
+        wanted = [f"what keeps the shells ended again; it is spawned anew in {wait} s" for wait in (*PAUSES[1:], PAUSES[-1], PAUSES[-1])]
         self.assertEqual(said[1:], wanted)
         self.now += SOUND + 1
         self.assertEqual(self.end(), "")
         self.assertEqual(self.pass_time()[0], PAUSES[0])
 
     def test_refused(self):
-        """What can't be started is told with the reason, and tried again after pauses that grow."""
+        """What can't be spawned is told with the reason, and tried again after pauses that grow."""
         self.place.fault = Fault("session main: no room")
         self.now += SOUND + 1
         self.end()

@@ -22,7 +22,7 @@ class Kept(Protocol):
 
 
 class AnySession(Kept, Protocol):
-    """A session, as a front end needs it. Its words name where it is, as in `no server is {place}`."""
+    """A session, as a front end needs it. Its words name where it is, as in `no server is {session}`."""
 
     # The role of the process whose end is the session's.
     served: str
