@@ -681,6 +681,14 @@ class Parts(Case):
             arrivals.note_peer(peer, self.now, True)
         self.assertEqual((len(arrivals.whole_until), len(arrivals.news)), (paths.MOST_TOLD, paths.MOST_TOLD))
 
+    def test_mask(self):
+        """A mask has 32 bytes at most."""
+        arrivals = Arrivals()
+        for counter in range(1, 400):
+            arrivals.window.note(counter)
+            arrivals.want(counter, self.now, HELD)
+        self.assertEqual(arrivals.head(self.now)[HEAD.size :], b"\xff" * 32)
+
     def test_many_untold(self):
         """After 32 packets it is told at once."""
         arrivals = Arrivals()

@@ -1,5 +1,6 @@
 """Both ends of a relay with a sealed path beside the command: real sockets of loopback, a clock that stands, and commands made by hand."""
 import argparse
+import contextlib
 import os
 import unittest
 from unittest import mock
@@ -46,6 +47,13 @@ class Both(Case):
     def place(self, port):
         """A port of this machine, as a socket of both families has it."""
         return asking.places_of("127.0.0.1", port, self.family)[0]
+
+    @contextlib.contextmanager
+    def ends(self):
+        """What is done here ends the relay, with status 0."""
+        with self.assertRaises(Ended) as way:
+            yield
+        self.assertEqual(way.exception.status, 0)
 
     def end(self):
         """A UDP socket of this test's own."""
@@ -154,7 +162,7 @@ class Near(Both):
         self.run_for(0.2)
         self.assertEqual((self.folder / "rects").read_text(encoding="utf-8"), "1 1 1 23 80\nfocus 1\n")
         self.far.tell(0, KILLED)
-        with self.assertRaises(Ended):
+        with self.ends():
             self.run_for(1)
         self.close()
         drained(self.far)
@@ -422,11 +430,11 @@ class Far(Both):
         """Without a path the command's end is its own; so it is where what holds it can't be let go."""
         self.far.turn()
         ended(self.said_end)
-        with self.assertRaises(Ended):
+        with self.ends():
             self.run_for(1)
         self.ask_by_hand()
         self.closes.side_effect = OSError(24, "no")
-        with self.assertRaises(Ended):
+        with self.ends():
             self.far.let_go()
 
     def ask_by_hand(self):
@@ -440,7 +448,7 @@ class Far(Both):
         self.run_for(20)
         ended(self.said_end)
         self.run_for(29.9)
-        with self.assertRaises(Ended):
+        with self.ends():
             self.run_for(0.5)
 
     def test_silent_command(self):
@@ -481,7 +489,7 @@ class Far(Both):
         self.run_for(6)
         self.assertEqual((count_front_ends(self.folder), self.near.is_sound()), (1, True))
         self.now += far.FAR_WAIT + 1
-        with self.assertRaises(Ended):
+        with self.ends():
             self.far.turn()
 
     def test_session_ends(self):
@@ -490,7 +498,7 @@ class Far(Both):
         self.patch_of(ways, "comes", lambda end, seconds: self.pass_time(seconds) or self.came.extend(drained(self.near))
                       or self.near.fill(self.waiting))
         begun = self.now
-        with self.assertRaises(Ended):
+        with self.ends():
             self.far.tell_end()
         self.assertIn((0, ENDED), self.came)
         self.assertNotIn((0, ENDED), self.frames())
@@ -501,7 +509,7 @@ class Far(Both):
         self.sound()
         self.patch_of(ways, "comes", lambda end, seconds: self.pass_time(seconds))
         self.patch_of(far, "is_taken", return_value=True)
-        with self.assertRaises(Ended):
+        with self.ends():
             self.far.tell_end()
         self.assertIn((0, ENDED), self.frames())
 
@@ -512,7 +520,7 @@ class Far(Both):
         self.run_for(1)
         self.patch_of(ways, "comes", lambda end, seconds: self.pass_time(seconds))
         begun = self.now
-        with self.assertRaises(Ended):
+        with self.ends():
             self.far.tell_end()
         self.assertAlmostEqual(self.now - begun, far.ALONE, delta=1)
 
@@ -520,7 +528,7 @@ class Far(Both):
         """It ends where the near end leaves."""
         self.sound()
         self.near.tell(0, LEAVES)
-        with self.assertRaises(Ended):
+        with self.ends():
             self.run_for(1)
 
     def test_spent(self):
@@ -532,7 +540,7 @@ class Far(Both):
         self.assertEqual((len(told), self.far.ways.path.is_spent()), (2, False))
         self.far.ways.stream = None
         self.far.ways.path.bundles.last = MOST_BUNDLES
-        with self.assertRaises(Ended):
+        with self.ends():
             self.far.turn()
 
     def test_blocked_later(self):
