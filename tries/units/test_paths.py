@@ -441,11 +441,11 @@ class Carries(Net):
         """No packet is longer than the longest, whatever is told in it."""
         sizes = []
         self.loses = lambda path, packet: sizes.append(len(packet))
-        for peer in range(1, 90):
+        for peer in range(1, 50):
             self.send(self.near, peer, datagrams(1, noise(5000, peer)))
             self.send(self.far, peer, datagrams(1, noise(5000, peer), 1))
         self.run_for(20)
-        self.assertEqual((len(self.got[self.far]), len(self.got[self.near])), (89 * 5, 89 * 5))
+        self.assertEqual((len(self.got[self.far]), len(self.got[self.near])), (49 * 5, 49 * 5))
         self.assertLessEqual(max(sizes), LONGEST_PACKET)
 
     def test_repeated_and_turned_round(self):
@@ -487,7 +487,7 @@ class Carries(Net):
         """Authentic texts that no end sends raise nothing."""
         mate, chance = Seal(Foolish(b""), True), random.Random(9)
         mate.counter = 1 << 20
-        for _ in range(5000):
+        for _ in range(1500):
             head = HEAD.pack(chance.choice((0, 3, 1 << 31)), 0, chance.choice((0, 1, 255))) if chance.random() < 0.7 else b""
             kind, numbers = chance.choice((b"p", b"o", b"w", b"a", b"l", b"z")), chance.choice((0, 1, 2, 900)).to_bytes(2, "big")
             self.far.end.coming.append((mate.sealed((head + kind + numbers + chance.randbytes(chance.randrange(60)))[:LONGEST_TEXT]), NEAR))

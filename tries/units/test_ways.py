@@ -197,7 +197,7 @@ class Near(Both):
         """A command that ends while the path is sound isn't started again."""
         self.sound()
         self.links[0].hang_up()
-        self.run_for(600)
+        self.run_for(60)
         self.assertEqual((len(self.links), self.near.link, self.near.is_silent()), (1, None, False))
         self.assertEqual(self.said.getvalue(), "")
 
