@@ -190,6 +190,23 @@ class Lives(Net):
         self.assertTrue(self.near.is_sound() and self.far.is_sound())
         self.assertEqual(self.got[self.far], [(1, typed(1)[0])])
 
+    def test_one_at_a_time(self):
+        """Over a silent path one packet at a time goes, which looks whether it still is."""
+        self.begin()
+        self.is_open = False
+        self.send(self.near, 1, typed(1))
+        self.run_for(8)
+        self.near.give_up(list(self.near.sent))
+        for peer in range(1, 9):
+            self.send(self.near, peer, datagrams(2, noise(1000, peer)))
+        for _ in range(3):
+            self.near.fill(self.waiting[self.near])
+        self.assertEqual(len(self.near.end.out), 1)
+        self.near.end.out.clear()
+        self.is_open = True
+        self.run_for(8)
+        self.assertEqual({peer for peer, _ in self.got[self.far]}, set(range(1, 9)))
+
     def test_lost_answers(self):
         """At 20 of 100 lost it stays sound for ten minutes."""
         chance = random.Random(20)
