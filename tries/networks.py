@@ -157,7 +157,7 @@ class Machines:
         before, other = self.addresses[place], self.addresses[1 - place]
         after = MOVED[place] if before == ADDRESSES[place] else ADDRESSES[place]
         space, device = self.spaces[place], self.devices[place]
-        run("ip", "-n", space, "address", "del", before, "peer", other, "dev", device)
+        run("ip", "-n", space, "address", "flush", "dev", device)
         run("ip", "-n", space, "address", "add", after, "peer", other, "dev", device)
         words = ["ip", "-n", self.spaces[1 - place], "route", "replace", after, "dev", self.devices[1 - place]]
         subprocess.run(words, check=False, stderr=subprocess.DEVNULL)
