@@ -86,10 +86,38 @@ def set_size(terminal: int, rows: int, cols: int) -> None:
     fcntl.ioctl(terminal, termios.TIOCSWINSZ, struct.pack("HHHH", rows, cols, 0, 0))
 
 
-def become(command: list[str], size: Size, environment: dict[str, str], instead: str | None = None) -> None:
-    """Becomes a command on standard input, a terminal that has its size before the command asks for it; else the shell instead of it."""
+def forked(size: Size) -> tuple[int, int]:
+    """Forks a process on a new terminal: 0 and 0 in that process, and its number and the terminal's other end in this one. The terminal has
+    its size before the process is there, so that no later size comes before this one."""
+    master, slave = os.openpty()
+    try:
+        set_size(slave, *size)
+        process = os.fork()
+    except OSError:
+        os.close(master)
+        os.close(slave)
+        raise
+    if process:
+        os.close(slave)
+        return process, master
+    try:
+        take(slave)
+    except BaseException:
+        os._exit(127)
+    return 0, 0
+
+
+def take(slave: int) -> None:
+    """Has a terminal be this process's own, at which it leads, reads and writes."""
+    os.setsid()
+    fcntl.ioctl(slave, termios.TIOCSCTTY, 0)
+    for end in range(3):
+        os.dup2(slave, end)
+
+
+def become(command: list[str], environment: dict[str, str], instead: str | None = None) -> None:
+    """Becomes a command on standard input, a terminal; else the shell instead of it."""
     with contextlib.suppress(termios.error, OSError):
-        set_size(0, *size)
         modes = termios.tcgetattr(0)
         modes[0] |= IUTF8
         termios.tcsetattr(0, termios.TCSANOW, modes)

@@ -150,6 +150,8 @@ def far_sizes(folder):
     first = Outer(words, size=(12, 40))
     is_new = first.shows("$ ") and first.status("[1]") and not first.shows("too small", 0.1)
     check("a new session there has this terminal's size", is_new, first.rows)
+    # The shell is told by what notes where its pane is.
+    comes(lambda: listed()[1:4] == ["12", "by", "40"])
     first.type(b"stty size\r")
     check("and its shell knows it", first.shows("11 40"), first.rows)
     first.type(b"\x02d")

@@ -25,7 +25,7 @@ class Keeper(Case):
         self.wakeup, self.wakes = self.pipe()
         self.said = self.heard()
         self.made = []
-        self.patch_of(shells.os, "forkpty", side_effect=self.forked)
+        self.patch_of(shells.terminal, "forked", side_effect=self.forked)
         self.kills = self.patch_of(shells.os, "kill")
         self.ended = {}
         self.patch_of(shells, "has_ended", side_effect=lambda process: self.ended.get(process, False))
@@ -49,7 +49,7 @@ class Keeper(Case):
         if keeper.following.peer:
             keeper.following.peer.close()
 
-    def forked(self):
+    def forked(self, size):
         """A command's process and terminal: a socket here."""
         one, other = self.pair()
         self.made.append(other)
@@ -226,11 +226,11 @@ class Refused(Keeper):
 
     def test_command(self):
         """A command that can't be spawned is told of in its pane, where a key tries again."""
-        self.patch_of(shells.os, "forkpty", side_effect=OSError(11, "Resource temporarily unavailable"))
+        self.patch_of(shells.terminal, "forked", side_effect=OSError(11, "Resource temporarily unavailable"))
         panes = self.begin()
         self.turn()
         self.assertEqual(read_now(panes[0]), b"[not run: Resource temporarily unavailable; a key tries again]\r\n")
-        self.patch_of(shells.os, "forkpty", side_effect=self.forked)
+        self.patch_of(shells.terminal, "forked", side_effect=self.forked)
         panes[0].send(b"x")
         self.turn()
         self.assertEqual((self.keeper.panes[1].process, self.keeper.panes[2].process, read_now(self.made[0])), (71, None, b""))
@@ -508,13 +508,15 @@ class Words(Case):
         """What is forked becomes the command, of the pane's size and in its folder, and ends where it can't."""
         asked = argparse.Namespace(dir="/d", command=["vi"], instead="/bin/sh")
         pane = shells.PaneCommand(asked, StillLoop(), 3, 1, (5, 40), False, "/tmp")
-        with mock.patch.object(shells.os, "forkpty", return_value=(0, 9)), mock.patch.object(shells.terminal, "become") as becomes, \
+        with mock.patch.object(shells.terminal, "forked", return_value=(0, 0)) as forks, \
+                mock.patch.object(shells.terminal, "become") as becomes, \
                 mock.patch.object(shells.os, "_exit", side_effect=InterruptedError) as exits, \
                 mock.patch.object(shells.os, "chdir") as enters:
             with self.assertRaises(InterruptedError):
                 pane.run()
         exits.assert_called_once_with(127)
         enters.assert_called_once_with("/tmp")
-        command, size, environment, instead = becomes.call_args[0]
-        self.assertEqual((command, size, instead), (["vi"], (5, 40), "/bin/sh"))
+        forks.assert_called_once_with((5, 40))
+        command, environment, instead = becomes.call_args[0]
+        self.assertEqual((command, instead), (["vi"], "/bin/sh"))
         self.assertEqual((environment["PWD"], environment["ROAM_PANE"]), ("/tmp", "/d:3"))

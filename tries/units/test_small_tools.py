@@ -95,17 +95,18 @@ class Shell(Case):
     def test_started(self):
         """The command has TERM of a VT220, and nothing of another terminal."""
         self.environment(LINES="5", COLORTERM="x", ROAM_WHY="1", KEPT="one")
-        with mock.patch.object(shell.pty, "fork", return_value=(0, 9)), mock.patch.object(shell.terminal, "become") as becomes, \
+        with mock.patch.object(shell.terminal, "forked", return_value=(0, 0)), mock.patch.object(shell.terminal, "become") as becomes, \
                 mock.patch.object(shell.os, "_exit", side_effect=InterruptedError) as exits:
             with self.assertRaises(InterruptedError):
                 shell.spawned(["vi"], (5, 40))
         exits.assert_called_once_with(127)
-        command, size, environment = becomes.call_args[0]
-        self.assertEqual((command, size, environment["TERM"], environment["KEPT"]), (["vi"], (5, 40), "vt220", "one"))
+        command, environment = becomes.call_args[0]
+        self.assertEqual((command, environment["TERM"], environment["KEPT"]), (["vi"], "vt220", "one"))
         self.assertFalse({"LINES", "COLORTERM", "ROAM_WHY"} & environment.keys())
-        with mock.patch.object(shell.pty, "fork", return_value=(7, self.master.fileno())):
+        with mock.patch.object(shell.terminal, "forked", return_value=(7, self.master.fileno())) as forks:
             self.master.setblocking(True)
             self.assertEqual(shell.spawned(["vi"], (5, 40)), (7, self.master.fileno()))
+        forks.assert_called_once_with((5, 40))
         self.assertFalse(os.get_blocking(self.master.fileno()))
 
     def test_rest(self):

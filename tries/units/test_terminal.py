@@ -1,4 +1,5 @@
 """The outer terminal: its modes and names, what of the painter's text reaches it, and the size of what was painted."""
+import contextlib
 import errno
 import fcntl
 import os
@@ -184,17 +185,16 @@ class Commands(Case):
     """What a command becomes."""
 
     def test_become(self):
-        """It has its size, erases characters of UTF-8, and no signal is kept from it."""
+        """It erases characters of UTF-8, and no signal is kept from it."""
         master, slave = pty.openpty()
         for end in (master, slave):
             self.addCleanup(os.close, end)
         wakes, handles = self.patch("signal.set_wakeup_fd"), self.patch("signal.signal")
         runs = self.patch("os.execvpe")
-        sizes = self.patch_of(terminal, "set_size", wraps=lambda _, *size: self.assertEqual(size, (5, 40)))
         gets = self.patch("termios.tcgetattr", return_value=[0, 1, 2])
         sets = self.patch("termios.tcsetattr")
-        terminal.become(["sh", "-c", "x"], (5, 40), {"A": "b"})
-        self.assertEqual((sizes.call_args[0][0], gets.call_args[0]), (0, (0,)))
+        terminal.become(["sh", "-c", "x"], {"A": "b"})
+        gets.assert_called_once_with(0)
         sets.assert_called_once_with(0, termios.TCSANOW, [0o40000, 1, 2])
         wakes.assert_called_once_with(-1)
         self.assertEqual({call[0] for call in handles.call_args_list}, {(number, signal.SIG_DFL) for number in terminal.SIGNALS})
@@ -206,13 +206,39 @@ class Commands(Case):
         """Where it can't be run that is told, and another shell is there, which is named as the shell."""
         for name in ("signal.set_wakeup_fd", "signal.signal"):
             self.patch(name)
-        self.patch_of(terminal, "set_size")
         self.patch("termios.tcgetattr", side_effect=termios.error(5, "gone"))
         runs = self.patch("os.execvpe", side_effect=[FileNotFoundError(2, "No such file or directory"), None])
         writes = self.patch("os.write")
-        terminal.become(["/no\x1b[c"], (5, 40), {"A": "b"}, "/bin/sh")
+        terminal.become(["/no\x1b[c"], {"A": "b"}, "/bin/sh")
         self.assertEqual(writes.call_args[0], (2, b"/no?[c: No such file or directory; this is /bin/sh\n"))
         self.assertEqual(runs.call_args[0], ("/bin/sh", ["/bin/sh"], {"A": "b", "SHELL": "/bin/sh"}))
+
+    def forked(self, size):
+        """What a shell tells of its terminal that is forked there, and its process."""
+        process, master = terminal.forked(size)
+        if process == 0:
+            os.execvp("sh", ["sh", "-c", "stty size; tty; ps -o sid= -p $$; ls -l /proc/$$/fd | grep -c ptmx"])
+        text = b""
+        with contextlib.suppress(OSError):
+            while True:
+                text += os.read(master, 65536)
+        os.close(master)
+        os.waitpid(process, 0)
+        return process, text.decode().split()
+
+    def test_forked(self):
+        """A process on a terminal of its own, which has its size before the process is there, and nothing of the other end."""
+        process, words = self.forked((7, 33))
+        self.assertEqual((words[:2], words[2].startswith("/dev/pts/"), int(words[3])), (["7", "33"], True, process))
+        self.assertEqual(words[4], "0")
+
+    def test_not_forked(self):
+        """Where no process or no size is to be had nothing is left open."""
+        before = sorted(os.listdir("/proc/self/fd"))
+        for name in ("os.fork", "roam_live.terminal.set_size"):
+            with mock.patch(name, side_effect=OSError(11, "none")), self.assertRaises(OSError):
+                terminal.forked((7, 33))
+        self.assertEqual(sorted(os.listdir("/proc/self/fd")), before)
 
     def test_not_run(self):
         writes, runs = self.patch("os.write"), self.patch("os.execvpe", side_effect=PermissionError(13, "Permission denied"))
