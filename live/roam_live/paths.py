@@ -44,7 +44,7 @@ MOST_TOLD = 4096
 # An end says something each so many seconds, a little later than the cores do, each 3 s: what they say tells as much. What goes anyway
 # asks for an answer where none has come for so long, and after so many seconds it is asked for alone; where for so many nothing that was
 # sent has arrived the path is silent, and sooner where an answer is owed. An end that nobody calls says nothing after so many.
-HEARTBEAT, UNANSWERED = 3.2, 4.0
+HEARTBEAT, UNANSWERED = 3.5, 4.0
 SILENT, SILENT_ASKED = 7.0, 4.0
 ASLEEP = 60.0
 

@@ -145,7 +145,7 @@ class Lives(Net):
         self.assertIn(self.count[self.near] - calls, (59, 60, 61))
 
     def test_idle(self):
-        """Each end says something each 3.2 s, and asks where nothing was acknowledged for 4 s, so that it stays sound."""
+        """Each end says something each 3.5 s, and asks where nothing was acknowledged for 4 s, so that it stays sound."""
         self.begin()
         count = sum(self.count.values())
         for _ in range(60):
