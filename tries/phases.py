@@ -397,7 +397,7 @@ def phase_forwards(machines, ssh, asked):
         check("sealed: a forwarded port answers", greeted.stdout == b"SSH-", greeted.stdout)
         check("sealed: ssh is there, once", len(machines.processes(0, "ssh")) == 1, machines.processes(0, "ssh"))
         side.outer.type(b"clear; ssh-add -l\r")
-        check("sealed: a forwarded agent answers", comes(lambda: b"no identities" in side.outer.written, 20), side.outer.written[-300:])
+        check("sealed: a forwarded agent answers", comes(lambda: b"identities" in side.outer.written, 20), side.outer.written[-300:])
         before = machines.processes(0, "ssh")
         time.sleep(asked.long)
         logs = [path.read_text(encoding="utf-8") for path in asked.folder.glob("roam/ssh*/log")]

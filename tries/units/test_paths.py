@@ -190,6 +190,16 @@ class Lives(Net):
         self.assertTrue(self.near.is_sound() and self.far.is_sound())
         self.assertEqual(self.got[self.far], [(1, typed(1)[0])])
 
+    def test_silent_at(self):
+        """The moment of silence is 7 s after the last answer, and 4 s after what nobody answered; never heard it is silent."""
+        self.assertEqual(self.near.silent_at(), float("-inf"))
+        self.near.answered_at = self.now
+        self.assertEqual(self.near.silent_at(), self.now + 7)
+        self.near.asked_at = self.now + 2
+        self.assertEqual(self.near.silent_at(), self.now + 6)
+        self.near.asked_at = self.now + 5
+        self.assertEqual(self.near.silent_at(), self.now + 7)
+
     def test_one_at_a_time(self):
         """Over a silent path one packet at a time goes, which looks whether it still is."""
         self.begin()
@@ -630,6 +640,15 @@ class Parts(Case):
         self.now += 11
         pace.lets(1, self.now)
         self.assertEqual((pace.rises, pace.window()), (True, FIRST))
+
+    def test_pace_rise(self):
+        """A rate that has grown by more than a quarter in a round is a rise; one that has grown by less isn't."""
+        for growth, flat in ((1.2, 1), (1.3, 0)):
+            pace = PathPace()
+            pace.compared = 100_000.0
+            pace.arrived = int(100_000 * growth / 2) - 1200
+            pace.note(SentPacket(self.now - 0.5, 1200, (), 0, 0.0), self.now, True)
+            self.assertEqual((pace.flat, pace.rises), (flat, True), growth)
 
     def test_pace_at_least(self):
         """Four packets may always be on their way."""
