@@ -347,7 +347,9 @@ class Loop(Fronts):
         self.place.told = self.place.told._replace(focus=2)
         self.now += 0.1
         self.turn()
-        self.assertIn(b"\x1b=", self.shown())
+        self.assertEqual(self.shown().count(b"\x1b="), 1)
+        self.turn()
+        self.assertEqual(self.shown(), b"")
 
     def test_limits(self):
         """While 65,536 bytes wait for the terminal nothing more is read of the start."""

@@ -11,8 +11,8 @@ from roam_live import ends, far, near
 from roam_live.carriers import LONGEST, SHORTEST
 from roam_live.program import Fault
 from test_relayed import HOSTILE, ODD
-from roam_live.relayed import (BELL, COUNT, ENDED, HAD, HEADER, KILLED, RECTS, UNPACKS, WAITING_LIMIT, BadWords, RelayStream, Waiting,
-                               greeting)
+from roam_live.relayed import (BELL, COUNT, ENDED, HAD, HEADER, KEYPAD, KILLED, RECTS, UNPACKS, WAITING_LIMIT, BadWords, RelayStream,
+                               Waiting, greeting)
 
 relay = loaded("relay")
 
@@ -196,10 +196,11 @@ class Nears(Ends):
         follower.connect(str(self.folder / "bells"))
         follower.setblocking(False)
         self.turn(2)
-        self.links[0].say(packed((0, RECTS + b"1 1 1 23 80\nfocus 1\n"), (0, BELL + b"\x03"), (0, b"z?")))
+        keypads = [(0, KEYPAD + told) for told in (b"\x03\x01", b"\x04\0", b"\x03\0")]
+        self.links[0].say(packed((0, RECTS + b"1 1 1 23 80\nfocus 1\n"), (0, BELL + b"\x03"), *keypads, (0, b"z?")))
         self.turn()
         self.assertEqual((self.folder / "rects").read_text(encoding="utf-8"), "1 1 1 23 80\nfocus 1\n")
-        self.assertEqual(read_now(follower), b"bell 3\n")
+        self.assertEqual(read_now(follower), b"bell 3\nkeypad 3 application\nkeypad 3 numeric\n")
         (self.folder / "rects").unlink()
         (self.folder / "rects").mkdir()
         self.near.note_places(str(self.folder), "x")
@@ -348,6 +349,7 @@ class Nears(Ends):
         self.links[0].say(packed((0, b"z")))
         self.turn(2)
         self.assertTrue(self.links[1].has_ended and self.near.link is self.links[0])
+        self.assertEqual((self.near.tries, self.near.ending), ([], [self.links[1]]))
 
     def test_pauses(self):
         """Commands are started after 0.2, 1, 2 and then each 5 s, and each is given 20 s."""
@@ -678,6 +680,17 @@ class Fars(Ends):
             self.far.turn()
         self.assertEqual(self.other.frames(), [(0, BELL + b"\x03"), (0, BELL + b"\x09")])
 
+    def test_keypads(self):
+        """How keypads are is told, each once."""
+        listener = self.listening(self.folder / "bells")
+        self.far.turn()
+        bells = self.taken(listener)
+        for line in (b"keypad 3 application\n", b"keypad 3 application\n", b"keypad 3 numeric\n"):
+            bells.send(line)
+            for _ in range(3):
+                self.far.turn()
+        self.assertEqual(self.other.frames(), [(0, KEYPAD + b"\x03\x01"), (0, KEYPAD + b"\x03\0")])
+
     def test_silence(self):
         """One that has heard nothing for 30 s ends; what it has to say it says each 3 s."""
         self.far.turn()
@@ -703,9 +716,10 @@ class Fars(Ends):
         with self.assertRaises(ends.Ended) as way:
             self.far.turn()
         self.assertEqual(way.exception.args, (129,))
-        with mock.patch.object(self.far.stream, "flush", return_value=False), self.assertRaises(ends.Ended):
+        with mock.patch.object(self.far.stream, "flush", return_value=False), self.assertRaises(ends.Ended) as way:
             self.far.stream.going += b"x"
-            self.far.turn()
+            self.far.flush()
+        self.assertEqual(way.exception.args, (0,))
 
     def test_end(self):
         """The server's end is told: as the session's where it was ended on purpose."""
