@@ -280,8 +280,10 @@ def phase_flood(sides, machines, asked):
         side.note("kB a second", machines.link.carried[side.name] / 1000 / FLOOD)
         side.note("packets dropped, of", f"{machines.link.dropped[side.name]} {machines.link.packets[side.name]}")
         at = len(side.outer.written)
-        side.outer.type(b"\x03")
-        time.sleep(0.3)
+        # One alone may reach a program that has just ended, and then nobody.
+        for _ in range(2):
+            side.outer.type(b"\x03")
+            time.sleep(0.15)
         typed = time.monotonic()
         side.outer.type(b"clear; echo F''LOODEND\r")
         is_there = comes(lambda side=side, at=at: b"FLOODEND" in side.outer.written[at:], 40)
