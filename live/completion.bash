@@ -86,7 +86,7 @@ _roam_relay() {
     case ${COMP_WORDS[COMP_CWORD - 1]} in
     --dir) _roam_folder "$word" "" ;;
     --log) mapfile -t COMPREPLY < <(compgen -f -- "$word") ;;
-    *) mapfile -t COMPREPLY < <(compgen -W "--far --with --alone --log --dir --session --server --help" -- "$word") ;;
+    *) mapfile -t COMPREPLY < <(compgen -W "--far --with --alone --log --host --dir --session --server --help" -- "$word") ;;
     esac
 }
 

@@ -1,4 +1,4 @@
-"""What a person chooses by the environment: the prefix, and when guesses are shown."""
+"""What a person chooses by the environment: the prefix, when guesses are shown, and whether UDP is tried between machines."""
 from __future__ import annotations
 
 import os
@@ -27,3 +27,8 @@ def chosen_guessing(asked: str | None = None) -> str:
     if name not in GUESSING:
         raise Fault(f"ROAM_GUESS is {name!r}, and may be adaptive, always or never")
     return name
+
+
+def wants_udp() -> bool:
+    """Whether a session of another machine goes over UDP where it can: where the environment's ROAM_UDP isn't `never`."""
+    return os.environ.get("ROAM_UDP") != "never"

@@ -35,10 +35,10 @@ class Options:
     the far one the session."""
 
     def __init__(self, *, folder: str | None = None, port: int | None = None, command: list[str] | None = None, owner: int | None = None,
-                 alone: float | None = None, log: str | None = None, far: bool = False, greeted: bool = False, server: int | None = None,
-                 session: str | None = None) -> None:
+                 alone: float | None = None, log: str | None = None, host: str = "", far: bool = False, greeted: bool = False,
+                 server: int | None = None, session: str | None = None) -> None:
         self.dir, self.port, self.command = folder, port, command or []
-        self.owner, self.alone, self.log = owner, alone, log
+        self.owner, self.alone, self.log, self.host = owner, alone, log, host
         self.far, self.greeted, self.server, self.session = far, greeted, server, session
 
 

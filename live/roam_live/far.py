@@ -1,21 +1,34 @@
 """The end of a relay beside the server."""
 from __future__ import annotations
 
+import contextlib
+import math
 import os
+import pathlib
 import socket
 import time
+from collections.abc import Iterable
 
+from roam_live.asking import close_standard, forget_note, is_wanted, made_path, name_in, part_from_command, take_over
 from roam_live.bells import BellFollower
 from roam_live.carriers import Carrier, is_datagram
-from roam_live.ends import FORGOTTEN_AFTER, PEER_LIMIT, Ended, Options, end_for, loopback_socket, received
+from roam_live.ends import FORGOTTEN_AFTER, PEER_LIMIT, SIGNALS, Ended, Options, end_for, loopback_socket, received
 from roam_live.loops import Loop, is_taken
-from roam_live.program import Fault, connected_now, opened_process
-from roam_live.relayed import BELL, ENDED, KEYPAD, KILLED, PLACES_LIMIT, RECTS, RelayStream, Waiting
+from roam_live.program import Fault, connected_now, noted_front_end, opened_process
+from roam_live.relayed import BELL, ENDED, KEYPAD, KILLED, LEAVES, PLACES_LIMIT, RECTS, WANTS, RelayStream, Waiting
+from roam_live.sealed import PORTS, udp_end
 from roam_live.sessions import FolderSession
 from roam_live.watches import ShellsWatch
+from roam_live.ways import Ways, finish
 
-# An end to which nothing is said for so many seconds ends.
+TYPE_CHECKING = False
+if TYPE_CHECKING:
+    from roam_live.paths import Path
+
+# An end to which nothing is said for so many seconds ends; one that was called over a path waits so long for the near end, which may sleep
+# over holidays.
 ALONE = 30.0
+FAR_WAIT = 7 * 24 * 3600.0
 
 # So many seconds after something was painted it is looked anew where the panes are.
 LOOK = 0.1
@@ -33,20 +46,33 @@ class Far:
         # Nobody else may be there to see the shells' end.
         self.place = FolderSession(asked.dir, server=asked.server) if asked.server and asked.dir else None
         self.shells = ShellsWatch(self.place, self.loop) if self.place else None
-        self.bells = BellFollower(asked.dir, self.loop, lambda pane: self.stream.tell(0, BELL + bytes([pane])))
+        self.bells = BellFollower(asked.dir, self.loop, lambda pane: self.tell(BELL + bytes([pane])))
         self.waiting = Waiting()
         self.sockets: dict[int, socket.socket | Carrier] = {}
         self.moments: dict[int, float] = {}
+        # What the other end was told by the way that there is: where panes are, which keypads are an application's, and of which it knows.
         self.rects: bytes | None = None
-        # Of which panes the other end was told that the keypad is an application's.
         self.keypads: set[int] = set()
+        self.known_keypads: set[int] = set()
+        self.told_by: Path | RelayStream | None = None
+        # What holds the command while this goes on in another process; the near end's name, and the note by which the next far end of it
+        # ends this one.
+        self.held: int | None = None
+        self.name = ""
+        self.note: pathlib.Path | None = None
+        self.let_go_at = -math.inf
         for end in (0, 1):
             os.set_blocking(end, False)
         self.stream = RelayStream(0, 1, asked.session or "-")
         if asked.greeted:
             self.stream.session = "-"
+        self.ways = Ways(self.loop)
+        self.ways.stream = self.stream
         self.loop.add(1, None, self.flush, has_more=lambda: self.stream.going)
         self.loop.add(0, self.hear)
+        self.is_counted = False
+        self.client: pathlib.Path | None = None
+        self.count_itself(True)
 
     def send(self, peer: int, datagram: bytes) -> None:
         """Sends a client's datagram to the server."""
@@ -83,6 +109,22 @@ class Far:
         for peer in [peer for peer, moment in self.moments.items() if moment + FORGOTTEN_AFTER < time.monotonic()]:
             self.drop(peer)
 
+    # ---- what the other end is told
+
+    def has_command(self) -> bool:
+        """Whether the command is still there."""
+        return self.ways.stream is not None
+
+    def way(self) -> Path | RelayStream | None:
+        """What carries what waits."""
+        return self.ways.chosen(self.has_command())
+
+    def tell(self, text: bytes) -> None:
+        """Tells the other end something of the session."""
+        way = self.way()
+        if way:
+            way.tell(0, text)
+
     def tell_rects(self, folder: str) -> None:
         """Tells where the panes are, where that is another place than it was."""
         try:
@@ -92,35 +134,142 @@ class Far:
             return
         if rects != self.rects:
             self.rects = rects
-            self.stream.tell(0, RECTS + rects)
+            self.tell(RECTS + rects)
 
     def tell_keypads(self) -> None:
         """Tells how keypads are, where that is another way than it was."""
         for pane in self.keypads ^ self.bells.keypads:
-            self.stream.tell(0, KEYPAD + bytes([pane, pane in self.bells.keypads]))
+            self.known_keypads.add(pane)
+            self.tell(KEYPAD + bytes([pane, pane in self.bells.keypads]))
         self.keypads = set(self.bells.keypads)
+
+    def tell_anew(self) -> None:
+        """Has all be told again, where another way carries it: what was told by the one before may be lost."""
+        way = self.way()
+        if self.told_by and way is not self.told_by:
+            self.rects = None
+            self.keypads = self.known_keypads - self.bells.keypads
+        self.told_by = way
 
     def tell_end(self) -> None:
         """Tells that the session has ended, or that its server was killed, and ends."""
-        self.stream.tell(0, KILLED if self.place and self.place.ending()[1] else ENDED)
-        while self.stream.going and is_taken(1, ALONE) and self.stream.flush():
-            pass
+        text, path = KILLED if self.place and self.place.ending()[1] else ENDED, self.ways.path
+        if path and self.way() is path:
+            path.tell(0, text)
+            finish(path, ALONE)
+        if self.has_command() and not (path and path.is_sound() and path.is_said()):
+            self.stream.tell(0, text)
+            while self.stream.going and is_taken(1, ALONE) and self.stream.flush():
+                pass
         raise Ended(0)
 
+    # ---- what comes from it
+
     def flush(self) -> None:
-        """Writes what the other end takes; where it is gone this ends."""
+        """Writes what the other end takes by the command; where it is gone there this goes on without."""
         if not self.stream.flush():
-            raise Ended(0)
+            self.let_go()
 
     def hear(self) -> None:
-        """Takes what came from the other end."""
+        """Takes what came over the command."""
         frames = self.stream.received()
         if frames is None:
-            raise Ended(0)
+            self.let_go()
+        else:
+            self.take(frames)
+
+    def hear_path(self) -> None:
+        """Takes what came over the path."""
+        if self.ways.path:
+            self.take(self.ways.path.received())
+
+    def take(self, frames: Iterable[tuple[int, bytes]]) -> None:
+        """Takes what the other end sent."""
         for peer, text in frames:
             if peer and is_datagram(text):
                 self.send(peer, text)
+            elif peer == 0 and text[:1] == WANTS:
+                self.make_path(name_in(text))
+            elif peer == 0 and text == LEAVES:
+                raise Ended(0)
         self.drop_silent()
+
+    # ---- the path beside the command
+
+    def make_path(self, name: str) -> None:
+        """Makes a path, and goes on in a process that outlives the command; where one can't be had the command stays all there is."""
+        end = udp_end(PORTS) if name and self.asked.dir and is_wanted() else None
+        if not end or not self.asked.dir:
+            return
+        if self.held is None:
+            self.held = part_from_command(SIGNALS)
+            if self.held is None:
+                end.close()
+                return
+            # What is noted of this process is another's now.
+            self.count_itself(False)
+            self.count_itself(True)
+        made = made_path(end)
+        if made:
+            self.ways.take_path(made[0], self.hear_path)
+            self.name, self.note = name, take_over(self.asked.dir, name)
+            self.stream.tell(0, made[1])
+
+    def let_go(self) -> None:
+        """Goes on without the command, where there is a path; else all ends with it."""
+        if not self.ways.path or self.held is None:
+            raise Ended(0)
+        for end in (self.stream.source, self.stream.target):
+            self.loop.remove(end)
+        self.ways.stream = None
+        self.ways.rest()
+        self.let_go_at = time.monotonic()
+        try:
+            close_standard()
+        except OSError as fault:
+            raise Ended(0) from fault
+        os.close(self.held)
+
+    def alone_at(self) -> float:
+        """When it ends, or lets the command go, where nothing more is heard: one that was called over the path may be called after days."""
+        if self.has_command():
+            return math.inf if self.ways.rests else self.stream.heard + ALONE
+        path = self.ways.path
+        if not path:
+            return -math.inf
+        return path.heard_at + FAR_WAIT if path.place else max(path.heard_at, self.let_go_at) + ALONE
+
+    def end_alone(self) -> None:
+        """Ends where nobody has spoken for long, or lets the command go where somebody has over the path."""
+        if time.monotonic() <= self.alone_at():
+            return
+        if not self.has_command():
+            raise Ended(0)
+        if not self.ways.path or not self.ways.path.place:
+            raise Fault(f"the other end has said nothing for {ALONE:.0f} s")
+        self.let_go()
+
+    def renew(self) -> None:
+        """Makes another path in place of one that has no numbers left, where the command is there to tell of it; else it ends."""
+        path = self.ways.path
+        if path and path.is_spent():
+            self.ways.drop_path()
+            if not self.has_command():
+                raise Ended(0)
+            self.make_path(self.name)
+
+    def count_itself(self, is_there: bool) -> None:
+        """Is counted among the session's clients, or no more, as while nobody calls."""
+        if is_there == self.is_counted:
+            return
+        self.is_counted = is_there
+        if is_there:
+            self.client = noted_front_end(self.asked.dir)
+        elif self.client:
+            with contextlib.suppress(OSError):
+                self.client.unlink()
+
+    # ---- the server
 
     def join(self, peer: int, end: socket.socket | Carrier) -> None:
         """Has what comes from the server for a client carried, and what goes to it."""
@@ -146,21 +295,28 @@ class Far:
         if not carrier.flush():
             self.drop(peer)
 
-    def prepare(self) -> float:
+    def prepare(self) -> float | None:
         """Tells what is new, and by when something is due."""
+        self.ways.rest()
+        self.renew()
+        self.tell_anew()
         if self.asked.dir:
             self.tell_rects(self.asked.dir)
         self.tell_keypads()
-        self.stream.fill(self.waiting)
-        if time.monotonic() > self.stream.heard + ALONE:
-            raise Fault(f"the other end has said nothing for {ALONE:.0f} s")
-        return min(self.stream.due_at(), self.stream.heard + ALONE)
+        self.ways.fill(self.waiting, self.has_command())
+        self.end_alone()
+        self.count_itself(self.has_command() or self.ways.path is not None and not self.ways.path.is_asleep())
+        alone_at = self.alone_at()
+        return min([*self.ways.moments(), *([alone_at] if alone_at < math.inf else [])], default=None)
 
     def turn(self) -> None:
         """Waits until something can be done, and does it."""
         self.loop.turn()
 
     def close(self) -> None:
-        """Closes the sockets."""
+        """Closes the sockets, and removes what notes this process."""
         for peer in list(self.sockets):
             self.drop(peer)
+        self.ways.drop_path()
+        self.count_itself(False)
+        forget_note(self.note)

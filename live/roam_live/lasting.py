@@ -76,8 +76,8 @@ class Lasting:
                 os.utime(path, follow_symlinks=False)
 
     def paths(self) -> Iterator[str]:
-        """The folder, what lies there, and the notes of front ends."""
+        """The folder, what lies there, and the notes of clients and of far ends."""
         yield self.folder
-        for folder in (self.folder, os.path.join(self.folder, "attached")):
+        for folder in (self.folder, *(os.path.join(self.folder, name) for name in ("attached", "relays"))):
             with contextlib.suppress(OSError):
                 yield from [entry.path for entry in os.scandir(folder)]

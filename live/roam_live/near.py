@@ -11,6 +11,7 @@ import subprocess
 import time
 from collections.abc import Callable, Iterator
 
+from roam_live.asking import Finder, NearPath, is_wanted, kept_name, near_path, wish
 from roam_live.bells import BellSource
 from roam_live.carriers import Carrier, is_datagram
 from roam_live.ends import FORGOTTEN_AFTER, PEER_LIMIT, Ended, Options, end_for, loopback_socket, received
@@ -18,7 +19,8 @@ from roam_live.lasting import Lasting
 from roam_live.listeners import Listener
 from roam_live.loops import Loop
 from roam_live.program import Fault, count_front_ends, logs, make_room_in_logs, opened_process, read, reason, replace_text, say
-from roam_live.relayed import BELL, ENDED, KEYPAD, KILLED, RECTS, BadWords, RelayStream, Waiting
+from roam_live.relayed import BELL, ENDED, KEYPAD, KILLED, LEAVES, RECTS, SEALED, BadWords, RelayStream, Waiting
+from roam_live.ways import SOUND, Ways, finish
 from roam_live.words import Said
 
 TYPE_CHECKING = False
@@ -26,6 +28,7 @@ if TYPE_CHECKING:
     from typing import IO
 
     from roam_live.ends import Address
+    from roam_live.paths import Path
 
 # After so many seconds of silence another command is spawned.
 SILENT = 7.0
@@ -34,11 +37,10 @@ SILENT = 7.0
 PAUSES = (0.2, 1, 2, 5)
 PATIENCE = 20.0
 
-# So many seconds a command has for its end.
+# So many seconds a command has for its end, and the other end for hearing by a path that this one leaves; and so many packets tell it that
+# its own end was heard.
 END_WAIT = 1.0
-
-# A link that was there for so long was sound: what breaks it is no fault of the command.
-SOUND = 5.0
+LAST_PACKETS = 3
 
 # So often it is looked whether a front end is noted.
 LOOKS = 5.0
@@ -169,6 +171,8 @@ class Near:
         self.waiting = Waiting()
         self.peers = Peers(self.waiting.forget)
         self.session = "-"
+        self.ways = Ways(self.loop)
+        self.finder = Finder(asked.host)
         self.link: RunningCommand | None = None
         self.tries: list[RunningCommand] = []
         self.ending: list[RunningCommand] = []
@@ -184,17 +188,27 @@ class Near:
         """Ends, since the process of --with has."""
         raise Ended(0)
 
+    def has_live_link(self) -> bool:
+        """Whether a command is there that carries something, or would."""
+        return self.link is not None and (self.ways.rests or not self.link.stream.is_silent(SILENT))
+
     def is_silent(self) -> bool:
-        """Whether there is no link that is known to carry anything."""
-        return self.link is None or self.link.stream.is_silent(SILENT)
+        """Whether there is neither a path nor a link that is known to carry anything."""
+        return not self.ways.is_sound() and not self.has_live_link()
+
+    def way(self) -> Path | RelayStream | None:
+        """What carries what waits."""
+        return self.ways.chosen(self.has_live_link())
 
     def tend(self) -> None:
         """Spawns a command where one is due, and ends those that are late."""
         now = time.monotonic()
         self.ending = [link for link in self.ending if link.process.poll() is None]
-        if self.link and not self.is_silent():
+        self.ways.rest()
+        if not self.is_silent():
             self.drop_tries()
-            self.try_count = 0 if self.link.since + SOUND < now else self.try_count
+            was_sound = self.ways.was_sound() or self.link is not None and self.link.since + SOUND < now
+            self.try_count = 0 if was_sound else self.try_count
             return
         # The first one may be waiting for a person's answer.
         if self.has_answered:
@@ -202,7 +216,7 @@ class Near:
                 self.drop(link)
         if self.has_answered and not self.is_told:
             self.is_told = True
-            say("the other end is silent" if self.link else "the other end has ended")
+            say("the other end is silent" if self.link or self.ways.path else "the other end has ended")
         if now >= self.next_try and (self.has_answered or not self.tries):
             self.spawn(now)
 
@@ -225,7 +239,8 @@ class Near:
         link.end()
         self.ending.append(link)
         self.tries = [other for other in self.tries if other is not link]
-        self.link = None if self.link is link else self.link
+        if self.link is link:
+            self.link = self.ways.stream = None
 
     def drop_tries(self) -> None:
         """Has the commands end that aren't needed any more."""
@@ -272,6 +287,8 @@ class Near:
         for old in [*self.tries, *([self.link] if self.link else [])]:
             self.drop(old)
         self.link, self.session = link, session
+        self.ways.stream = link.stream
+        self.ask_for_path()
         if self.has_answered:
             return
         self.has_answered = True
@@ -312,6 +329,47 @@ class Near:
             self.bells.tell(text[1])
         elif text[:1] == KEYPAD and self.bells:
             self.bells.tell_keypad(text[1], text[2] == 1)
+        elif text[:1] == SEALED:
+            self.take_path(near_path(text))
+
+    # ---- the path beside the command
+
+    def ask_for_path(self) -> None:
+        """Asks the other end for a path under a new key, where one is wanted; what there was of one before is dropped."""
+        self.ways.drop_path()
+        if self.link and is_wanted():
+            self.link.stream.tell(0, wish(kept_name(self.asked.dir)))
+
+    def take_path(self, path: NearPath | None) -> None:
+        """Takes a path that the other end tells of, where it can be had."""
+        if path:
+            self.ways.take_path(path, self.hear_path)
+
+    def hear_path(self) -> None:
+        """Takes what came over the path."""
+        for peer, text in self.ways.path.received() if self.ways.path else ():
+            self.take(peer, text)
+
+    def tend_path(self) -> None:
+        """Looks where the other end of the path may be; one that has no numbers left is dropped, and another asked for."""
+        path = self.ways.path
+        if path and path.is_spent():
+            self.ask_for_path()
+        elif isinstance(path, NearPath):
+            self.finder.look(path)
+
+    def leave_path(self) -> None:
+        """Tells the far end that nobody will come any more, or that its own end was heard, and lets the path go."""
+        path = self.ways.path
+        if path and path.answered_at is not None and self.is_over:
+            for _ in range(LAST_PACKETS):
+                path.send_packet(time.monotonic())
+        elif path and path.answered_at is not None:
+            path.tell(0, LEAVES)
+            finish(path, END_WAIT)
+        self.ways.drop_path()
+
+    # ---- places and clients
 
     def note_places(self, folder: str, places: str) -> None:
         """Notes where the panes are; where that can't be written it is told of, and the next is tried."""
@@ -375,17 +433,17 @@ class Near:
         self.look()
         if self.lasting:
             self.lasting.turn()
-        if self.link:
-            self.link.stream.fill(self.waiting)
+        self.tend_path()
+        self.ways.fill(self.waiting, self.has_live_link())
         return min(self.moments(), default=None)
 
     def moments(self) -> list[float]:
         """When something is due."""
         found = [self.next_try] if self.is_silent() and (self.has_answered or not self.tries) else []
         found += [] if self.asked.alone is None else [self.looked_at + LOOKS]
-        if self.link:
-            found += [self.link.stream.due_at(), *([] if self.is_silent() else [self.link.stream.silent_at(SILENT)])]
-        return found
+        if self.link and not self.ways.rests and not self.link.stream.is_silent(SILENT):
+            found.append(self.link.stream.silent_at(SILENT))
+        return found + self.ways.moments()
 
     def turn(self) -> None:
         """Waits until something can be done, and does it."""
@@ -393,6 +451,7 @@ class Near:
 
     def close(self) -> None:
         """Ends all commands."""
+        self.leave_path()
         for link in [*self.tries, *([self.link] if self.link else [])]:
             self.drop(link)
         for link in self.ending:

@@ -1,11 +1,14 @@
 """Sessions of other machines: `mux ssh` here, and what it runs there."""
 from __future__ import annotations
 
+import contextlib
 import os
 import re
 import shlex
+import subprocess
 import zlib
 
+from roam_live.choices import wants_udp
 from roam_live.program import TOOLS
 from roam_live.relayed import greeting, read_greeting
 from roam_live.sessions import NearSession, FolderSession, base
@@ -19,6 +22,9 @@ if TYPE_CHECKING:
 # The options of ssh that have a word behind them, and those of `mux ssh` itself.
 SSH_PAIRS = "BbcDEeFIiJLlmOoPpQRSWw"
 OWN_PAIRS = ("--ssh", "--far", "--guess")
+
+# So many seconds ssh has for telling where it would go.
+HOST_WAIT = 5.0
 
 
 def parted_options(words: list[str]) -> tuple[list[str], list[str]]:
@@ -41,6 +47,21 @@ def parted_options(words: list[str]) -> tuple[list[str], list[str]]:
 def command_of(asked: Asked) -> list[str]:
     """The command over which a session is carried, as the words of `mux ssh` say."""
     return [*shlex.split(asked.ssh), *asked.options, asked.host, f"{asked.far} far {asked.name}"]
+
+
+def host_of(asked: Asked) -> str:
+    """What ssh takes for the name or the address of the other machine; the word itself, without a user, where it doesn't tell in time, and
+    nothing where no UDP is wanted, for which it is."""
+    if not wants_udp():
+        return ""
+    words = [*shlex.split(asked.ssh), "-G", *asked.options, asked.host]
+    with contextlib.suppress(OSError, subprocess.SubprocessError):
+        told = subprocess.run(words, stdin=subprocess.DEVNULL, stdout=subprocess.PIPE, stderr=subprocess.DEVNULL, timeout=HOST_WAIT,
+                              check=True)
+        found = re.search(rb"^hostname ([!-~]+)$", told.stdout, re.MULTILINE)
+        if found:
+            return found[1].decode("ascii")
+    return str(asked.host).rpartition("@")[2]
 
 
 def near_session(asked: Asked, command: list[str]) -> NearSession:

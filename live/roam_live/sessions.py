@@ -274,9 +274,9 @@ class FolderSession(Processes):
         nothing is removed."""
         if self.is_served():
             raise Fault(f"somebody answers at {self.folder / 'clients'}; nothing is removed there")
-        attached = self.folder / "attached"
+        folders = [self.folder / name for name in ("attached", "relays")]
         notes = [self.folder / name for name in (*SOCKETS, "rects", "session", "session.new", "state.json")]
-        for path in [*(attached.iterdir() if attached.is_dir() else ()), *notes]:
+        for path in [*(note for folder in folders if folder.is_dir() for note in folder.iterdir()), *notes]:
             path.unlink(missing_ok=True)
 
     def end_all(self) -> None:
@@ -333,13 +333,14 @@ class NearSession(FolderSession):
     def demand_shells(self) -> None:
         """Leaves the shells to the other machine."""
 
-    def launch_relay(self, command: list[str]) -> int:
-        """Launches a relay over a command, which may ask at this terminal until it has answered; tells the status of one that didn't, and
-        leaves no folder then."""
+    def launch_relay(self, command: list[str], host: str = "") -> int:
+        """Starts a relay over a command, which may ask at this terminal until it has answered, and by UDP to a host, where one is named;
+        tells the status of one that didn't answer, and leaves no folder then."""
         self.clean()
         (self.folder / "ended").unlink(missing_ok=True)
         self.state = {"version": VERSION}
-        words = [str(TOOLS / "relay"), "--alone", str(ALONE), "--log", str(self.log), "--dir", str(self.folder), "-", *command]
+        words = [str(TOOLS / "relay"), "--alone", str(ALONE), "--log", str(self.log), *([f"--host={host}"] if host else [])]
+        words += ["--dir", str(self.folder), "-", *command]
         with self.whole():
             relay = self.spawned("relay", words, in_front, is_heard=True)
             try:

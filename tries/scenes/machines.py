@@ -101,7 +101,8 @@ def by_hand(folder):
 def ssh_words(folder, far, asked):
     """The words of a `mux ssh` to a session of another folder, by a command that stands for ssh and notes what it is asked."""
     stand_in = folder / "ssh"
-    stand_in.write_text(f'#!/bin/sh\necho "$*" >> {asked}\nshift 3\nexec sh -c "$*"\n', encoding="utf-8")
+    says = 'if [ "$1" = -G ]; then echo hostname 127.0.0.1; exit; fi'
+    stand_in.write_text(f'#!/bin/sh\necho "$*" >> {asked}\n{says}\nshift 3\nexec sh -c "$*"\n', encoding="utf-8")
     stand_in.chmod(0o755)
     far.mkdir(mode=0o700)
     own = ["--ssh", str(stand_in), "--far", f"env XDG_RUNTIME_DIR={far} {TOOLS / 'mux'}"]
@@ -133,7 +134,8 @@ def far(folder):
     os.kill(json.loads((far / "roam/other/state.json").read_text(encoding="utf-8"))["shells"][0], signal.SIGKILL)
     check("shells that have ended there are started anew", again.shows("[a new shell; ") and again.shows("$ "), again.rows)
     lines = asked.read_text(encoding="utf-8").splitlines()
-    check("over the ssh that is there, which was told its own options", len(lines) == 1 and lines[0].startswith("-p 2222 there "), lines)
+    is_told = len(lines) == 2 and lines[0] == "-G -p 2222 there" and lines[1].startswith("-p 2222 there ")
+    check("over the ssh that is there, which was asked for the host and told its own options", is_told, lines)
     again.type(b"exit\r")
     for one in (again, beside):
         check("its end is told", one.shows("[the session has ended]") and one.ends(), one.rows)

@@ -153,6 +153,13 @@ def closed(end: int) -> None:
         os.close(end)
 
 
+def ended(end: int) -> None:
+    """Ends what a descriptor stands for; its number stays taken, so that nothing else is closed under it later."""
+    nothing = os.open(os.devnull, os.O_RDWR | os.O_CLOEXEC)
+    os.dup2(nothing, end)
+    os.close(nothing)
+
+
 def read_now(end: "socket.socket | int") -> bytes:
     """All that can be read at an end now."""
     text = b""

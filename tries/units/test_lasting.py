@@ -25,7 +25,8 @@ class Lasts(unittest.TestCase):
     def fill(self):
         """Makes the folder."""
         (self.folder / "attached").mkdir(parents=True)
-        for name in ("state.json", "log", "lock", "rects", "attached/17"):
+        (self.folder / "relays").mkdir()
+        for name in ("state.json", "log", "lock", "rects", "attached/17", "relays/ab"):
             (self.folder / name).touch()
         (self.folder / "session").write_text("5e55\n", encoding="utf-8")
         listener = socket.socket(socket.AF_UNIX, socket.SOCK_STREAM)

@@ -1,6 +1,8 @@
 """What the words of mux do, and how they are read."""
 import argparse
+import os
 import pathlib
+import types
 from unittest import mock
 
 from aids import Case, loaded
@@ -202,8 +204,9 @@ class Far(Mux):
     def test_ssh(self):
         """A relay is started where none runs, and its status is that of one that didn't answer."""
         starts = self.patch_of(NearSession, "launch_relay", return_value=0)
+        self.patch_of(remote, "host_of", side_effect=lambda asked: f"host of {asked.host}")
         self.assertEqual(self.mux("ssh", "-p", "22", "me@there", "work"), 7)
-        starts.assert_called_once_with(["ssh", "-p", "22", "me@there", "roam-mux far work"])
+        starts.assert_called_once_with(["ssh", "-p", "22", "me@there", "roam-mux far work"], "host of me@there")
         session = self.follows.call_args[0][0]
         self.assertEqual(session.folder.name.rpartition(":")[0], "ssh:me@there:work")
         self.assertEqual(self.done, [("kill", "work"), ("demand_terminals", "work")])
@@ -215,6 +218,29 @@ class Far(Mux):
         self.assertEqual(self.mux("ssh", "there"), 7)
         self.assertEqual((starts.call_count, self.follows.call_args[0][4]()), (2, False))
         self.refuses("'a b' is no name: letters, digits, - and _, 32 at most", "ssh", "there", "a b")
+
+    def test_host(self):
+        """ssh tells where it would go, in a moment, and is told its own options; where it doesn't, its word has the host."""
+        self.environment(ROAM_UDP=None)
+        folder = self.made_folder()
+        stand_in = folder / "ssh"
+        asked = types.SimpleNamespace(ssh=f"{stand_in} -4", options=["-p", "22"], host="me@there")
+
+        def host(text):
+            stand_in.write_text(f"#!/bin/sh\n{text}\n", encoding="utf-8")
+            stand_in.chmod(0o700)
+            return remote.host_of(asked)
+
+        self.assertEqual(host(f"echo \"$@\" > {folder}/words; echo user me; echo hostname there.example; echo port 22"), "there.example")
+        self.assertEqual((folder / "words").read_text(encoding="utf-8"), "-4 -G -p 22 me@there\n")
+        for text in ("exit 3", "echo", "echo hostname", "echo 'hostname a b'", "printf 'hostname \\377\\n'", "echo hostname x; exit 1"):
+            self.assertEqual(host(text), "there", text)
+        with mock.patch.object(remote, "HOST_WAIT", 0.1):
+            self.assertEqual(host("sleep 5"), "there")
+        stand_in.unlink()
+        self.assertEqual(remote.host_of(asked), "there")
+        with mock.patch.dict(os.environ, ROAM_UDP="never"), mock.patch("subprocess.run", side_effect=AssertionError):
+            self.assertEqual(remote.host_of(asked), "")
 
     def test_options(self):
         """The options before the host are for ssh, but those of mux; a letter may have its word at once, and stand behind others."""

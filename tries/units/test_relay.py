@@ -6,13 +6,13 @@ import socket
 import zlib
 from unittest import mock
 
-from aids import Case, StillLoop, closed, loaded, read_now
+from aids import Case, StillLoop, ended, loaded, read_now
 from roam_live import ends, far, near
 from roam_live.carriers import LONGEST, SHORTEST
 from roam_live.program import Fault
 from test_relayed import HOSTILE, ODD
-from roam_live.relayed import (BELL, COUNT, ENDED, HAD, HEADER, KEYPAD, KILLED, RECTS, WAITING_LIMIT, BadWords, RelayStream, Waiting,
-                               greeting)
+from roam_live.relayed import (BELL, COUNT, ENDED, HAD, HEADER, KEYPAD, KILLED, RECTS, UNPACKS, WAITING_LIMIT, BadWords, RelayStream,
+                               Waiting, greeting)
 
 relay = loaded("relay")
 
@@ -43,7 +43,7 @@ class Other:
             length, peer = HEADER.unpack(text[: HEADER.size])
             found.append((peer, text[HEADER.size : HEADER.size + length]))
             text = text[HEADER.size + length :]
-        return found
+        return [frame for frame in found if frame != (0, UNPACKS)]
 
 
 class FakeLink:
@@ -51,7 +51,7 @@ class FakeLink:
 
     def __init__(self, case, session="-"):
         (self.source, self.said), (heard, self.target) = case.pipe(), case.pipe()
-        self.other = Other(heard)
+        self.other, self.packer = Other(heard), zlib.compressobj()
         self.stream = RelayStream(self.source, self.target, session)
         self.errors = None
         self.since = case.now
@@ -61,6 +61,15 @@ class FakeLink:
     def say(self, text):
         """Has the other end say something."""
         os.write(self.said, text)
+
+    def tell(self, *frames):
+        """Has the other end send frames, of one stream."""
+        text = b"".join(HEADER.pack(len(text), peer) + text for peer, text in frames)
+        self.say(self.packer.compress(text) + self.packer.flush(zlib.Z_SYNC_FLUSH))
+
+    def hang_up(self):
+        """Has it end."""
+        ended(self.said)
 
     def join(self, loop, hears):
         """Has a loop carry what goes, and call where something came."""
@@ -73,8 +82,8 @@ class FakeLink:
         self.has_ended = True
         self.loop.remove(self.target)
         self.loop.remove(self.source)
-        closed(self.source)
-        closed(self.target)
+        ended(self.source)
+        ended(self.target)
 
     def pass_errors(self):
         """It has none."""
@@ -89,13 +98,14 @@ class Ends(Case):
 
     def setUp(self):
         self.stop_clock()
+        self.environment(ROAM_UDP="never")
         self.folder = self.made_folder()
         self.wakeup, self.wakes = self.pipe()
 
     def asked(self, **more):
         """The words of a command line."""
-        known = {"far": False, "greeted": False, "owner": None, "alone": None, "log": None, "dir": str(self.folder), "session": None,
-                 "server": None, "port": None, "command": ["ssh", "there"]}
+        known = {"far": False, "greeted": False, "owner": None, "alone": None, "log": None, "host": "", "dir": str(self.folder),
+                 "session": None, "server": None, "port": None, "command": ["ssh", "there"]}
         return argparse.Namespace(**{**known, **more})
 
 
@@ -994,14 +1004,11 @@ class Words(Ends):
         self.words("relay", "0", "ssh")
         self.assertEqual(relay.main(), 129)
         self.assertEqual((made.call_args[0][1], end.turn.call_count, end.close.call_count), (5, 2, 1))
-        note = self.folder / "note"
-        note.touch()
         end.turn.side_effect = [ends.Ended(0)]
         self.patch_of(far, "Far", return_value=end)
-        self.patch_of(relay, "noted_front_end", return_value=note)
         self.words("relay", "--far", "1")
         with mock.patch("os.isatty", return_value=False):
             self.assertEqual(relay.main(), 0)
-        self.assertFalse(note.exists())
+        self.assertEqual(end.close.call_count, 2)
         with mock.patch("os.isatty", return_value=True), self.assertRaisesRegex(Fault, "^standard input is a terminal; "):
             relay.main()

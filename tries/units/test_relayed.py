@@ -1,13 +1,18 @@
 """What the two ends of a relay say to each other, and what an end does with what can't be."""
 import os
 import pathlib
+import random
 import tempfile
 import unittest
 import zlib
+from unittest import mock
 
+from aids import Case
 from roam_live import rects
+from roam_live.bundles import LONGEST_TEXT, joined, pack_large
 from roam_live.carriers import LONGEST, SHORTEST
-from roam_live.relayed import BELL, COUNT, ENDED, HAD, HEADER, MOST_TOLD, RECTS, BadWords, RelayStream, greeting
+from roam_live.relayed import (BELL, COUNT, ENDED, HAD, HEADER, MOST_TOLD, PACKED, PACKED_HEAD, RECTS, UNPACKS, BadWords, RelayStream,
+                               Waiting, greeting)
 
 
 def frame(peer, text):
@@ -19,6 +24,11 @@ def packed(frames):
     """Frames as they go over a stream."""
     packer = zlib.compressobj()
     return packer.compress(frames) + packer.flush(zlib.Z_SYNC_FLUSH)
+
+
+def packed_frame(text, is_last=1):
+    """A frame of what LZMA packed, as it stands before it is compressed."""
+    return frame(0, PACKED_HEAD.pack(PACKED, 1, is_last) + text)
 
 
 def datagram(length):
@@ -41,6 +51,12 @@ HOSTILE = {
     "a datagram that is too short": (packed(frame(1, datagram(SHORTEST - 1))), f"{SHORTEST - 1} bytes"),
     "a datagram that is too long": (packed(frame(1, datagram(LONGEST + 1))), f"{LONGEST + 1} bytes"),
     "no zlib": (b"\xff" * 100, "can't be read"),
+    "a packed frame without bytes": (packed(packed_frame(b"")), "can't be read"),
+    "what LZMA doesn't know": (packed(packed_frame(b"\xff" * 99)), "packed can't be read"),
+    "packed texts that are no datagrams": (packed(packed_frame(pack_large(joined([bytes(50)])))), "packed can't be read"),
+    "packed bytes that aren't texts": (packed(packed_frame(pack_large(b"\xff\xff"))), "packed can't be read"),
+    "more than an instruction, packed": (packed(packed_frame(pack_large(bytes(LONGEST_TEXT + 1)))), "packed can't be read"),
+    "packed frames without an end": (packed(packed_frame(bytes(4093), 0) * 1400), "of one instruction"),
     "a dictionary": (b"\x78\xbb" + b"\x55" * 100, "can't be read"),
     "the end of what is compressed": (zlib.compress(frame(0, BELL + b"\x01")) + bytes(100), "has ended, and the other end hasn't"),
 }
@@ -81,6 +97,185 @@ class Frames(unittest.TestCase):
         for _ in range(3):
             next(frames)
         self.assertLess(len(stream.coming), 100_000)
+
+
+def instruction(number, text, says=0):
+    """The datagrams of an instruction; what says other bytes of its numbers says the same."""
+    parts = [text[k : k + 1200] for k in range(0, len(text), 1200)]
+    return [b"RM\2\1" + bytes(16) + (says + k).to_bytes(8, "big") + number.to_bytes(8, "big") + k.to_bytes(2, "big")
+            + len(parts).to_bytes(2, "big") + len(part).to_bytes(2, "big") + part for k, part in enumerate(parts)]
+
+
+class Goes(Case):
+    """What goes over a stream: packed where both ends can, and nothing twice that is on its way."""
+
+    def setUp(self):
+        self.stop_clock()
+        (source, self.said), (heard, target), (_, nowhere) = self.pipe(), self.pipe(), self.pipe()
+        self.other = zlib.compressobj()
+        self.near, self.far = RelayStream(source, target, "abc"), RelayStream(heard, nowhere, "abc")
+        self.near.session = self.far.session = "abc"
+        self.near.going.clear()
+        self.waiting = Waiting()
+
+    def add(self, peer, texts):
+        """Has an instruction wait."""
+        for text in texts:
+            self.waiting.add(peer, text)
+
+    def carried(self):
+        """What comes of what waits, and the bytes that went."""
+        self.near.fill(self.waiting)
+        count = len(self.near.going)
+        found = []
+        while self.near.going:
+            self.near.flush()
+            found += self.far.received()
+        return found, count
+
+    def test_says_so(self):
+        """An end says once that it can unpack LZMA, where it can, and packs for one that has said so."""
+        self.assertFalse(self.far.packs)
+        self.carried()
+        self.assertTrue(self.far.packs)
+        self.assertLess(self.carried()[1], 10)
+        with mock.patch("roam_live.relayed.has_lzma", return_value=False):
+            one = RelayStream(0, 1, "abc")
+            one.session = "abc"
+            one.fill(Waiting())
+            self.assertEqual(bytes(one.going), greeting("abc"))
+            os.write(self.said, packed(frame(0, UNPACKS)))
+            self.assertEqual((list(self.near.received()), self.near.packs), ([], False))
+
+    def test_packed(self):
+        """A large instruction goes packed to an end that can unpack it, in its place, and counts what it took."""
+        large, small = instruction(1, bytes(range(256)) * 800), instruction(1, b"small")
+        self.add(7, large)
+        self.add(9, small)
+        without = RelayStream(0, 1, "abc")
+        for text in large:
+            without.tell(7, text)
+        self.near.packs = True
+        found, count = self.carried()
+        self.assertEqual(found, [*((7, text) for text in large), (9, small[0])])
+        self.assertLess(count, len(without.going))
+        self.assertEqual(self.near.sent, self.far.had)
+        self.assertLess(self.near.sent, sum(map(len, large)) // 10)
+
+    def test_packed_larger_than_a_frame(self):
+        """What takes several frames comes whole."""
+        large = instruction(1, random.Random(1).randbytes(40_000))
+        self.add(7, large)
+        self.near.packs = True
+        self.assertEqual(self.carried()[0], [(7, text) for text in large])
+        self.assertEqual((self.near.sent, self.far.packed), (self.far.had, b""))
+
+    def test_waits_for_the_rest(self):
+        """A large instruction that comes in parts is packed once it is whole; what doesn't come in 0.1 s isn't waited for."""
+        large = instruction(1, bytes(range(256)) * 800)
+        self.near.packs = True
+        self.carried()
+        self.add(7, large[:50])
+        self.assertEqual((self.carried()[0], self.near.due_at()), ([], self.now + 0.1))
+        self.now += 0.09
+        self.add(7, large[50:])
+        self.assertEqual(self.carried()[0], [(7, text) for text in large])
+        self.assertLess(self.near.sent, sum(map(len, large)) // 10)
+        self.add(7, instruction(2, bytes(9000))[:-1])
+        self.assertEqual(self.carried()[0], [])
+        self.now += 0.1
+        self.assertEqual(self.carried()[0], [(7, text) for text in instruction(2, bytes(9000))[:-1]])
+        self.add(7, instruction(3, bytes(9000))[:2])
+        self.add(7, instruction(4, b"newer"))
+        self.assertEqual(self.carried()[0], [(7, text) for text in instruction(4, b"newer")])
+
+    def test_unpacked(self):
+        """To an end that hasn't said so it goes as ever, as does what isn't whole yet."""
+        large = instruction(1, bytes(9000))
+        self.add(7, large[:-1])
+        self.assertEqual(self.carried()[0], [(7, text) for text in large[:-1]])
+        self.add(7, large[-1:])
+        self.near.packs = True
+        self.assertEqual(self.carried()[0], [(7, large[-1])])
+        self.assertEqual(self.near.sent, sum(map(len, large)))
+
+    def test_repeats(self):
+        """What says word for word what is on its way to that peer is dropped; once that has come it goes again."""
+        for text in (b"small", bytes(9000)):
+            self.near.packs = len(text) > 100
+            self.add(1, instruction(1, text))
+            first = self.carried()[0]
+            self.add(1, instruction(2, text, 99))
+            self.assertEqual((self.carried()[0], len(self.waiting.datagrams)), ([], 0))
+            self.add(2, instruction(1, text))
+            self.assertEqual(len(self.carried()[0]), len(first))
+            os.write(self.said, self.other.compress(frame(0, COUNT.pack(HAD, self.near.sent))) + self.other.flush(zlib.Z_SYNC_FLUSH))
+            self.assertEqual((list(self.near.received()), self.near.said), ([], {}))
+            self.add(1, instruction(3, text, 199))
+            self.assertEqual(len(self.carried()[0]), len(first))
+
+    def test_resumes(self):
+        """Behind a time in which nothing went it says at once that it is there, and isn't taken for silent."""
+        self.carried()
+        self.now += 600
+        self.assertTrue(self.near.is_silent(7))
+        self.near.resume()
+        self.assertFalse(self.near.is_silent(7))
+        self.assertLessEqual(self.near.due_at(), self.now)
+        self.carried()
+        self.assertEqual(self.near.due_at(), self.now + 3)
+
+
+class Whole(unittest.TestCase):
+    """Instructions that wait whole."""
+
+    def setUp(self):
+        self.waiting = Waiting()
+
+    def add(self, peer, texts):
+        """Has datagrams wait."""
+        for text in texts:
+            self.waiting.add(peer, text)
+
+    def test_take_whole(self):
+        """The oldest whole one of each peer, where it may be taken; one that isn't whole waits until it is, or a newer one comes."""
+        self.assertEqual(self.waiting.take_whole(lambda peer, size: True), (0, []))
+        part, small, other = instruction(1, bytes(5000)), instruction(1, b"small"), instruction(1, b"other")
+        self.add(1, part[:-1])
+        self.add(2, small)
+        self.add(3, other)
+        self.assertEqual(self.waiting.take_whole(lambda peer, size: peer != 2), (3, other))
+        self.assertEqual(self.waiting.take_whole(lambda peer, size: size > 4096), (0, []))
+        self.add(1, part[-1:])
+        self.assertEqual(self.waiting.take_whole(lambda peer, size: size > 4096), (1, part))
+        self.assertEqual(self.waiting.take_whole(lambda peer, size: True), (2, small))
+        self.assertEqual((self.waiting.size, list(self.waiting.datagrams)), (0, []))
+
+    def test_rest(self):
+        """Of one that has begun to go the rest is taken once nothing more of it will come."""
+        large, newer = instruction(1, bytes(5000)), instruction(2, b"newer")
+        self.add(1, large[:3])
+        self.assertEqual(self.waiting.take(), (1, large[0]))
+        self.assertEqual(self.waiting.take_whole(lambda peer, size: True), (0, []))
+        self.add(1, newer)
+        self.assertEqual(self.waiting.take_whole(lambda peer, size: True), (1, large[1:3]))
+        self.assertEqual(self.waiting.take_whole(lambda peer, size: True), (1, newer))
+
+    def test_first_whole(self):
+        """The oldest datagram's instruction, where it is whole from its beginning."""
+        self.assertEqual(self.waiting.first_whole(), (0, []))
+        large, small = instruction(1, bytes(5000)), instruction(1, b"small")
+        self.add(1, large)
+        self.add(2, small)
+        self.assertEqual(self.waiting.first_whole(), (1, large))
+        self.waiting.take()
+        self.assertEqual(self.waiting.first_whole(), (0, []))
+        self.waiting.drop_first()
+        self.assertEqual(self.waiting.first_whole(), (2, small))
+        self.waiting.drop_first()
+        self.assertEqual((self.waiting.size, list(self.waiting.datagrams)), (0, []))
+        self.waiting.add(1, b"no datagram of roam")
+        self.assertEqual(self.waiting.first_whole(), (0, []))
 
 
 class Places(unittest.TestCase):

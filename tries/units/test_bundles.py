@@ -1,0 +1,294 @@
+"""Bundles of instructions: cut, lost, repeated and turned round, with bases and without, and what no end should have sent."""
+import itertools
+import random
+import unittest
+import zlib
+
+from roam_live import bundles
+from roam_live.bundles import (BASE, KEPT_GOING, KEPT_PARTS, LARGE, LARGE_BASE, LONGEST_STATE, LONGEST_TEXT, MOST_BUNDLES, MOST_LARGE,
+                               MOST_PEERS, NOW, ONCE, ONCE_KIND, PIECE, PIECE_KIND, PIECE_LENGTH, SOON, WHOLE, Bundles, Piece, joined,
+                               packed_bundle, parted, unpacked_bundle)
+
+
+def datagrams(number, text, kind=2):
+    """The datagrams of an instruction."""
+    parts = [text[k : k + 1200] for k in range(0, len(text), 1200)]
+    return [b"RM\2" + bytes([kind]) + bytes(16) + (number * 99 + k).to_bytes(8, "big") + number.to_bytes(8, "big") + k.to_bytes(2, "big")
+            + len(parts).to_bytes(2, "big") + len(part).to_bytes(2, "big") + part for k, part in enumerate(parts)]
+
+
+def typed(number, letter=b"a", count=1):
+    """An instruction of a client with so many acts."""
+    return datagrams(number, bytes(8) + number.to_bytes(8, "big") + count.to_bytes(2, "big") + (b"\1\0\0\0" + letter) * count)
+
+
+def shown(number, acts=0, change=b"", size=b"\0\x18\0\x50\0\1\0\1\1"):
+    """An instruction of a server: what version 2 tells where nothing is changed, or a change."""
+    return datagrams(number, (number - 1).to_bytes(8, "big") + number.to_bytes(8, "big") + bytes(8) + acts.to_bytes(8, "big") + size
+                     + (change or bytes(7)), 1)
+
+
+def noise(length, seed=1):
+    """Bytes that don't compress."""
+    return random.Random(seed).randbytes(length)
+
+
+def taken(target, frame):
+    """What a piece's frame brings."""
+    kind, peer, number, index, count, length = PIECE.unpack_from(frame)
+    assert kind in (PIECE_KIND, ONCE_KIND) and length == len(frame) - PIECE.size
+    return target.take(peer, number, index, count, frame[PIECE.size :])
+
+
+class Two(unittest.TestCase):
+    """Two ends, of which one sends."""
+
+    def setUp(self):
+        self.near, self.far = Bundles(), Bundles()
+
+    def frames(self, peer, texts, is_once=False):
+        """The pieces of an instruction that are to go, as they stand in packets."""
+        pieces, _ = self.near.begin(peer, texts, is_once)
+        found = [self.near.frame(piece) for piece in pieces]
+        for piece in pieces:
+            self.near.went(piece)
+        return found
+
+    def tell(self, peer):
+        """Has the sender told what came whole; whether something is lost."""
+        return self.near.note_whole(*WHOLE.unpack(self.far.whole(peer))[1:])
+
+    def carried(self, peer, texts):
+        """What comes of an instruction, and the bytes that went."""
+        frames = self.frames(peer, texts)
+        return [one for frame in frames for one in taken(self.far, frame)], sum(map(len, frames))
+
+    def test_carries(self):
+        """Instructions come as they were, whatever their length; those that are alike cost little."""
+        for length in (1, 17, 1200, 1201, LARGE - 50, LARGE, 30_000, 650_013):
+            texts = datagrams(5, noise(length))
+            self.assertEqual(self.carried(3, texts)[0], texts, length)
+        first = self.carried(4, typed(1))[1]
+        self.tell(4)
+        self.assertLess(self.carried(4, typed(2))[1], first - 8)
+
+    def test_numbers(self):
+        """One count numbers the bundles of all peers, and a peer that was forgotten goes on above what the other end has."""
+        for number, peer in enumerate((1, 2, 1, 9), 1):
+            pieces, is_new = self.near.begin(peer, typed(number))
+            self.assertEqual((pieces, is_new), ([Piece(peer, number, 0)], True))
+        for peer in range(10, 10 + MOST_PEERS):
+            self.near.begin(peer, typed(1))
+        self.assertNotIn(1, self.near.going)
+        self.assertEqual(len(self.near.going), MOST_PEERS)
+        self.assertEqual(self.near.begin(1, typed(9))[0][0].number, 5 + MOST_PEERS)
+
+    def test_end(self):
+        """The last number is below 2^31, and no bundle begins behind it."""
+        self.near.last = MOST_BUNDLES - 2
+        self.assertTrue(self.near.may_begin(1))
+        self.assertEqual(self.carried(1, typed(1))[0], typed(1))
+        self.assertEqual((self.near.last, self.near.is_spent(), self.near.may_begin(1), self.near.may_begin(2)),
+                         (MOST_BUNDLES - 1, True, False, False))
+        self.assertEqual(self.far.take(1, MOST_BUNDLES, 0, 1, packed_bundle(joined(typed(2)), 0, b"")), [])
+
+    def test_any_order(self):
+        """Pieces come in any order, again and again, and others not: each instruction comes at most once, and in order."""
+        chance, frames = random.Random(3), []
+        for number in range(1, 120):
+            frames += self.frames(1, datagrams(number, noise(chance.choice((20, 900, 5000)), number)))
+        order = sorted(range(len(frames) * 3), key=lambda place: place // 3 + chance.randrange(9))
+        came = [one for place in order for one in taken(self.far, frames[place // 3])]
+        numbers = [key for key, _ in itertools.groupby(int.from_bytes(one[28:36], "big") for one in came)]
+        self.assertEqual(numbers, sorted(set(numbers)))
+        self.assertEqual(numbers[-1], 119)
+
+    def test_lacks_base(self):
+        """Where a base isn't there the other end says so, and the next goes without; that is said once."""
+        self.carried(1, typed(1))
+        self.tell(1)
+        self.far.coming[1].texts.clear()
+        self.assertEqual(self.carried(1, typed(2))[0], [])
+        self.assertEqual(self.far.coming[1].whole(), 0)
+        self.assertTrue(self.tell(1))
+        self.assertFalse(self.near.going[1].going)
+        frames = self.frames(1, typed(3))
+        self.assertFalse(self.tell(1))
+        self.assertTrue(self.near.going[1].going)
+        self.assertEqual(taken(self.far, frames[0]), typed(3))
+        self.tell(1)
+        self.assertEqual(self.near.going[1].base, 3)
+        self.assertEqual(self.carried(1, typed(4))[0], typed(4))
+
+    def test_base(self):
+        """A base is the newest that came whole, at most 48 behind, and never one that wasn't told."""
+        self.carried(1, typed(1))
+        self.tell(1)
+        for number in range(2, 50):
+            self.near.begin(1, typed(number))
+            self.assertEqual(self.near.going[1].base, 1)
+        self.near.begin(1, typed(50))
+        self.assertEqual(self.near.going[1].base, 0)
+        self.near.note_whole(1, 49)
+        self.assertEqual((self.near.going[1].base, list(self.near.going[1].texts)), (49, [50]))
+        self.near.note_whole(1, 7)
+        self.assertEqual(self.near.going[1].base, 49)
+        self.near.note_whole(1, 4000)
+        self.assertEqual((self.near.going[1].base, self.near.going[1].going), (49, {}))
+        self.assertFalse(self.near.note_whole(77, 1))
+
+    def test_base_behind_many(self):
+        """Where other peers had many bundles meanwhile there is a base again with the second that comes."""
+        self.near.last = 1000
+        for number in (1, 2, 3):
+            self.near.begin(1, typed(number))
+        self.near.note_whole(1, 1002)
+        self.assertEqual(self.near.going[1].base, 1002)
+
+    def test_drops(self):
+        """A small bundle drops all before it; a large one drops small ones, and two large ones are finished before a third."""
+        for length in (9000, 9, 9000, 9001):
+            self.near.begin(1, datagrams(1, noise(length, length)))
+        self.assertEqual(list(self.near.going[1].going), [3, 4])
+        self.assertEqual((MOST_LARGE, self.near.may_begin(1, LARGE + 1), self.near.may_begin(1, LARGE), self.near.may_begin(2, LARGE + 1)),
+                         (2, False, True, True))
+        # Those of which each piece has arrived are in nobody's way, also where nothing was told of the whole.
+        for index in range(len(self.near.going[1].going[3].pieces)):
+            self.near.arrived(Piece(1, 3, index))
+        self.assertTrue(self.near.may_begin(1, LARGE + 1))
+        self.near.begin(1, typed(5))
+        self.assertEqual(list(self.near.going[1].going), [5])
+
+    def test_repeats(self):
+        """What is on its way isn't begun again; what came, or may have been lost with its base, is."""
+        pieces, _ = self.near.begin(1, typed(1))
+        self.assertEqual(self.near.begin(1, [one[:20] + bytes(16) + one[36:] for one in typed(1)]), (pieces, False))
+        self.near.arrived(pieces[0])
+        self.assertTrue(self.near.is_said(1))
+        self.assertEqual(self.near.begin(1, typed(1)), ([Piece(1, 2, 0)], True))
+
+    def test_once(self):
+        """What goes once is wanted until it went."""
+        piece = self.near.begin(1, typed(1), True)[0][0]
+        self.assertEqual(self.near.frame(piece)[:1], ONCE_KIND)
+        self.assertEqual(self.near.length(piece), len(self.near.frame(piece)))
+        self.assertFalse(self.near.went(piece))
+        self.assertEqual((self.near.bundle(piece), self.near.length(piece), self.near.is_said(1)), (None, 0, True))
+        other = self.near.begin(1, typed(2))[0][0]
+        self.assertTrue(self.near.went(other))
+        self.assertTrue(self.near.bundle(other))
+
+    def test_hostile_pieces(self):
+        """Pieces that no end sends change nothing, raise nothing, and take no memory without bound."""
+        chance = random.Random(8)
+        for _ in range(3000):
+            self.far.take(chance.randrange(400), chance.randrange(1 << 32), chance.randrange(1 << 16), chance.randrange(1 << 16),
+                          chance.randbytes(chance.randrange(40)))
+        self.assertLessEqual(len(self.far.coming), MOST_PEERS)
+        for number in range(1, 40):
+            for index in range(100):
+                self.far.take(number % 20, number, index, bundles.MOST_PIECES, bytes(PIECE_LENGTH) * 9)
+        self.assertTrue(all(len(way.parts) <= bundles.MOST_PARTS for way in self.far.coming.values()))
+        self.assertLess(sum(way.size() for way in self.far.coming.values()), KEPT_PARTS * 5 // 4)
+
+    def test_contradicting_counts(self):
+        """A bundle whose pieces tell several counts comes whole for one that fits, or never."""
+        packed = packed_bundle(joined(typed(1)), 0, b"")
+        self.assertEqual(self.far.take(1, 1, 5, 9, b"x"), [])
+        self.assertEqual(self.far.take(1, 1, 0, 1, packed), [])
+        self.assertEqual(self.far.take(1, 2, 0, 1, packed), typed(1))
+
+
+class Packing(unittest.TestCase):
+    """What is packed, unpacked and refused."""
+
+    def test_bytes(self):
+        """The base stands first; then deflate without a header, or LZMA2."""
+        text = joined(typed(1))
+        self.assertEqual(packed_bundle(text, 7, b"")[:4], bytes(4))
+        self.assertEqual(packed_bundle(text, 7, text)[:4], b"\0\0\0\7")
+        self.assertEqual(zlib.decompressobj(-15, text).decompress(packed_bundle(text, 7, text)[4:]), text)
+        self.assertEqual(packed_bundle(bytes(LARGE + 1), 7, text)[:4], b"\xff" * 4)
+
+    def test_unpacked(self):
+        """What can't be read, has no end, or is too long is nothing."""
+        small, large = packed_bundle(b"text", 0, b""), packed_bundle(bytes(9000), 0, b"")
+        self.assertEqual(unpacked_bundle(small, {}, 4), b"text")
+        self.assertEqual(unpacked_bundle(large, {}, 9000), bytes(9000))
+        for packed, longest in ((small, 3), (large, 8999), (small[:-1], 4), (large[:-1], 9000), (b"", 9), (b"\0\0\0", 9), (bytes(4), 9),
+                                (b"\xff" * 4, 9), (BASE.pack(5) + small[4:], 9), (b"\xff" * 30, 9), (bytes(4) + b"\xff" * 30, 9)):
+            self.assertIsNone(unpacked_bundle(packed, {}, longest), packed)
+        self.assertIsNone(unpacked_bundle(packed_bundle(bytes(LONGEST_TEXT + 1), 0, b""), {}, LONGEST_TEXT))
+        self.assertNotIn(LARGE_BASE, (0, MOST_BUNDLES))
+
+    def test_parted(self):
+        """Texts stand behind their lengths; none is empty or cut."""
+        self.assertEqual(parted(joined([b"a", b"bcd"])), [b"a", b"bcd"])
+        self.assertEqual(parted(b""), [])
+        for text in (b"\0", b"\0\0", b"\0\1", b"\0\1a\0", b"\0\1a\0\0", b"\xff\xffa"):
+            self.assertIsNone(parted(text))
+
+    def test_state(self):
+        """What an end tells of itself is short; what claims to be a datagram and is none is dropped."""
+        far = Bundles()
+        self.assertEqual(far.take(0, 1, 0, 1, packed_bundle(joined([b"e", b"p1"]), 0, b"")), [b"e", b"p1"])
+        self.assertEqual(far.take(0, 2, 0, 1, packed_bundle(joined([b"p" * LONGEST_STATE]), 0, b"")), [])
+        self.assertEqual(far.take(5, 3, 0, 1, packed_bundle(joined([b"e", *typed(1), bytes(50)]), 0, b"")), typed(1))
+
+    def test_kept(self):
+        """The newest texts are kept, so many and so much of them, and the newest whatever its length."""
+        texts = {number: bytes(100) for number in range(1, 9)}
+        self.assertEqual(sorted(bundles.kept_texts(texts, 3, 10_000)), [6, 7, 8])
+        self.assertEqual(sorted(bundles.kept_texts(texts, 8, 250)), [7, 8])
+        self.assertEqual(sorted(bundles.kept_texts(texts, 8, 9)), [8])
+        self.assertEqual(bundles.kept_texts({}, 3, 9), {})
+        near = Bundles()
+        for number in range(1, 30):
+            near.begin(1, datagrams(number, noise(40_000, number)))
+        self.assertLessEqual(sum(map(len, near.going[1].texts.values())), KEPT_GOING)
+
+
+class Hastes(unittest.TestCase):
+    """Which instructions have to come, and which are told again anyway."""
+
+    def haste(self, texts, before=None):
+        """How an instruction goes behind another."""
+        near = Bundles()
+        if before:
+            near.begin(1, before)
+        return near.haste(1, texts)
+
+    def test_client(self):
+        """A client's goes until it has arrived where it has acts, and the first always."""
+        self.assertEqual(self.haste(typed(1, count=0)), NOW)
+        self.assertEqual(self.haste(typed(2), typed(1)), NOW)
+        self.assertEqual(self.haste(typed(2, count=0), typed(1)), ONCE)
+
+    def test_server(self):
+        """A server's repeat goes once; one that changes nothing that is seen waits; all else goes at once."""
+        for change in (bytes(7), bytes(4)):
+            self.assertEqual(self.haste(shown(3, 1, change), shown(2, 0, change)), SOON, "no cell")
+        self.assertEqual(self.haste(shown(2), shown(2)), ONCE, "a repeat")
+        self.assertEqual(self.haste(shown(3, 1, b"\0\0\1" + bytes(9) + b"\0\0\0\1" + bytes(20)), shown(2)), NOW, "a cell")
+        self.assertEqual(self.haste(shown(3, size=b"\0\x18\0\x50\0\1\0\2\1"), shown(2)), NOW, "the cursor")
+        self.assertEqual(self.haste(shown(3)), NOW, "the first")
+        long = shown(3, 0, noise(2000))
+        self.assertEqual((self.haste(long, long), self.haste(shown(4), long)), (NOW, SOON), "long ones")
+
+    def test_state(self):
+        """What an end tells of itself goes until it has arrived."""
+        near = Bundles()
+        near.begin(0, [b"e"])
+        self.assertEqual(near.haste(0, [b"e"]), NOW)
+
+    def test_saying(self):
+        """What is said doesn't depend on numbers of datagrams; long texts are known by their sum."""
+        self.assertEqual(bundles.saying(typed(1)), typed(1)[0][42:])
+        long = [datagrams(number, noise(4000)) for number in (1, 2)]
+        self.assertEqual(*map(bundles.saying, long))
+        self.assertLess(len(bundles.saying(long[0])), 1100)
+        self.assertNotEqual(bundles.saying(long[0]), bundles.saying(datagrams(1, noise(4001))))
+
+
+if __name__ == "__main__":
+    unittest.main()
