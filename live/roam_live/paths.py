@@ -254,7 +254,7 @@ class States:
         return told
 
 
-class Arrivals:
+class HeardPackets:
     """What of the other end came, and when it has to be told of that."""
 
     def __init__(self) -> None:
@@ -342,7 +342,7 @@ class Path:
         self.seal, self.end = seal, end
         # What calls where something came.
         self.joined: tuple[Loop, Callable[[], object]] | None = None
-        self.arrivals, self.bundles, self.pace, self.trips, self.states = Arrivals(), Bundles(), PathPace(), Trips(), States()
+        self.arrivals, self.bundles, self.pace, self.trips, self.states = HeardPackets(), Bundles(), PathPace(), Trips(), States()
         # Where the other end may be, where it is, and the address of this end to which it sent.
         self.places = list(places)
         self.place: Place | None = None

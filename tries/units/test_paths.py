@@ -7,7 +7,7 @@ from unittest import mock
 from aids import Case
 from roam_live import paths
 from roam_live.bundles import MOST_BUNDLES, PIECE
-from roam_live.paths import (ASKS, ASKS_LARGE, FIRST, HEAD, HELD, LEAST, MOMENT, Arrivals, Best, Path, PathPace, SentPacket, States,
+from roam_live.paths import (ASKS, ASKS_LARGE, FIRST, HEAD, HELD, LEAST, MOMENT, HeardPackets, Best, Path, PathPace, SentPacket, States,
                              Trips, frames_in)
 from roam_live.relayed import BELL, ENDED, KEYPAD, KILLED, LEAVES, RECTS, Waiting
 from roam_live.sealed import LONGEST_PACKET, LONGEST_TEXT, MOST_PACKETS, Seal
@@ -696,7 +696,7 @@ class Parts(Case):
 
     def test_arrivals(self):
         """What came in the last second is told in a mask; of many peers it is told in turn."""
-        arrivals = Arrivals()
+        arrivals = HeardPackets()
         for counter in (1, 2, 40):
             arrivals.window.note(counter)
             arrivals.want(counter, self.now, HELD)
@@ -719,7 +719,7 @@ class Parts(Case):
 
     def test_mask(self):
         """A mask has 32 bytes at most."""
-        arrivals = Arrivals()
+        arrivals = HeardPackets()
         for counter in range(1, 400):
             arrivals.window.note(counter)
             arrivals.want(counter, self.now, HELD)
@@ -727,7 +727,7 @@ class Parts(Case):
 
     def test_many_untold(self):
         """After 32 packets it is told at once."""
-        arrivals = Arrivals()
+        arrivals = HeardPackets()
         for counter in range(1, 33):
             self.assertNotEqual(arrivals.told_at, self.now)
             arrivals.want(counter, self.now, HELD)
