@@ -175,7 +175,7 @@ class Outer:
 
 
 def own_terminal():
-    """Makes standard input the terminal that hangs up and interrupts this process, which may ignore that where it runs in the background."""
+    """Makes standard input the terminal that hangs up and interrupts this process, which may ignore it where it runs in the background."""
     for number in (signal.SIGINT, signal.SIGQUIT, signal.SIGHUP):
         signal.signal(number, signal.SIG_DFL)
     fcntl.ioctl(0, termios.TIOCSCTTY, 0)

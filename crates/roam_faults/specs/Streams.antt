@@ -1,5 +1,6 @@
--- What the answer to a read or a write tells of a stream.
-use Rattle.std.specs.Prelude.{◌≡◌, ◌⊎◌, ℕ, Result, Ok, Err}
+-- What the answer to a read or a write tells of a stream, and the lines that its bytes are.
+use Rattle.std.specs.Prelude.{◌≡◌, ◌≢◌, ◌⊎◌, ℕ, List, [], ◌∷◌, ◌++◌, Result, Ok, Err}
+use Rattle.std.specs.List.{All, flat_map}
 use Rattle.std.specs.IoError.{error_kind}
 use Rattle.std.specs.declared.io.Error.{Error}
 use Rattle.std.specs.declared.io.ErrorKind.TheVariants.{Interrupted, WouldBlock}
@@ -12,3 +13,19 @@ IsForNow error = (error_kind error ≡ WouldBlock) ⊎ (error_kind error ≡ Int
 abbrev pub IsStreamEnd : Result ℕ Error → Type 0
 IsStreamEnd (Ok n) = n ≡ 0
 IsStreamEnd (Err error) = IsForNow error → ⊥
+
+-- ---- the lines of a stream
+
+-- a line with its end
+abbrev pub ended_line : List ℕ → List ℕ
+ended_line line = line ++ 0x0A ∷ []
+
+-- no end of line is in it
+abbrev pub IsOneLine : List ℕ → Type 0
+IsOneLine line = All (λ byte. byte ≢ 0x0A) line
+
+-- what was read is lines, each with its end, and a line that is begun
+pub record AreLines (log : List ℕ) (lines : List (List ℕ)) (begun : List ℕ) : Type 0 where
+  pub is : log ≡ flat_map ended_line lines ++ begun
+  pub each : All IsOneLine lines
+  pub last : IsOneLine begun

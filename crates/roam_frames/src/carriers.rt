@@ -118,7 +118,7 @@ impl<S: Stream> Carrier<S> {
         }
     }
 
-    // Gives the datagram that stands first, where one does whole and the stream isn't over; it is where a length stands there that none has.
+    // Gives the datagram that stands first, where one does whole and the stream isn't over; it is over where a length stands that none has.
     fn give(&mut self, buf: &mut [u8]) -> Option<usize>
         ensures given { self.new.over ≡ false → IsGiven self.old.frames self.new.frames result buf.new }
         ensures within { IfSome result (λ n. n ≤ length buf.new) }

@@ -133,7 +133,7 @@ pub record IsInTime (moment : Moment) (guess : Guess) : Type 0 where
 abbrev pub TimeEnds : Type 0
 TimeEnds = (moment : Moment) (s : Screenshot) (guesses : GuessesOf) → All (IsInTime moment) (seen_by moment s guesses).list
 
--- Where the time of a guess is over that a screen doesn't confirm, as of a key that isn't echoed, none is left, and the epoch isn't trusted:
+-- Where the time of a guess is over that a screen doesn't confirm, as of a key that isn't echoed, none is left and the epoch isn't trusted:
 -- so nothing is shown until a guess that is made later is confirmed with credit.
 abbrev pub UnechoedEnds : Type 0
 UnechoedEnds = (moment : Moment) (s : Screenshot) (guesses : GuessesOf) → is_any_over moment.at (left_by moment s guesses).list ≡ true

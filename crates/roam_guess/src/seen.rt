@@ -14,7 +14,7 @@ use roam_screens::Seen;
 /// How many milliseconds a guess stays after its acknowledgement counted.
 const GRACE: u64 = 100;
 
-/// How many milliseconds after it was made an acknowledgement counts at the latest, so that no guess stays longer than a quarter of a second
+/// How many milliseconds after it was made an acknowledgement counts at the latest, so that no guess stays above a quarter of a second
 /// after its acknowledgement came, however long the last ones took.
 const LONGEST: u64 = 150;
 

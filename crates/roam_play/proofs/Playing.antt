@@ -20,7 +20,8 @@ use Rattle.roam_faults.specs.declared.faults.RunFault.{RunFault}
 use Rattle.roam_faults.specs.declared.faults.RunFault.TheVariants as run
 use Rattle.roam_play.specs.Asked.{asked_in}
 use Rattle.roam_play.specs.Replies.{reply_line}
-use Rattle.roam_play.specs.Scripts.{Stage, Before, Within, AnswersLine, AreLines, BeginsWith, Ends, IsBadSession, IsEvent, IsOneLine, IsReason, Plays, Prints, Stopped, ended_line, event_in, is_in_place, size_of}
+use Rattle.roam_play.specs.Scripts.{Stage, Before, Within, AnswersLine, BeginsWith, Ends, IsBadSession, IsEvent, IsReason, Plays, Prints, Stopped, event_in, is_in_place, size_of}
+use Rattle.roam_faults.specs.Streams.{AreLines, IsOneLine, ended_line}
 use Rattle.roam_play.specs.Scripts as script
 use Rattle.roam_play.specs.Played.{Fails, Fed, HasAnswer, IsAt, HasPlayed}
 use Rattle.roam_play.specs.Played as played

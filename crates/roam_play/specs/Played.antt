@@ -6,7 +6,8 @@ use Rattle.roam_script.specs.Values.{LineValue}
 use Rattle.roam_simulation.specs.Worlds.{WorldView, StandsFor}
 use Rattle.roam_faults.specs.declared.faults.RunFault.{RunFault}
 use Rattle.roam_faults.specs.declared.faults.RunFault.TheVariants as run
-use Rattle.roam_play.specs.Scripts.{Stage, Before, Within, AnswersLine, Answers, Plays, Ends, AreLines}
+use Rattle.roam_play.specs.Scripts.{Stage, Before, Within, AnswersLine, Answers, Plays, Ends}
+use Rattle.roam_faults.specs.Streams.{AreLines}
 
 -- a world of the code is that of a stage
 abbrev pub IsAt : Option WorldView → Stage → Type 0

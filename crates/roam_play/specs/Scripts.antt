@@ -13,26 +13,13 @@ use Rattle.roam_world.specs.Laws.{Reaches}
 use Rattle.roam_script.specs.Values.{LineValue, IsLine, Session, Start, Watch, PaneBytes, Typed, ServerTick, ClientTick, ToServer, ToClient, Drained, Show, Face, Output}
 use Rattle.roam_script.specs.Lines.{Says}
 use Rattle.roam_script.specs.Skipped.{is_skipped}
+use Rattle.roam_faults.specs.Streams.{AreLines, IsOneLine, ended_line}
 use Rattle.roam_faults.specs.declared.faults.RunFault.{RunFault}
 use Rattle.roam_faults.specs.declared.faults.RunFault.TheVariants as run
 use Rattle.roam_play.specs.Replies.{reply_line}
 use Rattle.roam_play.specs.Asked.{asked_in}
 
 -- ---- lines
-
--- a line with its end
-abbrev pub ended_line : List ℕ → List ℕ
-ended_line line = line ++ 0x0A ∷ []
-
--- no end of line is in it
-abbrev pub IsOneLine : List ℕ → Type 0
-IsOneLine line = All (λ byte. byte ≢ 0x0A) line
-
--- what was read is lines, each with its end, and a line that is begun
-pub record AreLines (log : List ℕ) (lines : List (List ℕ)) (begun : List ℕ) : Type 0 where
-  pub is : log ≡ flat_map ended_line lines ++ begun
-  pub each : All IsOneLine lines
-  pub last : IsOneLine begun
 
 -- an event or a question: a line that isn't skipped says this
 pub record IsEvent (line : List ℕ) (l : LineValue) : Type 0 where

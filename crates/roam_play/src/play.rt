@@ -9,7 +9,8 @@ ghost use Rattle.roam_script.specs.Lines.{value_of};
 ghost use Rattle.roam_simulation.specs.Events.{IsHandedIn, event_of};
 ghost use Rattle.roam_simulation.specs.Worlds.{StandsFor};
 ghost use Rattle.roam_play.specs.Replies.{reply_line};
-ghost use Rattle.roam_play.specs.Scripts.{Stage, Before, Within, IsBadSession, IsOneLine, Prints, Stopped, event_in, is_in_place};
+ghost use Rattle.roam_play.specs.Scripts.{Stage, Before, Within, IsBadSession, Prints, Stopped, event_in, is_in_place};
+ghost use Rattle.roam_faults.specs.Streams.{IsOneLine};
 ghost use Rattle.roam_play.specs.Played.{Fails, Fed, HasAnswer, IsAt, HasPlayed};
 
 use crate::asked::asked;

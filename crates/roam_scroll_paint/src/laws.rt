@@ -1,7 +1,7 @@
 //! Laws of the definitions, each the contract of a function without a body.
 ghost use Rattle.roam_scroll_paint.specs.Leads.{PaintingLeads, PaintLeads};
 
-/// Whatever band moves and whatever more than the differences is written: the text leads a ground terminal from the one screen to the other.
+/// Whatever band moves and whatever more than the differences is written: the text leads a ground terminal from one screen to the other.
 pub fn painting_leads()
     ensures leads { PaintingLeads }
 {}

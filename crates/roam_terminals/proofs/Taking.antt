@@ -8,7 +8,7 @@ use Rattle.roam_hub.specs.Clients.TypesAll.{watching, full, spent, typed as type
 use Rattle.roam_typing.specs.Entries.{Says, acts_in}
 use Rattle.roam_typing.specs.declared.entries.Entry.{Entry}
 use Rattle.roam_typing.specs.Lines.{IsFirst, ended_all}
-use Rattle.roam_typing.specs.Typing.{ended_line}
+use Rattle.roam_faults.specs.Streams.{ended_line}
 use Rattle.roam_overlay.specs.Overlays.{OverlayOf}
 use Rattle.roam_terminals.specs.Terminals.{Guesses, Hears, MayGuess, Reads, Stands, Takes, TakesAll, Types, TypesLine, typed_by, watches_after}
 use Rattle.roam_terminals.specs.Terminals.Guesses.{guessed as are_guessed, stay as are_same}

@@ -240,8 +240,8 @@ impl<S: Read + Write + Drop> SharedStart<S> {
         rotate(&mut self.all);
     }
 
-    /// A round of the start with its terminals, round ports: of each the line that stands first is taken; then the start takes a turn, whose
-    /// datagrams go to an address; then each terminal that is ready is painted, and what waits for them is written. They are asked in
+    /// A round of the start with its terminals, round ports: of each the line that stands first is taken; then the start takes a turn,
+    /// whose datagrams go to an address; then each terminal that is ready is painted, and what waits for them is written. They are asked in
     /// another order each time. Answers how many milliseconds may be waited at most until the next round where nothing comes.
     pub fn round<P: Ports + Drop>(
         &mut self,

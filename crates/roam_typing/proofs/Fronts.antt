@@ -7,7 +7,7 @@ use Rattle.std.proofs.lemmas.List.{length-take-le, take-append-drop, take_more}
 use Rattle.std.proofs.lemmas.List.Quantifiers.{position-Some}
 use Rattle.roam_typing.specs.declared.lines.Front.TheVariants.{Line, Part, TooLong}
 use Rattle.roam_typing.specs.Lines.{IsFirst, front_by, front_of, longest_line}
-use Rattle.roam_typing.specs.Typing.{ended_line}
+use Rattle.roam_faults.specs.Streams.{ended_line}
 
 -- a byte ends a line
 abbrev pub is_end : ℕ → Bool

@@ -6,7 +6,8 @@ use Rattle.std.proofs.lemmas.List.Elements.{All-push, All-head, All-tail, All-ni
 use Rattle.std.specs.List.{flat_map}
 use Rattle.roam_acts.specs.declared.acts.Act.{Act}
 use Rattle.roam_typing.specs.Keys.{lines_of, in_front, IsLineOf, AreLinesOf}
-use Rattle.roam_typing.specs.Typing.{Came, IsNoAct, IsOneLine, StopsAfter, ended_line}
+use Rattle.roam_faults.specs.Streams.{IsOneLine, ended_line}
+use Rattle.roam_typing.specs.Typing.{Came, IsNoAct, StopsAfter}
 use Rattle.roam_typing.proofs.Lengths.{act_is_short}
 
 -- ---- the lines of a text

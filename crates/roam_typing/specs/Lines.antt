@@ -1,7 +1,7 @@
 -- Lines in a stream (this project's profile): each is ended by LF.
 use Rattle.std.specs.Prelude.{◌≡◌, ℕ, ◌+◌, ◌==◌, List, [], ◌∷◌, ◌++◌, length, take, drop, nat_lt, Option, Some, None, if◌then◌else◌}
 use Rattle.std.specs.List.{flat_map, position}
-use Rattle.roam_typing.specs.Typing.{ended_line}
+use Rattle.roam_faults.specs.Streams.{ended_line}
 use Rattle.roam_typing.specs.declared.lines.Front.{Front}
 use Rattle.roam_typing.specs.declared.lines.Front.TheVariants.{Line, Part, TooLong}
 

@@ -1,8 +1,8 @@
 -- The acts that come over a stream, one a line, cut into pieces anywhere (this project's profile).
 use Rattle.std.specs.Prelude.{◌≡◌, ◌≢◌, ℕ, ◌+◌, ◌-◌, ◌^◌, ◌≤◌, min, List, [], ◌∷◌, ◌++◌, length, take, Option, Some, None, Result, Ok, Err}
 use Rattle.std.specs.declared.io.Error.{Error}
-use Rattle.std.specs.List.{All, flat_map}
 use Rattle.roam_acts.specs.declared.acts.Act.{Act}
+use Rattle.roam_faults.specs.Streams.{AreLines}
 use Rattle.roam_typing.specs.Keys.{lines_of, IsLineOf, AreLinesOf}
 use Rattle.roam_typing.specs.declared.typing.Stream.{Stream}
 use Rattle.roam_typing.specs.declared.typing.Stream.TheVariants.{Absent, Open, Ended, Spoiled, SpoiledLast}
@@ -11,22 +11,8 @@ use Rattle.roam_typing.specs.declared.typing.ActLines.{ActLines}
 -- ---- lines
 
 -- the most bytes that are gathered of a line: one of more is no act
-abbrev pub longest_line : ℕ
-longest_line = 64
-
--- a line with its end
-abbrev pub ended_line : List ℕ → List ℕ
-ended_line line = line ++ 0x0A ∷ []
-
--- no end of line is in it
-abbrev pub IsOneLine : List ℕ → Type 0
-IsOneLine line = All (λ byte. byte ≢ 0x0A) line
-
--- what was read is lines, each with its end, and a line that is begun
-pub record AreLines (log : List ℕ) (lines : List (List ℕ)) (begun : List ℕ) : Type 0 where
-  pub is : log ≡ flat_map ended_line lines ++ begun
-  pub each : All IsOneLine lines
-  pub last : IsOneLine begun
+abbrev pub most_gathered : ℕ
+most_gathered = 64
 
 -- a line is no act
 abbrev pub IsNoAct : List ℕ → Type 0
@@ -68,7 +54,7 @@ pub record Stands (lines : ActLines) (first : List Act) (log : List ℕ) (taken 
   pub order : taken ++ lines.waiting.items ≡ first ++ came
   pub has_come : HasCome lines.stream log came lines.begun.items
   pub count : lines.count ≡ line_count (length came)
-  pub short : length lines.begun.items ≤ longest_line
+  pub short : length lines.begun.items ≤ most_gathered
 
 -- more of a stream may come, or is let go
 abbrev pub GoesOn : Stream → Type 0

@@ -20,7 +20,7 @@ use std::io::{Empty, Read};
 const PIECE: usize = 1024;
 
 /// How many bytes of a line are gathered at most; a line of an act has 14 at most, as `size 9999 9999`.
-const LONGEST_LINE: usize = 64;
+const MOST_GATHERED: usize = 64;
 
 /// How far a stream of lines came.
 #[derive(Clone, Copy, Debug, PartialEq, Eq)]
@@ -122,7 +122,7 @@ impl ActLines {
         if byte == b'\n' {
             return self.end_line();
         }
-        if self.begun.len() >= LONGEST_LINE {
+        if self.begun.len() >= MOST_GATHERED {
             self.stream = Stream::Spoiled(self.count.saturating_add(1));
             return Ok(());
         }

@@ -1,8 +1,8 @@
 //! What is shown over the screen of a terminal while keys are typed, as text.
 //!
-//! A line begins with `feed`, what the program writes; `type`, an act; `paste`, how many acts are typed that aren't to be guessed; `ack`, how
-//! many acts are acknowledged; `at`, a moment in milliseconds; `slow`, how many milliseconds what is typed takes to be shown; or `shows`, the
-//! text of the cursor's row and, behind `|`, the cursor's column.
+//! A line begins with `feed`, what the program writes; `type`, an act; `paste`, how many acts are typed that aren't to be guessed; `ack`,
+//! how many acts are acknowledged; `at`, a moment in milliseconds; `slow`, how many milliseconds what is typed takes to be shown; or
+//! `shows`, the text of the cursor's row and, behind `|`, the cursor's column.
 use roam_acts::read_act;
 use roam_cells::Fault;
 use roam_guess::{Guesses, Moment};

@@ -1,7 +1,8 @@
 use Rattle.std.proofs.Common.{◌≡◌, ◌+◌, ◌++◌, [], ◌∷◌, ◌⊎◌, inr, refl, take, drop, get_or, sym, subst, ap, arith}
 use Rattle.std.proofs.KnownBytes.{Keeps-refl}
 use Rattle.roam_faults.specs.declared.faults.RunFault.TheVariants as run
-use Rattle.roam_play.specs.Scripts.{Stage, IsOneLine, Stopped}
+use Rattle.roam_play.specs.Scripts.{Stage, Stopped}
+use Rattle.roam_faults.specs.Streams.{IsOneLine}
 use Rattle.roam_play.specs.Scripts as script
 use Rattle.roam_play.specs.Played.{Fails, IsAt, HasPlayed}
 use Rattle.roam_play.proofs.Playing.{cut_at, fed_as, fed_byte, fed_line, fed_nothing, has_end, more_at, passed, stopped, stopped_at}

@@ -1,5 +1,6 @@
 use Rattle.std.proofs.Common.{◌≤◌, ◌+◌, take}
-use Rattle.roam_play.specs.Scripts.{Stage, IsOneLine}
+use Rattle.roam_play.specs.Scripts.{Stage}
+use Rattle.roam_faults.specs.Streams.{IsOneLine}
 use Rattle.roam_play.specs.Played.{Fed, IsAt}
 use Rattle.roam_play.proofs.play.Play.piece.Given as goal
 
