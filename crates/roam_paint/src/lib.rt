@@ -7,3 +7,4 @@ mod painting;
 mod sequences;
 
 pub use painting::{open, paint};
+pub use sequences::{push_points, push_restyle};

@@ -1,0 +1,8 @@
+//! The records that a front end is told over the stream of its terminal, and the text of a screen cell by cell.
+#![tactic(auto)]
+
+mod looks;
+mod records;
+
+pub use looks::{Looking, screen_text};
+pub use records::{Record, record_text};
