@@ -6,3 +6,4 @@ mod Reading
 mod Standing
 mod Streams
 mod Separating
+pub mod ShownAgain

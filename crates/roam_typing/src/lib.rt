@@ -5,9 +5,11 @@ mod entries;
 mod keys;
 pub mod laws;
 mod lines;
+mod showings;
 mod typing;
 
 pub use entries::{Entry, Guessing, read_entry};
 pub use keys::acts_of;
 pub use lines::{Front, LONGEST_LINE, Lines};
+pub use showings::Showing;
 pub use typing::{ActLines, Stream, Typist};
