@@ -3,6 +3,8 @@
 
 mod looks;
 mod records;
+mod taken;
 
 pub use looks::{Looking, screen_text};
 pub use records::{Record, record_text};
+pub use taken::TakenLines;

@@ -1,5 +1,6 @@
 mod Answering
 mod Asked
 mod Bound
+mod Seated
 mod Turning
 mod Telling

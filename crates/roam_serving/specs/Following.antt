@@ -13,6 +13,7 @@ use Rattle.roam_pane_list.specs.declared.pane_list.PaneList.{PaneList}
 use Rattle.roam_typing.specs.Lines.{nothing_came}
 use Rattle.roam_serving.specs.Programs.{Wrote}
 use Rattle.roam_serving.specs.declared.following.Follower.{Follower}
+use Rattle.roam_serving.specs.declared.seats.Role.TheVariants.{Other}
 
 -- its file in a folder
 abbrev pub panes_path : List ℕ → List ℕ
@@ -24,13 +25,14 @@ room = 65536
 
 -- how many programs may follow the panes at once
 abbrev pub most_followers : ℕ
-most_followers = 8
+most_followers = 64
 
 -- nothing was told yet, and nothing waits
 pub record IsFresh {S : Type 0} (f : Follower S) : Type 0 where
   pub told : f.told ≡ nothing
   pub waiting : f.waiting.items ≡ []
   pub lines : f.lines ≡ nothing_came
+  pub role : f.role ≡ Other
 
 -- what is said to a line by which nothing is done; nothing is said to a close of a pane that is gone
 abbrev pub IsReply : List ℕ → Type 0

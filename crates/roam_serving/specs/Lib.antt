@@ -6,3 +6,4 @@ pub mod Peers
 pub mod Programs
 pub mod Rests
 pub mod Runs
+pub mod Seats

@@ -5,11 +5,13 @@ ghost use Rattle.roam_typing.specs.Lines.{IsFirst};
 ghost use Rattle.roam_serving.specs.Asking.{DoesLine, IsAsked, Settles, TakesLine};
 ghost use Rattle.roam_serving.specs.Following.{AreTold, HaveCome, IsFresh, IsReply, IsTold, Replies, Tells, is_there, most_followers, news, panes_path, room, turned};
 ghost use Rattle.roam_serving.specs.Programs.{Wrote};
+ghost use Rattle.roam_serving.specs.Seats.{any_new, kept_place, seated};
 ghost use Rattle.roam_serving.specs.declared.closing.Closer.{Closer as CloserOf};
 ghost use Rattle.roam_serving.specs.declared.following.Follower.{Follower as FollowerOf};
 
 use crate::closing::Closer;
 use crate::programs::Program;
+use crate::seats::{Role, is_keeper, role_after, seat_keeper};
 use mio::net::{UnixListener, UnixStream};
 use mio::{Interest, Registry, Token};
 use roam_cells::Fault;
@@ -26,7 +28,7 @@ use std::net::Net;
 const ROOM: usize = 65_536;
 
 /// How many programs may follow the panes at once.
-const MOST_FOLLOWERS: usize = 8;
+pub(crate) const MOST_FOLLOWERS: usize = 64;
 
 /// So many pieces are more than a line.
 const MOST_READS: u32 = 4;
@@ -38,10 +40,11 @@ const MOST_LINES: u32 = 16;
 /// turn, and not in it (docs/DECISIONS.md, 64).
 #[derive(Drop)]
 pub(crate) struct Follower<S> {
-    program: Program<S>,
+    pub(crate) program: Program<S>,
     told: PaneList,
     waiting: Vec<u8>,
     lines: Lines,
+    pub(crate) role: Role,
 }
 
 // Does what a line asks for, and answers what is said to it: nothing where its pane is gone, or is being closed.
@@ -55,6 +58,9 @@ fn do_line(
     requires free { closer.old.closing ≡ None }
     ensures does { DoesLine now.now line.now moment closer.old closer.new result.now }
 {
+    if is_keeper(line) {
+        return b"";
+    }
     let Some(close) = read_close(line) else {
         return b"bad line\n";
     };
@@ -78,6 +84,7 @@ impl<S: Stream + Drop> Follower<S> {
             told: PaneList::unknown(),
             waiting: Vec::new(alloc),
             lines: Lines::new(alloc),
+            role: Role::Other,
         }
     }
 
@@ -150,8 +157,10 @@ impl<S: Stream + Drop> Follower<S> {
             return false;
         };
         let said = do_line(alloc, line, now, closer, moment);
+        let role = role_after(line, self.role);
         self.say(said);
         self.lines.took();
+        self.role = role;
         true
     }
 
@@ -209,7 +218,7 @@ impl<S: Stream + Drop> Follower<S> {
     }
 }
 
-// Adds a program where fewer than eight are there; one for which there is no memory may come again.
+// Adds a program where fewer than 64 are there; one for which there is no memory may come again.
 fn add(alloc: Global, all: &mut Vec<Follower<UnixStream>>, program: Program<UnixStream>)
     ensures came { HaveCome all.old.items all.new.items }
     ensures few { length all.old.items ≤ most_followers → length all.new.items ≤ most_followers }
@@ -219,7 +228,7 @@ fn add(alloc: Global, all: &mut Vec<Follower<UnixStream>>, program: Program<Unix
     }
 }
 
-// Takes those that wait at the socket; those above eight, and those for which there is no memory, are closed.
+// Takes those that wait at the socket; those above 64, and those for which there is no memory, are closed.
 fn accept_all(
     alloc: Global,
     listener: &UnixListener,
@@ -229,7 +238,7 @@ fn accept_all(
     ensures came { HaveCome all.old.items all.new.items }
     ensures few { length all.old.items ≤ most_followers → length all.new.items ≤ most_followers }
 {
-    for _ in 0..8 * MOST_FOLLOWERS {
+    for _ in 0..2 * MOST_FOLLOWERS {
         let program = Program::next(listener, registry);
         if !program.is_there() {
             return;
@@ -257,6 +266,24 @@ fn tell_each<S: Stream + Drop>(
     tell_each(alloc, others, now, closer, moment) || may_ask
 }
 
+// Does what the lines of each program ask for, and tells it what is new of the panes; then the keeper of shells has his place. Tells whether
+// more may be asked for already.
+fn tell_seated<S: Stream + Drop>(
+    alloc: Global,
+    all: &mut [Follower<S>],
+    now: &PaneList,
+    closer: &mut Closer,
+    moment: u64,
+) -> bool
+    ensures told { AllZip (λ old new. IsTold S.contents now.now old new) all.old all.new }
+    ensures seated { (told : List (FollowerOf S)) × (all.new ≡ kept_place (seated (any_new told) told)) }
+    ensures asked { IsAsked now.now moment closer.old closer.new }
+{
+    let may_ask = tell_each(alloc, all, now, closer, moment);
+    seat_keeper(all);
+    may_ask
+}
+
 // Lets those go that left, and has the first of the others asked last another time.
 fn turn<S: Stream + Drop>(all: &mut Vec<Follower<S>>)
     ensures turned { all.new.items ≡ turned (filter is_there all.old.items) }
@@ -279,7 +306,7 @@ fn tell_all<S: Stream + Drop>(
     ensures told { AreTold S.contents now.now all.old.items all.new.items }
     ensures asked { IsAsked now.now moment closer.old closer.new }
 {
-    let may_ask = tell_each(alloc, all, now, closer, moment);
+    let may_ask = tell_seated(alloc, all, now, closer, moment);
     turn(all);
     may_ask
 }

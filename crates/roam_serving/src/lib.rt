@@ -7,6 +7,7 @@ mod panes;
 mod peers;
 mod programs;
 mod refused;
+mod seats;
 mod server_ports;
 mod serving;
 

@@ -222,6 +222,8 @@ fn first_wrong_of<'a>(rt: &HostRuntime, stories: &'a str) -> Result<Option<&'a s
 /// Programs follow and close. Two are told each what is new for it; a line that asks for no close, for one of a pane that is gone, or of
 /// the last pane; of two closes the second waits until a turn was taken with the first, and a pane that is still there then may be closed
 /// again. What a start asks for stands behind what wasn't acknowledged, and a start that was let go takes that with it.
+///
+/// A program says that it is the keeper of shells, and then another one: the first is let go, and the second is told what is new.
 const STORIES: &str = "\
 refused -
 
@@ -307,6 +309,25 @@ told 1 1 23, none, 3 1
 first reads 1 1 1 23 80 1/2 gone/focus 1/watchers 1 of 16/
 files are removed
 files gone follows/panes
+
+folder keepers
+ports keepers
+first connects keepers/panes
+first types keeper
+told 1 1 23, none
+first reads 1 1 1 23 80 1/focus 1/
+second connects keepers/panes
+told 1 1 23, none
+second reads 1 1 1 23 80 1/focus 1/
+second types keeper
+told 1 1 23, none
+first is let go
+told 1 1 22, none
+second reads 1 1 1 22 80 1/
+first connects keepers/panes
+told 1 1 22, none
+first reads 1 1 1 22 80 1/focus 1/
+files are removed
 
 folder followers
 ports followers

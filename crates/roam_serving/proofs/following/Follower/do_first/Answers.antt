@@ -11,6 +11,7 @@ returns-clause-takes g c = λ h.
       first = taken c.args.self.now.lines.kept c.in-Some.line.now c.took.new.self.kept (search rules)
           (λ l rest is. c.took.ensures.took l rest (subst (λ k. IsFirst k.kept l rest) (sym lines) is));
       said = c.do_line-said.result.now;
+      role = c.role_after-role.ensures.role;
       does = c.do_line-said.ensures.does;
       waits = c.say.ensures.said;
     }

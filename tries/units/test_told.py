@@ -1,0 +1,62 @@
+"""Records of a stream, cut at each place, and what is none."""
+import unittest
+
+from roam_live import told
+from roam_live.told import NoRecord, Record, Records, screen_of
+
+STREAM = (b"\x1bc painted\n before\ntold\nsize 24 80\npart 0 3\nanew 5\n\x1bc\na\npaint 3\n\n\ntrefused 3 bad act\ntaken 2\nsilent 11\nheard\nscreen 0\nfull\n")
+RECORDS = [
+    Record("told"), Record("size", (24, 80)), Record("part", (0, 3)), Record("anew", (5,), b"\x1bc\na\n"), Record("paint", (3,), b"\n\nt"),
+    Record("refused", (3,), b"", "bad act"), Record("taken", (2,)), Record("silent", (11,)), Record("heard"), Record("screen", (0,)), Record("full"),
+]
+
+
+class TestRecords(unittest.TestCase):
+    def test_cut(self) -> None:
+        """Wherever the stream is cut, the records are the same, each once and in order."""
+        for first in range(len(STREAM) + 1):
+            records = Records()
+            found = records.came(STREAM[:first]) + records.came(STREAM[first:])
+            self.assertEqual(found, RECORDS, first)
+        records = Records()
+        self.assertEqual([record for byte in STREAM for record in records.came(bytes([byte]))], RECORDS)
+
+    def test_full(self) -> None:
+        """A start without room says so before anything else."""
+        records = Records()
+        self.assertEqual(records.came(b"fu"), [])
+        self.assertEqual(records.came(b"ll\n"), [Record("full")])
+
+    def test_bounded(self) -> None:
+        """What comes before the first record is dropped, however much it is."""
+        records = Records()
+        for _ in range(100):
+            self.assertEqual(records.came(b"full\n" * 1000), [])
+            self.assertLess(len(records.kept), 64)
+        self.assertEqual(records.came(told.BEGIN), [Record("told")])
+
+    def test_none(self) -> None:
+        """What is no record is told, and never waited for."""
+        for line in (b"what\n", b"size 1\n", b"size 1 2 3\n", b"size 01 2\n", b"size -1 2\n", b"size \xd9\xa1 2\n", b"taken 1_0\n", b"paint 99999999\n",
+                     b"taken 111111111111111111111\n", b"heard 1\n", b"\xff\n", b"x" * 600, b"\n"):
+            records = Records()
+            records.came(told.BEGIN)
+            with self.assertRaises(NoRecord, msg=line):
+                records.came(line)
+
+
+class TestScreen(unittest.TestCase):
+    def test_screen(self) -> None:
+        screen = screen_of("2 4 1 3 visible\na\x1f中\x1f\x1f \n \x1fe\u0301\x1f \x1f \n".encode())
+        self.assertEqual((screen.rows, screen.cols, screen.cursor, screen.visible), (2, 4, (1, 3), True))
+        self.assertEqual(screen.text(), ["a中", " e\u0301"])
+
+    def test_none(self) -> None:
+        for data in (b"", b"2 4 1 3\n", b"2 4 1 3 seen\n", b"2 1 1 1 hidden\na\n", b"2 1 1 1 hidden\na\nb\nc\n", b"2 1 1 1 hidden\na\nb", b"1 2 1 1 hidden\na\n",
+                     b"\xff\n", b"x 1 1 1 hidden\n"):
+            with self.assertRaises(NoRecord, msg=data):
+                screen_of(data)
+
+
+if __name__ == "__main__":
+    unittest.main()
