@@ -1,11 +1,11 @@
 -- Who keeps shells has his place, and each is told what is so none the less.
-use Rattle.std.proofs.Common.{◌≡◌, ℕ, Bool, true, false, ltb, ◌||◌, List, [], ◌∷◌, length, Option, Some, None, refl, sym, ap, subst, ◌∙◌, inl, inr}
+use Rattle.std.proofs.Common.{◌≡◌, ℕ, ◌-◌, Bool, eqb, List, [], ◌∷◌, Option, Some, None, refl, sym, ap, subst, ◌∙◌, inl, inr}
 use Rattle.std.proofs.lemmas.Bool.{cases_Bool}
 use Rattle.std.specs.List.{AllZip}
-use Rattle.std.specs.Prelude.{IfSome}
+use Rattle.std.specs.Prelude.{IfSome, if◌then◌else◌}
 use Rattle.roam_pane_list.specs.declared.pane_list.PaneList.{PaneList}
-use Rattle.roam_serving.specs.Following.{IsTold, WasTold, most_followers}
-use Rattle.roam_serving.specs.Seats.{any_new, has_keeper, kept_place, let_go, seated, seated_by, seated_one, without_last}
+use Rattle.roam_serving.specs.Following.{IsTold, WasTold, is_there}
+use Rattle.roam_serving.specs.Seats.{any_new, first_stay, has_keeper, kept_place, let_go, places_for, seated, seated_by, seated_one}
 use Rattle.roam_serving.specs.declared.following.Follower.{Follower}
 use Rattle.roam_serving.specs.declared.seats.Role.{Role}
 use Rattle.roam_serving.specs.declared.seats.Role.TheVariants.{Other, New, Keeper}
@@ -40,21 +40,24 @@ module _ {S : Type 0} (contents : S → Option (List ℕ)) (now : PaneList) wher
   seated_told any (old ∷ olds) [] t = absurd t
   seated_told any (old ∷ olds) (f ∷ fs) t = (by_role any (any_new fs) old f f.role t.0, seated_told any olds fs t.1)
 
-  last_told : (olds all : List (Follower S)) → AllZip (IsTold contents now) olds all → AllZip (IsTold contents now) olds (without_last all)
-  last_told [] [] t = t
-  last_told [] (f ∷ fs) t = absurd t
-  last_told (old ∷ olds) [] t = absurd t
-  last_told (old ∷ olds) (f ∷ []) t = (tt, t.1)
-  last_told (old ∷ olds) (f ∷ g ∷ fs) t = (t.0, last_told olds (g ∷ fs) t.1)
+  stays_told : (n : ℕ) (old f : Follower S) → IsTold contents now old f → IsTold contents now old (if eqb n 0 then let_go f else f)
+  stays_told n old f t =
+      elim (cases_Bool (eqb n 0)) [
+        | inl e ↦ rw e tt
+        | inr e ↦ rw e t
+      ]
 
-  kept_told : (olds all : List (Follower S)) → AllZip (IsTold contents now) olds all → AllZip (IsTold contents now) olds (kept_place all)
-  kept_told olds all t =
-      elim (cases_Bool (ltb (length all) most_followers || has_keeper all)) [
-        | inl e ↦ rw e t
-        | inr e ↦ rw e (last_told olds all t)
+  kept_told : (n : ℕ) (olds all : List (Follower S)) → AllZip (IsTold contents now) olds all → AllZip (IsTold contents now) olds (first_stay n all)
+  kept_told n [] [] t = t
+  kept_told n [] (f ∷ fs) t = absurd t
+  kept_told n (old ∷ olds) [] t = absurd t
+  kept_told n (old ∷ olds) (f ∷ fs) t =
+      elim (cases_Bool (is_there f)) [
+        | inl e ↦ rw e (stays_told n old f t.0, kept_told (n - 1) olds fs t.1)
+        | inr e ↦ rw e (t.0, kept_told n olds fs t.1)
       ]
 
   pub each_told : (olds all new : List (Follower S)) → new ≡ kept_place (seated (any_new all) all) → AllZip (IsTold contents now) olds all
       → AllZip (IsTold contents now) olds new
   each_told olds all new is t =
-      subst (λ l. AllZip (IsTold contents now) olds l) (sym is) (kept_told olds (seated (any_new all) all) (seated_told (any_new all) olds all t))
+      subst (λ l. AllZip (IsTold contents now) olds l) (sym is) (kept_told (places_for (has_keeper (seated (any_new all) all))) olds (seated (any_new all) all) (seated_told (any_new all) olds all t))

@@ -27,6 +27,10 @@ room = 65536
 abbrev pub most_followers : ℕ
 most_followers = 64
 
+-- how many there may be until the next turn: one more than these may say that it is the keeper
+abbrev pub most_taken : ℕ
+most_taken = 65
+
 -- nothing was told yet, and nothing waits
 pub record IsFresh {S : Type 0} (f : Follower S) : Type 0 where
   pub told : f.told ≡ nothing

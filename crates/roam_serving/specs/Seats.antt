@@ -1,5 +1,5 @@
 -- Which of the programs that follow the panes keeps their shells (this project's profile).
-use Rattle.std.specs.Prelude.{ℕ, Bool, true, false, ◌&&◌, ◌||◌, nat_lt, List, [], ◌∷◌, length, None, if◌then◌else◌, codes}
+use Rattle.std.specs.Prelude.{ℕ, ◌-◌, ◌==◌, Bool, true, false, ◌&&◌, ◌||◌, List, [], ◌∷◌, None, if◌then◌else◌, codes}
 use Rattle.std.specs.Str.{bytes_eq}
 use Rattle.roam_serving.specs.Following.{is_there, most_followers}
 use Rattle.roam_serving.specs.declared.following.Follower.{Follower}
@@ -58,12 +58,17 @@ abbrev pub seated : {S : Type 0} → Bool → List (Follower S) → List (Follow
 seated any [] = []
 seated any (f ∷ fs) = seated_one any (any_new fs) f ∷ seated any fs
 
--- the last one is let go
-abbrev pub without_last : {S : Type 0} → List (Follower S) → List (Follower S)
-without_last [] = []
-without_last (f ∷ []) = let_go f ∷ []
-without_last (f ∷ g ∷ fs) = f ∷ without_last (g ∷ fs)
+-- of those that are there the first so many stay
+abbrev pub first_stay : {S : Type 0} → ℕ → List (Follower S) → List (Follower S)
+first_stay n [] = []
+first_stay n (f ∷ fs) =
+    if is_there f then (if n == 0 then let_go f else f) ∷ first_stay (n - 1) fs else f ∷ first_stay n fs
 
--- where as many are there as may be, and none is the keeper, the one that came last goes
+-- how many may stay: one place is the keeper's, who may come where he isn't there
+abbrev pub places_for : Bool → ℕ
+places_for true = most_followers
+places_for false = most_followers - 1
+
+-- those that came last go where there is no place
 abbrev pub kept_place : {S : Type 0} → List (Follower S) → List (Follower S)
-kept_place all = if nat_lt (length all) most_followers || has_keeper all then all else without_last all
+kept_place all = first_stay (places_for (has_keeper all)) all

@@ -3,7 +3,7 @@ ghost use Rattle.std.specs.Prelude.{◌≡◌, ◌≢◌, ◌⊎◌, ◌++◌, �
 ghost use Rattle.std.specs.List.{AllZip, filter};
 ghost use Rattle.roam_typing.specs.Lines.{IsFirst};
 ghost use Rattle.roam_serving.specs.Asking.{DoesLine, IsAsked, Settles, TakesLine};
-ghost use Rattle.roam_serving.specs.Following.{AreTold, HaveCome, IsFresh, IsReply, IsTold, Replies, Tells, is_there, most_followers, news, panes_path, room, turned};
+ghost use Rattle.roam_serving.specs.Following.{AreTold, HaveCome, IsFresh, IsReply, IsTold, Replies, Tells, is_there, most_taken, news, panes_path, room, turned};
 ghost use Rattle.roam_serving.specs.Programs.{Wrote};
 ghost use Rattle.roam_serving.specs.Seats.{any_new, kept_place, seated};
 ghost use Rattle.roam_serving.specs.declared.closing.Closer.{Closer as CloserOf};
@@ -29,6 +29,9 @@ const ROOM: usize = 65_536;
 
 /// How many programs may follow the panes at once.
 pub(crate) const MOST_FOLLOWERS: usize = 64;
+
+/// How many there may be until the next turn: one more than these may say that it is the keeper.
+const MOST_TAKEN: usize = 65;
 
 /// So many pieces are more than a line.
 const MOST_READS: u32 = 4;
@@ -218,17 +221,17 @@ impl<S: Stream + Drop> Follower<S> {
     }
 }
 
-// Adds a program where fewer than 64 are there; one for which there is no memory may come again.
+// Adds a program where fewer than 65 are there; one for which there is no memory may come again.
 fn add(alloc: Global, all: &mut Vec<Follower<UnixStream>>, program: Program<UnixStream>)
     ensures came { HaveCome all.old.items all.new.items }
-    ensures few { length all.old.items ≤ most_followers → length all.new.items ≤ most_followers }
+    ensures few { length all.old.items ≤ most_taken → length all.new.items ≤ most_taken }
 {
-    if all.len() < MOST_FOLLOWERS {
+    if all.len() < MOST_TAKEN {
         let _ = all.push(Follower::new(alloc, program));
     }
 }
 
-// Takes those that wait at the socket; those above 64, and those for which there is no memory, are closed.
+// Takes those that wait at the socket; those above 65, and those for which there is no memory, are closed.
 fn accept_all(
     alloc: Global,
     listener: &UnixListener,
@@ -236,7 +239,7 @@ fn accept_all(
     all: &mut Vec<Follower<UnixStream>>,
 )
     ensures came { HaveCome all.old.items all.new.items }
-    ensures few { length all.old.items ≤ most_followers → length all.new.items ≤ most_followers }
+    ensures few { length all.old.items ≤ most_taken → length all.new.items ≤ most_taken }
 {
     for _ in 0..2 * MOST_FOLLOWERS {
         let program = Program::next(listener, registry);
@@ -350,7 +353,7 @@ impl Followers {
     pub(crate) fn accept(&mut self, alloc: Global, registry: &Registry)
         ensures path { self.new.path ≡ self.old.path }
         ensures came { HaveCome self.old.all.items self.new.all.items }
-        ensures few { length self.old.all.items ≤ most_followers → length self.new.all.items ≤ most_followers }
+        ensures few { length self.old.all.items ≤ most_taken → length self.new.all.items ≤ most_taken }
     {
         accept_all(alloc, &self.listener, registry, &mut self.all);
     }

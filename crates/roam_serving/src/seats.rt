@@ -1,6 +1,6 @@
 //! Which of the programs that follow the panes keeps their shells: it has a place of its own.
 ghost use Rattle.std.specs.Prelude.{◌≡◌};
-ghost use Rattle.roam_serving.specs.Seats.{any_new, has_keeper, is_keeper_line, is_new, is_seated, kept_place, role_after, seated, seated_one, without_last};
+ghost use Rattle.roam_serving.specs.Seats.{any_new, first_stay, has_keeper, is_keeper_line, is_new, is_seated, kept_place, places_for, role_after, seated, seated_one};
 
 use crate::following::{Follower, MOST_FOLLOWERS};
 use roam_frames::Stream;
@@ -93,36 +93,41 @@ fn seat_each<S: Stream + Drop>(all: &mut [Follower<S>], any: bool)
     seat_each(others, any);
 }
 
-// The last one is let go.
-fn let_last_go<S: Stream + Drop>(all: &mut [Follower<S>])
-    ensures last { all.new ≡ without_last all.old }
+// Of those that are there the first so many stay.
+fn first_stay<S: Stream + Drop>(all: &mut [Follower<S>], places: usize)
+    ensures stay { all.new ≡ first_stay places all.old }
 {
     let Some((first, others)) = all.split_first_mut() else {
         return;
     };
-    if others.is_empty() {
+    if !first.program.is_there() {
+        first_stay(others, places);
+        return;
+    }
+    if places == 0 {
         first.program.let_go();
-        return;
     }
-    let_last_go(others);
+    first_stay(others, places.saturating_sub(1));
 }
 
-// Where as many are there as may be and none is the keeper, the one that came last goes: a keeper may come.
-fn keep_place<S: Stream + Drop>(all: &mut [Follower<S>])
-    ensures kept { all.new ≡ kept_place all.old }
+// How many may stay.
+fn places_for(has_keeper: bool) -> usize
+    ensures places { result ≡ places_for has_keeper }
 {
-    if all.len() < MOST_FOLLOWERS || has_keeper(all) {
-        return;
+    if has_keeper {
+        MOST_FOLLOWERS
+    } else {
+        MOST_FOLLOWERS - 1
     }
-    let_last_go(all);
 }
 
-/// The last one that said that it is the keeper of shells is so from then on, and who was or said so before is let go; where as many are
-/// there as may be and none is the keeper, the one that came last goes.
+/// The last one that said that it is the keeper of shells is so from then on, and who was or said so before is let go. Of the others 63 stay,
+/// so that a keeper may come: those that came last go.
 pub(crate) fn seat_keeper<S: Stream + Drop>(all: &mut [Follower<S>])
     ensures seated { all.new ≡ kept_place (seated (any_new all.old) all.old) }
 {
     let any = any_new(all);
     seat_each(all, any);
-    keep_place(all);
+    let places = places_for(has_keeper(all));
+    first_stay(all, places);
 }

@@ -8,7 +8,7 @@ ghost use Rattle.roam_sockets.specs.declared.udp.Udp.{Udp as UdpOf};
 ghost use Rattle.roam_sockets.specs.Waits.{wait_for};
 ghost use Rattle.roam_serving.specs.Asking.{IsAsked, Settles};
 ghost use Rattle.roam_serving.specs.Closing.{GivesOwn, HearsAnswer, own_address};
-ghost use Rattle.roam_serving.specs.Following.{AreAllTold, HaveCome, most_followers, panes_path};
+ghost use Rattle.roam_serving.specs.Following.{AreAllTold, HaveCome, most_taken, panes_path};
 ghost use Rattle.roam_serving.specs.Rests.{SendsBy, is_paced};
 ghost use Rattle.roam_serving.specs.declared.closing.Closer.{Closer as CloserOf};
 ghost use Rattle.roam_serving.specs.Panes.{IsPortOf, clients_path, paths_of};
@@ -243,7 +243,7 @@ impl<R: Clock + Drop> ServerPorts<R> {
     // Takes the programs that wait at the socket `panes`, where one may.
     fn take_followers(&mut self)
         ensures came { HaveCome self.old.followers.all.items self.new.followers.all.items }
-        ensures few { length self.old.followers.all.items ≤ most_followers → length self.new.followers.all.items ≤ most_followers }
+        ensures few { length self.old.followers.all.items ≤ most_taken → length self.new.followers.all.items ≤ most_taken }
         ensures others { self.new ≡ record self.old { followers = self.new.followers; may_come = self.new.may_come } }
     {
         if self.may_come {
