@@ -4,10 +4,8 @@ use Rattle.std.specs.Option.{option_map}
 use Rattle.std.specs.Str.{bytes_eq}
 use Rattle.roam_acts.specs.declared.acts.Act.{Act}
 use Rattle.roam_typing.specs.Keys.{AreLinesOf}
-use Rattle.roam_typing.specs.Showings.{IsShowing, showing_text}
-use Rattle.roam_typing.specs.declared.showings.Showing.{Showing}
 use Rattle.roam_typing.specs.declared.entries.Entry.{Entry}
-use Rattle.roam_typing.specs.declared.entries.Entry.TheVariants.{Acts, Paste, Repaint, Watch, Guess, Told, Look, LookStyled, Show, End}
+use Rattle.roam_typing.specs.declared.entries.Entry.TheVariants.{Acts, Paste, Repaint, Watch, Guess, End}
 use Rattle.roam_typing.specs.declared.entries.Guessing.{Guessing}
 use Rattle.roam_typing.specs.declared.entries.Guessing.TheVariants.{Always, Adaptive, Never}
 
@@ -50,10 +48,6 @@ pub record IsNoWord (line : List ℕ) : Type 0 where
   pub watch : line ≢ codes "watch"
   pub end : line ≢ codes "end"
   pub guess : (guessing : Guessing) → line ≢ guessing_line guessing
-  pub told : line ≢ codes "told"
-  pub look : line ≢ codes "look"
-  pub styled : line ≢ codes "look sgr"
-  pub show : (showing : Showing) → IsShowing showing → line ≢ showing_text showing
   pub paste : is_pasted line ≡ false
 
 -- a line says an entry
@@ -61,10 +55,6 @@ abbrev pub Says : List ℕ → Entry → Type 0
 Says line Repaint = line ≡ codes "repaint"
 Says line Watch = line ≡ codes "watch"
 Says line (Guess guessing) = line ≡ guessing_line guessing
-Says line Told = line ≡ codes "told"
-Says line Look = line ≡ codes "look"
-Says line LookStyled = line ≡ codes "look sgr"
-Says line (Show showing) = IsShowing showing × line ≡ showing_text showing
 Says line End = line ≡ codes "end"
 Says line (Paste acts) = (is_pasted line ≡ true) × AreLinesOf (parts_of most_cuts (drop 8 line)) acts.items
 Says line (Acts acts) = IsNoWord line × AreLinesOf (parts_of most_cuts line) acts.items
@@ -76,8 +66,4 @@ acts_in (Paste acts) = acts.items
 acts_in Repaint = []
 acts_in Watch = []
 acts_in (Guess guessing) = []
-acts_in Told = []
-acts_in Look = []
-acts_in LookStyled = []
-acts_in (Show showing) = []
 acts_in End = []

@@ -8,7 +8,6 @@ ghost use Rattle.roam_typing.specs.Entries.{Says, acts_in, begins_separator, cut
 ghost use Rattle.roam_typing.specs.declared.entries.Entry.{Entry as EntryOf};
 ghost use Rattle.roam_typing.specs.declared.entries.Guessing.{Guessing as GuessingOf};
 
-use crate::showings::{Showing, read_showing};
 use roam_acts::{Act, read_act};
 use roam_cells::Fault;
 use std::alloc::Global;
@@ -52,18 +51,6 @@ pub enum Entry {
 
     /// What its keys are guessed to show is shown from now on, or isn't any more.
     Guess(Guessing),
-
-    /// Records are told from here on; the first line alone says so.
-    Told,
-
-    /// What is shown is told, cell by cell.
-    Look,
-
-    /// The same with each cell's style.
-    LookStyled,
-
-    /// This is shown from here on.
-    Show(Showing),
 
     /// The client start ends.
     End,
@@ -187,20 +174,8 @@ pub fn read_entry(alloc: Global, line: &[u8]) -> Result<Entry, Fault>
     if line == b"end".as_slice() {
         return Ok(Entry::End);
     }
-    if line == b"told".as_slice() {
-        return Ok(Entry::Told);
-    }
-    if line == b"look".as_slice() {
-        return Ok(Entry::Look);
-    }
-    if line == b"look sgr".as_slice() {
-        return Ok(Entry::LookStyled);
-    }
     if let Some(guessing) = read_guessing(line) {
         return Ok(Entry::Guess(guessing));
-    }
-    if let Some(showing) = read_showing(line) {
-        return Ok(Entry::Show(showing));
     }
     if is_pasted(line) {
         let acts = read_acts(alloc, line.split_at(PASTE.len()).1)?;

@@ -11,5 +11,5 @@ mod typing;
 pub use entries::{Entry, Guessing, read_entry};
 pub use keys::acts_of;
 pub use lines::{Front, LONGEST_LINE, Lines};
-pub use showings::Showing;
+pub use showings::{Showing, read_showing};
 pub use typing::{ActLines, Stream, Typist};
