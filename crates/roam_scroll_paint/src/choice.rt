@@ -111,7 +111,11 @@ fn difference_of(over: &[Cell], cells: &[Cell]) -> u32
     if are_same_cells(over, cells) { 0 } else { 1 }
 }
 
-fn push_differences<O: Seen, N: Seen>(costs: &mut Vec<u32>, old: &O, new: &N) -> Result<(), AllocError>
+fn push_differences<O: Seen, N: Seen>(
+    costs: &mut Vec<u32>,
+    old: &O,
+    new: &N,
+) -> Result<(), AllocError>
     requires size { same_size (O.screen old.now) (N.screen new.now) ≡ true }
     requires rows { (O.screen old.now).rows ≡ (N.screen new.now).rows }
     requires cols { (O.screen old.now).cols ≡ (N.screen new.now).cols }

@@ -10,14 +10,14 @@ returns-then-byte-eq10-clause-reads c = ok_then c.end_line.result c.end_line.ens
     subst (λ (b : ℕ). ReadsOn c.args.self.now (b ∷ []) c.end_line.new.self) (sym c.if-byte-eq10.true)
     (ended_line c.args.self.now c.end_line.new.self is_open ends))
 
-pub returns-then-len-ge-LONGEST_LINE-clause-reads : goal.returns-then-len-ge-LONGEST_LINE-clause-reads
-returns-then-len-ge-LONGEST_LINE-clause-reads c =
+pub returns-then-len-ge-MOST_GATHERED-clause-reads : goal.returns-then-len-ge-MOST_GATHERED-clause-reads
+returns-then-len-ge-MOST_GATHERED-clause-reads c =
     let is_open : c.args.self.now.stream ≡ Open = c.if-not-is_open.ensures.open.0 refl in
-    let long : 64 ≤ length c.args.self.now.begun.items = omega (arith, c.if-len-ge-LONGEST_LINE.true, c.len.ensures) in
+    let long : 64 ≤ length c.args.self.now.begun.items = omega (arith, c.if-len-ge-MOST_GATHERED.true, c.len.ensures) in
     too_long c.args.self.now c.args.byte c.saturating_add.result is_open c.if-byte-eq10.false long (omega (arith, c.saturating_add.ensures))
 
 pub returns-clause-reads : goal.returns-clause-reads
 returns-clause-reads c = ok_then c.push.result c.push.ensures.pushed (λ pushed.
     let is_open : c.args.self.now.stream ≡ Open = c.if-not-is_open.ensures.open.0 refl in
-    let room : length c.args.self.now.begun.items < 64 = omega (arith, c.if-len-ge-LONGEST_LINE.false, c.len.ensures) in
+    let room : length c.args.self.now.begun.items < 64 = omega (arith, c.if-len-ge-MOST_GATHERED.false, c.len.ensures) in
     one_byte c.args.self.now _ c.args.byte is_open c.if-byte-eq10.false room pushed refl refl refl)
