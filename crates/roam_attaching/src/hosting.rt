@@ -7,7 +7,7 @@ use roam_cells::Fault;
 use roam_faults::RunFault;
 use roam_hub::{Addr, Client};
 use roam_sockets::{listen, wait_until};
-use roam_terminals::{Door, End, Listening, SharedStart, run_shared};
+use roam_terminals::{Door, End, Listening, Opaque, SharedStart, run_shared};
 use roam_turns::Ports;
 use std::alloc::Global;
 use std::fs::{Files, remove_file};
@@ -51,15 +51,15 @@ impl<R: Clock + Drop> Ports for Doorway<R> {
     }
 }
 
-impl<R: Clock + Drop> Door<UnixStream> for Doorway<R> {
+impl<R: Clock + Drop> Door<Opaque<UnixStream>> for Doorway<R> {
     // A socket reports once, so there is no wait where one came: others may be there.
-    fn next(&mut self) -> Option<UnixStream> {
+    fn next(&mut self) -> Option<Opaque<UnixStream>> {
         let Ok((mut stream, _)) = self.listener.accept() else {
             return None;
         };
         self.connection.report(&mut stream, true);
         self.connection.stir();
-        Some(stream)
+        Some(Opaque::new(stream))
     }
 
     fn has_ended(&mut self) -> bool {

@@ -29,7 +29,7 @@ added before after = drop (length before) after
 -- whatever band moves and whatever more than the differences is written: the text leads
 abbrev pub PaintingLeads : Type 0
 PaintingLeads =
-  (old new : Screenshot) (text : List ℕ) → IsScreenshot old → IsScreenshot new → IsPaintingText old new text → Leads old new text
+    (old new : Screenshot) (text : List ℕ) → IsScreenshot old → IsScreenshot new → IsPaintingText old new text → Leads old new text
 
 -- so does the text that writes each place which differs
 abbrev pub PaintLeads : Type 0

@@ -87,6 +87,10 @@ pub data AreDrawn (over new : Places) (cols : ℕ) : ℕ → Style → List Func
 abbrev pub KeepsMarks : Marks → Marks → Type 0
 KeepsMarks old new = (c : ℕ) → slice_index_or new c false ≡ false → slice_index_or old c false ≡ false
 
+-- a row that costs nothing cost nothing before
+abbrev pub KeepsCosts : List ℕ → List ℕ → Type 0
+KeepsCosts old new = (r : ℕ) → slice_index_or new r 1 ≡ 0 → slice_index_or old r 1 ≡ 0
+
 -- a text is longer by one row, which is drawn over what is shown
 pub record AddsRow (over new : Places) (cols r : ℕ) (g h : Style) (before after : List ℕ) : Type 0 where
   pub functions : List Function

@@ -2,7 +2,7 @@
 ghost use Rattle.std.specs.Prelude.{◌≡◌, ℕ, ◌+◌, ◌-◌, ◌<◌, ◌≤◌, ◌≢◌, IfOk, OnOk, length, slice_index_or, [], true, None};
 ghost use Rattle.roam_scroll_paint.specs.Bands.{FitsBand, IsBand};
 ghost use Rattle.roam_paint.specs.Painting.{same_size};
-ghost use Rattle.roam_scroll_paint.specs.Rows.{IsSameRow};
+ghost use Rattle.roam_scroll_paint.specs.Rows.{IsSameRow, KeepsCosts};
 
 use crate::bands::Band;
 use crate::differences::is_same_size;
@@ -11,6 +11,8 @@ use roam_cells::{Cell, are_same_cells};
 use roam_screens::Seen;
 use std::alloc::{AllocError, Global};
 
+/// Where no more rows differ no band is looked for, and what they cost isn't either.
+const FEW_ROWS: u32 = 2;
 /// What a row costs beside its cells: a move to it.
 const ROW_COST: u32 = 6;
 /// What the erasure of its blank end costs.
@@ -69,14 +71,11 @@ fn differing(over: &[Cell], cells: &[Cell], from: usize, to: usize) -> u32
     count
 }
 
-// What a row costs where it stays.
+// What a row costs where it stays that is to show something else.
 fn cost_of(over: &[Cell], cells: &[Cell]) -> u32
     requires len { length over.now ≡ length cells.now }
-    ensures none { result ≡ 0 → over.now ≡ cells.now }
+    ensures some { 0 < result }
 {
-    if are_same_cells(over, cells) {
-        return 0;
-    }
     let end = blank_from(cells);
     let beyond = differing(over, cells, end, cells.len());
     let cost = ROW_COST.saturating_add(differing(over, cells, 0, end));
@@ -87,29 +86,61 @@ fn cost_of(over: &[Cell], cells: &[Cell]) -> u32
     }
 }
 
-/// What each row costs where it stays: nothing where it shows already what it is to show. Where sizes differ there are no costs.
+/// What each row costs where it stays: nothing where it shows already what it is to show, and 1 where few others differ. Where sizes differ
+/// there are no costs.
 pub fn costs_of<O: Seen, N: Seen>(alloc: Global, old: &O, new: &N) -> Result<Vec<u32>, AllocError>
     ensures none { IfOk result (λ costs. (r : ℕ) → slice_index_or costs.items r 1 ≡ 0
         → IsSameRow (O.screen old.now) (N.screen new.now) r) }
 {
+    new.facts();
     let mut costs = Vec::new(alloc);
-    if is_same_size(old, new) {
-        push_costs(&mut costs, old, new)?;
+    if !is_same_size(old, new) {
+        return Ok(costs);
+    }
+    push_differences(&mut costs, old, new)?;
+    if FEW_ROWS < count_of(&costs) {
+        weigh(&mut costs, old, new);
     }
     Ok(costs)
 }
 
-fn push_costs<O: Seen, N: Seen>(costs: &mut Vec<u32>, old: &O, new: &N) -> Result<(), AllocError>
+// A row that differs costs 1, another nothing.
+fn difference_of(over: &[Cell], cells: &[Cell]) -> u32
+    ensures none { result ≡ 0 → over.now ≡ cells.now }
+{
+    if are_same_cells(over, cells) { 0 } else { 1 }
+}
+
+fn push_differences<O: Seen, N: Seen>(
+    costs: &mut Vec<u32>,
+    old: &O,
+    new: &N,
+) -> Result<(), AllocError>
     requires size { same_size (O.screen old.now) (N.screen new.now) ≡ true }
     requires rows { (O.screen old.now).rows ≡ (N.screen new.now).rows }
     requires cols { (O.screen old.now).cols ≡ (N.screen new.now).cols }
     requires first { costs.old.items ≡ [] }
+    ensures len { OnOk result (length costs.new.items ≡ (N.screen new.now).rows) }
     ensures none { OnOk result ((r : ℕ) → slice_index_or costs.new.items r 1 ≡ 0 → IsSameRow (O.screen old.now) (N.screen new.now) r) }
 {
     for row in 0..new.rows() {
-        costs.push(cost_of(old.row(row), new.row(row)))?;
+        costs.push(difference_of(old.row(row), new.row(row)))?;
     }
     Ok(())
+}
+
+// Each row that differs costs what it costs.
+fn weigh<O: Seen, N: Seen>(costs: &mut [u32], old: &O, new: &N)
+    requires rows { (O.screen old.now).rows ≡ (N.screen new.now).rows }
+    requires cols { (O.screen old.now).cols ≡ (N.screen new.now).cols }
+    requires len { length costs.old ≡ (N.screen new.now).rows }
+    ensures kept { KeepsCosts costs.old costs.new }
+{
+    for row in 0..new.rows() {
+        if costs[usize::from(row)] != 0 {
+            costs[usize::from(row)] = cost_of(old.row(row), new.row(row));
+        }
+    }
 }
 
 // The sum of the costs from one row on and before another.

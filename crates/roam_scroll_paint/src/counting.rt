@@ -266,7 +266,7 @@ pub fn plain_bytes<O: Seen, N: Seen>(old: &O, new: &N, costs: &[u32], limit: usi
     if !is_same_size(old, new) {
         return 0;
     }
-    rows_bytes(old, new, costs, limit)
-        .saturating_add(closing_bytes(new))
-        .saturating_add(6)
+    // Most often a key's text is no longer than what comes before the rows and behind them, and no row is counted.
+    let around = closing_bytes(new).saturating_add(6);
+    rows_bytes(old, new, costs, limit.saturating_sub(around)).saturating_add(around)
 }

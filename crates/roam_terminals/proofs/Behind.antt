@@ -2,9 +2,9 @@
 use Rattle.std.proofs.Common.{◌≡◌, ℕ, Bool, true, false, List, [], ◌∷◌, ◌++◌, Option, None, Some, sym, subst, arith, ◌∙◌, ap, append-nil, length, take, drop, inl, inr}
 use Rattle.std.proofs.Math.Seq.{drop-length, take-length}
 use Rattle.std.specs.Prelude.{◌⊎◌}
-use Rattle.std.specs.List.{All, Contains, items_where_true}
+use Rattle.std.specs.List.{All, items_where_true}
 use Rattle.std.specs.List.Retain.{IsFiltered}
-use Rattle.std.proofs.lemmas.List.Elements.{All-cons, All-head, All-tail, All-weaker, Contains-append_left, Contains-append_right, Contains-push}
+use Rattle.std.proofs.lemmas.List.Elements.{All-cons, All-head, All-tail}
 use Rattle.roam_screens.specs.Screenshot.{Screenshot}
 use Rattle.roam_turns.specs.Painting.{Follows, IsBehind}
 use Rattle.roam_turns.specs.declared.outer.Noted.{Noted}

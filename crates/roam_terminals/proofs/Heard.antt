@@ -1,14 +1,23 @@
 -- What of a terminal changes where it is heard.
-use Rattle.std.proofs.Common.{◌≡◌, ◌⊎◌, ℕ, Bool, true, false, List, ◌++◌, Option, None, refl, sym, ap, ◌∙◌, subst, inl, inr}
-use Rattle.std.specs.Prelude.{◌≢◌}
-use Rattle.roam_acts.specs.declared.acts.Act.{Act}
+use Rattle.std.proofs.Common.{◌≡◌, ◌⊎◌, ℕ, Bool, true, false, List, ◌++◌, Option, None, Some, refl, sym, ap, ◌∙◌, subst, inl, inr}
+use Rattle.std.specs.Prelude.{◌≢◌, if◌then◌else◌}
+use Rattle.roam_cells.specs.declared.faults.Fault.{Fault}
+use Rattle.roam_cells.specs.declared.faults.Fault.TheVariants.{BadAct, OutOfMemory}
 use Rattle.roam_hub.specs.Clients.{ClientView}
-use Rattle.roam_typing.specs.declared.entries.Entry.{Entry}
 use Rattle.roam_turns.specs.declared.outer.Noted.{Noted}
-use Rattle.roam_terminals.specs.Hearing.{HearsOne, IsRead, IsTaken, StaysShown}
+use Rattle.roam_typing.specs.Entries.{Says}
+use Rattle.roam_typing.specs.Lines.{IsFirst, LinesView, front_of}
+use Rattle.roam_typing.specs.declared.entries.Entry.{Entry}
+use Rattle.roam_typing.specs.declared.entries.Entry.TheVariants.{Acts, Paste, Repaint, Watch, Guess, End}
+use Rattle.roam_typing.specs.declared.lines.Front.TheVariants.{TooLong}
+use Rattle.roam_terminals.specs.Hearing.{Asks, HearsOne, HeardStands, IsBad, IsRead, IsRefused, TakesEntry, TakesLine, is_end, outer_after}
+use Rattle.roam_terminals.specs.Hearing.IsBad.{no_entry as says_nothing, late as too_late, no_memory as wanting}
 use Rattle.roam_terminals.specs.Hearing.IsRead.{read, refused}
-use Rattle.roam_terminals.specs.Terminals.{Guesses, Hears, Reads, Takes, Types, is_heard}
-use Rattle.roam_terminals.specs.Terminals.Guesses.{stay}
+use Rattle.roam_terminals.specs.Hearing.TakesEntry.{taken as entry_taken, waits as entry_waits, no_memory as entry_wanting, late as entry_late}
+use Rattle.roam_terminals.specs.Hearing.TakesLine.{taken as line_taken, waits as line_waits, no_memory as line_wanting, refused as line_refused, nothing, unheard}
+use Rattle.roam_terminals.specs.Terminals.{Hears, Reads, asks_end, ends_by, is_heard}
+use Rattle.roam_terminals.specs.declared.hearing.Taking.{Taking}
+use Rattle.roam_terminals.specs.declared.hearing.Taking.TheVariants as taking
 use Rattle.roam_terminals.specs.declared.terminal.State.{State}
 use Rattle.roam_terminals.specs.declared.terminal.State.TheVariants.{Refused, Gone}
 use Rattle.roam_terminals.specs.declared.terminal.Terminal.{Terminal}
@@ -20,145 +29,137 @@ pub read_on : {S : Type 0} (a b c : Terminal S) → b ≡ record a { stream = b.
 read_on {S} a b c h k = k ∙ ap (λ (t : Terminal S). record t { stream = c.stream; lines = c.lines; state = c.state }) h
 
 pub refused_after : {S : Type 0} (a b c : Terminal S) → b ≡ record a { stream = b.stream; lines = b.lines; state = b.state }
-    → ((text : List ℕ) × (c ≡ record b { state = Refused; outer = None; waiting = b.waiting ++ text })) → IsRead a c
-refused_after {S} a b c h k =
-    let state : c.state ≡ Refused = ap (λ t. t.state) k.1 in
+    → front_of b.lines.kept ≡ TooLong → IsRefused b c → IsRead a c
+refused_after {S} a b c h long k =
     let stream : c.stream ≡ b.stream = ap (λ t. t.stream) k.1 in
     let lines : c.lines ≡ b.lines = ap (λ t. t.lines) k.1 in
-    let waiting : c.waiting ≡ b.waiting ++ k.0 = ap (λ t. t.waiting) k.1 in
-    refused state
-    (k.1 ∙ ap (λ (t : Terminal S). record t { state = Refused; outer = None; waiting = b.waiting ++ k.0 }) h
+    refused k.0 (ap (λ l. front_of l.kept) lines ∙ long)
+    (k.1 ∙ ap (λ (t : Terminal S). record t { state = Refused; outer = None; waiting = t.waiting ++ k.0 }) h
     ∙ (λ i. record a {
       stream = sym stream i;
       lines = sym lines i;
-      state = sym state i;
+      state = Refused;
       outer = None;
-      waiting = sym waiting i;
+      waiting = a.waiting ++ k.0;
     }))
 
-not_heard : (s : State) → s ≡ Refused → is_heard s ≡ true → ⊥
-not_heard s is h = let other : is_heard Refused ≡ true = ap is_heard (sym is) ∙ h in absurd cc
+-- ---- the line that stands first
 
--- one that is heard after it was read isn't refused
-heard_read : {S : Type 0} (old mid : Terminal S) → IsRead old mid → is_heard mid.state ≡ true
-    → mid ≡ record old { stream = mid.stream; lines = mid.lines; state = mid.state }
-heard_read old mid (read is) h = is
-heard_read old mid (refused state is) h = absurd (not_heard mid.state state h)
+-- whether it asks for the end
+ends_told : (b : Bool) → is_end (if b then taking.End else taking.Line) ≡ b
+ends_told true = refl
+ends_told false = refl
+
+-- what became of it, with the entry that it said where it was taken
+pub entry_heard : {S : Type 0} (entry : Entry) (line rest : List ℕ) (old mid new : Terminal S) (client client' : ClientView) (told : Taking)
+    → old.watches ≡ mid.watches → is_heard mid.state ≡ true → IsFirst mid.lines.kept line rest → Says line entry
+    → TakesEntry entry mid new client client' told
+    → (taken : Option Entry) × TakesLine taken mid new client client' × (is_end told ≡ asks_end old.watches taken)
+entry_heard entry line rest old mid new client client' told same heard first says (entry_taken t took types guesses is) = (
+  Some entry,
+  line_taken entry line refl heard (subst (IsFirst mid.lines.kept line) (sym (took line rest first)) first) says types guesses is,
+  ap is_end t ∙ (ends_told (ends_by mid.watches entry) ∙ ap (λ w. ends_by w entry) (sym same)),
+)
+entry_heard entry line rest old mid new client client' told same heard first says (entry_waits t watches holds c is) =
+    let asks : Asks mid.lines.kept entry = record { line = line; rest = rest; first = first; says = says } in
+    (None, line_waits entry refl heard asks watches holds c is, ap is_end t)
+entry_heard entry line rest old mid new client client' told same heard first says (entry_wanting t watches some c is) =
+    let asks : Asks mid.lines.kept entry = record { line = line; rest = rest; first = first; says = says } in
+    (None, line_wanting entry refl heard asks watches some c is, ap is_end t)
+entry_heard entry line rest old mid new client client' told same heard first says (entry_late t watch count is c) =
+    let asks : Asks mid.lines.kept Watch = record { line = line; rest = rest; first = first; says = subst (Says line) watch says } in
+    (None, line_refused refl heard (too_late asks count) is c, ap is_end t)
+
+-- why it is refused
+pub line_bad : (lines : LinesView) (line rest : List ℕ) (fault : Fault) → IsFirst lines.kept line rest
+    → ((entry : Entry) → Says line entry → fault ≡ OutOfMemory) → ((fault ≡ BadAct) ⊎ (fault ≡ OutOfMemory)) → IsBad lines
+line_bad lines line rest fault first only (inl bad_act) =
+    says_nothing line rest first (λ entry says. differ (sym bad_act ∙ only entry says))
+  where
+    differ : BadAct ≡ OutOfMemory → ⊥
+    differ e = cc
+line_bad lines line rest fault first only (inr none) = wanting line rest first
+
+-- a terminal is as it is told where it was read
+pub watches_read : {S : Type 0} (old mid : Terminal S) → IsRead old mid → old.watches ≡ mid.watches
+watches_read old mid (read is) = sym (ap (λ t. t.watches) is)
+watches_read old mid (refused text long is) = sym (ap (λ t. t.watches) is)
+
+-- ---- what is noted
+
+entry_outer : (entry : Entry) (outer : Option Noted) → (outer_after entry outer ≡ outer) ⊎ (outer_after entry outer ≡ None)
+entry_outer (Acts acts) outer = inl refl
+entry_outer (Paste acts) outer = inl refl
+entry_outer Repaint outer = inr refl
+entry_outer Watch outer = inl refl
+entry_outer (Guess guessing) outer = inl refl
+entry_outer End outer = inl refl
+
+either_after : (a b c : Option Noted) → (b ≡ a) ⊎ (b ≡ None) → (c ≡ b) ⊎ (c ≡ None) → (c ≡ a) ⊎ (c ≡ None)
+either_after a b c h (inr none) = inr none
+either_after a b c (inl same) (inl is) = inl (is ∙ same)
+either_after a b c (inr none) (inl is) = inr (is ∙ none)
+
+pub taken_outer : {S : Type 0} (entry : Option Entry) (old new : Terminal S) (client client' : ClientView)
+    → TakesLine entry old new client client' → (new.outer ≡ old.outer) ⊎ (new.outer ≡ None)
+taken_outer entry old new client client' (line_taken e line is heard first says types guesses to) =
+    either_after old.outer (outer_after e old.outer) new.outer (entry_outer e old.outer) (inl (ap (λ t. t.outer) to))
+taken_outer entry old new client client' (line_waits e is heard asks watches holds c same) = inl (ap (λ t. t.outer) same)
+taken_outer entry old new client client' (line_wanting e is heard asks watches some c same) = inl (ap (λ t. t.outer) same)
+taken_outer entry old new client client' (line_refused is heard why to c) = inr (ap (λ t. t.outer) to.1)
+taken_outer entry old new client client' (nothing is heard none c same) = inl (ap (λ t. t.outer) same)
+taken_outer entry old new client client' (unheard is not_heard c same) = inl (ap (λ t. t.outer) same)
+
+read_outer : {S : Type 0} (old mid : Terminal S) → IsRead old mid → (mid.outer ≡ old.outer) ⊎ (mid.outer ≡ None)
+read_outer old mid (read is) = inl (ap (λ t. t.outer) is)
+read_outer old mid (refused text long is) = inr (ap (λ t. t.outer) is)
+
+pub heard_outer : {S : Type 0} (remaining contents : S → Option (List ℕ)) (entry : Option Entry) (old new : Terminal S)
+    (client client' : ClientView) → HearsOne remaining contents entry old new client client' → (new.outer ≡ old.outer) ⊎ (new.outer ≡ None)
+heard_outer remaining contents entry old new client client' h =
+    either_after old.outer h.read.outer new.outer (read_outer old h.read h.is_read) (taken_outer entry h.read new client client' h.takes)
+
+-- ---- what was typed
 
 not_gone : (s : State) → is_heard s ≡ true → s ≢ Gone
 not_gone s h is = let other : is_heard Gone ≡ true = ap is_heard (sym is) ∙ h in absurd cc
 
--- nothing of it was taken
-pub hears_read : {S : Type 0} (remaining : S → Option (List ℕ)) (old mid : Terminal S) (client : ClientView)
-    → Reads (remaining old.stream) (remaining mid.stream) old.lines.kept mid.lines.kept mid.state → IsRead old mid
-    → HearsOne remaining old mid client client
-hears_read remaining old mid client reads (read is) = record {
-  hears = hears_nothing _ _ _ _ _ _ _ client reads (ap (λ t. t.watches) is);
-  guesses = stay (ap (λ t. t.guessing) is);
-  shown = inl (ap (λ t. t.outer) is, ap (λ t. t.waiting) is);
-  others = is ∙ (λ i. record old {
-    stream = mid.stream;
-    lines = mid.lines;
-    guessing = ap (λ t. t.guessing) (sym is) i;
-    watches = ap (λ t. t.watches) (sym is) i;
-    outer = ap (λ t. t.outer) (sym is) i;
-    waiting = ap (λ t. t.waiting) (sym is) i;
-    state = mid.state;
-  });
-}
-hears_read remaining old mid client reads (refused state is) = record {
-  hears = hears_nothing _ _ _ _ _ _ _ client reads (ap (λ t. t.watches) is);
-  guesses = stay (ap (λ t. t.guessing) is);
-  shown = inr (ap (λ t. t.outer) is);
-  others = is ∙ (λ i. record old {
-    stream = mid.stream;
-    lines = mid.lines;
-    guessing = ap (λ t. t.guessing) (sym is) i;
-    watches = ap (λ t. t.watches) (sym is) i;
-    outer = ap (λ t. t.outer) (sym is) i;
-    waiting = mid.waiting;
-    state = mid.state;
-  });
-}
+module _ {S : Type 0} (remaining : S → Option (List ℕ)) (old mid new : Terminal S) (client client' : ClientView) where
+  -- no line was taken, and the bytes that were read are kept
+  untaken : Reads (remaining old.stream) (remaining mid.stream) old.lines.kept mid.lines.kept mid.state → IsRead old mid
+      → new.stream ≡ mid.stream → new.lines ≡ mid.lines → new.watches ≡ mid.watches
+      → (new.state ≢ Gone → mid.state ≢ Gone) → client' ≡ client
+      → Hears (remaining old.stream) (remaining new.stream) old.lines.kept new.lines.kept old.watches new.watches new.state client client'
+  untaken reads is_read stream lines watches on same =
+      let kept : Reads (remaining old.stream) (remaining new.stream) old.lines.kept new.lines.kept new.state =
+      subst (λ x. Reads (remaining old.stream) (remaining x) old.lines.kept new.lines.kept new.state) (sym stream)
+      (subst (λ l. Reads (remaining old.stream) (remaining mid.stream) old.lines.kept l.kept new.state) (sym lines)
+      (reads_state _ _ _ _ _ _ on reads)) in
+      hears_nothing _ _ _ _ _ _ _ client client' kept (watches ∙ sym (watches_read old mid is_read)) same
 
-shown_after : {S : Type 0} (old mid new : Terminal S) → mid ≡ record old { stream = mid.stream; lines = mid.lines; state = mid.state }
-    → StaysShown mid new → StaysShown old new
-shown_after old mid new is (inl h) = inl (h.0 ∙ ap (λ t. t.outer) is, h.1 ∙ ap (λ t. t.waiting) is)
-shown_after old mid new is (inr h) = inr h
+  pub heard_stands : (entry : Option Entry) → Reads (remaining old.stream) (remaining mid.stream) old.lines.kept mid.lines.kept mid.state
+      → IsRead old mid → TakesLine entry mid new client client'
+      → Hears (remaining old.stream) (remaining new.stream) old.lines.kept new.lines.kept old.watches new.watches new.state client client'
+  heard_stands entry reads is_read (line_taken e line is heard first says types guesses to) =
+      subst (λ x. Hears (remaining old.stream) (remaining x) old.lines.kept new.lines.kept old.watches new.watches new.state client client')
+      (sym (ap (λ t. t.stream) to))
+      (hears_line _ _ line _ _ _ _ _ _ _ _ client client' e reads (not_gone mid.state heard) (sym (watches_read old mid is_read))
+      (ap (λ t. t.watches) to) types first says)
+  heard_stands entry reads is_read (line_waits e is heard asks watches holds c same) =
+      untaken reads is_read (ap (λ t. t.stream) same) (ap (λ t. t.lines) same) (ap (λ t. t.watches) same)
+      (λ on gone. on (ap (λ t. t.state) same ∙ gone)) c
+  heard_stands entry reads is_read (line_wanting e is heard asks watches some c same) =
+      untaken reads is_read (ap (λ t. t.stream) same) (ap (λ t. t.lines) same) (ap (λ t. t.watches) same)
+      (λ on gone. on (ap (λ t. t.state) same ∙ gone)) c
+  heard_stands entry reads is_read (line_refused is heard why to c) =
+      untaken reads is_read (ap (λ t. t.stream) to.1) (ap (λ t. t.lines) to.1) (ap (λ t. t.watches) to.1) (λ on. not_gone mid.state heard) c
+  heard_stands entry reads is_read (nothing is heard none c same) =
+      untaken reads is_read (ap (λ t. t.stream) same) (ap (λ t. t.lines) same) (ap (λ t. t.watches) same)
+      (λ on gone. on (ap (λ t. t.state) same ∙ gone)) c
+  heard_stands entry reads is_read (unheard is not_heard c same) =
+      untaken reads is_read (ap (λ t. t.stream) same) (ap (λ t. t.lines) same) (ap (λ t. t.watches) same)
+      (λ on gone. on (ap (λ t. t.state) same ∙ gone)) c
 
-taken_after : {S : Type 0} (old mid new : Terminal S) → mid ≡ record old { stream = mid.stream; lines = mid.lines; state = mid.state }
-    → IsTaken mid new
-    → new
-    ≡ record old {
-      stream = new.stream;
-      lines = new.lines;
-      guessing = new.guessing;
-      watches = new.watches;
-      outer = new.outer;
-      waiting = new.waiting;
-      state = new.state;
-    }
-taken_after {S} old mid new is taken =
-    taken
-    ∙ ap (λ (t : Terminal S). record t {
-      lines = new.lines;
-      guessing = new.guessing;
-      watches = new.watches;
-      outer = new.outer;
-      waiting = new.waiting;
-      state = new.state;
-    }) is
-    ∙ (λ i. record old {
-      stream = ap (λ t. t.stream) (sym taken) i;
-      lines = new.lines;
-      guessing = new.guessing;
-      watches = new.watches;
-      outer = new.outer;
-      waiting = new.waiting;
-      state = new.state;
-    })
-
-guesses_after_read : {S : Type 0} (old mid new : Terminal S) (client : ClientView)
-    → mid ≡ record old { stream = mid.stream; lines = mid.lines; state = mid.state } → Guesses client mid.guessing new.guessing
-    → Guesses client old.guessing new.guessing
-guesses_after_read old mid new client is h = subst (λ x. Guesses client x new.guessing) (ap (λ t. t.guessing) is) h
-
--- what its line asked for was done
-pub hears_taken : {S : Type 0} (remaining : S → Option (List ℕ)) (old mid new : Terminal S) (client client' : ClientView) (entry : Entry)
-    → Reads (remaining old.stream) (remaining mid.stream) old.lines.kept mid.lines.kept mid.state → IsRead old mid
-    → is_heard mid.state ≡ true
-    → ((acts : List Act) × Types acts client client' × Takes entry mid.lines.kept new.lines.kept mid.watches new.watches acts)
-    → Guesses client mid.guessing new.guessing → StaysShown mid new → IsTaken mid new → HearsOne remaining old new client client'
-hears_taken remaining old mid new client client' entry reads is heard takes guessed shown taken =
-    let on = not_gone mid.state heard in
-    let same = heard_read old mid is heard in
-    let stream : new.stream ≡ mid.stream = ap (λ t. t.stream) taken in
-    record {
-      hears = subst (λ x. Hears (remaining old.stream) (remaining x) old.lines.kept new.lines.kept old.watches new.watches new.state client client')
-          (sym stream)
-          (hears_line _ _ _ _ _ _ _ _ _ _ _ _ entry takes.0 reads on (ap (λ t. t.watches) same) takes.1 takes.2);
-      guesses = guesses_after_read old mid new client same guessed;
-      shown = shown_after old mid new same shown;
-      others = taken_after old mid new same taken;
-    }
-
--- its line was refused
-pub hears_refused : {S : Type 0} (remaining : S → Option (List ℕ)) (old mid new : Terminal S) (client : ClientView)
-    → Reads (remaining old.stream) (remaining mid.stream) old.lines.kept mid.lines.kept mid.state → IsRead old mid
-    → is_heard mid.state ≡ true
-    → ((text : List ℕ) × (new ≡ record mid { state = Refused; outer = None; waiting = mid.waiting ++ text }))
-    → HearsOne remaining old new client client
-hears_refused remaining old mid new client reads is heard k =
-    let on = not_gone mid.state heard in
-    let same = heard_read old mid is heard in
-    let stream : new.stream ≡ mid.stream = ap (λ t. t.stream) k.1 in
-    let lines : new.lines ≡ mid.lines = ap (λ t. t.lines) k.1 in
-    let kept : Reads (remaining old.stream) (remaining new.stream) old.lines.kept new.lines.kept new.state =
-    subst (λ x. Reads (remaining old.stream) (remaining x) old.lines.kept new.lines.kept new.state) (sym stream)
-    (subst (λ l. Reads (remaining old.stream) (remaining mid.stream) old.lines.kept l.kept new.state) (sym lines)
-    (reads_state _ _ _ _ _ _ on reads)) in
-    hears_read remaining old new client kept (refused_after old mid new same k)
-
-pub shown_outer : {S : Type 0} (old new : Terminal S) → StaysShown old new → (new.outer ≡ old.outer) ⊎ (new.outer ≡ None)
-shown_outer old new (inl h) = inl h.0
-shown_outer old new (inr h) = inr h
+pub heard_lines_stand : {S : Type 0} (remaining contents : S → Option (List ℕ)) → HeardStands remaining contents
+heard_lines_stand remaining contents entry old new client client' h =
+    heard_stands remaining old h.read new client client' entry h.reads h.is_read h.takes

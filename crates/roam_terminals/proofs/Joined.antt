@@ -13,7 +13,7 @@ module _ {S : Type 0} (remaining contents : S → Option (List ℕ)) (to : Addr)
   abbrev pub Calls : Type 0
   Calls = Option (List PortCall)
 
-  runs_more : (steps : List RunStep) (step : RunStep) (calls between calls' : Calls) (old mid new : Shared S)
+  runs_more : (steps : List (RunStep S)) (step : RunStep S) (calls between calls' : Calls) (old mid new : Shared S)
       → RunsBy remaining contents to steps calls between old mid → IsStep remaining contents to step between calls' mid new
       → RunsBy remaining contents to (steps ++ step ∷ []) calls calls' old new
   runs_more [] step calls between calls' old mid new h k =
@@ -31,7 +31,7 @@ module _ {S : Type 0} (remaining contents : S → Option (List ℕ)) (to : Addr)
       → Runs remaining contents to calls between old new → Runs remaining contents to calls calls' old new
   runs_still calls between calls' old new same h = subst (λ c. Runs remaining contents to calls c old new) (sym same) h
 
-  runs_both : (steps later : List RunStep) (calls between calls' : Calls) (old mid new : Shared S)
+  runs_both : (steps later : List (RunStep S)) (calls between calls' : Calls) (old mid new : Shared S)
       → RunsBy remaining contents to steps calls between old mid → RunsBy remaining contents to later between calls' mid new
       → RunsBy remaining contents to (steps ++ later) calls calls' old new
   runs_both [] later calls between calls' old mid new h k =
@@ -57,8 +57,9 @@ module _ {S : Type 0} (remaining contents : S → Option (List ℕ)) (to : Addr)
       → OnErr result (new.all ≡ mid.all) → new ≡ record mid { all = new.all } → Runs remaining contents to calls calls' old new
   runs_came stream (Ok u) calls between calls' old mid new h same added err others =
       let is : new ≡ record mid { all = mid.all ++ added.0 ∷ [] } = others ∙ ap (λ l. record mid { all = l }) added.3 in (
-        h.0 ++ Came ∷ [],
-        runs_more h.0 Came calls between calls' old mid new h.1 (same, record { terminal = added.0; fresh = added.2; all = is }),
+        h.0 ++ Came stream ∷ [],
+        runs_more h.0 (Came stream) calls between calls' old mid new h.1
+            (same, record { terminal = added.0; is = added.1; fresh = added.2; all = is }),
       )
   runs_came stream (Err fault) calls between calls' old mid new h same added err others =
       let is : new ≡ mid = others ∙ ap (λ l. record mid { all = l }) err in

@@ -1,6 +1,6 @@
-mod Behind
-mod Heard
+pub mod Behind
+pub mod Heard
 mod Joined
-mod Showing
-mod Taking
-mod Written
+pub mod Showing
+pub mod Taking
+pub mod Written

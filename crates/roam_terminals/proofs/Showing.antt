@@ -1,10 +1,12 @@
 -- What waits for a terminal leads it from what it showed to what it shows.
 use Rattle.std.proofs.Common.{◌≡◌, ◌⊎◌, ℕ, List, [], ◌++◌, map, append-nil, append_assoc, Option, Some, None, refl, sym, ap, ◌∙◌, subst, arith, inl, inr}
 use Rattle.std.proofs.lemmas.List.{map-append}
+use Rattle.std.specs.Prelude.{IfSome, Vec}
+use Rattle.std.specs.declared.alloc.Global.{Global}
 use Rattle.roam_overlay.specs.Overlays.{OverlayOf}
-use Rattle.roam_paint.specs.Ground.{Displays, LeadsOver, PaintedLeadsOver}
-use Rattle.roam_paint.specs.Painting.{text_between}
-use Rattle.roam_screens.specs.Screenshot.{Screenshot, IsScreenshot}
+use Rattle.roam_paint.specs.Ground.{Displays}
+use Rattle.roam_screens.specs.Screenshot.{Screenshot}
+use Rattle.roam_scroll_paint.specs.Leads.{Leads as LeadsTo}
 use Rattle.roam_term.specs.Ground.{IsSized}
 use Rattle.roam_term.specs.Terminal.{term}
 use Rattle.roam_text.specs.Log.{Item, Byte}
@@ -50,15 +52,29 @@ shows_joined rows cols lines log first later s size then =
     (then.displays, record { rows = then.size.rows ∙ size.rows; cols = then.size.cols ∙ size.cols }) in
     record { displays = both.0; size = both.1 }
 
--- the text of a painter between two screens of one size leads from one to the other
-pub painted_between : PaintedLeadsOver → (one other : Screenshot) (text : List ℕ) → IsSize one other → IsScreenshot other
-    → text ≡ text_between one other → Between one other text
-painted_between painted_leads one other text size is same = record {
+-- the text of the painter between two screens of one size leads from one to the other
+pub painted_between : (one other : Screenshot) (text : List ℕ) → IsSize one other → LeadsTo one other text → Between one other text
+painted_between one other text size leads = record {
   size = size;
   leads = λ n rows cols lines log ready fits.
-      let led = painted_leads rows cols lines log one other is ready fits.rows_fit fits.cols_fit in
-      subst (λ l. ShowsAt rows cols lines log l other) (sym same) (record { displays = led.displays; size = led.size });
+      let led = leads rows cols lines log ready fits.rows_fit fits.cols_fit in
+      record { displays = led.displays; size = led.size };
 }
+
+pub back_of : (over : Screenshot) (outer : Option Noted) (noted : Noted) (result : Option (Vec ℕ Global)) → outer ≡ Some noted
+    → IsSize over noted.screen → IfSome result (λ text. LeadsTo over noted.screen text.items)
+    → IfSome result (λ text. IsBack over outer text.items)
+back_of over outer noted None is size leads = tt
+back_of over outer noted (Some text) is size leads =
+    subst (λ o. IsBack over o text.items) (sym is) (painted_between over noted.screen text.items size leads)
+
+pub forth_of : (outer : Option Noted) (noted : Noted) (over : Screenshot) (result : Option (Vec ℕ Global)) → outer ≡ Some noted
+    → IsSize over noted.screen → IfSome result (λ text. LeadsTo noted.screen over text.items)
+    → IfSome result (λ text. IsForth outer over text.items)
+forth_of outer noted over None is size leads = tt
+forth_of outer noted over (Some text) is size leads =
+    subst (λ o. IsForth o over text.items) (sym is)
+    (painted_between noted.screen over text.items (record { rows = sym size.rows; cols = sym size.cols }) leads)
 
 -- ---- what leads any terminal leads this one
 

@@ -1,20 +1,25 @@
 -- What is taken of a terminal's lines, one after another.
-use Rattle.std.proofs.Common.{◌≡◌, ℕ, Bool, true, false, List, [], ◌∷◌, ◌++◌, append-nil, append_assoc, refl, sym, ap, ◌∙◌, subst}
+use Rattle.std.proofs.Common.{◌≡◌, ℕ, Bool, true, false, List, [], ◌∷◌, ◌++◌, append-nil, append_assoc, refl, sym, ap, ◌∙◌, subst, inl, inr}
 use Rattle.std.proofs.KnownBytes.{Consumes-nil, Consumes-trans}
-use Rattle.std.specs.Prelude.{◌≢◌, Option, Ok}
+use Rattle.std.specs.Prelude.{◌≢◌, ◌⊎◌, Option, None, Some, Ok, Vec}
+use Rattle.std.specs.declared.alloc.Global.{Global}
 use Rattle.roam_acts.specs.declared.acts.Act.{Act}
-use Rattle.roam_hub.specs.Clients.{ClientView, TypesAll}
-use Rattle.roam_hub.specs.Clients.TypesAll.{watching, full, spent, typed as typed_now, no_memory}
+use Rattle.roam_hub.specs.Clients.{ClientView, TypesAll, after_typed_all, keeping}
+use Rattle.roam_hub.specs.Clients.TypesAll.{watching, full, spent, typed as typed_now, no_memory as none_for_them}
 use Rattle.roam_typing.specs.Entries.{Says, acts_in}
 use Rattle.roam_typing.specs.declared.entries.Entry.{Entry}
+use Rattle.roam_typing.specs.declared.entries.Entry.TheVariants.{Acts, Paste}
+use Rattle.roam_typing.specs.declared.entries.Guessing.{Guessing}
 use Rattle.roam_typing.specs.Lines.{IsFirst, ended_all}
 use Rattle.roam_faults.specs.Streams.{ended_line}
 use Rattle.roam_overlay.specs.Overlays.{OverlayOf}
-use Rattle.roam_terminals.specs.Terminals.{Guesses, Hears, MayGuess, Reads, Stands, Takes, TakesAll, Types, TypesLine, typed_by, watches_after}
-use Rattle.roam_terminals.specs.Terminals.Guesses.{guessed as are_guessed, stay as are_same}
-use Rattle.roam_terminals.specs.Terminals.MayGuess.{guessed as was_guessed, stay as was_same}
-use Rattle.roam_terminals.specs.Terminals.Takes.{waits, taken}
-use Rattle.roam_terminals.specs.Terminals.TypesLine.{held, unheard, typed as typed_line}
+use Rattle.roam_terminals.specs.Hearing.{TakesEntry, TypesLine}
+use Rattle.roam_terminals.specs.Hearing.TakesEntry.{taken, waits, no_memory}
+use Rattle.roam_terminals.specs.Hearing.TypesLine.{typed as typed_line, waits as line_waits, no_memory as line_no_memory}
+use Rattle.roam_terminals.specs.Terminals.{Hears, IsSet, Reads, Stands, TakesAll, Types, adaptive_of, fresh_guesses, typed_by, watches_after}
+use Rattle.roam_terminals.specs.Terminals.IsSet.{no_guesses, fresh}
+use Rattle.roam_terminals.specs.declared.hearing.Taking.{Taking}
+use Rattle.roam_terminals.specs.declared.terminal.Terminal.{Terminal}
 use Rattle.roam_terminals.specs.declared.terminal.State.{State}
 use Rattle.roam_terminals.specs.declared.terminal.State.TheVariants.{Gone}
 use Rattle.roam_typing.proofs.Fronts.{first_is_ended}
@@ -22,6 +27,11 @@ use Rattle.roam_typing.proofs.Fronts.{first_is_ended}
 -- typing nothing leaves a start
 pub types_none : (client client' : ClientView) → client' ≡ client → Types [] client client'
 types_none client client' same = same
+
+-- so does a word of the connection
+pub word_types : (w : Bool) (entry : Entry) (client : ClientView) → acts_in entry ≡ [] → Types (typed_by w entry) client client
+word_types true entry client none = refl
+word_types false entry client none = ap (λ l. keeping client (after_typed_all client.kept l)) (sym none)
 
 -- one line more was taken
 pub takes_more : (lines : List (List ℕ)) (line : List ℕ) (entry : Entry) (w mid w' : Bool) (acts more : List Act) → TakesAll lines w mid acts
@@ -53,20 +63,15 @@ stands_read kept bytes w log all h =
       takes = h.takes;
     }
 
--- what a line asked for was done
-pub stands_taken : (entry : Entry) (kept kept' : List ℕ) (w w' : Bool) (acts : List Act) (log : List ℕ) (all : List Act)
-    → Takes entry kept kept' w w' acts → Stands kept w log all → Stands kept' w' log (all ++ acts)
-stands_taken entry kept kept' w w' acts log all (waits same watches none) h =
-    subst (λ l. Stands l w' log (all ++ acts)) (sym same)
-    (subst (λ b. Stands kept b log (all ++ acts)) (sym watches)
-    (subst (λ l. Stands kept w log l) (sym (ap (λ l. all ++ l) none ∙ append-nil all)) h))
-stands_taken entry kept kept' w w' acts log all (taken line first says watches typed) h =
-    record {
-      lines = h.lines ++ line ∷ [];
-      is = h.is ∙ (ap (λ l. ended_all h.lines ++ l) (first_is_ended kept line kept' first)
-          ∙ (sym (append_assoc (ended_all h.lines) (ended_line line) kept') ∙ ap (λ l. l ++ kept') (sym (ended_more h.lines line))));
-      takes = takes_more h.lines line entry false w w' all acts h.takes says watches typed;
-    }
+-- a line was taken
+pub stands_taken : (entry : Entry) (line kept kept' : List ℕ) (w : Bool) (log : List ℕ) (all : List Act) → IsFirst kept line kept'
+    → Says line entry → Stands kept w log all → Stands kept' (watches_after entry w) log (all ++ typed_by w entry)
+stands_taken entry line kept kept' w log all first says h = record {
+  lines = h.lines ++ line ∷ [];
+  is = h.is ∙ (ap (λ l. ended_all h.lines ++ l) (first_is_ended kept line kept' first)
+      ∙ (sym (append_assoc (ended_all h.lines) (ended_line line) kept') ∙ ap (λ l. l ++ kept') (sym (ended_more h.lines line))));
+  takes = takes_more h.lines line entry false w (watches_after entry w) all (typed_by w entry) h.takes says refl refl;
+}
 
 -- ---- the line that stands first
 
@@ -76,39 +81,26 @@ types_all acts client client' (watching w e s) = absurd cc
 types_all acts client client' (full w r e s) = absurd cc
 types_all acts client client' (spent w r e s) = absurd cc
 types_all acts client client' (typed_now w r n e s) = s
-types_all acts client client' (no_memory w r n some e s) = absurd cc
+types_all acts client client' (none_for_them w r n some e s) = absurd cc
 
--- a word of the connection
-pub word_takes : (entry : Entry) (kept kept' : List ℕ) (w w' : Bool) (client : ClientView) → acts_in entry ≡ [] → w' ≡ watches_after entry w
-    → (line rest : List ℕ) → IsFirst kept line rest → Says line entry → kept' ≡ rest
-    → (acts : List Act) × Types acts client client × Takes entry kept kept' w w' acts
-word_takes entry kept kept' w w' client none watches line rest first says same =
-    ([], types_none client client refl, taken line (subst (IsFirst kept line) (sym same) first) says watches (nothing w))
-  where
-    nothing : (b : Bool) → [] ≡ typed_by b entry
-    nothing true = refl
-    nothing false = sym none
+-- guesses begin as they are wanted, where there is memory
+pub is_set : (guessing : Guessing) (watches adaptive : Bool) (new : Option OverlayOf) → watches ≡ false
+    → adaptive_of guessing ≡ Some adaptive → ((new ≡ None) ⊎ (new ≡ Some (fresh_guesses adaptive))) → IsSet guessing watches new
+is_set guessing watches adaptive new heard wanted (inl none) = no_guesses none
+is_set guessing watches adaptive new heard wanted (inr is) = fresh adaptive heard wanted is
 
--- acts
-pub acts_take : (entry : Entry) (items : List Act) (kept kept' : List ℕ) (w w' : Bool) (client client' : ClientView) → acts_in entry ≡ items
-    → watches_after entry w ≡ w → w' ≡ w → (line rest : List ℕ) → IsFirst kept line rest → Says line entry
-    → TypesLine items kept kept' w client client' → (acts : List Act) × Types acts client client' × Takes entry kept kept' w w' acts
-acts_take entry items kept kept' w w' client client' is stays same line rest first says (held k c) =
-    ([], types_none client client' c, waits k same refl)
-acts_take entry items kept kept' w w' client client' is stays same line rest first says (unheard watches k c) =
-    let after : w' ≡ watches_after entry w = same ∙ sym stays in
-    let typed : [] ≡ typed_by w entry = ap (λ b. typed_by b entry) (sym watches) in
-    ([], types_none client client' c, taken line (subst (IsFirst kept line) (sym (k line rest first)) first) says after typed)
-acts_take entry items kept kept' w w' client client' is stays same line rest first says (typed_line watches k types) =
-    let after : w' ≡ watches_after entry w = same ∙ sym stays in
-    let acts : items ≡ typed_by w entry = sym is ∙ ap (λ b. typed_by b entry) (sym watches) in
-    (items, types, taken line (subst (IsFirst kept line) (sym (k line rest first)) first) says after acts)
+module _ {S : Type 0} (old new : Terminal S) (client client' : ClientView) (told : Taking) where
+  pub acts_taken : (acts : Vec Act Global) → TypesLine false acts.items old new client client' told
+      → TakesEntry (Acts acts) old new client client' told
+  acts_taken acts (typed_line t took types guesses is) = taken t took types guesses is
+  acts_taken acts (line_waits t watches holds same is) = waits t watches holds same is
+  acts_taken acts (line_no_memory t watches some same is) = no_memory t watches some same is
 
--- what is guessed of acts
-pub guesses_typed : (w pasted : Bool) (acts : List Act) (client : ClientView) (old new : Option OverlayOf)
-    → MayGuess w pasted acts client old new → Guesses client old new
-guesses_typed w pasted acts client old new (was_guessed watches is) = are_guessed pasted acts is
-guesses_typed w pasted acts client old new (was_same same) = are_same same
+  pub paste_taken : (acts : Vec Act Global) → TypesLine true acts.items old new client client' told
+      → TakesEntry (Paste acts) old new client client' told
+  paste_taken acts (typed_line t took types guesses is) = taken t took types guesses is
+  paste_taken acts (line_waits t watches holds same is) = waits t watches holds same is
+  paste_taken acts (line_no_memory t watches some same is) = no_memory t watches some same is
 
 -- ---- what is read
 
@@ -124,39 +116,41 @@ reads_more before mid after kept came kept' state state' on first later = record
 }
 
 -- a terminal was heard: nothing was taken of it
-pub hears_nothing : (before after : Option (List ℕ)) (kept kept' : List ℕ) (w w' : Bool) (state : State) (client : ClientView)
-    → Reads before after kept kept' state → w' ≡ w → Hears before after kept kept' w w' state client client
-hears_nothing before after kept kept' w w' state client reads same = record {
+pub hears_nothing : (before after : Option (List ℕ)) (kept kept' : List ℕ) (w w' : Bool) (state : State) (client client' : ClientView)
+    → Reads before after kept kept' state → w' ≡ w → client' ≡ client → Hears before after kept kept' w w' state client client'
+hears_nothing before after kept kept' w w' state client client' reads same is = record {
   bytes = reads.bytes;
   acts = [];
   consumed = reads.consumed;
-  typed = types_none client client refl;
+  typed = types_none client client' is;
   stands = λ on log all h.
       subst (λ l. Stands kept' w' (log ++ reads.bytes) l) (sym (append-nil all))
       (subst (λ b. Stands kept' b (log ++ reads.bytes) all) (sym same)
       (subst (λ l. Stands l w (log ++ reads.bytes) all) (sym (reads.kept_on on)) (stands_read kept reads.bytes w log all h)));
 }
 
--- a line of it was taken, or waits
-pub hears_line : (before after : Option (List ℕ)) (kept came kept' : List ℕ) (w mid w' : Bool) (state state' : State)
-    (client client' : ClientView) (entry : Entry) (acts : List Act) → Reads before after kept came state → (state ≢ Gone) → mid ≡ w
-    → Types acts client client' → Takes entry came kept' mid w' acts → Hears before after kept kept' w w' state' client client'
-hears_line before after kept came kept' w mid w' state state' client client' entry acts reads on same types takes = record {
+-- a line of it was taken
+pub hears_line : (before after : Option (List ℕ)) (line kept came kept' : List ℕ) (w mid w' : Bool) (state state' : State)
+    (client client' : ClientView) (entry : Entry) → Reads before after kept came state → (state ≢ Gone) → mid ≡ w
+    → w' ≡ watches_after entry mid → Types (typed_by mid entry) client client' → IsFirst came line kept' → Says line entry
+    → Hears before after kept kept' w w' state' client client'
+hears_line before after line kept came kept' w mid w' state state' client client' entry reads on same after_is types first says = record {
   bytes = reads.bytes;
-  acts = acts;
+  acts = typed_by mid entry;
   consumed = reads.consumed;
   typed = types;
   stands = λ is log all h.
-      stands_taken entry came kept' mid w' acts (log ++ reads.bytes) all takes
+      subst (λ b. Stands kept' b (log ++ reads.bytes) (all ++ typed_by mid entry)) (sym after_is)
+      (stands_taken entry line came kept' mid (log ++ reads.bytes) all first says
       (subst (λ b. Stands came b (log ++ reads.bytes) all) (sym same)
-      (subst (λ l. Stands l w (log ++ reads.bytes) all) (sym (reads.kept_on on)) (stands_read kept reads.bytes w log all h)));
+      (subst (λ l. Stands l w (log ++ reads.bytes) all) (sym (reads.kept_on on)) (stands_read kept reads.bytes w log all h))));
 }
 
--- bytes that were kept are kept in whatever state
-pub reads_state : (before after : Option (List ℕ)) (kept kept' : List ℕ) (state state' : State) → (state ≢ Gone)
+-- bytes that were kept are kept in another state
+pub reads_state : (before after : Option (List ℕ)) (kept kept' : List ℕ) (state state' : State) → (state' ≢ Gone → state ≢ Gone)
     → Reads before after kept kept' state → Reads before after kept kept' state'
 reads_state before after kept kept' state state' on reads = record {
   bytes = reads.bytes;
   consumed = reads.consumed;
-  kept_on = λ is. reads.kept_on on;
+  kept_on = λ is. reads.kept_on (on is);
 }

@@ -21,6 +21,16 @@ take_more : (a b : ℕ) (xs : List ℕ) → take a xs ++ take b (drop a xs) ≡ 
 take_more a b xs = sym (sym (take-append-drop a (take (a + b) xs)) ∙ ap (λ t. take a (take (a + b) xs) ++ t) (drop-take a b xs)
     ∙ ap (λ t. t ++ take b (drop a xs)) (take_shorter a b xs))
 
+pub keeps_none : (known : Option (List ℕ)) → Keeps known known
+keeps_none None = tt
+keeps_none (Some xs) = refl
+
+pub keeps_more : (before mid after : Option (List ℕ)) → Keeps before mid → Keeps mid after → Keeps before after
+keeps_more None mid after h k = tt
+keeps_more (Some xs) None after h k = absurd h
+keeps_more (Some xs) (Some ys) None h k = absurd k
+keeps_more (Some xs) (Some ys) (Some zs) h k = k ∙ h
+
 pub writes_none : (before after : Option (List ℕ)) (old : List ℕ) → Keeps before after → Writes before after old old
 writes_none before after old keeps = record { count = 0; written = Appends-kept before before after [] (Appends-nil before) keeps; left = refl }
 
@@ -43,20 +53,21 @@ pub fails_from : (a b c : State) → b ≡ a → ((c ≡ b) ⊎ (c ≡ unwritten
 fails_from a b c same (inl is) = inl (is ∙ same)
 fails_from a b c same (inr is) = inr (is ∙ ap unwritten same)
 
-pub flushes_by : {S : Type 0} (contents : S → Option (List ℕ)) (now : ℕ) (has_taken : Bool) (old mid new : Terminal S)
-    → Writes (contents old.stream) (contents mid.stream) old.waiting mid.waiting
+pub flushes_by : {S : Type 0} (remaining contents : S → Option (List ℕ)) (now : ℕ) (has_taken : Bool) (old mid new : Terminal S)
+    → Writes (contents old.stream) (contents mid.stream) old.waiting mid.waiting → Keeps (remaining old.stream) (remaining mid.stream)
     → ((mid.state ≡ old.state) ⊎ (mid.state ≡ unwritten old.state))
     → mid ≡ record old { stream = mid.stream; waiting = mid.waiting; state = mid.state }
     → new.stuck ≡ stuck_after (is_empty mid.waiting) has_taken now mid.stuck
     → new.state ≡ state_after (is_empty mid.waiting) has_taken now mid.stuck mid.state
-    → new ≡ record mid { stuck = new.stuck; state = new.state } → Flushes contents now old new
-flushes_by {S} contents now has_taken old mid new writes fails first stuck state later =
+    → new ≡ record mid { stuck = new.stuck; state = new.state } → Flushes remaining contents now old new
+flushes_by {S} remaining contents now has_taken old mid new writes apart fails first stuck state later =
     let stream : new.stream ≡ mid.stream = ap (λ t. t.stream) later in
     let waiting : new.waiting ≡ mid.waiting = ap (λ t. t.waiting) later in
     let was : mid.stuck ≡ old.stuck = ap (λ t. t.stuck) first in
     record {
       writes = subst (λ s. Writes (contents old.stream) (contents s) old.waiting new.waiting) (sym stream)
           (subst (λ w. Writes (contents old.stream) (contents mid.stream) old.waiting w) (sym waiting) writes);
+      apart = subst (λ s. Keeps (remaining old.stream) (remaining s)) (sym stream) apart;
       has_taken = has_taken;
       written = mid.state;
       fails = fails;
@@ -89,9 +100,9 @@ tells_by silence seconds old new h due empty bare here (inr is) =
     told seconds h due empty bare here
     (is ∙ (λ i. record old { told = Some seconds; outer = None; waiting = empty i ++ notice_of seconds }))
 
-pub settled_outer : {S : Type 0} (silence : Silence) (contents : S → Option (List ℕ)) (now : ℕ) (old mid new : Terminal S)
-    → TellsSilence silence old mid → Flushes contents now mid new → (new.outer ≡ old.outer) ⊎ (new.outer ≡ None)
-settled_outer silence contents now old mid new tells flushes = by (told_outer tells)
+pub settled_outer : {S : Type 0} (silence : Silence) (remaining contents : S → Option (List ℕ)) (now : ℕ) (old mid new : Terminal S)
+    → TellsSilence silence old mid → Flushes remaining contents now mid new → (new.outer ≡ old.outer) ⊎ (new.outer ≡ None)
+settled_outer silence remaining contents now old mid new tells flushes = by (told_outer tells)
   where
     told_outer : TellsSilence silence old mid → (mid.outer ≡ old.outer) ⊎ (mid.outer ≡ None)
     told_outer (over h is) = inr (ap (λ t. t.outer) is)

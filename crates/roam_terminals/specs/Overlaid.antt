@@ -1,5 +1,5 @@
 -- What stands over the screen that is noted of an outer terminal, and what leads from one such screen to the next.
-use Rattle.std.specs.Prelude.{◌≡◌, ◌⊎◌, ℕ, List, [], ◌∷◌, ◌++◌, Option, Some, None, true}
+use Rattle.std.specs.Prelude.{◌≡◌, ℕ, List, ◌++◌, Option, Some, None, true}
 use Rattle.roam_overlay.specs.Overlays.{OverlayOf, is_shown, laid_over}
 use Rattle.roam_screens.specs.Screenshot.{Screenshot}
 use Rattle.roam_turns.specs.Painting.{Leads, ShowsSized}

@@ -1,11 +1,10 @@
 -- An outer terminal is painted from what its client start shows.
-use Rattle.std.specs.Prelude.{◌≡◌, ◌⊎◌, ℕ, Bool, true, false, not, ◌&&◌, List, Option, Some, None, is_some}
+use Rattle.std.specs.Prelude.{◌≡◌, ◌⊎◌, ℕ, Bool, true, false, not, ◌&&◌, Option, Some, None, is_some}
 use Rattle.roam_hub.specs.Clients.{ClientView}
 use Rattle.roam_overlay.specs.Overlays.{OverlayOf, Judges}
 use Rattle.roam_turns.specs.Painting.{LeadsSized}
 use Rattle.roam_turns.specs.declared.outer.Noted.{Noted}
 use Rattle.roam_terminals.specs.Overlaid.{IsOver, on_show}
-use Rattle.roam_terminals.specs.Silence.{seconds_of}
 use Rattle.roam_terminals.specs.Writing.{is_empty}
 use Rattle.roam_terminals.specs.declared.silence.Silence.{Silence}
 use Rattle.roam_terminals.specs.declared.terminal.State.{State}

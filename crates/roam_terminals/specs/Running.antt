@@ -1,5 +1,5 @@
 -- The whole run of a client start with its outer terminals: terminals come, and rounds are taken, one joined to the next.
-use Rattle.std.specs.Prelude.{◌≡◌, ℕ, ◌-◌, Bool, true, false, not, ◌&&◌, ◌||◌, nat_le, min, List, [], ◌∷◌, ◌++◌, Option, Some, None, if◌then◌else◌}
+use Rattle.std.specs.Prelude.{◌≡◌, ℕ, Bool, true, false, List, [], ◌∷◌, ◌++◌, Option, Some, None}
 use Rattle.roam_hub.specs.declared.addresses.Addr.{Addr}
 use Rattle.roam_turns.specs.Calls.{PortCall}
 use Rattle.roam_typing.specs.Lines.{nothing_came}
@@ -20,25 +20,26 @@ pub record IsFresh {S : Type 0} (t : Terminal S) : Type 0 where
   pub stuck : t.stuck ≡ None
   pub here : t.state ≡ Here
 
--- one came, behind the others
-pub record Comes {S : Type 0} (old new : Shared S) : Type 0 where
+-- one came at the other end of a stream, behind the others
+pub record Comes {S : Type 0} (stream : S) (old new : Shared S) : Type 0 where
   pub terminal : Terminal S
+  pub is : terminal.stream ≡ stream
   pub fresh : IsFresh terminal
   pub all : new ≡ record old { all = old.all ++ terminal ∷ [] }
 
--- a step of a run: a terminal came, or a round was taken, at which the start knew of a silence
-pub data RunStep : Type 0 where
-  Came : RunStep
-  Took : (silence : Silence) → RunStep
+-- a step of a run: a terminal came at the other end of a stream, or a round was taken, at which the start knew of a silence
+pub data RunStep (S : Type 0) : Type 0 where
+  Came : (stream : S) → RunStep S
+  Took : (silence : Silence) → RunStep S
 
 -- the ports are called in rounds alone
-abbrev pub IsStep : {S : Type 0} → (S → Option (List ℕ)) → (S → Option (List ℕ)) → Addr → RunStep
+abbrev pub IsStep : {S : Type 0} → (S → Option (List ℕ)) → (S → Option (List ℕ)) → Addr → RunStep S
     → Option (List PortCall) → Option (List PortCall) → Shared S → Shared S → Type 0
-IsStep remaining contents to Came calls calls' old new = (calls' ≡ calls) × Comes old new
+IsStep remaining contents to (Came stream) calls calls' old new = (calls' ≡ calls) × Comes stream old new
 IsStep remaining contents to (Took silence) calls calls' old new = Rounds remaining contents to silence calls calls' old new
 
 -- these steps were taken, each where the one before ended
-abbrev pub RunsBy : {S : Type 0} → (S → Option (List ℕ)) → (S → Option (List ℕ)) → Addr → List RunStep
+abbrev pub RunsBy : {S : Type 0} → (S → Option (List ℕ)) → (S → Option (List ℕ)) → Addr → List (RunStep S)
     → Option (List PortCall) → Option (List PortCall) → Shared S → Shared S → Type 0
 RunsBy remaining contents to [] calls calls' old new = (calls' ≡ calls) × (new ≡ old)
 RunsBy {S} remaining contents to (step ∷ steps) calls calls' old new =
@@ -48,7 +49,7 @@ RunsBy {S} remaining contents to (step ∷ steps) calls calls' old new =
 -- so a run goes on
 abbrev pub Runs : {S : Type 0} → (S → Option (List ℕ)) → (S → Option (List ℕ)) → Addr
     → Option (List PortCall) → Option (List PortCall) → Shared S → Shared S → Type 0
-Runs remaining contents to calls calls' old new = (steps : List RunStep) × RunsBy remaining contents to steps calls calls' old new
+Runs {S} remaining contents to calls calls' old new = (steps : List (RunStep S)) × RunsBy remaining contents to steps calls calls' old new
 
 -- ---- the end
 

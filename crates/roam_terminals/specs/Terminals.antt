@@ -1,5 +1,5 @@
 -- What a client start takes of an outer terminal: its lines in their order, each once.
-use Rattle.std.specs.Prelude.{◌≡◌, ◌≢◌, ℕ, ◌+◌, ◌<◌, Bool, true, false, List, [], ◌∷◌, ◌++◌, length, Option, Some, None}
+use Rattle.std.specs.Prelude.{◌≡◌, ◌≢◌, ℕ, ◌+◌, ◌<◌, Bool, true, false, not, List, [], ◌∷◌, ◌++◌, length, Option, Some, None}
 use Rattle.std.specs.List.{fold}
 use Rattle.std.specs.Io.KnownBytes.{Consumes}
 use Rattle.roam_acts.specs.declared.acts.Act.{Act}
@@ -13,7 +13,9 @@ use Rattle.roam_screens.specs.Screenshot.{Screenshot}
 use Rattle.roam_typing.specs.Entries.{Says, acts_in}
 use Rattle.roam_typing.specs.declared.entries.Entry.{Entry}
 use Rattle.roam_typing.specs.declared.entries.Entry.TheVariants.{Acts, Paste, Repaint, Watch, Guess, End}
-use Rattle.roam_typing.specs.Lines.{IsFirst, ended_all}
+use Rattle.roam_typing.specs.declared.entries.Guessing.{Guessing}
+use Rattle.roam_typing.specs.declared.entries.Guessing.TheVariants.{Always, Adaptive, Never}
+use Rattle.roam_typing.specs.Lines.{ended_all}
 use Rattle.roam_terminals.specs.declared.terminal.State.{State}
 use Rattle.roam_terminals.specs.declared.terminal.State.TheVariants.{Here, Deaf, Left, Refused, Gone}
 
@@ -26,10 +28,27 @@ watches_after Watch watches = true
 watches_after (Guess guessing) watches = watches
 watches_after End watches = watches
 
--- the acts of an entry that are typed: none of a terminal that only watches
+-- a line ends the start where it says so, and its terminal doesn't only watch
+abbrev pub ends_by : Bool → Entry → Bool
+ends_by watches (Acts acts) = false
+ends_by watches (Paste acts) = false
+ends_by watches Repaint = false
+ends_by watches Watch = false
+ends_by watches (Guess guessing) = false
+ends_by watches End = not watches
+
+-- a terminal asked for the end by the line that was taken of it, where one was
+abbrev pub asks_end : Bool → Option Entry → Bool
+asks_end watches None = false
+asks_end watches (Some entry) = ends_by watches entry
+
+-- the acts of a line that are typed: none of a terminal that only watches
+abbrev pub acts_by : Bool → List Act → List Act
+acts_by false acts = acts
+acts_by true acts = []
+
 abbrev pub typed_by : Bool → Entry → List Act
-typed_by false entry = acts_in entry
-typed_by true entry = []
+typed_by watches entry = acts_by watches (acts_in entry)
 
 -- these lines were taken of a terminal, which only watches then or not, and these acts typed
 abbrev pub TakesAll : List (List ℕ) → Bool → Bool → List Act → Type 0
@@ -48,7 +67,7 @@ pub record Stands (kept : List ℕ) (watches : Bool) (log : List ℕ) (typed : L
 abbrev pub Types : List Act → ClientView → ClientView → Type 0
 Types acts old new = new ≡ keeping old (after_typed_all old.kept acts)
 
--- A terminal was heard: these bytes of its stream were read, and these acts typed: where it isn't let go, the next ones of its lines.
+-- Of a terminal that was heard these bytes of its stream were read, and these acts typed: where it isn't let go, the next ones of its lines.
 pub record Hears (before after : Option (List ℕ)) (kept kept' : List ℕ) (watches watches' : Bool) (state' : State)
     (client client' : ClientView) : Type 0 where
   pub bytes : List ℕ
@@ -99,24 +118,35 @@ guesses_after pasted first acts shown (Some o) =
 abbrev pub first_number : ClientView → ℕ
 first_number client = next_number (last_number client.kept.acts)
 
--- guesses begin anew, or there are none
-pub data IsSet (new : Option OverlayOf) : Type 0 where
-  no_guesses : new ≡ None → IsSet new
-  fresh : (adaptive : Bool) → new ≡ Some (record { guesses = none; adaptive = adaptive; delays = no_delay; seen = None }) → IsSet new
+-- whether guesses are shown where what is typed takes long alone, as a line says; or none are
+abbrev pub adaptive_of : Guessing → Option Bool
+adaptive_of Always = Some false
+adaptive_of Adaptive = Some true
+adaptive_of Never = None
 
--- acts of a line are guessed where they are typed, and where they aren't nothing changes
-pub data MayGuess (watches pasted : Bool) (acts : List Act) (client : ClientView) (old new : Option OverlayOf) : Type 0 where
-  guessed : watches ≡ false
-      → new ≡ guesses_after pasted (first_number client) acts client.kept.receiver.newest.state old
-      → MayGuess watches pasted acts client old new
-  stay : new ≡ old → MayGuess watches pasted acts client old new
+-- guesses that begin anew
+abbrev pub fresh_guesses : Bool → OverlayOf
+fresh_guesses adaptive = record { guesses = none; adaptive = adaptive; delays = no_delay; seen = None }
 
--- a line of a terminal changes what is guessed of it: its acts are guessed; it says when guesses are shown; or nothing changes
-pub data Guesses (client : ClientView) (old new : Option OverlayOf) : Type 0 where
-  guessed : (pasted : Bool) (acts : List Act)
-      → new ≡ guesses_after pasted (first_number client) acts client.kept.receiver.newest.state old → Guesses client old new
-  set : IsSet new → Guesses client old new
-  stay : new ≡ old → Guesses client old new
+-- guesses begin anew, as a line says; there are none where it wants none, of a terminal that watches, and where memory is wanting
+pub data IsSet (guessing : Guessing) (watches : Bool) (new : Option OverlayOf) : Type 0 where
+  no_guesses : new ≡ None → IsSet guessing watches new
+  fresh : (adaptive : Bool) → watches ≡ false → adaptive_of guessing ≡ Some adaptive → new ≡ Some (fresh_guesses adaptive)
+      → IsSet guessing watches new
+
+-- acts of a line that was taken are guessed, but of a terminal that only watches
+abbrev pub guesses_by : Bool → Bool → List Act → ClientView → Option OverlayOf → Option OverlayOf
+guesses_by true pasted acts client old = old
+guesses_by false pasted acts client old = guesses_after pasted (first_number client) acts client.kept.receiver.newest.state old
+
+-- what a line that was taken makes of what is guessed: its acts are guessed; it says when guesses are shown; or nothing changes
+abbrev pub Guesses : Bool → Entry → ClientView → Option OverlayOf → Option OverlayOf → Type 0
+Guesses watches (Acts acts) client old new = new ≡ guesses_by watches false acts.items client old
+Guesses watches (Paste acts) client old new = new ≡ guesses_by watches true acts.items client old
+Guesses watches Repaint client old new = new ≡ old
+Guesses watches Watch client old new = new ≡ old
+Guesses watches (Guess guessing) client old new = IsSet guessing watches new
+Guesses watches End client old new = new ≡ old
 
 -- ---- a line at a time
 
@@ -125,17 +155,3 @@ pub record Reads (before after : Option (List ℕ)) (kept kept' : List ℕ) (sta
   pub bytes : List ℕ
   pub consumed : Consumes before after bytes
   pub kept_on : state' ≢ Gone → kept' ≡ kept ++ bytes
-
--- what the line that stands first asks for was done, and these acts typed; or the line waits
-pub data Takes (entry : Entry) (kept kept' : List ℕ) (watches watches' : Bool) (acts : List Act) : Type 0 where
-  waits : kept' ≡ kept → watches' ≡ watches → acts ≡ [] → Takes entry kept kept' watches watches' acts
-  taken : (line : List ℕ) → IsFirst kept line kept' → Says line entry → watches' ≡ watches_after entry watches
-      → acts ≡ typed_by watches entry → Takes entry kept kept' watches watches' acts
-
--- The acts of the line that stands first were typed and the line taken, of a terminal that only watches without them; or the line waits.
-pub data TypesLine (acts : List Act) (kept kept' : List ℕ) (watches : Bool) (client client' : ClientView) : Type 0 where
-  held : kept' ≡ kept → client' ≡ client → TypesLine acts kept kept' watches client client'
-  unheard : watches ≡ true → ((line rest : List ℕ) → IsFirst kept line rest → kept' ≡ rest) → client' ≡ client
-      → TypesLine acts kept kept' watches client client'
-  typed : watches ≡ false → ((line rest : List ℕ) → IsFirst kept line rest → kept' ≡ rest) → Types acts client client'
-      → TypesLine acts kept kept' watches client client'

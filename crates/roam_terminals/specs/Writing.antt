@@ -1,7 +1,7 @@
 -- What waits for an outer terminal: it is written as the terminal takes it; and what is told of silence.
-use Rattle.std.specs.Prelude.{◌≡◌, ◌⊎◌, ℕ, ◌-◌, Bool, true, false, nat_le, not, ◌&&◌, List, [], ◌∷◌, ◌++◌, Option, Some, None, is_some, if◌then◌else◌}
+use Rattle.std.specs.Prelude.{◌≡◌, ◌⊎◌, ℕ, ◌-◌, Bool, true, false, nat_le, List, [], ◌∷◌, Option, Some, None, if◌then◌else◌}
+use Rattle.std.specs.Io.KnownBytes.{Keeps}
 use Rattle.roam_frames.specs.Carriers.{Writes}
-use Rattle.roam_turns.specs.declared.outer.Noted.{Noted}
 use Rattle.roam_terminals.specs.Silence.{due_of, is_over, notice_of}
 use Rattle.roam_terminals.specs.declared.silence.Silence.{Silence}
 use Rattle.roam_terminals.specs.declared.terminal.State.{State}
@@ -50,8 +50,9 @@ state_after false has_taken now stuck state =
 
 -- Some of what waited for a terminal was written, and nothing else is another: what is noted of it, what stands over that and what is
 -- guessed stay, and so do its lines. Where a write failed nothing more can be written.
-pub record Flushes {S : Type 0} (contents : S → Option (List ℕ)) (now : ℕ) (old new : Terminal S) : Type 0 where
+pub record Flushes {S : Type 0} (remaining contents : S → Option (List ℕ)) (now : ℕ) (old new : Terminal S) : Type 0 where
   pub writes : Writes (contents old.stream) (contents new.stream) old.waiting new.waiting
+  pub apart : Keeps (remaining old.stream) (remaining new.stream)
   pub has_taken : Bool
   pub written : State
   pub fails : (written ≡ old.state) ⊎ (written ≡ unwritten old.state)

@@ -1,15 +1,17 @@
 //! What an outer terminal types: its lines are read and taken, each once and in order.
-ghost use Rattle.std.specs.Prelude.{◌≡◌, ◌≢◌, ◌⊎◌, ◌++◌, ◌≤◌, ℕ, List, [], true, false, length, None, Some, IfOk};
+ghost use Rattle.std.specs.Prelude.{◌≡◌, ◌≢◌, ◌⊎◌, ◌++◌, ◌≤◌, ℕ, List, Option, true, None, Some, IfOk, length};
+ghost use Rattle.std.specs.Io.KnownBytes.{Keeps};
 ghost use Rattle.std.specs.List.{All};
 ghost use Rattle.roam_acts.specs.Acts.{IsInRange};
-ghost use Rattle.roam_acts.specs.declared.acts.Act.{Act as ActOf};
 ghost use Rattle.roam_faults.specs.Streams.{IsStreamEnd};
-ghost use Rattle.roam_terminals.specs.Hearing.{HearsOne, IsRead, IsTaken};
-ghost use Rattle.roam_terminals.specs.Terminals.{Guesses, Holds, IsSet, MayGuess, Reads, Takes, Types, TypesLine, guesses_after, is_heard, is_read};
+ghost use Rattle.roam_terminals.specs.Hearing.{HearsOne, IsRead, IsRefused, TakesEntry, TypesLine, is_end};
+ghost use Rattle.roam_terminals.specs.Terminals.{IsSet, Reads, asks_end, fresh_guesses, guesses_after, is_heard, is_read};
 ghost use Rattle.roam_typing.specs.Entries.{Says, acts_in};
+ghost use Rattle.roam_typing.specs.declared.entries.Entry.{Entry as EntryOf};
 ghost use Rattle.roam_typing.specs.Lines.{IsFirst};
 ghost use Rattle.roam_typing.specs.Typing.{bytes_given};
 
+use crate::duplex::Duplex;
 use crate::terminal::{State, Terminal};
 use roam_acts::Act;
 use roam_acts::limits::MOST_ACTS;
@@ -20,7 +22,6 @@ use roam_overlay::Overlay;
 use roam_typing::{Entry, Front, Guessing, read_entry};
 use std::alloc::Global;
 use std::io;
-use std::io::{Read, Write};
 
 /// How many bytes are read at once at most.
 const PIECE: usize = 1024;
@@ -47,9 +48,21 @@ pub(crate) enum Taking {
     NoMemory,
 }
 
+impl Taking {
+    // Whether it ends the start.
+    pub(crate) fn is_end(self) -> bool
+        ensures end { result ≡ is_end self }
+    {
+        match self {
+            Taking::End => true,
+            Taking::Nothing | Taking::Line | Taking::Waits | Taking::NoMemory => false,
+        }
+    }
+}
+
 // Guesses that begin, where there is memory for them.
 fn new_overlay(alloc: Global, adaptive: bool) -> Option<Overlay>
-    ensures set { IsSet result }
+    ensures fresh { (result ≡ None) ⊎ (result ≡ Some (fresh_guesses adaptive)) }
 {
     match Overlay::new(alloc, adaptive) {
         Ok(overlay) => Some(overlay),
@@ -59,8 +72,7 @@ fn new_overlay(alloc: Global, adaptive: bool) -> Option<Overlay>
 
 // What guesses are shown by, where they are to be and there is memory for it; a terminal that watches has none.
 fn overlay_for(alloc: Global, guessing: Guessing, watches: bool) -> Option<Overlay>
-    ensures set { IsSet result }
-    ensures watching { watches ≡ true → result ≡ None }
+    ensures set { IsSet guessing watches result }
 {
     if watches {
         return None;
@@ -72,7 +84,7 @@ fn overlay_for(alloc: Global, guessing: Guessing, watches: bool) -> Option<Overl
     }
 }
 
-impl<S: Read + Write + Drop> Terminal<S> {
+impl<S: Duplex + Drop> Terminal<S> {
     // A read brought bytes or not; tells whether it brought some that are kept.
     fn take_piece(&mut self, answer: &io::Result<usize>, piece: &[u8]) -> bool
         requires within { IfOk answer.now (λ n. n ≤ length piece.now) }
@@ -104,10 +116,11 @@ impl<S: Read + Write + Drop> Terminal<S> {
         ensures on { result ≡ true → self.new.state ≡ self.old.state }
         ensures reads { Reads (S.remaining self.old.stream) (S.remaining self.new.stream) self.old.lines.kept self.new.lines.kept
             self.new.state }
+        ensures apart { Keeps (S.contents self.old.stream) (S.contents self.new.stream) }
         ensures others { self.new ≡ record self.old { stream = self.new.stream; lines = self.new.lines; state = self.new.state } }
     {
         let mut piece = [0; PIECE];
-        let answer = self.stream.read(&mut piece);
+        let answer = self.stream.read_some(&mut piece);
         self.take_piece(&answer, &piece)
     }
 
@@ -125,6 +138,7 @@ impl<S: Read + Write + Drop> Terminal<S> {
     fn read_line(&mut self, alloc: Global)
         ensures reads { Reads (S.remaining self.old.stream) (S.remaining self.new.stream) self.old.lines.kept self.new.lines.kept
             self.new.state }
+        ensures apart { Keeps (S.contents self.old.stream) (S.contents self.new.stream) }
         ensures others { IsRead self.old self.new }
     {
         for _ in 0..MOST_READS {
@@ -144,7 +158,7 @@ impl<S: Read + Write + Drop> Terminal<S> {
     }
 }
 
-impl<S: Read + Write + Drop> Terminal<S> {
+impl<S: Duplex + Drop> Terminal<S> {
     // Whether its lines are taken: also those that came whole before it left.
     fn is_heard(&self) -> bool
         ensures heard { result ≡ is_heard self.now.state }
@@ -169,8 +183,7 @@ impl<S: Read + Write + Drop> Terminal<S> {
 
     // Guesses are shown from now on, or aren't any more; a terminal that watches has none, and one for which there is no memory.
     fn set_guessing(&mut self, alloc: Global, guessing: Guessing)
-        ensures set { IsSet self.new.guessing }
-        ensures watching { self.old.watches ≡ true → self.new.guessing ≡ None }
+        ensures set { IsSet guessing self.old.watches self.new.guessing }
         ensures others { self.new ≡ record self.old { guessing = self.new.guessing } }
     {
         self.guessing = overlay_for(alloc, guessing, self.watches);
@@ -179,14 +192,8 @@ impl<S: Read + Write + Drop> Terminal<S> {
     // Types the acts of the line that stands first, all or none.
     fn type_acts(&mut self, client: &mut Client, acts: &[Act], is_pasted: bool) -> Taking
         requires in_range { All IsInRange acts.now }
-        requires first { (line rest : List ℕ) × IsFirst self.old.lines.kept line rest }
-        ensures takes { TypesLine acts.now self.old.lines.kept self.new.lines.kept self.old.watches client.old client.new }
-        ensures guesses { MayGuess self.old.watches is_pasted acts.now client.old self.old.guessing self.new.guessing }
-        // What waits does so for a reason.
-        ensures waits { result ≡ Taking.Waits → Holds acts.now client.old }
-        ensures taken { result ≢ Taking.End }
+        ensures types { TypesLine is_pasted acts.now self.old self.new client.old client.new result }
         ensures number { client.new.kept.receiver ≡ client.old.kept.receiver }
-        ensures others { self.new ≡ record self.old { lines = self.new.lines; guessing = self.new.guessing } }
     {
         if self.watches {
             self.lines.took();
@@ -210,18 +217,8 @@ impl<S: Read + Write + Drop> Terminal<S> {
     // Does what the line that stands first asks for.
     fn take_entry(&mut self, alloc: Global, client: &mut Client, entry: &Entry) -> Taking
         requires in_range { All IsInRange (acts_in entry.now) }
-        requires says { (line rest : List ℕ) × IsFirst self.old.lines.kept line rest × Says line entry.now }
-        ensures takes { (acts : List ActOf) × Types acts client.old client.new
-            × Takes entry.now self.old.lines.kept self.new.lines.kept self.old.watches self.new.watches acts }
-        ensures guesses { Guesses client.old self.old.guessing self.new.guessing }
-        ensures waits { result ≡ Taking.Waits → Holds (acts_in entry.now) client.old }
-        // It ends the start where it says so and doesn't watch.
-        ensures end { result ≡ Taking.End → (entry.now ≡ Entry.End) × (self.old.watches ≡ false) }
-        ensures ends { entry.now ≡ Entry.End → self.old.watches ≡ false → result ≡ Taking.End }
-        ensures repaint { entry.now ≡ Entry.Repaint → self.new.outer ≡ None }
+        ensures takes { TakesEntry entry.now self.old self.new client.old client.new result }
         ensures number { client.new.kept.receiver ≡ client.old.kept.receiver }
-        ensures shown { ((self.new.outer ≡ self.old.outer) × (self.new.waiting ≡ self.old.waiting)) ⊎ (self.new.outer ≡ None) }
-        ensures others { IsTaken self.old self.new }
     {
         match entry {
             Entry::Acts(acts) => self.type_acts(client, acts, false),
@@ -258,8 +255,8 @@ impl<S: Read + Write + Drop> Terminal<S> {
 
     /// Reads what came, and does what the line that stands first asks for: its acts are typed at the start, all of them or none.
     pub(crate) fn hear(&mut self, alloc: Global, client: &mut Client) -> Taking
-        ensures hears { HearsOne S.remaining self.old self.new client.old client.new }
-        ensures ends { result ≡ Taking.End → self.old.watches ≡ false }
+        ensures hears { (entry : Option EntryOf) × HearsOne S.remaining S.contents entry self.old self.new client.old client.new
+            × (is_end result ≡ asks_end self.old.watches entry) }
         ensures number { client.new.kept.receiver ≡ client.old.kept.receiver }
     {
         self.read_line(alloc);

@@ -1,22 +1,22 @@
 //! What is guessed is laid over the screen that is noted of an outer terminal, and taken back before another is painted.
 ghost use Rattle.std.specs.Prelude.{◌≡◌, ◌⊎◌, ◌++◌, ◌≤◌, ℕ, [], Option, true, false, None, Some, IfSome, IfOk, OnOk, OnErr, IsOkUnless};
 ghost use Rattle.roam_screens.specs.Screenshot.{Screenshot};
+ghost use Rattle.roam_scroll_paint.specs.Leads.{Leads};
 ghost use Rattle.roam_terminals.specs.Overlaid.{IsBack, IsForth, IsOver, IsSize, Lays, TakesBack, on_show};
 ghost use Rattle.roam_terminals.specs.Painted.{IsJudged, MayPaint, Paints, is_ready, shown_of};
 ghost use Rattle.roam_turns.specs.Painting.{IsBehind, LeadsSized};
 ghost use Rattle.roam_turns.specs.declared.outer.Noted.{Noted as NotedOf};
 
+use crate::duplex::Duplex;
 use crate::silence::Silence;
 use crate::terminal::Terminal;
 use roam_cells::{Fault, are_same_cells};
 use roam_frames::Outbox;
 use roam_hub::Client;
-use roam_paint::laws::painted_leads_over;
-use roam_paint::paint;
 use roam_screens::{RowShot, Seen, Shown};
+use roam_scroll_paint::paint_moved;
 use roam_turns::Outer;
 use std::alloc::Global;
-use std::io::{Read, Write};
 
 /// What stood over the screen that is noted, and the text that takes it back.
 #[derive(Drop)]
@@ -57,34 +57,37 @@ fn is_same(one: &RowShot, other: &RowShot) -> bool
         && are_same_rows(one, other)
 }
 
+// A text that leads from one screen to another, in which rows may be moved; none where there is no memory.
+fn moving_text<O: Seen, N: Seen>(alloc: Global, one: &O, other: &N) -> Option<Vec<u8>>
+    ensures leads { IfSome result (λ text. Leads (O.screen one.now) (N.screen other.now) text.items) }
+{
+    let mut text = Vec::new(alloc);
+    match paint_moved(one, other, &mut text) {
+        Ok(()) => Some(text),
+        Err(_) => None,
+    }
+}
+
 // A text that takes back what stands over the screen that is noted; none where that has another size, or there is no memory.
 fn text_back(alloc: Global, over: &RowShot, outer: &Outer) -> Option<Vec<u8>>
     ensures back { IfSome result (λ text. IsBack over.now outer.now text.items) }
 {
-    painted_leads_over();
     let (_, screen) = outer.noted()?;
     if !is_size(over, &screen) {
         return None;
     }
-    screen.facts();
-    let mut text = Vec::new(alloc);
-    paint(over, &screen, &mut text).ok()?;
-    Some(text)
+    moving_text(alloc, over, &screen)
 }
 
 // A text that lays a screen over the one that is noted; none where that has another size, or there is no memory.
 fn text_forth(alloc: Global, outer: &Outer, over: &RowShot) -> Option<Vec<u8>>
     ensures forth { IfSome result (λ text. IsForth outer.now over.now text.items) }
 {
-    painted_leads_over();
     let (_, screen) = outer.noted()?;
     if !is_size(over, &screen) {
         return None;
     }
-    over.facts();
-    let mut text = Vec::new(alloc);
-    paint(&screen, over, &mut text).ok()?;
-    Some(text)
+    moving_text(alloc, &screen, over)
 }
 
 // What stands over the screen that is noted, with the text that takes it back.
@@ -133,7 +136,7 @@ fn is_there(waiting: &Outbox, taken: &Taken, over: &Option<RowShot>) -> bool
     }
 }
 
-impl<S: Read + Write + Drop> Terminal<S> {
+impl<S: Duplex + Drop> Terminal<S> {
     // Takes back what stands over the screen that is noted: the text for it stands first in the next entry. Where there is no memory for
     // it nothing is noted any more.
     fn take_back(&mut self, alloc: Global) -> Option<Taken>

@@ -2,6 +2,7 @@
 //! is painted of what it shows.
 #![tactic(auto)]
 
+mod duplex;
 mod hearing;
 pub mod laws;
 mod laying;
@@ -12,6 +13,7 @@ mod silence;
 mod terminal;
 mod writing;
 
+pub use duplex::{Duplex, Opaque};
 pub use listening::Listening;
 pub use running::{Door, run_shared};
 pub use sharing::{MOST_TERMINALS, SharedStart};

@@ -2,13 +2,13 @@
 ghost use Rattle.std.specs.Prelude.{◌≡◌, ◌≤◌, ◌-◌, true, false, Some, ℕ};
 ghost use Rattle.roam_terminals.specs.Running.{Runs, asked_after};
 
+use crate::duplex::Duplex;
 use crate::listening::Listening;
 use crate::sharing::{MOST_TERMINALS, SharedStart};
 use crate::silence::{End, Silence};
 use roam_hub::Addr;
 use roam_turns::Ports;
 use std::alloc::Global;
-use std::io::{Read, Write};
 
 /// How many milliseconds a start goes on at most after a terminal asked for its end.
 const SECOND: u64 = 1000;
@@ -37,7 +37,7 @@ pub trait Door<S>: Ports {
 }
 
 // Takes those in that come; those above sixteen are let go, and so are those for which there is no memory: they may come again.
-fn take_in<S: Read + Write + Drop, D: Door<S> + Drop>(
+fn take_in<S: Duplex + Drop, D: Door<S> + Drop>(
     alloc: Global,
     shared: &mut SharedStart<S>,
     door: &mut Listening<D>,
@@ -54,7 +54,7 @@ fn take_in<S: Read + Write + Drop, D: Door<S> + Drop>(
 }
 
 // Whether a start is over, as one of its terminals asked: all acts that were typed are acknowledged, or a second passed.
-fn is_over<S: Read + Write + Drop>(
+fn is_over<S: Duplex + Drop>(
     shared: &SharedStart<S>,
     silence: Silence,
     asked: &mut Option<u64>,
@@ -71,7 +71,7 @@ fn is_over<S: Read + Write + Drop>(
 }
 
 // How many milliseconds may be waited at most after a round that answered so.
-fn longest_rest<S: Read + Write + Drop>(
+fn longest_rest<S: Duplex + Drop>(
     shared: &SharedStart<S>,
     silence: Silence,
     wait: u64,
@@ -96,7 +96,7 @@ fn longest_rest<S: Read + Write + Drop>(
 /// Is the start of all outer terminals that come to a door, for so many rounds at most: those that come are taken in, a round is taken, and
 /// the start rests. Answers what was heard of the server in the end, also where a terminal asked for the end and all acts that were typed
 /// are acknowledged, or a second passed.
-pub fn run_shared<S: Read + Write + Drop, D: Door<S> + Drop>(
+pub fn run_shared<S: Duplex + Drop, D: Door<S> + Drop>(
     alloc: Global,
     shared: &mut SharedStart<S>,
     door: &mut Listening<D>,

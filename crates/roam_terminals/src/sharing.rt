@@ -1,5 +1,5 @@
 //! A client start that stays while outer terminals come and go, one after the other.
-ghost use Rattle.std.specs.Prelude.{◌≡◌, ◌⊎◌, ◌<◌, ◌++◌, ◌∷◌, [], true, false, length, List, ℕ, None, OnOk, OnErr, IfErr};
+ghost use Rattle.std.specs.Prelude.{◌≡◌, ◌⊎◌, ◌<◌, ◌++◌, ◌∷◌, ◌||◌, [], Bool, false, length, List, ℕ, OnOk, OnErr, IfErr};
 ghost use Rattle.roam_screens.specs.Screenshot.{Screenshot};
 ghost use Rattle.roam_terminals.specs.Painted.{MayPaint};
 ghost use Rattle.roam_terminals.specs.Running.{IsFresh};
@@ -9,6 +9,7 @@ ghost use Rattle.roam_turns.specs.Cores.{client_step};
 ghost use Rattle.roam_turns.specs.Parts.{Makes};
 ghost use Rattle.roam_turns.specs.Turns.{QuietTurn};
 
+use crate::duplex::Duplex;
 use crate::hearing::Taking;
 use crate::listening::Listening;
 use crate::silence::Silence;
@@ -17,7 +18,6 @@ use roam_cells::Fault;
 use roam_hub::{Addr, Client};
 use roam_turns::{Ports, quiet_turn};
 use std::alloc::Global;
-use std::io::{Read, Write};
 use std::marker::Model;
 
 /// How many terminals there may be at once.
@@ -50,13 +50,20 @@ impl<S> Model for SharedStart<S> {
     ghost invariant = { λ s. AreEachBehind s.all.items s.client.kept.receiver.newest.number s.client.kept.receiver.newest.state };
 }
 
+// Whether one of two is so.
+fn is_either(one: bool, other: bool) -> bool
+    ensures either { result ≡ (one || other) }
+{
+    one || other
+}
+
 // Hears each terminal, and tells how long may be waited for more, and whether one asked for the end.
-fn hear_all<S: Read + Write + Drop>(
+fn hear_all<S: Duplex + Drop>(
     alloc: Global,
     all: &mut [Terminal<S>],
     client: &mut Client,
 ) -> (u64, bool)
-    ensures hears { HearsAll S.remaining all.old all.new client.old client.new }
+    ensures hears { HearsAll S.remaining S.contents all.old all.new client.old client.new result.1 }
     ensures len { length all.new ≡ length all.old }
     ensures number { client.new.kept.receiver ≡ client.old.kept.receiver }
     ensures behind { AreEachBehind all.old client.old.kept.receiver.newest.number client.old.kept.receiver.newest.state
@@ -69,12 +76,12 @@ fn hear_all<S: Read + Write + Drop>(
     let (wait, is_ending) = hear_all(alloc, others, client);
     (
         wait.min(wait_after(taking)),
-        is_ending || taking == Taking::End,
+        is_either(taking.is_end(), is_ending),
     )
 }
 
 // Paints each terminal that is ready for it.
-fn paint_all<S: Read + Write + Drop>(
+fn paint_all<S: Duplex + Drop>(
     alloc: Global,
     all: &mut [Terminal<S>],
     client: &Client,
@@ -93,8 +100,8 @@ fn paint_all<S: Read + Write + Drop>(
 }
 
 // Tells each terminal of a silence, and writes what waits for it.
-fn write_all<S: Read + Write + Drop>(alloc: Global, all: &mut [Terminal<S>], silence: Silence)
-    ensures settles { AreEach (Settles S.contents silence) all.old all.new }
+fn write_all<S: Duplex + Drop>(alloc: Global, all: &mut [Terminal<S>], silence: Silence)
+    ensures settles { AreEach (Settles S.remaining S.contents silence) all.old all.new }
     ensures len { length all.new ≡ length all.old }
     ensures behind { (n : ℕ) (s : Screenshot) → AreEachBehind all.old n s → AreEachBehind all.new n s }
 {
@@ -106,7 +113,7 @@ fn write_all<S: Read + Write + Drop>(alloc: Global, all: &mut [Terminal<S>], sil
 }
 
 // Lets those go that left.
-fn retain<S: Read + Write + Drop>(all: &mut Vec<Terminal<S>>)
+fn retain<S: Duplex + Drop>(all: &mut Vec<Terminal<S>>)
     ensures stay { all.new.items ≡ who_stay all.old.items }
     ensures behind { (n : ℕ) (s : Screenshot) → AreEachBehind all.old.items n s → AreEachBehind all.new.items n s }
 {
@@ -136,7 +143,7 @@ fn wait_after(taking: Taking) -> u64
     }
 }
 
-impl<S: Read + Write + Drop> SharedStart<S> {
+impl<S: Duplex + Drop> SharedStart<S> {
     /// A client start; no terminal is there yet.
     pub fn new(alloc: Global, client: Client) -> SharedStart<S>
         ensures client { result.client ≡ client }
@@ -205,10 +212,11 @@ impl<S: Read + Write + Drop> SharedStart<S> {
 
     // Hears each terminal.
     fn hear(&mut self, alloc: Global) -> u64
-        ensures hears { HearsAll S.remaining self.old.all self.new.all self.old.client self.new.client }
+        ensures hears { (ending : Bool) × HearsAll S.remaining S.contents self.old.all self.new.all self.old.client self.new.client ending
+            × (self.new.is_ending ≡ (self.old.is_ending || ending)) }
     {
         let (wait, is_ending) = hear_all(alloc, &mut self.all, &mut self.client);
-        self.is_ending = self.is_ending || is_ending;
+        self.is_ending = is_either(self.is_ending, is_ending);
         wait
     }
 
@@ -231,7 +239,7 @@ impl<S: Read + Write + Drop> SharedStart<S> {
 
     // Tells each terminal of a silence, and writes what waits for it; those that left go, and the first is the last from now on.
     fn write(&mut self, alloc: Global, silence: Silence)
-        ensures settles { (settled : List (TerminalOf S)) × AreEach (Settles S.contents silence) self.old.all settled
+        ensures settles { (settled : List (TerminalOf S)) × AreEach (Settles S.remaining S.contents silence) self.old.all settled
             × (self.new.all ≡ turned_round (who_stay settled)) }
         ensures others { self.new ≡ record self.old { all = self.new.all } }
     {

@@ -5,6 +5,7 @@ ghost use Rattle.roam_terminals.specs.Sharing.{is_gone};
 ghost use Rattle.roam_terminals.specs.Writing.{is_empty, once_written, unwritten};
 ghost use Rattle.roam_typing.specs.Lines.{nothing_came};
 
+use crate::duplex::Duplex;
 use roam_cells::Fault;
 use roam_frames::Outbox;
 use roam_overlay::Overlay;
@@ -12,7 +13,6 @@ use roam_screens::RowShot;
 use roam_turns::Outer;
 use roam_typing::{Front, Lines};
 use std::alloc::Global;
-use std::io::{Read, Write};
 
 /// How far a terminal came.
 #[derive(Clone, Copy, Debug, PartialEq, Eq)]
@@ -72,7 +72,7 @@ pub struct Terminal<S> {
     pub(crate) state: State,
 }
 
-impl<S: Read + Write + Drop> Terminal<S> {
+impl<S: Duplex + Drop> Terminal<S> {
     /// A terminal at the other end of a stream: nothing came, nothing is known of it, and nothing waits.
     pub fn new(alloc: Global, stream: S) -> Terminal<S>
         ensures stream { result.stream ≡ stream }

@@ -1,17 +1,18 @@
 //! What waits for an outer terminal is written to it as it takes it, and silences are told.
 ghost use Rattle.std.specs.Prelude.{◌≡◌, ◌≢◌, ◌⊎◌, ◌++◌, [], true, false, None, Some, IfOk, OnErr, min, drop, length};
+ghost use Rattle.std.specs.Io.KnownBytes.{Keeps};
 ghost use Rattle.roam_faults.specs.Streams.{IsStreamEnd};
 ghost use Rattle.roam_frames.specs.Carriers.{Writes};
 ghost use Rattle.roam_terminals.specs.Sharing.{Settles};
 ghost use Rattle.roam_terminals.specs.Silence.{is_over, due_of, notice_of};
 ghost use Rattle.roam_terminals.specs.Writing.{Flushes, TellsSilence, is_empty, seen_by, state_after, stuck_after, stuck_since, unwritten};
 
+use crate::duplex::Duplex;
 use crate::silence::{Silence, notice};
 use crate::terminal::{State, Terminal};
 use roam_faults::is_for_now;
 use std::alloc::Global;
 use std::io;
-use std::io::{Read, Write};
 
 /// How many pieces of what waits are written in a round at most.
 const MOST_WRITES: u32 = 16;
@@ -29,7 +30,7 @@ fn stuck_since(has_taken: bool, now: u64, stuck: Option<u64>) -> u64
     }
 }
 
-impl<S: Read + Write + Drop> Terminal<S> {
+impl<S: Duplex + Drop> Terminal<S> {
     // Tells of so many seconds of silence, where there is memory; what it shows isn't known then.
     fn tell(&mut self, alloc: Global, seconds: u64)
         ensures told { (self.new ≡ self.old)
@@ -88,6 +89,7 @@ impl<S: Read + Write + Drop> Terminal<S> {
     // Writes a piece of what waits, and tells how much was taken.
     fn write_piece(&mut self) -> usize
         ensures writes { Writes (S.contents self.old.stream) (S.contents self.new.stream) self.old.waiting self.new.waiting }
+        ensures apart { Keeps (S.remaining self.old.stream) (S.remaining self.new.stream) }
         // A write that fails ends what is written alone: what it typed before is taken.
         ensures fails { (self.new.state ≡ self.old.state) ⊎ (self.new.state ≡ unwritten self.old.state) }
         ensures on { result ≢ 0 → self.new.state ≡ self.old.state }
@@ -97,7 +99,7 @@ impl<S: Read + Write + Drop> Terminal<S> {
         if piece.is_empty() {
             return 0;
         }
-        let answer = self.stream.write(piece);
+        let answer = self.stream.write_some(piece);
         self.note_written(&answer)
     }
 
@@ -122,6 +124,7 @@ impl<S: Read + Write + Drop> Terminal<S> {
     // Writes what waits, as much as the stream takes now, and tells whether it took some.
     fn write_waiting(&mut self) -> bool
         ensures writes { Writes (S.contents self.old.stream) (S.contents self.new.stream) self.old.waiting self.new.waiting }
+        ensures apart { Keeps (S.remaining self.old.stream) (S.remaining self.new.stream) }
         ensures fails { (self.new.state ≡ self.old.state) ⊎ (self.new.state ≡ unwritten self.old.state) }
         ensures others { self.new ≡ record self.old { stream = self.new.stream; waiting = self.new.waiting; state = self.new.state } }
     {
@@ -137,14 +140,14 @@ impl<S: Read + Write + Drop> Terminal<S> {
 
     /// Writes what waits, as much as the stream takes now. One that took nothing for a minute is let go.
     pub(crate) fn flush(&mut self, now: u64)
-        ensures flushes { Flushes S.contents now self.old self.new }
+        ensures flushes { Flushes S.remaining S.contents now self.old self.new }
     {
         let has_taken = self.write_waiting();
         self.note_stuck(has_taken, now);
     }
     /// Tells it of a silence or not, and writes what waits for it.
     pub(crate) fn settle(&mut self, alloc: Global, silence: Silence)
-        ensures settles { Settles S.contents silence self.old self.new }
+        ensures settles { Settles S.remaining S.contents silence self.old self.new }
         ensures outer { (self.new.outer ≡ self.old.outer) ⊎ (self.new.outer ≡ None) }
     {
         self.tell_silence(alloc, silence);

@@ -7,14 +7,12 @@ use Rattle.roam_screens.specs.Screenshot.{Screenshot, IsScreenshot, blank_screen
 use Rattle.roam_acts.specs.declared.acts.Act.{Act}
 use Rattle.roam_text.specs.Log.{Item, Byte}
 use Rattle.roam_paint.specs.Ground.{Displays, PaintedLeadsOver, OpenedBeginsBlank}
-use Rattle.roam_term.specs.Ground.{IsSized}
-use Rattle.roam_term.specs.Terminal.{term}
 use Rattle.roam_paint.specs.Painting.{text_between, blanking_text}
 use Rattle.roam_hub.specs.declared.addresses.Addr.{Addr}
 use Rattle.roam_turns.specs.declared.outer.Noted.{Noted}
 use Rattle.roam_turns.specs.Calls.{Parcel, PortCall, ClientCall}
 use Rattle.roam_turns.specs.Calls.PortCall.{Now, Received, NothingReceived, Sent, PaneLives, PaneGave, PaneGaveNothing, PaneTook, Showed}
-use Rattle.roam_turns.specs.Painting.{IsNoted, IsBehind, DisplaysNoted, Fits, Shows, ShowsSized, Leads, LeadsSized, Led, text_for}
+use Rattle.roam_turns.specs.Painting.{IsNoted, IsBehind, DisplaysNoted, Fits, Shows, Leads, Led, text_for}
 use Rattle.roam_turns.specs.Parts.{Call, ReceivesUpTo}
 use Rattle.roam_turns.specs.Parts.Call.{Port, Core}
 use Rattle.roam_turns.specs.Turns.{Sends, Types, IsToClient, Paints, ClientTicks, AttachTurn, shown_in}
@@ -80,31 +78,6 @@ module _ (painted_leads : PaintedLeadsOver) (opened_begins : OpenedBeginsBlank) 
       led.displays
   text_leads (Some noted) s is rows cols lines log ready fits =
       (painted_leads rows cols lines log noted.screen s is ready fits.rows_fit fits.cols_fit).displays
-
-  sized_leads : (outer : Option Noted) (s : Screenshot) → IsScreenshot s → ShowsSized outer (text_for outer s) s
-  sized_leads None s is rows cols lines log ready fits =
-      let open_text = opened_begins rows cols lines log ready.0 ready.1 in
-      let blank = blank_screenshot s.rows s.cols in
-      let begun = open_text.displays s.rows s.cols fits.rows_fit fits.cols_fit in
-      let then = log ++ map Byte blanking_text in
-      let led =
-      painted_leads rows cols lines then blank s is begun (omega (arith, fits.rows_fit, open_text.size.rows))
-      (omega (arith, fits.cols_fit, open_text.size.cols)) in
-      let both =
-      subst (λ l. Displays rows cols lines l s × IsSized (term rows cols lines log).live (term rows cols lines l).live)
-      (append_assoc log (map Byte blanking_text) (map Byte (text_between blank s))
-      ∙ ap (λ l. log ++ l) (sym (map-append Byte blanking_text (text_between blank s))))
-      (led.displays, record { rows = led.size.rows ∙ open_text.size.rows; cols = led.size.cols ∙ open_text.size.cols }) in
-      record { displays = both.0; size = both.1 }
-  sized_leads (Some noted) s is rows cols lines log ready fits =
-      let led = painted_leads rows cols lines log noted.screen s is ready fits.rows_fit fits.cols_fit in
-      record { displays = led.displays; size = led.size }
-
-  -- what is painted leads to what is noted then
-  pub text_noted : (outer outer' : Option Noted) (n : ℕ) (s : Screenshot) (text : List ℕ) → IsScreenshot s → text ≡ text_for outer s
-      → outer' ≡ Some (record { number = n; screen = s }) → LeadsSized outer text outer'
-  text_noted outer outer' n s text is same now =
-      subst (LeadsSized outer text) (sym now) (subst (λ l. ShowsSized outer l s) (sym same) (sized_leads outer s is))
 
   same_leads : (outer : Option Noted) → Leads outer [] outer
   same_leads None = tt

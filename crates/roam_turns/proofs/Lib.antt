@@ -4,6 +4,7 @@ pub mod Parcels
 pub mod Starts
 pub mod Painted
 pub mod Leading
+mod Moving
 pub mod HopTick
 pub mod HopDeliveries
 pub mod Hopping

@@ -1,13 +1,14 @@
 //! What is known of the outer terminal.
 ghost use Rattle.std.specs.Prelude.{◌≡◌, ◌↔◌, None, Some, IsTrue, IfOk, IfSome};
 ghost use Rattle.roam_screens.specs.Shown.{shown_by};
-ghost use Rattle.roam_turns.specs.Painting.{IsNoted, LeadsSized, text_for};
+ghost use Rattle.roam_turns.specs.Painting.{IsNoted, LeadsSized, ShowsSized, text_for};
 
 use crate::screens::AnyShot;
 use roam_cells::Fault;
-use roam_paint::laws::{opened_begins_blank, painted_leads_over};
+use roam_paint::laws::opened_begins_blank;
 use roam_paint::{open, paint};
 use roam_screens::{RowShot, Seen, Shown};
+use roam_scroll_paint::paint_moved;
 use std::alloc::Global;
 use std::marker::Model;
 
@@ -58,6 +59,37 @@ fn text_of(alloc: Global, noted: &Option<Noted>, screen: &Shown<'_>) -> Result<V
     Ok(text)
 }
 
+// A text that shows a screen over the one that is noted, in which rows may be moved.
+fn text_over(alloc: Global, noted: &Noted, screen: &Shown<'_>) -> Result<Vec<u8>, Fault>
+    ensures leads { IfOk result (λ text. ShowsSized (Some noted.now) text.items (shown_by screen.now)) }
+{
+    let before = noted.screen.shown();
+    let mut text = Vec::new(alloc);
+    paint_moved(&before, screen, &mut text)?;
+    Ok(text)
+}
+
+// The same where nothing is noted: the terminal is opened first.
+fn text_anew(alloc: Global, screen: &Shown<'_>) -> Result<Vec<u8>, Fault>
+    ensures leads { IfOk result (λ text. ShowsSized None text.items (shown_by screen.now)) }
+{
+    opened_begins_blank();
+    let blank = RowShot::blank(alloc, screen.rows(), screen.cols())?;
+    let mut text = Vec::new(alloc);
+    open(&mut text)?;
+    paint_moved(&blank, screen, &mut text)?;
+    Ok(text)
+}
+
+fn moving_text(alloc: Global, noted: &Option<Noted>, screen: &Shown<'_>) -> Result<Vec<u8>, Fault>
+    ensures leads { IfOk result (λ text. ShowsSized noted.now text.items (shown_by screen.now)) }
+{
+    match noted {
+        None => text_anew(alloc, screen),
+        Some(noted) => text_over(alloc, noted, screen),
+    }
+}
+
 impl Outer {
     /// A terminal of which nothing is known.
     pub fn new() -> Outer
@@ -87,7 +119,7 @@ impl Outer {
         }
     }
 
-    // The text that shows a screen of a number, and a copy of it to be noted.
+    // The text that shows a screen of a number, each place that differs and no other, and a copy of it to be noted.
     pub(crate) fn painting(
         &self,
         alloc: Global,
@@ -105,8 +137,22 @@ impl Outer {
         })
     }
 
-    /// The text that leads the terminal from what is noted to a screen, which is noted under a number from then on; where nothing is noted
-    /// it opens the terminal first. None where that number is noted already or memory is wanting: then what is noted stays.
+    // The text that shows a screen of a number, in which rows may be moved, and a copy of it to be noted.
+    fn moving(&self, alloc: Global, number: u64, screen: &Shown<'_>) -> Result<Painting, Fault>
+        ensures leads { IfOk result (λ painting. ShowsSized self.now painting.text.items (shown_by screen.now)) }
+        ensures noted { IfOk result (λ painting. painting.noted ≡ record { number = number; screen = shown_by screen.now }) }
+    {
+        let text = moving_text(alloc, &self.noted, screen)?;
+        let screen = AnyShot::of(alloc, screen)?;
+        Ok(Painting {
+            text,
+            noted: Noted { number, screen },
+        })
+    }
+
+    /// A text that leads the terminal from what is noted to a screen, which is noted under a number from then on: rows that are there
+    /// already may be moved. Where nothing is noted it opens the terminal first. None where that number is noted already or memory is
+    /// wanting: then what is noted stays.
     pub fn paint(&mut self, alloc: Global, number: u64, screen: &Shown<'_>) -> Option<Vec<u8>>
         // The terminal has its size then.
         ensures leads { IfSome result (λ text. LeadsSized self.old text.items self.new) }
@@ -114,13 +160,10 @@ impl Outer {
         ensures other { IfSome result (λ _. IsNoted number self.old → ⊥) }
         ensures none { result ≡ None → self.new ≡ self.old }
     {
-        painted_leads_over();
-        opened_begins_blank();
-        screen.facts();
         if self.is_noted(number) {
             return None;
         }
-        let painting = self.painting(alloc, number, screen).ok()?;
+        let painting = self.moving(alloc, number, screen).ok()?;
         self.note(Some(painting.noted));
         Some(painting.text)
     }

@@ -4,6 +4,7 @@ use anyhow::bail;
 use roam_cells::Fault;
 use roam_paint::paint;
 use roam_screens::Shot;
+use roam_scroll_paint::paint_moved;
 use roam_term::Term;
 use std::alloc::Global;
 use std::env::Args;
@@ -48,6 +49,15 @@ fn paints(alloc: Global, old: &Shot, new: &Shot, times: u32) -> Result<usize, Fa
     Ok(text.len())
 }
 
+fn moves(alloc: Global, old: &Shot, new: &Shot, times: u32) -> Result<usize, Fault> {
+    let mut text = Vec::with_capacity(alloc, 65536)?;
+    for _ in 0..times {
+        text.clear();
+        paint_moved(old, new, &mut text)?;
+    }
+    Ok(text.len())
+}
+
 fn measure_one(
     rt: &HostRuntime,
     name: &str,
@@ -59,6 +69,10 @@ fn measure_one(
     let bytes = paints(rt.alloc(), old, new, times)?;
     let passed = start.elapsed(rt)?.as_micros();
     println!(rt; "{name} {bytes} {times} {passed}")?;
+    let start = Instant::now(rt)?;
+    let bytes = moves(rt.alloc(), old, new, times)?;
+    let passed = start.elapsed(rt)?.as_micros();
+    println!(rt; "{name}_moved {bytes} {times} {passed}")?;
     Ok(())
 }
 

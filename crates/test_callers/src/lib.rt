@@ -21,6 +21,7 @@ pub mod screens;
 pub mod script;
 pub mod serving;
 pub mod session;
+pub mod shared_laws;
 pub mod show;
 pub mod simulation;
 pub mod sockets;

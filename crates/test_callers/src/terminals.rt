@@ -3,13 +3,12 @@
 // README: begin
 use roam_cells::Fault;
 use roam_hub::{Addr, Client};
-use roam_terminals::{Listening, SharedStart};
+use roam_terminals::{Duplex, Listening, SharedStart};
 use roam_turns::Ports;
 use std::alloc::Global;
-use std::io::{Read, Write};
 
 /// A start of a session with one terminal: so many rounds of it.
-pub fn share<S: Read + Write + Drop, P: Ports + Drop>(
+pub fn share<S: Duplex + Drop, P: Ports + Drop>(
     alloc: Global,
     client: Client,
     ports: P,

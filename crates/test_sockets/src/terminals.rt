@@ -6,7 +6,7 @@ use crate::programs::Programs;
 use mio::net::{UnixListener, UnixStream};
 use roam_hub::Client;
 use roam_sockets::{listen, loopback};
-use roam_terminals::{Listening, SharedStart};
+use roam_terminals::{Listening, Opaque, SharedStart};
 use roam_turns::MemoryPorts;
 use std::alloc::Global;
 use std::fs::create_dir;
@@ -16,7 +16,7 @@ use std::test::*;
 #[derive(Drop)]
 struct Place {
     listener: UnixListener,
-    shared: SharedStart<UnixStream>,
+    shared: SharedStart<Opaque<UnixStream>>,
     ports: Listening<MemoryPorts>,
 }
 
@@ -37,7 +37,7 @@ impl Place {
     fn round(&mut self, alloc: Global) -> bool {
         for _ in 0..4u8 {
             if let Ok((stream, _)) = self.listener.accept() {
-                let _ = self.shared.add(alloc, stream);
+                let _ = self.shared.add(alloc, Opaque::new(stream));
             }
         }
         let _ = self.shared.round(alloc, &mut self.ports, loopback(5000));

@@ -12,5 +12,5 @@ returns-clause-behind g t c n s h =
 
 pub returns-clause-settles : goal.returns-clause-settles
 returns-clause-settles g t c =
-    subst (λ l. AreEach (Settles g.S.Write.contents c.args.silence) l (c.settle.new.self ∷ c.write_all.new.all))
+    subst (λ l. AreEach (Settles g.S.Read.remaining g.S.Write.contents c.args.silence) l (c.settle.new.self ∷ c.write_all.new.all))
     (sym c.in-Some.ensures.cases.0) (c.settle.ensures.settles, c.write_all.ensures.settles)

@@ -1,4 +1,4 @@
-use Rattle.std.proofs.Common.{◌++◌, drop, length, take, rules, sym, subst, ap, ◌∙◌}
+use Rattle.std.proofs.Common.{length, rules, sym, subst, ap, ◌∙◌}
 use Rattle.roam_terminals.specs.Sharing.{AreEachBehind}
 use Rattle.roam_terminals.proofs.Behind.{whole_back}
 use Rattle.roam_terminals.proofs.sharing.SharedStart.write.Goals as goal

@@ -1,4 +1,4 @@
-use Rattle.std.proofs.Common.{◌≡◌, ◌⊎◌, Some, None, sym, ap, ◌∙◌, subst, rules}
+use Rattle.std.proofs.Common.{◌≡◌, ◌⊎◌, Some, None, sym, ap, subst, rules}
 use Rattle.roam_turns.specs.Painting.{LeadsSized}
 use Rattle.roam_terminals.specs.Overlaid.{IsOver}
 use Rattle.roam_terminals.specs.Painted.{IsJudged, shown_of}

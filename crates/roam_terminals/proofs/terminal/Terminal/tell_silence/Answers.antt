@@ -1,4 +1,4 @@
-use Rattle.std.proofs.Common.{◌≡◌, true, false, [], None, Some, rules}
+use Rattle.std.proofs.Common.{◌≡◌, true, false, None, Some, rules}
 use Rattle.roam_terminals.specs.Painted.{is_here}
 use Rattle.roam_terminals.specs.Silence.{due_of, is_over}
 use Rattle.roam_terminals.specs.Writing.{is_empty, seen_by}

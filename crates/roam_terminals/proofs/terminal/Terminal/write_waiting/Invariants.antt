@@ -1,9 +1,11 @@
 use Rattle.std.proofs.Common.{◌≡◌}
+use Rattle.std.specs.Io.KnownBytes.{Keeps}
 use Rattle.roam_frames.specs.Carriers.{Writes}
 use Rattle.roam_terminals.proofs.terminal.Terminal.write_waiting.Given as goal
 
 abbrev pub invariant-loop : goal.invariant-loop
 invariant-loop g l = record {
+  apart : Keeps (g.S.Read.remaining l.initial.self.stream) (g.S.Read.remaining l.self.stream);
   on : l.self.state ≡ l.initial.self.state;
   others : l.self ≡ record l.initial.self { stream = l.self.stream; waiting = l.self.waiting; state = l.self.state };
   writes : Writes (g.S.Write.contents l.initial.self.stream) (g.S.Write.contents l.self.stream) l.initial.self.waiting l.self.waiting;

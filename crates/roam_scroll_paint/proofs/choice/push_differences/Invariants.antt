@@ -1,7 +1,7 @@
 use Rattle.std.proofs.Common.{◌≡◌, ◌<◌, ℕ, length}
 use Rattle.std.specs.Prelude.{slice_index_or}
 use Rattle.roam_cells.specs.Place.{row_of}
-use Rattle.roam_scroll_paint.proofs.choice.push_costs.Given as goal
+use Rattle.roam_scroll_paint.proofs.choice.push_differences.Given as goal
 
 abbrev pub invariant-loop-row : goal.invariant-loop-row
 invariant-loop-row g l =
