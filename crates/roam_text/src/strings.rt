@@ -185,7 +185,6 @@ fn moved_in_control_sequence(kind: Kind, code: u32) -> StringMove
 fn moved_in_control_string(string: StringKind, bell: bool, kind: Kind, c: char) -> StringMove
     ensures moved { result ≡ moved_in_control_string string bell kind c }
 {
-    let outside = StringPhase::Ground;
     let step = match kind {
         Kind::Escape => return quietly(StringPhase::AfterEscape { kind: string }),
         Kind::Cancel(_) => StringStep::BrokenOff,
@@ -199,7 +198,7 @@ fn moved_in_control_string(string: StringKind, bell: bool, kind: Kind, c: char) 
         }
     };
     StringMove {
-        phase: outside,
+        phase: StringPhase::Ground,
         step,
     }
 }
