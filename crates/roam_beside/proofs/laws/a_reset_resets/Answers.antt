@@ -1,0 +1,5 @@
+use Rattle.roam_beside.proofs.Resets.{reset-sets}
+use Rattle.roam_beside.proofs.laws.a_reset_resets.Goals as goal
+
+pub returns : goal.returns
+returns c = record { reset = reset-sets }

@@ -1,0 +1,27 @@
+//! Laws of the definitions, each the contract of a function without a body.
+ghost use Rattle.std.specs.Prelude.{◌≡◌, ◌≤◌, ℕ, List, [], ◌∷◌, ◌++◌, None};
+ghost use Rattle.roam_text.specs.declared.functions.Function.TheVariants.{Csi};
+ghost use Rattle.roam_beside.specs.declared.settings.Settings.{Settings};
+ghost use Rattle.roam_beside.specs.Settings.{heard, reset_settings, settings_of};
+ghost use Rattle.roam_beside.specs.Silence.{AreStill, SaysNothing};
+
+/// RIS, ESC 63, resets all that a program sets, whatever stands unfinished before it; the bells that rang are still told (ECMA-48,
+/// 8.3.105).
+pub fn a_reset_resets()
+    ensures reset { (bytes : List ℕ) → settings_of (bytes ++ 0x1B ∷ 0x63 ∷ []) ≡ reset_settings (settings_of bytes) }
+{}
+
+/// DECSTR, CSI ! p, leaves all that a program sets beside its screen.
+pub fn a_soft_reset_leaves_all()
+    ensures soft { (s : Settings) (params : List ℕ) → heard s (Csi None (record { items = params }) (record { items = 0x21 ∷ [] }) 0x70) ≡ s }
+{}
+
+/// Bytes without ESC, BEL and C2 say nothing, where nothing is unfinished before them, though a character be unfinished after them.
+pub fn still_bytes_say_nothing()
+    ensures silent { (bytes : List ℕ) → AreStill bytes → SaysNothing bytes }
+{}
+
+/// The count of bells only grows.
+pub fn bells_only_grow()
+    ensures grow { (bytes more : List ℕ) → (settings_of bytes).bells ≤ (settings_of (bytes ++ more)).bells }
+{}
