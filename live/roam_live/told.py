@@ -18,7 +18,7 @@ class NoRecord(Exception):
 
 
 @dataclasses.dataclass(frozen=True)
-class Record:
+class Telling:
     """A record: its word, its numbers, and the bytes behind it or the words in its line."""
 
     word: str
@@ -34,7 +34,7 @@ def number_of(text: str) -> int:
     return int(text)
 
 
-def line_of(line: bytes) -> Record:
+def line_of(line: bytes) -> Telling:
     """The record of a line, without the bytes that stand behind it."""
     try:
         word, *rest = line.decode("utf-8").split(" ")
@@ -48,7 +48,7 @@ def line_of(line: bytes) -> Record:
     numbers = tuple(number_of(text) for text in rest[:count])
     if word in CARRYING and numbers[0] > MOST_BYTES:
         raise NoRecord(f"{word} of {numbers[0]} bytes")
-    return Record(word, numbers, b"", " ".join(rest[count:]))
+    return Telling(word, numbers, b"", " ".join(rest[count:]))
 
 
 class Records:
@@ -58,19 +58,19 @@ class Records:
         self.kept = bytearray()
         self.begun = False
         # The record whose bytes aren't there yet.
-        self.waiting: Record | None = None
+        self.waiting: Telling | None = None
 
-    def came(self, piece: bytes) -> list[Record]:
+    def came(self, piece: bytes) -> list[Telling]:
         """The records that these bytes end. What was painted before the first one is dropped."""
         self.kept += piece
-        found: list[Record] = []
+        found: list[Telling] = []
         if not self.begun and not self._begins(found):
             return found
         while (record := self._next()) is not None:
             found.append(record)
         return found
 
-    def _begins(self, found: list[Record]) -> bool:
+    def _begins(self, found: list[Telling]) -> bool:
         """Whether records have begun; a start without room says so and nothing else."""
         place = self.kept.find(BEGIN)
         if place >= 0:
@@ -78,12 +78,12 @@ class Records:
             self.begun = True
             return True
         if self.kept == FULL:
-            found.append(Record("full"))
+            found.append(Telling("full"))
         if len(self.kept) > len(FULL):
             del self.kept[:-len(BEGIN)]
         return False
 
-    def _next(self) -> Record | None:
+    def _next(self) -> Telling | None:
         """The next record that is there whole."""
         record = self.waiting or self._line()
         if record is None or record.word not in CARRYING:
@@ -97,7 +97,7 @@ class Records:
         del self.kept[:count]
         return dataclasses.replace(record, data=data)
 
-    def _line(self) -> Record | None:
+    def _line(self) -> Telling | None:
         """The record of the line that stands first, where one does whole."""
         end = self.kept.find(b"\n", 0, LONGEST_LINE)
         if end < 0:

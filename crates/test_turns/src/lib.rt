@@ -10,6 +10,8 @@ mod guess_uses;
 #[cfg(test)]
 mod guesses;
 #[cfg(test)]
+mod parts;
+#[cfg(test)]
 mod plays;
 #[cfg(test)]
 mod refusing;
