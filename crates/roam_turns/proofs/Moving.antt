@@ -1,15 +1,18 @@
 -- A text in which rows may be moved shows a screen, as one does that writes each place.
 use Rattle.std.proofs.Common.{◌≡◌, ℕ, List, ◌++◌, map, append_assoc, Option, None, Some, sym, ap, ◌∙◌, subst, arith}
 use Rattle.std.proofs.lemmas.List.{map-append}
-use Rattle.roam_screens.specs.Screenshot.{Screenshot, blank_screenshot}
+use Rattle.std.specs.Prelude.{IfOk, Result, Ok, Err, Vec}
+use Rattle.std.specs.declared.alloc.Global.{Global}
+use Rattle.roam_cells.specs.declared.faults.Fault.{Fault}
+use Rattle.roam_screens.specs.Screenshot.{IsScreenshot, Screenshot, blank_screenshot}
 use Rattle.roam_text.specs.Log.{Byte}
 use Rattle.roam_term.specs.Ground.{IsSized}
 use Rattle.roam_term.specs.Terminal.{term}
 use Rattle.roam_paint.specs.Ground.{Displays, OpenedBeginsBlank}
-use Rattle.roam_paint.specs.Painting.{blanking_text}
-use Rattle.roam_scroll_paint.specs.Leads.{Leads as LeadsTo}
+use Rattle.roam_paint.specs.Painting.{blanking_text, text_between}
+use Rattle.roam_scroll_paint.specs.Leads.{Leads as LeadsTo, PaintLeads}
 use Rattle.roam_turns.specs.declared.outer.Noted.{Noted}
-use Rattle.roam_turns.specs.Painting.{LeadsSized, ShowsSized}
+use Rattle.roam_turns.specs.Painting.{LeadsSized, ShowsSized, text_for}
 
 -- over a screen that is noted
 pub moving_shows : (noted : Noted) (s : Screenshot) (text : List ℕ) → LeadsTo noted.screen s text → ShowsSized (Some noted) text s
@@ -31,6 +34,16 @@ opened_shows opened_begins s text leads rows cols lines log ready fits =
     (append_assoc log (map Byte blanking_text) (map Byte text) ∙ ap (λ l. log ++ l) (sym (map-append Byte blanking_text text)))
     (led.displays, record { rows = led.size.rows ∙ open_text.size.rows; cols = led.size.cols ∙ open_text.size.cols }) in
     record { displays = both.0; size = both.1 }
+
+pub text_shows : OpenedBeginsBlank → PaintLeads → (outer : Option Noted) (s : Screenshot) (result : Result (Vec ℕ Global) Fault)
+    → IsScreenshot s → outer ≡ None → IfOk result (λ text. text.items ≡ text_for outer s)
+    → IfOk result (λ text. ShowsSized outer text.items s)
+text_shows opened_begins paint_leads outer s (Err fault) is none text = tt
+text_shows opened_begins paint_leads outer s (Ok made) is none text =
+    let blank = blank_screenshot s.rows s.cols in
+    let shows = opened_shows opened_begins s (text_between blank s) (paint_leads blank s is) in
+    subst (λ l. ShowsSized outer l s) (sym text)
+    (subst (λ o. ShowsSized o (text_for o s) s) (sym none) shows)
 
 -- it leads to what is noted then
 pub shown_leads : (outer outer' : Option Noted) (n : ℕ) (s : Screenshot) (text : List ℕ) → ShowsSized outer text s

@@ -8,6 +8,7 @@ use roam_cells::Fault;
 use roam_paint::laws::opened_begins_blank;
 use roam_paint::{open, paint};
 use roam_screens::{RowShot, Seen, Shown};
+use roam_scroll_paint::laws::paint_leads;
 use roam_scroll_paint::paint_moved;
 use std::alloc::Global;
 use std::marker::Model;
@@ -69,23 +70,15 @@ fn text_over(alloc: Global, noted: &Noted, screen: &Shown<'_>) -> Result<Vec<u8>
     Ok(text)
 }
 
-// The same where nothing is noted: the terminal is opened first.
-fn text_anew(alloc: Global, screen: &Shown<'_>) -> Result<Vec<u8>, Fault>
-    ensures leads { IfOk result (λ text. ShowsSized None text.items (shown_by screen.now)) }
-{
-    opened_begins_blank();
-    let blank = RowShot::blank(alloc, screen.rows(), screen.cols())?;
-    let mut text = Vec::new(alloc);
-    open(&mut text)?;
-    paint_moved(&blank, screen, &mut text)?;
-    Ok(text)
-}
-
+// The same, also where nothing is noted: the terminal is opened then, and nothing is there that could move.
 fn moving_text(alloc: Global, noted: &Option<Noted>, screen: &Shown<'_>) -> Result<Vec<u8>, Fault>
     ensures leads { IfOk result (λ text. ShowsSized noted.now text.items (shown_by screen.now)) }
 {
+    opened_begins_blank();
+    paint_leads();
+    screen.facts();
     match noted {
-        None => text_anew(alloc, screen),
+        None => text_of(alloc, noted, screen),
         Some(noted) => text_over(alloc, noted, screen),
     }
 }
@@ -151,8 +144,8 @@ impl Outer {
     }
 
     /// A text that leads the terminal from what is noted to a screen, which is noted under a number from then on: rows that are there
-    /// already may be moved. Where nothing is noted it opens the terminal first. None where that number is noted already or memory is
-    /// wanting: then what is noted stays.
+    /// already may be moved. Where nothing is noted it opens the terminal first, and each place that isn't blank is written. None where that
+    /// number is noted already or memory is wanting: then what is noted stays.
     pub fn paint(&mut self, alloc: Global, number: u64, screen: &Shown<'_>) -> Option<Vec<u8>>
         // The terminal has its size then.
         ensures leads { IfSome result (λ text. LeadsSized self.old text.items self.new) }
