@@ -3,6 +3,7 @@
 
 pub mod acts;
 pub mod attaching;
+pub mod beside;
 pub mod cells;
 pub mod charset;
 pub mod controls;
@@ -11,6 +12,7 @@ pub mod frames;
 pub mod grid;
 pub mod history;
 pub mod keys;
+pub mod meant;
 pub mod numbers;
 pub mod overlay;
 pub mod paint;

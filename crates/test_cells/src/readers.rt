@@ -438,7 +438,8 @@ fn byte_of(c: char) -> u8 {
     }
 }
 
-fn bytes_of(alloc: Global, line: &str) -> Result<Vec<u8>, AllocError> {
+// The bytes of a line: a character is the byte of its code, but `␊` LF and `␍` CR, and `⇕` none.
+pub fn bytes_of(alloc: Global, line: &str) -> Result<Vec<u8>, AllocError> {
     let mut bytes = Vec::new(alloc);
     for c in line.chars().filter(|c| *c != '⇕') {
         bytes.push(byte_of(c))?;

@@ -1,0 +1,6 @@
+mod Cutting
+mod Fields
+mod Spelling
+mod Scanning
+mod Going
+mod Translating

@@ -1,0 +1,4 @@
+pub mod Renditions
+pub mod Meanings
+pub mod Meant
+pub mod Found

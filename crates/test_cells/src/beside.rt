@@ -1,0 +1,211 @@
+//! Worked rows: what bytes say beside a screen, by xterm's list of control sequences and the VT510's DECSCUSR.
+use crate::readers::bytes_of;
+use roam_beside::{Beside, Settings, Tracking};
+use std::alloc::{AllocError, Global};
+use std::fmt::Write;
+
+/// Rows of a heading, bytes and what is said, with an empty line between them. A character of the bytes is the byte of its code, and `␊` LF.
+/// What is said is told where it isn't what it was at first: `buttons`, `drags` or `motion`, `sgr`, `focus`, `paste`, `other` for the other
+/// screen, `keys N`, `shape N`, `bells N`, `title N TEXT`, `clip N TEXT`.
+const ROWS: &str = "\
+nothing is said by text and renditions
+a\x1B[1;31mb\u{E2}\u{82}\u{AC}\x1B[2J\x1B[0m␊\x1B[6n\x1B[:m\x1B(0
+-
+
+the mouse: the mode that was set last counts
+\x1B[?1000h\x1B[?1002;1006h
+drags sgr
+
+a reset of any of its modes is one of all
+\x1B[?1003h\x1B[?1000l
+-
+
+all motion, the focus, pastes between brackets, the other screen
+\x1B[?1003;1004;2004;1049h
+motion focus paste other
+
+others are reset each by itself
+\x1B[?1004;1006;2004;47h\x1B[?1004;47l
+sgr paste
+
+a private mode that isn't known, and a mode that isn't private
+\x1B[?9999h\x1B[1000h\x1B[1002;1006h
+-
+
+modifyOtherKeys
+\x1B[>4;2m
+keys 2
+
+and its initial value
+\x1B[>4;1m\x1B[>4m
+-
+
+and off
+\x1B[>4;1m\x1B[>4n
+-
+
+another resource
+\x1B[>4;1m\x1B[>1;2m\x1B[>2n
+keys 1
+
+the shape of the cursor
+\x1B[5 q
+shape 5
+
+one that isn't there
+\x1B[3 q\x1B[7 q
+shape 3
+
+bells, but not the one that ends a string
+\x07\x1B[\x07m\x1B]0;a\x07\x07
+bells 3 title 1 a
+
+RIS resets what is set, and nothing that was said
+\x1B[?1000;1049h\x1B[4 q\x07\x1B]2;a\x1B\\\x1Bc
+bells 1 title 1 a
+
+DECSTR resets nothing of it
+\x1B[?2004h\x1B[2 q\x1B[!p
+paste shape 2
+
+titles of OSC 0 and 2, and none of OSC 1
+\x1B]0;a\x07\x1B]1;b\x07\x1B]2;c \u{C3}\u{A9}\x1B\\
+title 2 c \u{E9}
+
+an empty title
+\x1B]2;\x07
+title 1 
+
+what isn't printed is no part of a title
+\x1B]2;a\x01\x7F\u{C2}\u{85}\u{E2}\u{80}\u{AE}b\x07
+title 1 ab
+
+a title that CAN breaks off is none
+\x1B]2;a\x18b\x07
+bells 1
+
+a text for the clipboard
+\x1B]52;c;aGk=\x07
+clip 1 aGk=
+
+without a selection
+\x1B]52;;aGk=\x1B\\
+clip 1 aGk=
+
+for another selection
+\x1B]52;p;aGk=\x07
+-
+
+a question is none
+\x1B]52;c;?\x07
+-
+
+what is no base64 is none, and changes nothing
+\x1B]52;c;aGk=\x07\x1B]52;c;aGk\x07\x1B]52;c;a*k=\x07
+clip 1 aGk=
+
+other strings say nothing
+\x1BP0;a\x1B\\\x1B_2;a\x1B\\\x1B]8;;x\x07
+-";
+
+fn push_modes(text: &mut String, settings: Settings) -> Result<(), AllocError> {
+    text.push_str(match settings.tracking {
+        Tracking::Off => "",
+        Tracking::Buttons => "buttons ",
+        Tracking::Drags => "drags ",
+        Tracking::Motion => "motion ",
+    })?;
+    for (is, name) in [
+        (settings.sgr_reports, "sgr "),
+        (settings.focus_reports, "focus "),
+        (settings.bracketed_paste, "paste "),
+        (settings.alternate_screen, "other "),
+    ] {
+        text.push_str(if is { name } else { "" })?;
+    }
+    Ok(())
+}
+
+fn push_number(text: &mut String, name: &str, number: u64) -> Result<(), AllocError> {
+    if number > 0 {
+        write!(text, "{name} {number} ")?;
+    }
+    Ok(())
+}
+
+// What is told of what stands beside.
+fn told(alloc: Global, beside: &Beside) -> Result<String, AllocError> {
+    let mut text = String::new(alloc);
+    let settings = beside.settings();
+    push_modes(&mut text, settings)?;
+    push_number(&mut text, "keys", u64::from(settings.other_keys))?;
+    push_number(&mut text, "shape", u64::from(settings.shape))?;
+    push_number(&mut text, "bells", settings.bells)?;
+    push_number(&mut text, "title", beside.titles())?;
+    for c in beside.title().unwrap_or(&[]) {
+        text.push(*c)?;
+    }
+    push_number(&mut text, "clip", beside.clips())?;
+    for byte in beside.clip().unwrap_or(&[]) {
+        text.push(char::from(*byte))?;
+    }
+    Ok(text)
+}
+
+// Whether what is told after pieces that are cut so is wanted.
+fn is_told(alloc: Global, bytes: &[u8], cut: usize, wanted: &str) -> bool {
+    let mut beside = Beside::new(alloc);
+    let (front, back) = bytes.split_at(cut.min(bytes.len()));
+    beside.feed(front);
+    beside.feed(back);
+    matches!(told(alloc, &beside), Ok(text) if text.trim_end() == wanted.trim_end() || text.is_empty() && wanted == "-")
+}
+
+fn is_told_by_bytes(alloc: Global, bytes: &[u8], wanted: &str) -> bool {
+    let mut beside = Beside::new(alloc);
+    for byte in bytes {
+        beside.feed(&[*byte]);
+    }
+    matches!(told(alloc, &beside), Ok(text) if text.trim_end() == wanted.trim_end() || text.is_empty() && wanted == "-")
+}
+
+fn holds(alloc: Global, block: &str) -> bool {
+    let (_, rest) = block.split_once('\n').unwrap_or((block, ""));
+    let (line, wanted) = rest.split_once('\n').unwrap_or((rest, ""));
+    let Ok(bytes) = bytes_of(alloc, line) else {
+        return false;
+    };
+    (0..=bytes.len()).all(|cut| is_told(alloc, &bytes, cut, wanted)) && is_told_by_bytes(alloc, &bytes, wanted)
+}
+
+// Feeds a text for the clipboard of so many characters, and tells how many of them are kept.
+fn kept_of(alloc: Global, characters: usize) -> usize {
+    let mut beside = Beside::new(alloc);
+    beside.feed(b"\x1B]52;c;");
+    for _ in 0..characters / 4 {
+        beside.feed(b"aGkh");
+    }
+    beside.feed(b"\x07");
+    beside.clip().unwrap_or(&[]).len()
+}
+
+// How many characters of a long title are kept.
+fn title_of(alloc: Global, characters: usize) -> usize {
+    let mut beside = Beside::new(alloc);
+    beside.feed(b"\x1B]0;");
+    for _ in 0..characters {
+        beside.feed(b"a");
+    }
+    beside.feed(b"\x07");
+    beside.title().unwrap_or(&[]).len()
+}
+
+#[test]
+fn rows_of_what_is_said_beside_a_screen(rt: HostRuntime) {
+    for block in ROWS.split("\n\n") {
+        assert!(rt; holds(rt.alloc(), block), "{block}");
+    }
+    assert_eq!(rt; kept_of(rt.alloc(), 131_072), 131_072);
+    assert_eq!(rt; kept_of(rt.alloc(), 131_076), 0);
+    assert_eq!(rt; title_of(rt.alloc(), 201), 200);
+}
