@@ -249,10 +249,11 @@ def phase_screens(sides, machines, asked):
             times, sizes = [], []
             for k in range(SCREENS):
                 machines.link.clear()
-                begin, typed, wanted = len(side.outer.written), time.monotonic(), mark(k).encode()
+                side.outer.emulation()
+                typed = time.monotonic()
                 side.outer.type(f"cat {asked.folder}/s{rows - 2}_{k}\r".encode())
-                is_there = comes(lambda side=side, begin=begin, wanted=wanted: wanted in side.outer.written[begin:], 60)
-                times.append(painted_at(side.outer, side.outer.written.find(wanted, begin)) - typed if is_there else 60.0)
+                shown = side.outer.shown_at(mark(k), 60)
+                times.append(60.0 if shown is None else shown - typed)
                 time.sleep(AFTER)
                 sizes.append(machines.link.carried[side.name] / 1000)
             side.note(f"ms until {rows} by {cols} is whole, median", statistics.median(times) * 1000)
@@ -279,17 +280,16 @@ def phase_flood(sides, machines, asked):
         side.note("screens a second in a flood", sum(text.count(mark(k).encode()) for k in range(12)) / FLOOD)
         side.note("kB a second", machines.link.carried[side.name] / 1000 / FLOOD)
         side.note("packets dropped, of", f"{machines.link.dropped[side.name]} {machines.link.packets[side.name]}")
-        at = len(side.outer.written)
         # One alone may reach a program that has just ended, and then nobody.
         for _ in range(2):
             side.outer.type(b"\x03")
             time.sleep(0.15)
         typed = time.monotonic()
         side.outer.type(b"clear; echo F''LOODEND\r")
-        is_there = comes(lambda side=side, at=at: b"FLOODEND" in side.outer.written[at:], 40)
-        check(f"{side.name}: what is typed behind a flood is shown", is_there)
-        if is_there:
-            side.note("s to the echo behind it", painted_at(side.outer, side.outer.written.find(b"FLOODEND", at)) - typed)
+        shown = side.outer.shown_at("FLOODEND", 40)
+        check(f"{side.name}: what is typed behind a flood is shown", shown is not None, side.outer.rows)
+        if shown is not None:
+            side.note("s to the echo behind it", shown - typed)
         time.sleep(3)
     resized(sides, 24, 80)
 
