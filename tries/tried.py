@@ -177,6 +177,11 @@ class Outer:
         self.size, self.is_resized = (rows, cols), True
         terminal.set_size(self.slave, rows, cols)
 
+    def display_keypad(self):
+        """What was written last of the keypad's codes: those of applications, or numbers; nothing where neither was."""
+        last = max(bytes(self.written).rfind(code) for code in (b"\x1b=", b"\x1b>"))
+        return bytes(self.written[last : last + 2]) if last >= 0 else b""
+
     def ends(self):
         """Whether the tool ends in time."""
         return comes(lambda: self.process.poll() is not None)

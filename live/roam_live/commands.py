@@ -53,7 +53,8 @@ class Commands:
         self.paused = False
         # Whether the session is new, and whether it and this terminal were fitted to each other once, as far as that may be.
         self.is_new, self.is_fitted, self.new_until = is_new, False, 0.0
-        # Where a command of this person moved the focus, since it was told: to a pane, or to one that isn't known, 0. And what was told then.
+        # Where a command of this person moved the focus, since it was told: to a pane, or to one that isn't known, 0; and what was told
+        # then.
         self.moved_to: int | None = None
         self.moved_from: Places | None = None
 

@@ -212,7 +212,8 @@ class FrontEnd:
         return self.status
 
 
-def follow(session: AnySession, watches: bool, prefix: str, guessing: str, is_new: Callable[[Places | None], bool] = lambda places: False) -> int:
+def follow(session: AnySession, watches: bool, prefix: str, guessing: str,
+           is_new: Callable[[Places | None], bool] = lambda places: False) -> int:
     """Has a person follow a session at this terminal, and tells the status; guesses are shown always, where that helps, or never. Where the
     session is new, which may be known a moment later, it gets this terminal's size, whatever that is."""
     note = None

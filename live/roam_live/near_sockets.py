@@ -117,7 +117,8 @@ class SharedPanes:
         peer = PanesPeer(end)
         self.peers.append(peer)
         # What one asks is read once it has all that it was told, so that another can go on from there.
-        self.loop.add(end, lambda: self.asked(peer), lambda: self.write(peer), has_more=lambda: peer.waiting, hears=lambda: not peer.waiting)
+        self.loop.add(end, lambda: self.asked(peer), lambda: self.write(peer), has_more=lambda: peer.waiting,
+                      hears=lambda: not peer.waiting)
         self.tell_all(peer)
 
     def tell_all(self, peer: PanesPeer) -> None:

@@ -409,6 +409,10 @@ class Path:
         """Whether the other end has all that it was told."""
         return self.states.is_sent and self.bundles.is_said(0)
 
+    def has_more(self) -> bool:
+        """Whether more is to go than went."""
+        return bool(self.fresh or self.repairs or self.streams and self.streams.waits())
+
     def may_carry(self) -> bool:
         """Whether it may carry what waits: all, or, where it is silent, one packet at a time that looks whether it still is."""
         return bool(self.place or self.seal.is_near) and (self.is_sound() or not self.sent)
@@ -428,7 +432,7 @@ class Path:
         moments += [self.twice[0][0]] if self.twice else []
         if self.may_carry():
             moments += [moment for moment, _ in self.soon.values()]
-            is_waiting = (self.repairs or self.fresh or self.streams and self.streams.waits()) and self.size + LONGEST_PACKET <= self.pace.window()
+            is_waiting = self.has_more() and self.size + LONGEST_PACKET <= self.pace.window()
             moments += [time.monotonic() + self.pace.wait_time(LONGEST_PACKET)] if is_waiting else []
         return min(moments)
 
@@ -502,7 +506,8 @@ class Path:
             self.send_packet(now, pieces)
 
     def next_pieces(self, now: float) -> list[AnyPiece]:
-        """The pieces of the next packet: those that were lost, those of bundles, and of connections where there is room, or it's their turn."""
+        """The pieces of the next packet: those that were lost, those of bundles, and those of connections where there is room, or it is
+        their turn."""
         pieces: list[AnyPiece] = []
         room = LONGEST_TEXT - HEAD.size - LONGEST_MASK
         self.since_streams += 1
@@ -677,7 +682,7 @@ class Path:
             self.sound_since = self.sound_since if self.is_sound() else now
             self.arrived, self.answered_at, self.asked_at, self.trips.tries = newest, now, None, 0
         bits = int.from_bytes(mask[:LONGEST_MASK], "little") << 1 | 1
-        is_full = bool(self.fresh or self.repairs or self.streams and self.streams.waits())
+        is_full = self.has_more()
         for counter in [counter for counter in (*self.sent, *self.gone) if counter <= newest and bits >> newest - counter & 1]:
             was_given_up = counter in self.gone
             sent = self.gone.pop(counter) if was_given_up else self.sent.pop(counter)

@@ -18,8 +18,8 @@ ROOM = {"right": (0, 9), "down": (5, 0)}
 # A server knows so many client starts that edit.
 MOST_STARTS = 64
 
-# What a line tells: where a pane is and which making of its number, that it is gone, which is in focus, or how many starts there were of how
-# many. It may have come from another machine: its numbers are small.
+# What a line tells: where a pane is and which making of its number, that it is gone, which is in focus, or how many starts there were of
+# how many. It may have come from another machine: its numbers are small.
 TOLD = re.compile(r"(?P<pane>[1-9])((?: \d{1,4}){4}) \d{1,19}|(?P<gone>[1-9]) gone|focus (?P<focus>[1-9])"
                   r"|(?P<kind>starts|watchers) (?P<count>\d{1,4})(?: of \d{1,4})?", re.ASCII)
 

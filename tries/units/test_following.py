@@ -149,7 +149,7 @@ class Follows(Played):
         self.assertFalse(self.following.is_gone)
 
     def test_put_out(self):
-        """A connection that was told something and ended soon is had again after pauses that grow, since another keeper may have ended it."""
+        """One that was told something and ended soon is had again after pauses that grow: another keeper may have ended it."""
         waits = []
         for seconds in (0, 1, 2, 6, 0):
             self.server.send(b"focus 1\n")
