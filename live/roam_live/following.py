@@ -29,7 +29,7 @@ SOUND = 5.0
 # Where nobody tells where the panes are it isn't said before so many tries, since who tells it may come a moment later; and for so many
 # seconds a front end takes it that it will be told.
 TRIES = 3
-AWAITED = 2.0
+AWAITED = 10.0
 UNTOLD = "where panes are isn't told, as by an earlier roam; an arrow goes to the next"
 NO_PLACE = "no more may follow where panes are; an arrow goes to the next pane"
 

@@ -6,7 +6,7 @@ from __future__ import annotations
 
 import contextlib
 import struct
-from collections import OrderedDict, namedtuple
+from collections import OrderedDict, deque, namedtuple
 
 from roam_live.loops import Loop
 from roam_live.streams import CREDIT, LONGEST_NAME, TAKEN_COUNT, BadStream, Carried, Streams
@@ -87,8 +87,9 @@ class PathStreams(Streams[PathCarried]):
 
     def __init__(self, loop: Loop, opens: Opens | None = None) -> None:
         super().__init__(loop, opens)
-        # Those that have ended: a piece of one may still come.
+        # Those that have ended: a piece of one may still come. And what was lost, and goes again.
         self.ended: OrderedDict[int, None] = OrderedDict()
+        self.again: deque[StreamPiece] = deque()
 
     def made(self, number: int) -> PathCarried:
         """A connection of a number, which was another's before."""
@@ -117,10 +118,14 @@ class PathStreams(Streams[PathCarried]):
 
     def waits(self) -> bool:
         """Whether something may go."""
-        return any(one.is_taken_due() or one.may_go() or one.is_end_due() for one in self.all.values())
+        return bool(self.again) or any(one.is_taken_due() or one.may_go() or one.is_end_due() for one in self.all.values())
 
     def next_piece(self, room: int) -> StreamPiece | None:
-        """What goes next in a packet that has so much room; None where nothing does."""
+        """What goes next in a packet that has so much room, what was lost first; None where nothing does."""
+        while self.again and self.length(self.again[0]) <= room:
+            piece = self.again.popleft()
+            if self.length(piece):
+                return piece
         for one in list(self.all.values()):
             if one.is_taken_due() and room >= TAKEN_COUNT.size:
                 one.told = one.taken
@@ -162,6 +167,11 @@ class PathStreams(Streams[PathCarried]):
             return TAKEN_COUNT.pack(*piece)
         text = self.text(piece) or b""
         return STREAM.pack(*piece, len(text)) + text
+
+    def lost(self, piece: StreamPiece) -> None:
+        """Notes that a piece is taken for lost."""
+        if self.length(piece):
+            self.again.append(piece)
 
     def arrived(self, piece: StreamPiece) -> None:
         """Notes that a piece has arrived."""

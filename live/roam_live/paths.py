@@ -362,9 +362,9 @@ class Path:
         self.gone: dict[int, SentPacket] = {}
         self.arrived = self.size = 0
         # What goes: what was lost, what is new, what goes once more, and what waits for something newer.
-        self.repairs: deque[AnyPiece] = deque()
-        self.fresh: deque[AnyPiece] = deque()
-        self.twice: deque[tuple[float, AnyPiece]] = deque()
+        self.repairs: deque[Piece] = deque()
+        self.fresh: deque[Piece] = deque()
+        self.twice: deque[tuple[float, Piece]] = deque()
         self.soon: dict[int, tuple[float, list[bytes]]] = {}
         # The connections that it carries, and how many packets went since they were first in one.
         self.streams: PathStreams | None = None
@@ -411,7 +411,7 @@ class Path:
 
     def has_more(self) -> bool:
         """Whether more is to go than went."""
-        return bool(self.fresh or self.repairs or self.streams and self.streams.waits())
+        return bool(self.fresh or self.repairs or self.is_sound() and self.streams and self.streams.waits())
 
     def may_carry(self) -> bool:
         """Whether it may carry what waits: all, or, where it is silent, one packet at a time that looks whether it still is."""
@@ -514,9 +514,9 @@ class Path:
         if self.since_streams >= TURN_OF_STREAMS:
             room = self.add_streams(pieces, room)
         for queue in (self.repairs, self.fresh):
-            while queue and self.length(queue[0]) <= room:
+            while queue and self.bundles.length(queue[0]) <= room:
                 piece = queue.popleft()
-                length = self.length(piece)
+                length = self.bundles.length(piece)
                 if length and piece not in pieces:
                     pieces.append(piece)
                     room -= length
@@ -526,8 +526,9 @@ class Path:
         return pieces
 
     def add_streams(self, pieces: list[AnyPiece], room: int) -> int:
-        """Adds what of connections has room in a packet, and tells what is left of that."""
-        while self.streams:
+        """Adds what of connections has room in a packet, and tells what is left of that. They don't look whether a silent path is so
+        still: they would each moment, as long as it is."""
+        while self.streams and self.is_sound():
             piece = self.streams.next_piece(room)
             if not piece:
                 break
@@ -536,31 +537,26 @@ class Path:
             self.since_streams = 0
         return room
 
-    def length(self, piece: AnyPiece) -> int:
-        """How many bytes a piece takes in a packet; 0 where it isn't wanted any more."""
-        if isinstance(piece, Piece):
-            return self.bundles.length(piece)
-        return self.streams.length(piece) if self.streams else 0
-
     def frame(self, piece: AnyPiece) -> bytes:
         """A piece that is wanted, as it stands in a packet."""
         if isinstance(piece, Piece):
             return self.bundles.frame(piece)
         return self.streams.frame(piece) if self.streams else b""
 
-    def note_piece(self, piece: AnyPiece) -> None:
-        """Notes that a piece has arrived."""
+    def note_piece(self, piece: AnyPiece, has_arrived: bool) -> None:
+        """Notes that a piece has arrived, or is taken for lost, so that it goes again where it is still wanted."""
         if isinstance(piece, Piece):
-            self.bundles.arrived(piece)
+            if has_arrived:
+                self.bundles.arrived(piece)
+            elif self.bundles.bundle(piece):
+                self.repairs.append(piece)
         elif self.streams:
-            self.streams.arrived(piece)
+            (self.streams.arrived if has_arrived else self.streams.lost)(piece)
 
-    def goes_twice(self, piece: AnyPiece) -> bool:
+    def goes_twice(self, piece: Piece) -> bool:
         """Whether a piece goes once more in a moment, whatever is told of it."""
-        bundle = self.bundles.bundle(piece) if isinstance(piece, Piece) else None
-        if not bundle or not isinstance(piece, Piece):
-            return False
-        return not bundle.is_once and len(bundle.pieces[piece.index]) <= SMALL and self.trips.lost > LOSSY
+        bundle = self.bundles.bundle(piece)
+        return bool(bundle and not bundle.is_once and len(bundle.pieces[piece.index]) <= SMALL and self.trips.lost > LOSSY)
 
     def call(self, now: float) -> None:
         """Asks the other end for an answer, and then for one of the largest size, since it has to get through."""
@@ -625,7 +621,8 @@ class Path:
             is_sound = self.is_sound()
             if counter < self.arrived or is_sound:
                 self.trips.note_lost()
-            self.repairs += [piece for piece in sent.pieces if self.length(piece)]
+            for piece in sent.pieces:
+                self.note_piece(piece, False)
             # An answer that was asked for is asked for again.
             self.is_due = self.is_due or not sent.pieces and is_sound
         while len(self.gone) > MOST_GONE:
@@ -690,7 +687,7 @@ class Path:
             self.trips.note_arrived(was_given_up)
             self.pace.note(sent, now, is_full)
             for piece in sent.pieces:
-                self.note_piece(piece)
+                self.note_piece(piece, True)
             if counter == newest:
                 self.trips.note(max(0.001, now - sent.moment - held))
                 self.pace.note_round(self.trips.mean or ROUND)

@@ -98,9 +98,9 @@ def keeper(folder):
     keeper = noted(SESSION)["shells"][0]
     os.kill(keeper, signal.SIGSTOP)
     outer.type(b"\x02%")
-    check("a pane is split off while what keeps the shells is stopped", outer.status(" 1  2  3 [4]"), outer.rows)
+    check("a pane is split off while what keeps the shells is stopped", outer.status(" 1 [4] 2  3 "), outer.rows)
     outer.type(b"\x02\x1b[D")
-    check("an arrow goes by where it is", outer.status("[1] 2  3  4 "), outer.rows)
+    check("an arrow goes by where it is", outer.status("[1] 4  2  3 "), outer.rows)
     line = " ".join(listed())
     wanted = "4 panes 1 terminal, what keeps its shells is stopped"
     check("ls counts the server's panes, and says so", line.endswith(wanted), line)

@@ -229,7 +229,7 @@ class FrontEnds(Played):
         self.assertEqual(self.words, [])
 
     def test_quiet(self):
-        """A server that tells nothing is waited for without a word; for two seconds it is taken that it will."""
+        """A server that tells nothing is waited for without a word; for ten seconds it is taken that it will."""
         self.now += AWAITED - 0.1
         self.assertTrue(self.panes.is_awaited())
         self.now += 0.2

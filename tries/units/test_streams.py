@@ -266,12 +266,11 @@ class Paths(Both, Carries):
     def make(self):
         """Both ends; what of each is on its way."""
         self.near, self.far = PathStreams(self.loop), PathStreams(self.loop, self.opens)
-        self.again = {self.near: [], self.far: []}
         self.chance, self.lost = random.Random(1), 0.0
 
     def pieces(self, end):
         """The pieces that an end sends now: those that were lost, and as many more as may go."""
-        found, self.again[end] = [piece for piece in self.again[end] if end.length(piece)], []
+        found = []
         while len(found) < 200:
             piece = end.next_piece(ROOM)
             if not piece:
@@ -285,7 +284,7 @@ class Paths(Both, Carries):
         for end, other in ((self.near, self.far), (self.far, self.near)):
             for piece in self.pieces(end):
                 if self.is_cut or self.chance.random() < self.lost:
-                    self.again[end].append(piece)
+                    end.lost(piece)
                     continue
                 frame = end.frame(piece)
                 self.assertEqual(len(frame), end.length(piece))
