@@ -198,7 +198,7 @@ class Near:
         return self.link is not None and (self.ways.rests or not self.link.stream.is_silent(SILENT))
 
     def is_silent(self) -> bool:
-        """Whether there is neither a path nor a link that is known to carry anything."""
+        """Whether there is neither a path nor a command that is known to carry anything."""
         return not self.ways.is_sound() and not self.has_live_link()
 
     def way(self) -> Path | RelayStream | None:
@@ -285,7 +285,7 @@ class Near:
             raise Ended(0)
 
     def answered(self, link: RunningCommand, session: str) -> None:
-        """Takes a command as the link, now that its other end has answered for a session."""
+        """Takes a command as the one that carries, now that its other end has answered for a session."""
         if self.session not in ("-", session):
             self.is_over = True
             raise Ended(0)
