@@ -21,16 +21,19 @@ LET_GO = "the server lets this go, as where as many others follow the panes as m
 QUIET = 3.0
 TELLS_NOTHING = "the server tells nothing, as where no descriptor is left for it"
 
-# What a server is told by the keeper of shells, for which it has a place of its own. A connection that ended sooner was another keeper's
-# to end, which has taken that place: the two take it from each other ever more seldom.
-KEEPER = "keeper"
+# A connection that ended sooner is had again after a longer pause, whatever it told: so two keepers of shells, who take the server's one place
+# for them from each other, do so ever more seldom.
 SOUND = 5.0
+
+# What a server is told by the keeper of shells, for which it has a place of its own.
+KEEPER = "keeper"
 
 # Where nobody tells where the panes are it isn't said before so many tries, since who tells it may come a moment later; and for so many
 # seconds a front end takes it that it will be told.
 TRIES = 3
 AWAITED = 10.0
 UNTOLD = "where panes are isn't told, as by an earlier roam; an arrow goes to the next"
+NOR_BELLS = "panes and bells aren't told, as by an earlier roam; an arrow goes to the next"
 NO_PLACE = "no more may follow where panes are; an arrow goes to the next pane"
 
 
@@ -44,15 +47,16 @@ class Following:
         self.peer: socket.socket | None = None
         self.lines = Lines()
         self.waiting = bytearray()
-        # How often in a row nothing came, and why.
+        # How often in a row nothing came, and why; when the connection was had, and how many in a row ended soon.
         self.faults = 0
         self.why = ""
+        self.since, self.soon = 0.0, 0
         # Whether nobody is there, as far as the socket tells.
         self.is_gone = False
 
     def begin(self, peer: socket.socket) -> None:
         """Follows a connection that is there."""
-        self.peer, self.lines = peer, Lines()
+        self.peer, self.lines, self.since = peer, Lines(), self.loop.clock()
         self.waiting.clear()
         self.loop.add(peer, self.hear, lambda: write(peer.fileno(), self.waiting), has_more=lambda: self.waiting)
 
@@ -74,11 +78,17 @@ class Following:
 
     def lost(self, why: str) -> None:
         """Lets go of a connection, which is had again after a pause."""
+        if self.peer:
+            self.soon = self.soon + 1 if self.loop.clock() < self.since + SOUND else 1
         self.leave()
         self.why = why
-        self.loop.later("follow panes", PAUSES[min(self.faults, len(PAUSES) - 1)], self.connect)
+        self.loop.later("follow panes", PAUSES[min(self.pauses(), len(PAUSES) - 1)], self.connect)
         self.faults += 1
         self.loses()
+
+    def pauses(self) -> int:
+        """How many pauses were had in a row, each of which is longer than the one before."""
+        return max(self.faults, self.soon - 1)
 
     def leave(self) -> None:
         """Lets go of the connection."""
@@ -106,8 +116,6 @@ class KeeperFollowing(Following):
         super().__init__(lambda: connected_now(path), loop, self.heard, loses)
         self.takes, self.tells, self.told = hears, tells, ""
         peer = connected(path)
-        # When the connection was had, and how many in a row ended soon.
-        self.since, self.soon = 0.0, 0
         # The process that serves, where the system tells it here.
         self.server = SocketPeer.of(peer).process
         self.begin(peer)
@@ -115,7 +123,6 @@ class KeeperFollowing(Following):
     def begin(self, peer: socket.socket) -> None:
         """Follows a connection that is there; something has to come soon. An earlier server doesn't know who keeps the shells."""
         super().begin(peer)
-        self.since = self.loop.clock()
         if runs_program(peer):
             self.ask(KEEPER)
         self.loop.later("panes are quiet", QUIET, lambda: self.tell(TELLS_NOTHING))
@@ -131,9 +138,6 @@ class KeeperFollowing(Following):
     def lost(self, why: str) -> None:
         """Lets go of a connection, and tells why where that isn't over soon; of a server that is gone another tells."""
         self.loop.drop("panes are quiet")
-        if self.peer:
-            self.soon = self.soon + 1 if self.loop.clock() < self.since + SOUND else 0
-            self.faults = max(self.faults, self.soon - 1)
         if self.faults and not self.is_gone:
             self.tell(why)
         super().lost(why)
@@ -150,7 +154,7 @@ class PanesFollower:
     for why it can't be told here, which a person is told once."""
 
     def __init__(self, folder: pathlib.Path | None, loop: Loop, changed: Callable[[], object], tells: Callable[[str], object]) -> None:
-        self.loop, self.changed, self.tells = loop, changed, tells
+        self.folder, self.loop, self.changed, self.tells = folder, loop, changed, tells
         self.told = ToldPanes()
         self.places: Places | None = None
         self.has_said = False
@@ -182,11 +186,13 @@ class PanesFollower:
         self.told, self.places = ToldPanes(), None
         if was_told:
             self.changed()
-        if following.faults >= TRIES:
-            self.say(UNTOLD if following.is_gone else NO_PLACE if following.why == LET_GO else "")
+        if following.faults >= TRIES and following.is_gone and self.folder:
+            self.say(UNTOLD if os.path.exists(os.path.join(self.folder, "bells")) else NOR_BELLS)
+        elif following.faults >= TRIES and following.why == LET_GO:
+            self.say(NO_PLACE)
 
     def say(self, words: str) -> None:
         """Says something once."""
-        if words and not self.has_said:
+        if not self.has_said:
             self.has_said = True
             self.tells(words)

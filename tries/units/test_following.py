@@ -9,7 +9,7 @@ import unittest
 from unittest import mock
 
 from aids import StillLoop
-from roam_live.following import AWAITED, LET_GO, NO_PLACE, PAUSES, QUIET, TELLS_NOTHING, UNTOLD, KeeperFollowing, PanesFollower
+from roam_live.following import AWAITED, LET_GO, NO_PLACE, NOR_BELLS, PAUSES, QUIET, TELLS_NOTHING, UNTOLD, KeeperFollowing, PanesFollower
 from roam_live.places import Places, Rect
 
 
@@ -160,7 +160,7 @@ class Follows(Played):
             waits.append(self.wait_again())
             self.turn()
             self.server = self.taken()
-        self.assertEqual(waits, [0.1, 1, 2, 0.1, 0.1])
+        self.assertEqual(waits, [0.1, 1, 2, 0.1, 1])
 
     def test_keeper(self):
         """The server is told who keeps the shells, where it runs the program of these tools: at each connection, before all else."""
@@ -256,7 +256,7 @@ class FrontEnds(Played):
         for _ in range(5):
             self.wait_again()
             self.loop.turns(2)
-        self.assertEqual(self.words, [UNTOLD])
+        self.assertEqual(self.words, [NOR_BELLS])
         self.path.unlink()
         self.listener = self.listens()
         self.words, self.panes = [], PanesFollower(self.path.parent, self.loop, self.change, lambda line: self.words.append(line))
@@ -264,6 +264,13 @@ class FrontEnds(Played):
         self.told(b"1 23 80\nfocus\n")
         self.told(b"1 23 40\n")
         self.assertEqual((self.words, self.panes.places), ([UNTOLD], None))
+        (self.path.parent / "bells").touch()
+        self.path.unlink()
+        self.words, self.panes = [], PanesFollower(self.path.parent, self.loop, self.change, lambda line: self.words.append(line))
+        for _ in range(2):
+            self.wait_again()
+            self.loop.turns(2)
+        self.assertEqual(self.words, [UNTOLD])
 
     def test_nowhere(self):
         """Without a folder nothing is followed, and nothing awaited."""

@@ -174,6 +174,15 @@ class Carries:
         self.assertLessEqual(len(self.near.all), 64)
 
 
+class Limits(Case):
+    """How much is carried."""
+
+    def test_limits(self):
+        """65,536 bytes beyond what the reader took, of which it tells each 16,384; as many are read ahead."""
+        self.assertEqual((streams.CREDIT, streams.TAKEN_AFTER, streams.READ_AHEAD), (65536, 16384, 16384))
+        self.assertEqual((streams.MOST_ENDING, streams.LONGEST_NAME, path_streams.MOST_PIECES), (64, 32, 64))
+
+
 class Pipes(Both, Carries):
     """Over the frames of a command, which come whole and in their order."""
 
