@@ -16,9 +16,9 @@ from roam_live.program import Fault, Lines, connected_now, read, reason, say
 BEGINS = b"]PX^_"
 ENDS = re.compile(rb"[\x18\x1a]")
 
-# A pane rings once in so many seconds, for so many at most who follow.
+# A pane rings once in so many seconds, for so many at most who follow: terminals of other machines follow one by one, as those of this do.
 APART = 1.0
-MOST_FOLLOWERS = 16
+MOST_FOLLOWERS = 64
 
 # So many seconds after who told bells has ended, or was refused, the socket is connected to again.
 AGAIN = 1.0
