@@ -280,18 +280,34 @@ def phase_flood(sides, machines, asked):
         side.note("screens a second in a flood", sum(text.count(mark(k).encode()) for k in range(12)) / FLOOD)
         side.note("kB a second", machines.link.carried[side.name] / 1000 / FLOOD)
         side.note("packets dropped, of", f"{machines.link.dropped[side.name]} {machines.link.packets[side.name]}")
-        # One alone may reach a program that has just ended, and then nobody.
+        took = ended_flood(side)
+        check(f"{side.name}: what is typed behind a flood is shown", took is not None, side.outer.rows)
+        if took is not None:
+            side.note("s to the echo behind it", took)
+        time.sleep(3)
+    resized(sides, 24, 80)
+
+
+def ended_flood(side):
+    """Interrupts a flood and types behind it: how long it took until that was shown, None where the flood has ended and it isn't shown.
+
+    An interrupt may reach a program that has just ended, and then nobody; so may two, where the network brings them together: the flood
+    goes on then, and it is interrupted again.
+    """
+    while True:
         for _ in range(2):
             side.outer.type(b"\x03")
             time.sleep(0.15)
         typed = time.monotonic()
         side.outer.type(b"clear; echo F''LOODEND\r")
         shown = side.outer.shown_at("FLOODEND", 40)
-        check(f"{side.name}: what is typed behind a flood is shown", shown is not None, side.outer.rows)
         if shown is not None:
-            side.note("s to the echo behind it", shown - typed)
-        time.sleep(3)
-    resized(sides, 24, 80)
+            return shown - typed
+        before = side.outer.rows()
+        time.sleep(5)
+        if side.outer.rows() == before:
+            return None
+        print(f"        {side.name}: the interrupt reached nobody, and the flood goes on", flush=True)
 
 
 # ---- the sealed side alone
