@@ -466,7 +466,9 @@ class Words(Case):
         self.words("pane_shells", str(folder))
         made, woken = self.patch_of(shells, "Shells"), self.patch_of(shells, "woken", return_value=5)
         made.return_value.run.return_value = 0
+        (folder / "rects").touch()
         self.assertEqual(shells.main(), 0)
+        self.assertEqual(os.listdir(folder), [])
         self.assertEqual((made.call_args[0][1], woken.call_args[0]), (5, (signal.SIGCHLD, signal.SIGTERM, signal.SIGHUP)))
         self.words("pane_shells", str(folder / "none"))
         with self.assertRaisesRegex(Fault, "/none is no folder$"):
