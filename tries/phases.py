@@ -295,6 +295,8 @@ def ended_flood(side):
     goes on then, and it is interrupted again.
     """
     while True:
+        # What was painted so far is read, so that nothing is found that stood there before.
+        side.outer.emulation()
         for _ in range(2):
             side.outer.type(b"\x03")
             time.sleep(0.15)

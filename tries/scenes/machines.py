@@ -165,6 +165,8 @@ def carried(folder):
         check(f"{number}: ls here counts the panes there", comes(lambda: listed()[4:6] == ["3", "panes"]), listed)
         outer.type(b"\x02\x1b[D")
         check(f"{number}: an arrow goes by where they are", outer.status("[1] 2  3"), outer.rows)
+        # Where another way carries all from now on a bell may find nobody for a moment.
+        time.sleep(3)
         outer.type(b"clear; printf '\\a\\033='\r")
         rings = comes(lambda number=number: all(one.written.count(b"\x07") >= number for one in (outer, beside)))
         check(f"{number}: a bell there rings at both", rings, bytes(outer.written[-200:]))
