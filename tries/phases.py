@@ -234,10 +234,13 @@ def paint_files(folder, rows, cols, count):
 
 
 def resized(sides, rows, cols):
-    """Gives all terminals a size."""
+    """Gives all terminals a size, and the sessions there too, which none makes smaller by itself."""
     for side in sides:
         side.outer.resize(rows, cols)
-    time.sleep(5)
+    time.sleep(2)
+    for side in sides:
+        side.outer.type(b"" if side.name == "mosh" else b"\x02r")
+    time.sleep(3)
 
 
 def phase_screens(sides, machines, asked):
