@@ -800,6 +800,17 @@ class Streams(Ends):
             found = [frame for piece in (text[:cut], text[cut:]) if piece for frame in self.received(piece)]
             self.assertEqual(found, [(1, datagram(1)), (0, b"z1"), (0, b"zp"), (9, datagram(2))], cut)
 
+    def test_each_cut_carried(self):
+        """The frames of carried connections, cut at each place: their bytes are counted, and the first frame tells whether there are any."""
+        told = [(0, CARRIES), (0, b"o\0\1panes"), (0, b"d\0\1focus 1\n"), (0, b"t\0\1" + bytes(8)), (0, b"q\0\1"), (1, datagram(1))]
+        for frames, carries in ((told, True), (told[1:], False)):
+            text = greeting("abc") + packed(*frames)
+            for cut in range(len(text) + 1):
+                self.receiver = RelayStream(self.there[0], self.back[1], "-")
+                found = [frame for piece in (text[:cut], text[cut:]) if piece for frame in self.received(piece)]
+                self.assertEqual((found, self.receiver.carries), (frames, carries), cut)
+                self.assertEqual(self.receiver.had, 11 + SHORTEST)
+
     def test_versions(self):
         for line, told in ((b"roam-relay 1 5e55\n", "the other end is of an earlier roam: its relay has version 1, and this one version 2"),
                            (b"roam-relay 3 5e55\n", "the other end is of a later roam: its relay has version 3, and this one version 2")):
