@@ -234,10 +234,13 @@ def paint_files(folder, rows, cols, count):
 
 
 def resized(sides, rows, cols):
-    """Gives all terminals a size."""
+    """Gives all terminals a size, and the sessions there too, which none makes smaller by itself."""
     for side in sides:
         side.outer.resize(rows, cols)
-    time.sleep(5)
+    time.sleep(2)
+    for side in sides:
+        side.outer.type(b"" if side.name == "mosh" else b"\x02r")
+    time.sleep(3)
 
 
 def phase_screens(sides, machines, asked):
@@ -249,10 +252,11 @@ def phase_screens(sides, machines, asked):
             times, sizes = [], []
             for k in range(SCREENS):
                 machines.link.clear()
-                begin, typed, wanted = len(side.outer.written), time.monotonic(), mark(k).encode()
+                side.outer.emulation()
+                typed = time.monotonic()
                 side.outer.type(f"cat {asked.folder}/s{rows - 2}_{k}\r".encode())
-                is_there = comes(lambda side=side, begin=begin, wanted=wanted: wanted in side.outer.written[begin:], 60)
-                times.append(painted_at(side.outer, side.outer.written.find(wanted, begin)) - typed if is_there else 60.0)
+                shown = side.outer.shown_at(mark(k), 60)
+                times.append(60.0 if shown is None else shown - typed)
                 time.sleep(AFTER)
                 sizes.append(machines.link.carried[side.name] / 1000)
             side.note(f"ms until {rows} by {cols} is whole, median", statistics.median(times) * 1000)
@@ -279,19 +283,36 @@ def phase_flood(sides, machines, asked):
         side.note("screens a second in a flood", sum(text.count(mark(k).encode()) for k in range(12)) / FLOOD)
         side.note("kB a second", machines.link.carried[side.name] / 1000 / FLOOD)
         side.note("packets dropped, of", f"{machines.link.dropped[side.name]} {machines.link.packets[side.name]}")
-        at = len(side.outer.written)
-        # One alone may reach a program that has just ended, and then nobody.
+        took = ended_flood(side)
+        check(f"{side.name}: what is typed behind a flood is shown", took is not None, side.outer.rows)
+        if took is not None:
+            side.note("s to the echo behind it", took)
+        time.sleep(3)
+    resized(sides, 24, 80)
+
+
+def ended_flood(side):
+    """Interrupts a flood and types behind it: how long it took until that was shown, None where the flood has ended and it isn't shown.
+
+    An interrupt may reach a program that has just ended, and then nobody; so may two, where the network brings them together: the flood
+    goes on then, and it is interrupted again.
+    """
+    while True:
+        # What was painted so far is read, so that nothing is found that stood there before.
+        side.outer.emulation()
         for _ in range(2):
             side.outer.type(b"\x03")
             time.sleep(0.15)
         typed = time.monotonic()
         side.outer.type(b"clear; echo F''LOODEND\r")
-        is_there = comes(lambda side=side, at=at: b"FLOODEND" in side.outer.written[at:], 40)
-        check(f"{side.name}: what is typed behind a flood is shown", is_there)
-        if is_there:
-            side.note("s to the echo behind it", painted_at(side.outer, side.outer.written.find(b"FLOODEND", at)) - typed)
-        time.sleep(3)
-    resized(sides, 24, 80)
+        shown = side.outer.shown_at("FLOODEND", 40)
+        if shown is not None:
+            return shown - typed
+        before = side.outer.rows()
+        time.sleep(5)
+        if side.outer.rows() == before:
+            return None
+        print(f"        {side.name}: the interrupt reached nobody, and the flood goes on", flush=True)
 
 
 # ---- the sealed side alone

@@ -154,6 +154,19 @@ class Outer:
         """Whether a text comes to stand somewhere."""
         return comes(lambda: any(text in row for row in self.rows()), seconds)
 
+    def shown_at(self, text, seconds=WAIT):
+        """When a text came to stand somewhere, read as it was painted piece by piece; None where it doesn't in time."""
+        end = time.monotonic() + seconds
+        while True:
+            for moment, length in [piece for piece in list(self.moments) if piece[1] > self.read_to]:
+                self.emulated.fed(bytes(self.written[self.read_to : length]))
+                self.read_to = length
+                if any(text in row for row in self.emulated.lines()):
+                    return moment
+            if time.monotonic() > end:
+                return None
+            time.sleep(0.002)
+
     def status(self, text, seconds=WAIT):
         """Whether the last row comes to begin with a text."""
         return comes(lambda: self.rows()[-1].startswith(text), seconds)
@@ -163,6 +176,11 @@ class Outer:
         self.emulation().resize(rows, cols)
         self.size, self.is_resized = (rows, cols), True
         terminal.set_size(self.slave, rows, cols)
+
+    def display_keypad(self):
+        """What was written last of the keypad's codes: those of applications, or numbers; nothing where neither was."""
+        last = max(bytes(self.written).rfind(code) for code in (b"\x1b=", b"\x1b>"))
+        return bytes(self.written[last : last + 2]) if last >= 0 else b""
 
     def ends(self):
         """Whether the tool ends in time."""

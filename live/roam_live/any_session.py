@@ -6,8 +6,6 @@ from __future__ import annotations
 import pathlib
 from typing import Protocol
 
-from roam_live.rects import Places
-
 
 class Kept(Protocol):
     """A session whose shells are kept by a process that may end before it."""
@@ -31,7 +29,7 @@ class AnySession(Kept, Protocol):
 
     @property
     def folder(self) -> pathlib.Path | None:
-        """Where front ends are noted, bells are told, and where panes are; None where no folder is known."""
+        """Where front ends are noted, and bells and the panes are told; None where no folder is known."""
 
     def read(self) -> None:
         """Reads anew what is noted of it."""
@@ -39,14 +37,8 @@ class AnySession(Kept, Protocol):
     def runs(self, role: str | None = None) -> bool:
         """Whether the process of a role is known to run; that of the role `served` where none is named."""
 
-    def places(self) -> Places | None:
-        """Where the panes are; None where that isn't told."""
-
     def is_served(self) -> bool:
         """Whether somebody answers where its server is reached."""
-
-    def is_full(self) -> bool | None:
-        """Whether its server knows as many starts as it ever does; None where nothing is told of that."""
 
     def busy(self) -> dict[int, str] | None:
         """The panes in which another program than a shell runs, and its name; None where that isn't known, of one pane or of all."""

@@ -16,11 +16,11 @@ from roam_live.program import Fault, Lines, connected_now, read, reason, say
 BEGINS = b"]PX^_"
 ENDS = re.compile(rb"[\x18\x1a]")
 
-# A pane rings once in so many seconds, for so many at most who follow.
+# A pane rings once in so many seconds, for so many at most who follow: terminals of other machines follow one by one, as those of this do.
 APART = 1.0
-MOST_FOLLOWERS = 16
+MOST_FOLLOWERS = 64
 
-# So many seconds after who told bells has ended, or was refused, the socket is connected to again.
+# So many seconds after it was connected to, or was refused, the socket is connected to again.
 AGAIN = 1.0
 
 # A line that tells a bell: panes are 1 to 9. And one that tells something else, in printable ASCII.
@@ -142,22 +142,22 @@ class BellFollower:
         self.loop, self.rings, self.says = loop, rings, says
         self.peer: socket.socket | None = None
         self.lines = Lines()
-        # When the socket may be connected to again.
-        self.again_at = 0.0
+        # When it was connected to, and when it may be again.
+        self.since = self.again_at = 0.0
         # Of which panes the keypad is an application's.
         self.keypads: set[int] = set()
         loop.each(self.connect)
 
     def connect(self) -> float | None:
         """Connects where somebody of this user tells bells, who may come, and come again, at any time; tells when that is due. It isn't
-        within a second of an end, so that one who ends each connection at once takes no processor."""
+        within a second of the time before, so that one who ends each connection at once takes no processor."""
         if self.peer or not self.path:
             return None
         if time.monotonic() < self.again_at:
             return self.again_at
         self.again_at = 0.0
         try:
-            self.peer, self.lines = connected_now(self.path), Lines()
+            self.peer, self.lines, self.since = connected_now(self.path), Lines(), time.monotonic()
         except PermissionError:
             self.again_at = time.monotonic() + AGAIN
             return self.again_at
@@ -185,5 +185,5 @@ class BellFollower:
         if self.peer:
             self.loop.remove(self.peer)
             self.peer.close()
-        self.peer, self.again_at = None, time.monotonic() + AGAIN
+        self.peer, self.again_at = None, self.since + AGAIN
         self.keypads.clear()

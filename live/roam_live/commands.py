@@ -14,7 +14,8 @@ from roam_live.links import StartLink
 from roam_live.loops import Loop
 from roam_live.program import has_others
 from roam_live.programs import told
-from roam_live.rects import BESIDE, Places
+from roam_live.following import PanesFollower
+from roam_live.places import BESIDE, Places
 
 TYPE_CHECKING = False
 if TYPE_CHECKING:
@@ -23,14 +24,17 @@ if TYPE_CHECKING:
 # An escape that nothing follows for so many seconds is the key.
 ESCAPE_WAIT = 0.025
 
-# So many seconds after a command that moves the focus it may not be told where it is.
-UNTOLD = 1.0
+# Acts after which another pane may be in focus.
+MOVES = ("focus", "next", "split", "close")
 
 # The wishes that are granted while something stands in the session's place. Nothing is typed then, since nobody would see where it goes.
 UNDER_COVER = ("detach", "suspend", "repaint", "help", "no", "scrolled")
 
 # So many seconds a line stands that tells how the session is made as large as the terminal.
 FITS_TOLD = 3.0
+
+# So many seconds later it is looked again whether the panes are told, before the session is fitted to the terminal.
+FITS_AGAIN = 0.3
 
 # For so many seconds a session is new, and goes by its terminal's size, whatever that is: a window may get its size once it is there.
 NEW = 2.0
@@ -39,9 +43,9 @@ NEW = 2.0
 class Commands:
     """The keys of one person, and what they ask for."""
 
-    def __init__(self, session: AnySession, link: StartLink, display: Display, loop: Loop, leave: Callable[[str | None], None],
-                 is_new: Callable[[], bool] = lambda: False) -> None:
-        self.session, self.link, self.display, self.loop, self.leave = session, link, display, loop, leave
+    def __init__(self, session: AnySession, panes: PanesFollower, link: StartLink, display: Display, loop: Loop,
+                 leave: Callable[[str | None], None], is_new: Callable[[Places | None], bool] = lambda places: False) -> None:
+        self.session, self.panes, self.link, self.display, self.loop, self.leave = session, panes, link, display, loop, leave
         self.keys = Keys()
         self.prefix = "C-b"
         self.typing = Typing()
@@ -49,9 +53,10 @@ class Commands:
         self.paused = False
         # Whether the session is new, and whether it and this terminal were fitted to each other once, as far as that may be.
         self.is_new, self.is_fitted, self.new_until = is_new, False, 0.0
-        # When a command of this person moved the focus, from which pane, and to which, where that is known.
-        self.moved_at, self.moved_from = 0.0, 0
+        # Where a command of this person moved the focus, since it was told: to a pane, or to one that isn't known, 0; and what was told
+        # then.
         self.moved_to: int | None = None
+        self.moved_from: Places | None = None
 
     def choose(self, prefix: str) -> None:
         """Makes the key of a name the prefix."""
@@ -97,18 +102,28 @@ class Commands:
         self.link.type(*acts, is_pasted=is_pasted)
         for act in acts:
             word, _, pane = act.partition(" ")
-            if word in ("focus", "next", "split", "close"):
-                places = self.session.places()
-                self.moved_from = places.focus if places else 0
-                self.moved_at, self.moved_to = time.monotonic(), int(pane) if word == "focus" else None
+            if word in MOVES:
+                self.move(word, int(pane) if word == "focus" else 0)
+
+    def move(self, word: str, pane: int) -> None:
+        """Takes note that this person moves the focus, to a pane or to one that isn't known: what was told of it isn't so then. What moves
+        nothing is never told."""
+        places = self.panes.places
+        others = [other for other in places.rects if other != places.focus] if places else [pane]
+        if self.moved_to is not None or word in ("split", "close") or (pane in others if word == "focus" else others):
+            self.moved_to, self.moved_from = pane, places
+
+    def told(self) -> None:
+        """Takes note that something is told of the panes: where the focus is now, if that or a pane is new."""
+        now, before = self.panes.places, self.moved_from
+        if now is None or before is None or now.focus == self.moved_to or (now.focus, now.rects) != (before.focus, before.rects):
+            self.moved_to = None
+        self.fit_first()
 
     def places(self) -> Places | None:
-        """Where the panes are, with the focus where this person put it: 0 where that may not be told yet."""
-        places = self.session.places()
-        if places is None:
-            return None
-        is_told = places.focus == self.moved_to if self.moved_to else places.focus != self.moved_from
-        if is_told or time.monotonic() > self.moved_at + UNTOLD:
+        """Where the panes are, with the focus where this person put it: 0 where that isn't told yet."""
+        places = self.panes.places
+        if places is None or self.moved_to is None:
             return places
         return places._replace(focus=self.moved_to if self.moved_to in places.rects else 0)
 
@@ -158,7 +173,7 @@ class Commands:
 
     def session_size(self) -> tuple[int, int]:
         """The rows and columns that the session has at most, by what was painted and what is told; 0 where nothing is known."""
-        places, painted = self.session.places(), self.display.extent.size
+        places, painted = self.panes.places, self.display.extent.size
         told = places.size() if places else (0, 0)
         return max(told[0], painted[0]), max(told[1], painted[1])
 
@@ -166,9 +181,14 @@ class Commands:
         """Fits the session to this terminal, once something is known of it: a new one has nothing yet that could be cut."""
         if self.is_fitted:
             return
-        self.is_fitted = self.session_size() != (0, 0) or not terminal.is_large_enough(self.display.outer.size())
-        if self.is_new():
+        if self.is_new(self.panes.places):
             self.is_fitted, self.new_until = True, time.monotonic() + NEW
+        elif self.panes.is_awaited():
+            # What is told soon may be larger than what was painted so far.
+            self.loop.later("fit", FITS_AGAIN, self.fit_first)
+            return
+        else:
+            self.is_fitted = self.session_size() != (0, 0) or not terminal.is_large_enough(self.display.outer.size())
         self.fit()
 
     def is_fresh(self) -> bool:
@@ -222,7 +242,7 @@ class Commands:
         """Puts the pane on a side in focus; the next one where no rectangle is known."""
         places = self.places()
         if places and not places.focus:
-            places = self.session.places()
+            places = self.panes.places
         pane = places.neighbour(way) if places else None
         if pane or not places:
             self.act(f"focus {pane}" if pane else "next")

@@ -10,14 +10,14 @@ import time
 from collections.abc import Iterable
 
 from roam_live.asking import close_standard, forget_note, is_wanted, made_path, name_in, part_from_command, take_over
-from roam_live.bells import BellFollower
 from roam_live.carriers import Carrier, is_datagram
 from roam_live.ends import FORGOTTEN_AFTER, PEER_LIMIT, SIGNALS, Ended, Options, end_for, loopback_socket, received
 from roam_live.loops import Loop, is_taken
 from roam_live.program import Fault, connected_now, noted_front_end, opened_process
-from roam_live.relayed import BELL, ENDED, KEYPAD, KILLED, LEAVES, PLACES_LIMIT, RECTS, WANTS, RelayStream, Waiting
+from roam_live.relayed import ENDED, KILLED, LEAVES, WANTS, RelayStream, Waiting
 from roam_live.sealed import PORTS, udp_end
 from roam_live.sessions import FolderSession
+from roam_live.streams import CARRIES
 from roam_live.watches import ShellsWatch
 from roam_live.ways import Ways, finish
 
@@ -29,9 +29,6 @@ if TYPE_CHECKING:
 # over holidays.
 ALONE = 30.0
 FAR_WAIT = 7 * 24 * 3600.0
-
-# So many seconds after something was painted it is looked anew where the panes are.
-LOOK = 0.1
 
 
 class Far:
@@ -46,15 +43,9 @@ class Far:
         # Nobody else may be there to see the shells' end.
         self.place = FolderSession(asked.dir, server=asked.server) if asked.server and asked.dir else None
         self.shells = ShellsWatch(self.place, self.loop) if self.place else None
-        self.bells = BellFollower(asked.dir, self.loop, lambda pane: self.tell(BELL + bytes([pane])))
         self.waiting = Waiting()
         self.sockets: dict[int, socket.socket | Carrier] = {}
         self.moments: dict[int, float] = {}
-        # What the other end was told by the way that there is: where panes are, which keypads are an application's, and of which it knows.
-        self.rects: bytes | None = None
-        self.keypads: set[int] = set()
-        self.known_keypads: set[int] = set()
-        self.told_by: Path | RelayStream | None = None
         # What holds the command while this goes on in another process; the near end's name, and the note by which the next far end of it
         # ends this one.
         self.held: int | None = None
@@ -67,7 +58,9 @@ class Far:
         if asked.greeted:
             self.stream.session = "-"
         self.ways = Ways(self.loop)
-        self.ways.stream = self.stream
+        self.ways.take_stream(self.stream, self.opened_socket)
+        # An earlier far end doesn't carry connections, and says nothing of it.
+        self.stream.tell(0, CARRIES)
         self.loop.add(1, None, self.flush, has_more=lambda: self.stream.going)
         self.loop.add(0, self.hear)
         self.is_counted = False
@@ -109,6 +102,12 @@ class Far:
         for peer in [peer for peer, moment in self.moments.items() if moment + FORGOTTEN_AFTER < time.monotonic()]:
             self.drop(peer)
 
+    def opened_socket(self, name: str) -> socket.socket:
+        """A connection to a socket of the session's folder, of those that are carried; OSError where it can't be had."""
+        if not self.asked.dir:
+            raise FileNotFoundError(name)
+        return connected_now(os.path.join(self.asked.dir, name))
+
     # ---- what the other end is told
 
     def has_command(self) -> bool:
@@ -118,38 +117,6 @@ class Far:
     def way(self) -> Path | RelayStream | None:
         """What carries what waits."""
         return self.ways.chosen(self.has_command())
-
-    def tell(self, text: bytes) -> None:
-        """Tells the other end something of the session."""
-        way = self.way()
-        if way:
-            way.tell(0, text)
-
-    def tell_rects(self, folder: str) -> None:
-        """Tells where the panes are, where that is another place than it was."""
-        try:
-            with open(os.path.join(folder, "rects"), "rb") as text:
-                rects = text.read(PLACES_LIMIT)
-        except OSError:
-            return
-        if rects != self.rects:
-            self.rects = rects
-            self.tell(RECTS + rects)
-
-    def tell_keypads(self) -> None:
-        """Tells how keypads are, where that is another way than it was."""
-        for pane in self.keypads ^ self.bells.keypads:
-            self.known_keypads.add(pane)
-            self.tell(KEYPAD + bytes([pane, pane in self.bells.keypads]))
-        self.keypads = set(self.bells.keypads)
-
-    def tell_anew(self) -> None:
-        """Has all be told again, where another way carries it: what was told by the one before may be lost."""
-        way = self.way()
-        if self.told_by and way is not self.told_by:
-            self.rects = None
-            self.keypads = self.known_keypads - self.bells.keypads
-        self.told_by = way
 
     def tell_end(self) -> None:
         """Tells that the session has ended, or that its server was killed, and ends."""
@@ -192,6 +159,8 @@ class Far:
                 self.make_path(name_in(text))
             elif peer == 0 and text == LEAVES:
                 raise Ended(0)
+            elif peer == 0 and self.stream.streams:
+                self.stream.streams.take(text)
         self.drop_silent()
 
     # ---- the path beside the command
@@ -211,7 +180,7 @@ class Far:
             self.count_itself(True)
         made = made_path(end)
         if made:
-            self.ways.take_path(made[0], self.hear_path)
+            self.ways.take_path(made[0], self.hear_path, self.opened_socket)
             self.name, self.note = name, take_over(self.asked.dir, name)
             self.stream.tell(0, made[1])
 
@@ -221,7 +190,7 @@ class Far:
             raise Ended(0)
         for end in (self.stream.source, self.stream.target):
             self.loop.remove(end)
-        self.ways.stream = None
+        self.ways.drop_stream()
         self.ways.rest()
         self.let_go_at = time.monotonic()
         try:
@@ -287,8 +256,6 @@ class Far:
             self.drop(peer)
         for datagram in datagrams or []:
             self.waiting.add(peer, datagram)
-        # What is painted now may stand in other places, which are noted a moment later.
-        self.loop.later("look", LOOK, lambda: None)
 
     def flush_server(self, peer: int, carrier: Carrier) -> None:
         """Writes what the server takes of a client's; one that it has left is forgotten."""
@@ -299,10 +266,6 @@ class Far:
         """Tells what is new, and by when something is due."""
         self.ways.rest()
         self.renew()
-        self.tell_anew()
-        if self.asked.dir:
-            self.tell_rects(self.asked.dir)
-        self.tell_keypads()
         self.ways.fill(self.waiting, self.has_command())
         self.end_alone()
         self.count_itself(self.has_command() or self.ways.path is not None and not self.ways.path.is_asleep())
@@ -318,5 +281,6 @@ class Far:
         for peer in list(self.sockets):
             self.drop(peer)
         self.ways.drop_path()
+        self.ways.drop_stream()
         self.count_itself(False)
         forget_note(self.note)

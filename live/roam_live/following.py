@@ -1,45 +1,64 @@
 """The connection at which a server tells where its panes are, for a program that follows them as long as the server is there."""
 from __future__ import annotations
 
+import os
 import socket
 from collections.abc import Callable
 
 from roam_live.loops import Loop
-from roam_live.program import Lines, connected, connected_now, read, reason, say, write
+from roam_live.places import Places, ToldPanes
+from roam_live.program import Lines, SocketPeer, connected, connected_now, read, reason, runs_program, say, write
 
-# The pauses before a connection that the server ended is had again; why it can't be is told once it took longer than the first of them.
+TYPE_CHECKING = False
+if TYPE_CHECKING:
+    import pathlib
+
+# The pauses before a connection that was lost is had again; why it can't be is told once it took longer than the first of them.
 PAUSES = (0.1, 1, 2, 4, 8, 15)
-LET_GO = "the server lets this go, as where eight others follow the panes"
+LET_GO = "the server lets this go, as where as many others follow the panes as may"
 
 # So many seconds a server has until it tells something: it may have taken none of those that came.
 QUIET = 3.0
 TELLS_NOTHING = "the server tells nothing, as where no descriptor is left for it"
 
+# A connection that ended sooner is had again after a longer pause, whatever it told: so two keepers of shells, who take the server's one place
+# for them from each other, do so ever more seldom.
+SOUND = 5.0
+
+# What a server is told by the keeper of shells, for which it has a place of its own.
+KEEPER = "keeper"
+
+# Where nobody tells where the panes are it isn't said before so many tries, since who tells it may come a moment later; and for so many
+# seconds a front end takes it that it will be told.
+TRIES = 3
+AWAITED = 10.0
+UNTOLD = "where panes are isn't told, as by an earlier roam; an arrow goes to the next"
+NOR_BELLS = "panes and bells aren't told, as by an earlier roam; an arrow goes to the next"
+NO_PLACE = "no more may follow where panes are; an arrow goes to the next pane"
+
 
 class Following:
-    """Follows a socket `panes`: a call for the lines that came, and one where the connection is lost. One that ends is had again after
-    pauses, where the server isn't gone with it."""
+    """Follows a socket `panes`, which a call connects to: a call for the lines that came, and one where the connection is lost. It is had
+    again then after pauses, for as long as this is there."""
 
-    def __init__(self, path: str, loop: Loop, hears: Callable[[list[str]], object], loses: Callable[[], object],
-                 tells: Callable[[str], None] = say) -> None:
-        self.path, self.loop, self.hears, self.loses, self.tells = path, loop, hears, loses, tells
+    def __init__(self, connects: Callable[[], socket.socket], loop: Loop, hears: Callable[[list[str]], object],
+                 loses: Callable[[], object]) -> None:
+        self.connects, self.loop, self.hears, self.loses = connects, loop, hears, loses
         self.peer: socket.socket | None = None
         self.lines = Lines()
         self.waiting = bytearray()
-        # How often in a row nothing came.
+        # How often in a row nothing came, and why; when the connection was had, and how many in a row ended soon.
         self.faults = 0
-        # Why it can't follow, and what was told of that.
-        self.why = self.told = ""
-        # Whether the server is gone, as far as its socket tells.
+        self.why = ""
+        self.since, self.soon = 0.0, 0
+        # Whether nobody is there, as far as the socket tells.
         self.is_gone = False
-        self.begin(connected(path))
 
     def begin(self, peer: socket.socket) -> None:
-        """Follows a connection that is there; something has to come soon."""
-        self.peer, self.lines = peer, Lines()
+        """Follows a connection that is there."""
+        self.peer, self.lines, self.since = peer, Lines(), self.loop.clock()
         self.waiting.clear()
         self.loop.add(peer, self.hear, lambda: write(peer.fileno(), self.waiting), has_more=lambda: self.waiting)
-        self.loop.later("panes are quiet", QUIET, lambda: self.tell(TELLS_NOTHING))
 
     def ask(self, line: str) -> None:
         """Asks the server for something, while it is followed."""
@@ -55,25 +74,73 @@ class Following:
         lines = self.lines.fed(piece or b"")
         if lines:
             self.faults = 0
-            self.loop.drop("panes are quiet")
-            if self.told:
-                self.told = ""
-                self.tells("the panes are followed again")
             self.hears(lines)
 
     def lost(self, why: str) -> None:
         """Lets go of a connection, which is had again after a pause."""
         if self.peer:
+            self.soon = self.soon + 1 if self.loop.clock() < self.since + SOUND else 1
+        self.leave()
+        self.why = why
+        self.loop.later("follow panes", PAUSES[min(self.pauses(), len(PAUSES) - 1)], self.connect)
+        self.faults += 1
+        self.loses()
+
+    def pauses(self) -> int:
+        """How many pauses were had in a row, each of which is longer than the one before."""
+        return max(self.faults, self.soon - 1)
+
+    def leave(self) -> None:
+        """Lets go of the connection."""
+        if self.peer:
             self.loop.remove(self.peer)
             self.peer.close()
             self.peer = None
-        self.why = why
+
+    def connect(self) -> None:
+        """Connects. What is told then is all anew, and what was asked is asked again by who needs it."""
+        try:
+            self.begin(self.connects())
+            self.is_gone = False
+        except OSError as fault:
+            self.is_gone = isinstance(fault, (FileNotFoundError, ConnectionRefusedError, PermissionError))
+            self.lost(reason(fault))
+
+
+class KeeperFollowing(Following):
+    """Follows the panes of a folder's server, of this machine, for what keeps their shells: it says so, and what is wrong is told in words,
+    once, and that it is over."""
+
+    def __init__(self, path: str, loop: Loop, hears: Callable[[list[str]], object], loses: Callable[[], object],
+                 tells: Callable[[str], None] = say) -> None:
+        super().__init__(lambda: connected_now(path), loop, self.heard, loses)
+        self.takes, self.tells, self.told = hears, tells, ""
+        peer = connected(path)
+        # The process that serves, where the system tells it here.
+        self.server = SocketPeer.of(peer).process
+        self.begin(peer)
+
+    def begin(self, peer: socket.socket) -> None:
+        """Follows a connection that is there; something has to come soon. An earlier server doesn't know who keeps the shells."""
+        super().begin(peer)
+        if runs_program(peer):
+            self.ask(KEEPER)
+        self.loop.later("panes are quiet", QUIET, lambda: self.tell(TELLS_NOTHING))
+
+    def heard(self, lines: list[str]) -> None:
+        """Takes lines that came."""
         self.loop.drop("panes are quiet")
-        self.loop.later("follow panes", PAUSES[min(self.faults, len(PAUSES) - 1)], self.connect)
-        self.faults += 1
-        if self.faults > 1 and not self.is_gone:
+        if self.told:
+            self.told = ""
+            self.tells("the panes are followed again")
+        self.takes(lines)
+
+    def lost(self, why: str) -> None:
+        """Lets go of a connection, and tells why where that isn't over soon; of a server that is gone another tells."""
+        self.loop.drop("panes are quiet")
+        if self.faults and not self.is_gone:
             self.tell(why)
-        self.loses()
+        super().lost(why)
 
     def tell(self, why: str) -> None:
         """Tells once why it can't follow."""
@@ -81,11 +148,51 @@ class Following:
             self.why, self.told = why, f"the panes can't be followed: {why}"
             self.tells(self.told)
 
-    def connect(self) -> None:
-        """Connects anew. What is told then is all anew, and what was asked is asked again by who needs it."""
-        try:
-            self.begin(connected_now(self.path))
-            self.is_gone = False
-        except OSError as fault:
-            self.is_gone = isinstance(fault, (FileNotFoundError, ConnectionRefusedError, PermissionError))
-            self.lost(reason(fault))
+
+class PanesFollower:
+    """What a front end knows of a session's panes: where they are, None where that isn't told. A call is for what is new of that, and one
+    for why it can't be told here, which a person is told once."""
+
+    def __init__(self, folder: pathlib.Path | None, loop: Loop, changed: Callable[[], object], tells: Callable[[str], object]) -> None:
+        self.folder, self.loop, self.changed, self.tells = folder, loop, changed, tells
+        self.told = ToldPanes()
+        self.places: Places | None = None
+        self.has_said = False
+        self.awaited_until = loop.clock() + AWAITED if folder else 0.0
+        path = os.path.join(folder, "panes") if folder else ""
+        self.following = Following(lambda: connected_now(path), loop, self.hear, self.lose)
+        if folder:
+            self.following.connect()
+
+    def is_awaited(self) -> bool:
+        """Whether nothing is told yet, and something may be soon."""
+        return self.places is None and not self.has_said and self.loop.clock() < self.awaited_until
+
+    def is_full(self) -> bool:
+        """Whether the server is known to have had as many starts as it ever has."""
+        return self.places is not None and self.places.is_full()
+
+    def hear(self, lines: list[str]) -> None:
+        """Takes what was told."""
+        if not any([self.told.take(line) for line in lines]) and not self.places:
+            self.say(UNTOLD)
+        before, self.places = self.places, self.told.places()
+        if self.places != before:
+            self.changed()
+
+    def lose(self) -> None:
+        """Goes on without, until it is told anew; where it stays so from the beginning that is said."""
+        following, was_told = self.following, self.places is not None
+        self.told, self.places = ToldPanes(), None
+        if was_told:
+            self.changed()
+        if following.faults >= TRIES and following.is_gone and self.folder:
+            self.say(UNTOLD if os.path.exists(os.path.join(self.folder, "bells")) else NOR_BELLS)
+        elif following.faults >= TRIES and following.why == LET_GO:
+            self.say(NO_PLACE)
+
+    def say(self, words: str) -> None:
+        """Says something once."""
+        if not self.has_said:
+            self.has_said = True
+            self.tells(words)

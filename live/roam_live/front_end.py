@@ -10,6 +10,7 @@ from roam_live.bells import BellFollower
 from roam_live.bindings import NEWEST
 from roam_live.commands import Commands
 from roam_live.display import Display
+from roam_live.following import PanesFollower
 from roam_live.links import Keeper, StartLink
 from roam_live.loops import Loop
 from roam_live.program import noted_front_end, opened_process, read, woken, write
@@ -18,6 +19,7 @@ from roam_live.watches import ShellsWatch
 TYPE_CHECKING = False
 if TYPE_CHECKING:
     from roam_live.any_session import AnySession
+    from roam_live.places import Places
 
 # So many bytes may wait for the terminal, and so many for the session, before what brings more is left alone.
 PAINTED_LIMIT = 1 << 16
@@ -26,9 +28,6 @@ TYPED_LIMIT = 1 << 24
 # While a terminal is drawn larger by hand it has hundreds of sizes: the session gets one that has stood for so many seconds. Of one that it
 # had got before a smaller followed it would be cut.
 SIZES = 0.3
-
-# So many seconds after something was painted it is looked anew where the focus is, for the keypad: what is noted of that comes later.
-LOOKS = (0.1, 0.5, 2.0)
 
 # How often it is looked whether the server is there, where no process is known.
 PROBES = 2.0
@@ -46,7 +45,7 @@ SILENCE = re.compile(rb"(\x1b7\x1b\[\?7l\x1b\[999;1H\x1b\[0;7mroam: no answer fo
 class FrontEnd:
     """A person at a terminal, and the session there."""
 
-    def __init__(self, session: AnySession, watches: bool, prefix: str, guessing: str, is_new: Callable[[], bool],
+    def __init__(self, session: AnySession, watches: bool, prefix: str, guessing: str, is_new: Callable[[Places | None], bool],
                  loop: Loop | None = None) -> None:
         self.session, self.loop = session, loop or Loop()
         self.left: str | None = None
@@ -56,9 +55,10 @@ class FrontEnd:
         self.server = opened_process(served) if served else None
         self.shells = ShellsWatch(session, self.loop, lambda line: self.display.tell(line, LOSS_TOLD))
         self.link = StartLink(session.terminals, watches, guessing)
-        self.keeper = Keeper(session, self.link)
         self.display = Display(self.loop, lambda: self.link.say("repaint"))
-        self.commands = Commands(session, self.link, self.display, self.loop, self.leave, is_new)
+        self.panes = PanesFollower(session.folder, self.loop, lambda: self.commands.told(), lambda line: self.display.tell(line, LOSS_TOLD))
+        self.keeper = Keeper(session, self.link, self.panes.is_full)
+        self.commands = Commands(session, self.panes, self.link, self.display, self.loop, self.leave, is_new)
         self.commands.choose(prefix)
         self.bells = BellFollower(session.folder, self.loop, self.commands.ring, lambda words: self.display.tell(words, LOSS_TOLD))
         self.join()
@@ -155,7 +155,7 @@ class FrontEnd:
         """Waits until something can be done, and does it. What is at hand goes at once, where it is taken: a person waits for each key."""
         self.loop.turn()
         if self.has_keypads():
-            places = self.session.places()
+            places = self.panes.places
             self.display.set_keypad(places is not None and places.focus in self.bells.keypads)
         if self.link.peer and self.link.waiting:
             self.send()
@@ -180,8 +180,6 @@ class FrontEnd:
             self.lost()
         elif piece:
             self.display.painted(SILENCE.sub(rb"\1; %s d leaves\2" % self.commands.prefix.encode(), piece))
-            for seconds in LOOKS if self.has_keypads() else ():
-                self.loop.later(f"look after {seconds}", seconds, lambda: None)
             if not self.commands.is_fitted and "size" not in self.loop.due:
                 self.loop.later("size", SIZES, self.commands.fit_first)
 
@@ -214,7 +212,8 @@ class FrontEnd:
         return self.status
 
 
-def follow(session: AnySession, watches: bool, prefix: str, guessing: str, is_new: Callable[[], bool] = lambda: False) -> int:
+def follow(session: AnySession, watches: bool, prefix: str, guessing: str,
+           is_new: Callable[[Places | None], bool] = lambda places: False) -> int:
     """Has a person follow a session at this terminal, and tells the status; guesses are shown always, where that helps, or never. Where the
     session is new, which may be known a moment later, it gets this terminal's size, whatever that is."""
     note = None

@@ -4,6 +4,7 @@ from __future__ import annotations
 import os
 import socket
 import time
+from collections.abc import Callable
 
 from roam_live.loops import READ, WRITE, comes, ready
 from roam_live.program import Fault, connected_now, read, reason, runs_program
@@ -134,8 +135,8 @@ class StartLink:
 class Keeper:
     """Has a link connected: to the start that is there, or to another, which is spawned after pauses that grow."""
 
-    def __init__(self, session: AnySession, link: StartLink) -> None:
-        self.session, self.link = session, link
+    def __init__(self, session: AnySession, link: StartLink, is_full: Callable[[], bool] = lambda: False) -> None:
+        self.session, self.link, self.is_full = session, link, is_full
         self.faults = 0
         self.begun_at = 0.0
         self.start: int | None = None
@@ -177,7 +178,7 @@ class Keeper:
             return self.failed(f"no client start is ready: {why}")
         if not self.session.is_served():
             return self.failed(f"no server is {self.session}")
-        if self.session.is_full():
+        if self.is_full():
             return self.failed("the server has had the 64 client starts of its life, and hears no other")
         return self.begin(now)
 

@@ -12,23 +12,25 @@ import time
 from collections.abc import Callable, Iterator
 
 from roam_live.asking import Finder, NearPath, is_wanted, kept_name, near_path, wish
-from roam_live.bells import BellSource
 from roam_live.carriers import Carrier, is_datagram
 from roam_live.ends import FORGOTTEN_AFTER, PEER_LIMIT, Ended, Options, end_for, loopback_socket, received
 from roam_live.lasting import Lasting
 from roam_live.listeners import Listener
 from roam_live.loops import Loop
+from roam_live.near_sockets import NearSockets
 from roam_live.program import Fault, count_front_ends, logs, make_room_in_logs, opened_process, read, reason, replace_text, say
-from roam_live.relayed import BELL, ENDED, KEYPAD, KILLED, LEAVES, RECTS, SEALED, BadWords, RelayStream, Waiting
+from roam_live.relayed import ENDED, KILLED, LEAVES, SEALED, BadWords, RelayStream, Waiting
+from roam_live.streams import BadStream
 from roam_live.ways import SOUND, Ways, finish
 from roam_live.words import Said
 
 TYPE_CHECKING = False
 if TYPE_CHECKING:
-    from typing import IO
+    from typing import IO, Any
 
     from roam_live.ends import Address
     from roam_live.paths import Path
+    from roam_live.streams import Streams
 
 # After so many seconds of silence another command is spawned.
 SILENT = 7.0
@@ -165,7 +167,7 @@ class Near:
         if self.port:
             self.loop.add(self.port, self.hear_port)
         self.listener = self.listening(asked.dir) if asked.dir else None
-        self.bells = BellSource(asked.dir, self.loop) if asked.dir else None
+        self.sockets = NearSockets(asked.dir, self.loop, self.carrying) if asked.dir else None
         self.lasting = Lasting(asked.dir) if asked.dir else None
         self.carriers: list[Carrier] = []
         self.waiting = Waiting()
@@ -174,6 +176,9 @@ class Near:
         self.ways = Ways(self.loop)
         self.finder = Finder(asked.host)
         self.link: RunningCommand | None = None
+        # Whether the far end carries connections; None where that isn't known yet.
+        self.carries: bool | None = None
+        self.has_told_lack = False
         self.tries: list[RunningCommand] = []
         self.ending: list[RunningCommand] = []
         self.has_answered = self.is_told = False
@@ -193,7 +198,7 @@ class Near:
         return self.link is not None and (self.ways.rests or not self.link.stream.is_silent(SILENT))
 
     def is_silent(self) -> bool:
-        """Whether there is neither a path nor a link that is known to carry anything."""
+        """Whether there is neither a path nor a command that is known to carry anything."""
         return not self.ways.is_sound() and not self.has_live_link()
 
     def way(self) -> Path | RelayStream | None:
@@ -240,7 +245,8 @@ class Near:
         self.ending.append(link)
         self.tries = [other for other in self.tries if other is not link]
         if self.link is link:
-            self.link = self.ways.stream = None
+            self.link = None
+            self.ways.drop_stream()
 
     def drop_tries(self) -> None:
         """Has the commands end that aren't needed any more."""
@@ -248,7 +254,7 @@ class Near:
             self.drop(link)
         if self.is_told:
             self.is_told = False
-            say("the link is back")
+            say("the other end answers again")
 
     def lost(self, link: RunningCommand) -> None:
         """Goes on without a command that has ended."""
@@ -260,7 +266,7 @@ class Near:
                 raise Fault(line)
             say(line)
 
-    def refuse(self, link: RunningCommand, fault: BadWords) -> None:
+    def refuse(self, link: RunningCommand, fault: BadWords | BadStream) -> None:
         """Goes on without a command whose other end said what can't be; a first one that did is told of, and ends this."""
         if not self.has_answered:
             raise fault
@@ -279,15 +285,15 @@ class Near:
             raise Ended(0)
 
     def answered(self, link: RunningCommand, session: str) -> None:
-        """Takes a command as the link, now that its other end has answered for a session."""
+        """Takes a command as the one that carries, now that its other end has answered for a session."""
         if self.session not in ("-", session):
             self.is_over = True
             raise Ended(0)
         self.tries.remove(link)
         for old in [*self.tries, *([self.link] if self.link else [])]:
             self.drop(old)
-        self.link, self.session = link, session
-        self.ways.stream = link.stream
+        self.link, self.session, self.carries = link, session, None
+        self.ways.take_stream(link.stream)
         self.ask_for_path()
         if self.has_answered:
             return
@@ -311,7 +317,9 @@ class Near:
                 self.answered(link, link.stream.session)
             for peer, text in frames:
                 self.take(peer, text)
-        except BadWords as fault:
+            if link is self.link and link.stream.carries is not self.carries:
+                self.note_carrying(link.stream.carries)
+        except (BadWords, BadStream) as fault:
             self.refuse(link, fault)
 
     def take(self, peer: int, text: bytes) -> None:
@@ -323,14 +331,27 @@ class Near:
         elif text in (ENDED, KILLED):
             self.is_over, self.ended = True, "killed" if text == KILLED else ""
             raise Ended(0)
-        elif text[:1] == RECTS and self.asked.dir:
-            self.note_places(self.asked.dir, text[1:].decode("utf-8", "replace"))
-        elif text[:1] == BELL and self.bells:
-            self.bells.tell(text[1])
-        elif text[:1] == KEYPAD and self.bells:
-            self.bells.tell_keypad(text[1], text[2] == 1)
         elif text[:1] == SEALED:
             self.take_path(near_path(text))
+        elif self.link and self.link.stream.streams:
+            self.link.stream.streams.take(text)
+
+    # ---- connections to the other machine's sockets
+
+    def note_carrying(self, carries: bool | None) -> None:
+        """Takes note of whether the far end carries connections: the sockets that stand for those there are here while it does."""
+        self.carries = carries
+        if self.sockets and carries:
+            self.sockets.open()
+        elif self.sockets and carries is not None:
+            self.sockets.close()
+            if not self.has_told_lack:
+                self.has_told_lack = True
+                say("the other machine's roam is an earlier one: it tells neither where panes are nor that one rings")
+
+    def carrying(self) -> Streams[Any] | None:
+        """What carries connections now; None where nothing does."""
+        return self.ways.carrier.streams if self.carries and self.ways.carrier else None
 
     # ---- the path beside the command
 
@@ -369,14 +390,7 @@ class Near:
             finish(path, END_WAIT)
         self.ways.drop_path()
 
-    # ---- places and clients
-
-    def note_places(self, folder: str, places: str) -> None:
-        """Notes where the panes are; where that can't be written it is told of, and the next is tried."""
-        try:
-            replace_text(os.path.join(folder, "rects"), places)
-        except OSError as fault:
-            say(f"rects: {reason(fault)}")
+    # ---- clients
 
     def deliver(self, peer: int, datagram: bytes) -> None:
         """Hands a client its datagram, where it is still known."""
@@ -435,6 +449,8 @@ class Near:
             self.lasting.turn()
         self.tend_path()
         self.ways.fill(self.waiting, self.has_live_link())
+        if self.sockets:
+            self.sockets.wake()
         return min(self.moments(), default=None)
 
     def moments(self) -> list[float]:
@@ -458,7 +474,7 @@ class Near:
             link.status()
         for carrier in list(self.carriers):
             self.part(carrier)
-        for source in (self.listener, self.bells):
+        for source in (self.listener, self.sockets):
             if source:
                 source.close()
         if self.asked.dir:
@@ -468,5 +484,4 @@ class Near:
         """Notes in the folder what has ended, and removes what lies there of this end."""
         if self.is_over:
             replace_text(os.path.join(folder, "ended"), self.ended)
-        for name in ("session", "rects"):
-            pathlib.Path(folder, name).unlink(missing_ok=True)
+        pathlib.Path(folder, "session").unlink(missing_ok=True)

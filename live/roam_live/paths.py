@@ -14,25 +14,37 @@ from collections import deque, namedtuple
 from collections.abc import Callable, Iterable, Iterator, Sequence
 
 from roam_live.bundles import LARGE, NOW, ONCE_KIND, PIECE, PIECE_KIND, SOON, WHOLE, WHOLE_KIND, Bundles, Piece
-from roam_live.relayed import BELL, ENDED, KEYPAD, LEAVES, RECTS, BadWords, Waiting, demand_length, demand_told
+from roam_live.path_streams import STREAM, STREAM_KIND, TAKEN_KIND, PathStreams, StreamPiece
+from roam_live.relayed import ENDED, LEAVES, BadWords, Waiting, demand_length, demand_told
 from roam_live.sealed import LONGEST_PACKET, LONGEST_TEXT, Seal, Window, came_to, send, udp_end
+from roam_live.streams import TAKEN_COUNT
 
 TYPE_CHECKING = False
 if TYPE_CHECKING:
+    from typing import Union
+
     from roam_live.loops import Loop
     from roam_live.sealed import Beside, Place
+
+    # What goes in a packet: a piece of a bundle, or of a connection.
+    AnyPiece = Union[Piece, StreamPiece]
 
 # The newest counter that came, its lowest 32 bits; the milliseconds since then; and how many bytes of a mask follow.
 HEAD = struct.Struct(">IHB")
 LONGEST_MASK = 32
 LONGEST_HELD = 65535
 
+# How the frames of a packet are laid out, by their kinds.
+LAYOUTS = {PIECE_KIND: PIECE, ONCE_KIND: PIECE, WHOLE_KIND: WHOLE, STREAM_KIND: STREAM, TAKEN_KIND: TAKEN_COUNT}
+
 # What asks for an answer: a small one, or one of the largest size.
 ASKS, ASKS_LARGE = b"a", b"l"
 
-# What an end tells of itself, and behind a bell how many its pane has had.
-TOLD = (ENDED, RECTS, BELL, KEYPAD, LEAVES)
-COUNT = struct.Struct(">I")
+# What an end tells of itself.
+TOLD = (ENDED, LEAVES)
+
+# Every so manieth packet begins with connections, where bundles take all of the others.
+TURN_OF_STREAMS = 4
 
 # What came is told within so many seconds, in what goes anyway or alone, and what came of a large bundle sooner, or once so many packets
 # came; and for so long it is told again. A client's answer comes after 100 ms.
@@ -91,7 +103,7 @@ class SentPacket(namedtuple("SentPacket", "moment size pieces arrived held")):
 
     moment: float
     size: int
-    pieces: tuple[Piece, ...]
+    pieces: tuple[AnyPiece, ...]
     arrived: int
     held: float
 
@@ -217,41 +229,30 @@ class Trips:
         self.lost += (1 - self.lost) * LOSS_WEIGHT
 
 
-def name_of(text: bytes) -> bytes:
-    """What a text of peer 0 tells of: a kind, or a pane's."""
-    return text[:2] if text[:1] in (BELL, KEYPAD) else text[:1]
-
-
 class States:
     """What the ends tell each other of themselves: the newest of each kind goes, all together, so that nothing needs an order."""
 
     def __init__(self) -> None:
         self.going: dict[bytes, bytes] = {}
-        self.rang: dict[bytes, int] = {}
         self.came: dict[bytes, bytes] = {}
         self.is_sent = True
 
     def tell(self, text: bytes) -> None:
-        """Takes what is told, in place of what was told before of the same. Of bells it is their count."""
-        name = name_of(text)
-        if text[:1] == BELL:
-            self.rang[name] = self.rang.get(name, 0) + 1
-            text += COUNT.pack(self.rang[name] & 0xFFFFFFFF)
-        self.going[name] = text
+        """Takes what is told, in place of what was told before of the same."""
+        self.going[text[:1]] = text
         self.is_sent = False
 
     def news(self, text: bytes) -> bytes | None:
-        """What is new of what came; None where nothing is, and where it can't be."""
-        told = text[: -COUNT.size] if text[:1] == BELL else text
+        """What is new of what came; None where nothing is, and where it can't be. An earlier end tells of panes too."""
         try:
-            demand_length(0, len(told))
-            demand_told(told)
+            demand_length(0, len(text))
+            demand_told(text)
         except BadWords:
             return None
-        if text[:1] not in TOLD or self.came.get(name_of(text)) == text:
+        if text[:1] not in TOLD or self.came.get(text[:1]) == text:
             return None
-        self.came[name_of(text)] = text
-        return told
+        self.came[text[:1]] = text
+        return text
 
 
 class HeardPackets:
@@ -317,7 +318,7 @@ def frames_in(text: bytes, begin: int) -> Iterator[tuple[bytes, tuple[int, ...],
     """The frames of a packet's text, from a place on: each its kind, its numbers and its bytes. Behind one that isn't known is none."""
     while begin < len(text):
         kind = text[begin : begin + 1]
-        layout = {PIECE_KIND: PIECE, ONCE_KIND: PIECE, WHOLE_KIND: WHOLE}.get(kind)
+        layout = LAYOUTS.get(kind)
         if not layout:
             yield kind, (), b""
             if kind != ASKS:
@@ -328,7 +329,7 @@ def frames_in(text: bytes, begin: int) -> Iterator[tuple[bytes, tuple[int, ...],
             return
         numbers = layout.unpack_from(text, begin)[1:]
         begin += layout.size
-        length = numbers[-1] if layout is PIECE else 0
+        length = numbers[-1] if layout in (PIECE, STREAM) else 0
         if begin + length > len(text):
             return
         yield kind, numbers, text[begin : begin + length]
@@ -365,6 +366,9 @@ class Path:
         self.fresh: deque[Piece] = deque()
         self.twice: deque[tuple[float, Piece]] = deque()
         self.soon: dict[int, tuple[float, list[bytes]]] = {}
+        # The connections that it carries, and how many packets went since they were first in one.
+        self.streams: PathStreams | None = None
+        self.since_streams = 0
 
     def fileno(self) -> int:
         """The descriptor of its socket."""
@@ -376,7 +380,7 @@ class Path:
         loop.add(self.end, hears)
 
     def close(self) -> None:
-        """Closes it."""
+        """Closes its socket."""
         if self.joined:
             self.joined[0].remove(self.end)
         self.end.close()
@@ -405,6 +409,10 @@ class Path:
         """Whether the other end has all that it was told."""
         return self.states.is_sent and self.bundles.is_said(0)
 
+    def has_more(self) -> bool:
+        """Whether more is to go than went."""
+        return bool(self.fresh or self.repairs or self.is_sound() and self.streams and self.streams.waits())
+
     def may_carry(self) -> bool:
         """Whether it may carry what waits: all, or, where it is silent, one packet at a time that looks whether it still is."""
         return bool(self.place or self.seal.is_near) and (self.is_sound() or not self.sent)
@@ -424,7 +432,7 @@ class Path:
         moments += [self.twice[0][0]] if self.twice else []
         if self.may_carry():
             moments += [moment for moment, _ in self.soon.values()]
-            is_waiting = (self.repairs or self.fresh) and self.size + LONGEST_PACKET <= self.pace.window()
+            is_waiting = self.has_more() and self.size + LONGEST_PACKET <= self.pace.window()
             moments += [time.monotonic() + self.pace.wait_time(LONGEST_PACKET)] if is_waiting else []
         return min(moments)
 
@@ -497,10 +505,14 @@ class Path:
                 return
             self.send_packet(now, pieces)
 
-    def next_pieces(self, now: float) -> list[Piece]:
-        """The pieces of the next packet."""
-        pieces: list[Piece] = []
+    def next_pieces(self, now: float) -> list[AnyPiece]:
+        """The pieces of the next packet: those that were lost, those of bundles, and those of connections where there is room, or it is
+        their turn."""
+        pieces: list[AnyPiece] = []
         room = LONGEST_TEXT - HEAD.size - LONGEST_MASK
+        self.since_streams += 1
+        if self.since_streams >= TURN_OF_STREAMS:
+            room = self.add_streams(pieces, room)
         for queue in (self.repairs, self.fresh):
             while queue and self.bundles.length(queue[0]) <= room:
                 piece = queue.popleft()
@@ -510,7 +522,36 @@ class Path:
                     room -= length
                     if queue is self.fresh and self.goes_twice(piece):
                         self.twice.append((now + APART, piece))
+        self.add_streams(pieces, room)
         return pieces
+
+    def add_streams(self, pieces: list[AnyPiece], room: int) -> int:
+        """Adds what of connections has room in a packet, and tells what is left of that. They don't look whether a silent path is so
+        still: they would each moment, as long as it is."""
+        while self.streams and self.is_sound():
+            piece = self.streams.next_piece(room)
+            if not piece:
+                break
+            pieces.append(piece)
+            room -= self.streams.length(piece)
+            self.since_streams = 0
+        return room
+
+    def frame(self, piece: AnyPiece) -> bytes:
+        """A piece that is wanted, as it stands in a packet."""
+        if isinstance(piece, Piece):
+            return self.bundles.frame(piece)
+        return self.streams.frame(piece) if self.streams else b""
+
+    def note_piece(self, piece: AnyPiece, has_arrived: bool) -> None:
+        """Notes that a piece has arrived, or is taken for lost, so that it goes again where it is still wanted."""
+        if isinstance(piece, Piece):
+            if has_arrived:
+                self.bundles.arrived(piece)
+            elif self.bundles.bundle(piece):
+                self.repairs.append(piece)
+        elif self.streams:
+            (self.streams.arrived if has_arrived else self.streams.lost)(piece)
 
     def goes_twice(self, piece: Piece) -> bool:
         """Whether a piece goes once more in a moment, whatever is told of it."""
@@ -537,19 +578,19 @@ class Path:
             if self.joined:
                 self.join(*self.joined)
 
-    def send_packet(self, now: float, pieces: Sequence[Piece] = (), asks: bytes = b"") -> None:
+    def send_packet(self, now: float, pieces: Sequence[AnyPiece] = (), asks: bytes = b"") -> None:
         """Sends a packet. What goes anyway asks for the answer that would have to be asked for soon."""
         if self.seal.is_spent():
             return
-        bundles = [self.bundles.bundle(piece) for piece in pieces]
+        bundles = [self.bundles.bundle(piece) if isinstance(piece, Piece) else None for piece in pieces]
         if bundles and all(bundle and bundle.is_once for bundle in bundles) and now > (self.answered_at or now) + HEARTBEAT:
             asks = asks or ASKS
         packet = self.seal.sealed(self.text(now, pieces, asks))
         own = [self.place] if self.place else []
         for place in own if own and self.is_sound() else dict.fromkeys([*own, *self.places]):
             send(self.end, packet, place, self.source)
-        held = HELD_LARGE if any(piece.index for piece in pieces) else HELD
-        kept = tuple(piece for piece in pieces if self.bundles.went(piece))
+        held = HELD_LARGE if any(isinstance(piece, Piece) and piece.index for piece in pieces) else HELD
+        kept = tuple(piece for piece in pieces if not isinstance(piece, Piece) or self.bundles.went(piece))
         self.pace.went(len(packet))
         if kept or asks:
             self.sent[self.seal.counter] = SentPacket(now, len(packet), kept, self.pace.arrived, held)
@@ -558,9 +599,9 @@ class Path:
         self.spoke_at = now
         self.arrivals.were_told(now)
 
-    def text(self, now: float, pieces: Sequence[Piece], asks: bytes) -> bytes:
+    def text(self, now: float, pieces: Sequence[AnyPiece], asks: bytes) -> bytes:
         """What a packet carries: what came, pieces, which bundles came whole, as many as there is room for, and what asks for an answer."""
-        text = self.arrivals.head(now) + b"".join(map(self.bundles.frame, pieces))
+        text = self.arrivals.head(now) + b"".join(map(self.frame, pieces))
         room = LONGEST_TEXT - len(text) - len(asks)
         text += b"".join(map(self.bundles.whole, self.arrivals.peers(now, room // WHOLE.size))) + asks
         return text.ljust(LONGEST_TEXT, b"\0") if asks == ASKS_LARGE else text
@@ -580,7 +621,8 @@ class Path:
             is_sound = self.is_sound()
             if counter < self.arrived or is_sound:
                 self.trips.note_lost()
-            self.repairs += [piece for piece in sent.pieces if self.bundles.bundle(piece)]
+            for piece in sent.pieces:
+                self.note_piece(piece, False)
             # An answer that was asked for is asked for again.
             self.is_due = self.is_due or not sent.pieces and is_sound
         while len(self.gone) > MOST_GONE:
@@ -637,7 +679,7 @@ class Path:
             self.sound_since = self.sound_since if self.is_sound() else now
             self.arrived, self.answered_at, self.asked_at, self.trips.tries = newest, now, None, 0
         bits = int.from_bytes(mask[:LONGEST_MASK], "little") << 1 | 1
-        is_full = bool(self.fresh or self.repairs)
+        is_full = self.has_more()
         for counter in [counter for counter in (*self.sent, *self.gone) if counter <= newest and bits >> newest - counter & 1]:
             was_given_up = counter in self.gone
             sent = self.gone.pop(counter) if was_given_up else self.sent.pop(counter)
@@ -645,7 +687,7 @@ class Path:
             self.trips.note_arrived(was_given_up)
             self.pace.note(sent, now, is_full)
             for piece in sent.pieces:
-                self.bundles.arrived(piece)
+                self.note_piece(piece, True)
             if counter == newest:
                 self.trips.note(max(0.001, now - sent.moment - held))
                 self.pace.note_round(self.trips.mean or ROUND)
@@ -662,6 +704,10 @@ class Path:
             elif kind == WHOLE_KIND:
                 is_lost = self.bundles.note_whole(numbers[0], numbers[1])
                 self.states.is_sent = self.states.is_sent and not (is_lost and numbers[0] == 0)
+            elif kind in (STREAM_KIND, TAKEN_KIND):
+                wants = True
+                if self.streams:
+                    self.streams.take(kind, numbers[0], numbers[1], piece)
             elif kind in (ASKS, ASKS_LARGE):
                 wants, held, asks = True, 0.0, kind
         if wants:

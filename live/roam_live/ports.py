@@ -7,7 +7,6 @@ import subprocess
 import tempfile
 
 from roam_live.program import Home
-from roam_live.rects import Places, read_places
 
 
 class PortSession:
@@ -37,21 +36,12 @@ class PortSession:
         """Whether the process of a role runs."""
         return self.process(role or self.served) is not None
 
-    def places(self) -> Places | None:
-        """Where the panes are; None where that isn't told."""
-        return read_places(self.folder / "rects") if self.folder else None
-
     def is_served(self) -> bool:
         """Whether somebody has the port. Where nobody has, the start isn't needed any more: it can't know by itself."""
         is_there = self.home.is_served()
         if not is_there and self.start and self.runs("terminals"):
             self.start.terminate()
         return is_there
-
-    def is_full(self) -> bool | None:
-        """Whether the server knows as many starts as it ever does; None where nothing is told of that."""
-        places = self.places()
-        return places.is_full() if places else None
 
     def busy(self) -> dict[int, str] | None:
         """What runs in its panes isn't known here."""

@@ -249,13 +249,23 @@ def is_port_served(port: int) -> bool:
         return True
 
 
+def stated(process: int) -> list[str]:
+    """What the system says of a process, from its state on; nothing where there is none."""
+    try:
+        return pathlib.Path(f"/proc/{process}/stat").read_text(encoding="utf-8", errors="replace").rpartition(")")[2].split()
+    except OSError:
+        return []
+
+
 def begun(process: int) -> int | None:
     """When a process began, in the system's ticks; None where there is none, or only what is left of one that ended."""
-    try:
-        words = pathlib.Path(f"/proc/{process}/stat").read_text(encoding="utf-8", errors="replace").rpartition(")")[2].split()
-    except OSError:
-        return None
-    return None if words[0] in "ZX" else int(words[19])
+    words = stated(process)
+    return None if not words or words[0] in "ZX" else int(words[19])
+
+
+def is_stopped(process: int) -> bool:
+    """Whether a process was stopped, and goes on only once it is continued."""
+    return stated(process)[:1] in (["T"], ["t"])
 
 
 def is_running(process: int, moment: int | None) -> bool:

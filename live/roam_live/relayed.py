@@ -2,9 +2,9 @@
 
 Each end begins with a greeting, a line that names the session where it is known. All behind it is compressed, by zlib, so that each frame
 can be read once its bytes are there: the length of what the frame carries, the number of the peer, and the datagram. Peer 0 is the other
-end itself: how many bytes it has had, that the session has ended, where panes are, that one rang, or how its keypad is; and large
-instructions, packed by LZMA, where both ends have said that they can. So many bytes at most are on their way; the rest waits here, where
-what has grown old can be dropped, and not in the stream.
+end itself: how many bytes it has had, that the session has ended; connections to sockets of the session's folder, where the far end has
+said that it carries them; and large instructions, packed by LZMA, where both ends have said that they can. So many bytes at most are on
+their way; the rest waits here, where what has grown old can be dropped, and not in the stream.
 """
 from __future__ import annotations
 
@@ -20,7 +20,7 @@ from collections.abc import Callable, Iterator
 from roam_live.bundles import LARGE, LONGEST_TEXT, has_lzma, joined, pack_large, parted, saying, unpack_large
 from roam_live.carriers import LETTERS, LONGEST, SHORTEST, is_datagram
 from roam_live.program import Fault, read, write
-from roam_live.rects import MOST_PANES
+from roam_live.streams import BYTES, CARRIES, PipeStreams
 
 # Version 1 didn't compress.
 VERSION = 2
@@ -28,11 +28,9 @@ GREETING = re.compile(rb"(?:^|\n)roam-relay (\d+) ([0-9a-f]{1,16}|-)\r?\n")
 HEADER = struct.Struct(">HH")
 COUNT = struct.Struct(">cQ")
 
-# The kinds of what the ends tell each other, and the bytes of those that have always as many. None has more than a kind and places.
-HAD, ENDED, RECTS, BELL, KEYPAD = b"h", b"e", b"p", b"b", b"k"
-TOLD_LENGTHS = {HAD: COUNT.size, BELL: 2, KEYPAD: 3}
-PLACES_LIMIT = 4096
-MOST_TOLD = 1 + PLACES_LIMIT
+# The kinds of what the ends tell each other, and how long one is at most. An earlier far end tells others, of panes, which are passed over.
+HAD, ENDED = b"h", b"e"
+MOST_TOLD = 4097
 
 # An end by which the server was killed; an earlier end of a relay knows it as nothing.
 KILLED = ENDED + b"k"
@@ -112,11 +110,10 @@ def demand_length(peer: int, length: int) -> None:
 
 
 def demand_told(text: bytes) -> None:
-    """Refuses what an end tells that hasn't the length of its kind, or names no pane. A kind that isn't known is no fault."""
+    """Refuses what an end tells that hasn't the length of its kind. A kind that isn't known is no fault."""
     kind = text[:1]
-    is_wrong = len(text) != TOLD_LENGTHS.get(kind, len(text)) or kind == ENDED and text not in (ENDED, KILLED)
-    is_wrong = is_wrong or kind == PACKED and len(text) <= PACKED_HEAD.size
-    if is_wrong or kind in (BELL, KEYPAD) and not 1 <= text[1] <= MOST_PANES:
+    is_wrong = kind == HAD and len(text) != COUNT.size or kind == ENDED and text not in (ENDED, KILLED)
+    if is_wrong or kind == PACKED and len(text) <= PACKED_HEAD.size:
         raise BadWords(f"what the other end tells can't be read: {text[:16]!r}")
 
 
@@ -249,6 +246,9 @@ class RelayStream:
         # The large instruction whose rest is waited for, and until when.
         self.awaited: tuple[int, bytes] | None = None
         self.awaited_until = 0.0
+        # The connections that it carries; and whether the other end has said, before all else, that it does: None before it said anything.
+        self.streams: PipeStreams | None = None
+        self.carries: bool | None = None
 
     def is_silent(self, seconds: float) -> bool:
         """Whether for so long nothing has come, or nothing of what was sent has arrived: a stream may be stuck in one direction alone."""
@@ -289,7 +289,9 @@ class RelayStream:
         if self.had - self.told >= TOLD_AFTER or time.monotonic() >= self._heartbeat_at():
             self.told, self.told_at = self.had, time.monotonic()
             self.tell(0, COUNT.pack(HAD, self.had))
-        while waiting.datagrams and self.session and len(self.going) < TOLD_AFTER and self.sent - self.acknowledged < WINDOW:
+        if self.streams and self.has_room():
+            self.streams.fill(MOST_TOLD)
+        while waiting.datagrams and self.has_room():
             peer, texts = waiting.first_whole()
             if not texts and self._awaits(waiting):
                 break
@@ -300,6 +302,17 @@ class RelayStream:
                 self._tell_packed(peer, texts)
             else:
                 self._tell_counted(*waiting.take())
+
+    def has_room(self) -> bool:
+        """Whether more may be on its way."""
+        return self.session is not None and len(self.going) < TOLD_AFTER and self.sent - self.acknowledged < WINDOW
+
+    def tell_carried(self, text: bytes, is_counted: bool) -> None:
+        """Sends a frame of a connection that is carried."""
+        if is_counted:
+            self._tell_counted(0, text)
+        else:
+            self.tell(0, text)
 
     def _awaits(self, waiting: Waiting) -> bool:
         """Whether the rest of the oldest instruction is waited for, which is packed once it is whole."""
@@ -389,6 +402,7 @@ class RelayStream:
                 break
             text = bytes(self.coming[begin + HEADER.size : end])
             begin = end
+            self.carries = text == CARRIES if self.carries is None else self.carries
             if peer:
                 self.had += length
                 yield peer, text
@@ -402,6 +416,7 @@ class RelayStream:
             elif text == UNPACKS:
                 self.packs = has_lzma()
             else:
+                self.had += length if text[:1] == BYTES else 0
                 yield peer, text
         del self.coming[:begin]
 

@@ -18,6 +18,7 @@ if TYPE_CHECKING:
     from collections.abc import Callable
 
     from roam_live.parsing import Asked
+    from roam_live.places import Places
 
 # The options of ssh that have a word behind them, and those of `mux ssh` itself.
 SSH_PAIRS = "BbcDEeFIiJLlmOoPpQRSWw"
@@ -73,9 +74,8 @@ def near_session(asked: Asked, command: list[str]) -> NearSession:
     return NearSession(base() / place, asked.name)
 
 
-def is_first_start(session: NearSession) -> bool:
-    """Whether a session, as far as is known, never had a client start before that of this machine."""
-    places = session.places()
+def is_first_start(places: Places | None) -> bool:
+    """Whether a session, as far as is told, never had a client start before that of this machine."""
     return places is not None and places.starts <= 1
 
 

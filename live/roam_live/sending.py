@@ -8,7 +8,7 @@ import time
 
 from roam_live.links import NO_MORE, StartLink
 from roam_live.program import Fault, Home
-from roam_live.rects import MOST_PANES, Places
+from roam_live.places import MOST_PANES, Places
 from roam_live.terminal import LEAST, MOST
 
 TYPE_CHECKING = False

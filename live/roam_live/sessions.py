@@ -13,9 +13,9 @@ import stat
 from collections.abc import Iterable
 
 from roam_live.processes import Processes
-from roam_live.program import (TOOLS, Fault, begun, count_front_ends, end_words, is_listened, is_own_folder, note_end, program,
-                               replace_text, say)
-from roam_live.rects import MOST_STARTS, Places, read_places
+from roam_live.program import (TOOLS, Fault, begun, count_front_ends, end_words, is_listened, is_own_folder, is_stopped, note_end,
+                               program, replace_text, say)
+from roam_live.places import MOST_STARTS, Places, asked_places
 
 NAME = re.compile(r"[A-Za-z0-9_-]{1,32}")
 
@@ -35,7 +35,7 @@ ALONE = 3600
 # From so many starts on `mux ls` tells how many a server knows.
 MANY_STARTS = 32
 
-SOCKETS = ("clients", "panes", "terminals", "bells", *(f"p{pane}" for pane in range(1, 10)))
+SOCKETS = ("clients", "panes", "terminals", "bells", "shells", *(f"p{pane}" for pane in range(1, 10)))
 
 
 def runtime_folder() -> pathlib.Path | None:
@@ -124,17 +124,12 @@ class FolderSession(Processes):
             return ""
 
     def places(self) -> Places | None:
-        """Where its panes are; None where that isn't told, as in a folder that another user made in its place."""
-        return read_places(self.folder / "rects") if is_own_folder(self.folder) else None
+        """Where its panes are, asked now; None where nobody tells it, as in a folder that another user made in its place."""
+        return asked_places(self.folder / "panes") if is_own_folder(self.folder) else None
 
     def is_served(self) -> bool:
         """Whether a server is there, or a relay to one."""
         return is_listened(self.folder / "clients")
-
-    def is_full(self) -> bool | None:
-        """Whether its server knows as many starts as it ever does; None where nothing is told of that."""
-        places = self.places()
-        return places.is_full() if places else None
 
     def busy(self) -> dict[int, str] | None:
         """The panes in which another program than a shell runs, and its name: in none where what is noted to have kept the shells has
@@ -232,14 +227,14 @@ class FolderSession(Processes):
 
     def spawn_terminals(self) -> None:
         """Spawns the client start of this machine's terminals."""
-        self.demand_room()
         self.terminals.unlink(missing_ok=True)
         self.state = self.state or {"version": VERSION}
         self.spawned("terminals", [program(), "attach", "--dir", str(self.folder), "--terminals", str(self.terminals)])
 
     def demand_room(self) -> None:
         """Refuses where the server knows as many starts as it ever does."""
-        if self.is_full():
+        places = self.places()
+        if places and places.is_full():
             raise Fault(f"session {self.name} has had the {MOST_STARTS} client starts of its life, and hears no other; what runs in it "
                         f"goes on, and `mux kill {self.name}` ends it")
 
@@ -247,6 +242,7 @@ class FolderSession(Processes):
         """Sees that the start of this machine's terminals runs, and is ready."""
         before = self.logged()
         if not self.has_terminals():
+            self.demand_room()
             self.spawn_terminals()
             self.wait_for("terminals", before, lambda: is_listened(self.terminals))
 
@@ -275,6 +271,7 @@ class FolderSession(Processes):
         if self.is_served():
             raise Fault(f"somebody answers at {self.folder / 'clients'}; nothing is removed there")
         folders = [self.folder / name for name in ("attached", "relays")]
+        # An earlier roam left `rects`.
         notes = [self.folder / name for name in (*SOCKETS, "rects", "session", "session.new", "state.json")]
         for path in [*(note for folder in folders if folder.is_dir() for note in folder.iterdir()), *notes]:
             path.unlink(missing_ok=True)
@@ -317,7 +314,14 @@ class FolderSession(Processes):
         count = count_front_ends(self.folder)
         panes = "? panes" if not places else "1 pane" if len(places.rects) == 1 else f"{len(places.rects)} panes"
         more = f", {places.starts} of {MOST_STARTS} starts" if places and places.starts > MANY_STARTS else ""
-        return f"{self.name:12} {size:12} {panes:8} {count} terminal{'' if count == 1 else 's'}{more}"
+        return f"{self.name:12} {size:12} {panes:8} {count} terminal{'' if count == 1 else 's'}{more}{self.lacking()}"
+
+    def lacking(self) -> str:
+        """What `mux ls` says of what keeps the shells, where that doesn't run."""
+        shells = self.process("shells")
+        if shells is None:
+            return ", nothing keeps its shells"
+        return ", what keeps its shells is stopped" if is_stopped(shells) else ""
 
 
 class NearSession(FolderSession):
@@ -332,6 +336,10 @@ class NearSession(FolderSession):
 
     def demand_shells(self) -> None:
         """Leaves the shells to the other machine."""
+
+    def lacking(self) -> str:
+        """Says nothing of the shells, which the other machine keeps."""
+        return ""
 
     def launch_relay(self, command: list[str], host: str = "") -> int:
         """Starts a relay over a command, which may ask at this terminal until it has answered, and by UDP to a host, where one is named;

@@ -204,7 +204,7 @@ class PaintedSize:
     nothing is looked at, since a large screen in many colours is a lot of text.
     """
 
-    MARKS = re.compile(rb"\x1b\[(\d+);(\d+)H|\x1b\[2J|\x1bc")
+    MARKS = re.compile(rb"\x1b\[(\d+)(?:;(\d+))?H|\x1b\[2J|\x1bc")
     ESCAPES = re.compile(rb"\x1b[^\[]|\x1b\[[0-?]*[@-~]")
 
     def __init__(self) -> None:
@@ -241,7 +241,7 @@ class PaintedSize:
         if mark[1] is None:
             self.row, self.size = 0, (0, 0)
             return True
-        self.row, self.col = int(mark[1]), int(mark[2])
+        self.row, self.col = int(mark[1]), int(mark[2] or 1)
         # What tells of a silent server is written to the last row of any terminal.
         if not self.size[0] < self.row <= MOST[0]:
             return False

@@ -6,8 +6,14 @@ import time
 from collections.abc import Callable
 
 from roam_live.loops import Loop, comes
+from roam_live.path_streams import PathStreams
 from roam_live.paths import Path
 from roam_live.relayed import RelayStream, Waiting
+from roam_live.streams import PipeStreams
+
+TYPE_CHECKING = False
+if TYPE_CHECKING:
+    from roam_live.streams import Opens
 
 # A way that was there for so many seconds is sound: then nothing goes over the command any more beside a path, and what breaks a command is
 # no fault of its own.
@@ -24,23 +30,45 @@ class Ways:
         self.loop = loop
         self.path: Path | None = None
         self.stream: RelayStream | None = None
+        # What carries what waits, as it was seen last, and connections: these end where another does from then on.
+        self.carrier: Path | RelayStream | None = None
         # Whether nothing goes over the stream, since the path is sound.
         self.rests = False
 
     # ---- the path comes and goes
 
-    def take_path(self, path: Path, hears: Callable[[], object]) -> None:
-        """Takes a path in place of the one that there was; where something comes over it this is called."""
+    def take_path(self, path: Path, hears: Callable[[], object], opens: Opens | None = None) -> None:
+        """Takes a path in place of the one that there was; where something comes over it this is called, and where a connection is opened
+        by it the other call, which the far end has."""
         self.drop_path()
         self.path = path
+        path.streams = PathStreams(self.loop, opens)
         path.join(self.loop, hears)
 
     def drop_path(self) -> None:
-        """Lets the path go without a word."""
+        """Lets the path go without a word, with the connections that it carries."""
         if self.path:
             self.path.close()
+            self.ended(self.path)
         self.path = None
         self.rest()
+
+    def take_stream(self, stream: RelayStream, opens: Opens | None = None) -> None:
+        """Takes a stream, with a call where a connection is opened by it."""
+        self.stream = stream
+        stream.streams = PipeStreams(self.loop, stream.tell_carried, opens)
+
+    def drop_stream(self) -> None:
+        """Lets the stream go, with the connections that it carries."""
+        if self.stream:
+            self.ended(self.stream)
+        self.stream = None
+
+    def ended(self, way: Path | RelayStream) -> None:
+        """Ends the connections of a way that is no more."""
+        if way.streams:
+            way.streams.close()
+        self.carrier = None if self.carrier is way else self.carrier
 
     # ---- which of them carries what waits
 
@@ -71,6 +99,10 @@ class Ways:
     def fill(self, waiting: Waiting, is_stream_there: bool) -> None:
         """Has what waits go, by the way that carries it, and what each end says that it is there."""
         way = self.chosen(is_stream_there)
+        if way is not self.carrier:
+            if self.carrier and self.carrier.streams:
+                self.carrier.streams.end_all()
+            self.carrier = way
         if self.stream and not self.is_quiet():
             self.stream.fill(waiting if way is self.stream else NOTHING)
         if self.path:

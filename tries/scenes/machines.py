@@ -109,6 +109,14 @@ def ssh_words(folder, far, asked):
     return tool("mux", "ssh", *own, "-p", "2222", "there", "other")
 
 
+def is_asked(outer):
+    """Whether C-b x asks whether pane 2 is closed: for a moment after another way carries all it isn't known which is in focus."""
+    outer.type(b"\x02x")
+    holds = outer.status("close whatever runs in pane 2? y closes it", 2)
+    outer.type(b"" if holds else b"n")
+    return holds
+
+
 @scene
 def far(folder):
     """`mux ssh` shows a session of another folder; what it started stays, and is found again."""
@@ -123,8 +131,9 @@ def far(folder):
     check("where its panes are is known here", comes(lambda: listed()[4:6] == ["2", "panes"]), listed)
     outer.type(b"\x02\x1b[D")
     check("arrows go by where the panes are there", outer.status("[1] 2"), outer.rows)
-    outer.type(b"\x022\x02x")
-    check("C-b x asks, since what runs there isn't known here", outer.status("close whatever runs in pane 2? y closes it"), outer.rows)
+    outer.type(b"\x022")
+    outer.status(" 1 [2]")
+    check("C-b x asks, since what runs there isn't known here", comes(lambda: is_asked(outer)), outer.rows)
     outer.type(b"y")
     check("and closes it", outer.status("[1]  "), outer.rows)
     outer.type(b"\x02d")
@@ -139,6 +148,52 @@ def far(folder):
     again.type(b"exit\r")
     for one in (again, beside):
         check("its end is told", one.shows("[the session has ended]") and one.ends(), one.rows)
+
+
+def far_ends(far):
+    """The far ends of a session of another folder, as they note themselves, or as the relay here spawned them."""
+    noted_there = [note.read_text(encoding="utf-8").split()[0] for note in far.glob("roam/other/relays/*")]
+    here = next(pathlib.Path(os.environ["XDG_RUNTIME_DIR"], "roam").glob("ssh:*"))
+    return [int(word) for word in noted_there] or children(json.loads((here / "state.json").read_text(encoding="utf-8"))["relay"][0])
+
+
+@scene
+def carried(folder):
+    """Where the panes of another machine's session are, the focus and bells come from its own sockets; cut and joined again they do so
+    again."""
+    far = folder / "far"
+    words = ssh_words(folder, far, folder / "asked")
+    outer, beside = Outer(words), Outer(words)
+    outer.shows("$ ")
+    outer.type(b'\x02%\x02"')
+    check("a session there is split", outer.status(" 1  2 [3]"), outer.rows)
+    here = next(pathlib.Path(os.environ["XDG_RUNTIME_DIR"], "roam").glob("ssh:*"))
+    sockets = [(here / name).is_socket() for name in ("panes", "bells", "shells")]
+    check("sockets here stand for those there, and no file tells places", all(sockets) and not (here / "rects").exists(), sockets)
+    for number in (1, 2):
+        check(f"{number}: ls here counts the panes there", comes(lambda: listed()[4:6] == ["3", "panes"]), listed)
+        outer.type(b"\x02\x1b[D")
+        check(f"{number}: an arrow goes by where they are", outer.status("[1] 2  3"), outer.rows)
+        # Where another way carries all from now on a bell may find nobody for a moment.
+        time.sleep(3)
+        outer.type(b"clear; printf '\\a\\033='\r")
+        rings = comes(lambda number=number: all(one.written.count(b"\x07") >= number for one in (outer, beside)))
+        check(f"{number}: a bell there rings at both", rings, bytes(outer.written[-200:]))
+        check(f"{number}: and the keypad is that of the focus", comes(lambda: outer.display_keypad() == b"\x1b="), outer.display_keypad())
+        outer.type(b"\x023")
+        check(f"{number}: which goes with it", comes(lambda: outer.display_keypad() == b"\x1b>"), outer.display_keypad())
+        outer.type(b"\x021printf '\\033>'\r\x023")
+        outer.status(" 1  2 [3]")
+        for process in far_ends(far) if number == 1 else ():
+            os.kill(process, signal.SIGKILL)
+        time.sleep(1)
+        outer.type(f"clear; echo rou''nd-{number}\r".encode())
+        check(f"{number}: what is typed is shown", outer.shows(f"round-{number}", 40) and beside.shows(f"round-{number}"), outer.rows)
+    outer.type(b"exit\r")
+    check("a shell's end is told here", comes(lambda: listed()[4:6] == ["2", "panes"]), listed)
+    for one in (outer, beside):
+        one.type(b"\x02d")
+        check("a front end leaves", one.ends() and one.is_restored(), one.rows)
 
 
 @scene

@@ -92,6 +92,32 @@ def leaving(folder):
 
 
 @scene
+def keeper(folder):
+    """What keeps the shells is stopped, or has ended: the server tells of its panes all the same, and `mux ls` says so."""
+    outer = three_panes()
+    keeper = noted(SESSION)["shells"][0]
+    os.kill(keeper, signal.SIGSTOP)
+    outer.type(b"\x02%")
+    check("a pane is split off while what keeps the shells is stopped", outer.status(" 1 [4] 2  3 "), outer.rows)
+    outer.type(b"\x02\x1b[D")
+    check("an arrow goes by where it is", outer.status("[1] 4  2  3 "), outer.rows)
+    line = " ".join(listed())
+    wanted = "4 panes 1 terminal, what keeps its shells is stopped"
+    check("ls counts the server's panes, and says so", line.endswith(wanted), line)
+    os.kill(keeper, signal.SIGCONT)
+    outer.type(b"\x024echo aw''ake\r")
+    check("continued it has a shell there", outer.shows("awake"), outer.rows)
+    check("and ls says nothing more", comes(lambda: " ".join(listed()).endswith("4 panes 1 terminal")), listed)
+    outer.type(b"\x02d")
+    outer.ends()
+    os.kill(keeper, signal.SIGKILL)
+    wanted = "4 panes 0 terminals, nothing keeps its shells"
+    check("where it has ended ls says that nothing keeps them", comes(lambda: " ".join(listed()).endswith(wanted)), listed)
+    again = Outer(tool("mux", SESSION))
+    check("who attaches has another", again.shows("[a new shell; ") and " ".join(listed()).endswith("4 panes 1 terminal"), listed)
+
+
+@scene
 def sizes(folder):
     """A new size of the terminal reaches the programs; a small one shows a line."""
     outer = three_panes()

@@ -14,7 +14,7 @@ from roam_live.commands import Commands
 from roam_live.display import Display, wrapped
 from roam_live.loops import Loop
 from roam_live.program import noted_front_end
-from roam_live.rects import Places, Rect
+from roam_live.places import Places, Rect
 
 FITS = "C-b r fits this terminal, and cuts what is wider"
 
@@ -67,19 +67,37 @@ class StartLink:
 
 
 class AnySession:
-    """A session's places and folder."""
+    """A session's folder, and where its panes are."""
 
     def __init__(self, folder=None):
         self.folder = folder
         self.told = None
 
-    def places(self):
-        """Where the panes are."""
-        return self.told
-
     def busy(self):
         """What runs there."""
         return {1: "vi", 2: "vi"}
+
+
+class PlayedPanes:
+    """What is told of a session's panes."""
+
+    awaited = full = False
+
+    def __init__(self, place):
+        self.place = place
+
+    @property
+    def places(self):
+        """Where they are."""
+        return self.place.told
+
+    def is_awaited(self):
+        """Whether that may be told soon."""
+        return self.awaited
+
+    def is_full(self):
+        """Whether the server hears no other start."""
+        return self.full
 
 
 def painting(rows, cols, text="x"):
@@ -97,7 +115,8 @@ class Person:
         self.left = None
         with mock.patch.object(display, "OuterTerminal", lambda: OuterTerminal(rows, cols)):
             self.display = Display(self.loop, lambda: self.link.say("repaint"))
-        self.commands = Commands(self.place, self.link, self.display, self.loop, self.leave, lambda: is_new)
+        self.panes = PlayedPanes(self.place)
+        self.commands = Commands(self.place, self.panes, self.link, self.display, self.loop, self.leave, lambda places: is_new)
         self.commands.choose("C-b")
         self.display.begin()
         self.commands.fit_first()

@@ -1,6 +1,7 @@
 """Who follows the panes of a server: a connection that the server ends is had again after pauses, and that is told."""
 import contextlib
 import io
+import os
 import pathlib
 import socket
 import tempfile
@@ -8,10 +9,11 @@ import unittest
 from unittest import mock
 
 from aids import StillLoop
-from roam_live.following import LET_GO, PAUSES, QUIET, TELLS_NOTHING, Following
+from roam_live.following import AWAITED, LET_GO, NO_PLACE, NOR_BELLS, PAUSES, QUIET, TELLS_NOTHING, UNTOLD, KeeperFollowing, PanesFollower
+from roam_live.places import Places, Rect
 
 
-class Follows(unittest.TestCase):
+class Played(unittest.TestCase):
     """A server of the panes in a folder of its own, and a clock that is set by hand."""
 
     def setUp(self):
@@ -25,9 +27,13 @@ class Follows(unittest.TestCase):
             patched.__enter__()
             self.addCleanup(patched.__exit__, None, None, None)
         self.loop, self.heard, self.losses = StillLoop(), [], 0
-        self.following = Following(str(self.path), self.loop, self.heard.extend, self.lose)
+        self.following = self.follows()
         self.addCleanup(lambda: self.following.peer and self.following.peer.close())
         self.server = self.taken()
+
+    def follows(self):
+        """One who follows, as what keeps the shells does."""
+        return KeeperFollowing(str(self.path), self.loop, self.heard.extend, self.lose)
 
     def listens(self):
         """One who listens."""
@@ -59,6 +65,10 @@ class Follows(unittest.TestCase):
         wait = self.loop.due["follow panes"][0] - self.now
         self.now = self.loop.due["follow panes"][0]
         return round(wait, 3)
+
+
+class Follows(Played):
+    """What keeps the shells follows."""
 
     def test_lines(self):
         """Lines come in any pieces, and what is asked goes."""
@@ -137,3 +147,132 @@ class Follows(unittest.TestCase):
         self.wait_again()
         self.turn()
         self.assertFalse(self.following.is_gone)
+
+    def test_put_out(self):
+        """One that was told something and ended soon is had again after pauses that grow: another keeper may have ended it."""
+        waits = []
+        for seconds in (0, 1, 2, 6, 0):
+            self.server.send(b"focus 1\n")
+            self.turn()
+            self.now += seconds
+            self.server.close()
+            self.turn()
+            waits.append(self.wait_again())
+            self.turn()
+            self.server = self.taken()
+        self.assertEqual(waits, [0.1, 1, 2, 0.1, 1])
+
+    def test_keeper(self):
+        """The server is told who keeps the shells, where it runs the program of these tools: at each connection, before all else."""
+        self.turn()
+        self.server.setblocking(False)
+        with self.assertRaises(BlockingIOError):
+            self.server.recv(64)
+        with mock.patch("roam_live.following.runs_program", return_value=True):
+            self.server.close()
+            self.turn()
+            self.wait_again()
+            self.turn()
+            self.following.ask("close 1 1")
+            self.turn()
+        self.assertEqual(self.taken().recv(64), b"keeper\nclose 1 1\n")
+        self.assertEqual(self.following.server, os.getpid())
+
+
+class FrontEnds(Played):
+    """What a front end knows of the panes."""
+
+    def follows(self):
+        """A front end's, which says what it can't know."""
+        self.words, self.changes = [], 0
+        self.panes = PanesFollower(self.path.parent, self.loop, self.change, self.words.append)
+        return self.panes.following
+
+    def change(self):
+        """Takes note of news."""
+        self.changes += 1
+
+    def told(self, text):
+        """What is known once the server said this."""
+        self.server.send(text)
+        self.loop.turns(2)
+        return self.panes.places
+
+    def lose_again(self):
+        """The server ends the connection, which is had again."""
+        self.server.close()
+        self.loop.turns(2)
+        self.wait_again()
+        self.loop.turns(2)
+        self.server = self.taken()
+
+    def test_lines(self):
+        """Places are known once the focus is, and each that is new is a change; nothing is said to the server."""
+        self.assertTrue(self.panes.is_awaited())
+        self.assertIsNone(self.told(b"1 1 1 23 80 1\nfoc"))
+        wanted = Places({1: Rect(1, 1, 23, 80)}, 1, 64, 2)
+        self.assertEqual(self.told(b"us 1\nstarts 64 of 64\nwatchers 2 of 16\n"), wanted)
+        self.assertEqual((self.changes, self.panes.is_awaited(), self.panes.is_full()), (1, False, True))
+        self.assertEqual(self.told(b"focus 1\nbad line\n"), wanted)
+        self.assertEqual(self.changes, 1)
+        self.server.setblocking(False)
+        with self.assertRaises(BlockingIOError):
+            self.server.recv(64)
+        self.assertEqual(self.words, [])
+
+    def test_let_go(self):
+        """While nobody tells them the places aren't known; what comes next is told all anew."""
+        self.told(b"1 1 1 23 80 1\nfocus 1\n")
+        self.lose_again()
+        self.assertEqual((self.panes.places, self.changes, self.panes.is_full()), (None, 2, False))
+        self.assertEqual(self.told(b"2 1 1 23 80 1\nfocus 2\n"), Places({2: Rect(1, 1, 23, 80)}, 2))
+        self.assertEqual(self.words, [])
+
+    def test_quiet(self):
+        """A server that tells nothing is waited for without a word; for ten seconds it is taken that it will."""
+        self.now += AWAITED - 0.1
+        self.assertTrue(self.panes.is_awaited())
+        self.now += 0.2
+        self.loop.turns(2)
+        self.assertEqual((self.panes.is_awaited(), self.words, self.loop.due), (False, [], {}))
+
+    def test_once(self):
+        """Who isn't let in is told so once, and tried for after pauses."""
+        for number in range(6):
+            self.server.close()
+            self.loop.turns(2)
+            self.assertEqual(self.words, [NO_PLACE] * (number >= 2))
+            self.wait_again()
+            self.loop.turns(2)
+            self.server = self.taken()
+        self.assertFalse(self.panes.is_awaited())
+        self.assertIsNotNone(self.told(b"1 1 1 23 80 1\nfocus 1\n"))
+
+    def test_gone(self):
+        """Where nobody tells the panes that is said once, as of an earlier roam; also where what is told can't be read."""
+        self.listener.close()
+        self.server.close()
+        self.loop.turns(2)
+        for _ in range(5):
+            self.wait_again()
+            self.loop.turns(2)
+        self.assertEqual(self.words, [NOR_BELLS])
+        self.path.unlink()
+        self.listener = self.listens()
+        self.words, self.panes = [], PanesFollower(self.path.parent, self.loop, self.change, lambda line: self.words.append(line))
+        self.server = self.taken()
+        self.told(b"1 23 80\nfocus\n")
+        self.told(b"1 23 40\n")
+        self.assertEqual((self.words, self.panes.places), ([UNTOLD], None))
+        (self.path.parent / "bells").touch()
+        self.path.unlink()
+        self.words, self.panes = [], PanesFollower(self.path.parent, self.loop, self.change, lambda line: self.words.append(line))
+        for _ in range(2):
+            self.wait_again()
+            self.loop.turns(2)
+        self.assertEqual(self.words, [UNTOLD])
+
+    def test_nowhere(self):
+        """Without a folder nothing is followed, and nothing awaited."""
+        alone = PanesFollower(None, self.loop, self.change, self.words.append)
+        self.assertEqual((alone.is_awaited(), alone.places, alone.following.peer, self.words), (False, None, None, []))

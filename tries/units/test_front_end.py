@@ -9,8 +9,8 @@ from aids import Case, StillLoop, closed, read_now
 from roam_live import display, front_end, terminal
 from roam_live.front_end import FrontEnd
 from roam_live.program import Fault, begun
-from roam_live.rects import Places, Rect
-from test_display import Person, painting, places
+from roam_live.places import Places, Rect
+from test_display import Person, PlayedPanes, painting, places
 
 PANES = Places({1: Rect(1, 1, 23, 39), 2: Rect(1, 41, 11, 40), 3: Rect(13, 41, 11, 40)}, 1, 1)
 
@@ -41,10 +41,6 @@ class AnySession:
         """Whether it runs."""
         return self.process(role or self.served) is not None
 
-    def places(self):
-        """Where the panes are."""
-        return self.told
-
     def busy(self):
         """What runs in the panes."""
         return self.runs_busy
@@ -52,10 +48,6 @@ class AnySession:
     def is_served(self):
         """Whether a server is there."""
         self.looks += 1
-        return False
-
-    def is_full(self):
-        """Whether it hears no other start."""
         return False
 
     def ending(self):
@@ -84,7 +76,9 @@ class Fronts(Case):
         os.set_blocking(self.master, False)
         self.wakeup, self.wakes = self.pipe()
         self.patch_of(front_end, "woken", return_value=self.wakeup)
-        self.front = FrontEnd(self.place, False, "C-b", "adaptive", lambda: False, StillLoop())
+        self.panes = PlayedPanes(self.place)
+        self.patch_of(front_end, "PanesFollower", lambda folder, loop, changed, tells: self.panes)
+        self.front = FrontEnd(self.place, False, "C-b", "adaptive", lambda places: False, StillLoop())
         self.addCleanup(lambda: closed(self.front.display.outer.end))
         self.addCleanup(lambda: self.front.link.close())
 
@@ -331,21 +325,18 @@ class Loop(Fronts):
         self.assertEqual((self.front.display.told, self.shown().count(b"\x07")), ("pane 3 isn't shown", 1))
 
     def test_keypad(self):
-        """The keypad goes by the pane in focus, also where that is noted after it was painted; without an application's nobody looks."""
+        """The keypad goes by the pane in focus, as soon as that is told."""
         bells = self.listening(self.place.folder / "bells")
         start = self.connect()
         start.send(painting(24, 80))
         self.turn()
-        self.assertEqual([name for name in self.front.loop.due if name.startswith("look ")], [])
         self.taken(bells).send(b"keypad 2 application\n")
         self.place.told = Places({1: Rect(1, 1, 23, 39), 2: Rect(1, 41, 23, 40)}, 1)
         self.turn()
         start.send(b"\x1b[1;1Hx")
         self.turn()
         self.assertNotIn(b"\x1b=", self.shown())
-        self.assertEqual([moment for name, (moment, _) in self.front.loop.due.items() if name.startswith("look ")], [100.1, 100.5, 102.0])
         self.place.told = self.place.told._replace(focus=2)
-        self.now += 0.1
         self.turn()
         self.assertEqual(self.shown().count(b"\x1b="), 1)
         self.turn()
@@ -471,14 +462,37 @@ class Wishes(Case):
             self.assertEqual(self.person().types(b"\x02\x1b[" + key), acts)
         self.assertEqual(self.person(None).types(b"\x02\x1b[C"), ["next"])
 
+    def tell(self, person, places):
+        """Has a person's front end be told where panes are."""
+        person.place.told = places
+        person.commands.told()
+
     def test_moved(self):
-        """What is asked soon after goes by where this person put the focus, though that isn't told yet."""
+        """What is asked goes by where this person put the focus until that is told, however long it takes."""
         person = self.person()
         self.assertEqual(person.types(b"\x02\x1b[C\x02\x1b[B"), ["focus 2", "focus 3"])
-        self.now += 1.01
-        self.assertEqual(person.types(b"\x02\x1b[C"), ["focus 2"])
-        person.place.told = PANES._replace(focus=2)
-        self.assertEqual(person.types(b"\x02\x1b[D"), ["focus 1"])
+        self.now += 9
+        self.assertEqual(person.commands.places().focus, 3)
+        # That a start came tells nothing of it.
+        self.tell(person, PANES._replace(starts=2))
+        self.assertEqual(person.commands.places().focus, 3)
+        self.tell(person, PANES._replace(focus=3))
+        self.assertEqual((person.commands.moved_to, person.types(b"\x02\x1b[D")), (None, ["focus 1"]))
+        # Another took it elsewhere.
+        self.tell(person, PANES._replace(focus=2))
+        self.assertEqual((person.commands.moved_to, person.commands.places().focus), (None, 2))
+        self.assertEqual(person.types(b"\x02o"), ["next"])
+        self.tell(person, None)
+        self.assertEqual((person.commands.moved_to, person.commands.places()), (None, None))
+
+    def test_still(self):
+        """What moves nothing is waited for by nobody: the pane that is in focus, one that isn't there, the next of one."""
+        person = self.person()
+        self.assertEqual(person.types(b"\x021\x029"), ["focus 1", "focus 9"])
+        self.assertIsNone(person.commands.moved_to)
+        alone = self.person(places(24, 80))
+        self.assertEqual((alone.types(b"\x02o"), alone.commands.moved_to), (["next"], None))
+        self.assertEqual((alone.types(b"\x02%"), alone.commands.moved_to), (["split right"], 0))
 
     def test_unknown_focus(self):
         """Where it isn't known yet an arrow goes by what is told, and a close asks."""
@@ -488,7 +502,7 @@ class Wishes(Case):
         person.busy = {2: "vi"}
         self.assertEqual(person.types(b"\x02o\x02x"), ["next"])
         self.assertEqual(person.display.told, "close whatever runs in this pane? y closes it")
-        person.place.told = PANES._replace(focus=3)
+        self.tell(person, PANES._replace(focus=3))
         self.assertEqual(person.types(b"n\x02x"), ["close"])
 
     def test_split(self):

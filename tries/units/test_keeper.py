@@ -7,10 +7,8 @@ import struct
 from unittest import mock
 
 from aids import Case, StillLoop, loaded, read_now
-from roam_live import rects
 from roam_live.loops import READ, WRITE
 from roam_live.program import Fault, begun
-from roam_live.rects import Rect
 
 shells = loaded("pane_shells")
 
@@ -85,12 +83,6 @@ class Panes(Keeper):
         self.assertEqual([read_now(end) for end in (panes[0], self.made[0], panes[1])], [b"out", b"in", b"two"])
         self.assertEqual(self.said.getvalue(), "")
 
-    def test_noted(self):
-        """Where the panes are is noted, with the counts."""
-        self.begin("watchers 2 of 16")
-        found = rects.read_places(self.folder / "rects")
-        self.assertEqual(found, rects.Places({1: Rect(1, 1, 23, 39), 2: Rect(1, 41, 23, 40)}, 1, 3, 2))
-
     def test_sizes(self):
         """A new size is told to the programs, and the same isn't."""
         self.begin()
@@ -106,7 +98,7 @@ class Panes(Keeper):
         panes = self.begin()
         self.tell("2 gone", "focus 1")
         self.assertEqual([call[0] for call in self.kills.call_args_list], [(72, signal.SIGHUP), (72, signal.SIGCONT)])
-        self.assertEqual((panes[1].recv(1), list(self.keeper.panes), self.keeper.hung, list(self.keeper.rects)), (b"", [1], [72], [1]))
+        self.assertEqual((panes[1].recv(1), list(self.keeper.panes), self.keeper.hung), (b"", [1], [72]))
         self.tell("1 1 1 23 80 6", "focus 1")
         self.assertEqual((panes[0].recv(1), self.keeper.panes[1].process, self.keeper.panes[1].life), (b"", 73, 6))
         self.kills.side_effect = PermissionError(1, "another's")
@@ -184,7 +176,7 @@ class Panes(Keeper):
         self.assertIn("pane 3: the session's folder was removed; tried again\n", self.said.getvalue())
         with self.assertRaises(BlockingIOError):
             other.accept()
-        self.assertFalse((self.folder / "rects").exists())
+        self.assertEqual(os.listdir(self.folder), ["p3"])
 
     def test_terminal_gone(self):
         """A terminal that no program has any more is closed, and so is a connection that the server ends."""
@@ -261,15 +253,6 @@ class Refused(Keeper):
         self.tell("9 1 1 23 80 4", "focus 9")
         says.assert_not_called()
         self.assertIn("pane 9: No such file or directory; tried again\n", self.said.getvalue())
-
-    def test_rects(self):
-        """Places that can't be written are written later."""
-        with mock.patch.object(shells, "write_places", side_effect=OSError(28, "No space left on device")):
-            self.begin()
-            self.assertIn("rects: No space left on device; tried again\n", self.said.getvalue())
-        self.now += 0.25
-        self.turn()
-        self.assertTrue((self.folder / "rects").exists())
 
     def test_spares(self):
         """Descriptors are kept for what has to be had."""
@@ -462,14 +445,6 @@ class Waits(Keeper):
         self.turn()
         self.assertEqual(read_now(self.server), b"close 1 4\n" * 2)
 
-    def test_daily(self):
-        """The note of the places is written again where a cleaner took it."""
-        self.begin()
-        (self.folder / "rects").unlink()
-        self.keeper.lasting.due = self.now
-        self.turn()
-        self.assertTrue((self.folder / "rects").exists())
-
 
 class Words(Case):
     """The words of the command line."""
@@ -491,7 +466,9 @@ class Words(Case):
         self.words("pane_shells", str(folder))
         made, woken = self.patch_of(shells, "Shells"), self.patch_of(shells, "woken", return_value=5)
         made.return_value.run.return_value = 0
+        (folder / "rects").touch()
         self.assertEqual(shells.main(), 0)
+        self.assertEqual(os.listdir(folder), [])
         self.assertEqual((made.call_args[0][1], woken.call_args[0]), (5, (signal.SIGCHLD, signal.SIGTERM, signal.SIGHUP)))
         self.words("pane_shells", str(folder / "none"))
         with self.assertRaisesRegex(Fault, "/none is no folder$"):

@@ -231,7 +231,7 @@ class Kept(Linked):
         super().setUp()
         self.place = AnySession()
         self.link = StartLink(self.path, False)
-        self.keeper = Keeper(self.place, self.link)
+        self.keeper = Keeper(self.place, self.link, lambda: self.place.is_full())
         self.addCleanup(self.link.close)
 
     def gone(self):

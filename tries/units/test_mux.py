@@ -7,6 +7,7 @@ from unittest import mock
 
 from aids import Case, loaded
 from roam_live import captures, choices, front_end, remote, sending, sessions
+from roam_live.places import Places, Rect
 from roam_live.program import Fault
 from roam_live.relayed import greeting
 from roam_live.sessions import NearSession, FolderSession
@@ -66,7 +67,7 @@ class Attaches(Mux):
             self.assertEqual(self.mux(*words), 7)
             self.assertEqual(self.done, [("kill", name), ("launch", name, ()), ("demand_terminals", name)])
             session, is_watching, prefix, guessing, is_new = self.follows.call_args[0]
-            self.assertEqual((session.name, is_watching, prefix, guessing, is_new()), (name, False, "C-b", "adaptive", True))
+            self.assertEqual((session.name, is_watching, prefix, guessing, is_new(None)), (name, False, "C-b", "adaptive", True))
 
     def test_running(self):
         """One that is running is attached to, its missing parts are started, and it is not new."""
@@ -75,7 +76,7 @@ class Attaches(Mux):
             self.done.clear()
             self.assertEqual(self.mux(*words), 7)
             self.assertEqual([one[0] for one in self.done], ["demand_age", "note_found", "demand_shells", "demand_terminals"])
-            self.assertFalse(self.follows.call_args[0][4]())
+            self.assertFalse(self.follows.call_args[0][4](None))
         self.assertEqual(self.follows.call_args[0][3], "never")
 
     def test_watch(self):
@@ -131,7 +132,7 @@ class Starts(Mux):
         self.follows.assert_not_called()
         self.assertEqual(self.mux("new", "--guess", "always", "work"), 7)
         session, is_watching, prefix, guessing, is_new = self.follows.call_args[0]
-        self.assertEqual((session.name, is_watching, prefix, guessing, is_new()), ("work", False, "C-b", "always", True))
+        self.assertEqual((session.name, is_watching, prefix, guessing, is_new(None)), ("work", False, "C-b", "always", True))
         self.runs.add("work")
         self.refuses("session work is running; `mux attach work` attaches to it", "new", "work")
         self.refuses("'/no/such' is no command; the options of new stand before NAME", "new", "-d", "x", "/no/such")
@@ -211,12 +212,12 @@ class Far(Mux):
         self.assertEqual(session.folder.name.rpartition(":")[0], "ssh:me@there:work")
         self.assertEqual(self.done, [("kill", "work"), ("demand_terminals", "work")])
         with mock.patch.object(remote, "is_first_start", side_effect=[True, False]):
-            self.assertEqual([self.follows.call_args[0][4]() for _ in range(2)], [True, False])
+            self.assertEqual([self.follows.call_args[0][4](None) for _ in range(2)], [True, False])
         starts.return_value = 255
         self.assertEqual(self.mux("ssh", "--guess", "never", "there"), 255)
         self.runs.add("main")
         self.assertEqual(self.mux("ssh", "there"), 7)
-        self.assertEqual((starts.call_count, self.follows.call_args[0][4]()), (2, False))
+        self.assertEqual((starts.call_count, self.follows.call_args[0][4](None)), (2, False))
         self.refuses("'a b' is no name: letters, digits, - and _, 32 at most", "ssh", "there", "a b")
 
     def test_host(self):
@@ -275,12 +276,9 @@ class Far(Mux):
 
     def test_first_start(self):
         """A session is new here where its server has had one start at most, as far as is known."""
-        (self.base / "main").mkdir()
-        session = FolderSession.named("main")
-        for text, is_first in ((None, False), ("1 1 1 2 3\nstarts 1\nfocus 1\n", True), ("1 1 1 2 3\nstarts 2\nfocus 1\n", False)):
-            if text:
-                (self.base / "main/rects").write_text(text, encoding="utf-8")
-            self.assertEqual(remote.is_first_start(session), is_first)
+        for starts, is_first in ((None, False), (1, True), (2, False)):
+            places = None if starts is None else Places({1: Rect(1, 1, 2, 3)}, 1, starts)
+            self.assertEqual(remote.is_first_start(places), is_first)
 
     def test_carry(self):
         """What `mux ssh` runs there starts the session where the other end knows none, and becomes a relay."""

@@ -9,7 +9,7 @@ from roam_live import paths
 from roam_live.bundles import MOST_BUNDLES, PIECE
 from roam_live.paths import (ASKS, ASKS_LARGE, FIRST, HEAD, HELD, LEAST, MOMENT, HeardPackets, Best, Path, PathPace, SentPacket, States,
                              Trips, frames_in)
-from roam_live.relayed import BELL, ENDED, KEYPAD, KILLED, LEAVES, RECTS, Waiting
+from roam_live.relayed import ENDED, KILLED, LEAVES, Waiting
 from roam_live.sealed import LONGEST_PACKET, LONGEST_TEXT, MOST_PACKETS, Seal
 from test_bundles import datagrams, noise, shown, typed
 from test_sealed import Foolish
@@ -538,24 +538,23 @@ class Told(Net):
     """What the ends tell each other of themselves."""
 
     def test_states(self):
-        """The newest of each comes, bells once each time they rang, and nothing twice."""
+        """The newest of each comes, and nothing twice; what an earlier end tells of panes is passed over."""
         self.begin()
-        for text in (RECTS + b"1", RECTS + b"2", BELL + b"\3", BELL + b"\4", KEYPAD + b"\1\1"):
+        for text in (b"p1 1 1 23 80\n", b"b\3\0\0\0\1", b"k\1\1", ENDED, KILLED):
             self.far.tell(0, text)
         self.assertFalse(self.far.is_said())
         self.run_for(1)
         self.assertTrue(self.far.is_said())
-        self.assertEqual(self.got[self.near], [(0, RECTS + b"2"), (0, BELL + b"\3"), (0, BELL + b"\4"), (0, KEYPAD + b"\1\1")])
+        self.assertEqual(self.got[self.near], [(0, KILLED)])
         self.got[self.near].clear()
-        self.far.tell(0, BELL + b"\3")
-        self.far.tell(0, KEYPAD + b"\1\0")
+        self.far.tell(0, KILLED)
         self.run_for(1)
-        self.assertEqual(self.got[self.near], [(0, BELL + b"\3"), (0, KEYPAD + b"\1\0")])
+        self.assertEqual(self.got[self.near], [])
 
     def test_lost(self):
         """What was lost with its base is told anew."""
         self.begin()
-        self.far.tell(0, RECTS + b"1")
+        self.far.tell(0, ENDED)
         self.run_for(1)
         self.near.bundles.coming[0].texts.clear()
         self.far.tell(0, KILLED)
@@ -575,11 +574,9 @@ class Told(Net):
     def test_wrong(self):
         """What can't be told is nothing."""
         states = States()
-        for text in (b"", BELL, BELL + b"\0" + bytes(4), BELL + b"\12" + bytes(4), BELL + b"\1", KEYPAD + b"\1", ENDED + b"x", b"z",
-                     b"s" + bytes(50), b"h" + bytes(8), RECTS + bytes(5000)):
+        for text in (b"", b"b", b"b\1\0\0\0\1", b"k\1", ENDED + b"x", b"z", b"s" + bytes(50), b"h" + bytes(8), b"p" + bytes(5000)):
             self.assertIsNone(states.news(text), text)
         self.assertEqual(states.came, {})
-        self.assertEqual(states.news(BELL + b"\1\0\0\0\1"), BELL + b"\1")
         self.assertEqual(states.news(LEAVES), LEAVES)
 
 

@@ -18,8 +18,9 @@ from roam_live.any_session import Kept, AnySession
 from roam_live.ports import PortSession
 from roam_live.program import TOOLS, Home
 from roam_live.programs import busy_panes
-from roam_live.rects import MOST_STARTS, Places, Rect
+from roam_live.places import Places, Rect
 from roam_live.sessions import NearSession, FolderSession
+from test_display import PlayedPanes
 
 loader = importlib.machinery.SourceFileLoader("mux", str(TOOLS / "mux"))
 mux = importlib.util.module_from_spec(importlib.util.spec_from_loader("mux", loader))
@@ -117,17 +118,9 @@ class Known(Folder):
     def test_all_there(self):
         """Each has all that a front end needs."""
         needed = {name for kind in (Kept, AnySession) for name in (*vars(kind), *kind.__annotations__) if not name.startswith("_")}
-        self.assertGreaterEqual(len(needed), 14)
+        self.assertGreaterEqual(len(needed), 12)
         for session in self.sessions():
             self.assertEqual({name for name in needed if not hasattr(session, name)}, set(), type(session))
-
-    def test_full(self):
-        """Whether a server is full isn't known before something is told of it."""
-        for session in self.sessions():
-            self.assertEqual((session.places(), session.is_full()), (None, None))
-        for starts in (0, 63, 64):
-            (self.folder / "rects").write_text(f"1 1 1 23 80\nstarts {starts}\nwatchers 0\nfocus 1\n", encoding="utf-8")
-            self.assertEqual([session.is_full() for session in self.sessions()], [starts == MOST_STARTS] * 4)
 
 
 class Kill(Folder):
@@ -177,9 +170,8 @@ class Close(Folder):
         link, loop = StartLink(), Loop()
         with mock.patch.object(display, "OuterTerminal", OuterTerminal):
             shown = Display(loop, lambda: None)
-        with mock.patch.object(session, "places", lambda: places):
-            commands = Commands(session, link, shown, loop, lambda line: None)
-            commands.fed(b"\x02x")
+        commands = Commands(session, PlayedPanes(mock.Mock(told=places)), link, shown, loop, lambda line: None)
+        commands.fed(b"\x02x")
         return commands, link, shown
 
     def test_asked(self):

@@ -15,7 +15,7 @@ from roam_live.parsing import WordParser
 from roam_live.ports import PortSession
 from roam_live.processes import Processes, is_note
 from roam_live.program import Fault, Home, begun
-from roam_live.rects import Places, Rect, write_places
+from roam_live.places import Places, Rect
 from roam_live.relayed import greeting, read_greeting
 from roam_live.sessions import VERSION, NearSession, FolderSession
 
@@ -77,18 +77,15 @@ class Read(Based):
         """Each file that is missing, or no file, is nothing that is known."""
         session = self.session()
         self.assertEqual((session.id(), session.places(), session.ended(), session.logged(), session.said(0)), ("", None, "", 0, ""))
-        for name in ("session", "rects", "ended", "state.json"):
+        for name in ("session", "panes", "ended", "state.json"):
             (self.folder / name).mkdir()
         session = self.session()
         self.assertEqual((session.id(), session.places(), session.ended(), session.state), ("", None, "", None))
 
     def test_known(self):
         (self.folder / "session").write_text("5e55\n", encoding="utf-8")
-        write_places(self.folder / "rects", Places({1: Rect(1, 1, 23, 80)}, 1, 64, 0))
         session = self.session()
-        self.assertEqual((session.id(), session.is_full(), str(session)), ("5e55", True, f"in {self.folder}"))
-        write_places(self.folder / "rects", Places({1: Rect(1, 1, 23, 80)}, 1, 63, 0))
-        self.assertFalse(session.is_full())
+        self.assertEqual((session.id(), str(session)), ("5e55", f"in {self.folder}"))
         (self.folder / "ended").write_bytes(b"\xff")
         self.assertEqual(session.ended(), "")
 
@@ -111,16 +108,29 @@ class Read(Based):
 
     def test_line(self):
         """A line of `ls`: name, rows and columns, panes, terminals, and the starts from 33 on."""
+        self.note(server=OWN, shells=OWN)
         session = self.session()
         self.assertEqual(session.line().split(), ["main", "-", "?", "panes", "0", "terminals"])
         one, two = Places({1: Rect(1, 1, 23, 80)}, 1, 32), Places({1: Rect(1, 1, 23, 39), 2: Rect(1, 41, 23, 40)}, 1, 33)
         for places, told in ((one, "main         24 by 80     1 pane   0 terminals"),
                              (two, "main         24 by 80     2 panes  0 terminals, 33 of 64 starts")):
-            write_places(self.folder / "rects", places)
+            self.patch_of(session, "places", lambda places=places: places)
             self.assertEqual(session.line(), told)
         (self.folder / "attached").mkdir()
         (self.folder / "attached" / str(OWN[0])).write_text(f"{OWN[1]} edits\n", encoding="utf-8")
         self.assertIn(" 1 terminal,", session.line())
+
+    def test_lacking(self):
+        """A line of `ls` says where nothing keeps the shells, or what does is stopped; of another machine's it says nothing."""
+        self.note(server=OWN)
+        self.assertTrue(self.session().line().endswith(" 0 terminals, nothing keeps its shells"))
+        keeper = self.process()
+        self.note(server=OWN, shells=[keeper.pid, begun(keeper.pid)])
+        self.assertTrue(self.session().line().endswith(" 0 terminals"))
+        keeper.send_signal(signal.SIGSTOP)
+        os.waitid(os.P_PID, keeper.pid, os.WSTOPPED | os.WNOWAIT)
+        self.assertTrue(self.session().line().endswith(" 0 terminals, what keeps its shells is stopped"))
+        self.assertEqual(NearSession(self.base / "ssh:a:b").lacking(), "")
 
     def test_command_found(self):
         """One whose note is lost is found by its sockets, and its command by what keeps the shells."""
@@ -245,7 +255,7 @@ class Starts(Based):
 
     def test_full(self):
         """A server that has had its 64 starts hears no other, which is told."""
-        write_places(self.folder / "rects", Places({1: Rect(1, 1, 23, 80)}, 1, 64, 0))
+        self.patch_of(FolderSession, "places", lambda _: Places({1: Rect(1, 1, 23, 80)}, 1, 64, 0))
         told = ("session main has had the 64 client starts of its life, and hears no other; what runs in it goes on, and `mux kill main` "
                 "ends it")
         with self.assertRaises(Fault) as fault:
@@ -417,19 +427,16 @@ class Ports(Case):
         self.addCleanup(self.session.close)
 
     def test_known(self):
-        """Little is known of it, and where panes are only where a folder tells it."""
+        """Little is known of it, and where panes are only where a folder has the socket that tells it."""
         self.session.read()
-        self.assertEqual((self.session.places(), self.session.busy(), self.session.is_full()), (None, None, None))
+        self.assertIsNone(self.session.busy())
         self.assertEqual(str(self.session), "at port 9")
         self.assertEqual((self.session.process("server"), self.session.process("shells"), self.session.runs()), (None, None, False))
         self.assertEqual(self.session.ending(), ("[the session has ended]", 0))
         folder = self.made_folder()
-        write_places(folder / "rects", Places({1: Rect(1, 1, 23, 80)}, 1, 64))
         other = PortSession(Home(port=9, session="5e55"), str(folder))
         self.addCleanup(other.close)
-        self.assertEqual((other.places().starts, other.is_full(), other.name), (64, True, "at port 9"))
-        write_places(folder / "rects", Places({1: Rect(1, 1, 23, 80)}, 1, 63))
-        self.assertFalse(other.is_full())
+        self.assertEqual((other.folder, other.name), (folder, "at port 9"))
 
     def test_revived(self):
         """Its start is started where it doesn't run, and ends with the server or the session."""
@@ -485,12 +492,13 @@ class Sends(Based):
 
     def test_not_done(self):
         """What can't be done is looked at again for a second, since what was asked for before may not be told yet."""
-        write_places(self.folder / "rects", Places({1: Rect(1, 1, 23, 80)}, 1, 1))
+        told = [Places({1: Rect(1, 1, 23, 80)}, 1, 1)]
+        self.patch_of(FolderSession, "places", lambda _: told[0])
         with self.assertRaisesRegex(Fault, "^'focus 2' can't be done: there is no pane 2. None was typed$"):
             sending.send(self.session(), ["focus 2"])
         self.assertTrue(101.0 < self.now <= 101.1)
         self.link.connect.assert_not_called()
-        self.patch("time.sleep", lambda _: write_places(self.folder / "rects", Places({1: Rect(1, 1, 9, 9), 2: Rect(1, 11, 9, 9)}, 1, 1)))
+        self.patch("time.sleep", lambda _: told.insert(0, Places({1: Rect(1, 1, 9, 9), 2: Rect(1, 11, 9, 9)}, 1, 1)))
         self.assertEqual(sending.send(self.session(), ["focus 2"]), 0)
 
     def test_refused(self):

@@ -438,7 +438,7 @@ class Numbers(Case):
         """A relay is alone for an hour, its far end half a minute; seven seconds are silence; `ls` tells of more than 32 starts."""
         self.assertEqual((sessions.ALONE, sessions.MANY_STARTS), (3600, 32))
         self.assertEqual((near.SILENT, far.ALONE, ends.PEER_LIMIT, relayed.HEARTBEAT), (7.0, 30.0, 256, 3.0))
-        self.assertEqual((relayed.VERSION, relayed.NOISE_LIMIT, relayed.PLACES_LIMIT, relayed.WAITING_LIMIT), (2, 65536, 4096, 4 << 20))
+        self.assertEqual((relayed.VERSION, relayed.NOISE_LIMIT, relayed.MOST_TOLD, relayed.WAITING_LIMIT), (2, 65536, 4097, 4 << 20))
 
     def test_wide(self):
         """A datagram has 43 to 1,242 bytes: a header of 42, and 1 to 1,200 behind it."""

@@ -11,8 +11,8 @@ from roam_live import ends, far, near
 from roam_live.carriers import LONGEST, SHORTEST
 from roam_live.program import Fault
 from test_relayed import HOSTILE, ODD
-from roam_live.relayed import (BELL, COUNT, ENDED, HAD, HEADER, KEYPAD, KILLED, RECTS, UNPACKS, WAITING_LIMIT, BadWords, RelayStream,
-                               Waiting, greeting)
+from roam_live.relayed import COUNT, ENDED, HAD, HEADER, KILLED, UNPACKS, WAITING_LIMIT, BadWords, RelayStream, Waiting, greeting
+from roam_live.streams import BYTES, CARRIES, OPEN
 
 relay = loaded("relay")
 
@@ -43,7 +43,7 @@ class Other:
             length, peer = HEADER.unpack(text[: HEADER.size])
             found.append((peer, text[HEADER.size : HEADER.size + length]))
             text = text[HEADER.size + length :]
-        return [frame for frame in found if frame != (0, UNPACKS)]
+        return [frame for frame in found if frame not in ((0, UNPACKS), (0, CARRIES))]
 
 
 class FakeLink:
@@ -188,24 +188,16 @@ class Nears(Ends):
         self.turn(2)
         self.assertEqual((len(self.near.carriers), list(self.near.peers.numbers.values())), (1, [2]))
 
-    def test_told(self):
-        """Places are noted, and bells told; what isn't known is nothing."""
+    def test_earlier(self):
+        """A far end of an earlier version tells of panes in ways of its own, which are passed over; that is said once, and none of the sockets
+        that stand for the other machine's is there."""
         self.answer()
-        follower = socket.socket(socket.AF_UNIX, socket.SOCK_STREAM)
-        self.addCleanup(follower.close)
-        follower.connect(str(self.folder / "bells"))
-        follower.setblocking(False)
+        told = [(0, b"p1 1 1 23 80\nfocus 1\n"), (0, b"b\3"), (0, b"b"), (0, b"k\3\1"), (0, b"z?")]
+        self.links[0].say(packed(*told))
         self.turn(2)
-        keypads = [(0, KEYPAD + told) for told in (b"\x03\x01", b"\x04\0", b"\x03\0")]
-        self.links[0].say(packed((0, RECTS + b"1 1 1 23 80\nfocus 1\n"), (0, BELL + b"\x03"), *keypads, (0, b"z?")))
-        self.turn()
-        self.assertEqual((self.folder / "rects").read_text(encoding="utf-8"), "1 1 1 23 80\nfocus 1\n")
-        self.assertEqual(read_now(follower), b"bell 3\nkeypad 3 application\nkeypad 3 numeric\n")
-        (self.folder / "rects").unlink()
-        (self.folder / "rects").mkdir()
-        self.near.note_places(str(self.folder), "x")
-        self.assertIn("rects: Is a directory", self.said.getvalue())
-        (self.folder / "rects").rmdir()
+        self.assertEqual((self.near.carries, self.near.link), (False, self.links[0]))
+        self.assertEqual(self.said.getvalue().count("the other machine's roam is an earlier one"), 1)
+        self.assertEqual([name for name in ("panes", "bells", "shells", "rects") if (self.folder / name).exists()], [])
 
     def test_ended(self):
         """The session's end ends it with status 0, and is noted."""
@@ -218,14 +210,14 @@ class Nears(Ends):
                 self.assertEqual(way.exception.args, (0,))
                 self.close(self.near)
                 self.assertEqual((self.folder / "ended").read_text(encoding="utf-8"), noted)
-                for name in ("clients", "session", "rects", "bells"):
+                for name in ("clients", "session", "panes", "bells"):
                     self.assertFalse((self.folder / name).exists(), name)
                 self.near = self.near_end()
 
     def test_hostile(self):
         """A far end that says what can't be is ended, which is told, and another is spawned; the next greets with the session."""
         self.answer()
-        for text in (packed((0, b"")), packed((0, BELL + b"\0")), packed((0, BELL + b"\x0a")), packed((0, BELL)), packed((0, ENDED + b"x")),
+        for text in (packed((0, b"")), packed((0, OPEN + b"\0\1panes")), packed((0, BYTES + b"\0")), packed((0, ENDED + b"x")),
                      packed((0, HAD + b"1")), packed((0, COUNT.pack(HAD, 1))), packed((1, datagram(1)[:-1])),
                      packed((1, datagram(1, length=LONGEST + 1))), b"\xff" * 9, zlib.compress(b"") + b"x"):
             link = self.near.link
@@ -332,7 +324,7 @@ class Nears(Ends):
         self.links[1].say(greeting("abc"))
         self.turn(2)
         self.assertTrue(self.links[0].has_ended and self.near.link is self.links[1])
-        self.assertTrue(self.said.getvalue().endswith("the link is back\n"))
+        self.assertTrue(self.said.getvalue().endswith("the other end answers again\n"))
 
     @property
     def tool(self):
@@ -616,9 +608,9 @@ class Fars(Ends):
     def test_greets(self):
         """It greets with the session, where that is known, else with none."""
         self.far.turn()
-        self.assertEqual(read_now(self.other.end), b"roam-relay 2 -\n")
+        self.assertEqual(read_now(self.other.end), b"roam-relay 2 -\n" + packed((0, CARRIES)))
         one = self.far_end(session="5e55")
-        self.assertEqual(one.stream.going, b"roam-relay 2 5e55\n")
+        self.assertTrue(one.stream.going.startswith(b"roam-relay 2 5e55\n"))
         self.assertEqual((one.stream.session, self.far_end(greeted=True).stream.session), (None, "-"))
 
     def test_carries(self):
@@ -633,7 +625,7 @@ class Fars(Ends):
         servers[1].send(one + datagram(9))
         for _ in range(3):
             self.far.turn()
-        self.assertAlmostEqual(self.waited, 0.1)
+        self.assertAlmostEqual(self.waited, 3.0)
         self.assertEqual([frame for frame in self.other.frames() if frame[0]], [(7, datagram(9))])
         servers[0].close()
         self.far.turn()
@@ -660,36 +652,6 @@ class Fars(Ends):
         dropped.close.assert_called_once_with()
         self.assertEqual((len(self.far.sockets), 2 in self.far.sockets, self.far.moments[300]), (256, False, 100.0))
         self.far.sockets[300].send.assert_called_once_with(datagram(1))
-
-    def test_rects(self):
-        """Where panes are is told, and told again where it is another place; 4,096 bytes of it at most."""
-        self.far.turn()
-        self.assertEqual(self.other.frames(), [])
-        for text in (b"1 1 1 23 80\nfocus 1\n", b"1 1 1 23 80\nfocus 1\n", b"x" * 5000):
-            (self.folder / "rects").write_bytes(text)
-            for _ in range(2):
-                self.far.turn()
-        self.assertEqual(self.other.frames(), [(0, RECTS + b"1 1 1 23 80\nfocus 1\n"), (0, RECTS + b"x" * 4096)])
-
-    def test_bells(self):
-        """Bells are told."""
-        listener = self.listening(self.folder / "bells")
-        self.far.turn()
-        self.taken(listener).send(b"bell 3\nbell 9\n")
-        for _ in range(2):
-            self.far.turn()
-        self.assertEqual(self.other.frames(), [(0, BELL + b"\x03"), (0, BELL + b"\x09")])
-
-    def test_keypads(self):
-        """How keypads are is told, each once."""
-        listener = self.listening(self.folder / "bells")
-        self.far.turn()
-        bells = self.taken(listener)
-        for line in (b"keypad 3 application\n", b"keypad 3 application\n", b"keypad 3 numeric\n"):
-            bells.send(line)
-            for _ in range(3):
-                self.far.turn()
-        self.assertEqual(self.other.frames(), [(0, KEYPAD + b"\x03\x01"), (0, KEYPAD + b"\x03\0")])
 
     def test_silence(self):
         """One that has heard nothing for 30 s ends; what it has to say it says each 3 s."""
@@ -832,11 +794,22 @@ class Streams(Ends):
 
     def test_each_cut(self):
         """A short stream, cut at each place."""
-        text = greeting("abc") + packed((1, datagram(1)), (0, b"z1"), (0, RECTS + b"p"), (9, datagram(2)))
+        text = greeting("abc") + packed((1, datagram(1)), (0, b"z1"), (0, b"zp"), (9, datagram(2)))
         for cut in range(len(text) + 1):
             self.receiver = RelayStream(self.there[0], self.back[1], "-")
             found = [frame for piece in (text[:cut], text[cut:]) if piece for frame in self.received(piece)]
-            self.assertEqual(found, [(1, datagram(1)), (0, b"z1"), (0, RECTS + b"p"), (9, datagram(2))], cut)
+            self.assertEqual(found, [(1, datagram(1)), (0, b"z1"), (0, b"zp"), (9, datagram(2))], cut)
+
+    def test_each_cut_carried(self):
+        """The frames of carried connections, cut at each place: their bytes are counted, and the first frame tells whether there are any."""
+        told = [(0, CARRIES), (0, b"o\0\1panes"), (0, b"d\0\1focus 1\n"), (0, b"t\0\1" + bytes(8)), (0, b"q\0\1"), (1, datagram(1))]
+        for frames, carries in ((told, True), (told[1:], False)):
+            text = greeting("abc") + packed(*frames)
+            for cut in range(len(text) + 1):
+                self.receiver = RelayStream(self.there[0], self.back[1], "-")
+                found = [frame for piece in (text[:cut], text[cut:]) if piece for frame in self.received(piece)]
+                self.assertEqual((found, self.receiver.carries), (frames, carries), cut)
+                self.assertEqual(self.receiver.had, 11 + SHORTEST)
 
     def test_versions(self):
         for line, told in ((b"roam-relay 1 5e55\n", "the other end is of an earlier roam: its relay has version 1, and this one version 2"),

@@ -1,18 +1,16 @@
 """What the two ends of a relay say to each other, and what an end does with what can't be."""
 import os
-import pathlib
 import random
-import tempfile
 import unittest
 import zlib
 from unittest import mock
 
 from aids import Case
-from roam_live import rects
 from roam_live.bundles import LONGEST_TEXT, joined, pack_large
 from roam_live.carriers import LONGEST, SHORTEST
-from roam_live.relayed import (BELL, COUNT, ENDED, HAD, HEADER, MOST_TOLD, PACKED, PACKED_HEAD, RECTS, UNPACKS, BadWords, RelayStream,
-                               Waiting, greeting)
+from roam_live.relayed import (COUNT, ENDED, HAD, HEADER, MOST_TOLD, PACKED, PACKED_HEAD, UNPACKS, BadWords, RelayStream, Waiting,
+                               greeting)
+from roam_live.streams import BYTES, CARRIES, END, NUMBER, OPEN, TAKEN, TAKEN_COUNT
 
 
 def frame(peer, text):
@@ -41,13 +39,15 @@ HOSTILE = {
     "an empty frame": (packed(frame(0, b"")), "an empty frame"),
     "an empty frame for a peer": (packed(frame(7, b"")), "an empty frame"),
     "4 MB of empty frames": (packed(frame(7, b"") * (1 << 20)), "an empty frame"),
-    "a bell of no pane": (packed(frame(0, BELL)), "can't be read"),
-    "a bell of pane 0": (packed(frame(0, BELL + b"\0")), "can't be read"),
-    "a bell of pane 10": (packed(frame(0, BELL + b"\x0a")), "can't be read"),
+    "a connection that the far end opens": (packed(frame(0, NUMBER.pack(OPEN, 1) + b"panes")), "the far end opens a connection"),
+    "bytes of no connection": (packed(frame(0, BYTES + b"\1")), "is cut"),
+    "no bytes of one": (packed(frame(0, NUMBER.pack(BYTES, 1))), "another length"),
+    "an end of one and more": (packed(frame(0, NUMBER.pack(END, 1) + b"x")), "another length"),
+    "half of what was taken of one": (packed(frame(0, TAKEN_COUNT.pack(TAKEN, 1, 1)[:-1])), "another length"),
     "an end and more": (packed(frame(0, ENDED + b"x")), "can't be read"),
     "a short count": (packed(frame(0, HAD + b"1")), "can't be read"),
     "more had than was sent": (packed(frame(0, COUNT.pack(HAD, 2**64 - 1))), "the other end has had"),
-    "too many places": (packed(frame(0, RECTS + bytes(MOST_TOLD))), f"{MOST_TOLD + 1} bytes"),
+    "too much at once": (packed(frame(0, b"z" + bytes(MOST_TOLD))), f"{MOST_TOLD + 1} bytes"),
     "a datagram that is too short": (packed(frame(1, datagram(SHORTEST - 1))), f"{SHORTEST - 1} bytes"),
     "a datagram that is too long": (packed(frame(1, datagram(LONGEST + 1))), f"{LONGEST + 1} bytes"),
     "no zlib": (b"\xff" * 100, "can't be read"),
@@ -58,16 +58,18 @@ HOSTILE = {
     "more than an instruction, packed": (packed(packed_frame(pack_large(bytes(LONGEST_TEXT + 1)))), "packed can't be read"),
     "packed frames without an end": (packed(packed_frame(bytes(4093), 0) * 1400), "of one instruction"),
     "a dictionary": (b"\x78\xbb" + b"\x55" * 100, "can't be read"),
-    "the end of what is compressed": (zlib.compress(frame(0, BELL + b"\x01")) + bytes(100), "has ended, and the other end hasn't"),
+    "the end of what is compressed": (zlib.compress(frame(0, b"z")) + bytes(100), "has ended, and the other end hasn't"),
 }
 
 # What is odd, and no fault.
 ODD = {
-    "bells of all panes": packed(b"".join(frame(0, BELL + bytes([pane])) for pane in range(1, 10))),
+    "bytes and ends of connections that aren't there": packed(b"".join(
+        frame(0, NUMBER.pack(BYTES, number) + b"x") + frame(0, NUMBER.pack(END, number)) + frame(0, TAKEN_COUNT.pack(TAKEN, number, 9))
+        for number in range(1, 10000))),
+    "that it carries, again and again": packed(frame(0, CARRIES) * 1000),
     "a frame for each peer": packed(b"".join(frame(peer, datagram(62)) for peer in range(1, 65536))),
     "8 MB of datagrams": packed(frame(9, datagram(1242)) * (1 << 13)),
-    "places of garbage": packed(frame(0, RECTS + bytes(range(256)) * 15)),
-    "places of huge numbers": packed(frame(0, RECTS + b"1 " + b"9" * 1500 + b" 1 " + b"9" * 1500 + b" 9\nfocus 1\n")),
+    "what an earlier far end tells of panes": packed(frame(0, b"p" + bytes(range(256)) * 15) + frame(0, b"b") + frame(0, b"k\0")),
     "what isn't known": packed(frame(0, b"z" * MOST_TOLD)),
 }
 
@@ -276,31 +278,6 @@ class Whole(unittest.TestCase):
         self.assertEqual((self.waiting.size, list(self.waiting.datagrams)), (0, []))
         self.waiting.add(1, b"no datagram of roam")
         self.assertEqual(self.waiting.first_whole(), (0, []))
-
-
-class Places(unittest.TestCase):
-    """Places of panes as another machine tells them."""
-
-    def read(self, text):
-        """What is read of a file with this text."""
-        with tempfile.TemporaryDirectory() as folder:
-            path = pathlib.Path(folder, "rects")
-            path.write_bytes(text)
-            return rects.read_places(path)
-
-    def test_numbers(self):
-        """Numbers have at most four digits, and panes are 1 to 9."""
-        found = self.read(b"1 1 1 9999 9999\nstarts 64\nwatchers 16\nfocus 1\n")
-        self.assertEqual(found, rects.Places({1: rects.Rect(1, 1, 9999, 9999)}, 1, 64, 16))
-        for way in rects.BESIDE:
-            self.assertIsNone(found.neighbour(way))
-        for line in (b"1 1 1 10000 80", b"1 -1 1 23 80", b"1 1 1 23 8_0", b"0 1 1 23 80", b"10 1 1 23 80", b"1 1 1 23 " + b"9" * 4000,
-                     "1 1 1 23 \u0663".encode(), b"1 1 1 23 \xff"):
-            self.assertEqual(self.read(line + b"\nstarts 1\nwatchers 0\nfocus 1\n"), None, line)
-
-    def test_long(self):
-        """Of a long file little is read."""
-        self.assertEqual(self.read(b"1 1 1 23 80\n" + b"x\n" * 100_000 + b"focus 1\n"), None)
 
 
 if __name__ == "__main__":

@@ -1,7 +1,7 @@
 """Which acts can't be done, where it is known where the panes are."""
 import unittest
 
-from roam_live.rects import Places, Rect
+from roam_live.places import Places, Rect
 from roam_live.sending import wrong_in
 
 ONE = Places({1: Rect(1, 1, 23, 80)}, 1)

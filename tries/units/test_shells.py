@@ -179,7 +179,10 @@ class Kept(unittest.TestCase):
 
     def test_let_go(self):
         """A keeper that the server lets go keeps its shells, follows again, and knows then which panes are there still."""
-        process = self.run_tool(str(self.folder), "sh", "-c", "echo here; exec cat")
+        server = subprocess.Popen(["sleep", "60"])
+        self.addCleanup(server.wait)
+        self.addCleanup(server.kill)
+        process = self.run_tool("--server", str(server.pid), str(self.folder), "sh", "-c", "echo here; exec cat")
         follower = self.told(b"1 1 1 23 39 1\n2 1 41 23 39 1\nfocus 1\nstarts 1 of 64\n")
         panes = [self.server.taken(name) for name in ("p1", "p2")]
         for pane in panes:
@@ -193,6 +196,12 @@ class Kept(unittest.TestCase):
         self.assertEqual(self.said(), "")
         self.server.close()
         follower.close()
+        with self.assertRaises(subprocess.TimeoutExpired):
+            process.wait(0.5)
+        panes[0].send(b"and still\n")
+        self.assertTrue(self.shows(panes[0], b"and still"))
+        server.kill()
+        server.wait()
         self.assertEqual(process.wait(10), 0)
 
     def test_last(self):

@@ -12,7 +12,8 @@ from roam_live.bundles import MOST_BUNDLES
 from roam_live.ends import Ended
 from roam_live.paths import Path
 from roam_live.program import Fault, count_front_ends
-from roam_live.relayed import BELL, ENDED, HAD, KEYPAD, KILLED, LEAVES, RECTS, RelayStream, Waiting, greeting
+from roam_live.relayed import ENDED, HAD, KILLED, LEAVES, RelayStream, Waiting, greeting
+from roam_live.streams import CARRIES
 from roam_live.sealed import Seal, udp_end
 from test_bundles import shown, typed
 from test_relay import FakeLink, Other, packed
@@ -112,7 +113,7 @@ class Near(Both):
         self.links[-1].say(greeting("abc"))
         self.near.turn()
         if tells:
-            self.links[-1].tell((0, SEALED_HEAD.pack(b"s", 1, self.port, KEY) + b"127.0.0.1"))
+            self.links[-1].tell((0, CARRIES), (0, SEALED_HEAD.pack(b"s", 1, self.port, KEY) + b"127.0.0.1"))
         self.near.turn()
 
     def sound(self):
@@ -148,19 +149,15 @@ class Near(Both):
         self.assertIs(self.near.way(), self.near.ways.path)
         self.near.waiting.add(3, typed(2)[0])
         self.run_for(0.1)
-        self.assertEqual((self.frames()[-1], self.came), ((3, typed(1)[0]), [(3, typed(2)[0])]))
+        self.assertEqual(([frame for frame in self.frames() if frame[0]][-1], self.came), ((3, typed(1)[0]), [(3, typed(2)[0])]))
         delivered = self.patch_of(self.near, "deliver")
         self.waiting.add(3, shown(1)[0])
         self.run_for(0.1)
         delivered.assert_called_once_with(3, shown(1)[0])
 
     def test_told(self):
-        """What the far end tells over the path is noted as ever; its end ends this one, which says that it heard."""
+        """The end that the far end tells over the path ends this one, which says that it heard."""
         self.sound()
-        self.far.tell(0, RECTS + b"1 1 1 23 80\nfocus 1\n")
-        self.far.tell(0, BELL + b"\3")
-        self.run_for(0.2)
-        self.assertEqual((self.folder / "rects").read_text(encoding="utf-8"), "1 1 1 23 80\nfocus 1\n")
         self.far.tell(0, KILLED)
         with self.ends():
             self.run_for(1)
@@ -234,7 +231,7 @@ class Near(Both):
         self.assertTrue(self.near.ways.is_sound())
         self.assertEqual((self.near.tries, [link.has_ended for link in self.links[1:]]), ([], [True] * (len(self.links) - 1)))
         self.assertEqual(self.came[-1], (3, typed(1)[0]))
-        self.assertIn("the link is back\n", self.said.getvalue())
+        self.assertIn("the other end answers again\n", self.said.getvalue())
 
     def test_another_command(self):
         """Another command that answers is asked for another path, and the old one is dropped."""
@@ -395,10 +392,9 @@ class Far(Both):
         self.assertEqual(self.far.ways.path.end.getsockname()[1], SEALED_HEAD.unpack_from(told[1])[2])
 
     def test_carries(self):
-        """A sound path carries all, both ways, and where panes are is told by it anew."""
-        (self.folder / "rects").write_text("1 1 1 23 80\n", encoding="utf-8")
+        """A sound path carries all, both ways."""
         self.sound()
-        self.assertEqual(self.came, [(0, RECTS + b"1 1 1 23 80\n")])
+        self.assertEqual(self.came, [])
         sent = self.patch_of(self.far, "send")
         self.waiting.add(3, typed(1)[0])
         self.run_for(0.1)
@@ -407,14 +403,6 @@ class Far(Both):
         self.run_for(0.1)
         self.assertEqual(self.came[-1], (3, shown(1)[0]))
         self.assertNotIn((3, shown(1)[0]), self.frames())
-
-    def test_keypads(self):
-        """How keypads are is told by another way anew, those too that are numeric again."""
-        self.far.bells.keypads = {1, 2}
-        self.ask()
-        self.far.bells.keypads = {2}
-        self.sound(False)
-        self.assertEqual(sorted(self.came), [(0, KEYPAD + b"\1\0"), (0, KEYPAD + b"\2\1")])
 
     def test_command_ends(self):
         """Where the command ends it goes on, and lets the process go that held it; it is still counted."""

@@ -1,0 +1,207 @@
+"""The sockets of a near folder that stand for those of the session at the other machine: each connection to `bells` and `shells` is carried
+there, and `panes` is followed there once and told here to all who follow it."""
+from __future__ import annotations
+
+import os
+import socket
+from collections.abc import Callable
+
+from roam_live.following import Following
+from roam_live.listeners import Listener
+from roam_live.loops import Loop
+from roam_live.places import ToldPanes
+from roam_live.program import Fault, read, reason, say, write
+
+TYPE_CHECKING = False
+if TYPE_CHECKING:
+    from typing import Any
+
+    from roam_live.streams import Streams
+
+    # What carries connections now; None where nothing does.
+    Carries = Callable[[], "Streams[Any] | None"]
+
+# Who follows the panes here, so many at most, and so many bytes at most wait for one.
+MOST_FOLLOWERS = 64
+MOST_WAITING = 1 << 16
+
+PANES = "panes"
+CARRIED = ("bells", "shells")
+
+
+class CarriedSocket:
+    """A socket of the near folder: who connects is carried to that of its name at the other machine. Who comes while nothing carries waits;
+    for whom there is no room is let go."""
+
+    def __init__(self, folder: str, name: str, loop: Loop, carries: Carries) -> None:
+        self.name, self.carries = name, carries
+        self.listener = Listener(loop, os.path.join(folder, name), self.take, lambda: carries() is not None, lambda fault: None)
+
+    def take(self, peer: socket.socket) -> None:
+        """Has one who came carried."""
+        streams = self.carries()
+        if not streams or not streams.begin(self.name, peer):
+            peer.close()
+
+    def close(self) -> None:
+        """Removes the socket."""
+        self.listener.close()
+
+
+class PanesPeer:
+    """One who follows the panes here, and what waits for it."""
+
+    def __init__(self, end: socket.socket) -> None:
+        self.end = end
+        self.waiting = bytearray()
+        # Whether it was told all.
+        self.knows = False
+
+
+class SharedPanes:
+    """The socket `panes` of the near folder: the panes of the other machine, which are followed there once."""
+
+    def __init__(self, folder: str, loop: Loop, carries: Carries) -> None:
+        self.loop, self.carries = loop, carries
+        self.told = ToldPanes()
+        self.peers: list[PanesPeer] = []
+        self.following = Following(self.opened, loop, self.hear, self.lose)
+        self.listener = Listener(loop, os.path.join(folder, PANES), self.take, lambda: self.following.peer is not None, lambda fault: None)
+        self.following.connect()
+
+    def opened(self) -> socket.socket:
+        """A connection to the other machine's panes; OSError where nothing carries one now."""
+        streams = self.carries()
+        if not streams:
+            raise ConnectionRefusedError("nothing carries it")
+        ours, theirs = socket.socketpair()
+        for end in (ours, theirs):
+            end.setblocking(False)
+        if not streams.begin(PANES, theirs):
+            ours.close()
+            theirs.close()
+            raise BlockingIOError("no room is left for it")
+        return ours
+
+    def wake(self) -> None:
+        """Follows at once, now that something carries it."""
+        if not self.following.peer:
+            self.following.faults = 0
+            self.loop.drop("follow panes")
+            self.following.connect()
+
+    # ---- what the other machine tells
+
+    def hear(self, lines: list[str]) -> None:
+        """Tells what was told there; what can't be isn't passed on."""
+        news = [line for line in lines if self.told.take(line)]
+        for peer in list(self.peers):
+            if peer.knows:
+                self.tell(peer, news)
+            else:
+                self.tell_all(peer)
+
+    def lose(self) -> None:
+        """Lets all go who follow: where the panes are isn't known now, and who comes again is told what is so then."""
+        self.told = ToldPanes()
+        for peer in list(self.peers):
+            self.drop(peer)
+
+    # ---- who follows here
+
+    def take(self, end: socket.socket) -> None:
+        """Takes one who came; above the most it is let go."""
+        if len(self.peers) >= MOST_FOLLOWERS:
+            end.close()
+            return
+        peer = PanesPeer(end)
+        self.peers.append(peer)
+        # What one asks is read once it has all that it was told, so that another can go on from there.
+        self.loop.add(end, lambda: self.asked(peer), lambda: self.write(peer), has_more=lambda: peer.waiting,
+                      hears=lambda: not peer.waiting)
+        self.tell_all(peer)
+
+    def tell_all(self, peer: PanesPeer) -> None:
+        """Tells one all that is known, once it is enough."""
+        lines = self.told.lines()
+        if lines:
+            peer.knows = True
+            self.tell(peer, lines)
+
+    def tell(self, peer: PanesPeer, lines: list[str]) -> None:
+        """Tells one lines; who doesn't take what is told is let go."""
+        peer.waiting += "".join(f"{line}\n" for line in lines).encode()
+        if len(peer.waiting) > MOST_WAITING:
+            self.drop(peer)
+
+    def write(self, peer: PanesPeer) -> None:
+        """Writes what one takes."""
+        if not write(peer.end.fileno(), peer.waiting):
+            self.drop(peer)
+
+    def asked(self, peer: PanesPeer) -> None:
+        """Takes what one asks the server for: it has a connection of its own there from then on, since it is answered alone."""
+        piece = read(peer.end.fileno())
+        if piece is None:
+            return
+        streams = self.carries()
+        if not piece or not streams:
+            self.drop(peer)
+            return
+        self.part(peer)
+        if not streams.begin(PANES, peer.end, piece):
+            peer.end.close()
+
+    def part(self, peer: PanesPeer) -> None:
+        """Tells one no more."""
+        self.loop.remove(peer.end)
+        self.peers.remove(peer)
+
+    def drop(self, peer: PanesPeer) -> None:
+        """Lets one go."""
+        self.part(peer)
+        peer.end.close()
+
+    def close(self) -> None:
+        """Removes the socket, and lets all go."""
+        self.listener.close()
+        self.loop.drop("follow panes")
+        self.following.leave()
+        for peer in list(self.peers):
+            self.drop(peer)
+
+
+class NearSockets:
+    """All of them, while the other end carries connections."""
+
+    def __init__(self, folder: str, loop: Loop, carries: Carries) -> None:
+        self.folder, self.loop, self.carries = folder, loop, carries
+        self.panes: SharedPanes | None = None
+        self.others: list[CarriedSocket] = []
+        # What carried connections when that was seen last.
+        self.carrier: Streams[Any] | None = None
+
+    def open(self) -> None:
+        """Has the sockets be there; where one can't be had that is told."""
+        if self.panes:
+            return
+        try:
+            self.panes = SharedPanes(self.folder, self.loop, self.carries)
+            for name in CARRIED:
+                self.others.append(CarriedSocket(self.folder, name, self.loop, self.carries))
+        except (Fault, OSError) as fault:
+            say(f"no panes and no bells are told: {reason(fault)}")
+
+    def wake(self) -> None:
+        """Goes on where something else carries connections than before."""
+        before, self.carrier = self.carrier, self.carries()
+        if self.panes and self.carrier and self.carrier is not before:
+            self.panes.wake()
+
+    def close(self) -> None:
+        """Removes the sockets."""
+        for other in self.others:
+            other.close()
+        if self.panes:
+            self.panes.close()
+        self.panes, self.others = None, []

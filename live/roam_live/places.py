@@ -1,0 +1,148 @@
+"""Where the panes of a session are: as the socket `panes` of its folder tells it, line by line, to whoever follows it or asks once."""
+from __future__ import annotations
+
+import os
+import re
+import time
+from collections import namedtuple
+
+from roam_live.loops import comes
+from roam_live.program import Lines, connected_in, read
+
+BESIDE = {"left": (0, -1), "right": (0, 1), "up": (-1, 0), "down": (1, 0)}
+
+# A session has so many panes at most; one that is split has room for two and the border between.
+MOST_PANES = 9
+ROOM = {"right": (0, 9), "down": (5, 0)}
+
+# A server knows so many client starts that edit.
+MOST_STARTS = 64
+
+# What a line tells: where a pane is and which making of its number, that it is gone, which is in focus, or how many starts there were of
+# how many. It may have come from another machine: its numbers are small.
+TOLD = re.compile(r"(?P<pane>[1-9])((?: \d{1,4}){4}) \d{1,19}|(?P<gone>[1-9]) gone|focus (?P<focus>[1-9])"
+                  r"|(?P<kind>starts|watchers) (?P<count>\d{1,4})(?: of \d{1,4})?", re.ASCII)
+
+# So many seconds a server has for what it is asked once, and what is told behind the focus for coming.
+ASKED = 1.0
+BEHIND = 0.1
+
+
+class Rect(namedtuple("Rect", "row col rows cols")):
+    """A pane's first row and column, from 1, and its rows and columns."""
+
+    row: int
+    col: int
+    rows: int
+    cols: int
+
+
+class Places(namedtuple("Places", "rects focus starts watchers", defaults=(0, 0, 0))):
+    """What is told of a session: the rectangles of its panes by number, the focus, and how many starts edited and watched so far."""
+
+    rects: dict[int, Rect]
+    focus: int
+    starts: int
+    watchers: int
+
+    def size(self) -> tuple[int, int]:
+        """The session's rows and columns."""
+        rects = self.rects.values()
+        return max(rect.row + rect.rows for rect in rects), max(rect.col + rect.cols - 1 for rect in rects)
+
+    def is_full(self) -> bool:
+        """Whether the server knows as many starts as it ever does."""
+        return self.starts >= MOST_STARTS
+
+    def neighbour(self, way: str) -> int | None:
+        """The pane that touches the one in focus on that side, nearest to its middle; None where none does."""
+        here = self.rects[self.focus]
+        down, right = BESIDE[way]
+        middle = (here.row + (here.rows - 1) / 2, here.col + (here.cols - 1) / 2)
+        row = middle[0] if not down else here.row + (here.rows + 1 if down > 0 else -2)
+        col = middle[1] if not right else here.col + (here.cols + 1 if right > 0 else -2)
+        others = [(pane, rect) for pane, rect in self.rects.items() if pane != self.focus]
+        found = [(distance(rect, row, col), pane) for pane, rect in others if covers(rect, row, col, bool(right))]
+        return min(found)[1] if found else None
+
+    def unsplit(self, way: str) -> str:
+        """Why the pane in focus can't be split that way; nothing where it can, or that isn't known."""
+        here = self.rects.get(self.focus)
+        if len(self.rects) >= MOST_PANES:
+            return f"there are {MOST_PANES} panes, and no more"
+        if here and (here.rows < ROOM[way][0] or here.cols < ROOM[way][1]):
+            return f"pane {self.focus} is too small to be split: {here.rows} by {here.cols}"
+        return ""
+
+
+def covers(rect: Rect, row: float, col: float, is_beside: bool) -> bool:
+    """Whether a pane has the column to a side, or the row above or below."""
+    if is_beside:
+        return rect.col <= col < rect.col + rect.cols
+    return rect.row <= row < rect.row + rect.rows
+
+
+def distance(rect: Rect, row: float, col: float) -> float:
+    """How far a pane is from a point, along the side that it may lie off."""
+    below, beside = rect.row + rect.rows - 1, rect.col + rect.cols - 1
+    return max(rect.row - row, row - below, 0) + max(rect.col - col, col - beside, 0)
+
+
+class ToldPanes:
+    """What was told of a session's panes so far."""
+
+    def __init__(self) -> None:
+        self.panes: dict[int, str] = {}
+        self.rects: dict[int, Rect] = {}
+        self.focus = 0
+        self.counts: dict[str, tuple[int, str]] = {}
+
+    def take(self, line: str) -> bool:
+        """Takes a line, and tells whether it can be one of these."""
+        found = TOLD.fullmatch(line)
+        if not found:
+            return False
+        if found["pane"]:
+            pane = int(found["pane"])
+            self.panes[pane], self.rects[pane] = line, Rect(*map(int, found[2].split()))
+        elif found["gone"]:
+            self.panes.pop(int(found["gone"]), None)
+            self.rects.pop(int(found["gone"]), None)
+        elif found["focus"]:
+            self.focus = int(found["focus"])
+        else:
+            self.counts[found["kind"]] = int(found["count"]), line
+        return True
+
+    def places(self) -> Places | None:
+        """Where the panes are; None where the focus, which is told behind them, isn't known, or on no pane."""
+        if self.focus not in self.rects:
+            return None
+        starts, watchers = (self.counts.get(kind, (0, ""))[0] for kind in ("starts", "watchers"))
+        return Places(dict(sorted(self.rects.items())), self.focus, starts, watchers)
+
+    def is_whole(self) -> bool:
+        """Whether all is known that is told at first."""
+        return self.focus in self.rects and len(self.counts) == 2
+
+    def lines(self) -> list[str]:
+        """The lines by which somebody who knows nothing knows as much, in the order of a server."""
+        counts = [self.counts[kind][1] for kind in ("starts", "watchers") if kind in self.counts]
+        return [*(line for _, line in sorted(self.panes.items())), f"focus {self.focus}", *counts] if self.places() else []
+
+
+def asked_places(path: str | os.PathLike[str], seconds: float = ASKED) -> Places | None:
+    """Where the panes are, asked once at a socket `panes`; None where nobody tells it in so many seconds."""
+    end, told, lines = time.monotonic() + seconds, ToldPanes(), Lines()
+    try:
+        with connected_in(path, seconds) as peer:
+            while not told.is_whole() and comes(peer, max(0.0, end - time.monotonic())):
+                piece = read(peer.fileno())
+                if piece == b"":
+                    break
+                for line in lines.fed(piece or b""):
+                    told.take(line)
+                end = min(end, time.monotonic() + BEHIND) if told.places() else end
+    except OSError:
+        return None
+    return told.places()

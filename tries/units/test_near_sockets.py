@@ -1,0 +1,233 @@
+"""The sockets of a near folder that stand for those at the other machine: who connects there is carried, and panes are followed once."""
+import os
+import socket
+import unittest
+
+from aids import Case, StillLoop, read_now
+from roam_live import near_sockets
+from roam_live.near_sockets import MOST_FOLLOWERS, MOST_WAITING, NearSockets
+from roam_live.streams import PipeStreams
+
+LINES = b"1 1 1 23 39 1\n2 1 41 23 39 1\nfocus 1\nstarts 1 of 64\nwatchers 0 of 16\n"
+
+
+class Sockets(Case):
+    """A near folder, and a far one whose sockets are played."""
+
+    def setUp(self):
+        self.stop_clock()
+        self.loop = StillLoop()
+        self.folder = self.made_folder()
+        self.names, self.servers = [], {}
+        self.is_refused = False
+        self.make()
+        self.carrying = self.near
+        self.sockets = NearSockets(str(self.folder), self.loop, lambda: self.carrying)
+        self.addCleanup(self.sockets.close)
+        self.sockets.open()
+
+    def make(self):
+        """Both ends of what carries connections."""
+        self.going = [], []
+        self.near = PipeStreams(self.loop, lambda text, _: self.going[0].append(text))
+        self.far = PipeStreams(self.loop, lambda text, _: self.going[1].append(text), self.opens)
+
+    def opens(self, name):
+        """A connection to a socket of the far folder."""
+        self.names.append(name)
+        if self.is_refused:
+            raise ConnectionRefusedError("nobody is there")
+        ours, theirs = self.pair()
+        self.servers.setdefault(name, []).append(theirs)
+        return ours
+
+    def turn(self, count=1):
+        """Carries what there is, so often."""
+        for _ in range(count):
+            self.sockets.wake()
+            self.loop.turn()
+            for end, other, texts in ((self.near, self.far, self.going[0]), (self.far, self.near, self.going[1])):
+                end.fill(4097)
+                while texts:
+                    other.take(texts.pop(0))
+
+    def connect(self, name="panes"):
+        """One who connects there."""
+        one = socket.socket(socket.AF_UNIX, socket.SOCK_STREAM)
+        self.addCleanup(one.close)
+        one.connect(str(self.folder / name))
+        one.setblocking(False)
+        self.turn(3)
+        return one
+
+    def panes(self):
+        """The other machine's end of the connection that follows."""
+        return self.servers["panes"][-1]
+
+    def tell(self, text):
+        """Has the other machine's server tell of its panes."""
+        self.panes().send(text)
+        self.turn(4)
+
+
+class Panes(Sockets):
+    """Who follows the panes here."""
+
+    def test_once(self):
+        """They are followed there once, and told to all here, who come when they come."""
+        self.turn(3)
+        first = self.connect()
+        self.assertEqual((self.names, read_now(first)), (["panes"], b""))
+        self.tell(LINES)
+        self.assertEqual(read_now(first), LINES)
+        second = self.connect()
+        self.assertEqual(read_now(second), LINES)
+        self.tell(b"focus 2\n2 gone\nfocus 1\n")
+        self.assertEqual([read_now(one) for one in (first, second)], [b"focus 2\n2 gone\nfocus 1\n"] * 2)
+        third = self.connect()
+        self.assertEqual(read_now(third), b"1 1 1 23 39 1\nfocus 1\nstarts 1 of 64\nwatchers 0 of 16\n")
+        self.assertEqual(self.names, ["panes"])
+
+    def test_nonsense(self):
+        """What can't be told isn't passed on, in whatever pieces it comes, and takes no memory."""
+        self.turn(3)
+        one = self.connect()
+        self.tell(b"\x1b[2Jfocus 9\nfocus 12\n1 1 1 23 80 1 \n" + b"x" * 30000)
+        self.turn(10)
+        for _ in range(20):
+            self.tell(b"y" * 30000)
+            self.turn(10)
+        self.tell(b"\n" + LINES[:9])
+        self.tell(LINES[9:] + b"bad line\n\xff\xfe\n")
+        self.assertEqual(read_now(one), LINES)
+        self.assertLess(len(self.sockets.panes.following.lines.rest), 1 << 16)
+
+    def test_lost(self):
+        """Where the connection breaks those here end too; who comes waits, and is told what is so once it is there again."""
+        self.turn(3)
+        self.tell(LINES)
+        one = self.connect()
+        self.near.close()
+        self.carrying = None
+        self.turn(3)
+        self.assertEqual((read_now(one), one.recv(1)), (LINES, b""))
+        waits = self.connect()
+        self.turn(3)
+        with self.assertRaises(BlockingIOError):
+            waits.recv(1)
+        self.make()
+        self.carrying = self.near
+        self.turn(4)
+        self.tell(b"3 1 1 23 80 1\nfocus 3\n")
+        self.assertEqual(read_now(waits), b"3 1 1 23 80 1\nfocus 3\n")
+
+    def test_refused(self):
+        """Where the server there takes nobody who comes here is let go, and it is tried again after pauses."""
+        self.is_refused = True
+        self.turn(6)
+        self.assertEqual(self.names, ["panes"])
+        self.now += 0.1
+        self.turn()
+        one = self.connect()
+        self.turn(3)
+        self.assertEqual(self.names, ["panes"] * 2)
+        self.now += 1
+        self.is_refused = False
+        self.turn(6)
+        self.tell(LINES)
+        self.assertEqual(read_now(one) or read_now(self.connect()), LINES)
+
+    def test_asks(self):
+        """Who asks for something has a connection of its own there, which is told all and answered alone."""
+        self.turn(3)
+        self.tell(LINES)
+        one, other = self.connect(), self.connect()
+        self.assertEqual((read_now(one), read_now(other)), (LINES, LINES))
+        one.send(b"close 2 1\n")
+        self.turn(6)
+        self.assertEqual((self.names, read_now(self.panes())), (["panes"] * 2, b"close 2 1\n"))
+        self.tell(LINES + b"last pane\n")
+        self.assertEqual((read_now(one), read_now(other)), (LINES + b"last pane\n", b""))
+        one.close()
+        self.turn(4)
+        self.assertEqual(self.panes().recv(1), b"")
+        other.close()
+        self.turn(2)
+        self.assertEqual(self.sockets.panes.peers, [])
+
+    def test_slow(self):
+        """One who reads nothing is let go once 65,536 bytes wait, and the others are told all the same."""
+        self.turn(3)
+        self.tell(LINES)
+        slow, other = self.connect(), self.connect()
+        got = read_now(other)
+        for number in range(60000):
+            self.sockets.panes.hear([f"focus {number % 2 + 1}"])
+            if number % 100 == 0:
+                self.turn()
+                got += read_now(other)
+        self.turn(4)
+        self.assertEqual(len(self.sockets.panes.peers), 1)
+        self.assertLessEqual(max(len(peer.waiting) for peer in self.sockets.panes.peers), MOST_WAITING)
+        self.assertGreater(len(got + read_now(other)), 60000 * 7)
+        self.assertTrue(slow)
+
+    def test_most(self):
+        """64 follow here, and the 65th is let go."""
+        self.turn(3)
+        self.tell(LINES)
+        held = [self.connect() for _ in range(MOST_FOLLOWERS)]
+        self.assertEqual([read_now(one) for one in held], [LINES] * 64)
+        self.assertEqual(self.connect().recv(1), b"")
+
+
+class Others(Sockets):
+    """The sockets from which each connection is carried."""
+
+    def test_carried(self):
+        """Each goes to the socket of its name at the other machine; who comes while nothing carries waits."""
+        self.turn(2)
+        self.carrying = None
+        one = self.connect("bells")
+        self.assertNotIn("bells", self.names)
+        self.carrying = self.near
+        self.turn(4)
+        self.servers["bells"][0].send(b"bell 3\n")
+        self.turn(3)
+        self.assertEqual(read_now(one), b"bell 3\n")
+        self.connect("shells")
+        self.assertEqual(self.names[-1], "shells")
+
+    def test_most(self):
+        """Whom there is no room for is let go."""
+        held = []
+        for _ in range(62):
+            held.append(self.connect("bells"))
+        self.assertEqual(len(self.near.all), 63)
+        held.append(self.connect("shells"))
+        self.assertEqual(self.connect("bells").recv(1), b"")
+        self.assertEqual(self.connect("shells").recv(1), b"")
+
+    def test_close(self):
+        """The sockets go, and come again."""
+        self.turn(3)
+        one = self.connect()
+        self.sockets.close()
+        self.assertEqual((os.listdir(self.folder), one.recv(1)), ([], b""))
+        self.sockets.close()
+        self.sockets.open()
+        self.sockets.open()
+        self.assertEqual(sorted(os.listdir(self.folder)), ["bells", "panes", "shells"])
+
+    def test_taken(self):
+        """Where somebody listens there already that is told, and the rest goes on."""
+        said = self.heard()
+        self.sockets.close()
+        self.listening(self.folder / "bells")
+        self.sockets.open()
+        self.assertIn("somebody listens at", said.getvalue())
+        self.assertEqual((self.sockets.others, near_sockets.CARRIED), ([], ("bells", "shells")))
+
+
+if __name__ == "__main__":
+    unittest.main()

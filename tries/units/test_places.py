@@ -1,0 +1,145 @@
+"""Where panes are: which one is on a side, which one can be split, and what is told of them."""
+import threading
+import time
+import unittest
+
+from aids import Case
+from roam_live import places
+from roam_live.places import Places, Rect, ToldPanes
+
+# A pane to the left over all rows, and two beside it, one above the other; their borders lie between.
+THREE = {1: Rect(1, 1, 23, 39), 2: Rect(1, 41, 11, 40), 3: Rect(13, 41, 11, 40)}
+
+# Four in a square, of which the middle line is lower to the left.
+FOUR = {1: Rect(1, 1, 15, 39), 2: Rect(1, 41, 7, 40), 3: Rect(17, 1, 7, 39), 4: Rect(9, 41, 15, 40)}
+
+
+class Sides(Case):
+    """The pane on a side."""
+
+    def test_three(self):
+        steps = {(1, "right"): 2, (2, "down"): 3, (3, "up"): 2, (3, "left"): 1, (2, "left"): 1, (1, "up"): None, (1, "down"): None,
+                 (1, "left"): None, (2, "right"): None, (2, "up"): None, (3, "down"): None, (3, "right"): None}
+        for (focus, way), pane in steps.items():
+            self.assertEqual(Places(THREE, focus).neighbour(way), pane, (focus, way))
+
+    def test_nearest(self):
+        """Of two that touch it is the one nearest to the middle."""
+        steps = {(1, "right"): 2, (1, "down"): 3, (2, "down"): 4, (2, "left"): 1, (3, "right"): 4, (3, "up"): 1, (4, "left"): 1,
+                 (4, "up"): 2}
+        for (focus, way), pane in steps.items():
+            self.assertEqual(Places(FOUR, focus).neighbour(way), pane, (focus, way))
+        low = {1: Rect(1, 1, 23, 39), 2: Rect(1, 41, 15, 40), 3: Rect(17, 41, 7, 40)}
+        self.assertEqual(Places(low, 1).neighbour("right"), 2)
+        high = {1: Rect(1, 1, 23, 39), 2: Rect(1, 41, 7, 40), 3: Rect(9, 41, 15, 40)}
+        self.assertEqual(Places(high, 1).neighbour("right"), 3)
+        wide = {1: Rect(1, 1, 11, 80), 2: Rect(13, 1, 11, 20), 3: Rect(13, 22, 11, 59)}
+        self.assertEqual(Places(wide, 1).neighbour("down"), 3)
+
+    def test_touches(self):
+        """One that lies farther off isn't beside it."""
+        row = {1: Rect(1, 1, 23, 20), 2: Rect(1, 22, 23, 20), 3: Rect(1, 43, 23, 38)}
+        self.assertEqual([Places(row, pane).neighbour("right") for pane in row], [2, 3, None])
+        self.assertEqual([Places(row, pane).neighbour("left") for pane in row], [None, 1, 2])
+        column = {1: Rect(1, 1, 7, 80), 2: Rect(9, 1, 7, 80), 3: Rect(17, 1, 7, 80)}
+        self.assertEqual([Places(column, pane).neighbour("down") for pane in column], [2, 3, None])
+        self.assertEqual([Places(column, pane).neighbour("up") for pane in column], [None, 1, 2])
+
+    def test_size(self):
+        """The status row is the session's last."""
+        self.assertEqual((Places(THREE, 1).size(), Places(FOUR, 1).size()), ((24, 80), (24, 80)))
+
+
+class Splits(Case):
+    """Which pane can be split: each part has two rows, or four columns, and the border lies between."""
+
+    def test_room(self):
+        for rows, cols, way, is_had in ((5, 8, "down", True), (4, 80, "down", False), (2, 9, "right", True), (23, 8, "right", False)):
+            why = Places({1: Rect(1, 1, rows, cols)}, 1).unsplit(way)
+            self.assertEqual(why, "" if is_had else f"pane 1 is too small to be split: {rows} by {cols}")
+
+    def test_nine(self):
+        nine = {pane: Rect(1, 1, 99, 99) for pane in range(1, 10)}
+        self.assertEqual(Places(nine, 1).unsplit("down"), "there are 9 panes, and no more")
+        self.assertEqual(Places({pane: nine[pane] for pane in range(1, 9)}, 1).unsplit("down"), "")
+        self.assertEqual(Places(THREE, 0).unsplit("right"), "")
+
+
+class Told(Case):
+    """What is told at a socket `panes`."""
+
+    LINES = ["1 1 1 23 39 1", "2 1 41 23 40 7", "focus 2", "starts 3 of 64", "watchers 2 of 16"]
+
+    def told(self, *lines):
+        """What is known after some lines."""
+        known = ToldPanes()
+        self.taken_lines = [known.take(line) for line in lines]
+        return known
+
+    def test_lines(self):
+        """Panes come before the focus, and counts behind it; who is told the lines of who knows knows as much."""
+        known = self.told(*self.LINES)
+        wanted = Places({1: Rect(1, 1, 23, 39), 2: Rect(1, 41, 23, 40)}, 2, 3, 2)
+        self.assertEqual((known.places(), known.is_whole(), known.lines(), self.taken_lines), (wanted, True, self.LINES, [True] * 5))
+        for count in range(3):
+            self.assertEqual((self.told(*self.LINES[:count]).places(), self.told(*self.LINES[:count]).lines()), (None, []))
+        self.assertEqual(self.told(*self.LINES[:3]).places(), wanted._replace(starts=0, watchers=0))
+        self.assertFalse(self.told(*self.LINES[:4]).is_whole())
+        known.take("1 gone")
+        known.take("2 2 41 11 40 7")
+        self.assertEqual(known.places().rects, {2: Rect(2, 41, 11, 40)})
+        known.take("2 gone")
+        self.assertEqual((known.places(), known.lines()), (None, []))
+        self.assertTrue(known.take("9 gone"))
+
+    def test_forged(self):
+        """What can't be told is nothing: another pane, a number that is large or none, more or fewer, an answer."""
+        for line in ("", "0 1 1 23 80 1", "10 1 1 23 80 1", "1 1 1 23 80", "1 1 1 23 80 1 1", "1 1 1 23 12345 1", "1 1 1 23 x 1",
+                     "1 1 1 23 80 " + "1" * 20, "focus 0", "focus 10", "focus", "starts 12345 of 64", "starts", "bad line", "last pane",
+                     "1 gone ", " 1 gone", "1  1 1 23 80 1", "focus \u0662", "focus 1\x1b[2J"):
+            self.assertEqual((self.told(line).lines(), self.taken_lines), ([], [False]), line)
+
+    def asked(self, *pieces, ends=False, seconds=5.0):
+        """What is asked of a server that says so much, piece by piece."""
+        folder = self.made_folder()
+        listener = self.listening(folder / "panes")
+        listener.settimeout(5)
+
+        def serve():
+            with listener.accept()[0] as peer:
+                for piece in pieces:
+                    peer.send(piece)
+                    time.sleep(0.02)
+                while not ends and peer.recv(64):
+                    pass
+
+        server = threading.Thread(target=serve, daemon=True)
+        server.start()
+        found = places.asked_places(folder / "panes", seconds)
+        server.join(5)
+        return found
+
+    def test_asked(self):
+        """It is asked once, whatever pieces the answer comes in; a count that isn't told is waited for a moment."""
+        text = "".join(f"{line}\n" for line in self.LINES).encode()
+        wanted = Places({1: Rect(1, 1, 23, 39), 2: Rect(1, 41, 23, 40)}, 2, 3, 2)
+        self.assertEqual(self.asked(text), wanted)
+        self.assertEqual(self.asked(text[:5], text[5:40], text[40:]), wanted)
+        begun = time.monotonic()
+        self.assertEqual(self.asked(text[: text.index(b"starts")]), wanted._replace(starts=0, watchers=0))
+        self.assertLess(time.monotonic(), begun + 3)
+
+    def test_not_told(self):
+        """One that tells nothing, lets go, or isn't there tells nothing in time."""
+        self.assertIsNone(self.asked(seconds=0.05))
+        self.assertIsNone(self.asked(b"1 1 1 23 80 1\n", ends=True))
+        self.assertIsNone(self.asked(b"x" * 4096, seconds=0.05))
+        self.assertIsNone(places.asked_places(self.made_folder() / "panes", 0.05))
+
+    def test_limits(self):
+        """A server knows 64 starts that edit, and a session has nine panes."""
+        self.assertEqual((places.MOST_STARTS, places.MOST_PANES), (64, 9))
+
+
+if __name__ == "__main__":
+    unittest.main()

@@ -1,0 +1,428 @@
+"""Connections that a relay carries: both ends over frames of a command, and over pieces of a path that are lost and turned round."""
+import random
+import socket
+import unittest
+
+from aids import Case, StillLoop, read_now
+from roam_live import path_streams, streams
+from roam_live.path_streams import LONGEST_PIECE, MOST_PIECES, STREAM, STREAM_KIND, TAKEN_KIND, PathStreams, StreamPiece
+from roam_live.streams import (BYTES, CREDIT, END, MOST_CARRIED, NAMES, NUMBER, OPEN, TAKEN, TAKEN_AFTER, TAKEN_COUNT, BadStream,
+                               PipeStreams)
+
+ROOM = 1137
+
+
+class Both(Case):
+    """Two ends of a way, and a folder of the far one whose sockets are played."""
+
+    def setUp(self):
+        self.loop = StillLoop()
+        self.servers, self.names, self.by_name = [], [], {}
+        self.make()
+
+    def opens(self, name):
+        """A connection to a socket of the far folder; its other end is the server's."""
+        self.names.append(name)
+        if name == "shells":
+            raise ConnectionRefusedError("nobody keeps shells")
+        ours, theirs = self.pair()
+        self.servers.append(theirs)
+        self.by_name[name] = theirs
+        return ours
+
+    def client(self, name="panes", said=b""):
+        """One who connected at the near end; its own end. None where there is no room."""
+        ours, theirs = self.pair()
+        return ours if self.near.begin(name, theirs, said) else None
+
+    def turn(self, count=1):
+        """Carries what there is, so often."""
+        for _ in range(count):
+            self.loop.turn()
+            self.carry()
+
+
+class Carries:
+    """What holds over either kind of way."""
+
+    def test_both_ways(self):
+        """Bytes go both ways, in their order, to the socket of that name; what was read already goes first."""
+        client, other = self.client("panes", b"keeper\n"), self.client("bells")
+        self.turn(2)
+        self.assertEqual(sorted(self.names), ["bells", "panes"])
+        panes, bells = self.by_name["panes"], self.by_name["bells"]
+        client.send(b"close 1 1\n")
+        panes.send(b"1 1 1 23 80 1\n")
+        bells.send(b"bell 3\n")
+        self.turn(4)
+        self.assertEqual((read_now(panes), read_now(bells)), (b"keeper\nclose 1 1\n", b""))
+        self.assertEqual((read_now(client), read_now(other)), (b"1 1 1 23 80 1\n", b"bell 3\n"))
+
+    def test_ends(self):
+        """Whoever ends it ends both, behind what was said before; nothing is left of it at either end."""
+        for is_near in (True, False):
+            client = self.client()
+            self.turn(2)
+            first, second = (client, self.servers[-1])[:: 1 if is_near else -1]
+            first.send(b"x" * 5000)
+            first.close()
+            self.turn(8)
+            self.assertEqual(read_now(second), b"x" * 5000)
+            self.assertEqual(second.recv(1), b"")
+            self.assertEqual((self.near.all, self.far.all), ({}, {}))
+
+    def test_names(self):
+        """Three names are known, and no other, nor a path; where nobody listens the connection ends."""
+        self.assertEqual(NAMES, ("panes", "bells", "shells"))
+        clients = [self.client(name) for name in ("clients", "p1", "terminals", "../panes", "panes\0", "shells", "x" * 32)]
+        self.turn(6)
+        self.assertEqual((self.names, self.servers), (["shells"], []))
+        for client in clients:
+            self.assertEqual(client.recv(1), b"")
+        self.assertEqual((self.near.all, self.far.all), ({}, {}))
+
+    def test_most(self):
+        """64 are carried, and no more; where one ends there is room for another."""
+        clients = [self.client() for _ in range(MOST_CARRIED)]
+        self.assertEqual(MOST_CARRIED, 64)
+        self.assertNotIn(None, clients)
+        self.assertIsNone(self.client())
+        self.turn(3)
+        self.assertEqual((len(self.servers), len(self.far.all)), (64, 64))
+        clients[5].close()
+        self.turn(6)
+        self.assertEqual((len(self.near.all), len(self.far.all)), (63, 63))
+        again = self.client()
+        self.turn(3)
+        self.servers[-1].send(b"y")
+        self.turn(3)
+        self.assertEqual((len(self.servers), read_now(again)), (65, b"y"))
+
+    def test_credit(self):
+        """Where a reader takes nothing 65,536 bytes are taken beyond what it has, and no more is read of who writes; once it reads all comes,
+        and of one that is slow nothing is lost."""
+        client = self.client()
+        self.turn(2)
+        server, (one,) = self.servers[0], self.near.all.values()
+        there = self.far.all[one.number]
+        one.peer.setsockopt(socket.SOL_SOCKET, socket.SO_SNDBUF, 4096)
+        wanted, sent = bytes(range(256)) * 4096, 0
+        for _ in range(200):
+            try:
+                sent += server.send(wanted[sent : sent + 8192])
+            except BlockingIOError:
+                pass
+            self.turn()
+            self.assertLessEqual(there.went - max(0, one.taken), CREDIT)
+            self.assertLessEqual(len(one.coming), CREDIT)
+            self.assertLess(len(there.going), 3 * CREDIT)
+        self.assertLess(sent, len(wanted))
+        self.assertEqual(there.room(), 0)
+        got = b""
+        while len(got) < len(wanted):
+            got += read_now(client)
+            try:
+                sent += server.send(wanted[sent : sent + 8192]) if sent < len(wanted) else 0
+            except BlockingIOError:
+                pass
+            self.turn()
+        self.assertEqual(got, wanted)
+
+    def test_end_all(self):
+        """Where another way carries them they all end, at both ends."""
+        clients = [self.client(name) for name in ("panes", "bells")]
+        self.turn(2)
+        self.near.end_all()
+        self.turn(4)
+        for end in (*clients, *self.servers):
+            self.assertEqual(end.recv(1), b"")
+        self.assertEqual((self.near.all, self.far.all), ({}, {}))
+        self.client()
+        self.turn(2)
+        self.far.end_all()
+        self.turn(4)
+        self.assertEqual((self.near.all, self.far.all), ({}, {}))
+
+    def test_close(self):
+        """A way that is no more takes them with it."""
+        client = self.client()
+        self.turn(2)
+        self.near.close()
+        self.far.close()
+        self.assertEqual((client.recv(1), self.servers[0].recv(1), self.near.all, self.far.all, self.loop.sources), (b"", b"", {}, {}, {}))
+
+    def test_numbers(self):
+        """A number isn't given again while it is used, and after the last comes the first."""
+        self.near.last = streams.MOST_NUMBER - 1
+        for _ in range(2):
+            self.client()
+        self.near.last = streams.MOST_NUMBER - 1
+        self.client()
+        self.assertEqual(list(self.near.all), [65535, 1, 2])
+        self.turn(3)
+        self.assertEqual(len(self.servers), 3)
+
+    def test_ending(self):
+        """Those whose end the other end never takes are kept for a while, 64 at most."""
+        self.is_cut = True
+        for _ in range(300):
+            client = self.client()
+            client.send(b"x")
+            self.turn()
+            client.close()
+            self.turn()
+        self.assertLessEqual(len(self.near.all), 64)
+
+
+class Limits(Case):
+    """How much is carried."""
+
+    def test_limits(self):
+        """65,536 bytes beyond what the reader took, of which it tells each 16,384; as many are read ahead."""
+        self.assertEqual((streams.CREDIT, streams.TAKEN_AFTER, streams.READ_AHEAD), (65536, 16384, 16384))
+        self.assertEqual((streams.MOST_ENDING, streams.LONGEST_NAME, path_streams.MOST_PIECES), (64, 32, 64))
+
+
+class Pipes(Both, Carries):
+    """Over the frames of a command, which come whole and in their order."""
+
+    is_cut = False
+
+    def make(self):
+        """Both ends."""
+        self.going = {"near": [], "far": []}
+        self.near = PipeStreams(self.loop, lambda text, is_counted: self.going["near"].append((text, is_counted)))
+        self.far = PipeStreams(self.loop, lambda text, is_counted: self.going["far"].append((text, is_counted)), self.opens)
+
+    def carry(self):
+        """Hands each end what the other told."""
+        if self.is_cut:
+            self.near.fill(0)
+            return
+        for name, end, other in (("near", self.near, self.far), ("far", self.far, self.near)):
+            end.fill(1 << 16)
+            texts, self.going[name] = self.going[name], []
+            for text, is_counted in texts:
+                self.assertEqual(is_counted, text[:1] == BYTES)
+                self.assertTrue(other.take(text))
+
+    def refused(self, end, text, words):
+        """A frame is refused."""
+        with self.assertRaisesRegex(BadStream, words):
+            end.take(text)
+
+    def test_frames(self):
+        """The frames are these."""
+        client = self.client("bells", b"ab")
+        self.near.fill(100)
+        client.close()
+        self.loop.turn()
+        self.near.fill(100)
+        self.assertEqual([text for text, _ in self.going["near"]], [b"o\0\1bells", b"d\0\1ab", b"q\0\1"])
+        self.assertFalse(self.far.take(b"z"))
+
+    def test_fill(self):
+        """So many bytes go at once, and each has its turn."""
+        for _ in range(2):
+            self.client("panes", b"x" * 9000)
+        self.going["near"].clear()
+        for _ in range(4):
+            self.assertLessEqual(self.near.fill(4097), 4)
+        numbers = [NUMBER.unpack_from(text)[1] for text, _ in self.going["near"] if len(text) > 1000]
+        self.assertEqual(numbers, [1, 2, 1, 2])
+        self.assertTrue(all(len(text) <= 4096 for text, _ in self.going["near"]))
+
+    def test_forged(self):
+        """What can't be is refused: a frame that is cut, one of another length, more than may be on its way, more taken than was sent."""
+        for kind in (OPEN, BYTES, END, TAKEN):
+            for length in range(1, NUMBER.size):
+                self.refused(self.far, NUMBER.pack(kind, 1)[:length], "is cut")
+        for text in (NUMBER.pack(BYTES, 1), NUMBER.pack(END, 1) + b"x", TAKEN_COUNT.pack(TAKEN, 1, 1)[:-1], TAKEN_COUNT.pack(TAKEN, 1, 1) + b"x"):
+            self.refused(self.far, text, "another length than any")
+        self.refused(self.near, NUMBER.pack(OPEN, 1) + b"panes", "the far end opens a connection")
+        self.far.take(NUMBER.pack(OPEN, 1) + b"panes")
+        for text in (NUMBER.pack(OPEN, 1) + b"panes", NUMBER.pack(OPEN, 0) + b"panes", NUMBER.pack(OPEN, 2), NUMBER.pack(OPEN, 2) + b"x" * 33):
+            self.refused(self.far, text, "that can't be")
+        for _ in range(16):
+            self.far.take(NUMBER.pack(BYTES, 1) + bytes(4096))
+        self.refused(self.far, NUMBER.pack(BYTES, 1) + b"x", "more of a connection than may be on its way")
+        self.refused(self.far, TAKEN_COUNT.pack(TAKEN, 1, 1), "has taken 1 bytes of a connection, and was sent 0")
+
+    def test_65(self):
+        """A far end ends the 65th at once, and what is said of ones that aren't there is nothing."""
+        for number in range(1, 66):
+            self.far.take(NUMBER.pack(OPEN, number) + b"panes")
+        self.assertEqual((len(self.servers), len(self.far.all)), (64, 64))
+        self.assertEqual(self.going["far"], [(NUMBER.pack(END, 65), False)])
+        for text in (NUMBER.pack(BYTES, 65) + b"x", NUMBER.pack(END, 65), TAKEN_COUNT.pack(TAKEN, 65, 9)):
+            self.assertTrue(self.far.take(text))
+        # Many that end while their readers take nothing are let go.
+        for number in range(1, 65):
+            self.far.take(NUMBER.pack(BYTES, number) + b"x")
+            self.far.take(NUMBER.pack(END, number))
+        for number in range(100, 1000):
+            self.far.take(NUMBER.pack(OPEN, number) + b"panes")
+            self.far.take(NUMBER.pack(BYTES, number) + b"x")
+            self.far.take(NUMBER.pack(END, number))
+        self.assertLessEqual(len(self.far.all), 64)
+
+
+class Paths(Both, Carries):
+    """Over pieces of a path, some of which are lost and go again."""
+
+    is_cut = False
+
+    def make(self):
+        """Both ends; what of each is on its way."""
+        self.near, self.far = PathStreams(self.loop), PathStreams(self.loop, self.opens)
+        self.chance, self.lost = random.Random(1), 0.0
+
+    def pieces(self, end):
+        """The pieces that an end sends now: those that were lost, and as many more as may go."""
+        found = []
+        while len(found) < 200:
+            piece = end.next_piece(ROOM)
+            if not piece:
+                break
+            found.append(piece)
+        self.chance.shuffle(found)
+        return found
+
+    def carry(self):
+        """Hands each end the pieces of the other, some of them twice, and tells that of those that arrived."""
+        for end, other in ((self.near, self.far), (self.far, self.near)):
+            for piece in self.pieces(end):
+                if self.is_cut or self.chance.random() < self.lost:
+                    end.lost(piece)
+                    continue
+                frame = end.frame(piece)
+                self.assertEqual(len(frame), end.length(piece))
+                self.assertLessEqual(len(frame), ROOM)
+                for _ in range(2):
+                    self.give(other, frame)
+                end.arrived(piece)
+
+    def give(self, end, frame):
+        """Hands an end a frame."""
+        layout = STREAM if frame[:1] == STREAM_KIND else TAKEN_COUNT
+        kind, number, offset = layout.unpack_from(frame)[:3]
+        end.take(kind, number, offset, frame[layout.size :])
+
+    def test_lost(self):
+        """Where every third piece is lost, and all are turned round, each byte comes once and in its order, and so does the end."""
+        self.lost = 1 / 3
+        client = self.client()
+        wanted = bytes(self.chance.randrange(256) for _ in range(200_000))
+        sent, got = 0, b""
+        for _ in range(2000):
+            if sent < len(wanted):
+                sent += client.send(wanted[sent : sent + self.chance.randint(1, 5000)])
+            elif client.fileno() >= 0:
+                client.close()
+            self.turn()
+            got += read_now(self.servers[0]) if self.servers else b""
+            for one in (*self.near.all.values(), *self.far.all.values()):
+                self.assertLess(len(one.parts), MOST_PIECES)
+                self.assertLessEqual(len(one.sent), MOST_PIECES)
+        self.assertEqual(got, wanted)
+        self.assertEqual((self.servers[0].recv(1), self.near.all, self.far.all), (b"", {}, {}))
+
+    def test_pieces(self):
+        """The first bytes are the name and LF; pieces have 1,080 bytes at most, and the last none."""
+        client = self.client("bells", b"x" * 2000)
+        found = [self.near.next_piece(ROOM) for _ in range(2)]
+        client.close()
+        self.loop.turn()
+        found += [self.near.next_piece(ROOM) for _ in range(2)]
+        self.assertEqual(found, [StreamPiece(b"s", 1, 0), StreamPiece(b"s", 1, 1080), StreamPiece(b"s", 1, 2006), None])
+        self.assertEqual(self.near.frame(found[0]), STREAM.pack(b"s", 1, 0, 1080) + b"bells\n" + b"x" * 1074)
+        self.assertEqual(self.near.frame(found[2]), b"s\0\1" + (2006).to_bytes(8, "big") + b"\0\0")
+        self.assertEqual((LONGEST_PIECE, STREAM.size, TAKEN_COUNT.size), (1080, 13, 11))
+        self.near.arrived(found[1])
+        self.assertEqual([self.near.length(piece) for piece in found[:3]], [1093, 0, 13])
+        self.assertEqual(self.near.next_piece(13), None)
+
+    def test_little_room(self):
+        """A piece goes by the room that there is; none where there is none."""
+        self.client("bells")
+        self.assertFalse(self.near.next_piece(13))
+        piece = self.near.next_piece(15)
+        self.assertEqual(self.near.frame(piece)[13:], b"be")
+        self.assertTrue(self.near.waits())
+        self.assertEqual(self.near.frame(self.near.next_piece(ROOM))[13:], b"lls\n")
+        self.assertFalse(self.near.waits())
+
+    def test_unsent(self):
+        """One that ends before anything of it went is nothing to the other end."""
+        client = self.client()
+        client.close()
+        self.loop.turn()
+        self.assertEqual((self.near.all, self.near.waits()), ({}, False))
+
+    def test_forged(self):
+        """What can't be is dropped: bytes behind the most, the same again, another's credit; memory is bounded."""
+        self.turn()
+        for number, offset, text in ((0, 0, b"panes\n"), (1, CREDIT, b"x"), (1, 1 << 63, b"x"), (1, CREDIT - 1, b"xy")):
+            self.far.take(STREAM_KIND, number, offset, text)
+        self.assertEqual((self.names, sum(len(one.parts) for one in self.far.all.values())), ([], 0))
+        for offset in range(2, 60000):
+            self.far.take(STREAM_KIND, 1, offset, b"x")
+        self.assertEqual(len(self.far.all[1].parts), MOST_PIECES)
+        self.far.take(TAKEN_KIND, 1, 5, b"")
+        self.far.take(TAKEN_KIND, 99, 5, b"")
+        self.assertEqual(self.far.all[1].allowed, CREDIT)
+        self.near.take(STREAM_KIND, 7, 0, b"panes\n")
+        self.assertEqual(self.near.all, {})
+
+    def test_nameless(self):
+        """Those of which no name comes are let go for others, and one whose name is too long is ended."""
+        for number in range(1, 1000):
+            self.far.take(STREAM_KIND, number, 5, b"x")
+        self.assertEqual(len(self.far.all), 64)
+        self.far.take(STREAM_KIND, 2000, 0, b"panes\n")
+        self.assertEqual(self.names, ["panes"])
+        self.far.take(STREAM_KIND, 2001, 0, b"x" * 33)
+        self.assertTrue(self.far.all[2001].has_ended)
+        self.assertEqual(self.names, ["panes"])
+
+    def test_65(self):
+        """A far end ends the 65th at once."""
+        for number in range(1, 66):
+            self.far.take(STREAM_KIND, number, 0, b"panes\n")
+        self.assertEqual((len(self.servers), self.far.all[65].has_ended), (64, True))
+        self.assertEqual(self.far.next_piece(ROOM), StreamPiece(STREAM_KIND, 65, 0))
+
+    def test_late(self):
+        """A piece of one that has ended is nothing, and no new one."""
+        client = self.client()
+        self.turn(2)
+        client.close()
+        self.turn(4)
+        self.assertEqual(self.far.all, {})
+        self.far.take(STREAM_KIND, 1, 0, b"panes\n")
+        self.assertEqual((self.far.all, len(self.servers)), ({}, 1))
+        for number in range(2, path_streams.MOST_ENDED + 10):
+            self.far.take(STREAM_KIND, number, 0, b"bells\n")
+            self.far.take(STREAM_KIND, number, 6, b"")
+        self.assertEqual(len(self.far.ended), path_streams.MOST_ENDED)
+
+    def test_taken_again(self):
+        """What was taken is told again where that is lost, by the newest count."""
+        client = self.client()
+        self.turn(2)
+        for _ in range(3):
+            self.servers[0].send(b"x" * TAKEN_AFTER)
+            self.turn(2)
+            read_now(client)
+        self.turn(2)
+        (one,) = self.near.all.values()
+        self.assertGreaterEqual(one.told, TAKEN_AFTER)
+        self.assertEqual((one.known, self.far.all[1].allowed), (one.told, one.told + CREDIT))
+        old = StreamPiece(TAKEN_KIND, 1, one.told - 1)
+        self.assertEqual((self.near.length(old), self.near.length(StreamPiece(TAKEN_KIND, 1, one.told))), (0, 0))
+        one.known = 0
+        self.assertEqual(self.near.length(StreamPiece(TAKEN_KIND, 1, one.told)), TAKEN_COUNT.size)
+
+
+if __name__ == "__main__":
+    unittest.main()
