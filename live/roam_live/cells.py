@@ -1,4 +1,5 @@
-"""The cells that a text shows: the painter's, which has CUP, SGR, ED 2, DECTCEM, a reset and characters, or the rows that tmux captures."""
+"""The cells that a text shows: a painter's, which has CUP, SGR, ED 2, EL, DECTCEM, a reset and characters, and LF and RI at margins, or the
+rows that tmux captures."""
 from __future__ import annotations
 
 import re
@@ -6,7 +7,10 @@ import unicodedata
 from collections.abc import Iterable
 from typing import NamedTuple, Optional, Union
 
-MARKS = re.compile(r"\x1b\[(\d+);(\d+)H|\x1b\[([\d;]*)m|(\x1b\[2J|\x1bc)|\x1b\[\?25([hl])|\x1b\[[0-?]*[@-~]|\x1b[=>]|([^\x1b])")
+MARKS = re.compile(r"\x1b\[(\d+)(?:;(\d+))?H|\x1b\[([\d;]*)m|(\x1b\[2J|\x1bc)|\x1b\[\?25([hl])|\x1b\[(?:(\d+);(\d+))?r|(\x1b\[K|\x1bM|\n)"
+                   r"|\x1b\[[0-?]*[@-~]|\x1b[=>]|([^\x1b])")
+# What erases the rest of a row; what scrolls up at the lower margin, and down at the upper one.
+EL, LF, RI = "\x1b[K", "\n", "\x1bM"
 
 # The signs for boxes, as a row of tmux has them between these.
 SHIFT_OUT, SHIFT_IN = "\x0e", "\x0f"
@@ -39,25 +43,44 @@ class PaintedCells:
         self.cells: dict[tuple[int, int], tuple[str, Style]] = {}
         self.style = Style()
         self.row = self.col = 1
+        # The rows between the margins, where there are some.
+        self.band: tuple[int, int] | None = None
         self.has_cursor = True
         self.has_boxes = False
 
     def fed(self, text: str) -> None:
         """Goes on with a painter's text."""
         for mark in MARKS.finditer(text):
-            row, col, style, erased, cursor, letter = mark.groups()
+            row, col, style, erased, cursor, top, bottom, other, letter = mark.groups()
             if row:
-                self.row, self.col = int(row), int(col)
+                self.row, self.col = int(row), int(col or 1)
             elif style is not None:
                 self.style = styled(self.style, [int(word or 0) for word in style.split(";")])
             elif erased:
                 self.cells.clear()
             elif cursor:
                 self.has_cursor = cursor == "h"
+            elif mark[0].endswith("r") and not letter:
+                self.row, self.col, self.band = 1, 1, (int(top), int(bottom)) if top else None
+            elif other:
+                self.acts(other)
             elif letter in (SHIFT_OUT, SHIFT_IN):
                 self.has_boxes = letter == SHIFT_OUT
             elif letter:
                 self.write(BOXES.get(letter, letter) if self.has_boxes else letter)
+
+    def acts(self, other: str) -> None:
+        """Erases the rest of the row, or goes a row up or down, where the rows between the margins scroll at their edge."""
+        if other == EL:
+            self.cells = {(row, col): cell for (row, col), cell in self.cells.items() if row != self.row or col < self.col}
+            return
+        top, bottom = self.band or (0, 0)
+        by = 1 if other == LF else -1
+        if self.row != (bottom if by == 1 else top):
+            self.row = max(1, self.row + by)
+            return
+        gone = top if by == 1 else bottom
+        self.cells = {(row - by if top <= row <= bottom else row, col): cell for (row, col), cell in self.cells.items() if row != gone}
 
     def write(self, letter: str) -> None:
         """Writes a character; one without a width joins the one before."""

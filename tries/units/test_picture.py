@@ -4,6 +4,7 @@ import unittest
 import xml.etree.ElementTree
 
 from aids import Case, loaded
+from roam_live import captures
 from roam_live.cells import PaintedCells, Style, cells_of_rows, styled, width_of
 
 picture = loaded("picture")
@@ -48,6 +49,15 @@ class Shown(Case):
         cells = cells_of_rows(["\x1b[1mab", "c"])
         self.assertEqual(cells.cells[2, 1], ("c", Style(frozenset({"bold"}))))
         self.assertEqual(cells.cells[1, 2][0], "b")
+
+    def test_moved(self):
+        """Rows go up and down between margins, the rest of a row is erased, and CUP may lack its column."""
+        cells = PaintedCells()
+        cells.fed("\x1b[1Haa\x1b[2Hbb\x1b[3Hcc\x1b[4Hdd")
+        cells.fed("\x1b[1;3r\x1b[3H\n\x1b[r\x1b[3Hee")
+        self.assertEqual(captures.rows_of(cells), ["bb", "cc", "ee", "dd"])
+        cells.fed("\x1b[2;4r\x1b[2H\x1bM\x1bM\x1b[r\x1b[2Hff\x1b[1;2H\x1b[K")
+        self.assertEqual(captures.rows_of(cells), ["b", "ff", "", "cc"])
 
     def test_styles(self):
         """The numbers of SGR, as ECMA-48 and xterm have them."""
