@@ -1,6 +1,6 @@
 -- Which lines of a terminal are taken, with all their acts acknowledged (this project's profile).
-use Rattle.std.specs.Prelude.{ℕ, ◌+◌, ◌-◌, ◌^◌, max, min, nat_lt, List, [], ◌∷◌, ◌++◌, length, take, slice_index_or, Option, Some, None, if◌then◌else◌}
-use Rattle.std.specs.List.{filter}
+use Rattle.std.specs.Prelude.{ℕ, ◌+◌, ◌-◌, ◌^◌, ◌≤◌, max, min, nat_lt, List, [], ◌∷◌, ◌++◌, length, Option, Some, None, if◌then◌else◌}
+use Rattle.std.specs.List.{filter, fold}
 
 -- how many lines with acts are kept apart at most
 abbrev pub most_waiting : ℕ
@@ -24,13 +24,15 @@ next_line lines = min (2 ^ 64 - 1) (lines + 1)
 abbrev pub behind : ℕ → ℕ → List (ℕ × ℕ) → List (ℕ × ℕ)
 behind line act waiting = waiting ++ (line, act) ∷ []
 
--- the line that waits at a place, of those that do
-abbrev pub line_at : List (ℕ × ℕ) → ℕ → ℕ
-line_at waiting k = (slice_index_or waiting k (0, 0)).0
+-- a line that waits for its last act waits for another one too
+abbrev pub with_act : ℕ → ℕ × ℕ → ℕ × ℕ
+with_act act entry = (entry.0, max entry.1 act)
 
 -- where as many wait as are kept apart, the last one waits for this act too
 abbrev pub joined : ℕ → List (ℕ × ℕ) → List (ℕ × ℕ)
-joined act waiting = take (most_waiting - 1) waiting ++ (line_at waiting (most_waiting - 1), act) ∷ []
+joined act [] = []
+joined act (entry ∷ []) = with_act act entry ∷ []
+joined act (entry ∷ next ∷ others) = entry ∷ joined act (next ∷ others)
 
 abbrev pub waits_for : ℕ → ℕ → List (ℕ × ℕ) → List (ℕ × ℕ)
 waits_for line act waiting = if nat_lt (length waiting) most_waiting then behind line act waiting else joined act waiting
@@ -65,3 +67,38 @@ risen told now = if nat_lt told now then Some now else None
 abbrev pub acknowledged_of : ℕ → TakenView → TakenView
 acknowledged_of acknowledged t =
     record { lines = t.lines; waiting = still_waiting acknowledged t.waiting; told = max t.told (done_after acknowledged t) }
+
+-- ---- the law
+
+-- of the lines that were taken, each with its last act or none, the first ones whose acts are all among the first so many
+abbrev pub first_done : ℕ → List (Option ℕ) → ℕ
+first_done acknowledged [] = 0
+first_done acknowledged (None ∷ lines) = 1 + first_done acknowledged lines
+first_done acknowledged (Some act ∷ lines) = if nat_lt acknowledged act then 0 else 1 + first_done acknowledged lines
+
+-- a step: a line was taken, or so many acts are acknowledged
+pub data TakenStep : Type 0 where
+  Line : (last : Option ℕ) → TakenStep
+  Acknowledged : (acts : ℕ) → TakenStep
+
+abbrev pub taken_step : TakenView → TakenStep → TakenView
+taken_step t (Line last) = took last t
+taken_step t (Acknowledged acts) = acknowledged_of acts t
+
+-- the lines among steps
+abbrev pub lines_in : List TakenStep → List (Option ℕ)
+lines_in [] = []
+lines_in (Line last ∷ steps) = last ∷ lines_in steps
+lines_in (Acknowledged acts ∷ steps) = lines_in steps
+
+-- no more than so many acts were acknowledged
+abbrev pub AreBelow : ℕ → List TakenStep → Type 0
+AreBelow most [] = Unit {0}
+AreBelow most (Line last ∷ steps) = AreBelow most steps
+AreBelow most (Acknowledged acts ∷ steps) = (acts ≤ most) × AreBelow most steps
+
+-- Whatever lines were taken and acts acknowledged, no more at any time than are at last: no more lines are done than are.
+abbrev pub NeverTooEarly : Type 0
+NeverTooEarly =
+    (steps : List TakenStep) (acknowledged : ℕ) → AreBelow acknowledged steps
+    → done_after acknowledged (fold taken_step nothing_taken steps) ≤ first_done acknowledged (lines_in steps)

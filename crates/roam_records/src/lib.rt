@@ -1,6 +1,7 @@
 //! The records that a front end is told over the stream of its terminal, and the text of a screen cell by cell.
 #![tactic(auto)]
 
+pub mod laws;
 mod looks;
 mod records;
 mod taken;

@@ -33,8 +33,8 @@ fn push_waiting(waiting: &mut ArrayVec<(u64, u64), MOST_WAITING>, line: u64, act
         waiting.push((line, act));
         return;
     }
-    if let Some((last, _)) = waiting.pop() {
-        waiting.push((last, act));
+    if let Some((last, before)) = waiting.pop() {
+        waiting.push((last, before.max(act)));
     }
 }
 
