@@ -312,4 +312,12 @@ impl Guesses {
         }
         self.begin(moment.acknowledged);
     }
+
+    /// So many acts are acknowledged, and what is shown isn't known: all guesses are dropped, and what was typed since begins an epoch.
+    pub fn end(&mut self, acknowledged: u64)
+        ensures ends { self.new ≡ begun acknowledged (dropped self.old) }
+    {
+        self.drop_all();
+        self.begin(acknowledged);
+    }
 }

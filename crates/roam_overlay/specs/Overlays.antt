@@ -63,11 +63,15 @@ abbrev pub is_number : ℕ → Option JudgedOf → Bool
 is_number number None = false
 is_number number (Some judged) = judged.number == number
 
--- the screen of a number is that of the last judgement from now on; where there is no memory the one before stays
-pub data Notes (number : ℕ) (s : Screenshot) (old new : Option JudgedOf) : Type 0 where
-  already : is_number number old ≡ true → new ≡ old → Notes number s old new
-  noted : is_number number old ≡ false → new ≡ Some (record { number = number; screen = s }) → Notes number s old new
-  no_memory : is_number number old ≡ false → new ≡ old → Notes number s old new
+-- A screen of a number is seen after that of the last judgement, and is that of the last from then on, if it isn't already. Where there is
+-- no memory to keep it nothing is judged by it, and all guesses end.
+pub data Keeps (number : ℕ) (s : Screenshot) (moment : Moment) (guesses : GuessesOf) (step : Step) (old new : Option JudgedOf)
+    : Type 0 where
+  already : is_number number old ≡ true → Sees (screen_or old s) s moment guesses step → new ≡ old
+      → Keeps number s moment guesses step old new
+  kept : is_number number old ≡ false → Sees (screen_or old s) s moment guesses step
+      → new ≡ Some (record { number = number; screen = s }) → Keeps number s moment guesses step old new
+  unkept : is_number number old ≡ false → step ≡ Ended moment.acknowledged → new ≡ old → Keeps number s moment guesses step old new
 
 -- A screen of a number is noted at a moment, and so many acts are acknowledged: the guesses are judged by it.
 pub record Judges (number : ℕ) (s : Screenshot) (acknowledged now : ℕ) (old new : OverlayOf) : Type 0 where
@@ -75,10 +79,9 @@ pub record Judges (number : ℕ) (s : Screenshot) (acknowledged now : ℕ) (old 
   pub delays : new.delays
       ≡ after_right old.guesses.list now (count_right (cursor_line s) s.cursor_col old.guesses.list) old.delays
   pub step : Step
-  pub sees : Sees (screen_or old.seen s) s
-      (record { at = now; acknowledged = acknowledged; delay = longest new.delays.last }) old.guesses step
+  pub sees : Keeps number s (record { at = now; acknowledged = acknowledged; delay = longest new.delays.last }) old.guesses step
+      old.seen new.seen
   pub guesses : new.guesses ≡ after old.guesses step
-  pub seen : Notes number s old.seen new.seen
 
 -- ---- what is shown
 

@@ -4,7 +4,7 @@ ghost use Rattle.std.specs.List.{fold};
 ghost use Rattle.roam_guess.specs.Guesses.{none};
 ghost use Rattle.roam_guess.specs.Laws.{Step, after};
 ghost use Rattle.roam_overlay.specs.Delays.{no_delay};
-ghost use Rattle.roam_overlay.specs.Overlays.{Judges, Notes, Sees, is_shown, laid_over, last_number, line_steps, screen_or, typed_steps};
+ghost use Rattle.roam_overlay.specs.Overlays.{Judges, Keeps, Sees, is_number, is_shown, laid_over, last_number, line_steps, screen_or, typed_steps};
 
 use crate::delays::Delays;
 use roam_acts::Act;
@@ -107,18 +107,41 @@ fn judge(guesses: &mut Guesses, seen: &Option<Judged>, screen: &RowShot, moment:
     }
 }
 
-// Notes the screen by which guesses were judged, where it is another one and there is memory.
-fn note(alloc: Global, seen: &mut Option<Judged>, number: u64, screen: &RowShot)
-    ensures notes { Notes number screen.now seen.old seen.new }
+// Whether the screen of the last judgement has a number.
+fn is_number(seen: &Option<Judged>, number: u64) -> bool
+    ensures number { result ≡ is_number number seen.now }
 {
-    if let Some(judged) = seen
-        && judged.number == number
-    {
+    match seen {
+        Some(judged) => judged.number == number,
+        None => false,
+    }
+}
+
+// Judges guesses by a screen, and keeps it as that of the last judgement; where there is no memory for that all guesses end.
+fn see(
+    alloc: Global,
+    guesses: &mut Guesses,
+    seen: &mut Option<Judged>,
+    number: u64,
+    screen: &RowShot,
+    moment: Moment,
+)
+    ensures sees { (step : Step) × Keeps number screen.now moment guesses.old step seen.old seen.new
+        × (guesses.new ≡ after guesses.old step) }
+{
+    if is_number(seen, number) {
+        judge(guesses, seen, screen, moment);
         return;
     }
-    if let Ok(screen) = screen.copy(alloc) {
-        *seen = Some(Judged { number, screen });
-    }
+    let Ok(kept) = screen.copy(alloc) else {
+        guesses.end(moment.acknowledged);
+        return;
+    };
+    judge(guesses, seen, screen, moment);
+    *seen = Some(Judged {
+        number,
+        screen: kept,
+    });
 }
 
 impl Overlay {
@@ -155,7 +178,7 @@ impl Overlay {
     }
 
     /// A screen of a number is noted at a moment in milliseconds, and so many acts are acknowledged: the guesses are judged by it. Where
-    /// there is no memory to keep it, the next ones are judged by the screen that was kept before.
+    /// there is no memory to keep it, all guesses end, since no later screen could be told to follow it.
     pub fn judge(
         &mut self,
         alloc: Global,
@@ -173,8 +196,14 @@ impl Overlay {
             acknowledged,
             delay: self.delays.longest(),
         };
-        judge(&mut self.guesses, &self.seen, screen, moment);
-        note(alloc, &mut self.seen, number, screen);
+        see(
+            alloc,
+            &mut self.guesses,
+            &mut self.seen,
+            number,
+            screen,
+            moment,
+        );
     }
 
     // Whether what is guessed is shown.

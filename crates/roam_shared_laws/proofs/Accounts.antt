@@ -112,11 +112,13 @@ counts_both n (x ∷ xs) ys =
     omega (arith, rest)
 
 -- a number that none has is another's than each one's
-other_first : {S : Type 0} (n : ℕ) (a : Account S) (all : List (Account S)) → count_of n (a ∷ all) ≡ 0 → (n ≢ a.number) × (count_of n all ≡ 0)
+other_first : {S : Type 0} (n : ℕ) (a : Account S) (all : List (Account S)) → count_of n (a ∷ all) ≡ 0
+    → (n ≢ a.number) × (count_of n all ≡ 0)
 other_first n a all none = (
   λ e.
       let is : (a.number == n) ≡ true = ap (λ k. a.number == k) e ∙ same_number a.number in
-      let one : (if a.number == n then 1 else 0) + count_of n all ≡ 1 + count_of n all = ap (λ b. (if b then 1 else 0) + count_of n all) is in
+      let one : (if a.number == n then 1 else 0) + count_of n all ≡ 1 + count_of n all =
+  ap (λ b. (if b then 1 else 0) + count_of n all) is in
       absurd (omega (arith, one, none)),
   omega (arith, none),
 )
@@ -436,7 +438,8 @@ module _ {S : Type 0} (remaining contents : S → Option (List ℕ)) (came : Lis
     counts : (n : ℕ) → count_of n they ≡ count_of n all
 
   all_stay : (R : Terminal S → Terminal S → Type 0) (typed : List Typed)
-      → ((a : Account S) (t : Terminal S) → R a.last t → IsAccount remaining came typed a → IsAccount remaining came typed (record a { last = t }))
+      → ((a : Account S) (t : Terminal S) → R a.last t → IsAccount remaining came typed a
+      → IsAccount remaining came typed (record a { last = t }))
       → (all : List (Account S)) (new : List (Terminal S)) → AreEach R (lasts all) new → AreAccounts remaining came typed all
       → AllStay all typed new
   all_stay R typed each [] [] h are = record { they = []; are = refl; they_are = tt; counts = λ n. refl }
@@ -620,7 +623,8 @@ module _ {S : Type 0} (remaining contents : S → Option (List ℕ)) (to : Addr)
         no_other = λ n above.
             let before = h.no_other n (omega (arith, above, len)) in
             let both = counts_both n h.there (mine ∷ []) in
-            let none : ◌≡◌ {A = ℕ} (if length came == n then 1 else 0) 0 = counts_other (length came) n (λ e. omega (arith, above, len, e)) in
+            let none : ◌≡◌ {A = ℕ} (if length came == n then 1 else 0) 0 =
+            counts_other (length came) n (λ e. omega (arith, above, len, e)) in
             omega (arith, before, both, none);
         nobody = λ n above. h.nobody n (omega (arith, above, len));
       }
@@ -650,7 +654,8 @@ module _ {S : Type 0} (remaining contents : S → Option (List ℕ)) (to : Addr)
       all_stay remaining contents came (Settles remaining contents silence) typed
       (λ a t. settled_account remaining contents came silence typed a t) shown.they r.settled
       (subst (λ l. AreEach (Settles remaining contents silence) l r.settled) (sym shown.are) r.settles) shown.they_are in
-      let parted : Parted remaining contents came settled.they typed = part_all remaining contents came settled.they typed settled.they_are in
+      let parted : Parted remaining contents came settled.they typed =
+      part_all remaining contents came settled.they typed settled.they_are in
       let counts : (n : ℕ) → count_of n (turned remaining contents came parted.stay) + count_of n (parted.go ++ h.left)
       ≡ count_of n h.there + count_of n h.left = λ n.
       let a = counts_turned remaining contents came n parted.stay in

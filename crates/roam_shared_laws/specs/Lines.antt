@@ -101,7 +101,8 @@ lasts all = map (λ a. a.last) all
 
 -- Of a run: what was typed, each act with its terminal's number; an account of each that is there and of each that was let go, of each that
 -- came one; and nothing else was typed at the start, and nothing for one that didn't come.
-pub record IsTyped {S : Type 0} (remaining : S → Option (List ℕ)) (to : Addr) (came : List S) (first : ClientView) (s : Shared S) : Type 0 where
+pub record IsTyped {S : Type 0} (remaining : S → Option (List ℕ)) (to : Addr) (came : List S) (first : ClientView) (s : Shared S)
+    : Type 0 where
   pub typed : List Typed
   pub there : List (Account S)
   pub left : List (Account S)

@@ -45,8 +45,8 @@ IsNotedOf screens None = Unit {0}
 IsNotedOf screens (Some noted) = IsOneOf noted.screen screens
 
 -- A terminal that came at the other end of one of these streams: what is noted of it is one of the screens that were shown; what it was
--- written and what waits for it are what was before it was last painted anew, and then a text that leads any terminal to what is noted, with
--- what is laid over that.
+-- written and what waits for it are what was before it was last painted anew, and then a text that leads any terminal to what is noted,
+-- with what is laid over that.
 pub record IsLed {S : Type 0} (contents : S → Option (List ℕ)) (came : List S) (screens : List Screenshot) (t : Terminal S) : Type 0 where
   pub stream : S
   pub is : IsOneOf stream came

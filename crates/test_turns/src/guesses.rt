@@ -1,8 +1,8 @@
 //! What is shown over the screen of a terminal while keys are typed, as text.
 //!
 //! A line begins with `feed`, what the program writes; `type`, an act; `paste`, how many acts are typed that aren't to be guessed; `ack`,
-//! how many acts are acknowledged; `at`, a moment in milliseconds; `slow`, how many milliseconds what is typed takes to be shown; or
-//! `shows`, the text of the cursor's row and, behind `|`, the cursor's column.
+//! how many acts are acknowledged; `lose`, how many are where the screen couldn't be kept; `at`, a moment in milliseconds; `slow`, how many
+//! milliseconds what is typed takes to be shown; or `shows`, the text of the cursor's row and, behind `|`, the cursor's column.
 use roam_acts::read_act;
 use roam_cells::Fault;
 use roam_guess::{Guesses, Moment};
@@ -101,6 +101,16 @@ impl Stage {
         true
     }
 
+    // So many acts are acknowledged, and the screen couldn't be kept.
+    fn lose(&mut self, text: &str) -> bool {
+        let Ok(count) = text.parse::<u64>() else {
+            return false;
+        };
+        self.acknowledged = count;
+        self.guesses.end(count);
+        true
+    }
+
     fn shows(&self, alloc: Global, words: &str) -> Result<bool, Fault> {
         let Some((text, col)) = words.split_once('|') else {
             return Ok(false);
@@ -123,6 +133,7 @@ impl Stage {
             "at" => self.wait(alloc, words),
             "slow" => Ok(self.slow(words)),
             "paste" => Ok(self.paste(words)),
+            "lose" => Ok(self.lose(words)),
             "shows" => self.shows(alloc, words),
             _ => Ok(false),
         }
@@ -142,6 +153,16 @@ fn is_text(row: &[char], text: &str) -> bool {
 
 /// Stories, each of its own, with an empty line between them: a session of 4 rows and 20 columns, whose last row is the status row.
 const STORIES: &str = "\
+feed $\x20
+type char 6c
+feed l
+type char 73
+shows $ ls|5
+lose 1
+shows $ l|4
+type char 74
+shows $ l|4
+
 feed $\x20
 type char 6c
 shows $|3
