@@ -155,8 +155,8 @@ class Outer:
         return comes(lambda: any(text in row for row in self.rows()), seconds)
 
     def shown_at(self, text, seconds=WAIT):
-        """When a text came to stand somewhere, read as it was painted piece by piece; None where it doesn't in time. What was painted in time
-        is read, however long that takes here."""
+        """When a text came to stand somewhere, read as it was painted piece by piece; None where it doesn't in time. What was painted in
+        time is read, however long that takes here."""
         end = time.monotonic() + seconds
         while True:
             is_over = time.monotonic() > end
