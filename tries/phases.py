@@ -10,7 +10,7 @@ import threading
 import time
 
 from tried import check, comes  # First: it finds the package of live/.
-from networks import ADDRESSES, DELAY, SIDES, TCP, UDP, mosh_client, roam_client
+from networks import ADDRESSES, DELAY, SIDES, SSH_PORTS, TCP, UDP, mosh_client, roam_client, text_of
 
 # What is typed: letters that stand in no control function that is painted. One each so many seconds, and the one typed in a cut.
 LETTERS = b"QVWYNOU"
@@ -335,19 +335,22 @@ def is_by_udp(machines, seconds=3):
     return machines.link.sealed[UDP] > 0 and machines.link.sealed[TCP] == 0
 
 
-def far_relays():
-    """The far relays, without what holds a command for one."""
-    found = [path.parent for path in pathlib.Path("/proc").glob("[0-9]*/cmdline") if is_far(path)]
+def far_relays(name="sealed"):
+    """The far relays of a side, without what holds a command for one."""
+    found = [path.parent for path in pathlib.Path("/proc").glob("[0-9]*/cmdline") if is_far(path, name)]
     return [int(path.name) for path in found if not set(children_of(path)) & {int(other.name) for other in found}]
 
 
-def is_far(path):
-    """Whether words are those of a far relay of this trial."""
-    try:
-        words = path.read_bytes()
-    except OSError:
-        return False
-    return os.environ["XDG_RUNTIME_DIR"].encode() in words and b"/relay\0--far\0" in words
+def is_far(path, name):
+    """Whether words are those of a far relay of a side of this trial."""
+    words = text_of(path)
+    return f"{os.environ['XDG_RUNTIME_DIR']}/roam/{name}\0".encode() in words and b"/relay\0--far\0" in words
+
+
+def sealed_ssh(machines):
+    """The ssh of the sealed side: that of the pipe has another port."""
+    port = f"\0{SSH_PORTS['sealed']}\0".encode()
+    return [process for process in machines.processes(0, "ssh") if port in text_of(pathlib.Path(f"/proc/{process}/cmdline"))]
 
 
 def children_of(path):
@@ -390,7 +393,7 @@ def phase_kill(machines, ssh, asked):
         side = Side("sealed", roam_client(machines, ssh, "sealed"), asked.folder)
         time.sleep(wait)
         before = far_relays()
-        for process in machines.processes(0, "ssh"):
+        for process in sealed_ssh(machines):
             os.kill(process, signal.SIGKILL)
         side.cat()
         typist = typed_on([side], 8)[0]
@@ -398,7 +401,7 @@ def phase_kill(machines, ssh, asked):
         check(title, len(typist.delays) == typist.count, len(typist.delays))
         side.note(f"longest echo, ms, ssh killed after {wait:g} s", spread(typist.delays)[-1])
         if wait:
-            check("sealed: by the far end that was there, without ssh", far_relays() == before and not machines.processes(0, "ssh"))
+            check("sealed: by the far end that was there, without ssh", far_relays() == before and not sealed_ssh(machines))
         side.stop()
         side.outer.type(b"exit\r")
         check("sealed: its end is told", side.outer.ends())
@@ -418,13 +421,13 @@ def phase_forwards(machines, ssh, asked):
         inside = ["ip", "netns", "exec", machines.spaces[0]]
         greeted = subprocess.run([*inside, *asks], stdout=subprocess.PIPE, timeout=30, check=False)
         check("sealed: a forwarded port answers", greeted.stdout == b"SSH-", greeted.stdout)
-        check("sealed: ssh is there, once", len(machines.processes(0, "ssh")) == 1, machines.processes(0, "ssh"))
+        check("sealed: ssh is there, once", len(sealed_ssh(machines)) == 1, sealed_ssh(machines))
         side.outer.type(b"clear; ssh-add -l\r")
         check("sealed: a forwarded agent answers", comes(lambda: b"identities" in side.outer.written, 20), side.outer.written[-300:])
-        before = machines.processes(0, "ssh")
+        before = sealed_ssh(machines)
         time.sleep(asked.long)
         logs = [path.read_text(encoding="utf-8") for path in asked.folder.glob("roam/ssh*/log")]
-        check(f"sealed: no ssh is started in vain in {asked.long:g} s", machines.processes(0, "ssh") == before and not any(logs), logs)
+        check(f"sealed: no ssh is started in vain in {asked.long:g} s", sealed_ssh(machines) == before and not any(logs), logs)
     finally:
         agent.kill()
         agent.wait()

@@ -155,15 +155,19 @@ class Outer:
         return comes(lambda: any(text in row for row in self.rows()), seconds)
 
     def shown_at(self, text, seconds=WAIT):
-        """When a text came to stand somewhere, read as it was painted piece by piece; None where it doesn't in time."""
+        """When a text came to stand somewhere, read as it was painted piece by piece; None where it doesn't in time. What was painted in
+        time is read, however long that takes here."""
         end = time.monotonic() + seconds
         while True:
+            is_over = time.monotonic() > end
             for moment, length in [piece for piece in list(self.moments) if piece[1] > self.read_to]:
+                if moment > end:
+                    return None
                 self.emulated.fed(bytes(self.written[self.read_to : length]))
                 self.read_to = length
                 if any(text in row for row in self.emulated.lines()):
                     return moment
-            if time.monotonic() > end:
+            if is_over:
                 return None
             time.sleep(0.002)
 

@@ -15,7 +15,7 @@ from collections.abc import Iterable
 from roam_live.processes import Processes
 from roam_live.program import (TOOLS, Fault, begun, count_front_ends, end_words, is_listened, is_own_folder, is_stopped, note_end,
                                program, replace_text, say)
-from roam_live.places import MOST_STARTS, Places, asked_places
+from roam_live.places import ASKED, MOST_STARTS, Places, asked_places
 
 NAME = re.compile(r"[A-Za-z0-9_-]{1,32}")
 
@@ -31,6 +31,9 @@ VERSION = 3
 
 # So many seconds after the last terminal left a relay ends.
 ALONE = 3600
+
+# So many seconds it is waited for being told whether there is room for a start, before it is spawned: a person waits for that.
+ROOM_ASKED = 0.25
 
 # From so many starts on `mux ls` tells how many a server knows.
 MANY_STARTS = 32
@@ -123,9 +126,10 @@ class FolderSession(Processes):
         except OSError:
             return ""
 
-    def places(self) -> Places | None:
-        """Where its panes are, asked now; None where nobody tells it, as in a folder that another user made in its place."""
-        return asked_places(self.folder / "panes") if is_own_folder(self.folder) else None
+    def places(self, seconds: float = ASKED) -> Places | None:
+        """Where its panes are, asked now; None where nobody tells it in so many seconds, as in a folder that another user made in its
+        place."""
+        return asked_places(self.folder / "panes", seconds) if is_own_folder(self.folder) else None
 
     def is_served(self) -> bool:
         """Whether a server is there, or a relay to one."""
@@ -233,7 +237,7 @@ class FolderSession(Processes):
 
     def demand_room(self) -> None:
         """Refuses where the server knows as many starts as it ever does."""
-        places = self.places()
+        places = self.places(ROOM_ASKED)
         if places and places.is_full():
             raise Fault(f"session {self.name} has had the {MOST_STARTS} client starts of its life, and hears no other; what runs in it "
                         f"goes on, and `mux kill {self.name}` ends it")

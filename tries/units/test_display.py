@@ -93,7 +93,7 @@ class PlayedPanes:
 
     def is_awaited(self):
         """Whether that may be told soon."""
-        return self.awaited
+        return self.awaited and self.places is None
 
     def is_full(self):
         """Whether the server hears no other start."""
@@ -171,6 +171,24 @@ class Sizes(unittest.TestCase):
         person.passes()
         self.assertEqual(person.sizes()[2:], [])
         self.assertTrue(person.display.cover.startswith("too small: 15 by 100 of 15 by 120"))
+
+    def test_awaited(self):
+        """While it may be told soon where panes are a session isn't fitted by what was painted so far, which may be a part."""
+        with mock.patch.object(PlayedPanes, "awaited", True):
+            person = Person(30, 100)
+            person.display.painted(painting(10, 40))
+            person.commands.fit_first()
+            self.assertEqual((person.sizes(), person.commands.is_fitted, "fit" in person.loop.due), ([], False, True))
+            person.place.told = places(40, 80)
+            person.commands.told()
+            self.assertEqual((person.sizes(), person.commands.is_fitted), ([], True))
+        with mock.patch.object(PlayedPanes, "awaited", True):
+            person = Person(30, 100)
+            person.display.painted(painting(10, 40))
+            person.place.told = places(24, 80)
+            person.commands.told()
+            self.assertEqual(person.sizes(), ["size 30 100"])
+        self.assertEqual(Person(30, 100, told=places(24, 80)).sizes(), ["size 30 100"])
 
     def test_larger_alone(self):
         person = Person(50, 132, told=places(24, 80))

@@ -255,7 +255,7 @@ class Starts(Based):
 
     def test_full(self):
         """A server that has had its 64 starts hears no other, which is told."""
-        self.patch_of(FolderSession, "places", lambda _: Places({1: Rect(1, 1, 23, 80)}, 1, 64, 0))
+        self.patch_of(FolderSession, "places", lambda _, seconds: Places({1: Rect(1, 1, 23, 80)}, 1, 64, 0))
         told = ("session main has had the 64 client starts of its life, and hears no other; what runs in it goes on, and `mux kill main` "
                 "ends it")
         with self.assertRaises(Fault) as fault:
