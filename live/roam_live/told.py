@@ -9,7 +9,8 @@ FULL = b"full\n"
 LONGEST_LINE = 512
 MOST_BYTES = 1 << 24
 # How many numbers stand behind each word; of these words the number says how many bytes follow.
-NUMBERS = {"told": 0, "size": 2, "part": 2, "paint": 1, "anew": 1, "screen": 1, "silent": 1, "heard": 0, "refused": 1, "taken": 1, "full": 0}
+NUMBERS = {"told": 0, "size": 2, "part": 2, "paint": 1, "anew": 1, "screen": 1, "silent": 1, "heard": 0, "refused": 1, "taken": 1,
+           "full": 0}
 CARRYING = ("paint", "anew", "screen")
 
 

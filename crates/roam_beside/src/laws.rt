@@ -13,7 +13,8 @@ pub fn a_reset_resets()
 
 /// DECSTR, CSI ! p, leaves all that a program sets beside its screen.
 pub fn a_soft_reset_leaves_all()
-    ensures soft { (s : Settings) (params : List ℕ) → heard s (Csi None (record { items = params }) (record { items = 0x21 ∷ [] }) 0x70) ≡ s }
+    ensures soft { (s : Settings) (params : List ℕ)
+        → heard s (Csi None (record { items = params }) (record { items = 0x21 ∷ [] }) 0x70) ≡ s }
 {}
 
 /// Bytes without ESC, BEL and C2 say nothing, where nothing is unfinished before them, though a character be unfinished after them.

@@ -20,7 +20,8 @@ IsFound Held bytes = front bytes ≡ HeldFront
 IsFound (Same count) bytes = (front bytes ≡ Taken count (take count bytes)) × (0 < count) × (count ≤ length bytes)
 IsFound Hyphen bytes = (front bytes ≡ Taken 2 hyphen) × (2 ≤ length bytes)
 IsFound (Changed kind count) bytes =
-    (front bytes ≡ Taken (count + 3) (text_of kind (take count (drop 2 bytes)) (slice_index bytes (count + 2)))) × (count + 3 ≤ length bytes)
+    (front bytes ≡ Taken (count + 3) (text_of kind (take count (drop 2 bytes)) (slice_index bytes (count + 2))))
+    × (count + 3 ≤ length bytes)
 
 -- with bytes in front
 abbrev pub with_bytes : List ℕ → Scan → Scan

@@ -81,7 +81,8 @@ abbrev pub mixed_text : ℕ → List ℕ → List ℕ
 mixed_text layer parts =
     if count_of 0x3A parts == 2 then rendition (layer ∷ 0x38 ∷ 0x3B ∷ 0x32 ∷ 0x3B ∷ with_semicolons parts) else
     if nat_lt 2 (count_of 0x3A parts) then
-    rendition (layer ∷ 0x38 ∷ 0x3B ∷ 0x32 ∷ 0x3B ∷ with_semicolons (take (fields_length 0x3A 3 (after_field 0x3A parts)) (after_field 0x3A parts)))
+    rendition (layer ∷ 0x38 ∷ 0x3B ∷ 0x32 ∷ 0x3B
+    ∷ with_semicolons (take (fields_length 0x3A 3 (after_field 0x3A parts)) (after_field 0x3A parts)))
     else []
 
 -- the sub-parameters of 38 or 48, of which this is the first digit: 5 and an index, or 2 and a mixture

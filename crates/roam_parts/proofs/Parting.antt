@@ -157,10 +157,10 @@ module _ (s : Screenshot) (h : IsScreenshot s) where
         let next : from r (c + 1) ≡ right_of g = ap (λ (k : ℕ). glyph_or_blank s (part.row + r) k) place ∙ wide_there (part.row + r) (part.col + c) wide in
         let back : c + 1 - 1 ≡ c = omega arith in
         let kept_left : left r (c + 1) ≡ false =
-            ap (λ (b : Bool). b || is_masked masks r (c + 1 - 1)) (ne_eqb (c + 1) 0 (λ n. omega (arith, n))) ∙ ap (λ (k : ℕ). is_masked masks r k) back ∙ bare in
+        ap (λ (b : Bool). b || is_masked masks r (c + 1 - 1)) (ne_eqb (c + 1) 0 (λ n. omega (arith, n))) ∙ ap (λ (k : ℕ). is_masked masks r k) back ∙ bare in
         let narrow : is_wide (from r (c + 1)) ≡ false = ap is_wide next in
         let there = kept (left r (c + 1)) (right r (c + 1)) (from r (c + 1))
-            (ap (λ (b : Bool). b && is_right_half (from r (c + 1))) kept_left) (none_and (right r (c + 1)) (is_wide (from r (c + 1))) narrow) in
+        (ap (λ (b : Bool). b && is_right_half (from r (c + 1))) kept_left) (none_and (right r (c + 1)) (is_wide (from r (c + 1))) narrow) in
         (omega (arith, q, other), unmasked r (c + 1) free.1 ∙ there ∙ next ∙ ap right_of (sym here))
 
     half_at : (r c : ℕ) → c < part.cols → is_right_half (at r c) ≡ true → (0 < c) × (is_wide (at r (c - 1)) ≡ true)
@@ -176,13 +176,13 @@ module _ (s : Screenshot) (h : IsScreenshot s) where
         let place : part.col + c - 1 ≡ part.col + (c - 1) = omega (arith, other) in
         let before = from r (c - 1) in
         let wide : is_wide before ≡ true =
-            ap (λ (k : ℕ). is_wide (glyph_or_blank s (part.row + r) k)) (sym place) ∙ (half_there (part.row + r) (part.col + c) half).1 in
+        ap (λ (k : ℕ). is_wide (glyph_or_blank s (part.row + r) k)) (sym place) ∙ (half_there (part.row + r) (part.col + c) half).1 in
         let on : c - 1 + 1 ≡ c = omega (arith, other) in
         let inner : eqb (c - 1 + 1) part.cols ≡ false = ne_eqb (c - 1 + 1) part.cols (λ n. omega (arith, n, q, other)) in
         let kept_right : right r (c - 1) ≡ false =
-            ap (λ (b : Bool). b || is_masked masks r (c - 1 + 1)) inner ∙ ap (λ (k : ℕ). is_masked masks r k) on ∙ bare in
+        ap (λ (b : Bool). b || is_masked masks r (c - 1 + 1)) inner ∙ ap (λ (k : ℕ). is_masked masks r k) on ∙ bare in
         let there = kept (left r (c - 1)) (right r (c - 1)) before
-            (none_and (left r (c - 1)) (is_right_half before) (wide_points before.points wide)) (ap (λ (b : Bool). b && is_wide before) kept_right) in
+        (none_and (left r (c - 1)) (is_right_half before) (wide_points before.points wide)) (ap (λ (b : Bool). b && is_wide before) kept_right) in
         (omega (arith, other), ap is_wide (unmasked r (c - 1) free.1 ∙ there) ∙ wide)
 
     shown_at : (r c : ℕ) → IsShown (at r c)
@@ -315,17 +315,21 @@ whole_screen s h =
     let row : cursor_in 0 s.rows s.cursor_row ≡ s.cursor_row = omega (arith, h.cursor.row_from, h.cursor.row_to) in
     let col : cursor_in 0 s.cols s.cursor_col ≡ s.cursor_col = omega (arith, h.cursor.col_from, h.cursor.col_to) in
     let at : (r c : ℕ) → r < s.rows → c < s.cols → cell_at s.cols s.cells r c ≡ part_at part [] s r c =
-        λ r c p q. sym (cell_there s h r c p q) ∙ (λ i. glyph_or_blank s (plain r i) (plain c i))
-            ∙ sym (unmasked s h part [] r c refl ∙ kept (left s h part [] r c) (right s h part [] r c) (from s h part [] r c)
-                (no_left s h part [] refl refl refl r (omega (arith, p)) c) (no_right s h part [] refl refl refl r (omega (arith, p)) c q)) in
+    λ r c p q. sym (cell_there s h r c p q) ∙ (λ i. glyph_or_blank s (plain r i) (plain c i))
+    ∙ sym (unmasked s h part [] r c refl ∙ kept (left s h part [] r c) (right s h part [] r c) (from s h part [] r c)
+    (no_left s h part [] refl refl refl r (omega (arith, p)) c) (no_right s h part [] refl refl refl r (omega (arith, p)) c q)) in
     λ i. record {
-      rows = s.rows; cols = s.cols; cells = sym (table_is s.rows s.cols (part_at part [] s) s.cells h.count at) i;
-      cursor_row = row i; cursor_col = col i; visible = (ap (λ (b : Bool). s.visible && b) (λ j. row_in j && col_in j) ∙ and_yes s.visible) i;
+      rows = s.rows;
+      cols = s.cols;
+      cells = sym (table_is s.rows s.cols (part_at part [] s) s.cells h.count at) i;
+      cursor_row = row i;
+      cursor_col = col i;
+      visible = (ap (λ (b : Bool). s.visible && b) (λ j. row_in j && col_in j) ∙ and_yes s.visible) i;
     }
   where
-  plain : (k : ℕ) → k ≡ 0 + k
-  plain k = omega arith
+    plain : (k : ℕ) → k ≡ 0 + k
+    plain k = omega arith
 
-  and_yes : (b : Bool) → (b && true) ≡ b
-  and_yes true = refl
-  and_yes false = refl
+    and_yes : (b : Bool) → (b && true) ≡ b
+    and_yes true = refl
+    and_yes false = refl

@@ -148,7 +148,11 @@ impl<'a> View<'a> {
         }
         let left = c == 0 || is_masked(self.masks, r, c - 1);
         let right = c + 1 == self.part.cols as u32 || is_masked(self.masks, r, c + 1);
-        let cell = cell_or_blank(self.shot, self.part.row as u32 + r, self.part.col as u32 + c);
+        let cell = cell_or_blank(
+            self.shot,
+            self.part.row as u32 + r,
+            self.part.col as u32 + c,
+        );
         cut_cell(left, right, cell)
     }
 
@@ -203,8 +207,9 @@ impl<'a> View<'a> {
     }
 }
 
-/// A part of a screen as a screen of its own: outside of the screen it is blank, and so are places that are masked; of a wide character that
-/// is cut in two a space is left, in its style; the cursor is hidden where it is outside. Rows that are the screen's are shared with it.
+/// A part of a screen as a screen of its own: outside of the screen it is blank, and so are places that are masked; of a wide character
+/// that is cut in two a space is left, in its style; the cursor is hidden where it is outside. Rows that are the screen's are shared with
+/// it.
 /// `BadSize` for a part outside 2 to 200 rows or 4 to 500 columns, `OutOfMemory`.
 pub fn part_of(alloc: Global, shot: &RowShot, part: Part, masks: &[Part]) -> Result<RowShot, Fault>
     ensures part { IfOk result (λ shown. shown ≡ part_of part masks.now shot.now) }

@@ -47,7 +47,8 @@ visible_word false = codes "hidden"
 -- the first line: the size, the cursor's row and column from 1, and whether it is visible
 abbrev pub head_line : Screenshot → List ℕ
 head_line s =
-    decimal s.rows ++ 0x20 ∷ decimal s.cols ++ 0x20 ∷ decimal s.cursor_row ++ 0x20 ∷ decimal s.cursor_col ++ 0x20 ∷ visible_word s.visible ++ 0x0A ∷ []
+    decimal s.rows ++ 0x20 ∷ decimal s.cols ++ 0x20 ∷ decimal s.cursor_row ++ 0x20 ∷ decimal s.cursor_col ++ 0x20
+    ∷ visible_word s.visible ++ 0x0A ∷ []
 
 -- the first rows
 abbrev pub rows_text : Looking → Screenshot → ℕ → List ℕ

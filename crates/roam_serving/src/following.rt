@@ -269,8 +269,8 @@ fn tell_each<S: Stream + Drop>(
     tell_each(alloc, others, now, closer, moment) || may_ask
 }
 
-// Does what the lines of each program ask for, and tells it what is new of the panes; then the keeper of shells has his place. Tells whether
-// more may be asked for already.
+// Does what the lines of each program ask for, and tells it what is new of the panes; then the keeper of shells has his place. Tells
+// whether more may be asked for already.
 fn tell_seated<S: Stream + Drop>(
     alloc: Global,
     all: &mut [Follower<S>],

@@ -121,8 +121,8 @@ fn places_for(has_keeper: bool) -> usize
     }
 }
 
-/// The last one that said that it is the keeper of shells is so from then on, and who was or said so before is let go. Of the others 63 stay,
-/// so that a keeper may come: those that came last go.
+/// The last one that said that it is the keeper of shells is so from then on, and who was or said so before is let go. Of the others 63
+/// stay, so that a keeper may come: those that came last go.
 pub(crate) fn seat_keeper<S: Stream + Drop>(all: &mut [Follower<S>])
     ensures seated { all.new ≡ kept_place (seated (any_new all.old) all.old) }
 {

@@ -118,7 +118,7 @@ other_first n a all none = (
   λ e.
       let is : (a.number == n) ≡ true = ap (λ k. a.number == k) e ∙ same_number a.number in
       let one : (if a.number == n then 1 else 0) + count_of n all ≡ 1 + count_of n all =
-  ap (λ b. (if b then 1 else 0) + count_of n all) is in
+      ap (λ b. (if b then 1 else 0) + count_of n all) is in
       absurd (omega (arith, one, none)),
   omega (arith, none),
 )

@@ -70,7 +70,8 @@ pub data TakesLine {S : Type 0} (entry : Option Entry) (old new : Terminal S) (c
       → 0 < length (acts_in e) → client' ≡ client → new ≡ old → TakesLine entry old new client client'
   refused : entry ≡ None → is_heard old.state ≡ true → IsBad old.lines → IsRefused old new → client' ≡ client
       → TakesLine entry old new client client'
-  nothing : entry ≡ None → is_heard old.state ≡ true → ((line rest : List ℕ) → IsFirst old.lines.kept line rest → ⊥) → client' ≡ client → new ≡ old
+  nothing : entry ≡ None → is_heard old.state ≡ true → ((line rest : List ℕ) → IsFirst old.lines.kept line rest → ⊥)
+      → client' ≡ client → new ≡ old
       → TakesLine entry old new client client'
   unheard : entry ≡ None → is_heard old.state ≡ false → client' ≡ client → new ≡ old → TakesLine entry old new client client'
 

@@ -97,6 +97,7 @@ part_found text part e = by (first_word text) refl e
           cols = size.second;
           text_is = cut ∙ (λ i. place.2 i ++ 32 ∷ word_found words.1 rest is i) ∙ (λ i. decimal part.row ++ 32 ∷ (place.3 i ++ 32 ∷ size.text_is i));
         }
+
     by : (r : Option (List ℕ × List ℕ)) → first_word text ≡ r → part_at r ≡ Some part → IsPartText text part
     by None is e = absurd cc
     by (Some words) is e = behind words (word_found text words is) (first_word words.1) refl e

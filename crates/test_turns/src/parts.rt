@@ -24,15 +24,13 @@ fn screen_after(alloc: Global, rows: u16, cols: u16, text: &str) -> Result<RowSh
 fn part_asked(line: &str, screen: &RowShot) -> Option<Part> {
     match read_showing(line.as_bytes())? {
         Showing::Exactly(part) => Some(part),
-        Showing::Following(rows, cols) => Some(
-            Part {
-                row: 0,
-                col: 0,
-                rows,
-                cols,
-            }
-            .followed(screen),
-        ),
+        Showing::Following(rows, cols) => Some(Part {
+            row: 0,
+            col: 0,
+            rows,
+            cols,
+        }
+        .followed(screen)),
         _ => None,
     }
 }
@@ -72,7 +70,10 @@ fn is_part(alloc: Global, case: &str) -> Result<bool, Fault> {
     let Some((rows, cols)) = size.split_once(' ') else {
         return Ok(false);
     };
-    let (rows, cols) = (rows.parse::<u16>().unwrap_or(0), cols.parse::<u16>().unwrap_or(0));
+    let (rows, cols) = (
+        rows.parse::<u16>().unwrap_or(0),
+        cols.parse::<u16>().unwrap_or(0),
+    );
     let screen = screen_after(alloc, rows, cols, text)?;
     let Some(part) = part_asked(line, &screen) else {
         return Ok(false);
@@ -123,7 +124,6 @@ a/ / / /d/\x20
  / / /\x20
  /z/ /\x20";
 
-
 #[test]
 fn parts_are_shown(rt: HostRuntime) -> Result<(), Fail> {
     let alloc = rt.alloc();
@@ -159,7 +159,8 @@ fn records_are_told(rt: HostRuntime) -> Result<(), Fail> {
     }
     let screen = screen_after(alloc, 2, 4, "\x1b[31ma\x1b[1mb\x1b[2H\x1b[1mc")?;
     let text = screen_text(alloc, Looking::Styled, &screen)?;
-    let styled = "2 4 2 2 visible\n\x1b[0;38;5;1ma/\x1b[0;1;38;5;1mb/\x1b[0m / \n\x1b[0;1;38;5;1mc/\x1b[0m / / \n";
+    let styled =
+        "2 4 2 2 visible\n\x1b[0;38;5;1ma/\x1b[0;1;38;5;1mb/\x1b[0m / \n\x1b[0;1;38;5;1mc/\x1b[0m / / \n";
     assert!(rt; is_told(&text, styled), "{text:?}");
     Ok(())
 }
@@ -181,12 +182,30 @@ fn lines_are_taken(rt: HostRuntime) -> Result<(), Fail> {
         assert!(rt; lines.acknowledged(acts) == told, "{acts} acts");
     }
     let bad = [
-        "part 1 4", "part 2 3", "part 201 4", "part 0 0 2 501", "part 00 0 2 4", "part 0 0 2 4 ", "part 65536 0 2 4", "part  2 4", "part",
-        "part 1 2 3", "whole ", "Whole", "mask 0 0 0 4", "mask 0 0 201 4", "mask 2 4", "unmask 1", "",
+        "part 1 4",
+        "part 2 3",
+        "part 201 4",
+        "part 0 0 2 501",
+        "part 00 0 2 4",
+        "part 0 0 2 4 ",
+        "part 65536 0 2 4",
+        "part  2 4",
+        "part",
+        "part 1 2 3",
+        "whole ",
+        "Whole",
+        "mask 0 0 0 4",
+        "mask 0 0 201 4",
+        "mask 2 4",
+        "unmask 1",
+        "",
     ];
     for line in bad {
         assert!(rt; read_showing(line.as_bytes()).is_none(), "{line}");
     }
-    assert!(rt; read_showing(b"whole") == Some(Showing::Whole) && read_showing(b"unmask") == Some(Showing::Unmask));
+    assert!(rt;
+        read_showing(b"whole") == Some(Showing::Whole)
+            && read_showing(b"unmask") == Some(Showing::Unmask)
+    );
     Ok(())
 }

@@ -37,7 +37,7 @@ returns-then-not-is_size-2-clause-only c =
     part_only c.args.text.now None None c.in_default.ensures.part
     (λ p e h. absurd (no_some p e))
     (λ a b e g h. absurd (false≢true (c.if-not-is_size-2.ensures.size.1
-        (subst (λ (q : ℕ × ℕ). IsSize q.0 q.1) (sym (same_pair _ _ (c.in_ok-rows.ensures.pair ∙ g))) h))))
+    (subst (λ (q : ℕ × ℕ). IsSize q.0 q.1) (sym (same_pair _ _ (c.in_ok-rows.ensures.pair ∙ g))) h))))
 
 pub returns-clause-found : goal.returns-clause-found
 returns-clause-found c =
