@@ -5,7 +5,7 @@ use Rattle.std.proofs.lemmas.List.{drop-append-le, length-take-le, take_more}
 use Rattle.std.proofs.Math.Seq.{take-add}
 use Rattle.memchr.specs.Find.{is_byte3}
 use Rattle.roam_text.specs.Log.{settled_part}
-use Rattle.roam_beside.specs.Silence.{AreNumbers, AreStill, IsPlainSequence, SaySame, SaysNothing, is_number}
+use Rattle.roam_beside.specs.Silence.{AreNumbers, AreStill, IsPlainSequence, SaySame, SaysNothing, is_number, is_still}
 use Rattle.roam_beside.proofs.Silences.{same-refl, same-trans, still-silent}
 use Rattle.roam_beside.proofs.Sequences.{sequence-silent}
 
@@ -83,3 +83,17 @@ run-within at run piece few most =
     let a = length-drop at piece in
     let p : length (take (length piece - at) (drop at piece)) ≡ length (drop at piece) = ap length (rest-lent piece at) in
     omega (arith, few, most, a, p)
+
+still-joined : (xs ys : List ℕ) → AreStill xs → AreStill ys → AreStill (xs ++ ys)
+still-joined [] ys first later = later
+still-joined (x ∷ xs) ys first later = (first.0, still-joined xs ys first.1 later)
+
+-- one more still byte
+pub still-on : (piece : List ℕ) (at : ℕ) → at < length piece → is_still (slice_index piece at) ≡ true → AreStill (take at piece) → AreStill (take (at + 1) piece)
+still-on piece at less is still = subst AreStill (sym (take_more piece at 0 less)) (still-joined (take at piece) (slice_index piece at ∷ []) still (is, tt))
+
+-- still bytes near, and far
+pub still-far : (piece : List ℕ) (near far : ℕ) → AreStill (take near piece) → AreStill (take far (take (length piece - near) (drop near piece))) → AreStill (take (near + far) piece)
+still-far piece near far first later =
+    subst AreStill (sym (take-add near far piece))
+    (still-joined (take near piece) (take far (drop near piece)) first (subst (λ l. AreStill (take far l)) (rest-lent piece near) later))

@@ -1,6 +1,6 @@
 //! Bytes at the front of a piece that say nothing beside the screen, and needn't be read.
 ghost use Rattle.std.specs.Prelude.{◌≡◌, ◌≤◌, ◌<◌, length, take};
-ghost use Rattle.roam_beside.specs.Silence.{AreStill, IsPlainSequence, SaysNothing, is_final, is_number};
+ghost use Rattle.roam_beside.specs.Silence.{AreStill, IsPlainSequence, SaysNothing, is_final, is_number, is_still};
 
 use memchr::memchr3;
 
@@ -12,6 +12,9 @@ const BELL: u8 = 0x07;
 
 /// The first byte of each C1 control in UTF-8, and of the characters U+00A0 to U+00BF (The Unicode Standard, Table 3-6).
 const C1_LEAD: u8 = 0xC2;
+
+/// How many bytes are looked at one by one before they are searched.
+const NEAR: usize = 16;
 
 fn is_number(byte: u8) -> bool
     ensures number { result ≡ is_number byte }
@@ -25,9 +28,29 @@ fn is_final(byte: u8) -> bool
     0x40 <= byte && byte < 0x7F
 }
 
-// How many bytes come before the first ESC, BEL or C2.
 #[inline]
-fn still_run(piece: &[u8]) -> usize
+fn is_still(byte: u8) -> bool
+    ensures still { result ≡ is_still byte }
+{
+    byte != ESCAPE && byte != BELL && byte != C1_LEAD
+}
+
+// How many bytes come before the first ESC, BEL or C2, of those that are near: between two renditions there are few.
+#[inline]
+fn near_run(piece: &[u8]) -> usize
+    ensures within { result ≤ length piece.now }
+    ensures still { AreStill (take result piece.now) }
+{
+    let mut at = 0;
+    while at < piece.len() && at < NEAR && is_still(piece[at]) {
+        at += 1;
+    }
+    at
+}
+
+// How many come before it.
+#[inline]
+fn far_run(piece: &[u8]) -> usize
     ensures within { result ≤ length piece.now }
     ensures still { AreStill (take result piece.now) }
 {
@@ -35,6 +58,19 @@ fn still_run(piece: &[u8]) -> usize
         Some(at) => at,
         None => piece.len(),
     }
+}
+
+// The same, near or far.
+#[inline]
+fn still_run(piece: &[u8]) -> usize
+    ensures within { result ≤ length piece.now }
+    ensures still { AreStill (take result piece.now) }
+{
+    let near = near_run(piece);
+    if near < NEAR {
+        return near;
+    }
+    near + far_run(&piece[near..])
 }
 
 // How many bytes a whole control sequence at the front takes that has neither a private marker nor an intermediate byte, as all SGR; 0

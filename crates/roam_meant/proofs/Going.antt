@@ -1,6 +1,6 @@
 -- Runs of bytes that go through as they are, and what stands first behind ESC and 5B.
 use Rattle.std.proofs.Common.{◌≡◌, ◌≤◌, ◌<◌, ◌+◌, ◌-◌, ℕ, zero, suc, Bool, true, false, cond, List, [], ◌∷◌, ◌++◌, length, length-drop, take, drop, refl, sym, ap, ◌∙◌, arith, append_assoc, subst}
-use Rattle.std.specs.Prelude.{◌==◌, ◌||◌, slice_index}
+use Rattle.std.specs.Prelude.{◌==◌, ◌||◌, not, slice_index}
 use Rattle.std.proofs.lemmas.List.{drop-drop, get_or-drop, length-take-le, take-append-drop, take_more}
 use Rattle.std.proofs.Math.Seq.{take-add}
 use Rattle.memchr.specs.Find.{is_byte2}
@@ -8,18 +8,18 @@ use Rattle.roam_meant.specs.declared.meanings.Kind.{Kind}
 use Rattle.roam_meant.specs.declared.meanings.Kind.TheVariants.{AsItStands}
 use Rattle.roam_meant.specs.Meanings.{kind_of, meaning, text_of, whole}
 use Rattle.roam_meant.specs.Meant.{Scan, Unfinished, Neither, Sequence, Held, Taken, GoesThrough, behind, escape_front, front, lead_front, meant, most_body, one, onward, scan, sequence_front}
-use Rattle.roam_meant.specs.Found.{AreStill}
+use Rattle.roam_meant.specs.Found.{AreStill, is_still}
 use Rattle.roam_meant.proofs.Cutting.{meant-step}
 use Rattle.roam_meant.proofs.Spelling.{rest-lent}
 
 -- ---- still bytes
 
-parts : (x y : Bool) → (x || y) ≡ false → (x ≡ false) × (y ≡ false)
+parts : (x y : Bool) → not (x || y) ≡ true → (x ≡ false) × (y ≡ false)
 parts true y h = cc
 parts false true h = cc
 parts false false h = (refl, refl)
 
-still-front : (b : ℕ) (rest : List ℕ) → is_byte2 0x1B 0xC2 b ≡ false → front (b ∷ rest) ≡ one b
+still-front : (b : ℕ) (rest : List ℕ) → is_still b ≡ true → front (b ∷ rest) ≡ one b
 still-front b rest still =
     let p = parts (b == 0x1B) (b == 0xC2) still in
     ap (λ t. cond t (escape_front rest) (cond (b == 0xC2) (lead_front rest) (one b))) p.0
@@ -31,7 +31,7 @@ still-goes (b ∷ run) rest still =
     meant-step (b ∷ (run ++ rest)) ∙ ap (λ f. onward f (b ∷ (run ++ rest)) meant) (still-front b (run ++ rest) still.0)
     ∙ ap (behind (b ∷ [])) (still-goes run rest still.1)
 
-not-true : (b : Bool) → (b ≡ true → ⊥) → b ≡ false
+not-true : (b : Bool) → (b ≡ true → ⊥) → not b ≡ true
 not-true true never = absurd (never refl)
 not-true false never = refl
 
@@ -42,6 +42,20 @@ still-take (suc n) (b ∷ bytes) few never = (
   not-true (is_byte2 0x1B 0xC2 b) (never 0 (omega arith)),
   still-take n bytes (omega (arith, few)) (λ k less. never (suc k) (omega (arith, less))),
 )
+
+still-joined : (xs ys : List ℕ) → AreStill xs → AreStill ys → AreStill (xs ++ ys)
+still-joined [] ys first later = later
+still-joined (x ∷ xs) ys first later = (first.0, still-joined xs ys first.1 later)
+
+-- one more still byte
+pub still-on : (bytes : List ℕ) (at : ℕ) → at < length bytes → is_still (slice_index bytes at) ≡ true → AreStill (take at bytes) → AreStill (take (at + 1) bytes)
+still-on bytes at less is still = subst AreStill (sym (take_more bytes at 0 less)) (still-joined (take at bytes) (slice_index bytes at ∷ []) still (is, tt))
+
+-- still bytes near, and far
+pub still-far : (bytes : List ℕ) (near far : ℕ) → AreStill (take near bytes) → AreStill (take far (take (length bytes - near) (drop near bytes))) → AreStill (take (near + far) bytes)
+still-far bytes near far first later =
+    subst AreStill (sym (take-add near far bytes))
+    (still-joined (take near bytes) (take far (drop near bytes)) first (subst (λ l. AreStill (take far l)) (rest-lent bytes near) later))
 
 -- ---- runs one after another
 

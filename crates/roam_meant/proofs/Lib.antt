@@ -4,3 +4,4 @@ mod Spelling
 mod Scanning
 mod Going
 mod Translating
+mod Glances

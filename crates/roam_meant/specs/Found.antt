@@ -1,5 +1,5 @@
 -- What is found at the front of some bytes.
-use Rattle.std.specs.Prelude.{ℕ, ◌≡◌, ◌≤◌, ◌<◌, ◌+◌, ⊤, false, List, [], ◌∷◌, take, drop, length, slice_index}
+use Rattle.std.specs.Prelude.{ℕ, ◌≡◌, ◌≤◌, ◌<◌, ◌+◌, ⊤, ◌==◌, ◌&&◌, ◌||◌, nat_le, nat_lt, Bool, true, not, List, [], ◌∷◌, take, drop, length, slice_index}
 use Rattle.memchr.specs.Find.{is_byte2}
 use Rattle.roam_meant.specs.declared.fronts.Scanned.{Scanned}
 use Rattle.roam_meant.specs.declared.fronts.Scanned.TheVariants.{Unfinished, Neither, Sequence}
@@ -29,6 +29,14 @@ with_bytes [] s = s
 with_bytes (b ∷ bytes) s = with_byte b (with_bytes bytes s)
 
 -- neither ESC nor C2
+abbrev pub is_still : ℕ → Bool
+is_still b = not (is_byte2 0x1B 0xC2 b)
+
+-- such bytes alone
 abbrev pub AreStill : List ℕ → Type 0
 AreStill [] = ⊤
-AreStill (b ∷ bytes) = (is_byte2 0x1B 0xC2 b ≡ false) × AreStill bytes
+AreStill (b ∷ bytes) = (is_still b ≡ true) × AreStill bytes
+
+-- a digit or a semicolon
+abbrev pub is_plain : ℕ → Bool
+is_plain b = (nat_le 0x30 b && nat_lt b 0x3A) || b == 0x3B

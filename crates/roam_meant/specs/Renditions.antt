@@ -151,3 +151,14 @@ most_semicolons = 15
 -- whether a rendition has to be spelled out: it has sub-parameters, more than sixteen parameters, or colours of lines
 abbrev pub is_changed : List ℕ → Bool
 is_changed bytes = nat_lt 0 (count_of 0x3A bytes) || (nat_lt most_semicolons (count_of 0x3B bytes) || has_lines bytes)
+
+-- the two characters that 58 and 59 have
+abbrev pub is_pair : ℕ → ℕ → Bool
+is_pair first second = first == 0x35 && (second == 0x38 || second == 0x39)
+
+-- whether there is a colon, 58 or 59 in some number, or too many semicolons, with what came before and so many semicolons in front: without
+-- these a rendition hasn't to be spelled out
+abbrev pub may_change : ℕ → ℕ → List ℕ → Bool
+may_change before semicolons [] = nat_lt most_semicolons semicolons
+may_change before semicolons (b ∷ rest) =
+    cond (b == 0x3A || is_pair before b) true (may_change b (cond (b == 0x3B) (suc semicolons) semicolons) rest)

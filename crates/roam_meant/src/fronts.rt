@@ -1,9 +1,11 @@
 //! What stands at the front of some bytes.
-ghost use Rattle.std.specs.Prelude.{◌≡◌, ◌≤◌, ◌<◌, ◌+◌, ◌-◌, ◌⊎◌, ◌++◌, false, length, take, drop, slice_index, OnOk};
-ghost use Rattle.roam_meant.specs.Found.{AreStill, IsFound, IsScan, with_bytes};
+ghost use Rattle.std.specs.Prelude.{◌≡◌, ◌≤◌, ◌<◌, ◌+◌, ◌-◌, ◌⊎◌, ◌++◌, ◌==◌, false, cond, suc, length, take, drop, slice_index, OnOk};
+ghost use Rattle.roam_meant.specs.Found.{AreStill, IsFound, IsScan, is_plain, is_still, with_bytes};
+ghost use Rattle.roam_meant.specs.Renditions.{may_change};
 ghost use Rattle.roam_meant.specs.Meant.{GoesThrough, is_body, is_final, most_body, scan};
 
 use crate::meanings::{Kind, kind_of};
+use crate::renditions::{MOST_SEMICOLONS, is_pair};
 use memchr::memchr2;
 
 /// The most bytes of a control sequence between CSI and its final byte that are looked at.
@@ -20,6 +22,9 @@ const LEAD: u8 = 0xC2;
 
 /// The second byte of the soft hyphen.
 const SOFT_HYPHEN: u8 = 0xAD;
+
+/// How many bytes are looked at one by one before they are searched.
+const NEAR: usize = 16;
 
 /// What stands behind ESC and 5B.
 #[derive(Clone, Copy)]
@@ -86,6 +91,48 @@ fn scan(bytes: &[u8]) -> Scanned
     }
 }
 
+#[inline]
+fn is_plain(byte: u8) -> bool
+    ensures plain { result ≡ is_plain byte }
+{
+    b'0' <= byte && byte < b':' || byte == b';'
+}
+
+#[inline]
+fn counted(byte: u8, semicolons: usize) -> usize
+    requires few { semicolons ≤ most_body }
+    ensures count { result ≡ cond (byte == 0x3B) (suc semicolons) semicolons }
+{
+    if byte == b';' {
+        semicolons + 1
+    } else {
+        semicolons
+    }
+}
+
+// How many digits and semicolons stand first behind ESC and 5B, where a rendition with these parameters hasn't to be spelled out; none where
+// it may have to be. Most control sequences have nothing else, and are told at a glance.
+#[inline]
+fn plain_body(rest: &[u8]) -> usize
+    ensures within { result ≤ length rest.now }
+    ensures scan { scan most_body rest.now ≡ with_bytes (take result rest.now) (scan (most_body - result) (drop result rest.now)) }
+    ensures first { 0 < result → slice_index rest.now 0 < 0x3C }
+    ensures glance { 0 < result → may_change 0 0 (take result rest.now) ≡ false }
+{
+    let mut before = 0;
+    let mut semicolons = 0;
+    let mut at = 0;
+    while at < rest.len() && at < MOST_BODY && is_plain(rest[at]) {
+        if is_pair(before, rest[at]) {
+            return 0;
+        }
+        semicolons = counted(rest[at], semicolons);
+        before = rest[at];
+        at += 1;
+    }
+    if semicolons > MOST_SEMICOLONS { 0 } else { at }
+}
+
 // What stands first, where ESC and 5B do.
 fn sequence_found(bytes: &[u8]) -> Found
     requires some { 2 ≤ length bytes.now }
@@ -94,6 +141,10 @@ fn sequence_found(bytes: &[u8]) -> Found
     ensures found { IsFound result bytes.now }
 {
     let rest = &bytes[2..];
+    let plain = plain_body(rest);
+    if plain > 0 && plain < rest.len() && is_final(rest[plain]) {
+        return Found::Same(plain + 3);
+    }
     match scan(rest) {
         Scanned::Unfinished => Found::Held,
         Scanned::Neither => Found::Same(1),
@@ -116,9 +167,29 @@ pub fn find(bytes: &[u8]) -> Found
     }
 }
 
-// How many bytes come before the first ESC or C2.
 #[inline]
-fn still_run(bytes: &[u8]) -> usize
+fn is_still(byte: u8) -> bool
+    ensures still { result ≡ is_still byte }
+{
+    byte != ESCAPE && byte != LEAD
+}
+
+// How many bytes come before the first ESC or C2, of those that are near: between two renditions there are few.
+#[inline]
+fn near_run(bytes: &[u8]) -> usize
+    ensures within { result ≤ length bytes.now }
+    ensures still { AreStill (take result bytes.now) }
+{
+    let mut at = 0;
+    while at < bytes.len() && at < NEAR && is_still(bytes[at]) {
+        at += 1;
+    }
+    at
+}
+
+// How many come before it.
+#[inline]
+fn far_run(bytes: &[u8]) -> usize
     ensures within { result ≤ length bytes.now }
     ensures still { AreStill (take result bytes.now) }
 {
@@ -126,6 +197,19 @@ fn still_run(bytes: &[u8]) -> usize
         Some(at) => at,
         None => bytes.len(),
     }
+}
+
+// The same, near or far.
+#[inline]
+fn still_run(bytes: &[u8]) -> usize
+    ensures within { result ≤ length bytes.now }
+    ensures still { AreStill (take result bytes.now) }
+{
+    let near = near_run(bytes);
+    if near < NEAR {
+        return near;
+    }
+    near + far_run(&bytes[near..])
 }
 
 // How many bytes stand first that go through as they are; none where others do, or nothing stands there.

@@ -1,6 +1,6 @@
 //! SGR in the form that this project's profile reads: parameters alone, sixteen at most.
 ghost use Rattle.std.specs.Prelude.{◌≡◌, ◌≤◌, ◌<◌, ◌++◌, ◌∷◌, [], length, take, drop, IfOk, OnOk};
-ghost use Rattle.roam_meant.specs.Renditions.{after_field, colour_text, count_of, field_kind, fields_length, first_field, first_kind, group_length, group_size, group_text, has_lines, is_changed, is_of_lines, line_text, mixed_text, next_field, parted_text, rendition, spelled_out, together, two_kind, whole_kind, wide_text, with_semicolons};
+ghost use Rattle.roam_meant.specs.Renditions.{after_field, colour_text, count_of, field_kind, fields_length, first_field, first_kind, group_length, group_size, group_text, has_lines, is_changed, is_of_lines, is_pair, line_text, may_change, mixed_text, next_field, parted_text, rendition, spelled_out, together, two_kind, whole_kind, wide_text, with_semicolons};
 
 use std::alloc::{AllocError, Global};
 
@@ -8,7 +8,7 @@ use std::alloc::{AllocError, Global};
 const ALL_FIELDS: usize = 256;
 
 /// The most semicolons of parameters that the profile keeps all of.
-const MOST_SEMICOLONS: usize = 15;
+pub const MOST_SEMICOLONS: usize = 15;
 
 /// What a field of the parameters begins with, as far as it matters.
 #[derive(Clone, Copy)]
@@ -139,6 +139,14 @@ fn group_length(bytes: &[u8]) -> usize
     fields_length(b';', group_size(first_kind(bytes), next), bytes)
 }
 
+/// Whether two characters are those of 58 or 59.
+#[inline]
+pub fn is_pair(first: u8, second: u8) -> bool
+    ensures pair { result ≡ is_pair first second }
+{
+    first == b'5' && (second == b'8' || second == b'9')
+}
+
 fn is_of_lines(kind: Field) -> bool
     ensures lines { result ≡ is_of_lines kind }
 {
@@ -166,11 +174,37 @@ fn has_lines(bytes: &[u8]) -> bool
     }
 }
 
+// Whether a rendition may have to be spelled out: it has a colon, 58 or 59 in some number, or too many semicolons. Most have none of these,
+// and are told at a glance.
+#[inline]
+fn may_change(bytes: &[u8]) -> bool
+    ensures may { result ≡ may_change 0 0 bytes.now }
+{
+    let mut before = 0;
+    let mut semicolons = 0;
+    let mut at = 0;
+    while at < bytes.len() {
+        let byte = bytes[at];
+        if byte == b':' || is_pair(before, byte) {
+            return true;
+        }
+        if byte == b';' {
+            semicolons += 1;
+        }
+        before = byte;
+        at += 1;
+    }
+    semicolons > MOST_SEMICOLONS
+}
+
 /// Whether a rendition with these parameters has to be spelled out.
 pub fn is_changed(bytes: &[u8]) -> bool
     ensures changed { result ≡ is_changed bytes.now }
 {
-    count_of(b':', bytes) > 0 || count_of(b';', bytes) > MOST_SEMICOLONS || has_lines(bytes)
+    may_change(bytes)
+        && (count_of(b':', bytes) > 0
+            || count_of(b';', bytes) > MOST_SEMICOLONS
+            || has_lines(bytes))
 }
 
 // SGR with these parameters goes out. Refuses want of memory, and something of it may have gone out then.

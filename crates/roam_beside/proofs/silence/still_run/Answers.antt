@@ -1,12 +1,5 @@
-use Rattle.std.proofs.Common.{length, arith}
-use Rattle.roam_beside.proofs.Runs.{still-take}
+use Rattle.roam_beside.proofs.Runs.{still-far}
 use Rattle.roam_beside.proofs.silence.still_run.Goals as goal
 
-pub returns-in-Some-clause-still : goal.returns-in-Some-clause-still
-returns-in-Some-clause-still c =
-    let high = c.in-Some.ensures.0.high in
-    still-take c.in-Some.at c.args.piece.now (omega (arith, high)) (λ k less. c.in-Some.ensures.0.before k (omega arith) less)
-
-pub returns-in-None-clause-still : goal.returns-in-None-clause-still
-returns-in-None-clause-still c =
-    still-take (length c.args.piece.now) c.args.piece.now (omega arith) (λ k less. c.in-None.ensures k (omega arith) less)
+pub returns-clause-still : goal.returns-clause-still
+returns-clause-still c = still-far c.args.piece.now c.near_run-near.result c.far_run.result c.near_run-near.ensures.still c.far_run.ensures.still
