@@ -123,7 +123,8 @@ fn gone_out(alloc: Global, digits: usize) -> usize {
     let mut filter = Filter::new(alloc);
     let mut out = filter.feed(b"\x1B[").map_or(0, |out| out.len());
     for _ in 0..digits {
-        out += filter.feed(b"1").map_or(0, |out| out.len());
+        let more = filter.feed(b"1").map_or(0, |out| out.len());
+        out = out.saturating_add(more);
     }
     out
 }
