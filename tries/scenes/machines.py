@@ -191,9 +191,11 @@ def carried(folder):
         check(f"{number}: what is typed is shown", outer.shows(f"round-{number}", 40) and beside.shows(f"round-{number}"), outer.rows)
     outer.type(b"exit\r")
     check("a shell's end is told here", comes(lambda: listed()[4:6] == ["2", "panes"]), listed)
-    for one in (outer, beside):
-        one.type(b"\x02d")
-        check("a front end leaves", one.ends() and one.is_restored(), one.rows)
+    outer.type(b"\x02d")
+    check("a front end leaves", outer.ends() and outer.is_restored(), outer.rows)
+    subprocess.run(tool("mux", "kill", "-f", "other"), env={**os.environ, "XDG_RUNTIME_DIR": str(far)}, check=True)
+    check("the session's end there is told here", beside.shows("[the session has ended]") and beside.ends(), beside.rows)
+    check("and leaves nothing here", comes(lambda: not (here / "panes").exists() and not listed()), list(here.iterdir()))
 
 
 @scene
