@@ -252,7 +252,6 @@ def phase_screens(sides, machines, asked):
             times, sizes = [], []
             for k in range(SCREENS):
                 machines.link.clear()
-                side.outer.emulation()
                 typed = time.monotonic()
                 side.outer.type(f"cat {asked.folder}/s{rows - 2}_{k}\r".encode())
                 shown = side.outer.shown_at(mark(k), 60)
@@ -298,8 +297,6 @@ def ended_flood(side):
     goes on then, and it is interrupted again.
     """
     while True:
-        # What was painted so far is read, so that nothing is found that stood there before.
-        side.outer.emulation()
         for _ in range(2):
             side.outer.type(b"\x03")
             time.sleep(0.15)

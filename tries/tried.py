@@ -155,21 +155,29 @@ class Outer:
         return comes(lambda: any(text in row for row in self.rows()), seconds)
 
     def shown_at(self, text, seconds=WAIT):
-        """When a text came to stand somewhere, read as it was painted piece by piece; None where it doesn't in time. What was painted in
-        time is read, however long that takes here."""
-        end = time.monotonic() + seconds
+        """When a text came to stand somewhere from now on, by the rows after each piece that was painted; None where it doesn't in time.
+
+        It is read once the text was painted as it is, or nothing was painted for a moment: reading takes this process long, which may carry
+        what is measured.
+        """
+        begun, searched, found = time.monotonic(), len(self.written), -1
         while True:
-            is_over = time.monotonic() > end
-            for moment, length in [piece for piece in list(self.moments) if piece[1] > self.read_to]:
-                if moment > end:
-                    return None
-                self.emulated.fed(bytes(self.written[self.read_to : length]))
-                self.read_to = length
-                if any(text in row for row in self.emulated.lines()):
-                    return moment
+            is_over = time.monotonic() > begun + seconds
+            end, searched = searched, len(self.written)
+            found = self.written.find(text.encode(), max(0, end - len(text))) if searched > end else -1
+            if is_over or found >= 0 or self.is_still():
+                for moment, length in [piece for piece in list(self.moments) if piece[1] > self.read_to]:
+                    self.emulated.fed(bytes(self.written[self.read_to : length]))
+                    self.read_to = length
+                    if begun < moment <= begun + seconds and any(text in row for row in self.emulated.lines()):
+                        return moment
             if is_over:
                 return None
             time.sleep(0.002)
+
+    def is_still(self):
+        """Whether something was painted that isn't read, and nothing for a second."""
+        return bool(self.moments) and self.moments[-1][1] > self.read_to and self.moments[-1][0] < time.monotonic() - 1
 
     def status(self, text, seconds=WAIT):
         """Whether the last row comes to begin with a text."""

@@ -52,11 +52,12 @@ def relay_ends(front_ends, relay, near, far):
     relay.terminate()
     check("SIGTERM ends relay with status 143", comes(lambda: relay.poll() == 143), relay.returncode)
     check("and leaves no socket", not (near / "clients").exists() and not (near / "session").exists(), list(near.iterdir()))
-    alone = subprocess.Popen(tool("relay", "--alone", "1", "--dir", str(near), "-", *far), stdout=subprocess.PIPE)
+    # A front end may take seconds for coming up.
+    alone = subprocess.Popen(tool("relay", "--alone", "5", "--dir", str(near), "-", *far), stdout=subprocess.PIPE)
     alone.stdout.readline()
     front_end = Outer(tool("attach", str(near)))
     front_end.shows("silent")
-    time.sleep(7)
+    time.sleep(11)
     check("a relay that is to end alone stays while a front end is there", alone.poll() is None, alone.returncode)
     front_end.type(b"\x02d")
     check("and ends with status 0 after the last has left", front_end.ends() and comes(lambda: alone.poll() == 0), alone.returncode)
@@ -191,9 +192,11 @@ def carried(folder):
         check(f"{number}: what is typed is shown", outer.shows(f"round-{number}", 40) and beside.shows(f"round-{number}"), outer.rows)
     outer.type(b"exit\r")
     check("a shell's end is told here", comes(lambda: listed()[4:6] == ["2", "panes"]), listed)
-    for one in (outer, beside):
-        one.type(b"\x02d")
-        check("a front end leaves", one.ends() and one.is_restored(), one.rows)
+    outer.type(b"\x02d")
+    check("a front end leaves", outer.ends() and outer.is_restored(), outer.rows)
+    subprocess.run(tool("mux", "kill", "-f", "other"), env={**os.environ, "XDG_RUNTIME_DIR": str(far)}, check=True)
+    check("the session's end there is told here", beside.shows("[the session has ended]") and beside.ends(), beside.rows)
+    check("and leaves nothing here", comes(lambda: not (here / "panes").exists() and not listed()), list(here.iterdir()))
 
 
 @scene
