@@ -175,7 +175,8 @@ fn holds(alloc: Global, block: &str) -> bool {
     let Ok(bytes) = bytes_of(alloc, line) else {
         return false;
     };
-    (0..=bytes.len()).all(|cut| is_told(alloc, &bytes, cut, wanted)) && is_told_by_bytes(alloc, &bytes, wanted)
+    (0..=bytes.len()).all(|cut| is_told(alloc, &bytes, cut, wanted))
+        && is_told_by_bytes(alloc, &bytes, wanted)
 }
 
 // Feeds a text for the clipboard of so many characters, and tells how many of them are kept.

@@ -114,7 +114,8 @@ fn holds(alloc: Global, block: &str) -> bool {
     let (Ok(bytes), Ok(wanted)) = (bytes_of(alloc, line), wanted_of(alloc, wanted)) else {
         return false;
     };
-    (0..=bytes.len()).all(|cut| is_meant(meant(alloc, &bytes, cut), &wanted)) && is_meant(meant_by_bytes(alloc, &bytes), &wanted)
+    (0..=bytes.len()).all(|cut| is_meant(meant(alloc, &bytes, cut), &wanted))
+        && is_meant(meant_by_bytes(alloc, &bytes), &wanted)
 }
 
 // How many bytes of a control sequence with so many digits go out before its final byte comes.

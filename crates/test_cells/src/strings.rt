@@ -119,7 +119,13 @@ fn holds(alloc: Global, block: &str) -> bool {
 fn rests() -> bool {
     let mut reader = StringReader::new();
     let mut rested = reader.is_at_rest();
-    for (byte, rests) in [(b'\x1B', false), (b']', false), (b'a', false), (b'\x07', true), (0xE2, false)] {
+    for (byte, rests) in [
+        (b'\x1B', false),
+        (b']', false),
+        (b'a', false),
+        (b'\x07', true),
+        (0xE2, false),
+    ] {
         reader.next(byte);
         rested = rested && reader.is_at_rest() == rests;
     }
