@@ -118,12 +118,19 @@ fn holds(alloc: Global, block: &str) -> bool {
         && is_meant(meant_by_bytes(alloc, &bytes), &wanted)
 }
 
+fn length_of(answer: Result<Vec<u8>, AllocError>) -> usize {
+    match answer {
+        Ok(out) => out.len(),
+        Err(_) => 0,
+    }
+}
+
 // How many bytes of a control sequence with so many digits go out before its final byte comes.
 fn gone_out(alloc: Global, digits: usize) -> usize {
     let mut filter = Filter::new(alloc);
-    let mut out = filter.feed(b"\x1B[").map_or(0, |out| out.len());
+    let mut out = length_of(filter.feed(b"\x1B["));
     for _ in 0..digits {
-        out += filter.feed(b"1").map_or(0, |out| out.len());
+        out = out.saturating_add(length_of(filter.feed(b"1")));
     }
     out
 }
