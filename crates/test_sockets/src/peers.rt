@@ -313,13 +313,13 @@ files gone follows/panes
 folder keepers
 ports keepers
 first connects keepers/panes
-first types keeper
+first types keeper/
 told 1 1 23, none
 first reads 1 1 1 23 80 1/focus 1/
 second connects keepers/panes
 told 1 1 23, none
 second reads 1 1 1 23 80 1/focus 1/
-second types keeper
+second types keeper/
 told 1 1 23, none
 first is let go
 told 1 1 22, none
