@@ -21,8 +21,8 @@ LET_GO = "the server lets this go, as where as many others follow the panes as m
 QUIET = 3.0
 TELLS_NOTHING = "the server tells nothing, as where no descriptor is left for it"
 
-# A connection that ended sooner is had again after a longer pause, whatever it told: so two keepers of shells, who take the server's one place
-# for them from each other, do so ever more seldom.
+# A connection that ended sooner is had again after a longer pause, whatever it told: so two keepers of shells, who take the server's one
+# place for them from each other, do so ever more seldom.
 SOUND = 5.0
 
 # What a server is told by the keeper of shells, for which it has a place of its own.

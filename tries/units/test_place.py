@@ -127,7 +127,8 @@ class Kill(Folder):
     """What a person is told before a session is ended."""
 
     def test_told(self):
-        """Programs are named; where none is known, they may be there all the same. Of another machine's session nothing ends but a relay."""
+        """Programs are named; where none is known, they may be there all the same. Of another machine's session nothing ends but a
+        relay."""
         session = self.by_hand()
         for busy, told in (({}, ""), ({2: "vi", 1: "less"}, "less in pane 1 and vi in pane 2"), (None, "programs that aren't known")):
             with mock.patch.object(session, "busy", lambda busy=busy: busy):

@@ -189,8 +189,8 @@ class Nears(Ends):
         self.assertEqual((len(self.near.carriers), list(self.near.peers.numbers.values())), (1, [2]))
 
     def test_earlier(self):
-        """A far end of an earlier version tells of panes in ways of its own, which are passed over; that is said once, and none of the sockets
-        that stand for the other machine's is there."""
+        """A far end of an earlier version tells of panes in ways of its own, which are passed over; that is said once, and none of the
+        sockets that stand for the other machine's is there."""
         self.answer()
         told = [(0, b"p1 1 1 23 80\nfocus 1\n"), (0, b"b\3"), (0, b"b"), (0, b"k\3\1"), (0, b"z?")]
         self.links[0].say(packed(*told))
@@ -801,7 +801,8 @@ class Streams(Ends):
             self.assertEqual(found, [(1, datagram(1)), (0, b"z1"), (0, b"zp"), (9, datagram(2))], cut)
 
     def test_each_cut_carried(self):
-        """The frames of carried connections, cut at each place: their bytes are counted, and the first frame tells whether there are any."""
+        """The frames of carried connections, cut at each place: their bytes are counted, and the first frame tells whether there are
+        any."""
         told = [(0, CARRIES), (0, b"o\0\1panes"), (0, b"d\0\1focus 1\n"), (0, b"t\0\1" + bytes(8)), (0, b"q\0\1"), (1, datagram(1))]
         for frames, carries in ((told, True), (told[1:], False)):
             text = greeting("abc") + packed(*frames)

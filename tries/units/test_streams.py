@@ -99,8 +99,8 @@ class Carries:
         self.assertEqual((len(self.servers), read_now(again)), (65, b"y"))
 
     def test_credit(self):
-        """Where a reader takes nothing 65,536 bytes are taken beyond what it has, and no more is read of who writes; once it reads all comes,
-        and of one that is slow nothing is lost."""
+        """Where a reader takes nothing 65,536 bytes are taken beyond what it has, and no more is read of who writes; once it reads all
+        comes, and of one that is slow nothing is lost."""
         client = self.client()
         self.turn(2)
         server, (one,) = self.servers[0], self.near.all.values()
@@ -237,12 +237,13 @@ class Pipes(Both, Carries):
         for kind in (OPEN, BYTES, END, TAKEN):
             for length in range(1, NUMBER.size):
                 self.refused(self.far, NUMBER.pack(kind, 1)[:length], "is cut")
-        for text in (NUMBER.pack(BYTES, 1), NUMBER.pack(END, 1) + b"x", TAKEN_COUNT.pack(TAKEN, 1, 1)[:-1], TAKEN_COUNT.pack(TAKEN, 1, 1) + b"x"):
+        count = TAKEN_COUNT.pack(TAKEN, 1, 1)
+        for text in (NUMBER.pack(BYTES, 1), NUMBER.pack(END, 1) + b"x", count[:-1], count + b"x"):
             self.refused(self.far, text, "another length than any")
         self.refused(self.near, NUMBER.pack(OPEN, 1) + b"panes", "the far end opens a connection")
         self.far.take(NUMBER.pack(OPEN, 1) + b"panes")
-        for text in (NUMBER.pack(OPEN, 1) + b"panes", NUMBER.pack(OPEN, 0) + b"panes", NUMBER.pack(OPEN, 2), NUMBER.pack(OPEN, 2) + b"x" * 33):
-            self.refused(self.far, text, "that can't be")
+        for number, name in ((1, b"panes"), (0, b"panes"), (2, b""), (2, b"x" * 33)):
+            self.refused(self.far, NUMBER.pack(OPEN, number) + name, "that can't be")
         for _ in range(16):
             self.far.take(NUMBER.pack(BYTES, 1) + bytes(4096))
         self.refused(self.far, NUMBER.pack(BYTES, 1) + b"x", "more of a connection than may be on its way")

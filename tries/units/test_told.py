@@ -4,10 +4,12 @@ import unittest
 from roam_live import told
 from roam_live.told import NoRecord, Telling, Records, screen_of
 
-STREAM = (b"\x1bc painted\n before\ntold\nsize 24 80\npart 0 3\nanew 5\n\x1bc\na\npaint 3\n\n\ntrefused 3 bad act\ntaken 2\nsilent 11\nheard\nscreen 0\nfull\n")
+STREAM = (b"\x1bc painted\n before\ntold\nsize 24 80\npart 0 3\nanew 5\n\x1bc\na\npaint 3\n\n\ntrefused 3 bad act\ntaken 2\n"
+          b"silent 11\nheard\nscreen 0\nfull\n")
 RECORDS = [
-    Telling("told"), Telling("size", (24, 80)), Telling("part", (0, 3)), Telling("anew", (5,), b"\x1bc\na\n"), Telling("paint", (3,), b"\n\nt"),
-    Telling("refused", (3,), b"", "bad act"), Telling("taken", (2,)), Telling("silent", (11,)), Telling("heard"), Telling("screen", (0,)), Telling("full"),
+    Telling("told"), Telling("size", (24, 80)), Telling("part", (0, 3)), Telling("anew", (5,), b"\x1bc\na\n"),
+    Telling("paint", (3,), b"\n\nt"), Telling("refused", (3,), b"", "bad act"), Telling("taken", (2,)), Telling("silent", (11,)),
+    Telling("heard"), Telling("screen", (0,)), Telling("full"),
 ]
 
 
@@ -37,8 +39,8 @@ class TestRecords(unittest.TestCase):
 
     def test_none(self) -> None:
         """What is no record is told, and never waited for."""
-        for line in (b"what\n", b"size 1\n", b"size 1 2 3\n", b"size 01 2\n", b"size -1 2\n", b"size \xd9\xa1 2\n", b"taken 1_0\n", b"paint 99999999\n",
-                     b"taken 111111111111111111111\n", b"heard 1\n", b"\xff\n", b"x" * 600, b"\n"):
+        for line in (b"what\n", b"size 1\n", b"size 1 2 3\n", b"size 01 2\n", b"size -1 2\n", b"size \xd9\xa1 2\n", b"taken 1_0\n",
+                     b"paint 99999999\n", b"taken 111111111111111111111\n", b"heard 1\n", b"\xff\n", b"x" * 600, b"\n"):
             records = Records()
             records.came(told.BEGIN)
             with self.assertRaises(NoRecord, msg=line):
@@ -52,8 +54,8 @@ class TestScreen(unittest.TestCase):
         self.assertEqual(screen.text(), ["a中", " e\u0301"])
 
     def test_none(self) -> None:
-        for data in (b"", b"2 4 1 3\n", b"2 4 1 3 seen\n", b"2 1 1 1 hidden\na\n", b"2 1 1 1 hidden\na\nb\nc\n", b"2 1 1 1 hidden\na\nb", b"1 2 1 1 hidden\na\n",
-                     b"\xff\n", b"x 1 1 1 hidden\n"):
+        for data in (b"", b"2 4 1 3\n", b"2 4 1 3 seen\n", b"2 1 1 1 hidden\na\n", b"2 1 1 1 hidden\na\nb\nc\n",
+                     b"2 1 1 1 hidden\na\nb", b"1 2 1 1 hidden\na\n", b"\xff\n", b"x 1 1 1 hidden\n"):
             with self.assertRaises(NoRecord, msg=data):
                 screen_of(data)
 

@@ -110,8 +110,8 @@ fn counted(byte: u8, semicolons: usize) -> usize
     }
 }
 
-// How many digits and semicolons stand first behind ESC and 5B, where a rendition with these parameters hasn't to be spelled out; none where
-// it may have to be. Most control sequences have nothing else, and are told at a glance.
+// How many digits and semicolons stand first behind ESC and 5B, where a rendition with these parameters hasn't to be spelled out; none
+// where it may have to be. Most control sequences have nothing else, and are told at a glance.
 #[inline]
 fn plain_body(rest: &[u8]) -> usize
     ensures within { result ≤ length rest.now }

@@ -76,7 +76,8 @@ fn body_of<O: Seen, N: Seen>(
 
 // The cursor is hidden before, and shown behind where it is visible.
 fn hidden(alloc: Global, body: &[u8], visible: bool) -> Result<Vec<u8>, AllocError>
-    ensures text { IfOk result (λ text. text.items ≡ flat_map text_of (hiding true) ++ (body.now ++ flat_map text_of (revealing true visible))) }
+    ensures text { IfOk result (λ text. text.items
+        ≡ flat_map text_of (hiding true) ++ (body.now ++ flat_map text_of (revealing true visible))) }
 {
     let mut text = Vec::new(alloc);
     push_hide_cursor(&mut text)?;
@@ -152,7 +153,8 @@ fn shorter_text<O: Seen, N: Seen>(alloc: Global, old: &O, new: &N) -> Result<Vec
 /// differs afterwards is written, and short gaps with it; a blank end of a row is erased (EL, 8.3.41); SGR (8.3.117) says what changes.
 pub fn paint_moved<O: Seen, N: Seen>(old: &O, new: &N, out: &mut Vec<u8>) -> Result<(), Fault>
     ensures leads { OnOk result (Leads (O.screen old.now) (N.screen new.now) (added out.old.items out.new.items)) }
-    ensures shorter { OnOk result (length (added out.old.items out.new.items) ≤ length (text_between (O.screen old.now) (N.screen new.now))) }
+    ensures shorter { OnOk result (length (added out.old.items out.new.items)
+        ≤ length (text_between (O.screen old.now) (N.screen new.now))) }
     ensures adds { OnOk result (out.new.items ≡ out.old.items ++ added out.old.items out.new.items) }
     ensures err { OnErr result (out.new.items ≡ out.old.items) }
     ensures fault { IsOkUnless result Fault.OutOfMemory }

@@ -67,7 +67,7 @@ pub record Stands (kept : List ℕ) (watches : Bool) (log : List ℕ) (typed : L
 abbrev pub Types : List Act → ClientView → ClientView → Type 0
 Types acts old new = new ≡ keeping old (after_typed_all old.kept acts)
 
--- Of a terminal that was heard these bytes of its stream were read, and these acts typed: where it isn't let go, the next ones of its lines.
+-- Of a terminal that was heard these bytes of its stream were read, and these acts typed: where it stays, the next ones of its lines.
 pub record Hears (before after : Option (List ℕ)) (kept kept' : List ℕ) (watches watches' : Bool) (state' : State)
     (client client' : ClientView) : Type 0 where
   pub bytes : List ℕ

@@ -5,8 +5,8 @@ ghost use Rattle.std.specs.Io.KnownBytes.{Keeps, ReadConsumes, WriteAppends};
 use std::io;
 use std::io::{Read, Write};
 
-/// A stream whose two ways are apart, with an outer terminal at its other end: what is read of it leaves what was written as it is, and what
-/// is written leaves what is still to be read. `Read` and `Write` alone don't say so.
+/// A stream whose two ways are apart, with an outer terminal at its other end: what is read of it leaves what was written as it is, and
+/// what is written leaves what is still to be read. `Read` and `Write` alone don't say so.
 pub trait Duplex: Read + Write {
     /// Reads what came, as `read` does.
     fn read_some(&mut self, buf: &mut [u8]) -> io::Result<usize>

@@ -144,8 +144,8 @@ impl Outer {
     }
 
     /// A text that leads the terminal from what is noted to a screen, which is noted under a number from then on: rows that are there
-    /// already may be moved. Where nothing is noted it opens the terminal first, and each place that isn't blank is written. None where that
-    /// number is noted already or memory is wanting: then what is noted stays.
+    /// already may be moved. Where nothing is noted it opens the terminal first, and each place that isn't blank is written. None where
+    /// that number is noted already or memory is wanting: then what is noted stays.
     pub fn paint(&mut self, alloc: Global, number: u64, screen: &Shown<'_>) -> Option<Vec<u8>>
         // The terminal has its size then.
         ensures leads { IfSome result (λ text. LeadsSized self.old text.items self.new) }

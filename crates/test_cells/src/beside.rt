@@ -4,9 +4,9 @@ use roam_beside::{Beside, Settings, Tracking};
 use std::alloc::{AllocError, Global};
 use std::fmt::Write;
 
-/// Rows of a heading, bytes and what is said, with an empty line between them. A character of the bytes is the byte of its code, and `␊` LF.
-/// What is said is told where it isn't what it was at first: `buttons`, `drags` or `motion`, `sgr`, `focus`, `paste`, `other` for the other
-/// screen, `keys N`, `shape N`, `bells N`, `title N TEXT`, `clip N TEXT`.
+/// Rows of a heading, bytes and what is said, with an empty line between them. A character of the bytes is the byte of its code, and `␊`
+/// LF. What is said is told where it isn't what it was at first: `buttons`, `drags` or `motion`, `sgr`, `focus`, `paste`, `other` for the
+/// other screen, `keys N`, `shape N`, `bells N`, `title N TEXT`, `clip N TEXT`.
 const ROWS: &str = "\
 nothing is said by text and renditions
 a\x1B[1;31mb\u{E2}\u{82}\u{AC}\x1B[2J\x1B[0m␊\x1B[6n\x1B[:m\x1B(0

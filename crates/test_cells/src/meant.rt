@@ -1,4 +1,5 @@
-//! Worked rows: what bytes mean that this project's profile reads otherwise, by xterm's list of control sequences, ISO 8613-6 and the VT220.
+//! Worked rows: what bytes mean that this project's profile reads otherwise, by xterm's list of control sequences, ISO 8613-6 and the
+//! VT220.
 use crate::readers::bytes_of;
 use roam_meant::{Filter, MOST_BODY, MOST_HELD};
 use std::alloc::{AllocError, Global};
