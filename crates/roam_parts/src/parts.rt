@@ -13,7 +13,7 @@ use roam_screens::{Line, RowShot, Seen};
 use std::alloc::{AllocError, Global};
 
 /// So many rows and columns of a screen, or of a terminal, from a row and a column on, both from 0.
-#[derive(Clone, Copy, Debug, PartialEq, Eq)]
+#[derive(Clone, Copy, Debug, Default, PartialEq, Eq)]
 pub struct Part {
     /// Its first row, from 0.
     pub row: u16,

@@ -55,6 +55,20 @@ fn done_of(lines: u64, waiting: &[(u64, u64)]) -> u64
     }
 }
 
+// How many of the first lines wait for none of the acts behind the first so many.
+fn done_among(lines: u64, waiting: &[(u64, u64)], acts: u64) -> u64
+    ensures done { result ≡ done lines (still_waiting acts waiting.now) }
+{
+    let Some((first, others)) = waiting.split_first() else {
+        return lines;
+    };
+    if first.1 > acts {
+        first.0.saturating_sub(1)
+    } else {
+        done_among(lines, others, acts)
+    }
+}
+
 impl TakenLines {
     /// No line was taken, and none was told.
     pub fn new() -> TakenLines
@@ -75,6 +89,14 @@ impl TakenLines {
         if let Some(act) = last {
             push_waiting(&mut self.waiting, self.lines, act);
         }
+    }
+
+    /// How many of the first lines are taken, with all their acts acknowledged, where so many acts are; none where no more than were told.
+    pub fn risen(&self, acts: u64) -> Option<u64>
+        ensures risen { result ≡ risen self.now.told (done_after acts self.now) }
+    {
+        let done = done_among(self.lines, &self.waiting, acts);
+        if done <= self.told { None } else { Some(done) }
     }
 
     /// So many acts are acknowledged; how many of the first lines are taken, with all their acts acknowledged, where that rose.

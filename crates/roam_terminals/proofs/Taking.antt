@@ -13,10 +13,11 @@ use Rattle.roam_typing.specs.declared.entries.Guessing.{Guessing}
 use Rattle.roam_typing.specs.Lines.{IsFirst, ended_all}
 use Rattle.roam_faults.specs.Streams.{ended_line}
 use Rattle.roam_overlay.specs.Overlays.{OverlayOf}
-use Rattle.roam_terminals.specs.Hearing.{TakesEntry, TypesLine}
-use Rattle.roam_terminals.specs.Hearing.TakesEntry.{taken, waits, no_memory}
+use Rattle.roam_terminals.specs.Hearing.{TakesEntry, TakesWord, TypesLine}
+use Rattle.roam_terminals.specs.Hearing.TakesEntry.{taken, waits, no_memory, looks, untold, late}
+use Rattle.roam_terminals.specs.Hearing.TakesWord.{taken as word_done, looks as word_looks, untold as word_untold, late as word_late}
 use Rattle.roam_terminals.specs.Hearing.TypesLine.{typed as typed_line, waits as line_waits, no_memory as line_no_memory}
-use Rattle.roam_terminals.specs.Terminals.{Hears, IsSet, Reads, Stands, TakesAll, Types, adaptive_of, fresh_guesses, typed_by, watches_after}
+use Rattle.roam_terminals.specs.Terminals.{Guesses, Hears, IsSet, Reads, Stands, TakesAll, Types, adaptive_of, fresh_guesses, typed_by, watches_after}
 use Rattle.roam_terminals.specs.Terminals.IsSet.{no_guesses, fresh}
 use Rattle.roam_terminals.specs.declared.hearing.Taking.{Taking}
 use Rattle.roam_terminals.specs.declared.terminal.Terminal.{Terminal}
@@ -92,15 +93,25 @@ is_set guessing watches adaptive new heard wanted (inr is) = fresh adaptive hear
 module _ {S : Type 0} (old new : Terminal S) (client client' : ClientView) (told : Taking) where
   pub acts_taken : (acts : Vec Act Global) → TypesLine false acts.items old new client client' told
       → TakesEntry (Acts acts) old new client client' told
-  acts_taken acts (typed_line t took types guesses is) = taken t took types guesses is
+  acts_taken acts (typed_line t took types guesses is) = taken t refl took types guesses is
   acts_taken acts (line_waits t watches holds same is) = waits t watches holds same is
   acts_taken acts (line_no_memory t watches some same is) = no_memory t watches some same is
 
   pub paste_taken : (acts : Vec Act Global) → TypesLine true acts.items old new client client' told
       → TakesEntry (Paste acts) old new client client' told
-  paste_taken acts (typed_line t took types guesses is) = taken t took types guesses is
+  paste_taken acts (typed_line t took types guesses is) = taken t refl took types guesses is
   paste_taken acts (line_waits t watches holds same is) = waits t watches holds same is
   paste_taken acts (line_no_memory t watches some same is) = no_memory t watches some same is
+
+  -- a word types nothing, and guesses stay but where it says when they are shown
+  pub word_taken : (entry : Entry) → acts_in entry ≡ []
+      → (new.guessing ≡ old.guessing → Guesses old.watches entry client old.guessing new.guessing)
+      → TakesWord entry client old new told → TakesEntry entry old new client client told
+  word_taken entry none guesses (word_done t may took same is) =
+      taken t may took (word_types old.watches entry client none) (guesses same) is
+  word_taken entry none guesses (word_looks t is_look again same) = looks t is_look again refl same
+  word_taken entry none guesses (word_untold t told_is same) = untold t told_is refl same
+  word_taken entry none guesses (word_late t may is) = late t may is refl
 
 -- ---- what is read
 

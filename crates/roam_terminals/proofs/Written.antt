@@ -7,8 +7,11 @@ use Rattle.std.specs.Io.KnownBytes.{Appends, Keeps}
 use Rattle.roam_frames.specs.Carriers.{Writes}
 use Rattle.roam_terminals.specs.Painted.{is_here}
 use Rattle.roam_terminals.specs.Silence.{due_of, is_over, notice_of}
-use Rattle.roam_terminals.specs.Writing.{Flushes, TellsSilence, is_empty, seen_by, state_after, stuck_after, unwritten}
-use Rattle.roam_terminals.specs.Writing.TellsSilence.{over, told, quiet}
+use Rattle.roam_records.specs.Records.{text_of}
+use Rattle.roam_records.specs.declared.records.Record.TheVariants.{Heard, Silent}
+use Rattle.roam_terminals.specs.Writing.{Flushes, SaysSilence, TellsSilence, is_empty, seen_by, state_after, stuck_after, unwritten}
+use Rattle.roam_terminals.specs.Writing.SaysSilence.{heard, silent, quiet as says_nothing}
+use Rattle.roam_terminals.specs.Writing.TellsSilence.{over, told, quiet, says}
 use Rattle.roam_terminals.specs.declared.silence.Silence.{Silence}
 use Rattle.roam_terminals.specs.declared.terminal.State.{State}
 use Rattle.roam_terminals.specs.declared.terminal.State.TheVariants.{Here, Deaf, Left, Refused, Gone}
@@ -90,24 +93,47 @@ here_is Left e = absurd cc
 here_is Refused e = absurd cc
 here_is Gone e = absurd cc
 
-pub tells_by : {S : Type 0} (silence : Silence) (seconds : ℕ) (old new : Terminal S) → is_over (seen_by silence old) ≡ false
-    → due_of (seen_by silence old) ≡ Some seconds → old.waiting ≡ [] → old.over ≡ None → old.state ≡ Here
+pub tells_by : {S : Type 0} (silence : Silence) (seconds : ℕ) (old new : Terminal S) → old.telling ≡ None
+    → is_over (seen_by silence old) ≡ false → due_of (seen_by silence old) ≡ Some seconds → old.waiting ≡ [] → old.over ≡ None
+    → old.state ≡ Here
     → ((new ≡ old)
     ⊎ (new ≡ record old { told = Some seconds; outer = None; waiting = old.waiting ++ notice_of seconds }))
     → TellsSilence silence old new
-tells_by silence seconds old new h due empty bare here (inl same) = quiet h same
-tells_by silence seconds old new h due empty bare here (inr is) =
-    told seconds h due empty bare here
+tells_by silence seconds old new untold h due empty bare here (inl same) = quiet untold h same
+tells_by silence seconds old new untold h due empty bare here (inr is) =
+    told seconds untold h due empty bare here
     (is ∙ (λ i. record old { told = Some seconds; outer = None; waiting = empty i ++ notice_of seconds }))
+
+-- ---- silence in records
+
+pub says_silent : {S : Type 0} (seen : Silence) (seconds : ℕ) (old new : Terminal S) → is_over seen ≡ false → due_of seen ≡ Some seconds
+    → old.waiting ≡ [] → old.state ≡ Here
+    → ((new ≡ old) ⊎ (new ≡ record old { told = Some seconds; waiting = old.waiting ++ text_of (Silent seconds) }))
+    → SaysSilence seen old new
+says_silent seen seconds old new h due empty here (inl same) = says_nothing same
+says_silent seen seconds old new h due empty here (inr is) =
+    silent seconds h due empty here (is ∙ (λ i. record old { told = Some seconds; waiting = empty i ++ text_of (Silent seconds) }))
+
+pub says_heard : {S : Type 0} (seen : Silence) (old new : Terminal S) → is_over seen ≡ true → old.waiting ≡ [] → old.state ≡ Here
+    → ((new ≡ old) ⊎ (new ≡ record old { told = None; waiting = old.waiting ++ text_of Heard })) → SaysSilence seen old new
+says_heard seen old new h empty here (inl same) = says_nothing same
+says_heard seen old new h empty here (inr is) =
+    heard h empty here (is ∙ (λ i. record old { told = None; waiting = empty i ++ text_of Heard }))
+
+said_outer : {S : Type 0} (seen : Silence) (old new : Terminal S) → SaysSilence seen old new → new.outer ≡ old.outer
+said_outer seen old new (heard h empty here is) = ap (λ t. t.outer) is
+said_outer seen old new (silent seconds h due empty here is) = ap (λ t. t.outer) is
+said_outer seen old new (says_nothing is) = ap (λ t. t.outer) is
 
 pub settled_outer : {S : Type 0} (silence : Silence) (remaining contents : S → Option (List ℕ)) (now : ℕ) (old mid new : Terminal S)
     → TellsSilence silence old mid → Flushes remaining contents now mid new → (new.outer ≡ old.outer) ⊎ (new.outer ≡ None)
 settled_outer silence remaining contents now old mid new tells flushes = by (told_outer tells)
   where
     told_outer : TellsSilence silence old mid → (mid.outer ≡ old.outer) ⊎ (mid.outer ≡ None)
-    told_outer (over h is) = inr (ap (λ t. t.outer) is)
-    told_outer (told seconds h due empty bare here is) = inr (ap (λ t. t.outer) is)
-    told_outer (quiet h is) = inl (ap (λ t. t.outer) is)
+    told_outer (over untold h is) = inr (ap (λ t. t.outer) is)
+    told_outer (told seconds untold h due empty bare here is) = inr (ap (λ t. t.outer) is)
+    told_outer (quiet untold h is) = inl (ap (λ t. t.outer) is)
+    told_outer (says is h) = inl (said_outer (seen_by silence old) old mid h)
 
     by : (mid.outer ≡ old.outer) ⊎ (mid.outer ≡ None) → (new.outer ≡ old.outer) ⊎ (new.outer ≡ None)
     by (inl same) = inl (ap (λ t. t.outer) flushes.others ∙ same)

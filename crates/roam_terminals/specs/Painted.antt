@@ -1,7 +1,11 @@
 -- An outer terminal is painted from what its client start shows.
-use Rattle.std.specs.Prelude.{◌≡◌, ◌⊎◌, ℕ, Bool, true, false, not, ◌&&◌, Option, Some, None, is_some}
+use Rattle.std.specs.Prelude.{◌≡◌, ◌⊎◌, ℕ, List, [], ◌++◌, Bool, true, false, not, ◌&&◌, ◌||◌, Option, Some, None, is_some}
 use Rattle.roam_hub.specs.Clients.{ClientView}
 use Rattle.roam_overlay.specs.Overlays.{OverlayOf, Judges}
+use Rattle.roam_records.specs.declared.records.Record.{Record}
+use Rattle.roam_screens.specs.Screenshot.{Screenshot}
+use Rattle.roam_telling.specs.Saying.{texts_of}
+use Rattle.roam_telling.specs.Telling.{TellingView, Tells, TellsLook, TellsTaken}
 use Rattle.roam_turns.specs.Painting.{LeadsSized}
 use Rattle.roam_turns.specs.declared.outer.Noted.{Noted}
 use Rattle.roam_terminals.specs.Overlaid.{IsOver, on_show}
@@ -18,9 +22,13 @@ is_here Left = false
 is_here Refused = false
 is_here Gone = false
 
--- a terminal is to be painted: it is there, tells of no silence, and all that was painted before is written
+-- it tells of no silence, or is told of it in records
+abbrev pub is_open : {S : Type 0} → Terminal S → Bool
+is_open t = is_some t.telling || not (is_some t.told)
+
+-- a terminal is to be painted: it is there, tells of no silence but in records, and all that was painted before is written
 abbrev pub is_ready : {S : Type 0} → Terminal S → Bool
-is_ready t = is_here t.state && (not (is_some t.told) && is_empty t.waiting)
+is_ready t = is_here t.state && (is_open t && is_empty t.waiting)
 
 -- what a start shows, under its number
 abbrev pub shown_of : ClientView → Noted
@@ -37,6 +45,7 @@ pub data IsJudged (now : ℕ) (client : ClientView) (noted : Option Noted) (old 
 -- no memory to take back what was laid over it, nothing is.
 pub record Paints {S : Type 0} (silence : Silence) (client : ClientView) (old new : Terminal S) : Type 0 where
   pub ready : is_ready old ≡ true
+  pub untold : old.telling ≡ None
   pub noted : Option Noted
   pub is_noted : (noted ≡ Some (shown_of client)) ⊎ ((noted ≡ old.outer) ⊎ (noted ≡ None))
   pub stays : (new.outer ≡ noted) ⊎ (new.outer ≡ None)
@@ -46,7 +55,42 @@ pub record Paints {S : Type 0} (silence : Silence) (client : ClientView) (old ne
   pub others : new
       ≡ record old { outer = new.outer; guessing = new.guessing; over = new.over; waiting = new.waiting }
 
--- one that is ready was painted, another is as it was
+-- ---- in records
+
+-- what is to be shown of a terminal of which a screen is noted: that with what stands over it
+abbrev pub shown_screen : Option Screenshot → Noted → Screenshot
+shown_screen None noted = noted.screen
+shown_screen (Some over) noted = over
+
+-- the screen that is noted was told where it was asked for, and what is to be shown of it with what stands over it
+abbrev pub TellsNoted : Option Noted → Option Screenshot → List Record → TellingView → TellingView → Type 0
+TellsNoted None over said old new = (said ≡ []) × (new ≡ old)
+TellsNoted (Some noted) over said old new =
+    (mid : TellingView) × (looked : List Record) × (shown : List Record) × TellsLook noted.screen looked old mid
+    × Tells (shown_screen over noted) shown mid new × (said ≡ looked ++ shown)
+
+-- A terminal that asked for records was told in them: first which of its lines are taken and all their acts acknowledged, then the screen
+-- that it asked for, then what is to be shown. Whole screens are noted, and guesses are made and judged over these. What is noted is what
+-- the start shows, or what was noted before, where that has its number or memory was wanting.
+pub record TellsAll {S : Type 0} (silence : Silence) (client : ClientView) (old new : Terminal S) : Type 0 where
+  pub ready : is_ready old ≡ true
+  pub before : TellingView
+  pub was : old.telling ≡ Some before
+  pub between : TellingView
+  pub after : TellingView
+  pub taken : List Record
+  pub shown : List Record
+  pub noted : (new.outer ≡ Some (shown_of client)) ⊎ (new.outer ≡ old.outer)
+  pub judged : IsJudged silence.moment client new.outer old.guessing new.guessing
+  pub over : IsOver silence.moment new.guessing new.outer new.over
+  pub tells_taken : TellsTaken client.kept.acts.acked taken before between
+  pub tells_noted : TellsNoted new.outer new.over shown between after
+  pub waiting : new.waiting ≡ old.waiting ++ texts_of (taken ++ shown)
+  pub others : new
+      ≡ record old { outer = new.outer; guessing = new.guessing; over = new.over; telling = Some after; waiting = new.waiting }
+
+-- one that is ready was painted, or told in records what is to be shown; another is as it was
 pub data MayPaint {S : Type 0} (silence : Silence) (client : ClientView) (old new : Terminal S) : Type 0 where
   painted : Paints silence client old new → MayPaint silence client old new
+  told : TellsAll silence client old new → MayPaint silence client old new
   not_ready : is_ready old ≡ false → new ≡ old → MayPaint silence client old new

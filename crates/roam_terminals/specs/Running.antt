@@ -19,6 +19,7 @@ pub record IsFresh {S : Type 0} (t : Terminal S) : Type 0 where
   pub told : t.told ≡ None
   pub stuck : t.stuck ≡ None
   pub here : t.state ≡ Here
+  pub untold : t.telling ≡ None
 
 -- one came at the other end of a stream, behind the others
 pub record Comes {S : Type 0} (stream : S) (old new : Shared S) : Type 0 where

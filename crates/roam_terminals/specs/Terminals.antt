@@ -12,7 +12,7 @@ use Rattle.roam_overlay.specs.Overlays.{OverlayOf, line_steps, next_number, scre
 use Rattle.roam_screens.specs.Screenshot.{Screenshot}
 use Rattle.roam_typing.specs.Entries.{Says, acts_in}
 use Rattle.roam_typing.specs.declared.entries.Entry.{Entry}
-use Rattle.roam_typing.specs.declared.entries.Entry.TheVariants.{Acts, Paste, Repaint, Watch, Guess, End}
+use Rattle.roam_typing.specs.declared.entries.Entry.TheVariants.{Acts, Paste, Told, Repaint, Watch, Guess, Look, LookStyled, Show, End}
 use Rattle.roam_typing.specs.declared.entries.Guessing.{Guessing}
 use Rattle.roam_typing.specs.declared.entries.Guessing.TheVariants.{Always, Adaptive, Never}
 use Rattle.roam_typing.specs.Lines.{ended_all}
@@ -23,18 +23,26 @@ use Rattle.roam_terminals.specs.declared.terminal.State.TheVariants.{Here, Deaf,
 abbrev pub watches_after : Entry → Bool → Bool
 watches_after (Acts acts) watches = watches
 watches_after (Paste acts) watches = watches
+watches_after Told watches = watches
 watches_after Repaint watches = watches
 watches_after Watch watches = true
 watches_after (Guess guessing) watches = watches
+watches_after Look watches = watches
+watches_after LookStyled watches = watches
+watches_after (Show showing) watches = watches
 watches_after End watches = watches
 
 -- a line ends the start where it says so, and its terminal doesn't only watch
 abbrev pub ends_by : Bool → Entry → Bool
 ends_by watches (Acts acts) = false
 ends_by watches (Paste acts) = false
+ends_by watches Told = false
 ends_by watches Repaint = false
 ends_by watches Watch = false
 ends_by watches (Guess guessing) = false
+ends_by watches Look = false
+ends_by watches LookStyled = false
+ends_by watches (Show showing) = false
 ends_by watches End = not watches
 
 -- a terminal asked for the end by the line that was taken of it, where one was
@@ -143,9 +151,13 @@ guesses_by false pasted acts client old = guesses_after pasted (first_number cli
 abbrev pub Guesses : Bool → Entry → ClientView → Option OverlayOf → Option OverlayOf → Type 0
 Guesses watches (Acts acts) client old new = new ≡ guesses_by watches false acts.items client old
 Guesses watches (Paste acts) client old new = new ≡ guesses_by watches true acts.items client old
+Guesses watches Told client old new = new ≡ old
 Guesses watches Repaint client old new = new ≡ old
 Guesses watches Watch client old new = new ≡ old
 Guesses watches (Guess guessing) client old new = IsSet guessing watches new
+Guesses watches Look client old new = new ≡ old
+Guesses watches LookStyled client old new = new ≡ old
+Guesses watches (Show showing) client old new = new ≡ old
 Guesses watches End client old new = new ≡ old
 
 -- ---- a line at a time

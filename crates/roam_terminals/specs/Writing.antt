@@ -1,7 +1,9 @@
 -- What waits for an outer terminal: it is written as the terminal takes it; and what is told of silence.
-use Rattle.std.specs.Prelude.{◌≡◌, ◌⊎◌, ℕ, ◌-◌, Bool, true, false, nat_le, List, [], ◌∷◌, Option, Some, None, if◌then◌else◌}
+use Rattle.std.specs.Prelude.{◌≡◌, ◌⊎◌, ℕ, ◌-◌, Bool, true, false, nat_le, List, [], ◌∷◌, Option, Some, None, is_some, if◌then◌else◌}
 use Rattle.std.specs.Io.KnownBytes.{Keeps}
 use Rattle.roam_frames.specs.Carriers.{Writes}
+use Rattle.roam_records.specs.Records.{text_of}
+use Rattle.roam_records.specs.declared.records.Record.TheVariants as records
 use Rattle.roam_terminals.specs.Silence.{due_of, is_over, notice_of}
 use Rattle.roam_terminals.specs.declared.silence.Silence.{Silence}
 use Rattle.roam_terminals.specs.declared.terminal.State.{State}
@@ -65,11 +67,22 @@ pub record Flushes {S : Type 0} (remaining contents : S → Option (List ℕ)) (
 abbrev pub seen_by : {S : Type 0} → Silence → Terminal S → Silence
 seen_by silence t = record silence { told = t.told }
 
+-- In records it is told that a silence is over, or of so many seconds, where nothing waits and the terminal is there; or nothing changes. What
+-- is noted and shown stays.
+pub data SaysSilence {S : Type 0} (seen : Silence) (old new : Terminal S) : Type 0 where
+  heard : is_over seen ≡ true → old.waiting ≡ [] → old.state ≡ Here
+      → new ≡ record old { told = None; waiting = text_of records.Heard } → SaysSilence seen old new
+  silent : (seconds : ℕ) → is_over seen ≡ false → due_of seen ≡ Some seconds → old.waiting ≡ [] → old.state ≡ Here
+      → new ≡ record old { told = Some seconds; waiting = text_of (records.Silent seconds) } → SaysSilence seen old new
+  quiet : new ≡ old → SaysSilence seen old new
+
 -- A silence that a terminal was told of is over, and what it shows isn't known; it is told of so many seconds, where nothing waits for it
--- and nothing stands over what is noted; or nothing changes.
+-- and nothing stands over what is noted; or nothing changes. One that asked for records is told in them.
 pub data TellsSilence {S : Type 0} (silence : Silence) (old new : Terminal S) : Type 0 where
-  over : is_over (seen_by silence old) ≡ true → new ≡ record old { told = None; outer = None } → TellsSilence silence old new
-  told : (seconds : ℕ) → is_over (seen_by silence old) ≡ false → due_of (seen_by silence old) ≡ Some seconds → old.waiting ≡ []
-      → old.over ≡ None → old.state ≡ Here
+  over : old.telling ≡ None → is_over (seen_by silence old) ≡ true → new ≡ record old { told = None; outer = None }
+      → TellsSilence silence old new
+  told : (seconds : ℕ) → old.telling ≡ None → is_over (seen_by silence old) ≡ false → due_of (seen_by silence old) ≡ Some seconds
+      → old.waiting ≡ [] → old.over ≡ None → old.state ≡ Here
       → new ≡ record old { told = Some seconds; outer = None; waiting = notice_of seconds } → TellsSilence silence old new
-  quiet : is_over (seen_by silence old) ≡ false → new ≡ old → TellsSilence silence old new
+  quiet : old.telling ≡ None → is_over (seen_by silence old) ≡ false → new ≡ old → TellsSilence silence old new
+  says : is_some old.telling ≡ true → SaysSilence (seen_by silence old) old new → TellsSilence silence old new

@@ -4,7 +4,8 @@ ghost use Rattle.std.specs.Io.KnownBytes.{Keeps};
 ghost use Rattle.std.specs.List.{All};
 ghost use Rattle.roam_acts.specs.Acts.{IsInRange};
 ghost use Rattle.roam_faults.specs.Streams.{IsStreamEnd};
-ghost use Rattle.roam_terminals.specs.Hearing.{HearsOne, IsRead, IsRefused, TakesEntry, TypesLine, is_end};
+ghost use Rattle.roam_hub.specs.Clients.{ClientView};
+ghost use Rattle.roam_terminals.specs.Hearing.{HearsOne, IsRead, IsRefused, TakesEntry, TakesWord, Took, TypesLine, is_end, line_told, look_of};
 ghost use Rattle.roam_terminals.specs.Terminals.{IsSet, Reads, asks_end, fresh_guesses, guesses_after, is_heard, is_read};
 ghost use Rattle.roam_typing.specs.Entries.{Says, acts_in};
 ghost use Rattle.roam_typing.specs.declared.entries.Entry.{Entry as EntryOf};
@@ -19,7 +20,9 @@ use roam_cells::Fault;
 use roam_faults::is_for_now;
 use roam_hub::Client;
 use roam_overlay::Overlay;
-use roam_typing::{Entry, Front, Guessing, read_entry};
+use roam_records::{Looking, Record};
+use roam_telling::{Telling, say};
+use roam_typing::{Entry, Front, Guessing, Showing, read_entry};
 use std::alloc::Global;
 use std::io;
 
@@ -189,6 +192,17 @@ impl<S: Duplex + Drop> Terminal<S> {
         self.guessing = overlay_for(alloc, guessing, self.watches);
     }
 
+    // The line that stands first was taken; the last of its acts has this number, where it has acts.
+    fn took_line(&mut self, last: Option<u64>)
+        ensures took { Took self.old.lines.kept self.new.lines.kept }
+        ensures others { self.new ≡ record self.old { lines = self.new.lines; telling = line_told last self.old.telling } }
+    {
+        self.lines.took();
+        if let Some(telling) = &mut self.telling {
+            telling.took(last);
+        }
+    }
+
     // Types the acts of the line that stands first, all or none.
     fn type_acts(&mut self, client: &mut Client, acts: &[Act], is_pasted: bool) -> Taking
         requires in_range { All IsInRange acts.now }
@@ -196,7 +210,7 @@ impl<S: Duplex + Drop> Terminal<S> {
         ensures number { client.new.kept.receiver ≡ client.old.kept.receiver }
     {
         if self.watches {
-            self.lines.took();
+            self.took_line(None);
             return Taking::Line;
         }
         let first = client.typed_count().saturating_add(1);
@@ -206,12 +220,92 @@ impl<S: Duplex + Drop> Terminal<S> {
         match client.typed_all(acts) {
             Ok(()) => {
                 self.guess(is_pasted, first, acts, client);
-                self.lines.took();
+                self.took_line(Some(client.typed_count()));
                 Taking::Line
             }
             Err(Fault::OutOfMemory) => Taking::NoMemory,
             Err(_) => Taking::Waits,
         }
+    }
+
+    // The line that stands first comes where it can't.
+    fn refuse_line(&mut self, alloc: Global) -> Taking
+        ensures refused { IsRefused self.old self.new }
+        ensures nothing { result ≡ Taking.Nothing }
+    {
+        self.refuse(alloc, Fault::BadAct);
+        Taking::Nothing
+    }
+
+    // Records come from here on, behind what waits: the first line says so.
+    fn begin_records(&mut self, alloc: Global) -> Taking
+        ensures begins { (client : ClientView) → TakesWord Entry.Told client self.old self.new result }
+    {
+        if self.lines.count() != 0 || self.telling.is_some() {
+            return self.refuse_line(alloc);
+        }
+        if !say(alloc, &mut self.waiting, Record::Told) {
+            return Taking::NoMemory;
+        }
+        self.forget();
+        self.over = None;
+        self.telling = Some(Telling::new());
+        self.took_line(None);
+        Taking::Line
+    }
+
+    // It only watches from here on: the first line says so, or the second where the first asked for records.
+    fn watch(&mut self, alloc: Global) -> Taking
+        ensures watches { (client : ClientView) → TakesWord Entry.Watch client self.old self.new result }
+    {
+        let before = if self.telling.is_some() { 1 } else { 0 };
+        if self.lines.count() != before {
+            return self.refuse_line(alloc);
+        }
+        self.watches = true;
+        self.took_line(None);
+        Taking::Line
+    }
+
+    // The screen is asked for, once it was told that was asked for before.
+    fn look(&mut self, alloc: Global, looking: Looking) -> Taking
+        ensures looks { (client : ClientView) → TakesWord (look_of looking) client self.old self.new result }
+    {
+        let Some(telling) = &mut self.telling else {
+            return self.refuse_line(alloc);
+        };
+        if telling.is_asked() {
+            return Taking::Waits;
+        }
+        telling.ask(looking);
+        self.took_line(None);
+        Taking::Line
+    }
+
+    // Something else of the screen is to be shown.
+    fn show(&mut self, alloc: Global, showing: Showing) -> Taking
+        ensures shows { (client : ClientView) → TakesWord (Entry.Show showing) client self.old self.new result }
+    {
+        let Some(telling) = &mut self.telling else {
+            return self.refuse_line(alloc);
+        };
+        if !telling.show(showing) {
+            return self.refuse_line(alloc);
+        }
+        self.took_line(None);
+        Taking::Line
+    }
+
+    // What it shows isn't known any more.
+    fn repaint(&mut self) -> Taking
+        ensures anew { (client : ClientView) → TakesWord Entry.Repaint client self.old self.new result }
+    {
+        self.forget();
+        if let Some(telling) = &mut self.telling {
+            telling.forget();
+        }
+        self.took_line(None);
+        Taking::Line
     }
 
     // Does what the line that stands first asks for.
@@ -223,27 +317,19 @@ impl<S: Duplex + Drop> Terminal<S> {
         match entry {
             Entry::Acts(acts) => self.type_acts(client, acts, false),
             Entry::Paste(acts) => self.type_acts(client, acts, true),
-            Entry::Repaint => {
-                self.forget();
-                self.lines.took();
-                Taking::Line
-            }
-            Entry::Watch if self.lines.count() == 0 => {
-                self.watches = true;
-                self.lines.took();
-                Taking::Line
-            }
-            Entry::Watch => {
-                self.refuse(alloc, Fault::BadAct);
-                Taking::Nothing
-            }
+            Entry::Told => self.begin_records(alloc),
+            Entry::Repaint => self.repaint(),
+            Entry::Watch => self.watch(alloc),
             Entry::Guess(guessing) => {
                 self.set_guessing(alloc, *guessing);
-                self.lines.took();
+                self.took_line(None);
                 Taking::Line
             }
+            Entry::Look => self.look(alloc, Looking::Points),
+            Entry::LookStyled => self.look(alloc, Looking::Styled),
+            Entry::Show(showing) => self.show(alloc, *showing),
             Entry::End => {
-                self.lines.took();
+                self.took_line(None);
                 if self.watches {
                     Taking::Line
                 } else {

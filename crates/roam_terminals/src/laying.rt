@@ -171,7 +171,7 @@ impl<S: Duplex + Drop> Terminal<S> {
     }
 
     // The guesses are judged by the screen that is noted.
-    fn judge(&mut self, alloc: Global, client: &Client, now: u64)
+    pub(crate) fn judge(&mut self, alloc: Global, client: &Client, now: u64)
         ensures judged { IsJudged now client.now self.old.outer self.old.guessing self.new.guessing }
         ensures others { self.new ≡ record self.old { guessing = self.new.guessing } }
     {
@@ -183,7 +183,7 @@ impl<S: Duplex + Drop> Terminal<S> {
     }
 
     // What is to stand over the screen that is noted: nothing in a silence, which is told.
-    fn wanted(&self, alloc: Global, silence: Silence) -> Option<RowShot>
+    pub(crate) fn wanted(&self, alloc: Global, silence: Silence) -> Option<RowShot>
         ensures over { IsOver silence.moment self.now.guessing self.now.outer result }
     {
         if silence.is_long() {
@@ -260,11 +260,12 @@ impl<S: Duplex + Drop> Terminal<S> {
         self.lay(alloc, wanted, taken);
     }
 
-    // Whether it is to be painted now: all that was painted before is written, and it tells of no silence.
+    // Whether it is to be painted now: all that was painted before is written, and it tells of no silence, but in records.
     fn is_ready(&self) -> bool
         ensures ready { result ≡ is_ready self.now }
     {
-        self.is_here() && self.told.is_none() && self.waiting.len() == 0
+        let is_open = self.telling.is_some() || self.told.is_none();
+        self.is_here() && is_open && self.waiting.len() == 0
     }
 
     /// Paints what the start shows where it is ready for it.
@@ -273,7 +274,12 @@ impl<S: Duplex + Drop> Terminal<S> {
         ensures behind { IsBehind self.old.outer client.now.kept.receiver.newest.number client.now.kept.receiver.newest.state
             → IsBehind self.new.outer client.now.kept.receiver.newest.number client.now.kept.receiver.newest.state }
     {
-        if self.is_ready() {
+        if !self.is_ready() {
+            return;
+        }
+        if self.telling.is_some() {
+            self.tell(alloc, client, silence);
+        } else {
             self.paint(alloc, client, silence);
         }
     }

@@ -10,6 +10,7 @@ mod listening;
 mod running;
 mod sharing;
 mod silence;
+mod telling;
 mod terminal;
 mod writing;
 

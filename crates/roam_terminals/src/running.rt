@@ -16,6 +16,9 @@ const SECOND: u64 = 1000;
 /// So many rounds end with the machine.
 const FOR_GOOD: u64 = u64::MAX;
 
+/// What one above sixteen is told.
+const FULL: &[u8] = b"full\n";
+
 /// How many milliseconds a start waits at most whose rounds are counted, so that they end by themselves.
 const SHORT: u64 = 10;
 
@@ -36,7 +39,14 @@ pub trait Door<S>: Ports {
         ensures told { Self.told self.new ≡ Self.told self.old };
 }
 
-// Takes those in that come; those above sixteen are let go, and so are those for which there is no memory: they may come again.
+// Says to one above sixteen that there is no room, and lets it go.
+fn turn_away<S: Duplex + Drop>(stream: S) {
+    let mut stream = stream;
+    // Whoever takes nothing isn't told.
+    let _ = stream.write_some(FULL);
+}
+
+// Takes those in that come; those above sixteen are told so and let go; so are those for which there is no memory: they may come again.
 fn take_in<S: Duplex + Drop, D: Door<S> + Drop>(
     alloc: Global,
     shared: &mut SharedStart<S>,
@@ -49,7 +59,11 @@ fn take_in<S: Duplex + Drop, D: Door<S> + Drop>(
         let Some(stream) = door.next() else {
             return;
         };
-        let _ = shared.add(alloc, stream);
+        if shared.len() >= MOST_TERMINALS {
+            turn_away(stream);
+        } else {
+            let _ = shared.add(alloc, stream);
+        }
     }
 }
 

@@ -1,5 +1,6 @@
 //! An outer terminal: the stream at its other end, the lines that came, and what waits to be written.
 ghost use Rattle.std.specs.Prelude.{◌≡◌, ◌++◌, List, ℕ, [], true, false, not, None};
+ghost use Rattle.roam_terminals.specs.Hearing.{IsRefusal, IsRefused};
 ghost use Rattle.roam_terminals.specs.Painted.{is_here};
 ghost use Rattle.roam_terminals.specs.Sharing.{is_gone};
 ghost use Rattle.roam_terminals.specs.Writing.{is_empty, once_written, unwritten};
@@ -9,7 +10,9 @@ use crate::duplex::Duplex;
 use roam_cells::Fault;
 use roam_frames::Outbox;
 use roam_overlay::Overlay;
+use roam_records::Record;
 use roam_screens::RowShot;
+use roam_telling::{Telling, say};
 use roam_turns::Outer;
 use roam_typing::{Front, Lines};
 use std::alloc::Global;
@@ -66,6 +69,8 @@ pub struct Terminal<S> {
     // What stands over the screen that is noted: that screen with what was guessed.
     pub(crate) over: Option<RowShot>,
     pub(crate) waiting: Outbox,
+    // What it is told in records, where it asked for these.
+    pub(crate) telling: Option<Telling>,
     pub(crate) watches: bool,
     pub(crate) told: Option<u64>,
     pub(crate) stuck: Option<u64>,
@@ -79,6 +84,7 @@ impl<S: Duplex + Drop> Terminal<S> {
         ensures lines { (result.lines ≡ nothing_came) × (result.watches ≡ false) }
         ensures guessing { (result.guessing ≡ None) × (result.over ≡ None) }
         ensures painted { (result.outer ≡ None) × (result.waiting ≡ []) × (result.told ≡ None) × (result.stuck ≡ None) }
+        ensures untold { result.telling ≡ None }
         ensures here { result.state ≡ State.Here }
     {
         Terminal {
@@ -88,6 +94,7 @@ impl<S: Duplex + Drop> Terminal<S> {
             guessing: None,
             over: None,
             waiting: Outbox::new(alloc),
+            telling: None,
             watches: false,
             told: None,
             stuck: None,
@@ -140,14 +147,26 @@ impl<S: Duplex + Drop> Terminal<S> {
 
     // Tells the terminal why its next line isn't taken, behind what waits, where there is memory for it.
     pub(crate) fn refuse(&mut self, alloc: Global, fault: Fault)
-        ensures refused { (text : List ℕ)
-            × (self.new ≡ record self.old { state = State.Refused; outer = None; waiting = self.old.waiting ++ text }) }
+        ensures refused { IsRefused self.old self.new }
     {
+        let is_told = self.telling.is_some();
         self.state = State::Refused;
         self.forget();
         let number = self.lines.count().saturating_add(1);
-        if let Ok(text) = format!(in alloc; "\r\nroam: line {number}: {fault}\r\n") {
-            let _ = self.waiting.push(text.as_bytes());
-        }
+        push_refusal(alloc, &mut self.waiting, is_told, number, fault);
+    }
+}
+
+// Adds why a line isn't taken: in words, or in a record. Where there is no memory for it nothing is added.
+fn push_refusal(alloc: Global, waiting: &mut Outbox, is_told: bool, number: u64, fault: Fault)
+    ensures words { (text : List ℕ) × IsRefusal is_told text × (waiting.new ≡ waiting.old ++ text) }
+{
+    let Ok(words) = format!(in alloc; "{fault}") else {
+        return;
+    };
+    if is_told {
+        say(alloc, waiting, Record::Refused(number, words.as_str()));
+    } else if let Ok(text) = format!(in alloc; "\r\nroam: line {number}: {words}\r\n") {
+        let _ = waiting.push(text.as_bytes());
     }
 }

@@ -5,12 +5,16 @@ ghost use Rattle.roam_faults.specs.Streams.{IsStreamEnd};
 ghost use Rattle.roam_frames.specs.Carriers.{Writes};
 ghost use Rattle.roam_terminals.specs.Sharing.{Settles};
 ghost use Rattle.roam_terminals.specs.Silence.{is_over, due_of, notice_of};
-ghost use Rattle.roam_terminals.specs.Writing.{Flushes, TellsSilence, is_empty, seen_by, state_after, stuck_after, stuck_since, unwritten};
+ghost use Rattle.roam_records.specs.Records.{text_of};
+ghost use Rattle.roam_records.specs.declared.records.Record.{Record as RecordOf};
+ghost use Rattle.roam_terminals.specs.Writing.{Flushes, SaysSilence, TellsSilence, is_empty, seen_by, state_after, stuck_after, stuck_since, unwritten};
 
 use crate::duplex::Duplex;
 use crate::silence::{Silence, notice};
 use crate::terminal::{State, Terminal};
 use roam_faults::is_for_now;
+use roam_records::Record;
+use roam_telling::say;
 use std::alloc::Global;
 use std::io;
 
@@ -32,7 +36,7 @@ fn stuck_since(has_taken: bool, now: u64, stuck: Option<u64>) -> u64
 
 impl<S: Duplex + Drop> Terminal<S> {
     // Tells of so many seconds of silence, where there is memory; what it shows isn't known then.
-    fn tell(&mut self, alloc: Global, seconds: u64)
+    fn tell_over(&mut self, alloc: Global, seconds: u64)
         ensures told { (self.new ≡ self.old)
             ⊎ (self.new ≡ record self.old { told = Some seconds; outer = None; waiting = self.old.waiting ++ notice_of seconds }) }
     {
@@ -45,18 +49,55 @@ impl<S: Duplex + Drop> Terminal<S> {
         }
     }
 
-    /// Tells of a silence of ten seconds and more over the last row, once a second; where that is over, it is painted anew.
+    // Tells of so many seconds of silence in a record, where there is memory.
+    fn say_silent(&mut self, alloc: Global, seconds: u64)
+        ensures told { (self.new ≡ self.old)
+            ⊎ (self.new ≡ record self.old { told = Some seconds; waiting = self.old.waiting ++ text_of (Record.Silent seconds) }) }
+    {
+        if say(alloc, &mut self.waiting, Record::Silent(seconds)) {
+            self.told = Some(seconds);
+        }
+    }
+
+    // Tells in a record that the server is heard again, where there is memory.
+    fn say_heard(&mut self, alloc: Global)
+        ensures heard { (self.new ≡ self.old)
+            ⊎ (self.new ≡ record self.old { told = None; waiting = self.old.waiting ++ text_of Record.Heard }) }
+    {
+        if say(alloc, &mut self.waiting, Record::Heard) {
+            self.told = None;
+        }
+    }
+
+    // Tells of a silence of ten seconds and more in records, once a second, and once where it is over.
+    fn tell_silence_in_records(&mut self, alloc: Global, seen: Silence)
+        ensures tells { SaysSilence seen self.old self.new }
+    {
+        if self.is_waiting() || !self.is_here() {
+            return;
+        }
+        if seen.is_over() {
+            self.say_heard(alloc);
+        } else if let Some(seconds) = seen.due() {
+            self.say_silent(alloc, seconds);
+        }
+    }
+
+    /// Tells of a silence of ten seconds and more over the last row, once a second; where that is over, it is painted anew. What is told in
+    /// records is told so, and stays as it is painted.
     pub(crate) fn tell_silence(&mut self, alloc: Global, silence: Silence)
         ensures tells { TellsSilence silence self.old self.new }
     {
         let mut seen = silence;
         seen.tell(self.told);
-        if seen.is_over() {
+        if self.telling.is_some() {
+            self.tell_silence_in_records(alloc, seen);
+        } else if seen.is_over() {
             self.told = None;
             self.forget();
         } else if !self.is_waiting() && self.over.is_none() && self.is_here() {
             if let Some(seconds) = seen.due() {
-                self.tell(alloc, seconds);
+                self.tell_over(alloc, seconds);
             }
         }
     }

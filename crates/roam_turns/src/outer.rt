@@ -1,5 +1,5 @@
 //! What is known of the outer terminal.
-ghost use Rattle.std.specs.Prelude.{◌≡◌, ◌↔◌, None, Some, IsTrue, IfOk, IfSome};
+ghost use Rattle.std.specs.Prelude.{◌≡◌, ◌↔◌, None, Some, true, false, IsTrue, IfOk, IfSome};
 ghost use Rattle.roam_screens.specs.Shown.{shown_by};
 ghost use Rattle.roam_turns.specs.Painting.{IsNoted, LeadsSized, ShowsSized, text_for};
 
@@ -159,6 +159,22 @@ impl Outer {
         let painting = self.moving(alloc, number, screen).ok()?;
         self.note(Some(painting.noted));
         Some(painting.text)
+    }
+
+    /// Notes a screen under a number, as one that was told in another way than by a text for this terminal; tells whether it is noted. Where
+    /// that number is noted already nothing changes, and where memory is wanting.
+    pub fn see(&mut self, alloc: Global, number: u64, screen: &Shown<'_>) -> bool
+        ensures noted { result ≡ true → self.new ≡ Some (record { number = number; screen = shown_by screen.now }) }
+        ensures stays { result ≡ false → self.new ≡ self.old }
+    {
+        if self.is_noted(number) {
+            return false;
+        }
+        let Ok(screen) = AnyShot::of(alloc, screen) else {
+            return false;
+        };
+        self.note(Some(Noted { number, screen }));
+        true
     }
 
     // Notes what was shown, or nothing.

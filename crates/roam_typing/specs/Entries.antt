@@ -5,9 +5,11 @@ use Rattle.std.specs.Str.{bytes_eq}
 use Rattle.roam_acts.specs.declared.acts.Act.{Act}
 use Rattle.roam_typing.specs.Keys.{AreLinesOf}
 use Rattle.roam_typing.specs.declared.entries.Entry.{Entry}
-use Rattle.roam_typing.specs.declared.entries.Entry.TheVariants.{Acts, Paste, Repaint, Watch, Guess, End}
+use Rattle.roam_typing.specs.declared.entries.Entry.TheVariants.{Acts, Paste, Told, Repaint, Watch, Guess, Look, LookStyled, Show, End}
 use Rattle.roam_typing.specs.declared.entries.Guessing.{Guessing}
 use Rattle.roam_typing.specs.declared.entries.Guessing.TheVariants.{Always, Adaptive, Never}
+use Rattle.roam_typing.specs.declared.showings.Showing.{Showing}
+use Rattle.roam_typing.specs.Showings.{IsShowing, showing_text}
 
 -- a line has at most so many acts: as many as one instruction
 abbrev pub most_cuts : ℕ
@@ -42,19 +44,31 @@ guessing_line Never = codes "guess never"
 abbrev pub is_pasted : List ℕ → Bool
 is_pasted line = bytes_eq (take 8 line) (codes "paste ; ")
 
--- a line is no word, and none leads it
-pub record IsNoWord (line : List ℕ) : Type 0 where
+-- a line is no word that stands alone
+pub record IsNoBareWord (line : List ℕ) : Type 0 where
+  pub told : line ≢ codes "told"
   pub repaint : line ≢ codes "repaint"
   pub watch : line ≢ codes "watch"
+  pub look : line ≢ codes "look"
+  pub look_styled : line ≢ codes "look sgr"
   pub end : line ≢ codes "end"
+
+-- a line is no word, and none leads it
+pub record IsNoWord (line : List ℕ) : Type 0 where
+  pub bare : IsNoBareWord line
   pub guess : (guessing : Guessing) → line ≢ guessing_line guessing
+  pub show : (showing : Showing) → IsShowing showing → line ≢ showing_text showing
   pub paste : is_pasted line ≡ false
 
 -- a line says an entry
 abbrev pub Says : List ℕ → Entry → Type 0
+Says line Told = line ≡ codes "told"
 Says line Repaint = line ≡ codes "repaint"
 Says line Watch = line ≡ codes "watch"
 Says line (Guess guessing) = line ≡ guessing_line guessing
+Says line Look = line ≡ codes "look"
+Says line LookStyled = line ≡ codes "look sgr"
+Says line (Show showing) = IsShowing showing × (line ≡ showing_text showing)
 Says line End = line ≡ codes "end"
 Says line (Paste acts) = (is_pasted line ≡ true) × AreLinesOf (parts_of most_cuts (drop 8 line)) acts.items
 Says line (Acts acts) = IsNoWord line × AreLinesOf (parts_of most_cuts line) acts.items
@@ -63,7 +77,11 @@ Says line (Acts acts) = IsNoWord line × AreLinesOf (parts_of most_cuts line) ac
 abbrev pub acts_in : Entry → List Act
 acts_in (Acts acts) = acts.items
 acts_in (Paste acts) = acts.items
+acts_in Told = []
 acts_in Repaint = []
 acts_in Watch = []
 acts_in (Guess guessing) = []
+acts_in Look = []
+acts_in LookStyled = []
+acts_in (Show showing) = []
 acts_in End = []

@@ -4,10 +4,13 @@ ghost use Rattle.std.specs.List.{All};
 ghost use Rattle.roam_acts.specs.declared.acts.Act.{Act as ActOf};
 ghost use Rattle.roam_acts.specs.Acts.{IsInRange};
 ghost use Rattle.roam_typing.specs.Keys.{AreLinesOf, IsLineOf};
-ghost use Rattle.roam_typing.specs.Entries.{Says, acts_in, begins_separator, cut_of, guessing_line, is_pasted, most_cuts, parts_of};
+ghost use Rattle.roam_typing.specs.Entries.{IsNoBareWord, Says, acts_in, begins_separator, cut_of, guessing_line, is_pasted, most_cuts, parts_of};
 ghost use Rattle.roam_typing.specs.declared.entries.Entry.{Entry as EntryOf};
 ghost use Rattle.roam_typing.specs.declared.entries.Guessing.{Guessing as GuessingOf};
+ghost use Rattle.roam_typing.specs.declared.showings.Showing.{Showing as ShowingOf};
+ghost use Rattle.roam_typing.specs.Showings.{IsShowing, showing_text};
 
+use crate::showings::{Showing, read_showing};
 use roam_acts::{Act, read_act};
 use roam_cells::Fault;
 use std::alloc::Global;
@@ -43,14 +46,26 @@ pub enum Entry {
     /// These acts are typed likewise, and nothing is guessed of what they show.
     Paste(Vec<Act>),
 
+    /// What is told from here on is told in records; the first line alone says so.
+    Told,
+
     /// What is shown there isn't known any more: all is painted anew.
     Repaint,
 
-    /// None of its acts is taken; the first line alone says so.
+    /// None of its acts is taken; the first line alone says so, or the second behind `told`.
     Watch,
 
     /// What its keys are guessed to show is shown from now on, or isn't any more.
     Guess(Guessing),
+
+    /// The screen is asked for, cell by cell.
+    Look,
+
+    /// The same, with the style of each cell.
+    LookStyled,
+
+    /// What of the screen is shown there.
+    Show(Showing),
 
     /// The client start ends.
     End,
@@ -136,6 +151,32 @@ fn read_guessing(line: &[u8]) -> Option<Guessing>
     None
 }
 
+// What a line asks for that is one word, or one of the two for a screen.
+fn read_word(line: &[u8]) -> Option<Entry>
+    ensures found { IfSome result (λ entry. Says line.now entry × (acts_in entry ≡ [])) }
+    ensures none { result ≡ None → IsNoBareWord line.now }
+{
+    if line == b"told".as_slice() {
+        return Some(Entry::Told);
+    }
+    if line == b"repaint".as_slice() {
+        return Some(Entry::Repaint);
+    }
+    if line == b"watch".as_slice() {
+        return Some(Entry::Watch);
+    }
+    if line == b"look".as_slice() {
+        return Some(Entry::Look);
+    }
+    if line == b"look sgr".as_slice() {
+        return Some(Entry::LookStyled);
+    }
+    if line == b"end".as_slice() {
+        return Some(Entry::End);
+    }
+    None
+}
+
 // Whether `paste ; ` leads a line.
 fn is_pasted(line: &[u8]) -> bool
     ensures pasted { result ≡ is_pasted line.now }
@@ -165,17 +206,14 @@ pub fn read_entry(alloc: Global, line: &[u8]) -> Result<Entry, Fault>
     ensures in_range { IfOk result (λ entry. All IsInRange (acts_in entry)) }
     ensures fault { IfErr result (λ fault. (fault ≡ Fault.BadAct) ⊎ (fault ≡ Fault.OutOfMemory)) }
 {
-    if line == b"repaint".as_slice() {
-        return Ok(Entry::Repaint);
-    }
-    if line == b"watch".as_slice() {
-        return Ok(Entry::Watch);
-    }
-    if line == b"end".as_slice() {
-        return Ok(Entry::End);
+    if let Some(entry) = read_word(line) {
+        return Ok(entry);
     }
     if let Some(guessing) = read_guessing(line) {
         return Ok(Entry::Guess(guessing));
+    }
+    if let Some(showing) = read_showing(line) {
+        return Ok(Entry::Show(showing));
     }
     if is_pasted(line) {
         let acts = read_acts(alloc, line.split_at(PASTE.len()).1)?;

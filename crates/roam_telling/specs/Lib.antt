@@ -1,0 +1,4 @@
+pub mod Leading
+pub mod Saying
+pub mod Scopes
+pub mod Telling

@@ -1,0 +1,17 @@
+//! Laws of the definitions, each the contract of a function that does nothing when it runs.
+ghost use Rattle.roam_telling.specs.Leading.{BeginsSaid, QuietOn, TellsOn};
+
+/// Where records begin nothing is said, and nothing is known of what the terminal shows.
+pub fn begins_said()
+    ensures begins { BeginsSaid }
+{}
+
+/// What was said leads a terminal to what it is to show, also once a screen more is told, of which the size is told first.
+pub fn tells_on()
+    ensures on { TellsOn }
+{}
+
+/// So it does once anything is said that paints nothing.
+pub fn quiet_on()
+    ensures on { QuietOn }
+{}
